@@ -1,4 +1,4 @@
-ghost use Rattle.std.specs.Prelude.{◌≡◌, ◌<◌, ℕ, ◌++◌, [], List, Some, IsErr, IfOk, OnErr, OnOk, length};
+ghost use Rattle.std.specs.Prelude.{◌≡◌, ◌⊎◌, ◌<◌, ℕ, ◌++◌, [], List, Some, IsErr, IfOk, OnErr, OnOk, length};
 ghost use Rattle.std.specs.Io.{WritesAtMost};
 ghost use Rattle.std.specs.Io.KnownBytes.{WriteAppends};
 ghost use Rattle.bec_bytes.specs.Causes.{HasCause};
@@ -65,11 +65,12 @@ impl Sink for MemSink {
         ensures bytes { WriteAppends (Some self.old.bytes) (Some self.new.bytes) result bytes.now }
         ensures cause { HasCause self.old.faults self.new.faults result }
 
-        // It fails at the numbered calls, and then takes nothing.
+        // It fails at the numbered calls and for want of memory, and then takes nothing.
         ensures fails { IsToFail self.old → IsErr result }
+        ensures refused { OnErr result (IsToFail self.old ⊎ (0 < length bytes.now)) }
         ensures failed { OnErr result (self.new ≡ after_call self.old result self.old.bytes) }
 
-        // At the others it takes the piece whole, if there is memory.
+        // Else it takes the piece whole.
         ensures whole { IfOk result (λ n. n ≡ length bytes.now) }
         ensures taken { OnOk result (self.new ≡ after_call self.old result (self.old.bytes ++ bytes.now)) }
     {
