@@ -44,6 +44,7 @@ given_front left bytes lent piece buf place n same view count copied =
     let front : piece ≡ take n left = copied ∙ ap (take n) whole in
     let long : length piece ≡ n = omega (arith, ap length front, length-take n left) in
     let rest : drop (place + n) bytes ≡ drop n left = sym (drop-drop n place bytes) ∙ ap (drop n) view in
-    let joined = ap (λ (xs : List ℕ). xs ++ drop n left) (take_at piece (drop n buf) n long ∙ front) in
-    ( sym (take-append-drop n left) ∙ sym joined ∙ ap (λ (xs : List ℕ). take n (piece ++ drop n buf) ++ xs) (sym rest)
-    , λ none some. rest ∙ drop_all n left (omega (arith, length-append piece (drop n buf), length-drop n buf)) )
+    let joined = ap (λ (xs : List ℕ). xs ++ drop n left) (take_at piece (drop n buf) n long ∙ front) in (
+      sym (take-append-drop n left) ∙ sym joined ∙ ap (λ (xs : List ℕ). take n (piece ++ drop n buf) ++ xs) (sym rest),
+      λ none some. rest ∙ drop_all n left (omega (arith, length-append piece (drop n buf), length-drop n buf)),
+    )

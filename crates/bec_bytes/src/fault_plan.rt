@@ -35,7 +35,11 @@ impl FaultPlan {
         ensures later { self.old.faults ≤ self.new.faults }
     {
         self.calls = self.calls.saturating_add(1);
-        if self.failing.iter().any(|number| u64::from(*number) == self.calls) {
+        if self
+            .failing
+            .iter()
+            .any(|number| u64::from(*number) == self.calls)
+        {
             return Err(self.count_fault());
         }
         Ok(())

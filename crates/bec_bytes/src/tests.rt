@@ -1,8 +1,8 @@
-use std::test::Fail;
-
 use crate::{
-    Cursor, Failed, MemSink, MemSource, PlainSink, PlainSource, Sink, Source, read_full, write_all_of,
+    Cursor, Failed, MemSink, MemSource, PlainSink, PlainSource, Sink, Source, read_full,
+    write_all_of,
 };
+use std::test::Fail;
 
 #[test]
 fn reads_what_is_there(rt: HostRuntime) -> Result<(), Fail> {
@@ -52,6 +52,10 @@ fn a_cursor_takes_fields(rt: HostRuntime) {
     assert_eq!(rt; cursor.take_u32(), None);
     assert_eq!(rt; cursor.place(), 7);
     assert_eq!(rt; cursor.left(), 3);
-    assert!(rt; cursor.take_bytes(3).is_some_and(|bytes| *bytes == [8, 9, 10]));
+    assert!(rt;
+        cursor
+            .take_bytes(3)
+            .is_some_and(|bytes| bytes == [8, 9, 10].as_slice())
+    );
     assert_eq!(rt; cursor.take_u8(), None);
 }

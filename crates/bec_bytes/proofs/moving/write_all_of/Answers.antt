@@ -1,4 +1,4 @@
-use Rattle.std.proofs.Common.{◌≤◌, ℕ, length, arith}
+use Rattle.std.proofs.Common.{ℕ, arith}
 use Rattle.std.proofs.lemmas.List.{length-take, length-drop}
 use Rattle.bec_bytes.proofs.Pieces.{Appends-more}
 use Rattle.bec_bytes.proofs.moving.write_all_of.Goals as goal
