@@ -1,5 +1,5 @@
 -- What a contract sees of a source and of a sink in memory.
-use Rattle.std.specs.Prelude.{ℕ, ◌+◌, ◌-◌, ◌^◌, List, Result, Contains, min, is_ok, if◌then◌else◌}
+use Rattle.std.specs.Prelude.{ℕ, ◌+◌, ◌-◌, ◌^◌, List, ◌++◌, length, take, drop, Result, Contains, min, is_ok, if◌then◌else◌}
 
 -- The bytes that a source has left or a sink has taken; the numbers of the calls that are to fail, counted
 -- from 1; and how many calls there were, and how many faults.
@@ -29,3 +29,7 @@ after_call state result bytes = record {
   calls = one_more state.calls;
   faults = faults_after result state.faults;
 }
+
+-- A buffer whose front was overwritten with as many of these bytes as it has room for.
+abbrev pub filled_from : List ℕ → List ℕ → List ℕ
+filled_from bytes buf = take (length buf) bytes ++ drop (length bytes) buf
