@@ -3,16 +3,20 @@ use Rattle.std.proofs.Common.{◌≡◌, ℕ, zero, suc, ◌+◌, ◌^◌, ◌<�
 use Rattle.std.proofs.lemmas.Bool.Decides.{nat_tests}
 use Rattle.std.specs.Prelude.{Result, Ok, Err, Option, Some, None, IfOk, IfErr}
 use Rattle.std.specs.Int.{w16, w32, to_be_bytes}
+use Rattle.update_model.specs.declared.update_id.UpdateId.{UpdateId}
 use Rattle.update_model.specs.Form.{BodyData, UpdateData, AreBytes, IsBody, signature_length}
 use Rattle.update_codec.specs.declared.decode_error.CodecFault.{CodecFault}
 use Rattle.update_codec.specs.declared.decode_error.CodecFault.TheVariants.{Misspelled, Operations}
 use Rattle.update_codec.specs.declared.decode_error.DecodeError.{DecodeError}
 use Rattle.update_codec.specs.declared.decode_error.DecodeError.TheVariants.{Fault, Memory}
-use Rattle.update_codec.specs.Outcome.{Answers, IsCause, HasCause}
+use Rattle.update_codec.specs.Kept.{IsKept}
+use Rattle.update_codec.specs.Outcome.{Answers, Fails, IsCause, HasCause}
+use Rattle.update_codec.specs.Parts.{id_of, update_of}
 use Rattle.update_codec.specs.Reading.{◌>>=◌, judge, byte_at, block_at, number_at, id_at, ids_at, is_next, author_at, before_ops_at, body_at, update_at, whole}
 use Rattle.update_codec.specs.Spelling as spell
 use Rattle.update_codec.specs.Spelling.{Spells, HasOperations}
-use Rattle.update_codec.proofs.Steps.{IsPlain, bind_plain, ok_plain, byte_plain, block_plain, number_plain, judge_plain, plain_then, judged_operations, first_failed, fails_first, then_is, judge_fails, failed, not_both}
+use Rattle.update_codec.proofs.Steps.{IsPlain, bind_plain, ok_plain, byte_plain, block_plain, number_plain, judge_plain, plain_then, judged_operations, first_failed, fails_first, then_is, judge_fails, done, failed, not_both}
+use Rattle.update_codec.proofs.Places.{kept_of}
 use Rattle.update_codec.proofs.TakesLemmas.{Takes, before_ops_takes, u16_takes, whole_spells}
 use Rattle.update_codec.proofs.Again.{before_ops_again, u16_again, whole_again}
 
@@ -108,3 +112,25 @@ refused_of bytes (Fault fault) fits e = cause_of bytes fault fits e
 pub fault_of : (bytes : List ℕ) (result : Result UpdateData DecodeError) → AreBytes bytes → Answers result (whole bytes) → IfErr result (λ error. HasCause bytes error)
 fault_of bytes (Ok u) fits e = tt
 fault_of bytes (Err error) fits e = refused_of bytes error fits e
+
+-- A failed reading agrees with what is known of the bytes.
+pub fails_only : {X : Type 0} (bytes : List ℕ) (error : DecodeError) (x : X) (u : UpdateData) → Fails error (whole bytes) → Spells bytes u → Fails error (done x)
+fails_only bytes Memory x u fails s = tt
+fails_only bytes (Fault fault) x u fails s = absurd (not_both (whole bytes) u fault (whole_again bytes u s) fails)
+
+pub fails_operations : (X : Type 0) (bytes : List ℕ) (error : DecodeError) → Fails error (whole bytes) → HasOperations bytes → Fails error (failed X Operations)
+fails_operations X bytes Memory fails has = tt
+fails_operations X bytes (Fault fault) fails has = ap (failed X) (one_fault (whole bytes) Operations fault (operations_told bytes has) fails)
+  where
+    one_fault : (r : Result UpdateData CodecFault) (a b : CodecFault) → r ≡ failed UpdateData a → r ≡ failed UpdateData b → a ≡ b
+    one_fault r a b e g = cc
+
+-- What is kept of bytes that were read agrees with them.
+pub kept_as_read : (bytes : List ℕ) (body : BodyData) (signature : List ℕ) → AreBytes bytes → whole bytes ≡ Ok (record { body = body; signature = signature }) → IsKept bytes body (id_of bytes)
+kept_as_read bytes body signature fits e = kept_of bytes (record { body = body; signature = signature }) (whole_spells bytes _ fits e)
+
+-- Bytes beside which an update's parts are kept have no operations.
+pub kept_has_none : (slice bytes : List ℕ) (body : BodyData) (id : UpdateId) → slice ≡ bytes → IsKept slice body id → HasOperations bytes → ⊥
+kept_has_none slice bytes body id e kept has =
+    let spells : Spells bytes (update_of slice) = subst (λ (b : List ℕ). Spells b (update_of slice)) e kept.spells in
+    not_both (whole bytes) (update_of slice) Operations (whole_again bytes (update_of slice) spells) (operations_told bytes has)

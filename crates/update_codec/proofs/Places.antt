@@ -1,7 +1,7 @@
 -- The parts of an update stand at their places in its spelling.
 use Rattle.std.proofs.Common.{◌≡◌, ℕ, zero, suc, ◌+◌, ◌-◌, ◌^◌, ◌<◌, ◌≤◌, List, [], ◌∷◌, ◌++◌, length, take, drop, refl, sym, ap, subst, ◌∙◌, arith, append_assoc}
 use Rattle.std.proofs.Math.Seq.{take-append_seam, drop-append_seam, drop-append-add}
-use Rattle.std.proofs.lemmas.List.{length-append}
+use Rattle.std.proofs.lemmas.List.{length-append, take_rest}
 use Rattle.std.proofs.lemmas.Nat.{from_be_bytes-to_be_bytes_2, from_be_bytes-to_be_bytes_4}
 use Rattle.std.specs.Int.{w16, w32, to_be_bytes, from_be_bytes}
 use Rattle.std.specs.List.{flat_map, AllByRecursion}
@@ -149,3 +149,13 @@ pub kept_of : (bytes : List ℕ) (update : UpdateData) → Spells bytes update �
 kept_of bytes update s =
     let is = update_stands bytes update s in
     record { spells = subst (λ (u : UpdateData). Spells bytes u) (sym is) s; same_body = ap (λ (u : UpdateData). u.body) (sym is); same_id = refl }
+
+-- the last bytes of what is kept, as a slice of it is seen
+pub signature_read : (slice kept : List ℕ) (body : BodyData) (len n : ℕ) → slice ≡ kept → len ≡ length slice → n ≡ signature_length body.author → body ≡ body_of kept
+    → take (length slice - (len - n)) (drop (len - n) slice) ≡ signature_of kept
+unfolding signature_of
+signature_read slice kept body len n is e sized same =
+    take_rest slice (len - n) ∙ at slice kept len n (signature_length (author_of kept)) is e (sized ∙ ap (λ (b : BodyData). signature_length b.author) same)
+  where
+    at : (slice kept : List ℕ) (len n m : ℕ) → slice ≡ kept → len ≡ length slice → n ≡ m → drop (len - n) slice ≡ drop (length kept - m) kept
+    at slice kept len n m is e a = rw (e, a, is) refl
