@@ -17,7 +17,7 @@ pub const MAX_MEMBERS: u32 = 131_072;
 pub const MAX_BYTES: u64 = 268_435_456;
 
 /// Members in arrival order, closed and within the limits. A contract sees a graph as the list of its members.
-#[derive(Drop)]
+#[derive(Debug, Drop)]
 pub struct Graph<M: Member> {
     /// In arrival order.
     members: Vec<M>,
