@@ -4,13 +4,11 @@ ghost use Rattle.std.specs.Prelude.{◌≡◌, IfOk};
 ghost use Rattle.std.specs.List.Sorted.{IsStrictlySortedBy, IsStrictlySortedBy-prop};
 ghost use Rattle.update_model.specs.Entry.{Entry, id_cmp};
 
+use crate::{Added, Graph, MAX_MEMBERS, Refusal};
 use std::alloc::{AllocError, Global};
 use std::cmp::Ordering;
 use std::test::Fail;
-
 use update_model::{Member, UpdateId};
-
-use crate::{Added, Graph, MAX_MEMBERS, Refusal};
 
 /// A member of one byte.
 #[derive(Debug, Drop)]
@@ -86,7 +84,10 @@ fn fills_up(rt: HostRuntime) -> Result<(), Fail> {
     let alloc = rt.alloc();
     let mut graph = Graph::new(alloc);
     for number in 0..MAX_MEMBERS {
-        assert_eq!(rt; answer(&mut graph, root(alloc, number)), Ok(Added::New(number)));
+        assert_eq!(rt;
+            answer(&mut graph, root(alloc, number)),
+            Ok(Added::New(number))
+        );
     }
     let rows = [
         (root(alloc, MAX_MEMBERS), Err(Refusal::Full)),
