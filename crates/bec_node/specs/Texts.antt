@@ -20,7 +20,7 @@ abbrev pub refusal_text : ℕ → RecordFault → List ℕ
 refusal_text n Misspelled = codes "! update " ++ decimal n ++ codes ": misspelled\n"
 refusal_text n Operations = codes "! update " ++ decimal n ++ codes ": operations\n"
 refusal_text n OtherDatabase = codes "! update " ++ decimal n ++ codes ": other database\n"
-refusal_text n (Lacks id) = codes "! update " ++ decimal n ++ codes ": lacks " ++ line_of id
+refusal_text n (Lacks id) = codes "! update " ++ decimal n ++ (codes ": lacks " ++ line_of id)
 refusal_text n Full = codes "! full\n"
 
 -- the status for a refused record

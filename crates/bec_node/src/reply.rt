@@ -1,5 +1,6 @@
 ghost use Rattle.std.specs.Prelude.{◌≡◌, ◌≢◌, ◌++◌, [], ◌≤◌, IfOk, OnOk, codes};
 ghost use Rattle.std.specs.BTreeSet.{keys};
+ghost use Rattle.std.specs.String.{string_bytes};
 ghost use Rattle.std.specs.Io.KnownBytes.{Appends};
 ghost use Rattle.update_model.specs.Graph.{AreHeads};
 ghost use Rattle.update_codec.specs.Parts.{entry_of};
@@ -36,10 +37,10 @@ pub fn heads_reply(alloc: Global, reading: Reading) -> Result<Reply, AllocError>
             Ok(Reply { status: 0, text })
         }
         Reading::Refused { number, fault } => {
-            let text = refusal(alloc, number, &fault)?;
+            let line = refusal(alloc, number, &fault)?;
             Ok(Reply {
                 status: status(&fault),
-                text,
+                text: line.into_bytes(),
             })
         }
     }
@@ -88,20 +89,20 @@ fn push_line(text: &mut Vec<u8>, id: &UpdateId) -> Result<(), AllocError>
 }
 
 /// The line for a refused record, which is counted from 1.
-fn refusal(alloc: Global, number: u32, fault: &RecordFault) -> Result<Vec<u8>, AllocError>
-    ensures { IfOk result (λ text. text.items ≡ refusal_text number fault.now) }
+fn refusal(alloc: Global, number: u32, fault: &RecordFault) -> Result<String, AllocError>
+    ensures { IfOk result (λ line. string_bytes line ≡ refusal_text number fault.now) }
 {
-    let line = match fault {
-        RecordFault::Misspelled => format!(in alloc; "! update {number}: misspelled\n")?,
-        RecordFault::Operations => format!(in alloc; "! update {number}: operations\n")?,
-        RecordFault::OtherDatabase => format!(in alloc; "! update {number}: other database\n")?,
+    match fault {
+        RecordFault::Misspelled => format!(in alloc; "! update {number}: misspelled\n"),
+        RecordFault::Operations => format!(in alloc; "! update {number}: operations\n"),
+        RecordFault::OtherDatabase => format!(in alloc; "! update {number}: other database\n"),
         RecordFault::Lacks(id) => {
-            let name = hex::encode(alloc, id.0)?;
-            format!(in alloc; "! update {number}: lacks {name}\n")?
+            let digits = hex::encode(alloc, id.0)?;
+            let name = digits.as_str();
+            format!(in alloc; "! update {number}: lacks {name}\n")
         }
-        RecordFault::Full => String::from_str(alloc, "! full\n")?,
-    };
-    Ok(line.into_bytes())
+        RecordFault::Full => String::from_str(alloc, "! full\n"),
+    }
 }
 
 /// The exit status for a refused record.
