@@ -11,17 +11,9 @@ use std::alloc::Global;
 use update_model::{Body, ByteList, IdList, Update, signature_len};
 
 use crate::fields::{MISSPELLED, array_of, author_of, block_of, byte_of, u16_of, u32_of};
+use crate::limits::{MAX_BYTES, MAX_PREDS, VERSION};
 use crate::predecessors::preds_of;
 use crate::{CodecFault, DecodeError};
-
-/// The version that is read and written.
-const VERSION: u8 = 1;
-
-/// The most predecessors of an update.
-const MAX_PREDS: u16 = 1024;
-
-/// The most bytes of an update.
-const MAX_BYTES: usize = 262144;
 
 /// The update whose spelling these bytes are.
 ///

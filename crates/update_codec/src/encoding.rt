@@ -9,10 +9,8 @@ use byteorder::{BigEndian, ByteOrder};
 use std::alloc::{AllocError, Global};
 use update_model::{Body, Update, signature_len};
 
+use crate::limits::{MAX_BYTES, VERSION};
 use crate::{EncodeError, TooLong};
-
-/// The most bytes of an update.
-const MAX_BYTES: usize = 262144;
 
 /// The bytes that the author of a body signs: its spelling up to the signature's length.
 ///
@@ -63,7 +61,7 @@ fn message_of(alloc: Global, body: &Body, more: usize) -> Result<Vec<u8>, AllocE
 fn put_before_ops(out: &mut Vec<u8>, body: &Body) -> Result<(), AllocError>
     ensures { OnOk result (out.new.items ≡ out.old.items ++ before_ops body.now) }
 {
-    out.push(1)?;
+    out.push(VERSION)?;
     out.extend_from_slice(&body.database)?;
     put_u32(out, body.author.lms)?;
     put_u32(out, body.author.ots)?;

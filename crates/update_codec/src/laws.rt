@@ -3,7 +3,7 @@
 ghost use Rattle.std.specs.Prelude.{◌≡◌, ◌+◌, ◌≤◌, ℕ, List, [], ◌++◌, length};
 ghost use Rattle.update_model.specs.Form.{UpdateData};
 ghost use Rattle.update_codec.specs.Parts.{database_of, author_of, preds_of, signature_of, update_of};
-ghost use Rattle.update_codec.specs.Spelling.{Spells, HasOperations};
+ghost use Rattle.update_codec.specs.Spelling.{Spells, IsSpelling, HasOperations};
 ghost use Rattle.update_codec.specs.Stream.{framed};
 
 /// An update has one spelling.
@@ -40,6 +40,12 @@ pub fn fields_of_spelling()
     ensures preds { (bytes : List ℕ) (update : UpdateData) → Spells bytes update → preds_of bytes ≡ update.body.preds }
     ensures signature { (bytes : List ℕ) (update : UpdateData) → Spells bytes update → signature_of bytes ≡ update.signature }
     ensures update { (bytes : List ℕ) (update : UpdateData) → Spells bytes update → update_of bytes ≡ update }
+{
+}
+
+/// A spelling spells the update of its parts.
+pub fn spells_its_parts()
+    ensures { (bytes : List ℕ) → IsSpelling bytes → Spells bytes (update_of bytes) }
 {
 }
 
