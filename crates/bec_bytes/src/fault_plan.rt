@@ -1,5 +1,5 @@
 ghost use Rattle.std.specs.Prelude.{◌≡◌, ◌≤◌, ◌↔◌, IsErr, Contains};
-ghost use Rattle.bec_bytes.specs.Memory.{one_more, faults_after};
+ghost use Rattle.bec_bytes.specs.Causes.{one_more, faults_after};
 
 use crate::failed::Failed;
 

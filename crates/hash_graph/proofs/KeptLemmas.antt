@@ -1,6 +1,5 @@
 -- What a graph keeps, over one more member and one fewer.
-use Rattle.std.proofs.Common.{◌≡◌, ℕ, ◌+◌, ◌-◌, ◌≤◌, Bool, true, false, cond, ◌&&◌, List, [], ◌∷◌, ◌++◌, length, Some, None, sym, ◌∙◌, ap, arith, length-append, map}
-use Rattle.std.specs.declared.option.Option.{Option}
+use Rattle.std.proofs.Common.{◌≡◌, ℕ, ◌+◌, ◌-◌, ◌≤◌, true, false, cond, ◌&&◌, List, [], ◌∷◌, ◌++◌, length, Some, None, sym, ◌∙◌, ap, arith, length-append, map}
 use Rattle.std.specs.Prelude.{nat_le, Result, Ok, Err, is_err, OnOk}
 use Rattle.std.specs.BTreeMap.{get, BTreeMap}
 use Rattle.std.proofs.lemmas.List.{map-append, length-map}
@@ -25,7 +24,7 @@ IsKept-push graph e index new bytes kept next within updates = record {
   closed = Follows-push [] graph e kept.closed next;
   within = within;
   indexed = λ q. updates q ∙ ap (λ o. cond (same_id e.id q) (Some (length graph)) o) (kept.indexed q) ∙ position_of-push graph e q next.new;
-  counted = ap (λ n. n + length e.bytes) kept.counted ∙ sym (sum_by_push (λ (x : Entry). length x.bytes) graph e)
+  counted = ap (λ n. n + length e.bytes) kept.counted ∙ sym (sum_by_push (λ (x : Entry). length x.bytes) graph e);
 }
 
 -- one member fewer
@@ -40,7 +39,7 @@ IsKept-pop graph e index new bytes kept updates =
       within = is_within-fewer (length graph) (length (graph ++ e ∷ [])) (byte_count graph) (byte_count (graph ++ e ∷ []))
           (omega (arith, length-append graph (e ∷ []))) (omega (arith, count)) kept.within;
       indexed = λ q. updates q ∙ ap (λ o. cond (same_id e.id q) None o) (kept.indexed q) ∙ position_of-pop graph e q parts.1.new;
-      counted = omega (arith, count, kept.counted)
+      counted = omega (arith, count, kept.counted);
     }
 
 -- One more member, where members of any type are seen as entries, as the fields are after the calls that add it.
@@ -52,9 +51,9 @@ pub IsKept-with_member : {M : Type 0} (entry : M → Entry) (old new : List M) (
 IsKept-with_member entry old new m id content index after bytes position kept next within is_new is_id is_content is_position updates =
     rw (is_new, map-append, is_content)
     (IsKept-push (map entry old) (entry m) index after bytes kept next within
-        (λ q. updates q
-            ∙ ap (λ (i : UpdateId). cond (same_id i q) (Some position) (get id_cmp index q)) is_id
-            ∙ ap (λ n. cond (same_id (entry m).id q) (Some n) (get id_cmp index q)) (is_position ∙ sym (length-map old entry))))
+    (λ q. updates q
+    ∙ ap (λ (i : UpdateId). cond (same_id i q) (Some position) (get id_cmp index q)) is_id
+    ∙ ap (λ n. cond (same_id (entry m).id q) (Some n) (get id_cmp index q)) (is_position ∙ sym (length-map old entry))))
 
 -- One member fewer, likewise.
 pub IsKept-without_last : {M : Type 0} (entry : M → Entry) (old new : List M) (m : M) (id : UpdateId) (content : List ℕ) (index after : BTreeMap UpdateId ℕ) (bytes : ℕ)
@@ -65,7 +64,7 @@ IsKept-without_last entry old new m id content index after bytes kept is_old is_
     let before : IsKept (map entry new ++ entry m ∷ []) index bytes = rw (is_old, map-append) at kept in
     rw is_content
     (IsKept-pop (map entry new) (entry m) index after bytes before
-        (λ q. updates q ∙ ap (λ (i : UpdateId). cond (same_id i q) None (get id_cmp index q)) is_id))
+    (λ q. updates q ∙ ap (λ (i : UpdateId). cond (same_id i q) None (get id_cmp index q)) is_id))
 
 -- what holds on `Ok`, where there is no `Err`
 pub ok_gives : {T E P : Type 0} (r : Result T E) → is_err r ≡ false → OnOk r P → P

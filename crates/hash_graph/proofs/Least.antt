@@ -1,7 +1,6 @@
 -- The first of rising ids that fails a test is the least that does.
-use Rattle.std.proofs.Common.{◌≡◌, ◌≢◌, ℕ, ◌<◌, suc, Bool, true, false, cond, not, List, [], ◌∷◌, length, get_or, Some, None, refl, sym, ◌∙◌, ap, subst, arith}
-use Rattle.std.specs.declared.option.Option.{Option}
-use Rattle.std.specs.declared.cmp.Ordering.TheVariants.{Less, Equal, Greater}
+use Rattle.std.proofs.Common.{◌≡◌, ◌≢◌, suc, Bool, true, false, cond, not, List, [], ◌∷◌, Some, refl, sym, ◌∙◌, ap, subst, arith}
+use Rattle.std.specs.declared.cmp.Ordering.TheVariants.{Less, Greater}
 use Rattle.std.specs.Ordering.{is_eq}
 use Rattle.std.specs.Prelude.{find, Contains}
 use Rattle.std.specs.List.{AllByRecursion}
@@ -45,7 +44,7 @@ least_found f (x ∷ xs) id rising found =
       | false ↦ λ is h.
           let same : x ≡ id = cc
           in subst (λ (a : UpdateId). AllByRecursion (λ y. f y ≡ false → id_cmp a y ≢ Greater) (x ∷ xs)) same
-              ((λ _. not_above_itself x), above_none f x xs rising.0)
+          ((λ _. not_above_itself x), above_none f x xs rising.0)
     ] refl found
 
 -- the first predecessor that is not held is the least
@@ -56,5 +55,5 @@ least_lacking graph e id rising found =
     record {
       named = fails.0;
       lacks = fails.1;
-      least = All-from_recursion (λ p. holds graph p ≡ false → id_cmp id p ≢ Greater) e.preds (least_found (holds graph) e.preds id rising found)
+      least = All-from_recursion (λ p. holds graph p ≡ false → id_cmp id p ≢ Greater) e.preds (least_found (holds graph) e.preds id rising found);
     }

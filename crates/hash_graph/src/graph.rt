@@ -2,13 +2,11 @@ ghost use Rattle.std.specs.Prelude.{◌≡◌, ◌++◌, ◌∷◌, [], ℕ, ◌
 ghost use Rattle.update_model.specs.Graph.{IsClosed, IsNext, is_within, byte_count, position_of, holds};
 ghost use Rattle.hash_graph.specs.Answer.{answer_of, Answers, list_after, NamesLeast};
 
+use crate::{Added, Refusal, Refused};
 use std::alloc::Global;
 use std::collections::BTreeMap;
 use std::marker::Model;
-
 use update_model::{Member, UpdateId};
-
-use crate::{Added, Refusal, Refused};
 
 /// How many members a graph has at most.
 pub const MAX_MEMBERS: u32 = 131_072;
@@ -17,7 +15,7 @@ pub const MAX_MEMBERS: u32 = 131_072;
 pub const MAX_BYTES: u64 = 268_435_456;
 
 /// Members in arrival order, closed and within the limits. A contract sees a graph as the list of its members.
-#[derive(Drop)]
+#[derive(Debug, Drop)]
 pub struct Graph<M: Member> {
     /// In arrival order.
     members: Vec<M>,

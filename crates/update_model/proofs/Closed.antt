@@ -38,7 +38,7 @@ pub position_from-push : {X : Type 0} (t : X → Bool) (i : ℕ) (xs : List X) (
 position_from-push t i [] y = ap (λ n. cond (t y) (Some n) None) (omega arith)
 position_from-push t i (x ∷ xs) y =
     elim (t x) as (λ b. cond b (Some i) (position_from t (i + 1) (xs ++ y ∷ []))
-        ≡ cond (b || list_any t xs) (cond b (Some i) (position_from t (i + 1) xs)) (cond (t y) (Some (i + length (x ∷ xs))) None)) [
+    ≡ cond (b || list_any t xs) (cond b (Some i) (position_from t (i + 1) xs)) (cond (t y) (Some (i + length (x ∷ xs))) None)) [
       | true ↦ refl
       | false ↦ position_from-push t (i + 1) xs y ∙ ap (λ n. cond (list_any t xs) (position_from t (i + 1) xs) (cond (t y) (Some n) None)) (omega arith)
     ]
@@ -105,5 +105,5 @@ all_pass f (x ∷ xs) none =
 pub IsNext-from_tests : (graph : List Entry) (e : Entry) → position_of graph e.id ≡ None → lacking graph e ≡ None → IsNext graph e
 IsNext-from_tests graph e none lacks = record {
   new = sym (position_of-held graph e.id) ∙ ap is_some none;
-  preds = All-from_recursion (λ p. holds graph p ≡ true) e.preds (all_pass (holds graph) e.preds lacks)
+  preds = All-from_recursion (λ p. holds graph p ≡ true) e.preds (all_pass (holds graph) e.preds lacks);
 }

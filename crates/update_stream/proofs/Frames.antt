@@ -1,20 +1,20 @@
 -- Records in a stream.
-use Rattle.std.proofs.Common.{◌≡◌, ℕ, ◌+◌, ◌≤◌, ◌<◌, List, [], ◌∷◌, ◌++◌, length, refl, sym, ap, ◌∙◌, append-nil, append_assoc, length-append, arith}
+use Rattle.std.proofs.Common.{◌≡◌, ℕ, ◌+◌, List, [], ◌∷◌, ◌++◌, length, refl, ap, ◌∙◌, append-nil, length-append, arith}
 use Rattle.std.specs.List.{flat_map}
 use Rattle.std.proofs.lemmas.List.Concat.{flat_map-append}
 use Rattle.update_model.specs.Form.{UpdateData}
 use Rattle.update_codec.specs.Spelling.{Spells, HasOperations}
 use Rattle.update_codec.specs.Stream.{framed, stream_of}
+use Rattle.update_codec.specs.Reading.{whole}
+use Rattle.update_codec.specs.declared.decode_error.CodecFault.TheVariants.{Operations}
+use Rattle.update_codec.proofs.StreamLemmas.{length-framed}
+use Rattle.update_codec.proofs.Again.{whole_again}
+use Rattle.update_codec.proofs.Causes.{operations_told}
+use Rattle.update_codec.proofs.Steps.{not_both}
 
-pub length-framed : (bytes : List ℕ) → length (framed bytes) ≡ 4 + length bytes
-length-framed bytes = ?
-
-pub one_frame : (bytes other more others : List ℕ) → length bytes ≤ 262144 → length other ≤ 262144 → framed bytes ++ more ≡ framed other ++ others
-    → (bytes ≡ other) × (more ≡ others)
-one_frame bytes other more others a b e = ?
-
+-- bytes that have operations spell no update
 pub no_update : (bytes : List ℕ) (update : UpdateData) → Spells bytes update → HasOperations bytes → ⊥
-no_update bytes update s h = ?
+no_update bytes update spells has = not_both (whole bytes) update Operations (whole_again bytes update spells) (operations_told bytes has)
 
 pub stream_of-push : (records : List (List ℕ)) (r : List ℕ) → stream_of (records ++ r ∷ []) ≡ stream_of records ++ framed r
 unfolding stream_of

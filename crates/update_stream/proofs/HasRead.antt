@@ -15,7 +15,8 @@ use Rattle.update_stream.specs.declared.record_fault.RecordFault.TheVariants.{Mi
 use Rattle.update_stream.specs.declared.next_record.NextRecord.TheVariants.{End, Cut, Whole as WholeRecord}
 use Rattle.update_stream.specs.Stream.{firsts, graph_of, AreGood, IsFor, IsWhole, BeginsWith, BeginsWithUpdate, LacksPredecessor, PassesLimit, HasFault, IsStop, IsRefused, span_of}
 use Rattle.update_stream.specs.Steps.{StaysWithin, Finds, IsForThem, Adds, Takes}
-use Rattle.update_stream.proofs.Frames.{stream_of-push, stream_of-nil, length-framed}
+use Rattle.update_codec.proofs.StreamLemmas.{length-framed}
+use Rattle.update_stream.proofs.Frames.{stream_of-push, stream_of-nil}
 use Rattle.update_stream.proofs.Firsts.{firsts-held, firsts-new}
 use Rattle.update_stream.proofs.Good.{AreGood-none, AreGood-held, AreGood-new, IsFor-members, IsForOthers-members}
 use Rattle.update_stream.proofs.Once.{one_record}

@@ -15,7 +15,8 @@ use Rattle.update_codec.specs.Parts.{id_of, entry_of, database_of}
 use Rattle.update_stream.specs.declared.record_fault.RecordFault.{RecordFault}
 use Rattle.update_stream.specs.declared.record_fault.RecordFault.TheVariants.{Misspelled, Operations, OtherDatabase, Lacks, Full}
 use Rattle.update_stream.specs.Stream.{has_id, firsts_after, firsts, graph_of, AreGood, IsFor, IsWhole, BeginsWith, BeginsWithUpdate, LacksPredecessor, PassesLimit, HasFault, IsStop, IsRefused, span_of}
-use Rattle.update_stream.proofs.Frames.{one_frame, no_update, stream_of-cons, stream_of-nil, framed_some}
+use Rattle.update_codec.proofs.StreamLemmas.{framed_one as one_frame}
+use Rattle.update_stream.proofs.Frames.{no_update, stream_of-cons, stream_of-nil, framed_some}
 use Rattle.update_stream.proofs.Firsts.{firsts_after-append, graph_of-append, holds-graph_of}
 
 -- ---- two lists of records of one stream

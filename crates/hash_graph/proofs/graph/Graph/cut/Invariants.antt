@@ -5,7 +5,7 @@ use Rattle.hash_graph.proofs.graph.Graph.cut.Given as goal
 abbrev pub invariant-loop-self : goal.invariant-loop-self
 invariant-loop-self g l = record {
   enough : l.len ≤ length l.self;
-  kept : take l.len l.self ≡ take l.len l.fn.self
+  kept : take l.len l.self ≡ take l.len l.fn.self;
 }
 
 abbrev pub decreases-loop-self : goal.decreases-loop-self

@@ -9,4 +9,4 @@ pub returns : goal.returns
 returns g c =
     c.copied.ensures
     ∙ find_from_yields_List (λ (id : UpdateId). not (holds (map g.M.Member.entry c.args.self.now) id)) _ _ c.find.result c.find.ensures.ran
-        (YieldsList-from_slice c.args.ids.now cc) (λ x b q k. search (rules, tests))
+    (YieldsList-from_slice c.args.ids.now cc) (λ x b q k. search (rules, tests))
