@@ -36,8 +36,8 @@ pub use digest::id_of;
 pub use encode_error::{EncodeError, TooLong};
 pub use encoding::{encode, encode_body};
 pub use laws::{
-    fields_of_spelling, framed_length, no_prefix, one_frame, one_spelling, one_update, operations_are_no_update,
-    spells_its_parts,
+    fields_of_spelling, framed_length, no_prefix, one_frame, one_spelling, one_update,
+    operations_are_no_update, spells_its_parts,
 };
 pub use spelled_update::Spelled;
 pub use taking::spelled;

@@ -1,8 +1,7 @@
+use crate::{CodecFault, DecodeError, decode, encode, encode_body, id_of, spelled};
 use std::alloc::{AllocError, Global};
 use std::test::Fail;
 use update_model::{Member, UpdateId};
-
-use crate::{CodecFault, DecodeError, decode, encode, encode_body, id_of, spelled};
 
 /// The spelling of an update with these predecessors, whose ids begin with 31 bytes 1 and end in the given byte:
 /// database of bytes 0xdd, types 5 and 4, the key's own bytes 0 to 15, and a root and a signature of zeros.
@@ -30,7 +29,11 @@ fn are_written_again(alloc: Global, bytes: &[u8]) -> Result<bool, Fail> {
     let update = decode(alloc, bytes)?;
     let again = encode(alloc, &update)?;
     let message = encode_body(alloc, &update.body)?;
-    Ok(again.as_slice() == bytes && message.len() + 1296 == bytes.len() && bytes.starts_with(message.as_slice()))
+    Ok(
+        again.as_slice() == bytes
+            && message.len() + 1296 == bytes.len()
+            && bytes.starts_with(message.as_slice()),
+    )
 }
 
 /// How many predecessors are kept beside the bytes, and the id, where all else agrees with what was written.
@@ -38,7 +41,9 @@ fn kept_beside(alloc: Global, bytes: Vec<u8>) -> Result<Option<(usize, UpdateId)
     let len = bytes.len();
     let id = id_of(bytes.as_slice());
     let record = spelled(alloc, bytes)?;
-    let agrees = record.id() == id && record.signature().len() == 1292 && record.body().author.ots == 4;
+    let agrees = record.id() == id
+        && record.signature().len() == 1292
+        && record.body().author.ots == 4;
     let preds = record.preds().len();
     let same = *record.database() == [0xdd; 32] && record.into_bytes().len() == len;
     Ok((agrees && same).then_some((preds, id)))
@@ -66,15 +71,27 @@ fn reads_and_writes_spellings(rt: HostRuntime) -> Result<(), Fail> {
     ] {
         let bytes = written(rt.alloc(), preds)?;
         assert_eq!(rt; bytes.len(), len);
-        assert!(rt; are_written_again(rt.alloc(), bytes.as_slice())?, "at {len}");
-        assert_eq!(rt; kept_beside(rt.alloc(), bytes)?, Some((preds.len(), UpdateId(*id))), "at {len}");
+        assert!(rt;
+            are_written_again(rt.alloc(), bytes.as_slice())?,
+            "at {len}"
+        );
+        assert_eq!(rt;
+            kept_beside(rt.alloc(), bytes)?,
+            Some((preds.len(), UpdateId(*id))),
+            "at {len}"
+        );
     }
     Ok(())
 }
 
 /// What `decode` and `spelled` answer of the spelling with two predecessors, once the byte at a place is set and it
 /// is cut to a length, or has a zero more.
-fn refusal(alloc: Global, place: usize, value: u8, len: usize) -> Result<Option<DecodeError>, AllocError> {
+fn refusal(
+    alloc: Global,
+    place: usize,
+    value: u8,
+    len: usize,
+) -> Result<Option<DecodeError>, AllocError> {
     let mut bytes = written(alloc, &[1, 2])?;
     if let Some(byte) = bytes.get_mut(place) {
         *byte = value;
@@ -84,7 +101,11 @@ fn refusal(alloc: Global, place: usize, value: u8, len: usize) -> Result<Option<
         bytes.push(0)?;
     }
     let decoded = decode(alloc, bytes.as_slice()).err();
-    Ok(spelled(alloc, bytes).err().filter(|refused| decoded == Some(*refused)))
+    Ok(
+        spelled(alloc, bytes)
+            .err()
+            .filter(|refused| decoded == Some(*refused)),
+    )
 }
 
 #[test]
