@@ -1,28 +1,27 @@
 -- Reading gives back what was spelled, and leaves what stands behind it.
-use Rattle.std.proofs.Common.{◌≡◌, ℕ, zero, suc, ◌+◌, ◌^◌, ◌<◌, ◌≤◌, Bool, true, false, List, [], ◌∷◌, ◌++◌, length, take, drop, refl, sym, ap, subst, ◌∙◌, arith, append_assoc, ltb, leb, eqb, ◌&&◌}
+use Rattle.std.proofs.Common.{◌≡◌, ℕ, ◌^◌, ◌<◌, ◌≤◌, true, List, [], ◌∷◌, ◌++◌, length, refl, sym, ap, subst, ◌∙◌, arith, append_assoc, ltb, leb, eqb, ◌&&◌}
 use Rattle.std.proofs.Math.Seq.{take-append_seam, drop-append_seam}
 use Rattle.std.proofs.lemmas.List.{append-nil, length-append}
 use Rattle.std.proofs.lemmas.Bool.{le-ltb, le-leb, eq-eqb}
 use Rattle.std.proofs.lemmas.Bool.Decides.{nat_tests}
 use Rattle.std.proofs.lemmas.Nat.{from_be_bytes-to_be_bytes_2, from_be_bytes-to_be_bytes_4}
-use Rattle.std.specs.Prelude.{Result, Ok, Err, Option, Some, None, IsTrue}
-use Rattle.std.specs.Int.{w16, w32, to_be_bytes, from_be_bytes}
+use Rattle.std.specs.Prelude.{Ok, Option, Some, None}
+use Rattle.std.specs.Int.{w16, w32, to_be_bytes}
 use Rattle.std.specs.List.{flat_map, AllByRecursion}
 use Rattle.update_model.specs.declared.update_id.UpdateId.{UpdateId}
 use Rattle.update_model.specs.declared.author_key.AuthorKey.{AuthorKey}
-use Rattle.update_model.specs.Form.{BodyData, UpdateData, IsBlock, IsId, IsKey, IsBody, IsUpdate, AreRising, is_below, ots_length, tree_height, signature_length}
-use Rattle.update_codec.specs.declared.decode_error.CodecFault.{CodecFault}
-use Rattle.update_codec.specs.declared.decode_error.CodecFault.TheVariants.{Misspelled, Operations}
-use Rattle.update_codec.specs.Reading.{◌>>=◌, byte_at, block_at, number_at, id_at, ids_at, is_next, author_at, before_ops_at, body_at, update_at, whole}
+use Rattle.update_model.specs.Form.{BodyData, UpdateData, IsId, IsKey, IsBody, IsUpdate, AreRising, signature_length}
+use Rattle.update_codec.specs.Reading.{block_at, number_at, id_at, ids_at, is_next, author_at, before_ops_at, body_at, update_at, whole}
 use Rattle.update_codec.specs.Spelling as spell
 use Rattle.update_codec.specs.Spelling.{Spells}
-use Rattle.update_codec.proofs.Steps.{then_is, judge_is, guard_is, ok_is, done}
+use Rattle.update_codec.proofs.Steps.{then_is, judge_is, guard_is, ok_is}
 
 pub block_again : (n : ℕ) (block rest : List ℕ) → length block ≡ n → block_at n (block ++ rest) ≡ Ok (block, rest)
 block_again n block rest e = subst (λ (k : ℕ). block_at k (block ++ rest) ≡ Ok (block, rest)) e (whole_block block rest)
   where
     pair : (a b c d : List ℕ) → a ≡ c → b ≡ d → (let x : List ℕ × List ℕ = (a, b) in x) ≡ (c, d)
     pair a b c d p q = cc
+
     whole_block : (block rest : List ℕ) → block_at (length block) (block ++ rest) ≡ Ok (block, rest)
     whole_block block rest = guard_is (ltb (length (block ++ rest)) (length block)) _ (block, rest) (le-ltb _ _ (omega (arith, length-append block rest))) (pair _ _ block rest (take-append_seam block rest) (drop-append_seam block rest))
 
@@ -70,7 +69,7 @@ ids_again (id ∷ ids) last rest are rise =
 -- how the fields up to the predecessors stand before what follows
 pub before_ops_flat : (body : BodyData) (rest : List ℕ) → spell.before_ops body ++ rest
     ≡ 1 ∷ (body.database ++ (to_be_bytes w32 body.author.lms ++ (to_be_bytes w32 body.author.ots ++ (body.author.ident ++ (body.author.root
-        ++ (to_be_bytes w16 (length body.preds) ++ (flat_map spell.id body.preds ++ rest)))))))
+    ++ (to_be_bytes w16 (length body.preds) ++ (flat_map spell.id body.preds ++ rest)))))))
 before_ops_flat body rest = flat body.database (to_be_bytes w32 body.author.lms) (to_be_bytes w32 body.author.ots) body.author.ident body.author.root (to_be_bytes w16 (length body.preds)) (flat_map spell.id body.preds) rest
   where
     flat : (d l o i t p q rest : List ℕ) → ((1 ∷ (d ++ (l ++ (o ++ (i ++ t))))) ++ (p ++ q)) ++ rest ≡ 1 ∷ (d ++ (l ++ (o ++ (i ++ (t ++ (p ++ (q ++ rest)))))))
@@ -82,6 +81,7 @@ before_ops_again body rest is = subst (λ (bytes : List ℕ). before_ops_at byte
   where
     below : (n : ℕ) → n ≤ 1024 → n < 2 ^ 16
     below n h = omega arith
+
     flat : (body : BodyData) (rest : List ℕ) → IsBody body → before_ops_at (1 ∷ (body.database ++ (to_be_bytes w32 body.author.lms ++ (to_be_bytes w32 body.author.ots ++ (body.author.ident ++ (body.author.root
         ++ (to_be_bytes w16 (length body.preds) ++ (flat_map spell.id body.preds ++ rest)))))))) ≡ Ok (body, rest)
     flat body rest is =
@@ -110,8 +110,10 @@ update_again update rest is = subst (λ (bytes : List ℕ). update_at bytes ≡ 
   where
     flat : (m l s rest : List ℕ) → (m ++ (l ++ s)) ++ rest ≡ m ++ (l ++ (s ++ rest))
     flat m l s rest = simp append_assoc
+
     below : (n s : ℕ) → n ≡ s → s ≤ 9004 → n < 2 ^ 32
     below n s e h = omega arith
+
     read : (update : UpdateData) (rest : List ℕ) → IsUpdate update → update_at (spell.message update.body ++ (to_be_bytes w32 (length update.signature) ++ (update.signature ++ rest))) ≡ Ok (update, rest)
     read update rest is =
         let signature : List ℕ = update.signature ++ rest in

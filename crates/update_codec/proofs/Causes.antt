@@ -1,5 +1,5 @@
 -- Where reading answers `Operations`, and what the two faults tell of the bytes.
-use Rattle.std.proofs.Common.{◌≡◌, ℕ, zero, suc, ◌+◌, ◌^◌, ◌<◌, ◌≤◌, Bool, true, false, List, [], ◌∷◌, ◌++◌, length, refl, sym, ap, subst, ◌∙◌, arith, ltb, leb, eqb, ◌&&◌}
+use Rattle.std.proofs.Common.{◌≡◌, ℕ, zero, suc, ◌^◌, ◌<◌, false, List, ◌++◌, length, sym, ap, subst, ◌∙◌, arith, leb, eqb, ◌&&◌}
 use Rattle.std.proofs.lemmas.Bool.Decides.{nat_tests}
 use Rattle.std.specs.Prelude.{Result, Ok, Err, Option, Some, None, IfOk, IfErr}
 use Rattle.std.specs.Int.{w16, w32, to_be_bytes}
@@ -12,12 +12,12 @@ use Rattle.update_codec.specs.declared.decode_error.DecodeError.TheVariants.{Fau
 use Rattle.update_codec.specs.Kept.{IsKept}
 use Rattle.update_codec.specs.Outcome.{Answers, Fails, IsCause, HasCause}
 use Rattle.update_codec.specs.Parts.{id_of, update_of}
-use Rattle.update_codec.specs.Reading.{◌>>=◌, judge, byte_at, block_at, number_at, id_at, ids_at, is_next, author_at, before_ops_at, body_at, update_at, whole}
+use Rattle.update_codec.specs.Reading.{judge, byte_at, block_at, number_at, id_at, ids_at, is_next, author_at, before_ops_at, body_at, update_at, whole}
 use Rattle.update_codec.specs.Spelling as spell
 use Rattle.update_codec.specs.Spelling.{Spells, HasOperations}
 use Rattle.update_codec.proofs.Steps.{IsPlain, bind_plain, ok_plain, byte_plain, block_plain, number_plain, judge_plain, plain_then, judged_operations, first_failed, fails_first, then_is, judge_fails, done, failed, not_both}
 use Rattle.update_codec.proofs.Places.{kept_of}
-use Rattle.update_codec.proofs.TakesLemmas.{Takes, before_ops_takes, u16_takes, whole_spells}
+use Rattle.update_codec.proofs.TakesLemmas.{before_ops_takes, u16_takes, whole_spells}
 use Rattle.update_codec.proofs.Again.{before_ops_again, u16_again, whole_again}
 
 id_plain : (bytes : List ℕ) → IsPlain (id_at bytes)

@@ -1,9 +1,8 @@
 -- Reading one item after the other, as a loop does.
-use Rattle.std.proofs.Common.{◌≡◌, ℕ, zero, suc, ◌+◌, ◌-◌, ◌<◌, ◌≤◌, Bool, true, false, List, [], ◌∷◌, ◌++◌, refl, sym, ap, ◌∙◌, arith, append_assoc}
+use Rattle.std.proofs.Common.{◌≡◌, ℕ, suc, ◌+◌, ◌-◌, ◌<◌, ◌≤◌, true, false, List, [], ◌∷◌, ◌++◌, refl, sym, ap, ◌∙◌, arith, append_assoc}
 use Rattle.std.proofs.lemmas.List.{append-nil}
-use Rattle.std.specs.Prelude.{Result, Ok, Err, Option, Some, None}
+use Rattle.std.specs.Prelude.{Ok, Err, Option, Some}
 use Rattle.update_model.specs.declared.update_id.UpdateId.{UpdateId}
-use Rattle.update_codec.specs.declared.decode_error.CodecFault.{CodecFault}
 use Rattle.update_codec.specs.declared.decode_error.CodecFault.TheVariants.{Misspelled}
 use Rattle.update_codec.specs.declared.decode_error.DecodeError.{DecodeError}
 use Rattle.update_codec.specs.declared.decode_error.DecodeError.TheVariants.{Fault, Memory}

@@ -1,5 +1,5 @@
 -- The parts of an update stand at their places in its spelling.
-use Rattle.std.proofs.Common.{◌≡◌, ℕ, zero, suc, ◌+◌, ◌-◌, ◌^◌, ◌<◌, ◌≤◌, List, [], ◌∷◌, ◌++◌, length, take, drop, refl, sym, ap, subst, ◌∙◌, arith, append_assoc}
+use Rattle.std.proofs.Common.{◌≡◌, ℕ, ◌+◌, ◌-◌, ◌^◌, ◌<◌, ◌≤◌, List, [], ◌∷◌, ◌++◌, length, take, drop, refl, sym, ap, subst, ◌∙◌, arith, append_assoc}
 use Rattle.std.proofs.Math.Seq.{take-append_seam, drop-append_seam, drop-append-add}
 use Rattle.std.proofs.lemmas.List.{length-append, take_rest}
 use Rattle.std.proofs.lemmas.Nat.{from_be_bytes-to_be_bytes_2, from_be_bytes-to_be_bytes_4}
@@ -7,7 +7,7 @@ use Rattle.std.specs.Int.{w16, w32, to_be_bytes, from_be_bytes}
 use Rattle.std.specs.List.{flat_map, AllByRecursion}
 use Rattle.update_model.specs.declared.update_id.UpdateId.{UpdateId}
 use Rattle.update_model.specs.declared.author_key.AuthorKey.{AuthorKey}
-use Rattle.update_model.specs.Form.{BodyData, UpdateData, IsId, IsKey, IsBody, signature_length}
+use Rattle.update_model.specs.Form.{BodyData, UpdateData, IsId, IsBody, signature_length}
 use Rattle.update_codec.specs.Parts.{database_of, author_of, first_ids, preds_of, signature_of, body_of, update_of, id_of}
 use Rattle.update_codec.specs.Spelling as spell
 use Rattle.update_codec.specs.Spelling.{Spells}
@@ -50,7 +50,7 @@ stands d l o i t p rest hd hl ho hi ht hp =
       ident = ap (take 16) (behind 32 8 40 d l0 hd refl ∙ behind 4 4 8 l o0 hl refl ∙ behind 4 0 4 o i0 ho refl) ∙ front_of 16 i t0 hi;
       root = ap (take 32) (behind 32 24 56 d l0 hd refl ∙ behind 4 20 24 l o0 hl refl ∙ behind 4 16 20 o i0 ho refl ∙ behind 16 0 16 i t0 hi refl) ∙ front_of 32 t p0 ht;
       count = ap (take 2) (behind 32 56 88 d l0 hd refl ∙ behind 4 52 56 l o0 hl refl ∙ behind 4 48 52 o i0 ho refl ∙ behind 16 32 48 i t0 hi refl ∙ behind 32 0 32 t p0 ht refl) ∙ front_of 2 p rest hp;
-      preds = behind 32 58 90 d l0 hd refl ∙ behind 4 54 58 l o0 hl refl ∙ behind 4 50 54 o i0 ho refl ∙ behind 16 34 50 i t0 hi refl ∙ behind 32 2 34 t p0 ht refl ∙ behind 2 0 2 p rest hp refl
+      preds = behind 32 58 90 d l0 hd refl ∙ behind 4 54 58 l o0 hl refl ∙ behind 4 50 54 o i0 ho refl ∙ behind 16 34 50 i t0 hi refl ∙ behind 32 2 34 t p0 ht refl ∙ behind 2 0 2 p rest hp refl;
     }
 
 -- a spelling with what stands behind the predecessors
@@ -74,9 +74,9 @@ unfolding author_of
 author_laid body rest is =
     let at = laid_stands body rest is in
     key_is body.author _ _ _ _
-      (ap (from_be_bytes w32) at.lms ∙ from_be_bytes-to_be_bytes_4 body.author.lms (small body.author.lms 7 is.author.known.lms.1 (omega arith)))
-      (ap (from_be_bytes w32) at.ots ∙ from_be_bytes-to_be_bytes_4 body.author.ots (small body.author.ots 4 is.author.known.ots.1 (omega arith)))
-      at.ident at.root
+    (ap (from_be_bytes w32) at.lms ∙ from_be_bytes-to_be_bytes_4 body.author.lms (small body.author.lms 7 is.author.known.lms.1 (omega arith)))
+    (ap (from_be_bytes w32) at.ots ∙ from_be_bytes-to_be_bytes_4 body.author.ots (small body.author.ots 4 is.author.known.ots.1 (omega arith)))
+    at.ident at.root
   where
     small : (n k : ℕ) → n ≤ k → k < 2 ^ 32 → n < 2 ^ 32
     small n k h g = omega arith
@@ -100,6 +100,7 @@ preds_laid body rest is =
   where
     below : (n : ℕ) → n ≤ 1024 → n < 2 ^ 16
     below n h = omega arith
+
     same_ids : (n m : ℕ) (a b : List ℕ) → n ≡ m → a ≡ b → first_ids n a ≡ first_ids m b
     same_ids n m a b e g = λ t. first_ids (e t) (g t)
 

@@ -1,5 +1,5 @@
 -- What the steps of reading tell, where reading passed them and where it did not.
-use Rattle.std.proofs.Common.{◌≡◌, ℕ, Bool, true, false, cond, List, [], ◌∷◌, length, refl, sym, ap, ◌∙◌, ltb}
+use Rattle.std.proofs.Common.{◌≡◌, ℕ, Bool, true, false, cond, List, [], ◌∷◌, length, refl, ap, ◌∙◌, ltb}
 use Rattle.std.specs.Prelude.{Result, Ok, Err}
 use Rattle.std.specs.Int.{Width, byte_len}
 use Rattle.update_codec.specs.declared.decode_error.CodecFault.{CodecFault}

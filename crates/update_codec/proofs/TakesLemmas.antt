@@ -1,22 +1,19 @@
 -- What each reader took from the front of the bytes is the spelling of its value.
-use Rattle.std.proofs.Common.{◌≡◌, ℕ, zero, suc, ◌+◌, ◌*◌, ◌^◌, ◌<◌, ◌≤◌, Bool, true, false, List, [], ◌∷◌, ◌++◌, length, take, drop, get_or, refl, sym, ap, subst, ◌∙◌, arith, append_assoc, ltb, leb, eqb, ◌&&◌}
-use Rattle.std.proofs.lemmas.List.{take-append-drop, append-nil, length-take-le, get_or-drop, get_or-take}
-use Rattle.std.proofs.lemmas.List.Concat.{flat_map-cons}
+use Rattle.std.proofs.Common.{◌≡◌, ℕ, zero, suc, ◌+◌, ◌^◌, ◌<◌, ◌≤◌, true, List, [], ◌∷◌, ◌++◌, length, take, drop, refl, sym, ap, subst, ◌∙◌, arith, append_assoc, ltb, leb, eqb, ◌&&◌}
+use Rattle.std.proofs.lemmas.List.{take-append-drop, append-nil, length-take-le, get_or-drop}
 use Rattle.std.proofs.lemmas.Bool.{ltb-false, leb-true, eqb-true}
 use Rattle.std.proofs.lemmas.Bool.Decides.{nat_tests}
 use Rattle.std.proofs.lemmas.Nat.{be_bytes_2, be_bytes_4}
-use Rattle.std.specs.Prelude.{Result, Ok, Err, Option, Some, None, IsTrue}
-use Rattle.std.specs.Int.{Width, w16, w32, byte_len, to_be_bytes, from_be_bytes}
+use Rattle.std.specs.Prelude.{Ok, Option, Some, None}
+use Rattle.std.specs.Int.{w16, w32, to_be_bytes, from_be_bytes}
 use Rattle.std.specs.List.{flat_map, AllByRecursion}
 use Rattle.update_model.specs.declared.update_id.UpdateId.{UpdateId}
 use Rattle.update_model.specs.declared.author_key.AuthorKey.{AuthorKey}
-use Rattle.update_model.specs.Form.{BodyData, UpdateData, AreBytes, IsBlock, IsId, IsKey, IsBody, IsUpdate, AreRising, is_below, signature_length}
-use Rattle.update_codec.specs.declared.decode_error.CodecFault.{CodecFault}
-use Rattle.update_codec.specs.declared.decode_error.CodecFault.TheVariants.{Misspelled, Operations}
-use Rattle.update_codec.specs.Reading.{◌>>=◌, byte_at, block_at, number_at, id_at, ids_at, is_next, author_at, before_ops_at, body_at, update_at, whole}
+use Rattle.update_model.specs.Form.{BodyData, UpdateData, AreBytes, IsBlock, IsId, IsKey, IsBody, IsUpdate, AreRising, signature_length}
+use Rattle.update_codec.specs.Reading.{byte_at, block_at, number_at, id_at, ids_at, is_next, author_at, before_ops_at, body_at, update_at, whole}
 use Rattle.update_codec.specs.Spelling as spell
 use Rattle.update_codec.specs.Spelling.{Spells}
-use Rattle.update_codec.proofs.Steps.{bind_ok, judged, guard_ok, ok_is, done}
+use Rattle.update_codec.proofs.Steps.{bind_ok, judged, guard_ok, ok_is}
 
 -- what a reader took from the front
 pub record Takes (bytes text rest : List ℕ) : Type 0 where
@@ -58,6 +55,7 @@ u16_takes bytes x fits e =
   where
     below : (front : List ℕ) → AreBytes front → from_be_bytes w16 front < 2 ^ 16
     below front each = omega (arith, each 0, each 1)
+
     both : 2 ≤ length bytes → Takes bytes (to_be_bytes w16 (from_be_bytes w16 (take 2 bytes))) (drop 2 bytes) × (from_be_bytes w16 (take 2 bytes) < 2 ^ 16)
     both h =
         let p = block_parts 2 bytes fits h in
@@ -132,8 +130,10 @@ before_ops_takes bytes x fits e =
     let tf = ids_takes d.0.0 None d.0.1 f.0 td.0.rest_fits f.1 in
     let version : Takes bytes (1 ∷ []) a.0.1 = subst (λ (v : ℕ). Takes bytes (v ∷ []) a.0.1) (eqb-true a.0.0 1 one.0) ta in
     let count : Takes c.0.1 (to_be_bytes w16 (length f.0.0)) d.0.1 = subst (λ (n : ℕ). Takes c.0.1 (to_be_bytes w16 n) d.0.1) (sym tf.1) td.0 in
-    rw (← ok_is _ x f.2) (Takes-then (Takes-then version (Takes-then tb.0 tc.0)) (Takes-then count tf.0),
-      record { database = tb.1; author = tc.1; few_preds = few_ids d.0.0 (length f.0.0) tf.1 (leb-true d.0.0 1024 few.0); ids = tf.2; rising = tf.3 })
+    rw (← ok_is _ x f.2) (
+      Takes-then (Takes-then version (Takes-then tb.0 tc.0)) (Takes-then count tf.0),
+      record { database = tb.1; author = tc.1; few_preds = few_ids d.0.0 (length f.0.0) tf.1 (leb-true d.0.0 1024 few.0); ids = tf.2; rising = tf.3 },
+    )
   where
     few_ids : (p n : ℕ) → n ≡ p → p ≤ 1024 → n ≤ 1024
     few_ids p n e h = omega arith
@@ -176,6 +176,7 @@ whole_spells bytes u fits e =
   where
     both : (n m : ℕ) → (eqb n 0 && leb m 262144) ≡ true → (n ≡ 0) × (m ≤ 262144)
     both n m h = grind (arith, nat_tests)
+
     nothing : (front rest : List ℕ) → length rest ≡ 0 → front ++ rest ≡ front
     nothing front [] h = append-nil front
     nothing front (b ∷ rest) h = absurd (omega arith)

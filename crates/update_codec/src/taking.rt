@@ -9,11 +9,10 @@ ghost use Rattle.update_codec.specs.Parts.{update_of};
 ghost use Rattle.update_codec.specs.Reading.{whole};
 ghost use Rattle.update_codec.specs.Spelling.{Spells, HasOperations};
 
-use std::alloc::Global;
-use update_model::{Body, UpdateId};
-
 use crate::decoding::parts_of;
 use crate::{DecodeError, Spelled, id_of};
+use std::alloc::Global;
+use update_model::{Body, UpdateId};
 
 /// Takes over bytes that spell an update, with the update's body and id beside them.
 ///

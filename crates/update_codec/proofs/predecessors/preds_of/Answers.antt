@@ -1,8 +1,8 @@
-use Rattle.std.proofs.Common.{◌≡◌, ◌-◌, sym, ◌∙◌}
+use Rattle.std.proofs.Common.{sym, ◌∙◌}
 use Rattle.std.specs.Prelude.{None}
 use Rattle.std.proofs.lemmas.Result.{err_from_is_err_and}
 use Rattle.update_codec.specs.Reading.{ids_at}
-use Rattle.update_codec.proofs.Loops.{with_front, id_fails, id_refused, id_goes_on, ids_done}
+use Rattle.update_codec.proofs.Loops.{id_fails, id_refused, id_goes_on, ids_done}
 use Rattle.update_codec.proofs.predecessors.preds_of.Goals as goal
 
 pub returns-in_err-id : goal.returns-in_err-id

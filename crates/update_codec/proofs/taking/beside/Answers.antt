@@ -1,4 +1,4 @@
-use Rattle.std.proofs.Common.{◌≡◌, arith}
+use Rattle.std.proofs.Common.{arith}
 use Rattle.std.proofs.lemmas.Result.{err_from_is_err_and}
 use Rattle.update_codec.proofs.Causes.{refused_of, kept_as_read}
 use Rattle.update_codec.proofs.taking.beside.Goals as goal

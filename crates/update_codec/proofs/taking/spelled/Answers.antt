@@ -1,4 +1,3 @@
-use Rattle.std.proofs.Common.{◌≡◌}
 use Rattle.std.proofs.lemmas.Result.{err_from_is_err_and}
 use Rattle.update_codec.proofs.Causes.{fails_only, kept_has_none}
 use Rattle.update_codec.proofs.taking.spelled.Goals as goal
