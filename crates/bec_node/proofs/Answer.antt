@@ -13,10 +13,10 @@ use Rattle.bec_node.specs.Run.{HasHeads, HeadsAnswer}
 heads_once : (members others : List (List ℕ)) (heads again : List UpdateId) → members ≡ others → AreHeads (map entry_of members) heads → AreHeads (map entry_of others) again → heads ≡ again
 heads_once members others heads again same a b =
     sorted_same heads again a.rising b.rising (λ q.
-      let here = a.exact q in
-      let there = b.exact q in
-      let moved = ap (λ (ms : List (List ℕ)). holds (map entry_of ms) q && not (names (map entry_of ms) q)) same in
-      here ∙ moved ∙ sym there)
+    let here = a.exact q in
+    let there = b.exact q in
+    let moved = ap (λ (ms : List (List ℕ)). holds (map entry_of ms) q && not (names (map entry_of ms) q)) same in
+    here ∙ moved ∙ sym there)
 
 pub answer_once : (input rest other : List ℕ) (status another : ℕ) (text line : List ℕ) → HeadsAnswer input rest status text → HeadsAnswer input other another line
     → (status ≡ another) × (text ≡ line)
@@ -27,6 +27,7 @@ answer_once input rest other status another text line (inl a) (inl b) =
 answer_once input rest other status another text line (inl a) (inr b) = absurd (whole_and_refused input other a.1.0 b.0 b.1.0 a.1.1 b.1.1)
 answer_once input rest other status another text line (inr a) (inl b) = absurd (whole_and_refused input rest b.1.0 a.0 a.1.0 b.1.1 a.1.1)
 answer_once input rest other status another text line (inr a) (inr b) =
-    let same = refused_once input rest other a.0 b.0 a.1.0 b.1.0 a.1.1 b.1.1 in
-    (a.1.2 ∙ ap status_of same.1 ∙ sym b.1.2,
-     a.1.3 ∙ ap (λ (n : ℕ). refusal_text n a.1.0) same.0 ∙ ap (refusal_text b.0) same.1 ∙ sym b.1.3)
+    let same = refused_once input rest other a.0 b.0 a.1.0 b.1.0 a.1.1 b.1.1 in (
+      a.1.2 ∙ ap status_of same.1 ∙ sym b.1.2,
+      a.1.3 ∙ ap (λ (n : ℕ). refusal_text n a.1.0) same.0 ∙ ap (refusal_text b.0) same.1 ∙ sym b.1.3,
+    )

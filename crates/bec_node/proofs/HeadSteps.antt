@@ -29,7 +29,7 @@ taken_out old new was gone false e f = rw (e, f) (all was gone)
 
 pub has-take_more : (ids : List UpdateId) (i : ℕ) (d q : UpdateId) → i < length ids → has (take (i + 1) ids) q ≡ (has (take i ids) q || (same_id (get_or ids i d) q || false))
 has-take_more ids i d q low = ap (λ (xs : List UpdateId). has xs q) (take_more ids i d low) ∙ list_any-append (same_id q) (take i ids) (get_or ids i d ∷ [])
-      ∙ ap (λ b. has (take i ids) q || (b || false)) (same_id-symm q (get_or ids i d))
+    ∙ ap (λ b. has (take i ids) q || (b || false)) (same_id-symm q (get_or ids i d))
 
 -- the facts of one more member, by whether it has the id
 new_member : (held named : Bool) (there out now : Bool) → named ≡ false → out ≡ false → now ≡ cond true true there → now ≡ ((held || (true || false)) && not (named || (out || false)))
@@ -126,5 +126,5 @@ heads_next entry members i m id preds old mid new q closed at is_id are_preds a 
     let all : i < length (map entry members) = omega (arith, length-map members entry) in
     let there : get_or (map entry members) i (entry m) ≡ entry m = get_or-map entry members i m (entry m) low ∙ ap entry (get_or_from_slice_get members i m m at) in
     heads_more (map entry members) i (entry m) old mid new q closed all there a
-      (b ∙ ap (λ (ids : List UpdateId). has old q && not (has ids q)) are_preds)
-      (c ∙ ap (λ (n : UpdateId). cond (same_id n q) true (has mid q)) is_id)
+    (b ∙ ap (λ (ids : List UpdateId). has old q && not (has ids q)) are_preds)
+    (c ∙ ap (λ (n : UpdateId). cond (same_id n q) true (has mid q)) is_id)

@@ -61,7 +61,7 @@ PutsFront out_old out_new held held_new text = Rose out_old out_new × ((n : ℕ
 abbrev pub IsStreamFault : List (String Global) → Option (List ℕ) → Option (List ℕ) → ℕ → ℕ → ℕ → ℕ → Option (List ℕ) → Option (List ℕ) → Type 0
 IsStreamFault words before after in_old in_new out_old out_new held held_new =
     (IsHeadsCommand words × Rose in_old in_new
-        × (Appends held held_new (codes "! stream fault\n") ⊎ PutsFront out_old out_new held held_new (codes "! stream fault\n")))
+    × (Appends held held_new (codes "! stream fault\n") ⊎ PutsFront out_old out_new held held_new (codes "! stream fault\n")))
     ⊎ ((status : ℕ) × ((text : List ℕ) × IsReply words before after status text × PutsFront out_old out_new held held_new text))
 
 -- the text is written with its status, or a front of it with status 4 where the sink failed

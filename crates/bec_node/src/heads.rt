@@ -3,14 +3,16 @@ ghost use Rattle.std.specs.BTreeSet.{keys};
 ghost use Rattle.update_model.specs.declared.update_id.UpdateId.{UpdateId as Id};
 ghost use Rattle.update_model.specs.Graph.{AreHeads, has};
 
+use hash_graph::Graph;
 use std::alloc::{AllocError, Global};
 use std::collections::BTreeSet;
-
-use hash_graph::Graph;
 use update_model::{Member, UpdateId};
 
 /// The heads of a graph: the ids of the members that no member names.
-pub fn heads_of<M: Member>(alloc: Global, graph: &Graph<M>) -> Result<BTreeSet<UpdateId>, AllocError>
+pub fn heads_of<M: Member>(
+    alloc: Global,
+    graph: &Graph<M>,
+) -> Result<BTreeSet<UpdateId>, AllocError>
     ensures { IfOk result (λ heads. AreHeads (map M.entry graph.now) (keys heads)) }
 {
     let mut heads = BTreeSet::new(alloc);

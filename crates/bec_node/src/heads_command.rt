@@ -2,12 +2,10 @@ ghost use Rattle.std.specs.Prelude.{◌≡◌, ◌≢◌, ℕ, List, [], IfSome}
 ghost use Rattle.std.specs.Io.KnownBytes.{Appends};
 ghost use Rattle.bec_node.specs.Run.{IsHeadsCommand, HasFirstWord, HeadsAnswer, IsReply, IsStreamFault, ComesAs, LeavesInput};
 
-use std::alloc::Global;
-
-use bec_bytes::{Sink, Source, write_all_of};
-use update_stream::{ReadError, read_stream};
-
 use crate::reply::{heads_reply, no_command, put_reply};
+use bec_bytes::{Sink, Source, write_all_of};
+use std::alloc::Global;
+use update_stream::{ReadError, read_stream};
 
 /// The command `heads`: reads an update stream and prints the ids of its heads, rising, one per line in
 /// lower-case hexadecimal, or the line for the first record that is refused. `words` are all the words of the
@@ -22,19 +20,13 @@ pub fn command_heads<S: Source, K: Sink>(
 ) -> u8
     requires { HasFirstWord words.now }
 
-    ensures reply {
-        result ≢ 4 → result ≢ 5
-            → (text : List ℕ) × IsReply words.now (S.left input.old) (S.left input.new) result text × Appends (K.held out.old) (K.held out.new) text
-    }
-    ensures fault {
-        result ≡ 4
-            → IsStreamFault words.now (S.left input.old) (S.left input.new) (S.faults input.old) (S.faults input.new) (K.faults out.old) (K.faults out.new) (K.held out.old) (K.held out.new)
-    }
+    ensures reply { result ≢ 4 → result ≢ 5
+        → (text : List ℕ) × IsReply words.now (S.left input.old) (S.left input.new) result text × Appends (K.held out.old) (K.held out.new) text }
+    ensures fault { result ≡ 4
+        → IsStreamFault words.now (S.left input.old) (S.left input.new) (S.faults input.old) (S.faults input.new) (K.faults out.old) (K.faults out.new) (K.held out.old) (K.held out.new) }
     ensures memory { result ≡ 5 → IsHeadsCommand words.now × Appends (K.held out.old) (K.held out.new) [] }
-    ensures only {
-        IsHeadsCommand words.now
-            → IfSome (S.left input.old) (λ bytes. (rest : List ℕ) (status : ℕ) (text : List ℕ) → HeadsAnswer bytes rest status text → ComesAs result status)
-    }
+    ensures only { IsHeadsCommand words.now
+        → IfSome (S.left input.old) (λ bytes. (rest : List ℕ) (status : ℕ) (text : List ℕ) → HeadsAnswer bytes rest status text → ComesAs result status) }
     ensures other { LeavesInput words.now input.old input.new }
 {
     if words.len() > 1 {

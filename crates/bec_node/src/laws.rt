@@ -5,9 +5,6 @@ ghost use Rattle.bec_node.specs.Run.{HeadsAnswer};
 
 /// A stream has one answer, so each status and each text comes exactly where its cause stands.
 pub fn one_answer()
-    ensures {
-        (input rest other : List ℕ) (status another : ℕ) (text line : List ℕ)
-            → HeadsAnswer input rest status text → HeadsAnswer input other another line → (status ≡ another) × (text ≡ line)
-    }
-{
-}
+    ensures { (input rest other : List ℕ) (status another : ℕ) (text line : List ℕ)
+        → HeadsAnswer input rest status text → HeadsAnswer input other another line → (status ≡ another) × (text ≡ line) }
+{}

@@ -30,3 +30,6 @@ pub use heads::heads_of;
 pub use heads_command::command_heads;
 pub use laws::one_answer;
 pub use program::run;
+
+#[cfg(test)]
+mod tests;

@@ -8,14 +8,12 @@ ghost use Rattle.bec_bytes.specs.Causes.{Rose};
 ghost use Rattle.bec_node.specs.Texts.{line_of, printed, refusal_text, status_of};
 ghost use Rattle.bec_node.specs.Run.{Says, Puts};
 
+use crate::heads::heads_of;
+use bec_bytes::{Sink, write_all_of};
 use std::alloc::{AllocError, Global};
 use std::collections::BTreeSet;
-
-use bec_bytes::{Sink, write_all_of};
 use update_model::UpdateId;
 use update_stream::{Reading, RecordFault};
-
-use crate::heads::heads_of;
 
 /// An exit status, and the text that is written with it.
 #[derive(Debug, Drop)]

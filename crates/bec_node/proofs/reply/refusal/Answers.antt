@@ -19,4 +19,4 @@ with_digits (Err e) n fault id name is digits text = tt
 pub returns-in_ok-digits-in-Lacks : goal.returns-in_ok-digits-in-Lacks
 returns-in_ok-digits-in-Lacks c =
     with_digits c.format-in-Lacks.result c.args.number c.args.fault.now c.in-Lacks.id c.as_str-name.result.now c.in-Lacks.is
-      (c.as_str-name.ensures.value ∙ c.in_ok-digits-in-Lacks.ensures) c.format-in-Lacks.ensures.ok
+    (c.as_str-name.ensures.value ∙ c.in_ok-digits-in-Lacks.ensures) c.format-in-Lacks.ensures.ok
