@@ -17,8 +17,8 @@ use update_model::{Body, ByteList, IdList, Update, signature_len};
 /// The update whose spelling these bytes are.
 ///
 /// `Operations` comes exactly where the bytes begin with a body in form up to its predecessors and a number of
-/// operations that is not 0, whatever follows. `Misspelled` comes exactly where no update is spelled otherwise.
-/// What is kept of the bytes is copied.
+/// operations that is not 0, whatever follows and however long they are. `Misspelled` comes exactly where the bytes
+/// spell no update and have no such beginning. What is kept of the bytes is copied.
 pub fn decode(alloc: Global, bytes: &[u8]) -> Result<Update, DecodeError>
     ensures found { IfOk result (λ update. Spells bytes.now update) }
     ensures only { (update : UpdateData) → Spells bytes.now update → Answers result (Ok update) }
