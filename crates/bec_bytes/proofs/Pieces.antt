@@ -17,6 +17,7 @@ take-put_mid_front f n k buf piece within fits =
     ∙ ap (λ (xs : List ℕ). take f buf ++ take n xs) (drop_at (take f buf) rest f front)
     ∙ ap (λ (xs : List ℕ). take f buf ++ xs) (rw take-append-le)
 
+-- the front of a buffer and the front of the piece behind it lie within the buffer
 pub within-put_mid : (f n k : ℕ) (buf piece : List ℕ) → f ≤ length buf → n ≤ length piece → f + n ≤ length (put_mid f k buf piece)
 within-put_mid f n k buf piece within fits =
     omega (arith, length-append (take f buf) (piece ++ post_of f k buf), length-append piece (post_of f k buf), length-take f buf)
