@@ -3,10 +3,9 @@
 ghost use Rattle.std.specs.Prelude.{◌≡◌, ℕ, List, IfOk};
 ghost use Rattle.update_model.specs.declared.update_id.UpdateId.{UpdateId};
 
+use crate::UpdateId;
 use std::alloc::{AllocError, Global};
 use std::marker::Model;
-
-use crate::UpdateId;
 
 /// A list of update ids.
 #[derive(Debug, Drop)]
