@@ -1,0 +1,5 @@
+mod Blocks
+mod ChainLaws
+mod JoinedLaws
+mod KindLaws
+mod OneTimeLaws
