@@ -1,5 +1,5 @@
 -- Parts of lists, and writes to them, as to a buffer of fixed length.
-use Rattle.std.proofs.Common.{◌≡◌, ◌≤◌, ℕ, ◌+◌, List, [], ◌∷◌, ◌++◌, length, take, drop, set, refl, sym, ap, ◌∙◌, arith, append-nil, append_assoc, length-append}
+use Rattle.std.proofs.Common.{◌≡◌, ◌≤◌, ℕ, ◌+◌, List, [], ◌++◌, length, take, drop, sym, ap, ◌∙◌, arith, append-nil, append_assoc, length-append}
 use Rattle.std.proofs.lemmas.List.{drop_all, drop_at, length-take-le, length-drop, take_all, take_at, take-take}
 use borrow.Rule.Slice.PartMut.{put_mid, mid_of}
 

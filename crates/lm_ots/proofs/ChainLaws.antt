@@ -1,6 +1,5 @@
 -- Steps of a chain taken one by one, and one run after another.
-use Rattle.std.proofs.Common.{◌≡◌, ◌<◌, ◌≤◌, ℕ, zero, suc, ◌+◌, ◌-◌, List, ◌∷◌, ◌++◌, length, refl, sym, ap, ◌∙◌, subst, arith, add-zero, add-suc, add-one, add_assoc}
-use Rattle.sha2.specs.Sha256.{sha256, digest_bytes}
+use Rattle.std.proofs.Common.{◌≡◌, ◌<◌, ℕ, zero, suc, ◌+◌, ◌-◌, List, ◌∷◌, ◌++◌, length, refl, sym, ap, ◌∙◌, arith, add-zero}
 use Rattle.sha2.proofs.Facts256.{length-sha256}
 use Rattle.lm_ots.specs.Chain.{stepped, step_of}
 
@@ -34,3 +33,7 @@ pub length-stepped : (prefix : List ℕ) (j n : ℕ) (value : List ℕ) → leng
 unfolding stepped
 length-stepped prefix j zero value len = len
 length-stepped prefix j (suc n) value len = length-stepped prefix (j + 1) n (step_of prefix j value) (length-sha256 (prefix ++ j ∷ value))
+
+-- a run as the code makes it is a run as it is specified
+pub stepped_as : (prefix p value v : List ℕ) (digit d greatest g : ℕ) → prefix ≡ p → value ≡ v → digit ≡ d → greatest ≡ g → stepped prefix digit (greatest - digit) value ≡ stepped p d (g - d) v
+stepped_as prefix p value v digit d greatest g e1 e2 e3 e4 = cc

@@ -3,7 +3,7 @@ use Rattle.std.specs.Int.{w32, to_be_bytes}
 use Rattle.sha2.specs.Hashers.{Holds256}
 use Rattle.lm_ots.specs.OtsKind.{greatest_digit}
 use Rattle.lm_ots.specs.Joined.{joined}
-use Rattle.lm_ots.specs.OneTime.{end_from, private_value, public_tag}
+use Rattle.lm_ots.specs.OneTime.{private_value, public_tag}
 use Rattle.lm_ots.proofs.one_time.public_of.Given as goal
 
 abbrev pub invariant-loop-i : goal.invariant-loop-i

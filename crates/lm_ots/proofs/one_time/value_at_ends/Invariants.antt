@@ -1,9 +1,8 @@
 use Rattle.std.proofs.Common.{◌≡◌, ◌++◌, take}
 use Rattle.std.specs.Int.{w32, to_be_bytes}
 use Rattle.sha2.specs.Hashers.{Holds256}
-use Rattle.lm_ots.specs.OtsKind.{greatest_digit}
 use Rattle.lm_ots.specs.Joined.{joined}
-use Rattle.lm_ots.specs.OneTime.{end_from, private_value, public_tag}
+use Rattle.lm_ots.specs.OneTime.{end_from, public_tag}
 use Rattle.lm_ots.proofs.one_time.value_at_ends.Given as goal
 
 abbrev pub invariant-loop-i : goal.invariant-loop-i

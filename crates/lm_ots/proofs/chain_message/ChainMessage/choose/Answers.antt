@@ -1,4 +1,4 @@
-use Rattle.std.proofs.Common.{◌≡◌, length, ◌∙◌, arith, rules}
+use Rattle.std.proofs.Common.{◌≡◌, length, ◌∙◌, rules}
 use Rattle.lm_ots.proofs.Blocks.{drop_put}
 use borrow.Rule.Slice.PartMut.{put_mid}
 use Rattle.lm_ots.proofs.chain_message.ChainMessage.choose.Goals as goal

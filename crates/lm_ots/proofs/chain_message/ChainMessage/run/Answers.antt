@@ -1,5 +1,4 @@
-use Rattle.std.proofs.Common.{◌≡◌, ◌-◌, ◌+◌, List, ℕ, take, drop, sym, ap, ◌∙◌, arith}
-use Rattle.lm_ots.specs.Chain.{stepped, step_of}
+use Rattle.std.proofs.Common.{◌-◌, take, drop, sym, ◌∙◌, arith}
 use Rattle.lm_ots.proofs.ChainLaws.{stepped_next, stepped_none}
 use Rattle.lm_ots.proofs.chain_message.ChainMessage.run.Goals as goal
 

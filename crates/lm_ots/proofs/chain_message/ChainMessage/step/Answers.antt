@@ -1,4 +1,4 @@
-use Rattle.std.proofs.Common.{◌≡◌, length, set, ◌∙◌, ap, arith, rules}
+use Rattle.std.proofs.Common.{◌≡◌, length, set, ◌∙◌, ap, arith}
 use Rattle.std.proofs.lemmas.List.{length-set, set_split}
 use Rattle.sha2.specs.Sha256.{sha256}
 use Rattle.lm_ots.proofs.Blocks.{drop_put}
