@@ -39,7 +39,7 @@ own_form kind ident seed c msg q size =
     let f : ℕ → List ℕ = λ i. private_value ident q seed i (coef digits i (width kind)) in
     record {
       len = total kind c (joined f (chain_count kind)) size (joined-length f 32 (chain_count kind) (λ i. length-private_value ident q seed i (coef digits i (width kind))));
-      word = from_be_bytes-to_be_bytes_4 (type_word kind) (type_word-fits kind)
+      word = from_be_bytes-to_be_bytes_4 (type_word kind) (type_word-fits kind);
     }
   where
     total : (kind : OtsType) (c ends : List ℕ) → length c ≡ 32 → length ends ≡ 32 * chain_count kind → length (to_be_bytes w32 (type_word kind) ++ c ++ ends) ≡ signature_length kind
@@ -55,8 +55,8 @@ own_value_at kind ident seed digits head q len =
     let f : ℕ → List ℕ = λ i. private_value ident q seed i (coef digits i (width kind)) in
     let sizes : (i : ℕ) → length (f i) ≡ 32 = λ i. length-private_value ident q seed i (coef digits i (width kind)) in
     joined-same _ _ (chain_count kind) (λ i below.
-      ap (λ (y : List ℕ). stepped (chain_prefix ident q i) (coef digits i (width kind)) (greatest_digit kind - coef digits i (width kind)) y) (value_at head f (chain_count kind) i len sizes below)
-      ∙ rest_of_chain (chain_prefix ident q i) (start_value (chain_prefix ident q i) seed) (coef digits i (width kind)) (greatest_digit kind) (coef-le kind digits i))
+    ap (λ (y : List ℕ). stepped (chain_prefix ident q i) (coef digits i (width kind)) (greatest_digit kind - coef digits i (width kind)) y) (value_at head f (chain_count kind) i len sizes below)
+    ∙ rest_of_chain (chain_prefix ident q i) (start_value (chain_prefix ident q i) seed) (coef digits i (width kind)) (greatest_digit kind) (coef-le kind digits i))
 
 pub own_value : (kind : OtsType) (ident seed c msg : List ℕ) (q : ℕ) → length c ≡ 32 → candidate_value kind ident q msg (signature_of kind ident q seed c msg) ≡ public_value kind ident q seed
 own_value kind ident seed c msg q size =

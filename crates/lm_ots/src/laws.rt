@@ -9,5 +9,4 @@ ghost use Rattle.lm_ots.specs.OneTime.{IsOfType, candidate_value, public_value, 
 pub fn own_signature()
     ensures form { (kind : OtsType) (ident seed c msg : List ℕ) (q : ℕ) → length c ≡ 32 → IsOfType kind (signature_of kind ident q seed c msg) }
     ensures value { (kind : OtsType) (ident seed c msg : List ℕ) (q : ℕ) → length c ≡ 32 → candidate_value kind ident q msg (signature_of kind ident q seed c msg) ≡ public_value kind ident q seed }
-{
-}
+{}

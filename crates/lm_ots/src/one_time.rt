@@ -88,7 +88,13 @@ pub fn sign(
 /// The public value that the signature leads to (RFC 8554, section 4.6, algorithm 4b), or `None`
 /// where its length or its type's number is not that of `kind`. A signature of `msg` by leaf `q` is
 /// valid where this is the leaf's public value.
-pub fn candidate(kind: OtsType, ident: &[u8; 16], q: u32, msg: &[u8], sig: &[u8]) -> Option<[u8; 32]>
+pub fn candidate(
+    kind: OtsType,
+    ident: &[u8; 16],
+    q: u32,
+    msg: &[u8],
+    sig: &[u8],
+) -> Option<[u8; 32]>
     ensures { SomeIff result (IsOfType kind sig.now) (candidate_value kind ident.now q msg.now sig.now) }
 {
     if sig.len() != kind.signature_length() || BigEndian::read_u32(sig) != kind.type_word() {

@@ -26,7 +26,7 @@ loop-i-preserved c =
     let greatest : c.from-greatest.result ≡ greatest_digit c.args.kind = c.from-greatest.ensures ∙ c.greatest_digit.ensures in
     let digit : c.from.result ≡ coef c.args.digest.now c.loop-i.i (width c.args.kind) = c.from.ensures ∙ c.digit.ensures.value in
     let sum : c.loop-i.sum + (c.from-greatest.result - c.from.result) ≡ sum_below lack (c.loop-i.i + 1) =
-      rw (greatest, digit, so_far) (sym (sum_below_more lack c.loop-i.i)) in
+    rw (greatest, digit, so_far) (sym (sum_below_more lack c.loop-i.i)) in
     sum
 
 pub returns : goal.returns
@@ -40,4 +40,4 @@ returns c =
     let Whole : ℕ → Type 0 = λ n. c.loop-i.sum ≤ n * greatest_digit c.args.kind in
     rw c.checksum_shift.ensures
     (shifted_fits c.args.kind c.loop-i.sum (subst Whole last small)
-      ∙ ap (λ (n : ℕ). n * 2 ^ checksum_shift c.args.kind) (so_far ∙ ap (sum_below lack) last))
+    ∙ ap (λ (n : ℕ). n * 2 ^ checksum_shift c.args.kind) (so_far ∙ ap (sum_below lack) last))

@@ -9,5 +9,5 @@ use Rattle.lm_ots.proofs.one_time.public_of.Given as goal
 abbrev pub invariant-loop-i : goal.invariant-loop-i
 invariant-loop-i l = record {
   leaf : take 20 l.message.bytes ≡ l.ident ++ to_be_bytes w32 l.q;
-  ends : Holds256 l.hasher (l.ident ++ to_be_bytes w32 l.q ++ public_tag ++ joined (λ i. private_value l.ident l.q l.start i (greatest_digit l.fn.kind)) l.i)
+  ends : Holds256 l.hasher (l.ident ++ to_be_bytes w32 l.q ++ public_tag ++ joined (λ i. private_value l.ident l.q l.start i (greatest_digit l.fn.kind)) l.i);
 }

@@ -7,7 +7,7 @@ loop-j-preserved c =
     let next = stepped_next (take 22 c.loop-j.self.bytes) (drop 23 c.loop-j.self.bytes) c.loop-j.j c.args.to c.loop-j-test.true in
     record {
       chain = c.step.ensures.chain ∙ c.loop-j.invariant.chain;
-      left = rw (c.step.ensures.chain, c.step.ensures.value) (sym next ∙ c.loop-j.invariant.left)
+      left = rw (c.step.ensures.chain, c.step.ensures.value) (sym next ∙ c.loop-j.invariant.left);
     }
 
 pub returns-clause-value : goal.returns-clause-value
