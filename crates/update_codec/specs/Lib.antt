@@ -1,0 +1,6 @@
+pub mod Kept
+pub mod Outcome
+pub mod Parts
+pub mod Reading
+pub mod Spelling
+pub mod Stream

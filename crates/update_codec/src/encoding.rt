@@ -1,0 +1,94 @@
+//! Writing updates.
+
+ghost use Rattle.std.specs.Prelude.{◌≡◌, ◌+◌, ◌≤◌, ◌<◌, ◌++◌, length, IfOk, OnOk};
+ghost use Rattle.std.specs.Int.{w16, w32, to_be_bytes};
+ghost use Rattle.update_codec.specs.Outcome.{Writes, Refuses};
+ghost use Rattle.update_codec.specs.Spelling.{Spells, before_ops, message, signed_length, spelling};
+
+use byteorder::{BigEndian, ByteOrder};
+use std::alloc::{AllocError, Global};
+use update_model::{Body, Update, signature_len};
+
+use crate::{EncodeError, TooLong};
+
+/// The most bytes of an update.
+const MAX_BYTES: usize = 262144;
+
+/// The bytes that the author of a body signs: its spelling up to the signature's length.
+///
+/// `TooLong` comes exactly where the update, with the signature that its author's key makes, would have more
+/// than 262,144 bytes.
+pub fn encode_body(alloc: Global, body: &Body) -> Result<Vec<u8>, EncodeError>
+    ensures short { signed_length body.now ≤ 262144 → Writes result (message body.now) }
+    ensures long { 262144 < signed_length body.now → Refuses result (signed_length body.now) }
+{
+    let out = message_of(alloc, body, 0)?;
+    let len = out.len() + 4 + signature_len(&body.author) as usize;
+    if MAX_BYTES < len {
+        return Err(EncodeError::TooLong(TooLong { len: len as u64 }));
+    }
+    Ok(out)
+}
+
+/// The spelling of an update.
+///
+/// `TooLong` comes exactly where it has more than 262,144 bytes.
+pub fn encode(alloc: Global, update: &Update) -> Result<Vec<u8>, EncodeError>
+    ensures spells { IfOk result (λ out. Spells out.items update.now) }
+    ensures short { length (spelling update.now) ≤ 262144 → Writes result (spelling update.now) }
+    ensures long { 262144 < length (spelling update.now) → Refuses result (length (spelling update.now)) }
+{
+    let signature = update.signature.as_slice();
+    let mut out = message_of(alloc, &update.body, 4 + signature.len())?;
+    put_u32(&mut out, signature.len() as u32)?;
+    out.extend_from_slice(signature)?;
+    if MAX_BYTES < out.len() {
+        return Err(EncodeError::TooLong(TooLong { len: out.len() as u64 }));
+    }
+    Ok(out)
+}
+
+/// The message, in a vector with room for more.
+fn message_of(alloc: Global, body: &Body, more: usize) -> Result<Vec<u8>, AllocError>
+    requires { more ≤ 65536 }
+    ensures { IfOk result (λ out. out.items ≡ message body.now) }
+{
+    let preds = body.preds.as_slice().len();
+    let mut out = Vec::with_capacity(alloc, 93 + 32 * preds + more)?;
+    put_before_ops(&mut out, body)?;
+    put_u16(&mut out, 0)?;
+    Ok(out)
+}
+
+fn put_before_ops(out: &mut Vec<u8>, body: &Body) -> Result<(), AllocError>
+    ensures { OnOk result (out.new.items ≡ out.old.items ++ before_ops body.now) }
+{
+    out.push(1)?;
+    out.extend_from_slice(&body.database)?;
+    put_u32(out, body.author.lms)?;
+    put_u32(out, body.author.ots)?;
+    out.extend_from_slice(&body.author.ident)?;
+    out.extend_from_slice(&body.author.root)?;
+    let preds = body.preds.as_slice();
+    put_u16(out, preds.len() as u16)?;
+    for pred in preds {
+        out.extend_from_slice(&pred.0)?;
+    }
+    Ok(())
+}
+
+fn put_u16(out: &mut Vec<u8>, number: u16) -> Result<(), AllocError>
+    ensures { OnOk result (out.new.items ≡ out.old.items ++ to_be_bytes w16 number) }
+{
+    let mut field = [0; 2];
+    BigEndian::write_u16(&mut field, number);
+    out.extend_from_slice(&field)
+}
+
+fn put_u32(out: &mut Vec<u8>, number: u32) -> Result<(), AllocError>
+    ensures { OnOk result (out.new.items ≡ out.old.items ++ to_be_bytes w32 number) }
+{
+    let mut field = [0; 4];
+    BigEndian::write_u32(&mut field, number);
+    out.extend_from_slice(&field)
+}

@@ -1,0 +1,33 @@
+//! What an update is: the names of updates and authors, the body that is signed, and the graph of updates.
+//!
+//! This crate is the base that nearly every other crate stands on, so it has definitions and little code:
+//! plain types for the parts of an update, the trait [`Member`] through which a graph sees an update however
+//! it is kept, and, in its specs, what a closed list, an ancestor and a head are.
+//!
+//! An update names its direct predecessors by id. A list of members in arrival order is *closed* where ids are
+//! distinct and each predecessor stands earlier. The *heads* of a list are the members that no member names.
+//!
+//! ```text
+//! let key = AuthorKey { lms: 5, ots: 4, ident: [0; 16], root: [0; 32] };
+//! let length = signature_len(&key);       // 1292
+//! ```
+//!
+//! It reads and writes no bytes (see `update_codec`), keeps no graph (`hash_graph`) and knows no signature
+//! (`lms_tree`).
+#![tactic(auto)]
+
+mod author_key;
+mod body;
+mod laws;
+mod lists;
+mod member;
+mod update;
+mod update_id;
+
+pub use author_key::{AuthorKey, signature_len};
+pub use body::Body;
+pub use laws::{heads_cover_members, heads_of_same_set, nonempty_has_head};
+pub use lists::{ByteList, IdList};
+pub use member::Member;
+pub use update::Update;
+pub use update_id::UpdateId;

@@ -1,0 +1,51 @@
+ghost use Rattle.std.specs.Prelude.{◌≡◌, ◌≤◌, IfOk, IfErr};
+ghost use Rattle.bec_bytes.specs.Causes.{Rose};
+ghost use Rattle.update_stream.specs.Steps.{Finds};
+
+use std::alloc::Global;
+
+use bec_bytes::{Source, read_full};
+use byteorder::{BigEndian, ByteOrder};
+
+use crate::ReadError;
+
+/// What stands next in a stream.
+#[derive(Drop)]
+pub enum NextRecord {
+    /// The end of input.
+    End,
+    /// No whole record, or one that is longer than an update may be.
+    Cut,
+    /// A whole record, whose bytes these are.
+    Whole(Vec<u8>),
+}
+
+/// The greatest length of an update's spelling, in bytes.
+const MAX_LENGTH: u32 = 262_144;
+
+/// Reads what stands next. No more is read than the record that stands there: of one that is too long, its
+/// length alone.
+pub fn next_record<S: Source>(alloc: Global, input: &mut S) -> Result<NextRecord, ReadError>
+    ensures found { IfOk result (λ next. Finds (S.left input.old) (S.left input.new) next) }
+    ensures later { S.faults input.old ≤ S.faults input.new }
+    ensures failed { IfErr result (λ e. e ≡ ReadError.Failed → Rose (S.faults input.old) (S.faults input.new)) }
+{
+    let mut prefix = [0u8; 4];
+    let count = read_full(input, &mut prefix)?;
+    if count == 0 {
+        return Ok(NextRecord::End);
+    }
+    if count < 4 {
+        return Ok(NextRecord::Cut);
+    }
+    let length = BigEndian::read_u32(&prefix);
+    if length > MAX_LENGTH {
+        return Ok(NextRecord::Cut);
+    }
+    let mut bytes = vec![in alloc; 0u8; length as usize]?;
+    let held = read_full(input, &mut bytes)?;
+    if held < bytes.len() {
+        return Ok(NextRecord::Cut);
+    }
+    Ok(NextRecord::Whole(bytes))
+}
