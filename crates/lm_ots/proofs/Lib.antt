@@ -1,5 +1,5 @@
 mod Blocks
-mod ChainLaws
-mod JoinedLaws
+pub mod ChainLaws
+pub mod JoinedLaws
 mod KindLaws
-mod OneTimeLaws
+pub mod OneTimeLaws
