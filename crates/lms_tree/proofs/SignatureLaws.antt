@@ -1,11 +1,11 @@
 -- Signatures that are made are valid, and valid signatures have their key's length.
-use Rattle.std.proofs.Common.{◌≡◌, ◌<◌, ◌≤◌, ℕ, zero, suc, ◌+◌, ◌-◌, ◌*◌, ◌/◌, ◌%◌, ◌^◌, List, [], ◌∷◌, ◌++◌, length, take, drop, refl, sym, ap, ◌∙◌, arith, append_assoc, length-append}
-use Rattle.std.proofs.lemmas.List.{drop_at, drop-drop, take_at}
+use Rattle.std.proofs.Common.{◌≡◌, ◌<◌, ◌≤◌, ℕ, ◌+◌, ◌-◌, ◌*◌, ◌/◌, ◌^◌, List, ◌++◌, length, take, drop, refl, sym, ap, ◌∙◌, arith, append_assoc, append-nil, length-append, lit<}
+use Rattle.std.proofs.lemmas.List.{drop_all, drop_at, drop-drop, get_or-take, take_at}
 use Rattle.std.proofs.lemmas.Nat.{from_be_bytes-to_be_bytes_4}
 use Rattle.std.specs.Int.{w32, to_be_bytes, from_be_bytes}
+use Rattle.byteorder.specs.Endian.{big_number}
 use Rattle.lm_ots.specs.OtsKind as ots_kind
-use Rattle.lm_ots.specs.Joined.{joined}
-use Rattle.lm_ots.specs.OneTime.{IsOfType, candidate_value, signature_of}
+use Rattle.lm_ots.specs.OneTime.{candidate_value, signature_of}
 use Rattle.lm_ots.specs.declared.ots_type.OtsType.{OtsType}
 use Rattle.lm_ots.specs.declared.ots_type.OtsType.TheVariants.{W1, W2, W4, W8}
 use Rattle.lm_ots.proofs.JoinedLaws.{joined-at, joined-length}
@@ -153,3 +153,20 @@ made_signed secret q c msg below size = record {
   form = made_form secret q c msg below size;
   root = made_root secret q c msg below size
 }
+
+-- a number that is read from the front of a list
+pub read_word : (xs : List ℕ) → big_number 4 xs ≡ from_be_bytes w32 (take 4 xs)
+read_word xs =
+    let a = get_or-take 4 xs 0 0 (lit< tt) in
+    let b = get_or-take 4 xs 1 0 (lit< tt) in
+    let c = get_or-take 4 xs 2 0 (lit< tt) in
+    let d = get_or-take 4 xs 3 0 (lit< tt) in
+    omega arith
+
+-- a signature that was written part by part
+pub joined_parts : (a a' b b' c c' d d' : List ℕ) → a ≡ a' → b ≡ b' → c ≡ c' → d ≡ d' → a ++ (b ++ (c ++ d)) ≡ a' ++ b' ++ c' ++ d'
+joined_parts a a' b b' c c' d d' e1 e2 e3 e4 = rw (e1, e2, e3, e4) (sym (simp append_assoc))
+
+-- a number that was written over four bytes
+pub written_word : (n : ℕ) (now old : List ℕ) → length old ≡ 4 → now ≡ to_be_bytes w32 n ++ drop 4 old → now ≡ to_be_bytes w32 n
+written_word n now old len e = e ∙ ap (λ (xs : List ℕ). to_be_bytes w32 n ++ xs) (drop_all 4 old (omega arith)) ∙ append-nil (to_be_bytes w32 n)

@@ -1,5 +1,5 @@
 -- Signatures, their parts, and which are valid (RFC 8554, section 5.4).
-use Rattle.std.specs.Prelude.{◌≡◌, ℕ, ◌+◌, ◌*◌, ◌^◌, ◌<◌, List, length, take, drop}
+use Rattle.std.specs.Prelude.{◌≡◌, ℕ, ◌+◌, ◌*◌, ◌<◌, List, length, take, drop}
 use Rattle.std.specs.Int.{w32, from_be_bytes}
 use Rattle.lm_ots.specs.OtsKind as ots_kind
 use Rattle.lm_ots.specs.OneTime.{IsOfType, candidate_value}

@@ -85,11 +85,13 @@ impl Secret {
         ensures made { out.new ≡ signature_by self.now q c.now msg.now }
         ensures signed { Signed (public_key self.now) msg.now out.new }
     {
-        let path_start = 8 + self.ots.signature_length();
-        BigEndian::write_u32(out, q);
-        sign(self.ots, &self.ident, q, &self.start, c, msg, &mut out[4..path_start - 4]);
-        BigEndian::write_u32(&mut out[path_start - 4..], self.lms.type_word());
-        self.write_path(q, &mut out[path_start..]);
+        let (number, rest) = out.split_at_mut(4);
+        let (one_time, rest) = rest.split_at_mut(self.ots.signature_length());
+        let (word, path) = rest.split_at_mut(4);
+        BigEndian::write_u32(number, q);
+        sign(self.ots, &self.ident, q, &self.start, c, msg, one_time);
+        BigEndian::write_u32(word, self.lms.type_word());
+        self.write_path(q, path);
     }
 
     // Writes the siblings of the nodes from leaf `q` up to the root.
