@@ -50,8 +50,8 @@ fn signatures_of_bouncy_castle(rt: HostRuntime) -> Result<(), Fail> {
     for (kind, q, want) in rows {
         let word = kind.type_word();
         let text = format!(in rt.alloc(); "lms vector I 5 {word}")?;
-        let [a, b, c, d, e, f, g, h, i, j, k, l, m, n, o, p, ..] = Sha256::digest(&text);
-        let ident = [a, b, c, d, e, f, g, h, i, j, k, l, m, n, o, p];
+        let mut ident = [0; 16];
+        ident.copy_from_slice(&Sha256::digest(&text)[..16]);
         let text = format!(in rt.alloc(); "lms vector SEED 5 {word}")?;
         let seed = Sha256::digest(&text);
         let random = Sha256::new()

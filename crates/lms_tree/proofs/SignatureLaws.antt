@@ -46,7 +46,7 @@ same_one_time W8 = refl
 pub known_types : (key : AuthorKey) (lms : LmsType) (ots : OtsType) → HasTypes key lms ots → IsKnownKey key
 known_types key lms ots types = record {
   lms = rw types.tree (known_tree lms);
-  ots = rw types.one_time (known_one_time ots)
+  ots = rw types.one_time (known_one_time ots);
 }
 
 -- the two counts of a signature's bytes
@@ -82,9 +82,9 @@ parts_of lms ots q one path fits size =
       leaf = from_be_bytes-to_be_bytes_4 q fits;
       one_time = ap (take n) (append_assoc one word path) ∙ take_at one (word ++ path) n size;
       tree = ap (λ (xs : List ℕ). from_be_bytes w32 (take 4 xs)) (sym (drop-drop n 4 sig) ∙ ap (drop n) (append_assoc one word path) ∙ drop_at one (word ++ path) n size)
-        ∙ from_be_bytes-to_be_bytes_4 (type_word lms) (type_word-fits lms);
+          ∙ from_be_bytes-to_be_bytes_4 (type_word lms) (type_word-fits lms);
       path_part = drop_at (number ++ one ++ word) path (8 + n) front;
-      len = omega (arith, length-append (number ++ one ++ word) path, front)
+      len = omega (arith, length-append (number ++ one ++ word) path, front);
     }
 
 leaf-fits : (lms : LmsType) (q : ℕ) → q < leaf_count lms → q < 2 ^ 32
@@ -116,7 +116,7 @@ made_form secret q c msg below size =
       len = omega (arith, parts.len, path);
       leaf = rw parts.leaf below;
       one_time = rw parts.one_time (own_form secret.ots secret.ident secret.start c msg q size);
-      tree = parts.tree
+      tree = parts.tree;
     }
 
 -- path[level] of a signature that was made
@@ -138,7 +138,7 @@ made_root secret q c msg below size =
     let climb : ℕ → List ℕ → List ℕ = λ n value. climbed secret.ident (path_value secret.ots sig) (leaf_count secret.lms + n) (leaf_node secret.ident (leaf_count secret.lms + n) value) (height secret.lms) in
     let place : leaf - 2 ^ height secret.lms ≡ q = omega arith in
     let own : leaf_node secret.ident leaf (value_of_leaf secret q) ≡ node_of secret.ident (value_of_leaf secret) (height secret.lms) 0 leaf =
-      ap (λ (n : ℕ). leaf_node secret.ident leaf (value_of_leaf secret n)) (sym place) in
+    ap (λ (n : ℕ). leaf_node secret.ident leaf (value_of_leaf secret n)) (sym place) in
     ap (λ (n : ℕ). climb n (candidate_value secret.ots secret.ident n msg (one_time_part secret.ots sig))) parts.leaf
     ∙ ap (λ (one : List ℕ). climb q (candidate_value secret.ots secret.ident q msg one)) parts.one_time
     ∙ ap (climb q) (own_value secret.ots secret.ident secret.start c msg q size)
@@ -151,7 +151,7 @@ made_signed secret q c msg below size = record {
   ots = secret.ots;
   types = record { tree = refl; one_time = refl };
   form = made_form secret q c msg below size;
-  root = made_root secret q c msg below size
+  root = made_root secret q c msg below size;
 }
 
 -- a number that is read from the front of a list

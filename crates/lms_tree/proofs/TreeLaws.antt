@@ -29,7 +29,7 @@ parent_is ident values h level n =
     ]
   where
     both : (m a b : ℕ) → a ≡ 2 * m → b ≡ 2 * m + 1
-      → inner_node ident m (node_of ident values h level a) (node_of ident values h level b) ≡ inner_node ident m (node_of ident values h level (2 * m)) (node_of ident values h level (2 * m + 1))
+        → inner_node ident m (node_of ident values h level a) (node_of ident values h level b) ≡ inner_node ident m (node_of ident values h level (2 * m)) (node_of ident values h level (2 * m + 1))
     both m a b p q = cc
 
 halved : (leaf level : ℕ) → leaf / 2 ^ level / 2 ≡ leaf / 2 ^ suc level
@@ -123,9 +123,9 @@ inner_more ident nodes leaves r v some below len is above m low high =
     (elim (cases_lt r m) [
       | inl later ↦ get_or-set_other nodes r m v [] (omega arith) ∙ above m later high
       | inr same ↦
-        let here : m ≡ r = omega arith in
-        ap (λ (i : ℕ). get_or (set nodes r v) i []) here ∙ get_or-set_same nodes r v [] (omega arith) ∙ is
-        ∙ ap (λ (i : ℕ). inner_node ident i (get_or nodes (2 * i) []) (get_or nodes (2 * i + 1) [])) (sym here)
+          let here : m ≡ r = omega arith in
+          ap (λ (i : ℕ). get_or (set nodes r v) i []) here ∙ get_or-set_same nodes r v [] (omega arith) ∙ is
+          ∙ ap (λ (i : ℕ). inner_node ident i (get_or nodes (2 * i) []) (get_or nodes (2 * i + 1) [])) (sym here)
     ])
   where
     both : (x left left' right right' : List ℕ) → left' ≡ left → right' ≡ right → x ≡ inner_node ident m left right → x ≡ inner_node ident m left' right'

@@ -28,7 +28,7 @@ public_key secret = record {
   lms = type_word secret.lms;
   ots = ots_kind.type_word secret.ots;
   ident = secret.ident;
-  root = root_of secret.ident (value_of_leaf secret) (height secret.lms)
+  root = root_of secret.ident (value_of_leaf secret) (height secret.lms);
 }
 
 -- the siblings of the nodes from leaf q up to the root, one for each level
@@ -47,4 +47,4 @@ pub record IsTree (ident : List ℕ) (values : ℕ → List ℕ) (leaves : ℕ) 
   pub len : length nodes ≡ 2 * leaves
   pub at_leaf : (q : ℕ) → q < leaves → slice_index_or nodes (leaves + q) [] ≡ leaf_node ident (leaves + q) (values q)
   pub at_inner : (r : ℕ) → 0 < r → r < leaves
-    → slice_index_or nodes r [] ≡ inner_node ident r (slice_index_or nodes (2 * r) []) (slice_index_or nodes (2 * r + 1) [])
+      → slice_index_or nodes r [] ≡ inner_node ident r (slice_index_or nodes (2 * r) []) (slice_index_or nodes (2 * r + 1) [])

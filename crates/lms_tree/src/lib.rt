@@ -23,10 +23,10 @@ mod laws;
 mod lms_type;
 mod nodes;
 mod secret;
-mod tree;
-mod verifying;
 #[cfg(test)]
 mod tests;
+mod tree;
+mod verifying;
 
 pub use laws::{made_is_signed, signed_has_length};
 pub use lms_type::LmsType;

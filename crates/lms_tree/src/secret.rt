@@ -4,7 +4,7 @@ ghost use Rattle.std.specs.Prelude.{◌≡◌, ◌+◌, ◌*◌, ◌<◌, IfOk, 
 ghost use Rattle.lms_tree.specs.LmsKind.{height, leaf_count};
 ghost use Rattle.lms_tree.specs.SecretKey.{path_of, public_key, signature_by};
 ghost use Rattle.lms_tree.specs.Signature.{Signed};
-ghost use Rattle.update_model.specs.Form.{signature_length};
+ghost use Rattle.update_model.specs.Form.{IsKnownKey, signature_length};
 
 use crate::lms_type::LmsType;
 use crate::nodes::sibling;
@@ -63,9 +63,17 @@ pub fn make_secret(
 }
 
 impl Secret {
+    /// How many leaves there are, each of which signs once.
+    pub fn leaf_count(&self) -> u32
+        ensures { result ≡ leaf_count self.now.lms }
+    {
+        self.lms.leaf_count()
+    }
+
     /// The public key.
     pub fn public(&self) -> AuthorKey
-        ensures { result ≡ public_key self.now }
+        ensures value { result ≡ public_key self.now }
+        ensures known { IsKnownKey result }
     {
         AuthorKey {
             lms: self.lms.type_word(),

@@ -33,7 +33,13 @@ fn candidate_root(
     match candidate(ots, ident, q, msg, &sig[4..path_start - 4]) {
         Some(value) => {
             let leaf = lms.leaf_count() + q;
-            Some(climb(lms, ident, leaf, leaf_node(ident, leaf, &value), &sig[path_start..]))
+            Some(climb(
+                lms,
+                ident,
+                leaf,
+                leaf_node(ident, leaf, &value),
+                &sig[path_start..],
+            ))
         }
         None => None,
     }
@@ -45,7 +51,10 @@ fn candidate_root(
 pub fn verify(key: &AuthorKey, msg: &[u8], sig: &[u8]) -> bool
     ensures { IsTrue result ↔ Signed key.now msg.now sig.now }
 {
-    match (LmsType::from_type_word(key.lms), OtsType::from_type_word(key.ots)) {
+    match (
+        LmsType::from_type_word(key.lms),
+        OtsType::from_type_word(key.ots),
+    ) {
         (Some(lms), Some(ots)) => match candidate_root(lms, ots, &key.ident, msg, sig) {
             Some(root) => root == key.root,
             None => false,

@@ -12,7 +12,7 @@ loop-level-preserved c =
     record {
       place = halved_more c.args.r c.loop-level.level c.loop-level.node c.loop-level.invariant.place;
       so_far = c.parent_of-value.ensures
-        ∙ climbed_more c.args.ident.now (λ level. take 32 (drop (32 * level) c.args.path.now)) c.args.r c.args.leaf c.loop-level.level c.loop-level.node c.loop-level.value _
-        c.loop-level.invariant.place c.loop-level.invariant.so_far
-        (ap (λ (n : ℕ). take n (drop (32 * c.from-place.result) c.args.path.now)) size ∙ ap (λ (n : ℕ). take 32 (drop n c.args.path.now)) place)
+          ∙ climbed_more c.args.ident.now (λ level. take 32 (drop (32 * level) c.args.path.now)) c.args.r c.args.leaf c.loop-level.level c.loop-level.node c.loop-level.value _
+          c.loop-level.invariant.place c.loop-level.invariant.so_far
+          (ap (λ (n : ℕ). take n (drop (32 * c.from-place.result) c.args.path.now)) size ∙ ap (λ (n : ℕ). take 32 (drop n c.args.path.now)) place);
     }

@@ -16,6 +16,6 @@ invariant_of-result c =
     let tree : Held leaves = record {
       len = omega (arith, new_len, c.in_ok-nodes.ensures.len);
       at_leaf = λ q below. c.write_inner_nodes.ensures.leaves q below ∙ ap (λ (xs : List (List ℕ)). slice_index_or xs (leaves + q) []) (c.deref_mut-2.ensures.value ∙ before) ∙ c.write_leaves.ensures q below;
-      at_inner = c.write_inner_nodes.ensures.inner
+      at_inner = c.write_inner_nodes.ensures.inner;
     } in
     rw whole (subst Held c.leaf_count-leaves.ensures tree)

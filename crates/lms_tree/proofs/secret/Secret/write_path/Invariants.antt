@@ -8,5 +8,5 @@ use Rattle.lms_tree.proofs.secret.Secret.write_path.Given as goal
 abbrev pub invariant-loop-level : goal.invariant-loop-level
 invariant-loop-level l = record {
   place : l.node ≡ (leaf_count l.self.lms + l.fn.q) / 2 ^ l.level;
-  written : take (32 * l.level) l.out ≡ joined (λ level. node_of l.self.ident (value_of_leaf l.self) (height l.self.lms) level (sibling ((leaf_count l.self.lms + l.fn.q) / 2 ^ level))) l.level
+  written : take (32 * l.level) l.out ≡ joined (λ level. node_of l.self.ident (value_of_leaf l.self) (height l.self.lms) level (sibling ((leaf_count l.self.lms + l.fn.q) / 2 ^ level))) l.level;
 }
