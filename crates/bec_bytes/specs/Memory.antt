@@ -1,5 +1,6 @@
 -- What a contract sees of a source and of a sink in memory.
-use Rattle.std.specs.Prelude.{ℕ, ◌+◌, ◌-◌, ◌^◌, List, Result, Contains, min, is_ok, if◌then◌else◌}
+use Rattle.std.specs.Prelude.{ℕ, List, ◌++◌, length, take, drop, Result, Contains}
+use Rattle.bec_bytes.specs.Causes.{one_more, faults_after}
 
 -- The bytes that a source has left or a sink has taken; the numbers of the calls that are to fail, counted
 -- from 1; and how many calls there were, and how many faults.
@@ -9,17 +10,9 @@ pub record MemoryState : Type 0 where
   pub calls : ℕ
   pub faults : ℕ
 
--- One more, where a counter stays at its last value.
-abbrev pub one_more : ℕ → ℕ
-one_more count = min (count + 1) (2 ^ 64 - 1)
-
 -- The next call is one of those that are to fail.
 abbrev pub IsToFail : MemoryState → Type 0
 IsToFail state = Contains state.failing (one_more state.calls)
-
--- One fault more, where the call failed.
-abbrev pub faults_after : {T E : Type 0} → Result T E → ℕ → ℕ
-faults_after result faults = if is_ok result then faults else one_more faults
 
 -- After a call that left these bytes.
 abbrev pub after_call : {T E : Type 0} → MemoryState → Result T E → List ℕ → MemoryState
@@ -29,3 +22,7 @@ after_call state result bytes = record {
   calls = one_more state.calls;
   faults = faults_after result state.faults;
 }
+
+-- A buffer whose front was overwritten with as many of these bytes as it has room for.
+abbrev pub filled_from : List ℕ → List ℕ → List ℕ
+filled_from bytes buf = take (length buf) bytes ++ drop (length bytes) buf

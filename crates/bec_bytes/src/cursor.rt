@@ -2,13 +2,12 @@ ghost use Rattle.std.specs.Prelude.{◌≡◌, ℕ, ◌+◌, ◌<◌, ◌^◌, l
 ghost use Rattle.std.specs.Int.{w16, w32};
 ghost use Rattle.bec_bytes.specs.Reading.{Reading, TakesByte, TakesBytes, TakesNumber};
 
-use std::marker::Model;
-
 use byteorder::{BigEndian, ByteOrder};
+use std::marker::Model;
 
 /// Reads fields from a slice, from its front on. Each call that takes answers `None` exactly where
 /// too few bytes are left, and the cursor then stays where it is.
-#[derive(Debug)]
+#[derive(Debug, Drop)]
 pub struct Cursor<'a> {
     place: usize,
     rest: &'a [u8],

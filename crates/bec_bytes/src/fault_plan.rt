@@ -1,5 +1,5 @@
-ghost use Rattle.std.specs.Prelude.{◌≡◌, ◌↔◌, ℕ, IsErr, Contains};
-ghost use Rattle.bec_bytes.specs.Memory.{one_more, faults_after};
+ghost use Rattle.std.specs.Prelude.{◌≡◌, ◌≤◌, ◌↔◌, IsErr, Contains};
+ghost use Rattle.bec_bytes.specs.Causes.{one_more, faults_after};
 
 use crate::failed::Failed;
 
@@ -32,9 +32,14 @@ impl FaultPlan {
         ensures failing { self.new.failing ≡ self.old.failing }
         ensures calls { self.new.calls ≡ one_more self.old.calls }
         ensures faults { self.new.faults ≡ faults_after result self.old.faults }
+        ensures later { self.old.faults ≤ self.new.faults }
     {
         self.calls = self.calls.saturating_add(1);
-        if self.failing.iter().any(|number| u64::from(*number) == self.calls) {
+        if self
+            .failing
+            .iter()
+            .any(|number| u64::from(*number) == self.calls)
+        {
             return Err(self.count_fault());
         }
         Ok(())
@@ -42,7 +47,8 @@ impl FaultPlan {
 
     /// Counts a fault.
     pub fn count_fault(&mut self) -> Failed
-        ensures { self.new ≡ record self.old { faults = one_more self.old.faults } }
+        ensures counted { self.new ≡ record self.old { faults = one_more self.old.faults } }
+        ensures later { self.old.faults ≤ self.new.faults }
     {
         self.faults = self.faults.saturating_add(1);
         Failed

@@ -41,3 +41,6 @@ pub use plain_sink::PlainSink;
 pub use plain_source::PlainSource;
 pub use sink::Sink;
 pub use source::Source;
+
+#[cfg(test)]
+mod tests;

@@ -8,12 +8,14 @@ use crate::failed::Failed;
 use crate::sink::Sink;
 
 /// A sink that never fails, keeps no bytes and tells none.
-#[derive(Clone, Copy, Debug)]
+#[derive(Clone, Copy, Debug, Default)]
 pub struct PlainSink;
 
 impl PlainSink {
     /// A sink for bytes that nobody wants.
-    pub fn new() -> PlainSink {
+    pub fn new() -> PlainSink
+        ensures { result ≡ record {} }
+    {
         PlainSink
     }
 }

@@ -2,12 +2,12 @@ ghost use Rattle.std.specs.Prelude.{◌≡◌, ℕ, ◌+◌, ◌≤◌, ◌++◌
 ghost use Rattle.std.specs.Io.{ReadsAtMost};
 ghost use Rattle.std.specs.Io.KnownBytes.{ReadConsumes};
 ghost use Rattle.bec_bytes.specs.Causes.{HasCause};
-
-use std::marker::Model;
+ghost use Rattle.bec_bytes.specs.Memory.{filled_from};
 
 use crate::counted::Counted;
 use crate::failed::Failed;
 use crate::source::Source;
+use std::marker::Model;
 
 /// A source of bytes in memory that never fails. A contract sees it as the bytes that are left.
 #[derive(Debug, Drop)]
@@ -49,7 +49,7 @@ impl Source for PlainSource {
         // What it answers, what is left, and what the buffer holds.
         ensures count { result ≡ Ok (min (length buf.old) (length self.old)) }
         ensures rest { self.new ≡ drop (length buf.old) self.old }
-        ensures given { buf.new ≡ take (length buf.old) self.old ++ drop (length self.old) buf.old }
+        ensures given { buf.new ≡ filled_from self.old buf.old }
     {
         let rest = &self.bytes[self.place..];
         let count = buf.len().min(rest.len());

@@ -1,14 +1,12 @@
-ghost use Rattle.std.specs.Prelude.{◌≡◌, ◌++◌, ◌∷◌, [], ℕ, ◌<◌, ◌≤◌, ◌↔◌, true, IsTrue, IfErr, IfOk, ◌-◌, length, map, take, drop, slice_get, Some};
-ghost use Rattle.update_model.specs.Graph.{IsClosed, IsNext, is_within, byte_count, position_of, lacking};
+ghost use Rattle.std.specs.Prelude.{◌≡◌, ◌++◌, ◌∷◌, [], ℕ, ◌<◌, ◌≤◌, ◌↔◌, true, IsTrue, IfErr, IfOk, ◌-◌, length, map, take, drop, slice_get, find, not, Some};
+ghost use Rattle.update_model.specs.Graph.{IsClosed, IsNext, is_within, byte_count, position_of, holds};
 ghost use Rattle.hash_graph.specs.Answer.{answer_of, Answers, list_after, NamesLeast};
 
+use crate::{Added, Refusal, Refused};
 use std::alloc::Global;
 use std::collections::BTreeMap;
 use std::marker::Model;
-
 use update_model::{Member, UpdateId};
-
-use crate::{Added, Refusal, Refused};
 
 /// How many members a graph has at most.
 pub const MAX_MEMBERS: u32 = 131_072;
@@ -17,7 +15,7 @@ pub const MAX_MEMBERS: u32 = 131_072;
 pub const MAX_BYTES: u64 = 268_435_456;
 
 /// Members in arrival order, closed and within the limits. A contract sees a graph as the list of its members.
-#[derive(Drop)]
+#[derive(Debug, Drop)]
 pub struct Graph<M: Member> {
     /// In arrival order.
     members: Vec<M>,
@@ -118,7 +116,7 @@ impl<M: Member> Graph<M> {
         if let Some(position) = self.position(&member.id()) {
             return Ok(Added::Known(position));
         }
-        if let Some(id) = self.first_lacking(&member) {
+        if let Some(id) = self.first_not_held(member.preds()) {
             return Err(Refused {
                 why: Refusal::Lacks(id),
                 member,
@@ -145,15 +143,18 @@ impl<M: Member> Graph<M> {
         }
     }
 
-    /// The least predecessor of a member that is not held.
-    fn first_lacking(&self, member: &M) -> Option<UpdateId>
-        ensures { result ≡ lacking (map M.entry self.now) (M.entry member.now) }
+    /// Whether a member has this id.
+    fn is_held(&self, id: &UpdateId) -> bool
+        ensures { result ≡ holds (map M.entry self.now) id.now }
     {
-        member
-            .preds()
-            .iter()
-            .find(|id| self.position(id).is_none())
-            .copied()
+        self.position(id).is_some()
+    }
+
+    /// The first of these ids that no member has.
+    fn first_not_held(&self, ids: &[UpdateId]) -> Option<UpdateId>
+        ensures { result ≡ find (λ id. not (holds (map M.entry self.now) id)) ids.now }
+    {
+        ids.iter().find(|id| !self.is_held(id)).copied()
     }
 
     /// Whether one more member, this one, is within the limits.

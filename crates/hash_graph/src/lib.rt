@@ -19,6 +19,8 @@ mod added;
 mod graph;
 mod refusal;
 mod refused;
+#[cfg(test)]
+mod tests;
 
 pub use added::Added;
 pub use graph::{Graph, MAX_BYTES, MAX_MEMBERS};

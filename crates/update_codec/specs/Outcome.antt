@@ -11,11 +11,15 @@ use Rattle.update_codec.specs.declared.decode_error.DecodeError.TheVariants as d
 use Rattle.update_codec.specs.declared.encode_error.EncodeError.{EncodeError}
 use Rattle.update_codec.specs.declared.encode_error.EncodeError.TheVariants as encode_errors
 
+-- a call that reads failed as this answer does
+abbrev pub Fails : {Y : Type 0} → DecodeError → Result Y CodecFault → Type 0
+Fails decode_errors.Memory answer = Unit {0}
+Fails (decode_errors.Fault fault) answer = answer ≡ Err fault
+
 -- what a call that reads returned, seen by view, is this answer
 abbrev pub Gives : {X Y : Type 0} → (X → Y) → Result X DecodeError → Result Y CodecFault → Type 0
 Gives view (Ok x) answer = answer ≡ Ok (view x)
-Gives view (Err decode_errors.Memory) answer = Unit {0}
-Gives view (Err (decode_errors.Fault fault)) answer = answer ≡ Err fault
+Gives view (Err error) answer = Fails error answer
 
 -- what a call that reads returned is this answer
 abbrev pub Answers : {X : Type 0} → Result X DecodeError → Result X CodecFault → Type 0

@@ -17,7 +17,7 @@ author_of bytes = record {
   lms = from_be_bytes w32 (take 4 (drop 33 bytes));
   ots = from_be_bytes w32 (take 4 (drop 37 bytes));
   ident = take 16 (drop 41 bytes);
-  root = take 32 (drop 57 bytes)
+  root = take 32 (drop 57 bytes);
 }
 
 -- the ids that the bytes begin with, this many of them

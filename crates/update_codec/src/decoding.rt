@@ -7,27 +7,18 @@ ghost use Rattle.update_codec.specs.Outcome.{Gives, Answers, HasCause};
 ghost use Rattle.update_codec.specs.Reading.{before_ops_at, body_at, whole};
 ghost use Rattle.update_codec.specs.Spelling.{Spells, HasOperations};
 
-use std::alloc::Global;
-use update_model::{Body, ByteList, IdList, Update, signature_len};
-
 use crate::fields::{MISSPELLED, array_of, author_of, block_of, byte_of, u16_of, u32_of};
+use crate::limits::{MAX_BYTES, MAX_PREDS, VERSION};
 use crate::predecessors::preds_of;
 use crate::{CodecFault, DecodeError};
-
-/// The version that is read and written.
-const VERSION: u8 = 1;
-
-/// The most predecessors of an update.
-const MAX_PREDS: u16 = 1024;
-
-/// The most bytes of an update.
-const MAX_BYTES: usize = 262144;
+use std::alloc::Global;
+use update_model::{Body, ByteList, IdList, Update, signature_len};
 
 /// The update whose spelling these bytes are.
 ///
 /// `Operations` comes exactly where the bytes begin with a body in form up to its predecessors and a number of
-/// operations that is not 0, whatever follows. `Misspelled` comes exactly where no update is spelled otherwise.
-/// What is kept of the bytes is copied.
+/// operations that is not 0, whatever follows and however long they are. `Misspelled` comes exactly where the bytes
+/// spell no update and have no such beginning. What is kept of the bytes is copied.
 pub fn decode(alloc: Global, bytes: &[u8]) -> Result<Update, DecodeError>
     ensures found { IfOk result (λ update. Spells bytes.now update) }
     ensures only { (update : UpdateData) → Spells bytes.now update → Answers result (Ok update) }
@@ -92,5 +83,12 @@ fn before_ops_of(alloc: Global, bytes: &[u8]) -> Result<(Body, &[u8]), DecodeErr
     }
     let (preds, rest) = preds_of(alloc, count as usize, rest)?;
     let preds = IdList::from_vec(preds);
-    Ok((Body { database, author, preds }, rest))
+    Ok((
+        Body {
+            database,
+            author,
+            preds,
+        },
+        rest,
+    ))
 }

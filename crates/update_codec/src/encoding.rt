@@ -5,14 +5,11 @@ ghost use Rattle.std.specs.Int.{w16, w32, to_be_bytes};
 ghost use Rattle.update_codec.specs.Outcome.{Writes, Refuses};
 ghost use Rattle.update_codec.specs.Spelling.{Spells, before_ops, message, signed_length, spelling};
 
+use crate::limits::{MAX_BYTES, VERSION};
+use crate::{EncodeError, TooLong};
 use byteorder::{BigEndian, ByteOrder};
 use std::alloc::{AllocError, Global};
 use update_model::{Body, Update, signature_len};
-
-use crate::{EncodeError, TooLong};
-
-/// The most bytes of an update.
-const MAX_BYTES: usize = 262144;
 
 /// The bytes that the author of a body signs: its spelling up to the signature's length.
 ///
@@ -43,7 +40,9 @@ pub fn encode(alloc: Global, update: &Update) -> Result<Vec<u8>, EncodeError>
     put_u32(&mut out, signature.len() as u32)?;
     out.extend_from_slice(signature)?;
     if MAX_BYTES < out.len() {
-        return Err(EncodeError::TooLong(TooLong { len: out.len() as u64 }));
+        return Err(EncodeError::TooLong(TooLong {
+            len: out.len() as u64,
+        }));
     }
     Ok(out)
 }
@@ -63,7 +62,7 @@ fn message_of(alloc: Global, body: &Body, more: usize) -> Result<Vec<u8>, AllocE
 fn put_before_ops(out: &mut Vec<u8>, body: &Body) -> Result<(), AllocError>
     ensures { OnOk result (out.new.items ≡ out.old.items ++ before_ops body.now) }
 {
-    out.push(1)?;
+    out.push(VERSION)?;
     out.extend_from_slice(&body.database)?;
     put_u32(out, body.author.lms)?;
     put_u32(out, body.author.ots)?;

@@ -4,10 +4,9 @@ ghost use Rattle.update_codec.specs.Outcome.{Gives};
 ghost use Rattle.update_codec.specs.Reading.{byte_at, block_at, number_at, author_at};
 ghost use Rattle.std.specs.Int.{w16, w32};
 
+use crate::{CodecFault, DecodeError};
 use byteorder::{BigEndian, ByteOrder};
 use update_model::AuthorKey;
-
-use crate::{CodecFault, DecodeError};
 
 /// Bytes that spell no update.
 pub(crate) const MISSPELLED: DecodeError = DecodeError::Fault(CodecFault::Misspelled);
@@ -72,5 +71,13 @@ pub(crate) fn author_of(bytes: &[u8]) -> Result<(AuthorKey, &[u8]), DecodeError>
     }
     let (ident, rest) = array_of(rest)?;
     let (root, rest) = array_of(rest)?;
-    Ok((AuthorKey { lms, ots, ident, root }, rest))
+    Ok((
+        AuthorKey {
+            lms,
+            ots,
+            ident,
+            root,
+        },
+        rest,
+    ))
 }

@@ -3,35 +3,29 @@
 ghost use Rattle.std.specs.Prelude.{◌≡◌, ◌+◌, ◌≤◌, ℕ, List, [], ◌++◌, length};
 ghost use Rattle.update_model.specs.Form.{UpdateData};
 ghost use Rattle.update_codec.specs.Parts.{database_of, author_of, preds_of, signature_of, update_of};
-ghost use Rattle.update_codec.specs.Spelling.{Spells, HasOperations};
+ghost use Rattle.update_codec.specs.Spelling.{Spells, IsSpelling, HasOperations};
 ghost use Rattle.update_codec.specs.Stream.{framed};
 
 /// An update has one spelling.
 pub fn one_spelling()
     ensures { (bytes other : List ℕ) (update : UpdateData) → Spells bytes update → Spells other update → bytes ≡ other }
-{
-}
+{}
 
 /// Bytes spell one update at most.
 pub fn one_update()
     ensures { (bytes : List ℕ) (update other : UpdateData) → Spells bytes update → Spells bytes other → update ≡ other }
-{
-}
+{}
 
 /// No spelling is a proper prefix of another.
 pub fn no_prefix()
-    ensures {
-        (bytes more : List ℕ) (update other : UpdateData)
-            → Spells bytes update → Spells (bytes ++ more) other → more ≡ []
-    }
-{
-}
+    ensures { (bytes more : List ℕ) (update other : UpdateData)
+        → Spells bytes update → Spells (bytes ++ more) other → more ≡ [] }
+{}
 
 /// Bytes that have operations spell no update.
 pub fn operations_are_no_update()
     ensures { (bytes : List ℕ) (update : UpdateData) → Spells bytes update → HasOperations bytes → ⊥ }
-{
-}
+{}
 
 /// The parts of an update stand at their places in its spelling.
 pub fn fields_of_spelling()
@@ -40,21 +34,21 @@ pub fn fields_of_spelling()
     ensures preds { (bytes : List ℕ) (update : UpdateData) → Spells bytes update → preds_of bytes ≡ update.body.preds }
     ensures signature { (bytes : List ℕ) (update : UpdateData) → Spells bytes update → signature_of bytes ≡ update.signature }
     ensures update { (bytes : List ℕ) (update : UpdateData) → Spells bytes update → update_of bytes ≡ update }
-{
-}
+{}
+
+/// A spelling spells the update of its parts.
+pub fn spells_its_parts()
+    ensures { (bytes : List ℕ) → IsSpelling bytes → Spells bytes (update_of bytes) }
+{}
 
 /// A record in a stream takes four bytes more than it has.
 pub fn framed_length()
     ensures { (bytes : List ℕ) → length (framed bytes) ≡ 4 + length bytes }
-{
-}
+{}
 
 /// Two records that stand at the front of one stream are one.
 pub fn one_frame()
-    ensures {
-        (bytes other more others : List ℕ)
-            → length bytes ≤ 262144 → length other ≤ 262144 → framed bytes ++ more ≡ framed other ++ others
-            → (bytes ≡ other) × (more ≡ others)
-    }
-{
-}
+    ensures { (bytes other more others : List ℕ)
+        → length bytes ≤ 262144 → length other ≤ 262144 → framed bytes ++ more ≡ framed other ++ others
+        → (bytes ≡ other) × (more ≡ others) }
+{}

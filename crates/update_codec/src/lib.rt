@@ -23,9 +23,12 @@ mod encode_error;
 mod encoding;
 mod fields;
 mod laws;
+mod limits;
 mod predecessors;
 mod spelled_update;
 mod taking;
+#[cfg(test)]
+mod tests;
 
 pub use decode_error::{CodecFault, DecodeError};
 pub use decoding::decode;
@@ -33,7 +36,8 @@ pub use digest::id_of;
 pub use encode_error::{EncodeError, TooLong};
 pub use encoding::{encode, encode_body};
 pub use laws::{
-    fields_of_spelling, framed_length, no_prefix, one_frame, one_spelling, one_update, operations_are_no_update,
+    fields_of_spelling, framed_length, no_prefix, one_frame, one_spelling, one_update,
+    operations_are_no_update, spells_its_parts,
 };
 pub use spelled_update::Spelled;
 pub use taking::spelled;

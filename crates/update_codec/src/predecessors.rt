@@ -4,11 +4,10 @@ ghost use Rattle.std.specs.Prelude.{◌≡◌, None};
 ghost use Rattle.update_codec.specs.Outcome.{Gives};
 ghost use Rattle.update_codec.specs.Reading.{id_at, ids_at, is_next as may_follow};
 
-use std::alloc::Global;
-use update_model::UpdateId;
-
 use crate::DecodeError;
 use crate::fields::{MISSPELLED, array_of};
+use std::alloc::Global;
+use update_model::UpdateId;
 
 #[tactic(auto, unfolding(crate::specs::Reading::id_at))]
 fn pred_of(bytes: &[u8]) -> Result<(UpdateId, &[u8]), DecodeError>

@@ -55,7 +55,7 @@ impl Spelled {
     pub fn signature(&self) -> &[u8]
         ensures { result.now ≡ signature_of self.now }
     {
-        let len = signature_len(&self.body.author) as usize;
+        let len = signature_len(&self.body().author) as usize;
         &self.bytes[self.bytes.len() - len..]
     }
 

@@ -1,14 +1,18 @@
+//! Taking over bytes.
+
 ghost use Rattle.std.specs.Prelude.{◌≡◌, Ok, Err, IfOk, IfErr};
 ghost use Rattle.update_model.specs.Form.{UpdateData};
 ghost use Rattle.update_codec.specs.declared.decode_error.CodecFault.TheVariants.{Operations};
-ghost use Rattle.update_codec.specs.Outcome.{Answers, HasCause};
+ghost use Rattle.update_codec.specs.Kept.{IsKept};
+ghost use Rattle.update_codec.specs.Outcome.{Answers, Fails, HasCause};
 ghost use Rattle.update_codec.specs.Parts.{update_of};
+ghost use Rattle.update_codec.specs.Reading.{whole};
 ghost use Rattle.update_codec.specs.Spelling.{Spells, HasOperations};
-
-use std::alloc::Global;
 
 use crate::decoding::parts_of;
 use crate::{DecodeError, Spelled, id_of};
+use std::alloc::Global;
+use update_model::{Body, UpdateId};
 
 /// Takes over bytes that spell an update, with the update's body and id beside them.
 ///
@@ -20,7 +24,16 @@ pub fn spelled(alloc: Global, bytes: Vec<u8>) -> Result<Spelled, DecodeError>
     ensures operations { HasOperations bytes.items → Answers result (Err Operations) }
     ensures fault { IfErr result (λ error. HasCause bytes.items error) }
 {
-    let (body, _signature) = parts_of(alloc, bytes.as_slice())?;
-    let id = id_of(bytes.as_slice());
+    let (body, id) = beside(alloc, bytes.as_slice())?;
     Ok(Spelled::new(bytes, body, id))
+}
+
+/// What is kept beside these bytes.
+fn beside(alloc: Global, bytes: &[u8]) -> Result<(Body, UpdateId), DecodeError>
+    ensures kept { IfOk result (λ read. IsKept bytes.now read.0 read.1) }
+    ensures fails { IfErr result (λ error. Fails error (whole bytes.now)) }
+    ensures cause { IfErr result (λ error. HasCause bytes.now error) }
+{
+    let (body, _signature) = parts_of(alloc, bytes)?;
+    Ok((body, id_of(bytes)))
 }

@@ -9,6 +9,7 @@ use Rattle.std.proofs.lemmas.List.Elements.{All-contains, Contains-append_left, 
 use Rattle.update_model.specs.declared.update_id.UpdateId.{UpdateId}
 use Rattle.update_model.specs.Entry.{Entry, id_cmp, same_id}
 use Rattle.update_model.specs.Graph.{has, holds, names, IsNext, Follows, IsClosed, IsAncestor, named, through, IsHead, AreHeads, HaveSameMembers}
+use Rattle.update_model.proofs.Closed.{Follows-push}
 use Rattle.update_model.proofs.Ids.{id_cmp_total, id_from_same, same_id-refl, same_id-symm}
 
 -- ---- one that passes
@@ -104,10 +105,6 @@ holds-named before (x ∷ xs) id f e = elim (or_cases (has x.preds id) (names xs
       list_any-append (λ m. same_id id m.id) before (x ∷ xs) ∙ ap (λ b. b || holds (x ∷ xs) id) here
   | inr later ↦ rw (← append_assoc before (x ∷ []) xs) (holds-named (before ++ x ∷ []) xs id f.1 later)
 ]
-
-pub Follows-push : (before es : List Entry) (e : Entry) → Follows before es → IsNext (before ++ es) e → Follows before (es ++ e ∷ [])
-Follows-push before [] e f n = (rw append-nil at n, tt)
-Follows-push before (x ∷ xs) e f n = (f.0, Follows-push (before ++ x ∷ []) xs e f.1 (rw append_assoc n))
 
 -- an ancestor of a member is one of its successors too
 further : (graph : List Entry) (x f h : Entry) → Contains graph x → Contains graph f → has f.preds x.id ≡ true → IsAncestor graph f h → IsAncestor graph x h

@@ -1,26 +1,24 @@
--- Laws of ids.
-use Rattle.std.proofs.Common.{◌≡◌, true, false, refl, sym, ap, ◌∙◌}
-use Rattle.std.specs.Cmp.{IsTotalOrder, Equal-is, tied_itself, eq_by_cmp_equiv}
-use Rattle.std.specs.Cmp.Lexicographic.{nat_list_cmp_total}
-use Rattle.std.proofs.lemmas.Map.Lookups.{exact_bytes}
-use Rattle.std.specs.declared.cmp.Ordering.{Ordering}
-use Rattle.std.specs.declared.cmp.Ordering.TheVariants.{Less, Equal, Greater}
+-- The order of ids, and when two are one.
+use Rattle.std.proofs.Common.{◌≡◌, Bool, true, false, ap, sym, ◌∙◌}
+use Rattle.std.specs.Cmp.{IsTotalOrder}
+use Rattle.std.specs.Cmp.Lexicographic.{on_texts}
+use Rattle.std.proofs.lemmas.Cmp.{eq_by_cmp_equiv}
+use Rattle.std.proofs.lemmas.Map.Text.{is_eq-slice_cmp}
+use Rattle.std.proofs.lemmas.Slice.Eq.{bytes_eq-Decides}
 use Rattle.update_model.specs.declared.update_id.UpdateId.{UpdateId}
 use Rattle.update_model.specs.Entry.{id_cmp, same_id}
 
 pub id_cmp_total : IsTotalOrder id_cmp
-id_cmp_total = record {
-  antisymm = λ x y. nat_list_cmp_total.antisymm x.0 y.0;
-  trans = λ x y z. nat_list_cmp_total.trans x.0 y.0 z.0;
-  congr = λ x y z. nat_list_cmp_total.congr x.0 y.0 z.0;
-}
+id_cmp_total = on_texts (λ (id : UpdateId). id.0)
 
--- ids that compare as equal are one
+-- ids that the order does not tell apart are one
 pub id_from_same : (a b : UpdateId) → same_id a b ≡ true → a ≡ b
-id_from_same a b e = ap (λ bytes. record { 0 = bytes }) (exact_bytes a.0 b.0 ((Equal-is (id_cmp a b)).0 e))
+id_from_same a b e =
+    let same = (bytes_eq-Decides a.0 b.0).0 (sym (is_eq-slice_cmp a.0 b.0) ∙ e)
+    in ap (λ bytes. record { 0 = bytes }) same
 
 pub same_id-refl : (a : UpdateId) → same_id a a ≡ true
-same_id-refl a = (eq_by_cmp_equiv id_cmp_total).refl a
+same_id-refl = (eq_by_cmp_equiv id_cmp_total).refl
 
 pub same_id-symm : (a b : UpdateId) → same_id a b ≡ same_id b a
-same_id-symm a b = (eq_by_cmp_equiv id_cmp_total).symm a b
+same_id-symm = (eq_by_cmp_equiv id_cmp_total).symm

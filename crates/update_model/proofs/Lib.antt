@@ -1,2 +1,3 @@
-pub mod Ids
+pub mod Closed
 pub mod Heads
+pub mod Ids

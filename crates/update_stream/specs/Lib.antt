@@ -1,2 +1,3 @@
 pub mod Stream
 pub mod Steps
+pub mod Told

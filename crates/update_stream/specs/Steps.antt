@@ -10,9 +10,7 @@ use Rattle.update_stream.specs.declared.record_fault.RecordFault.{RecordFault}
 use Rattle.update_stream.specs.declared.record_fault.RecordFault.TheVariants.{Misspelled, Operations, OtherDatabase, Lacks, Full}
 use Rattle.update_stream.specs.declared.next_record.NextRecord.{NextRecord}
 use Rattle.update_stream.specs.declared.next_record.NextRecord.TheVariants.{End, Cut, Whole as WholeRecord}
-use Rattle.update_stream.specs.declared.reading.Reading.{Reading}
-use Rattle.update_stream.specs.declared.reading.Reading.TheVariants.{Whole, Refused}
-use Rattle.update_stream.specs.Stream.{BeginsWith, LacksPredecessor, PassesLimit, IsWhole, IsRefused, span_of}
+use Rattle.update_stream.specs.Stream.{BeginsWith, LacksPredecessor, PassesLimit, span_of}
 
 -- no more was read than the record that stands there
 abbrev pub StaysWithin : Option (List ℕ) → Option (List ℕ) → Type 0
@@ -47,12 +45,3 @@ Takes members r after (Some Operations) = HasOperations r
 Takes members r after (Some OtherDatabase) = IsSpelling r × IsForOthers members r
 Takes members r after (Some (Lacks id)) = IsSpelling r × IsForThem members r × LacksPredecessor (map entry_of members) (entry_of r) id
 Takes members r after (Some Full) = IsSpelling r × IsForThem members r × PassesLimit (map entry_of members) (entry_of r)
-
--- what a whole reading tells of the input, of which this is left
-abbrev pub Tells : List ℕ → List ℕ → Reading → Type 0
-Tells input rest (Whole members) = IsWhole input members × (rest ≡ [])
-Tells input rest (Refused n fault) = IsRefused input rest n fault
-
--- what a whole reading tells, where the source tells its bytes
-abbrev pub Reads : Option (List ℕ) → Option (List ℕ) → Reading → Type 0
-Reads before after reading = IfSome before (λ input. (rest : List ℕ) × (after ≡ Some rest) × Tells input rest reading)

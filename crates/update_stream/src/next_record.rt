@@ -1,4 +1,5 @@
 ghost use Rattle.std.specs.Prelude.{◌≡◌, ◌≤◌, IfOk, IfErr};
+ghost use Rattle.std.specs.Int.{w32, to_be_bytes};
 ghost use Rattle.bec_bytes.specs.Causes.{Rose};
 ghost use Rattle.update_stream.specs.Steps.{Finds};
 
@@ -38,7 +39,7 @@ pub fn next_record<S: Source>(alloc: Global, input: &mut S) -> Result<NextRecord
     if count < 4 {
         return Ok(NextRecord::Cut);
     }
-    let length = BigEndian::read_u32(&prefix);
+    let length = length_of(&prefix);
     if length > MAX_LENGTH {
         return Ok(NextRecord::Cut);
     }
@@ -48,4 +49,11 @@ pub fn next_record<S: Source>(alloc: Global, input: &mut S) -> Result<NextRecord
         return Ok(NextRecord::Cut);
     }
     Ok(NextRecord::Whole(bytes))
+}
+
+/// The length that stands before a record, the high byte first.
+fn length_of(prefix: &[u8; 4]) -> u32
+    ensures { to_be_bytes w32 result ≡ prefix.now }
+{
+    BigEndian::read_u32(prefix)
 }

@@ -1,6 +1,6 @@
 ghost use Rattle.std.specs.Prelude.{◌≡◌, ◌≤◌, IfOk, IfErr};
 ghost use Rattle.bec_bytes.specs.Causes.{Rose};
-ghost use Rattle.update_stream.specs.Steps.{Reads};
+ghost use Rattle.update_stream.specs.Told.{Reads};
 
 use std::alloc::Global;
 

@@ -1,0 +1,26 @@
+//! The edge of the program: real streams as the sources and sinks of `bec_bytes`.
+//!
+//! [`HostSource`] reads a reader of std through a buffer, and [`HostSink`] writes to a writer of std.
+//! Each counts the errors that it meets, retries a call that a signal interrupted, and answers
+//! `Failed` for any other error.
+//!
+//! ```
+//! fn main(rt: HostRuntime) -> Result<ExitCode, AllocError> {
+//!     let mut input = HostSource::new(rt.alloc(), rt.stdin())?;
+//!     let mut output = HostSink::new(rt.stdout());
+//!     Ok(ExitCode::from(run(&mut input, &mut output)))
+//! }
+//! ```
+//!
+//! No contract can say which bytes come from or reach the system. What is proved of an adapter is
+//! that it passes on, unchanged and in order, the bytes that the reader gave or the writer took.
+#![tactic(auto)]
+
+mod host_sink;
+mod host_source;
+
+pub use host_sink::HostSink;
+pub use host_source::HostSource;
+
+#[cfg(test)]
+mod tests;

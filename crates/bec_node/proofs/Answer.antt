@@ -1,0 +1,33 @@
+-- A stream has one answer.
+use Rattle.std.proofs.Common.{◌≡◌, ◌⊎◌, inl, inr, ℕ, List, [], ◌∷◌, map, refl, sym, ap, ◌∙◌, Option, Some, None, IfSome, String, ◌&&◌, not}
+use Rattle.update_model.specs.declared.update_id.UpdateId.{UpdateId}
+use Rattle.update_model.specs.Graph.{AreHeads, has, holds, names}
+use Rattle.update_model.proofs.Heads.{sorted_same}
+use Rattle.update_codec.specs.Parts.{entry_of}
+use Rattle.update_stream.specs.declared.record_fault.RecordFault.{RecordFault}
+use Rattle.update_stream.specs.Stream.{IsWhole, IsRefused}
+use Rattle.update_stream.proofs.Once.{whole_once, refused_once, whole_and_refused}
+use Rattle.bec_node.specs.Texts.{printed, refusal_text, status_of}
+use Rattle.bec_node.specs.Run.{HasHeads, HeadsAnswer}
+
+heads_once : (members others : List (List ℕ)) (heads again : List UpdateId) → members ≡ others → AreHeads (map entry_of members) heads → AreHeads (map entry_of others) again → heads ≡ again
+heads_once members others heads again same a b =
+    sorted_same heads again a.rising b.rising (λ q.
+    let here = a.exact q in
+    let there = b.exact q in
+    let moved = ap (λ (ms : List (List ℕ)). holds (map entry_of ms) q && not (names (map entry_of ms) q)) same in
+    here ∙ moved ∙ sym there)
+
+pub answer_once : (input rest other : List ℕ) (status another : ℕ) (text line : List ℕ) → HeadsAnswer input rest status text → HeadsAnswer input other another line
+    → (status ≡ another) × (text ≡ line)
+answer_once input rest other status another text line (inl a) (inl b) =
+    let same = whole_once input a.1.0 b.1.0 a.1.1 b.1.1 in
+    let heads = heads_once a.1.0 b.1.0 a.0 b.0 same a.1.2 b.1.2 in
+    (a.3 ∙ sym b.3, a.4 ∙ ap printed heads ∙ sym b.4)
+answer_once input rest other status another text line (inl a) (inr b) = absurd (whole_and_refused input other a.1.0 b.0 b.1.0 a.1.1 b.1.1)
+answer_once input rest other status another text line (inr a) (inl b) = absurd (whole_and_refused input rest b.1.0 a.0 a.1.0 b.1.1 a.1.1)
+answer_once input rest other status another text line (inr a) (inr b) =
+    let same = refused_once input rest other a.0 b.0 a.1.0 b.1.0 a.1.1 b.1.1 in (
+      a.1.2 ∙ ap status_of same.1 ∙ sym b.1.2,
+      a.1.3 ∙ ap (λ (n : ℕ). refusal_text n a.1.0) same.0 ∙ ap (refusal_text b.0) same.1 ∙ sym b.1.3,
+    )

@@ -1,0 +1,110 @@
+-- From what a stream holds to what the command `heads` answers.
+use Rattle.std.proofs.Common.{◌≡◌, ◌≢◌, ◌⊎◌, inl, inr, ℕ, ◌<◌, ◌≤◌, List, [], ◌∷◌, length, map, take, codes, refl, sym, ap, subst, ◌∙◌, Option, Some, None, IfSome, String, Result, Ok, Err, slice_get, arith}
+use Rattle.std.specs.declared.alloc.Global.{Global}
+use Rattle.std.specs.String.{string_bytes}
+use Rattle.std.specs.Io.KnownBytes.{Appends}
+use Rattle.bec_bytes.specs.Causes.{HasCause}
+use Rattle.bec_bytes.specs.Moved.{TakesAll}
+use Rattle.update_stream.specs.declared.record_fault.RecordFault.{RecordFault}
+use Rattle.update_stream.specs.declared.record_fault.RecordFault.TheVariants.{Misspelled, Operations, OtherDatabase, Lacks, Full}
+use Rattle.update_stream.specs.declared.reading.Reading.{Reading}
+use Rattle.update_stream.specs.declared.reading.Reading.TheVariants.{Whole, Refused}
+use Rattle.update_stream.specs.Told.{Reads, Tells}
+use Rattle.bec_node.specs.Texts.{status_of}
+use Rattle.bec_node.specs.Run.{IsHeadsCommand, HasFirstWord, HeadsAnswer, Says, IsHeadsStatus, IsAnswer, IsReply, PutsFront, IsStreamFault, Puts, ComesAs}
+use Rattle.bec_node.proofs.Answer.{answer_once}
+
+-- ---- words
+
+pub one_word : (words : List (String Global)) → HasFirstWord words → length words ≤ 1 → IsHeadsCommand words
+one_word [] first few = absurd cc
+one_word (word ∷ []) first few = let is : string_bytes word ≡ codes "heads" = cc in ap (λ (w : List ℕ). w ∷ []) is
+one_word (word ∷ other ∷ words) first few = absurd (omega arith)
+
+pub more_words : (words : List (String Global)) → 1 < length words → IsHeadsCommand words → ⊥
+more_words [] many is = absurd (omega arith)
+more_words (word ∷ []) many is = absurd (omega arith)
+more_words (word ∷ other ∷ words) many is = cc
+
+pub first_word : (words : List (String Global)) (word : String Global) → slice_get words 0 ≡ Some word → string_bytes word ≡ codes "heads" → HasFirstWord words
+first_word [] word at is = absurd cc
+first_word (w ∷ words) word at is = let same : w ≡ word = cc in ap (λ (t : String Global). Some (string_bytes t)) same ∙ ap Some is
+
+pub other_first : (words : List (String Global)) (word : String Global) → slice_get words 0 ≡ Some word → (string_bytes word ≡ codes "heads" → ⊥) → IsHeadsCommand words → ⊥
+other_first [] word at other is = absurd cc
+other_first (w ∷ words) word at other is = let same : w ≡ word = cc in let named : string_bytes w ≡ codes "heads" = cc in other (ap (λ (t : String Global). string_bytes t) (sym same) ∙ named)
+
+pub no_first : (words : List (String Global)) → slice_get words 0 ≡ None → IsHeadsCommand words → ⊥
+no_first [] none is = cc
+no_first (w ∷ words) none is = cc
+
+-- ---- replies
+
+heads_status : (fault : RecordFault) → IsHeadsStatus (status_of fault)
+heads_status Misspelled = inr (inl refl)
+heads_status Operations = inr (inl refl)
+heads_status OtherDatabase = inr (inl refl)
+heads_status (Lacks id) = inr (inl refl)
+heads_status Full = inr (inr refl)
+
+pub not_four : (status : ℕ) → IsHeadsStatus status → status ≡ 4 → ⊥
+not_four status (inl a) e = let no : 0 ≡ 4 = sym a ∙ e in absurd (omega arith)
+not_four status (inr (inl a)) e = let no : 1 ≡ 4 = sym a ∙ e in absurd (omega arith)
+not_four status (inr (inr a)) e = let no : 7 ≡ 4 = sym a ∙ e in absurd (omega arith)
+
+whole_answer : (before after : Option (List ℕ)) (members : List (List ℕ)) (status : ℕ) (text : List ℕ) → Reads before after (Whole members) → Says (Whole members) status text → IsAnswer before after status text
+whole_answer None after members status text reads says = tt
+whole_answer (Some xs) after members status text reads says =
+    (reads.0, reads.1, inl (says.0, (members, reads.2.0, says.1), reads.2.1, says.2, says.3))
+
+refused_answer : (before after : Option (List ℕ)) (n : ℕ) (fault : RecordFault) (status : ℕ) (text : List ℕ) → Reads before after (Refused n fault) → Says (Refused n fault) status text → IsAnswer before after status text
+refused_answer None after n fault status text reads says = tt
+refused_answer (Some xs) after n fault status text reads says = (reads.0, reads.1, inr (n, (fault, reads.2, says.0, says.1)))
+
+pub status_said : (reading : Reading) (status : ℕ) (text : List ℕ) → Says reading status text → IsHeadsStatus status
+status_said (Whole members) status text says = inl says.2
+status_said (Refused n fault) status text says = let P : ℕ → Type 0 = IsHeadsStatus in subst P (sym says.0) (heads_status fault)
+
+pub answer_said : (before after : Option (List ℕ)) (reading : Reading) (status : ℕ) (text : List ℕ) → Reads before after reading → Says reading status text → IsAnswer before after status text
+answer_said before after (Whole members) status text reads says = whole_answer before after members status text reads says
+answer_said before after (Refused n fault) status text reads says = refused_answer before after n fault status text reads says
+
+pub reply_said : (words : List (String Global)) (before after : Option (List ℕ)) (reading : Reading) (status : ℕ) (text : List ℕ) → IsHeadsCommand words
+    → Reads before after reading → Says reading status text → IsReply words before after status text
+reply_said words before after reading status text is reads says = inl (is, status_said reading status text says, answer_said before after reading status text reads says)
+
+-- ---- what is written
+
+pub reply_put : (words : List (String Global)) (before after : Option (List ℕ)) (old new : ℕ) (held held_new : Option (List ℕ)) (status result : ℕ) (text : List ℕ)
+    → IsReply words before after status text → Puts old new held held_new status text result → result ≢ 4
+    → (written : List ℕ) × IsReply words before after result written × Appends held held_new written
+reply_put words before after old new held held_new status result text is (inl put) four =
+    let P : ℕ → Type 0 = λ s. IsReply words before after s text in (text, subst P (sym put.0) is, put.1)
+reply_put words before after old new held held_new status result text is (inr failed) four = absurd (four failed.0)
+
+pub fault_put : (words : List (String Global)) (before after : Option (List ℕ)) (in_old in_new old new : ℕ) (held held_new : Option (List ℕ)) (status result : ℕ) (text : List ℕ)
+    → IsReply words before after status text → status ≢ 4 → Puts old new held held_new status text result → result ≡ 4
+    → IsStreamFault words before after in_old in_new old new held held_new
+fault_put words before after in_old in_new old new held held_new status result text is other (inl put) four = absurd (other (sym put.0 ∙ four))
+fault_put words before after in_old in_new old new held held_new status result text is other (inr failed) four = inr (status, (text, is, failed.1))
+
+pub only_put : (before after : Option (List ℕ)) (old new : ℕ) (held held_new : Option (List ℕ)) (status result : ℕ) (text : List ℕ)
+    → IsAnswer before after status text → Puts old new held held_new status text result
+    → IfSome before (λ bytes. (rest : List ℕ) (other : ℕ) (line : List ℕ) → HeadsAnswer bytes rest other line → ComesAs result other)
+only_put None after old new held held_new status result text is put = tt
+only_put (Some xs) after old new held held_new status result text is (inl put) = λ rest other line answer.
+    inl (put.0 ∙ (answer_once xs is.0 rest status other text line is.2 answer).0)
+only_put (Some xs) after old new held held_new status result text is (inr failed) = λ rest other line answer. inr (inl failed.0)
+
+-- a line of which all or a front is written
+pub line_put : {T E : Type 0} (old new : ℕ) (held held_new : Option (List ℕ)) (result : Result T E) (line : List ℕ) → TakesAll held held_new result line → HasCause old new result
+    → Appends held held_new line ⊎ PutsFront old new held held_new line
+line_put old new held held_new (Ok v) line taken cause = inl taken
+line_put old new held held_new (Err e) line taken cause = inr (cause.failed, (taken.0, taken.1, taken.2))
+
+-- words that are no command
+pub fault_words : (words : List (String Global)) (before : Option (List ℕ)) (in_old old new : ℕ) (held held_new : Option (List ℕ)) (result : ℕ)
+    → (IsHeadsCommand words → ⊥) → Puts old new held held_new 2 (codes "! words\n") result → result ≡ 4
+    → IsStreamFault words before before in_old in_old old new held held_new
+fault_words words before in_old old new held held_new result other put four =
+    fault_put words before before in_old in_old old new held held_new 2 result (codes "! words\n") (inr (other, refl, refl)) (λ two. absurd (omega arith)) put four

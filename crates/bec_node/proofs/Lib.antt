@@ -1,0 +1,3 @@
+pub mod HeadSteps
+pub mod Answer
+pub mod Command

@@ -1,0 +1,78 @@
+-- What the program answers.
+use Rattle.std.specs.Prelude.{◌≡◌, ◌≢◌, ◌⊎◌, ℕ, ◌≤◌, List, [], ◌∷◌, length, map, take, codes, Some, IfSome, String, slice_get}
+use Rattle.std.specs.declared.alloc.Global.{Global}
+use Rattle.std.specs.declared.option.Option.{Option}
+use Rattle.std.specs.Io.KnownBytes.{Appends}
+use Rattle.std.specs.String.{string_bytes}
+use Rattle.bec_bytes.specs.Causes.{Rose}
+use Rattle.update_model.specs.declared.update_id.UpdateId.{UpdateId}
+use Rattle.update_model.specs.Graph.{AreHeads}
+use Rattle.update_codec.specs.Parts.{entry_of}
+use Rattle.update_stream.specs.declared.record_fault.RecordFault.{RecordFault}
+use Rattle.update_stream.specs.declared.reading.Reading.{Reading}
+use Rattle.update_stream.specs.declared.reading.Reading.TheVariants.{Whole, Refused}
+use Rattle.update_stream.specs.Stream.{IsWhole, IsRefused}
+use Rattle.bec_node.specs.Texts.{printed, refusal_text, status_of}
+
+-- the one word is `heads`
+abbrev pub IsHeadsCommand : List (String Global) → Type 0
+IsHeadsCommand words = map string_bytes words ≡ codes "heads" ∷ []
+
+-- the first word is `heads`
+abbrev pub HasFirstWord : List (String Global) → Type 0
+HasFirstWord words = slice_get (map string_bytes words) 0 ≡ Some (codes "heads")
+
+-- The input is good records up to its end, and these are the heads of their graph.
+abbrev pub HasHeads : List ℕ → List UpdateId → Type 0
+HasHeads input heads = (members : List (List ℕ)) × IsWhole input members × AreHeads (map entry_of members) heads
+
+-- The answer to a stream: its heads with status 0 at its end, or the first record that is refused. The rest is
+-- what was not read.
+abbrev pub HeadsAnswer : List ℕ → List ℕ → ℕ → List ℕ → Type 0
+HeadsAnswer input rest status text =
+    ((heads : List UpdateId) × HasHeads input heads × (rest ≡ []) × (status ≡ 0) × (text ≡ printed heads))
+    ⊎ ((n : ℕ) × ((fault : RecordFault) × IsRefused input rest n fault × (status ≡ status_of fault) × (text ≡ refusal_text n fault)))
+
+-- what `heads` says of what a stream holds
+abbrev pub Says : Reading → ℕ → List ℕ → Type 0
+Says (Whole members) status text = (heads : List UpdateId) × AreHeads (map entry_of members) heads × (status ≡ 0) × (text ≡ printed heads)
+Says (Refused n fault) status text = (status ≡ status_of fault) × (text ≡ refusal_text n fault)
+
+-- a status that `heads` has where nothing failed
+abbrev pub IsHeadsStatus : ℕ → Type 0
+IsHeadsStatus status = (status ≡ 0) ⊎ ((status ≡ 1) ⊎ (status ≡ 7))
+
+-- The answer, where the source tells its bytes, of which the second are left.
+abbrev pub IsAnswer : Option (List ℕ) → Option (List ℕ) → ℕ → List ℕ → Type 0
+IsAnswer before after status text = IfSome before (λ input. (rest : List ℕ) × (after ≡ Some rest) × HeadsAnswer input rest status text)
+
+-- the status and the text that the words and the input ask for
+abbrev pub IsReply : List (String Global) → Option (List ℕ) → Option (List ℕ) → ℕ → List ℕ → Type 0
+IsReply words before after status text =
+    (IsHeadsCommand words × IsHeadsStatus status × IsAnswer before after status text)
+    ⊎ ((IsHeadsCommand words → ⊥) × (status ≡ 2) × (text ≡ codes "! words\n"))
+
+-- the sink took a front of this text, and failed
+abbrev pub PutsFront : ℕ → ℕ → Option (List ℕ) → Option (List ℕ) → List ℕ → Type 0
+PutsFront out_old out_new held held_new text = Rose out_old out_new × ((n : ℕ) × (n ≤ length text) × Appends held held_new (take n text))
+
+-- The source failed, and its line is written, or a front of it where the sink failed too; or the sink failed, and
+-- a front of the reply is written.
+abbrev pub IsStreamFault : List (String Global) → Option (List ℕ) → Option (List ℕ) → ℕ → ℕ → ℕ → ℕ → Option (List ℕ) → Option (List ℕ) → Type 0
+IsStreamFault words before after in_old in_new out_old out_new held held_new =
+    (IsHeadsCommand words × Rose in_old in_new
+    × (Appends held held_new (codes "! stream fault\n") ⊎ PutsFront out_old out_new held held_new (codes "! stream fault\n")))
+    ⊎ ((status : ℕ) × ((text : List ℕ) × IsReply words before after status text × PutsFront out_old out_new held held_new text))
+
+-- the text is written with its status, or a front of it with status 4 where the sink failed
+abbrev pub Puts : ℕ → ℕ → Option (List ℕ) → Option (List ℕ) → ℕ → List ℕ → ℕ → Type 0
+Puts out_old out_new held held_new status text result =
+    ((result ≡ status) × Appends held held_new text) ⊎ ((result ≡ 4) × PutsFront out_old out_new held held_new text)
+
+-- the status, or one of a stream fault or want of memory in its place
+abbrev pub ComesAs : ℕ → ℕ → Type 0
+ComesAs result status = (result ≡ status) ⊎ ((result ≡ 4) ⊎ (result ≡ 5))
+
+-- words that are no command leave the source as it was
+abbrev pub LeavesInput : {S : Type 0} → List (String Global) → S → S → Type 0
+LeavesInput words before after = (IsHeadsCommand words → ⊥) → after ≡ before

@@ -1,0 +1,47 @@
+ghost use Rattle.std.specs.Prelude.{◌≡◌, ◌≢◌, ℕ, List, [], IfSome};
+ghost use Rattle.std.specs.Io.KnownBytes.{Appends};
+ghost use Rattle.bec_node.specs.Run.{IsHeadsCommand, HasFirstWord, HeadsAnswer, IsReply, IsStreamFault, ComesAs, LeavesInput};
+
+use crate::reply::{heads_reply, no_command, put_reply};
+use bec_bytes::{Sink, Source, write_all_of};
+use std::alloc::Global;
+use update_stream::{ReadError, read_stream};
+
+/// The command `heads`: reads an update stream and prints the ids of its heads, rising, one per line in
+/// lower-case hexadecimal, or the line for the first record that is refused. `words` are all the words of the
+/// command line; a second one makes them no command.
+///
+/// Its clauses are those of [`run`](crate::run) for these words.
+pub fn command_heads<S: Source, K: Sink>(
+    alloc: Global,
+    words: &[String],
+    input: &mut S,
+    out: &mut K,
+) -> u8
+    requires { HasFirstWord words.now }
+
+    ensures reply { result ≢ 4 → result ≢ 5
+        → (text : List ℕ) × IsReply words.now (S.left input.old) (S.left input.new) result text × Appends (K.held out.old) (K.held out.new) text }
+    ensures fault { result ≡ 4
+        → IsStreamFault words.now (S.left input.old) (S.left input.new) (S.faults input.old) (S.faults input.new) (K.faults out.old) (K.faults out.new) (K.held out.old) (K.held out.new) }
+    ensures memory { result ≡ 5 → IsHeadsCommand words.now × Appends (K.held out.old) (K.held out.new) [] }
+    ensures only { IsHeadsCommand words.now
+        → IfSome (S.left input.old) (λ bytes. (rest : List ℕ) (status : ℕ) (text : List ℕ) → HeadsAnswer bytes rest status text → ComesAs result status) }
+    ensures other { LeavesInput words.now input.old input.new }
+{
+    if words.len() > 1 {
+        return no_command(out);
+    }
+    let reading = match read_stream(alloc, input) {
+        Ok(reading) => reading,
+        Err(ReadError::Failed) => {
+            let _ = write_all_of(out, b"! stream fault\n");
+            return 4;
+        }
+        Err(ReadError::Memory) => return 5,
+    };
+    match heads_reply(alloc, reading) {
+        Ok(reply) => put_reply(out, &reply),
+        Err(_error) => 5,
+    }
+}

@@ -1,0 +1,35 @@
+//! What the program `bec` does: [`run`] takes the words of a command line, a source and a sink, and answers an
+//! exit status.
+//!
+//! Each command has a function of its own, and [`run`] calls it where the first word is the command. The program
+//! itself makes the real objects and calls [`run`]; tests call it over sources and sinks in memory.
+//!
+//! ```text
+//! bec heads < stream        the ids of the heads of an update stream, rising, one per line
+//! ```
+//!
+//! | Status | When |
+//! |---|---|
+//! | 0 | done |
+//! | 1 | the input is refused: the text says which record and why |
+//! | 2 | the words are no command |
+//! | 4 | the source or the sink failed |
+//! | 5 | memory ran out |
+//! | 7 | a limit is met |
+//!
+//! It waits for nobody but its source and its sink, and opens nothing by itself.
+#![tactic(auto)]
+
+mod heads;
+mod heads_command;
+mod laws;
+mod program;
+mod reply;
+
+pub use heads::heads_of;
+pub use heads_command::command_heads;
+pub use laws::one_answer;
+pub use program::run;
+
+#[cfg(test)]
+mod tests;

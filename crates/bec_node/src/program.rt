@@ -1,0 +1,37 @@
+ghost use Rattle.std.specs.Prelude.{◌≡◌, ◌≢◌, ℕ, List, [], IfSome};
+ghost use Rattle.std.specs.Io.KnownBytes.{Appends};
+ghost use Rattle.bec_node.specs.Run.{IsHeadsCommand, HeadsAnswer, IsReply, IsStreamFault, ComesAs, LeavesInput};
+
+use crate::heads_command::command_heads;
+use crate::reply::no_command;
+use bec_bytes::{Sink, Source};
+use std::alloc::Global;
+
+/// Does what the words of a command line ask for, over a source and a sink, and answers the exit status.
+///
+/// The one command is `heads`, alone. Where no stream fails and memory suffices, the status and the text written
+/// are the reply to these words and this input.
+pub fn run<S: Source, K: Sink>(alloc: Global, words: &[String], input: &mut S, out: &mut K) -> u8
+    // The status and what is written are the reply, unless a stream failed or memory ran out.
+    ensures reply { result ≢ 4 → result ≢ 5
+        → (text : List ℕ) × IsReply words.now (S.left input.old) (S.left input.new) result text × Appends (K.held out.old) (K.held out.new) text }
+
+    // A stream fault has its cause: the source's own line is written, or a front of what else would be.
+    ensures fault { result ≡ 4
+        → IsStreamFault words.now (S.left input.old) (S.left input.new) (S.faults input.old) (S.faults input.new) (K.faults out.old) (K.faults out.new) (K.held out.old) (K.held out.new) }
+
+    // Without memory nothing is written.
+    ensures memory { result ≡ 5 → IsHeadsCommand words.now × Appends (K.held out.old) (K.held out.new) [] }
+
+    // Each answer of a stream comes exactly where it stands, unless a stream failed or memory ran out.
+    ensures only { IsHeadsCommand words.now
+        → IfSome (S.left input.old) (λ bytes. (rest : List ℕ) (status : ℕ) (text : List ℕ) → HeadsAnswer bytes rest status text → ComesAs result status) }
+
+    // Other words leave the source as it was.
+    ensures other { LeavesInput words.now input.old input.new }
+{
+    match words.first() {
+        Some(word) if word.as_str() == "heads" => command_heads(alloc, words, input, out),
+        _ => no_command(out),
+    }
+}

@@ -1,0 +1,67 @@
+-- What taking a record does.
+use Rattle.std.proofs.Common.{◌≡◌, ◌⊎◌, inl, inr, ℕ, Bool, true, false, List, [], ◌∷◌, ◌++◌, length, refl, sym, ap, ◌∙◌, map, Option, Some, None, Result, Ok, Err}
+use Rattle.std.specs.Bool.{OnTrue, OnFalse}
+use Rattle.std.specs.Option.{is_some}
+use Rattle.update_model.specs.declared.update_id.UpdateId.{UpdateId}
+use Rattle.update_model.specs.Entry.{Entry}
+use Rattle.update_model.specs.Graph.{holds, position_of, lacking, is_within, IsNext}
+use Rattle.update_model.proofs.Closed.{position_of-held, IsNext-from_tests}
+use Rattle.update_codec.specs.Parts.{entry_of}
+use Rattle.hash_graph.specs.declared.added.Added.{Added}
+use Rattle.hash_graph.specs.declared.added.Added.TheVariants.{New, Known}
+use Rattle.hash_graph.specs.declared.refusal.Refusal.{Refusal}
+use Rattle.hash_graph.specs.declared.refusal.Refusal.TheVariants.{Lacks, Full, Memory}
+use Rattle.hash_graph.specs.Answer.{answer_by, answer_of, list_after}
+use Rattle.update_stream.specs.Stream.{LacksPredecessor, PassesLimit}
+use Rattle.update_stream.specs.Steps.{Adds}
+
+pub on_true : (b : Bool) (P : Type 0) → (b ≡ true → P) → OnTrue b P
+on_true true P f = f refl
+on_true false P f = tt
+
+pub on_false : (b : Bool) (P : Type 0) → (b ≡ false → P) → OnFalse b P
+on_false true P f = tt
+on_false false P f = f refl
+
+-- what stands at a position is held, and what stands at none is not
+held_at : (graph : List Entry) (id : UpdateId) (k : ℕ) → position_of graph id ≡ Some k → holds graph id ≡ true
+held_at graph id k e = sym (position_of-held graph id) ∙ ap is_some e
+
+pub not_held : (graph : List Entry) (id : UpdateId) → position_of graph id ≡ None → holds graph id ≡ false
+not_held graph id e = sym (position_of-held graph id) ∙ ap is_some e
+
+-- a member that is known changes nothing, and a new one stands last
+pub adds : (members : List (List ℕ)) (r : List ℕ) (after : List (List ℕ)) (added : Added) → answer_of (map entry_of members) (entry_of r) ≡ Ok added
+    → after ≡ list_after {M = List ℕ} (Ok added) members r → Adds members r after
+adds members r after added e l =
+    by_case (position_of (map entry_of members) (entry_of r).id) (lacking (map entry_of members) (entry_of r)) (is_within (map entry_of members ++ entry_of r ∷ [])) refl refl refl added e l
+  where
+    by_case : (p : Option ℕ) (lack : Option UpdateId) (fits : Bool) → position_of (map entry_of members) (entry_of r).id ≡ p → lacking (map entry_of members) (entry_of r) ≡ lack
+        → is_within (map entry_of members ++ entry_of r ∷ []) ≡ fits → (a : Added) → answer_by p lack fits (length (map entry_of members)) ≡ Ok a
+        → after ≡ list_after {M = List ℕ} (Ok a) members r → Adds members r after
+    by_case (Some k) lack fits at_p at_l at_f (Known n) e l = inl (held_at (map entry_of members) (entry_of r).id k at_p, l)
+    by_case (Some k) lack fits at_p at_l at_f (New n) e l = absurd cc
+    by_case None (Some id) fits at_p at_l at_f a e l = absurd cc
+    by_case None None false at_p at_l at_f a e l = absurd cc
+    by_case None None true at_p at_l at_f (Known n) e l = absurd cc
+    by_case None None true at_p at_l at_f (New n) e l = inr (IsNext-from_tests (map entry_of members) (entry_of r) at_p at_l, at_f, l)
+
+pub lacks : (graph : List Entry) (e : Entry) (id : UpdateId) → answer_of graph e ≡ Err (Lacks id) → LacksPredecessor graph e id
+lacks graph e id a = by_case (position_of graph e.id) (lacking graph e) (is_within (graph ++ e ∷ [])) refl refl a
+  where
+    by_case : (p : Option ℕ) (lack : Option UpdateId) (fits : Bool) → position_of graph e.id ≡ p → lacking graph e ≡ lack
+        → answer_by p lack fits (length graph) ≡ Err (Lacks id) → LacksPredecessor graph e id
+    by_case (Some k) lack fits at_p at_l a = absurd cc
+    by_case None (Some other) fits at_p at_l a = let same : other ≡ id = cc in record { new = not_held graph e.id at_p; first = at_l ∙ ap Some same }
+    by_case None None false at_p at_l a = absurd cc
+    by_case None None true at_p at_l a = absurd cc
+
+pub passes : (graph : List Entry) (e : Entry) → answer_of graph e ≡ Err Full → PassesLimit graph e
+passes graph e a = by_case (position_of graph e.id) (lacking graph e) (is_within (graph ++ e ∷ [])) refl refl refl a
+  where
+    by_case : (p : Option ℕ) (lack : Option UpdateId) (fits : Bool) → position_of graph e.id ≡ p → lacking graph e ≡ lack → is_within (graph ++ e ∷ []) ≡ fits
+        → answer_by p lack fits (length graph) ≡ Err Full → PassesLimit graph e
+    by_case (Some k) lack fits at_p at_l at_f a = absurd cc
+    by_case None (Some other) fits at_p at_l at_f a = absurd cc
+    by_case None None false at_p at_l at_f a = record { new = not_held graph e.id at_p; preds = at_l; over = at_f }
+    by_case None None true at_p at_l at_f a = absurd cc
