@@ -7,7 +7,7 @@ ghost use Rattle.lm_ots.specs.Digits.{coef, checksum, checked_digest};
 use crate::ots_type::OtsType;
 use byteorder::{BigEndian, ByteOrder};
 
-// The i-th digit of the bytes.
+/// The `i`-th digit of the bytes (RFC 8554, section 3.1.3).
 pub fn digit(kind: OtsType, bytes: &[u8], i: u16) -> u8
     requires { i * width kind + width kind ≤ 8 * length bytes.now }
     ensures value { result ≡ coef bytes.now i (width kind) }
