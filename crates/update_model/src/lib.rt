@@ -21,13 +21,27 @@ mod body;
 mod laws;
 mod lists;
 mod member;
+mod op;
+mod op_list;
+mod row_name;
+#[cfg(test)]
+mod tests;
+mod text_value;
 mod update;
 mod update_id;
+mod value;
+mod value_list;
 
 pub use author_key::{AuthorKey, signature_len};
 pub use body::Body;
 pub use laws::{heads_cover_members, heads_of_same_set, nonempty_has_head};
-pub use lists::{ByteList, IdList};
+pub use lists::{ByteList, IdList, KeyList, PositionList};
 pub use member::Member;
+pub use op::Op;
+pub use op_list::OpList;
+pub use row_name::RowName;
+pub use text_value::{TextValue, check_value_text};
 pub use update::Update;
 pub use update_id::UpdateId;
+pub use value::Value;
+pub use value_list::ValueList;
