@@ -1,14 +1,12 @@
 -- A stream has one answer.
-use Rattle.std.proofs.Common.{◌≡◌, ◌⊎◌, inl, inr, ℕ, List, [], ◌∷◌, map, refl, sym, ap, ◌∙◌, Option, Some, None, IfSome, String, ◌&&◌, not}
+use Rattle.std.proofs.Common.{◌≡◌, inl, inr, ℕ, List, map, sym, ap, ◌∙◌, ◌&&◌, not}
 use Rattle.update_model.specs.declared.update_id.UpdateId.{UpdateId}
-use Rattle.update_model.specs.Graph.{AreHeads, has, holds, names}
+use Rattle.update_model.specs.Graph.{AreHeads, holds, names}
 use Rattle.update_model.proofs.Heads.{sorted_same}
 use Rattle.update_codec.specs.Parts.{entry_of}
-use Rattle.update_stream.specs.declared.record_fault.RecordFault.{RecordFault}
-use Rattle.update_stream.specs.Stream.{IsWhole, IsRefused}
 use Rattle.update_stream.proofs.Once.{whole_once, refused_once, whole_and_refused}
 use Rattle.bec_node.specs.Texts.{printed, refusal_text, status_of}
-use Rattle.bec_node.specs.Run.{HasHeads, HeadsAnswer}
+use Rattle.bec_node.specs.Run.{HeadsAnswer}
 
 heads_once : (members others : List (List ℕ)) (heads again : List UpdateId) → members ≡ others → AreHeads (map entry_of members) heads → AreHeads (map entry_of others) again → heads ≡ again
 heads_once members others heads again same a b =

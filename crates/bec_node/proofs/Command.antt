@@ -1,5 +1,5 @@
 -- From what a stream holds to what the command `heads` answers.
-use Rattle.std.proofs.Common.{◌≡◌, ◌≢◌, ◌⊎◌, inl, inr, ℕ, ◌<◌, ◌≤◌, List, [], ◌∷◌, length, map, take, codes, refl, sym, ap, subst, ◌∙◌, Option, Some, None, IfSome, String, Result, Ok, Err, slice_get, arith}
+use Rattle.std.proofs.Common.{◌≡◌, ◌≢◌, ◌⊎◌, inl, inr, ℕ, ◌<◌, ◌≤◌, List, [], ◌∷◌, length, codes, refl, sym, ap, subst, ◌∙◌, Option, Some, None, IfSome, String, Result, Ok, Err, slice_get, arith}
 use Rattle.std.specs.declared.alloc.Global.{Global}
 use Rattle.std.specs.String.{string_bytes}
 use Rattle.std.specs.Io.KnownBytes.{Appends}
@@ -9,7 +9,7 @@ use Rattle.update_stream.specs.declared.record_fault.RecordFault.{RecordFault}
 use Rattle.update_stream.specs.declared.record_fault.RecordFault.TheVariants.{Misspelled, Operations, OtherDatabase, Lacks, Full}
 use Rattle.update_stream.specs.declared.reading.Reading.{Reading}
 use Rattle.update_stream.specs.declared.reading.Reading.TheVariants.{Whole, Refused}
-use Rattle.update_stream.specs.Told.{Reads, Tells}
+use Rattle.update_stream.specs.Told.{Reads}
 use Rattle.bec_node.specs.Texts.{status_of}
 use Rattle.bec_node.specs.Run.{IsHeadsCommand, HasFirstWord, HeadsAnswer, Says, IsHeadsStatus, IsAnswer, IsReply, PutsFront, IsStreamFault, Puts, ComesAs}
 use Rattle.bec_node.proofs.Answer.{answer_once}

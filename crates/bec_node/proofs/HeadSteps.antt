@@ -1,6 +1,5 @@
 -- The heads of one more member.
-use Rattle.std.proofs.Common.{◌≡◌, ℕ, Bool, true, false, cond, ◌||◌, ◌&&◌, not, ◌<◌, ◌+◌, List, [], ◌∷◌, ◌++◌, length, refl, sym, ap, subst, ◌∙◌, append-nil, append_assoc, take, drop, get_or, map, All, arith, slice_get, Some, zero, suc, add-one}
-use Rattle.std.specs.List.{list_any}
+use Rattle.std.proofs.Common.{◌≡◌, ℕ, Bool, true, false, cond, ◌||◌, ◌&&◌, not, ◌<◌, ◌+◌, List, [], ◌∷◌, ◌++◌, length, refl, sym, ap, subst, ◌∙◌, append-nil, append_assoc, take, drop, get_or, map, arith, slice_get, Some, zero, suc, add-one}
 use Rattle.std.proofs.lemmas.List.{take_more, get_or-map}
 use Rattle.std.proofs.lemmas.Option.{slice_get_within, get_or_from_slice_get}
 use Rattle.std.proofs.lemmas.List.{length-map}
@@ -10,7 +9,7 @@ use Rattle.update_model.specs.declared.update_id.UpdateId.{UpdateId}
 use Rattle.update_model.specs.Entry.{Entry, same_id}
 use Rattle.update_model.specs.Graph.{has, holds, names, IsNext, Follows, IsClosed}
 use Rattle.update_model.proofs.Heads.{holds-named, witness}
-use Rattle.update_model.proofs.Ids.{id_from_same, same_id-symm, same_id-refl}
+use Rattle.update_model.proofs.Ids.{id_from_same, same_id-symm}
 
 -- one more id is taken out
 pub taken_out : (old new : Bool) (was gone same : Bool) → new ≡ cond same false old → old ≡ (was && not gone) → new ≡ (was && not (gone || (same || false)))

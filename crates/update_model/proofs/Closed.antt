@@ -8,7 +8,7 @@ use Rattle.std.proofs.lemmas.List.Elements.{All-from_recursion}
 use Rattle.update_model.specs.declared.update_id.UpdateId.{UpdateId}
 use Rattle.update_model.specs.Entry.{Entry, same_id}
 use Rattle.update_model.specs.Graph.{holds, position_of, lacking, IsNext, Follows}
-use Rattle.update_model.proofs.Ids.{id_from_same, same_id-refl, same_id-symm}
+use Rattle.update_model.proofs.Ids.{id_from_same, same_id-symm}
 
 -- one more member at the end
 pub Follows-push : (before es : List Entry) (e : Entry) → Follows before es → IsNext (before ++ es) e → Follows before (es ++ e ∷ [])

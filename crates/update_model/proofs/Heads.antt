@@ -1,16 +1,16 @@
 -- Laws of heads: they are a function of the set of members, and stand above all of these.
-use Rattle.std.proofs.Common.{◌≡◌, ◌≢◌, ◌⊎◌, inl, inr, Bool, true, false, List, [], ◌∷◌, ◌++◌, refl, sym, ap, subst, ◌∙◌, not, ◌||◌, append_assoc, append-nil, All, Contains, arith, ℕ, zero, suc, length, ◌<◌, get_or}
+use Rattle.std.proofs.Common.{◌≡◌, ◌≢◌, ◌⊎◌, inl, inr, Bool, true, false, List, [], ◌∷◌, ◌++◌, refl, sym, ap, subst, ◌∙◌, ◌||◌, append_assoc, Contains, arith, ℕ, zero, suc, length, ◌<◌, get_or}
 use Rattle.std.specs.List.{list_any, AllByRecursion}
 use Rattle.std.specs.List.Sorted.{IsStrictlySortedBy}
 use Rattle.std.specs.Cmp.{both_ways}
-use Rattle.std.specs.declared.cmp.Ordering.TheVariants.{Less, Equal, Greater}
+use Rattle.std.specs.declared.cmp.Ordering.TheVariants.{Less, Greater}
 use Rattle.std.proofs.lemmas.List.Folds.{Any-from_list_any, list_any-from_Any, list_any-append}
-use Rattle.std.proofs.lemmas.List.Elements.{All-contains, Contains-append_left, Contains-append_right}
+use Rattle.std.proofs.lemmas.List.Elements.{All-contains, Contains-append_right}
 use Rattle.update_model.specs.declared.update_id.UpdateId.{UpdateId}
 use Rattle.update_model.specs.Entry.{Entry, id_cmp, same_id}
 use Rattle.update_model.specs.Graph.{has, holds, names, IsNext, Follows, IsClosed, IsAncestor, named, through, IsHead, AreHeads, HaveSameMembers}
 use Rattle.update_model.proofs.Closed.{Follows-push}
-use Rattle.update_model.proofs.Ids.{id_cmp_total, id_from_same, same_id-refl, same_id-symm}
+use Rattle.update_model.proofs.Ids.{id_cmp_total, id_from_same, same_id-refl}
 
 -- ---- one that passes
 

@@ -1,5 +1,5 @@
 -- The order of ids, and when two are one.
-use Rattle.std.proofs.Common.{◌≡◌, Bool, true, false, ap, sym, ◌∙◌}
+use Rattle.std.proofs.Common.{◌≡◌, true, ap, sym, ◌∙◌}
 use Rattle.std.specs.Cmp.{IsTotalOrder}
 use Rattle.std.specs.Cmp.Lexicographic.{on_texts}
 use Rattle.std.proofs.lemmas.Cmp.{eq_by_cmp_equiv}

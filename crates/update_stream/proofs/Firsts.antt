@@ -1,12 +1,12 @@
 -- The records whose id none before has.
-use Rattle.std.proofs.Common.{◌≡◌, ℕ, Bool, true, false, cond, ◌||◌, List, [], ◌∷◌, ◌++◌, length, refl, sym, ap, ◌∙◌, append-nil, append_assoc, map, arith}
+use Rattle.std.proofs.Common.{◌≡◌, ℕ, Bool, true, false, cond, ◌||◌, List, [], ◌∷◌, ◌++◌, refl, sym, ap, ◌∙◌, append-nil, append_assoc, map}
 use Rattle.std.specs.List.{list_any}
 use Rattle.std.proofs.lemmas.List.Folds.{list_any-append}
 use Rattle.std.proofs.lemmas.List.{map-append}
 use Rattle.update_model.specs.declared.update_id.UpdateId.{UpdateId}
-use Rattle.update_model.specs.Entry.{Entry, same_id}
+use Rattle.update_model.specs.Entry.{same_id}
 use Rattle.update_model.specs.Graph.{holds}
-use Rattle.update_model.proofs.Ids.{id_from_same, same_id-symm, same_id-refl}
+use Rattle.update_model.proofs.Ids.{id_from_same}
 use Rattle.update_codec.specs.Parts.{id_of, entry_of}
 use Rattle.update_stream.specs.Stream.{has_id, firsts_after, firsts, graph_of}
 

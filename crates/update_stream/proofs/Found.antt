@@ -1,16 +1,16 @@
 -- What stands next in a source.
-use Rattle.std.proofs.Common.{◌≡◌, ◌≢◌, ℕ, ◌≤◌, ◌<◌, ◌+◌, ◌^◌, List, [], ◌∷◌, ◌++◌, length, refl, sym, ap, subst, ◌∙◌, append-nil, append_assoc, length-append, take, drop, length-take, Option, Some, None, IfSome, arith}
+use Rattle.std.proofs.Common.{◌≡◌, ◌≢◌, ℕ, ◌≤◌, ◌<◌, ◌+◌, ◌^◌, List, [], ◌++◌, length, sym, ap, subst, ◌∙◌, append_assoc, length-append, take, drop, length-take, Option, Some, None, arith}
 use Rattle.std.specs.Io.KnownBytes.{Consumes, IsAtEnd}
-use Rattle.std.specs.Int.{w32, from_be_bytes, to_be_bytes}
+use Rattle.std.specs.Int.{w32, to_be_bytes}
 use Rattle.std.proofs.KnownBytes.{Consumes-trans}
 use Rattle.std.proofs.lemmas.List.{take_all}
 use Rattle.std.proofs.Math.Seq.{take-append_seam}
 use Rattle.std.proofs.lemmas.Nat.{from_be_bytes-to_be_bytes_4}
 use Rattle.update_codec.specs.Stream.{framed}
 use Rattle.update_codec.proofs.StreamLemmas.{length-framed}
-use Rattle.update_stream.specs.declared.next_record.NextRecord.TheVariants.{Cut, Whole as WholeRecord}
+use Rattle.update_stream.specs.declared.next_record.NextRecord.TheVariants.{Cut}
 use Rattle.update_stream.specs.Stream.{BeginsWith, span_of}
-use Rattle.update_stream.specs.Steps.{StaysWithin, Finds}
+use Rattle.update_stream.specs.Steps.{Finds}
 use Rattle.update_stream.proofs.HasRead.{span_of-framed}
 
 pub span_of-number : (n : ℕ) (rest : List ℕ) → n < 2 ^ 32 → span_of (to_be_bytes w32 n ++ rest) ≡ 4 + n

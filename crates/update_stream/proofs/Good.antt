@@ -1,17 +1,14 @@
 -- Good records, and one more of them.
-use Rattle.std.proofs.Common.{◌≡◌, ◌≢◌, ℕ, Bool, true, false, cond, ◌⊎◌, inl, inr, ◌||◌, ◌&&◌, ◌≤◌, ◌<◌, ◌+◌, not, List, [], ◌∷◌, ◌++◌, length, refl, sym, ap, subst, ◌∙◌, append-nil, append_assoc, length-append, map, All, Option, Some, None, arith}
-use Rattle.std.specs.List.{AllByRecursion}
-use Rattle.std.proofs.lemmas.List.Elements.{All-push, All-cons, All-nil, All-head, All-tail}
-use Rattle.std.specs.Prelude.{slice_index_or, find}
+use Rattle.std.proofs.Common.{◌≡◌, ◌≢◌, ℕ, true, ◌<◌, List, [], ◌∷◌, ◌++◌, length, refl, sym, ap, subst, ◌∙◌, length-append, map, All, arith}
+use Rattle.std.proofs.lemmas.List.Elements.{All-push, All-cons, All-nil, All-head}
+use Rattle.std.specs.Prelude.{slice_index_or}
 use Rattle.std.proofs.lemmas.List.{map-append}
-use Rattle.update_model.specs.declared.update_id.UpdateId.{UpdateId}
-use Rattle.update_model.specs.Entry.{Entry, same_id}
-use Rattle.update_model.specs.Graph.{holds, lacking, IsNext, Follows, IsClosed, is_within}
+use Rattle.update_model.specs.Graph.{holds, IsNext, IsClosed, is_within}
 use Rattle.update_model.proofs.Closed.{Follows-push}
-use Rattle.update_codec.specs.Spelling.{IsSpelling, Spells}
+use Rattle.update_codec.specs.Spelling.{IsSpelling}
 use Rattle.update_codec.specs.Parts.{id_of, entry_of, database_of}
-use Rattle.update_stream.specs.Stream.{has_id, firsts_after, firsts, graph_of, AreGood, IsFor}
-use Rattle.update_stream.proofs.Firsts.{firsts-held, firsts-new, firsts_after-append, graph_of-append, holds-graph_of}
+use Rattle.update_stream.specs.Stream.{firsts, graph_of, AreGood, IsFor}
+use Rattle.update_stream.proofs.Firsts.{firsts-held, firsts-new}
 
 pub AreGood-none : (d : List ℕ) → AreGood d []
 AreGood-none d = record { spelled = All-nil IsSpelling; same = All-nil (λ r. database_of r ≡ d); closed = tt; within = refl; few = omega arith }

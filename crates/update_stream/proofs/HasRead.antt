@@ -1,19 +1,15 @@
 -- What was read so far, and what it tells at the end or where a record is refused.
-use Rattle.std.proofs.Common.{◌≡◌, ◌≢◌, ℕ, true, false, ◌⊎◌, inl, inr, ◌≤◌, ◌<◌, ◌+◌, ◌^◌, List, [], ◌∷◌, ◌++◌, length, refl, sym, ap, subst, ◌∙◌, append-nil, append_assoc, length-append, map, Option, Some, None, arith, IfSome, slice_index_or, take}
+use Rattle.std.proofs.Common.{◌≡◌, ◌≢◌, ℕ, inl, inr, ◌≤◌, ◌<◌, ◌+◌, ◌^◌, List, [], ◌∷◌, ◌++◌, length, refl, sym, ap, subst, ◌∙◌, append-nil, length-append, map, Option, Some, None, arith, IfSome, slice_index_or}
 use Rattle.std.specs.Io.KnownBytes.{Consumes, IsAtEnd}
-use Rattle.std.specs.Int.{w32, from_be_bytes, to_be_bytes}
 use Rattle.std.proofs.KnownBytes.{Consumes-nil, Consumes-trans}
 use Rattle.std.proofs.lemmas.Nat.{from_be_bytes-to_be_bytes_4}
-use Rattle.update_model.specs.declared.update_id.UpdateId.{UpdateId}
-use Rattle.update_model.specs.Entry.{Entry}
-use Rattle.update_model.specs.Graph.{holds, IsNext, is_within}
 use Rattle.update_codec.specs.Spelling.{IsSpelling, HasOperations}
 use Rattle.update_codec.specs.Stream.{framed, stream_of}
-use Rattle.update_codec.specs.Parts.{id_of, entry_of, database_of}
+use Rattle.update_codec.specs.Parts.{entry_of, database_of}
 use Rattle.update_stream.specs.declared.record_fault.RecordFault.{RecordFault}
 use Rattle.update_stream.specs.declared.record_fault.RecordFault.TheVariants.{Misspelled, Operations, OtherDatabase, Lacks, Full}
-use Rattle.update_stream.specs.declared.next_record.NextRecord.TheVariants.{End, Cut, Whole as WholeRecord}
-use Rattle.update_stream.specs.Stream.{firsts, graph_of, AreGood, IsFor, IsWhole, BeginsWith, BeginsWithUpdate, LacksPredecessor, PassesLimit, HasFault, IsStop, IsRefused, span_of}
+use Rattle.update_stream.specs.declared.next_record.NextRecord.TheVariants.{Cut}
+use Rattle.update_stream.specs.Stream.{firsts, AreGood, IsWhole, BeginsWith, LacksPredecessor, PassesLimit, HasFault, IsStop, IsRefused, span_of}
 use Rattle.update_stream.specs.Steps.{StaysWithin, Finds, IsForThem, Adds, Takes}
 use Rattle.update_codec.proofs.StreamLemmas.{length-framed}
 use Rattle.update_stream.proofs.Frames.{stream_of-push, stream_of-nil}

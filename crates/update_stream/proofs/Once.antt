@@ -1,23 +1,21 @@
 -- A stream has one reading.
-use Rattle.std.proofs.Common.{◌≡◌, ◌≢◌, ℕ, Bool, true, false, cond, ◌⊎◌, inl, inr, ◌||◌, ◌&&◌, ◌≤◌, ◌<◌, ◌+◌, not, nat_le, List, [], ◌∷◌, ◌++◌, length, refl, sym, ap, subst, ◌∙◌, append-nil, append_assoc, length-append, map, All, Option, Some, None, arith, sum_by}
-use Rattle.std.specs.List.{list_any}
-use Rattle.std.proofs.lemmas.List.Elements.{All-push, All-cons, All-nil, All-head, All-tail, All-append}
-use Rattle.std.specs.Prelude.{slice_index_or, find}
-use Rattle.std.proofs.lemmas.List.{map-append}
+use Rattle.std.proofs.Common.{◌≡◌, ◌≢◌, ℕ, Bool, true, false, ◌⊎◌, inl, inr, ◌≤◌, ◌<◌, ◌+◌, not, List, [], ◌∷◌, ◌++◌, length, refl, sym, ap, subst, ◌∙◌, append-nil, append_assoc, length-append, map, All, None, arith}
+use Rattle.std.proofs.lemmas.List.Elements.{All-head, All-tail}
+use Rattle.std.specs.Prelude.{find}
 use Rattle.std.proofs.lemmas.List.Sums.{sum_by-append}
 use Rattle.std.proofs.lemmas.Bool.Decides.{nat_tests}
 use Rattle.update_model.specs.declared.update_id.UpdateId.{UpdateId}
-use Rattle.update_model.specs.Entry.{Entry, same_id}
-use Rattle.update_model.specs.Graph.{holds, lacking, IsNext, Follows, IsClosed, is_within, byte_count}
+use Rattle.update_model.specs.Entry.{Entry}
+use Rattle.update_model.specs.Graph.{holds, IsNext, Follows, IsClosed, is_within}
 use Rattle.update_codec.specs.Spelling.{IsSpelling, Spells, HasOperations}
 use Rattle.update_codec.specs.Stream.{framed, stream_of}
 use Rattle.update_codec.specs.Parts.{id_of, entry_of, database_of}
 use Rattle.update_stream.specs.declared.record_fault.RecordFault.{RecordFault}
 use Rattle.update_stream.specs.declared.record_fault.RecordFault.TheVariants.{Misspelled, Operations, OtherDatabase, Lacks, Full}
-use Rattle.update_stream.specs.Stream.{has_id, firsts_after, firsts, graph_of, AreGood, IsFor, IsWhole, BeginsWith, BeginsWithUpdate, LacksPredecessor, PassesLimit, HasFault, IsStop, IsRefused, span_of}
+use Rattle.update_stream.specs.Stream.{has_id, firsts_after, firsts, graph_of, AreGood, IsFor, IsWhole, BeginsWith, BeginsWithUpdate, LacksPredecessor, PassesLimit, HasFault, IsStop, IsRefused}
 use Rattle.update_codec.proofs.StreamLemmas.{framed_one as one_frame}
 use Rattle.update_stream.proofs.Frames.{no_update, stream_of-cons, stream_of-nil, framed_some}
-use Rattle.update_stream.proofs.Firsts.{firsts_after-append, graph_of-append, holds-graph_of}
+use Rattle.update_stream.proofs.Firsts.{graph_of-append, holds-graph_of}
 
 -- ---- two lists of records of one stream
 

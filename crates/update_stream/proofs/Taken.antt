@@ -1,16 +1,15 @@
 -- What taking a record does.
-use Rattle.std.proofs.Common.{◌≡◌, ◌⊎◌, inl, inr, ℕ, Bool, true, false, List, [], ◌∷◌, ◌++◌, length, refl, sym, ap, ◌∙◌, map, Option, Some, None, Result, Ok, Err}
+use Rattle.std.proofs.Common.{◌≡◌, inl, inr, ℕ, Bool, true, false, List, [], ◌∷◌, ◌++◌, length, refl, sym, ap, ◌∙◌, map, Option, Some, None, Ok, Err}
 use Rattle.std.specs.Bool.{OnTrue, OnFalse}
 use Rattle.std.specs.Option.{is_some}
 use Rattle.update_model.specs.declared.update_id.UpdateId.{UpdateId}
 use Rattle.update_model.specs.Entry.{Entry}
-use Rattle.update_model.specs.Graph.{holds, position_of, lacking, is_within, IsNext}
+use Rattle.update_model.specs.Graph.{holds, position_of, lacking, is_within}
 use Rattle.update_model.proofs.Closed.{position_of-held, IsNext-from_tests}
 use Rattle.update_codec.specs.Parts.{entry_of}
 use Rattle.hash_graph.specs.declared.added.Added.{Added}
 use Rattle.hash_graph.specs.declared.added.Added.TheVariants.{New, Known}
-use Rattle.hash_graph.specs.declared.refusal.Refusal.{Refusal}
-use Rattle.hash_graph.specs.declared.refusal.Refusal.TheVariants.{Lacks, Full, Memory}
+use Rattle.hash_graph.specs.declared.refusal.Refusal.TheVariants.{Lacks, Full}
 use Rattle.hash_graph.specs.Answer.{answer_by, answer_of, list_after}
 use Rattle.update_stream.specs.Stream.{LacksPredecessor, PassesLimit}
 use Rattle.update_stream.specs.Steps.{Adds}

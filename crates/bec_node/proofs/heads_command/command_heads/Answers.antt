@@ -1,4 +1,4 @@
-use Rattle.std.proofs.Common.{◌≡◌, ℕ, codes, inl}
+use Rattle.std.proofs.Common.{codes, inl}
 use Rattle.std.proofs.KnownBytes.{Appends-nil}
 use Rattle.bec_node.proofs.Command.{one_word, more_words, not_four, status_said, answer_said, reply_said, reply_put, fault_put, only_put, line_put, fault_words}
 use Rattle.bec_node.proofs.heads_command.command_heads.Goals as goal

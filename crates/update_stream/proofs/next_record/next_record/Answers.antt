@@ -1,6 +1,5 @@
-use Rattle.std.proofs.Common.{◌≡◌, ℕ, List, ◌<◌, ◌≤◌, ◌^◌, ◌∙◌, sym, subst, length, take, arith}
+use Rattle.std.proofs.Common.{◌≡◌, ℕ, List, ◌<◌, ◌≤◌, ◌∙◌, sym, subst, length, arith}
 use Rattle.std.specs.Io.KnownBytes.{Consumes}
-use Rattle.std.specs.Int.{w32, to_be_bytes}
 use Rattle.update_codec.specs.Stream.{framed}
 use Rattle.update_stream.proofs.Found.{found_stump, found_long, found_cut, found_whole, rewritten, taken_whole}
 use Rattle.update_stream.proofs.next_record.next_record.Goals as goal

@@ -1,4 +1,4 @@
-use Rattle.std.proofs.Common.{◌≡◌, ℕ, List, Option, sym, subst, arith}
+use Rattle.std.proofs.Common.{ℕ, List, Option, sym, subst, arith}
 use Rattle.update_stream.specs.declared.next_record.NextRecord.{NextRecord}
 use Rattle.update_stream.specs.declared.record_fault.RecordFault.{RecordFault}
 use Rattle.update_stream.specs.Steps.{Finds, Takes}

@@ -1,4 +1,4 @@
-use Rattle.std.proofs.Common.{◌≡◌, ℕ, List, map, subst, Some, None, Err, Ok}
+use Rattle.std.proofs.Common.{ℕ, List, map, subst, Some, None}
 use Rattle.hash_graph.specs.declared.refusal.Refusal.{Refusal}
 use Rattle.hash_graph.specs.Answer.{answer_of, IsRefusedBy}
 use Rattle.update_codec.specs.Parts.{entry_of, update_of}
