@@ -1,0 +1,4 @@
+pub mod Checksum
+pub mod Comparisons
+pub mod Meaning
+pub mod Sides
