@@ -1,7 +1,7 @@
 -- Sides of a comparison, as they are computed.
 use Rattle.update_model.specs.declared.value.Value.{Value}
-use Rattle.row_check.specs.declared.evaluation.Side.{Side}
-use Rattle.row_check.specs.declared.evaluation.Side.TheVariants.{Lent, Length}
+use Rattle.row_check.specs.declared.side.Side.{Side}
+use Rattle.row_check.specs.declared.side.Side.TheVariants.{Lent, Length}
 
 -- the value of a side
 abbrev pub side_value : Side → Value

@@ -1,5 +1,5 @@
-ghost use Rattle.std.specs.Prelude.{◌≡◌};
-ghost use Rattle.row_check.specs.Comparisons.{compares, order_of};
+ghost use Rattle.std.specs.Prelude.{◌≡◌, ◌↔◌, IsTrue};
+ghost use Rattle.row_check.specs.Comparisons.{compares, order_of, AreComparable};
 
 use crate::Cmp;
 use std::cmp::Ordering;
@@ -27,5 +27,19 @@ fn order(left: &Value, right: &Value) -> Option<Ordering>
         (Value::Text(a), Value::Text(b)) => Some(a.as_slice().cmp(b.as_slice())),
         (Value::Flag(a), Value::Flag(b)) => Some(a.cmp(b)),
         _ => None,
+    }
+}
+
+/// Whether the sides, where neither is null, are both integers, both texts or both flags.
+pub(crate) fn are_comparable(left: &Value, right: &Value) -> bool
+    ensures { IsTrue result ↔ AreComparable left.now right.now }
+{
+    match (left, right) {
+        (Value::Null, _) => true,
+        (_, Value::Null) => true,
+        (Value::Int(_), Value::Int(_)) => true,
+        (Value::Text(_), Value::Text(_)) => true,
+        (Value::Flag(_), Value::Flag(_)) => true,
+        _ => false,
     }
 }

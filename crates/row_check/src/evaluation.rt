@@ -1,8 +1,8 @@
 ghost use Rattle.std.specs.Prelude.{◌≡◌, ◌<◌, length, map, All, IfOk};
 ghost use Rattle.row_check.specs.Comparisons.{compares};
-ghost use Rattle.row_check.specs.Meaning.{holds, term_value, value_at, length_of, is_null, FitsRow, FitsTerm};
-ghost use Rattle.row_check.specs.Sides.{side_value};
+ghost use Rattle.row_check.specs.Meaning.{holds, term_value, value_at, is_null, FitsRow, FitsTerm};
 
+use crate::side::side_of;
 use crate::{Checks, Cmp, Expr, Native, Relation, Term, compare};
 use std::alloc::{AllocError, Global};
 use update_model::Value;
@@ -40,52 +40,12 @@ fn is_null(value: &Value) -> bool
     matches!(value, Value::Null)
 }
 
-/// A side of a comparison: a value that stands in the row or in the expression, or a length.
-#[derive(Drop)]
-enum Side<'a> {
-    Lent(&'a Value),
-    Length(Value),
-}
-
-impl Side<'_> {
-    fn value(&self) -> &Value
-        ensures { result.now ≡ side_value self.now }
-    {
-        match self {
-            Side::Lent(value) => value,
-            Side::Length(value) => value,
-        }
-    }
-}
-
 fn compare_terms(cmp: Cmp, left: &Term, right: &Term, row: &[Value]) -> bool
     requires left { FitsTerm row.now left.now }
     requires right { FitsTerm row.now right.now }
     ensures { result ≡ compares cmp (term_value row.now left.now) (term_value row.now right.now) }
 {
     compare(cmp, side_of(left, row).value(), side_of(right, row).value())
-}
-
-/// The value of a term.
-fn side_of<'a>(term: &'a Term, row: &'a [Value]) -> Side<'a>
-    requires { FitsTerm row.now term.now }
-    ensures { side_value result ≡ term_value row.now term.now }
-{
-    match term {
-        Term::Column(column) => Side::Lent(&row[usize::from(*column)]),
-        Term::Literal(value) => Side::Lent(value),
-        Term::Length(column) => Side::Length(measure(&row[usize::from(*column)])),
-    }
-}
-
-/// The length of a text in bytes, or null.
-fn measure(value: &Value) -> Value
-    ensures { result ≡ length_of value.now }
-{
-    match value {
-        Value::Text(text) => Value::Int(text.as_slice().len() as i64),
-        _ => Value::Null,
-    }
 }
 
 /// The values in these columns.
