@@ -1,12 +1,11 @@
 //! The program `bec`: it makes the real objects, calls [`bec_node::run`], and ends with its status.
 #![tactic(auto)]
 
+use bec_host::{HostSink, HostSource};
+use bec_node::run;
 use std::alloc::AllocError;
 use std::env;
 use std::process::ExitCode;
-
-use bec_host::{HostSink, HostSource};
-use bec_node::run;
 
 /// The status for want of memory, as [`run`] gives it.
 const OUT_OF_MEMORY: u8 = 5;

@@ -3,6 +3,7 @@
 use crate::run;
 use bec_bytes::{MemSink, MemSource, PlainSink, PlainSource};
 use std::alloc::{AllocError, Global};
+use std::process::Abort;
 use std::test::Fail;
 
 const ROOT: &str = "f2fbce917eb9932b1ae7f39687fe1759579cbf8fd0aca3a757d242b2ebd6ea5b";
@@ -62,75 +63,65 @@ fn heads(alloc: Global, bytes: Vec<u8>) -> Result<(u8, Vec<u8>), Fail> {
     Ok((status, Vec::from_slice(alloc, out.bytes())?))
 }
 
+/// Runs `heads` over these records, and holds the status and the text to what is wanted.
+fn expect_heads(
+    rt: &(impl Abort + AllocGlobal),
+    records: &[&[u8]],
+    status: u8,
+    text: &str,
+) -> Result<(), Fail> {
+    let (got, written) = heads(rt.alloc(), stream(rt.alloc(), records)?)?;
+    let written = str::from_utf8(&written)?;
+    assert_eq!(rt; got, status, "{text}");
+    assert_eq!(rt; written.trim_end(), text);
+    Ok(())
+}
+
 #[test]
-fn prints_heads_or_the_first_refusal(rt: HostRuntime) -> Result<(), Fail> {
+fn prints_heads(rt: HostRuntime) -> Result<(), Fail> {
     let alloc = rt.alloc();
     let root = record(alloc, 0xdd, 0, &[])?;
     let child = record(alloc, 0xdd, 0, &[ROOT])?;
     let other_root = record(alloc, 0xdd, 0x30, &[])?;
     let join = record(alloc, 0xdd, 0, &[OTHER_ROOT, ROOT])?;
+    let both = format!(in alloc; "{OTHER_ROOT}\n{ROOT}")?;
+    expect_heads(&rt, &[], 0, "")?;
+    expect_heads(&rt, &[&root, &child], 0, CHILD)?;
+    expect_heads(&rt, &[&root, &child, &child], 0, CHILD)?;
+    expect_heads(&rt, &[&root, &other_root], 0, &both)?;
+    expect_heads(&rt, &[&root, &other_root, &join], 0, JOIN)
+}
+
+#[test]
+fn names_the_first_refusal(rt: HostRuntime) -> Result<(), Fail> {
+    let alloc = rt.alloc();
+    let root = record(alloc, 0xdd, 0, &[])?;
+    let child = record(alloc, 0xdd, 0, &[ROOT])?;
+    let other_root = record(alloc, 0xdd, 0x30, &[])?;
     let swapped = record(alloc, 0xdd, 0, &[ROOT, OTHER_ROOT])?;
     let foreign = record(alloc, 0xee, 0, &[])?;
     let mut with_operations = root.clone()?;
-    let mut cut = root.clone()?;
-    cut.truncate(704);
-    let long = [0u8, 4, 0, 1];
     assert!(rt; with_operations.len() == 1393);
     with_operations[96] = 1;
-    let lacks = format!(in alloc; "! update 1: lacks {ROOT}\n")?;
-    for (name, records, status, text) in [
-        ("nothing", [].as_slice(), 0, ""),
-        ("a chain", [&root[..], &child[..]].as_slice(), 0, CHILD),
-        (
-            "a repeated record",
-            [&root[..], &child[..], &child[..]].as_slice(),
-            0,
-            CHILD,
-        ),
-        (
-            "a join",
-            [&root[..], &other_root[..], &join[..]].as_slice(),
-            0,
-            JOIN,
-        ),
-        (
-            "predecessors out of order",
-            [&root[..], &other_root[..], &swapped[..]].as_slice(),
-            1,
-            "! update 3: misspelled\n",
-        ),
-        ("no predecessor", [&child[..]].as_slice(), 1, lacks.as_str()),
-        (
-            "operations",
-            [&with_operations[..]].as_slice(),
-            1,
-            "! update 1: operations\n",
-        ),
-        (
-            "a cut record",
-            [&cut[..]].as_slice(),
-            1,
-            "! update 1: misspelled\n",
-        ),
-        (
-            "a length that is too long",
-            [&long[..]].as_slice(),
-            1,
-            "! update 1: misspelled\n",
-        ),
-        (
-            "another database",
-            [&root[..], &foreign[..], &cut[..]].as_slice(),
-            1,
-            "! update 2: other database\n",
-        ),
-    ] {
-        let (got, written) = heads(alloc, stream(alloc, records)?)?;
-        assert_eq!(rt; got, status, "{name}");
-        let written = str::from_utf8(&written)?;
-        assert_eq!(rt; written.trim_end(), text.trim_end(), "{name}");
-    }
-    Ok(())
+    let mut cut = root.clone()?;
+    cut.truncate(704);
+    let lacks = format!(in alloc; "! update 1: lacks {ROOT}")?;
+    expect_heads(
+        &rt,
+        &[&root, &other_root, &swapped],
+        1,
+        "! update 3: misspelled",
+    )?;
+    expect_heads(&rt, &[&child], 1, &lacks)?;
+    expect_heads(&rt, &[&with_operations], 1, "! update 1: operations")?;
+    expect_heads(&rt, &[&cut], 1, "! update 1: misspelled")?;
+    expect_heads(&rt, &[&[0, 4, 0, 1]], 1, "! update 1: misspelled")?;
+    expect_heads(
+        &rt,
+        &[&root, &foreign, &cut],
+        1,
+        "! update 2: other database",
+    )
 }
 
 #[test]

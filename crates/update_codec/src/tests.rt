@@ -24,9 +24,9 @@ fn written(alloc: Global, preds: &[u8]) -> Result<Vec<u8>, AllocError> {
     Ok(bytes)
 }
 
-/// Whether the bytes are written again from what is read of them, and their front by `encode_body`.
+/// Whether the bytes are written again from a copy of what is read of them, and their front by `encode_body`.
 fn are_written_again(alloc: Global, bytes: &[u8]) -> Result<bool, Fail> {
-    let update = decode(alloc, bytes)?;
+    let update = decode(alloc, bytes)?.copy(alloc)?;
     let again = encode(alloc, &update)?;
     let message = encode_body(alloc, &update.body)?;
     Ok(

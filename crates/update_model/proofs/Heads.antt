@@ -59,9 +59,9 @@ same_first x y xs ys over_x over_y at_x at_y =
     elim (or_cases (same_id x y) (has ys x) x_there) [
       | inl s ↦ id_from_same x y s
       | inr under ↦ elim (or_cases (same_id y x) (has xs y) y_there) [
-          | inl s ↦ sym (id_from_same y x s)
-          | inr over ↦ absurd (both_less x y (less_than_member x y xs over_x over) (less_than_member y x ys over_y under))
-        ]
+        | inl s ↦ sym (id_from_same y x s)
+        | inr over ↦ absurd (both_less x y (less_than_member x y xs over_x over) (less_than_member y x ys over_y under))
+      ]
     ]
 
 same_rest : (x q : UpdateId) (xs ys : List UpdateId) → AllByRecursion (λ z. id_cmp x z ≡ Less) xs → AllByRecursion (λ z. id_cmp x z ≡ Less) ys
@@ -122,12 +122,12 @@ not_named before xs x closed next e =
     elim (or_cases (names before x.id) (has x.preds x.id || names xs x.id) parts) [
       | inl earlier ↦ absurd (let held = holds-named [] before x.id closed earlier in let new = next.new in cc)
       | inr rest ↦ elim (or_cases (has x.preds x.id) (names xs x.id) rest) [
-          | inl own ↦ absurd (let w = witness (same_id x.id) x.preds own in
-              let held : holds before w.0 ≡ true = All-contains (λ p. holds before p ≡ true) x.preds w.0 next.preds w.1 in
-              let same = id_from_same x.id w.0 w.2 in
-              let new = next.new in cc)
-          | inr later ↦ later
-        ]
+        | inl own ↦ absurd (let w = witness (same_id x.id) x.preds own in
+            let held : holds before w.0 ≡ true = All-contains (λ p. holds before p ≡ true) x.preds w.0 next.preds w.1 in
+            let same = id_from_same x.id w.0 w.2 in
+            let new = next.new in cc)
+        | inr later ↦ later
+      ]
     ]
 
 climb : (graph : List Entry) (x f : Entry) → Contains graph x → Contains graph f → has f.preds x.id ≡ true → IsCovered graph f → IsCovered graph x
@@ -152,6 +152,7 @@ covered_first before xs x closed next later = by_case (names (before ++ x ∷ xs
   where
     held : Contains (before ++ x ∷ xs) x
     held = Contains-append_right before (x ∷ xs) x (first_member x xs)
+
     by_case : (b : Bool) → names (before ++ x ∷ xs) x.id ≡ b → IsCovered (before ++ x ∷ xs) x
     by_case false e = (x, held, e, inl refl)
     by_case true e =
@@ -162,7 +163,7 @@ pub covered : (before es : List Entry) → Follows [] before → Follows before 
 covered before [] closed f e c = absurd (omega (arith, c.1))
 covered before (x ∷ xs) closed f e c =
     let later : (m : Entry) → Contains xs m → IsCovered (before ++ x ∷ xs) m =
-        λ m held. let P : List Entry → Type 0 = λ g. IsCovered g m in subst P (append_assoc before (x ∷ []) xs) (covered (before ++ x ∷ []) xs (Follows-push [] before x closed f.0) f.1 m held) in
+    λ m held. let P : List Entry → Type 0 = λ g. IsCovered g m in subst P (append_assoc before (x ∷ []) xs) (covered (before ++ x ∷ []) xs (Follows-push [] before x closed f.0) f.1 m held) in
     elim (cons_cases x xs e c) [
       | inl is ↦ let P : Entry → Type 0 = λ m. IsCovered (before ++ x ∷ xs) m in subst P is (covered_first before xs x closed f.0 later)
       | inr held ↦ later e held

@@ -1,9 +1,8 @@
 ghost use Rattle.std.specs.Prelude.{◌≡◌, IfOk};
 
+use crate::{AuthorKey, IdList};
 use std::alloc::{AllocError, Global};
 use std::marker::Model;
-
-use crate::{AuthorKey, IdList};
 
 /// What an author signs: the database, who writes, and which updates came directly before.
 ///

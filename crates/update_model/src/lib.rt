@@ -24,6 +24,8 @@ mod member;
 mod op;
 mod op_list;
 mod row_name;
+#[cfg(test)]
+mod tests;
 mod text_value;
 mod update;
 mod update_id;

@@ -1,9 +1,8 @@
 ghost use Rattle.std.specs.Prelude.{◌≡◌, IfOk};
 
+use crate::{Body, ByteList};
 use std::alloc::{AllocError, Global};
 use std::marker::Model;
-
-use crate::{Body, ByteList};
 
 /// An update: a body and its author's signature, which has as many bytes as the author's key asks for.
 #[derive(Debug, Drop)]

@@ -38,7 +38,7 @@ any-firsts_after q before [] = refl
 any-firsts_after q before (r ∷ rs) =
     let more = any-firsts_after q (before ++ r ∷ []) rs in
     let shown : (any_id q before || (same_id q (id_of r) || false) || any_id q (firsts_after (before ++ r ∷ []) rs)) ≡ (any_id q before || (same_id q (id_of r) || false) || any_id q rs) =
-        rw list_any-append at more in
+    rw list_any-append at more in
     by_case (has_id before r) refl shown
   where
     by_case : (b : Bool) → has_id before r ≡ b
@@ -56,7 +56,7 @@ firsts_after-append before (r ∷ rs) more =
     let e = firsts_after-append (before ++ r ∷ []) rs more in
     let same = append_assoc before (r ∷ []) rs in
     ap (λ (t : List (List ℕ)). cond (has_id before r) [] (r ∷ []) ++ t) (e ∙ ap (λ (b : List (List ℕ)). firsts_after (before ++ r ∷ []) rs ++ firsts_after b more) same)
-      ∙ sym (append_assoc (cond (has_id before r) [] (r ∷ [])) (firsts_after (before ++ r ∷ []) rs) (firsts_after (before ++ r ∷ rs) more))
+    ∙ sym (append_assoc (cond (has_id before r) [] (r ∷ [])) (firsts_after (before ++ r ∷ []) rs) (firsts_after (before ++ r ∷ rs) more))
 
 pub graph_of-append : (records more : List (List ℕ)) → graph_of (records ++ more) ≡ graph_of records ++ map entry_of (firsts_after records more)
 graph_of-append records more = ap (λ (t : List (List ℕ)). map entry_of t) (firsts_after-append [] records more) ∙ map-append entry_of (firsts records) (firsts_after records more)

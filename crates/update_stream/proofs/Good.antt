@@ -40,7 +40,7 @@ pub AreGood-new : (d : List ℕ) (records : List (List ℕ)) (r : List ℕ) → 
     → IsNext (graph_of records) (entry_of r) → is_within (graph_of records ++ entry_of r ∷ []) ≡ true → AreGood (database_of r) (records ++ r ∷ [])
 AreGood-new d records r good spelled for few next within =
     let same : graph_of (records ++ r ∷ []) ≡ graph_of records ++ entry_of r ∷ [] =
-        ap (λ (rs : List (List ℕ)). map entry_of rs) (firsts-new records r next.new) ∙ map-append entry_of (firsts records) (r ∷ []) in
+    ap (λ (rs : List (List ℕ)). map entry_of rs) (firsts-new records r next.new) ∙ map-append entry_of (firsts records) (r ∷ []) in
     record {
       spelled = All-push IsSpelling records r good.spelled spelled;
       same = same_database d records r good.same for;

@@ -43,10 +43,22 @@ HasRead-more a b c members after n r h few given taken =
     let added : Adds (firsts h.records) r after = (let P : List (List ℕ) → Type 0 = λ ms. Adds ms r after in subst P h.firsts_of taken.2) in
     let all : Consumes a c (stream_of (h.records ++ r ∷ [])) = rw stream_of-push (Consumes-trans a b c (stream_of h.records) (framed r) h.given given) in
     elim added [
-      | inl held ↦ record { database = database_of r; records = h.records ++ r ∷ []; good = AreGood-held h.database h.records r h.good taken.0 for short held.0;
-          firsts_of = held.1 ∙ sym (firsts-held h.records r held.0); counted = omega (arith, length-append h.records (r ∷ []), counted); given = all }
-      | inr next ↦ record { database = database_of r; records = h.records ++ r ∷ []; good = AreGood-new h.database h.records r h.good taken.0 for short next.0 next.1;
-          firsts_of = next.2 ∙ sym (firsts-new h.records r next.0.new); counted = omega (arith, length-append h.records (r ∷ []), counted); given = all }
+      | inl held ↦ record {
+        database = database_of r;
+        records = h.records ++ r ∷ [];
+        good = AreGood-held h.database h.records r h.good taken.0 for short held.0;
+        firsts_of = held.1 ∙ sym (firsts-held h.records r held.0);
+        counted = omega (arith, length-append h.records (r ∷ []), counted);
+        given = all;
+      }
+      | inr next ↦ record {
+        database = database_of r;
+        records = h.records ++ r ∷ [];
+        good = AreGood-new h.database h.records r h.good taken.0 for short next.0 next.1;
+        firsts_of = next.2 ∙ sym (firsts-new h.records r next.0.new);
+        counted = omega (arith, length-append h.records (r ∷ []), counted);
+        given = all;
+      }
     ]
 
 pub told_end : (a b c : Option (List ℕ)) (members : List (List ℕ)) (n : ℕ) → HasRead a b members n → IsAtEnd b → Consumes b c []
@@ -92,23 +104,33 @@ stays (Some ys) (Some zs) r short given =
 
 fault_of : (d : List ℕ) (records : List (List ℕ)) (r more after : List ℕ) (members result : List (List ℕ)) (fault : RecordFault) → AreGood d records → members ≡ firsts records
     → BeginsWith more r → Takes members r result (Some fault) → HasFault d records more fault
-fault_of d records r more after members result Misspelled good is begins taken = (some more r begins, λ s again.
-    (λ spelled. taken.0 (let P : List ℕ → Type 0 = IsSpelling in subst P (one_record more s r again begins) spelled),
-     λ ops. taken.1 (let P : List ℕ → Type 0 = HasOperations in subst P (one_record more s r again begins) ops)))
+fault_of d records r more after members result Misspelled good is begins taken = (
+  some more r begins,
+  λ s again. (
+    λ spelled. taken.0 (let P : List ℕ → Type 0 = IsSpelling in subst P (one_record more s r again begins) spelled),
+    λ ops. taken.1 (let P : List ℕ → Type 0 = HasOperations in subst P (one_record more s r again begins) ops),
+  ),
+)
   where
     some : (bytes w : List ℕ) → BeginsWith bytes w → 0 < length bytes
     some bytes w b = let parts = ap length b.parts in let size = length-framed w in omega (arith, length-append (framed w) b.more)
 fault_of d records r more after members result Operations good is begins taken = (r, begins, taken)
 fault_of d records r more after members result OtherDatabase good is begins taken =
     let other = IsForOthers-members d records r good (subst (λ (ms : List (List ℕ)). 0 < length ms) is taken.1.0)
-      (subst (λ (ms : List (List ℕ)). database_of r ≢ database_of (slice_index_or ms 0 [])) is taken.1.1) in
+    (subst (λ (ms : List (List ℕ)). database_of r ≢ database_of (slice_index_or ms 0 [])) is taken.1.1) in
     (r, record { begins = begins; spelled = taken.0 }, other.0, other.1)
-fault_of d records r more after members result (Lacks id) good is begins taken =
-    (r, record { begins = begins; spelled = taken.0 }, IsFor-members d records r good (subst (λ (ms : List (List ℕ)). IsForThem ms r) is taken.1),
-     subst (λ (ms : List (List ℕ)). LacksPredecessor (map entry_of ms) (entry_of r) id) is taken.2)
-fault_of d records r more after members result Full good is begins taken =
-    (r, record { begins = begins; spelled = taken.0 }, IsFor-members d records r good (subst (λ (ms : List (List ℕ)). IsForThem ms r) is taken.1),
-     subst (λ (ms : List (List ℕ)). PassesLimit (map entry_of ms) (entry_of r)) is taken.2)
+fault_of d records r more after members result (Lacks id) good is begins taken = (
+  r,
+  record { begins = begins; spelled = taken.0 },
+  IsFor-members d records r good (subst (λ (ms : List (List ℕ)). IsForThem ms r) is taken.1),
+  subst (λ (ms : List (List ℕ)). LacksPredecessor (map entry_of ms) (entry_of r) id) is taken.2,
+)
+fault_of d records r more after members result Full good is begins taken = (
+  r,
+  record { begins = begins; spelled = taken.0 },
+  IsFor-members d records r good (subst (λ (ms : List (List ℕ)). IsForThem ms r) is taken.1),
+  subst (λ (ms : List (List ℕ)). PassesLimit (map entry_of ms) (entry_of r)) is taken.2,
+)
 
 pub told_fault : (a b c : Option (List ℕ)) (members after : List (List ℕ)) (n : ℕ) (r : List ℕ) (fault : RecordFault) → HasRead a b members n → n < 262144
     → length r ≤ 262144 → Consumes b c (framed r) → Takes members r after (Some fault)
@@ -118,8 +140,10 @@ told_fault a b c members after n r fault h few short given taken = told_stop a b
     stop : (o p : Option (List ℕ)) → Consumes o p (framed r) → IfSome o (λ bytes. IsStop h.database h.records bytes fault)
     stop None p g = tt
     stop (Some ys) None g = absurd g
-    stop (Some ys) (Some zs) g = inl (let counted = h.counted in omega arith,
-      fault_of h.database h.records r ys [] members after fault h.good h.firsts_of (record { short = short; more = zs; parts = g }) taken)
+    stop (Some ys) (Some zs) g = inl (
+      let counted = h.counted in omega arith,
+      fault_of h.database h.records r ys [] members after fault h.good h.firsts_of (record { short = short; more = zs; parts = g }) taken,
+    )
 
 pub told_limit : (a b c : Option (List ℕ)) (members : List (List ℕ)) (n : ℕ) (bytes : List ℕ) → HasRead a b members n → n ≡ 262144 → Consumes b c bytes
     → 0 < length bytes → length bytes ≤ 4 → IfSome a (λ input. (rest : List ℕ) × (c ≡ Some rest) × IsRefused input rest (n + 1) Full)
@@ -129,6 +153,7 @@ told_limit a b c members n bytes h many given some few = told_stop a b c members
     stop None p g = tt
     stop (Some ys) None g = absurd g
     stop (Some ys) (Some zs) g = inr (let counted = h.counted in omega arith, (let size = ap length g in omega (arith, length-append bytes zs)), refl)
+
     spans : (o : Option (List ℕ)) → IfSome o (λ w. length bytes ≤ span_of w)
     spans None = tt
     spans (Some ys) = omega arith

@@ -55,16 +55,16 @@ lines_up (x ∷ xs) [] rest other s t e =
     inr (inl (record { next = x; more = xs; tail = stream_of xs ++ rest; parts = refl; begins = begins }))
 lines_up (x ∷ xs) (y ∷ ys) rest other s t e =
     let begins : framed x ++ (stream_of xs ++ rest) ≡ framed y ++ (stream_of ys ++ other) =
-        sym (append_assoc (framed x) (stream_of xs) rest) ∙ ap (λ (w : List ℕ). w ++ rest) (sym (stream_of-cons x xs)) ∙ e
-          ∙ ap (λ (w : List ℕ). w ++ other) (stream_of-cons y ys) ∙ append_assoc (framed y) (stream_of ys) other in
+    sym (append_assoc (framed x) (stream_of xs) rest) ∙ ap (λ (w : List ℕ). w ++ rest) (sym (stream_of-cons x xs)) ∙ e
+    ∙ ap (λ (w : List ℕ). w ++ other) (stream_of-cons y ys) ∙ append_assoc (framed y) (stream_of ys) other in
     let first = one_frame x y (stream_of xs ++ rest) (stream_of ys ++ other) (All-head (λ r. length r ≤ 262144) x xs s) (All-head (λ r. length r ≤ 262144) y ys t) begins in
     let later = lines_up xs ys rest other (All-tail (λ r. length r ≤ 262144) x xs s) (All-tail (λ r. length r ≤ 262144) y ys t) first.1 in
     elim later [
       | inl g ↦ inl (let P : List ℕ → Type 0 = λ w. GoesOn (x ∷ xs) (w ∷ ys) rest in subst P first.0 (one_more x xs ys rest g))
       | inr more ↦ elim more [
-          | inl g ↦ inr (inl (let P : List ℕ → Type 0 = λ w. GoesOn (w ∷ ys) (x ∷ xs) other in subst P first.0 (one_more x ys xs other g)))
-          | inr same ↦ inr (inr (let heads = first.0 in let tails = same.0 in cc, same.1))
-        ]
+        | inl g ↦ inr (inl (let P : List ℕ → Type 0 = λ w. GoesOn (w ∷ ys) (x ∷ xs) other in subst P first.0 (one_more x ys xs other g)))
+        | inr same ↦ inr (inr (let heads = first.0 in let tails = same.0 in cc, same.1))
+      ]
     ]
 
 -- ---- nothing is refused where a good list goes on
@@ -94,7 +94,7 @@ next_of_longer records r more closed within = by_case (has_id records r) refl
         let longer : graph_of (records ++ r ∷ more) ≡ graph_of records ++ entry_of r ∷ map entry_of (firsts_after (records ++ r ∷ []) more) = graph_of-append records (r ∷ more) ∙ rw e refl in
         let follows = Follows-split [] (graph_of records) (entry_of r ∷ map entry_of (firsts_after (records ++ r ∷ []) more)) (subst IsClosed longer closed) in
         let all : is_within ((graph_of records ++ entry_of r ∷ []) ++ map entry_of (firsts_after (records ++ r ∷ []) more)) ≡ true =
-            ap is_within (append_assoc (graph_of records) (entry_of r ∷ []) (map entry_of (firsts_after (records ++ r ∷ []) more))) ∙ sym (ap is_within longer) ∙ within in
+        ap is_within (append_assoc (graph_of records) (entry_of r ∷ []) (map entry_of (firsts_after (records ++ r ∷ []) more))) ∙ sym (ap is_within longer) ∙ within in
         inr (follows.0, is_within-front (graph_of records ++ entry_of r ∷ []) (map entry_of (firsts_after (records ++ r ∷ []) more)) all)
 
 -- the elements of a longer list
@@ -120,7 +120,7 @@ goes_on_database d other (x ∷ xs) others rest good more g = λ some.
     let longer : AreGood other (x ∷ (xs ++ g.next ∷ g.more)) = subst (λ (t : List (List ℕ)). AreGood other t) g.parts more in
     let P : List ℕ → Type 0 = λ r. database_of r ≡ other in
     All-head P g.next g.more (All-back P (x ∷ xs) (g.next ∷ g.more) longer.same)
-      ∙ sym (All-head P x (xs ++ g.next ∷ g.more) longer.same) ∙ All-head (λ r. database_of r ≡ d) x xs good.same
+    ∙ sym (All-head P x (xs ++ g.next ∷ g.more) longer.same) ∙ All-head (λ r. database_of r ≡ d) x xs good.same
 
 -- where all are held, none is lacking
 none_lacking : (graph : List Entry) (preds : List UpdateId) → All (λ p. holds graph p ≡ true) preds → find (λ p. not (holds graph p)) preds ≡ None
@@ -148,17 +148,17 @@ good_or_fault d records rest r OtherDatabase good for begins f =
     f.3 (ap database_of (sym (one_record rest r f.0 begins f.1.begins)) ∙ for f.2)
 good_or_fault d records rest r (Lacks id) good for begins f =
     held_and_lacks (graph_of records) (entry_of r) id good.known_or_next
-      (let P : List ℕ → Type 0 = λ w. LacksPredecessor (graph_of records) (entry_of w) id in subst P (sym (one_record rest r f.0 begins f.1.begins)) f.3)
+    (let P : List ℕ → Type 0 = λ w. LacksPredecessor (graph_of records) (entry_of w) id in subst P (sym (one_record rest r f.0 begins f.1.begins)) f.3)
 good_or_fault d records rest r Full good for begins f =
     held_and_passes (graph_of records) (entry_of r) good.known_or_next
-      (let P : List ℕ → Type 0 = λ w. PassesLimit (graph_of records) (entry_of w) in subst P (sym (one_record rest r f.0 begins f.1.begins)) f.3)
+    (let P : List ℕ → Type 0 = λ w. PassesLimit (graph_of records) (entry_of w) in subst P (sym (one_record rest r f.0 begins f.1.begins)) f.3)
 
 pub good_or_stop : (d other : List ℕ) (records others : List (List ℕ)) (rest : List ℕ) (fault : RecordFault) → AreGood d records → AreGood other others
     → GoesOn records others rest → IsStop d records rest fault → ⊥
 good_or_stop d other records others rest fault good more g (inl stop) =
     let next = goes_on_good other records others rest more g in
     good_or_fault d records rest g.next fault next (goes_on_database d other records others rest good more g)
-      (record { short = short_spelled g.next next.spelled; more = g.tail; parts = g.begins }) stop.1
+    (record { short = short_spelled g.next next.spelled; more = g.tail; parts = g.begins }) stop.1
 good_or_stop d other records others rest fault good more g (inr stop) =
     let next = goes_on_good other records others rest more g in
     absurd (let few = next.few in omega (arith, few, stop.0))
@@ -186,9 +186,9 @@ whole_once input members others a b =
     elim one [
       | inl g ↦ absurd (no_more xs ys g)
       | inr more ↦ elim more [
-          | inl g ↦ absurd (no_more ys xs g)
-          | inr same ↦ a.1.3 ∙ ap firsts same.0 ∙ sym b.1.3
-        ]
+        | inl g ↦ absurd (no_more ys xs g)
+        | inr same ↦ a.1.3 ∙ ap firsts same.0 ∙ sym b.1.3
+      ]
     ]
 
 pub whole_and_refused : (input rest : List ℕ) (members : List (List ℕ)) (n : ℕ) (fault : RecordFault) → IsWhole input members → IsRefused input rest n fault → ⊥
@@ -201,9 +201,9 @@ whole_and_refused input rest members n fault a b =
     elim one [
       | inl g ↦ absurd (no_more xs ys g)
       | inr more ↦ elim more [
-          | inl g ↦ good_or_stop b.0 a.0 ys xs back fault f.1 a.1.1 g f.4
-          | inr same ↦ no_stop_at_end b.0 ys fault (let P : List ℕ → Type 0 = λ w. IsStop b.0 ys w fault in subst P (sym same.1) f.4)
-        ]
+        | inl g ↦ good_or_stop b.0 a.0 ys xs back fault f.1 a.1.1 g f.4
+        | inr same ↦ no_stop_at_end b.0 ys fault (let P : List ℕ → Type 0 = λ w. IsStop b.0 ys w fault in subst P (sym same.1) f.4)
+      ]
     ]
 
 -- ---- one refusal at one place
@@ -291,12 +291,13 @@ refused_once input rest other m n f g a b =
     elim one [
       | inl go ↦ absurd (good_or_stop a.0 b.0 xs ys (x.0 ++ rest) f x.1 y.1 go x.4)
       | inr more ↦ elim more [
-          | inl go ↦ absurd (good_or_stop b.0 a.0 ys xs (y.0 ++ other) g y.1 x.1 go y.4)
-          | inr same ↦
-              let P : List (List ℕ) → Type 0 = λ w. AreGood b.0 w in
-              let Q : List (List ℕ) → Type 0 = λ w. IsStop b.0 w (y.0 ++ other) g in
-              let R : List ℕ → Type 0 = λ w. IsStop b.0 xs w g in
-              (x.3 ∙ ap (λ (w : List (List ℕ)). length w + 1) same.0 ∙ sym y.3,
-               stops_once a.0 b.0 xs (x.0 ++ rest) f g x.1 (subst P (sym same.0) y.1) x.4 (subst R (sym same.1) (subst Q (sym same.0) y.4)))
-        ]
+        | inl go ↦ absurd (good_or_stop b.0 a.0 ys xs (y.0 ++ other) g y.1 x.1 go y.4)
+        | inr same ↦
+            let P : List (List ℕ) → Type 0 = λ w. AreGood b.0 w in
+            let Q : List (List ℕ) → Type 0 = λ w. IsStop b.0 w (y.0 ++ other) g in
+            let R : List ℕ → Type 0 = λ w. IsStop b.0 xs w g in (
+              x.3 ∙ ap (λ (w : List (List ℕ)). length w + 1) same.0 ∙ sym y.3,
+              stops_once a.0 b.0 xs (x.0 ++ rest) f g x.1 (subst P (sym same.0) y.1) x.4 (subst R (sym same.1) (subst Q (sym same.0) y.4)),
+            )
+      ]
     ]

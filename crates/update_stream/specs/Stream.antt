@@ -94,5 +94,5 @@ span_of bytes = 4 + from_be_bytes w32 (take 4 bytes)
 abbrev pub IsRefused : List ℕ → List ℕ → ℕ → RecordFault → Type 0
 IsRefused input rest n fault =
     (database : List ℕ) × ((records : List (List ℕ)) × ((front : List ℕ)
-        × AreGood database records × (input ≡ stream_of records ++ (front ++ rest)) × (n ≡ length records + 1)
-        × IsStop database records (front ++ rest) fault × (length front ≤ span_of (front ++ rest))))
+    × AreGood database records × (input ≡ stream_of records ++ (front ++ rest)) × (n ≡ length records + 1)
+    × IsStop database records (front ++ rest) fault × (length front ≤ span_of (front ++ rest))))

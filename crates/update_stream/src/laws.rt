@@ -7,23 +7,16 @@ ghost use Rattle.update_stream.specs.Stream.{IsWhole, IsRefused};
 /// A stream that is whole has one graph.
 pub fn one_graph()
     ensures { (input : List ℕ) (members others : List (List ℕ)) → IsWhole input members → IsWhole input others → members ≡ others }
-{
-}
+{}
 
 /// A stream is refused at one record, for one fault.
 pub fn one_refusal()
-    ensures {
-        (input rest other : List ℕ) (m n : ℕ) (fault another : RecordFault)
-            → IsRefused input rest m fault → IsRefused input other n another → (m ≡ n) × (fault ≡ another)
-    }
-{
-}
+    ensures { (input rest other : List ℕ) (m n : ℕ) (fault another : RecordFault)
+        → IsRefused input rest m fault → IsRefused input other n another → (m ≡ n) × (fault ≡ another) }
+{}
 
 /// No stream is both whole and refused.
 pub fn whole_or_refused()
-    ensures {
-        (input rest : List ℕ) (members : List (List ℕ)) (n : ℕ) (fault : RecordFault)
-            → IsWhole input members → IsRefused input rest n fault → ⊥
-    }
-{
-}
+    ensures { (input rest : List ℕ) (members : List (List ℕ)) (n : ℕ) (fault : RecordFault)
+        → IsWhole input members → IsRefused input rest n fault → ⊥ }
+{}

@@ -3,12 +3,10 @@ ghost use Rattle.std.specs.Int.{w32, to_be_bytes};
 ghost use Rattle.bec_bytes.specs.Causes.{Rose};
 ghost use Rattle.update_stream.specs.Steps.{Finds};
 
-use std::alloc::Global;
-
+use crate::ReadError;
 use bec_bytes::{Source, read_full};
 use byteorder::{BigEndian, ByteOrder};
-
-use crate::ReadError;
+use std::alloc::Global;
 
 /// What stands next in a stream.
 #[derive(Drop)]

@@ -1,10 +1,9 @@
+use crate::RecordFault;
 use bec_bytes::Failed;
 use hash_graph::Graph;
 use std::alloc::AllocError;
 use thiserror::Error;
 use update_codec::Spelled;
-
-use crate::RecordFault;
 
 /// What a stream holds.
 #[derive(Drop)]

@@ -2,15 +2,13 @@ ghost use Rattle.std.specs.Prelude.{◌≡◌, ◌≤◌, IfOk, IfErr};
 ghost use Rattle.bec_bytes.specs.Causes.{Rose};
 ghost use Rattle.update_stream.specs.Told.{Reads};
 
-use std::alloc::Global;
-
-use bec_bytes::{Source, read_full};
-use hash_graph::Graph;
-use update_codec::Spelled;
-
 use crate::next_record::{NextRecord, next_record};
 use crate::take_record::take_record;
 use crate::{ReadError, Reading, RecordFault};
+use bec_bytes::{Source, read_full};
+use hash_graph::Graph;
+use std::alloc::Global;
+use update_codec::Spelled;
 
 /// How many records a stream has at most.
 pub const MAX_RECORDS: u32 = 262_144;

@@ -2,12 +2,10 @@ ghost use Rattle.std.specs.Prelude.{◌≡◌, IfOk, IfSome};
 ghost use Rattle.std.specs.Bool.{OnTrue, OnFalse};
 ghost use Rattle.update_stream.specs.Steps.{IsForThem, IsForOthers, Takes};
 
-use std::alloc::{AllocError, Global};
-
-use hash_graph::{Graph, Refusal};
-use update_codec::{CodecFault, DecodeError, Spelled, spelled};
-
 use crate::RecordFault;
+use hash_graph::{Graph, Refusal};
+use std::alloc::{AllocError, Global};
+use update_codec::{CodecFault, DecodeError, Spelled, spelled};
 
 /// Whether the update belongs to the database of the graph's members. Any database is that of no member.
 fn is_for(graph: &Graph<Spelled>, update: &Spelled) -> bool

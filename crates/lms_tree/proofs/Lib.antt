@@ -1,0 +1,2 @@
+mod TreeLaws
+mod SignatureLaws

@@ -1,0 +1,4 @@
+pub mod LmsKind
+pub mod Tree
+pub mod Signature
+pub mod SecretKey
