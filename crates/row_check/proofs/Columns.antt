@@ -1,6 +1,6 @@
 -- The values in columns, one column more at a time.
-use Rattle.std.proofs.Common.{◌≡◌, ℕ, ◌+◌, ◌<◌, List, [], ◌∷◌, ◌++◌, length, take, map, Some, get_or, ap, ◌∙◌, sym, subst, refl, zero, suc, arith, Bool, true, false, ◌&&◌, IsTrue, nat_lt, All}
-use Rattle.std.specs.Prelude.{slice_get, unwrap_or}
+use Rattle.std.proofs.Common.{◌≡◌, ℕ, ◌+◌, ◌<◌, List, [], ◌∷◌, ◌++◌, length, take, map, get_or, ap, ◌∙◌, sym, subst, refl, zero, suc, arith, Bool, true, false, ◌&&◌, IsTrue, nat_lt, All}
+use Rattle.std.specs.Prelude.{unwrap_or}
 use Rattle.std.specs.List.{list_all}
 use Rattle.std.proofs.lemmas.Bool.Decides.{nat_tests}
 use Rattle.std.proofs.lemmas.List.{map_more}
@@ -45,8 +45,7 @@ all-has n (c ∷ cs) all =
 -- a native check fits where the test of its columns passes
 pub native_fits : (row : List Value) (expr : Expr) (number : ℕ) (columns : List ℕ) (test : Bool) → expr ≡ Native number columns
     → test ≡ list_all (λ column. nat_lt column (length row)) columns → (IsTrue test → FitsRow row expr) × (FitsRow row expr → IsTrue test)
-native_fits row expr number columns test is tested =
-    (
-        (λ h. let P : Expr → Type 0 = λ e. FitsRow row e in subst P (sym is) (has-all (length row) columns (sym tested ∙ h))),
-        (λ h. let P : Expr → Type 0 = λ e. FitsRow row e in tested ∙ all-has (length row) columns (subst P is h))
-    )
+native_fits row expr number columns test is tested = (
+  (λ h. let P : Expr → Type 0 = λ e. FitsRow row e in subst P (sym is) (has-all (length row) columns (sym tested ∙ h))),
+  (λ h. let P : Expr → Type 0 = λ e. FitsRow row e in tested ∙ all-has (length row) columns (subst P is h)),
+)

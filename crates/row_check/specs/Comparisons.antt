@@ -1,10 +1,10 @@
 -- Comparisons of two values.
-use Rattle.std.specs.Prelude.{Bool, true, false, Option, Some, None}
+use Rattle.std.specs.Prelude.{Bool, false, Option, Some, None}
 use Rattle.std.specs.declared.cmp.Ordering.{Ordering}
 use Rattle.std.specs.Ordering.{nat_cmp, int_cmp, bool_cmp, is_eq, is_ne, is_lt, is_le, is_gt, is_ge}
 use Rattle.std.specs.Cmp.Lexicographic.{slice_cmp}
 use Rattle.update_model.specs.declared.value.Value.{Value}
-use Rattle.update_model.specs.declared.value.Value.TheVariants.{Null, Int, Text, Flag, Row, Own}
+use Rattle.update_model.specs.declared.value.Value.TheVariants.{Null, Int, Text, Flag}
 use Rattle.row_check.specs.declared.cmp.Cmp.{Cmp}
 use Rattle.row_check.specs.declared.cmp.Cmp.TheVariants.{Eq, Ne, Lt, Le, Gt, Ge}
 

@@ -1,7 +1,7 @@
 -- The value of an expression about a row.
 use Rattle.std.specs.Prelude.{ℕ, ◌<◌, List, length, map, Bool, true, false, not, ◌&&◌, ◌||◌, unwrap_or, slice_get, All, pos}
 use Rattle.update_model.specs.declared.value.Value.{Value}
-use Rattle.update_model.specs.declared.value.Value.TheVariants.{Null, Int, Text, Flag, Row, Own}
+use Rattle.update_model.specs.declared.value.Value.TheVariants.{Null, Int, Text}
 use Rattle.row_check.specs.declared.term.Term.{Term}
 use Rattle.row_check.specs.declared.term.Term.TheVariants.{Column, Literal, Length}
 use Rattle.row_check.specs.declared.expr.Expr.{Expr, And', Or', Not', Compare, IsNull, Native}

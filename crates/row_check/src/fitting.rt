@@ -18,7 +18,11 @@ pub fn fits(expr: &Expr, row: &[Value]) -> bool
         Expr::And(a, b) => fits(a, row) && fits(b, row),
         Expr::Or(a, b) => fits(a, row) && fits(b, row),
         Expr::Not(a) => fits(a, row),
-        Expr::Compare { left, cmp: _, right } => {
+        Expr::Compare {
+            left,
+            cmp: _,
+            right,
+        } => {
             fits_term(left, row)
                 && fits_term(right, row)
                 && are_comparable(side_of(left, row).value(), side_of(right, row).value())

@@ -103,7 +103,11 @@ fn compares(rt: HostRuntime) -> Result<(), Fail> {
         (Value::Row(name), Cmp::Eq, Value::Row(name), false),
     ];
     for (left, cmp, right, want) in rows {
-        assert_eq!(rt; compare(cmp, &left, &right), want, "{left:?} {cmp:?} {right:?}");
+        assert_eq!(rt;
+            compare(cmp, &left, &right),
+            want,
+            "{left:?} {cmp:?} {right:?}"
+        );
     }
     Ok(())
 }
@@ -155,7 +159,11 @@ fn sums_digits(rt: HostRuntime) -> Result<(), Fail> {
         (1, "0", true),
     ];
     for (number, digits, want) in rows {
-        assert_eq!(rt; native.ask(number, &[text(alloc, digits)?]), want, "{digits}");
+        assert_eq!(rt;
+            native.ask(number, &[text(alloc, digits)?]),
+            want,
+            "{digits}"
+        );
     }
     assert!(rt; !native.ask(1, &[text(alloc, "0")?, Value::Null]));
     Ok(())

@@ -1,4 +1,4 @@
-use Rattle.std.proofs.Common.{◌≡◌, ◌∙◌, ap, nat_lt, length}
+use Rattle.std.proofs.Common.{◌∙◌, ap, nat_lt, length}
 use Rattle.std.specs.List.{list_all}
 use Rattle.row_check.proofs.Columns.{native_fits}
 use Rattle.row_check.proofs.fitting.+fits.Goals as goal
