@@ -1,5 +1,5 @@
 -- The value of an expression about a row.
-use Rattle.std.specs.Prelude.{ℕ, ◌<◌, List, length, map, Bool, true, false, not, ◌&&◌, ◌||◌, unwrap_or, slice_get, All, pos}
+use Rattle.std.specs.Prelude.{ℕ, ◌<◌, List, length, map, Bool, true, false, not, ◌&&◌, ◌||◌, unwrap_or, slice_get, All, pos, ◌⊎◌}
 use Rattle.update_model.specs.declared.value.Value.{Value}
 use Rattle.update_model.specs.declared.value.Value.TheVariants.{Null, Int, Text}
 use Rattle.row_check.specs.declared.term.Term.{Term}
@@ -56,3 +56,12 @@ FitsRow row (Not' _ a) = FitsRow row a
 FitsRow row (Compare left cmp right) = FitsTerm row left × FitsTerm row right × AreComparable (term_value row left) (term_value row right)
 FitsRow row (IsNull column) = column < length row
 FitsRow row (Native number columns) = All (λ column. column < length row) columns
+
+-- A native check stands in the expression.
+abbrev pub HasNative : Expr → Type 0
+HasNative (And' _ a _ b) = HasNative a ⊎ HasNative b
+HasNative (Or' _ a _ b) = HasNative a ⊎ HasNative b
+HasNative (Not' _ a) = HasNative a
+HasNative (Compare left cmp right) = ⊥
+HasNative (IsNull column) = ⊥
+HasNative (Native number columns) = Unit {0}

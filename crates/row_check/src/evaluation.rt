@@ -1,6 +1,6 @@
-ghost use Rattle.std.specs.Prelude.{◌≡◌, ◌<◌, length, map, All, IfOk};
+ghost use Rattle.std.specs.Prelude.{◌≡◌, ◌<◌, length, map, All, IfOk, OnErr};
 ghost use Rattle.row_check.specs.Comparisons.{compares};
-ghost use Rattle.row_check.specs.Meaning.{holds, term_value, value_at, is_null, FitsRow, FitsTerm};
+ghost use Rattle.row_check.specs.Meaning.{holds, term_value, value_at, is_null, FitsRow, FitsTerm, HasNative};
 
 use crate::side::side_of;
 use crate::{Checks, Cmp, Expr, Native, Relation, Term, compare};
@@ -9,9 +9,9 @@ use update_model::Value;
 
 /// Answers an expression about a row.
 ///
-/// The expression has to fit the row: the row has each column that it names, LEN is of a text or of null, and where
-/// neither side of a comparison is null, both are integers, both texts or both flags. Memory is taken for the
-/// arguments of native checks alone.
+/// The expression has to fit the row, which [`crate::fits`] tells: the row has each column that it names, LEN is of
+/// a text or of null, and where neither side of a comparison is null, both are integers, both texts or both flags.
+/// Memory is taken for the arguments of native checks alone, so that only an expression that has one can fail.
 pub fn eval<L: Relation, C: Checks<L>>(
     alloc: Global,
     expr: &Expr,
@@ -19,7 +19,9 @@ pub fn eval<L: Relation, C: Checks<L>>(
     native: &Native<L, C>,
 ) -> Result<bool, AllocError>
     requires { FitsRow row.now expr.now }
-    ensures { IfOk result (λ answer. answer ≡ holds L.answer row.now expr.now) }
+    ensures value { IfOk result (λ answer. answer ≡ holds L.answer row.now expr.now) }
+    // memory is taken for the arguments of native checks alone
+    ensures memory { OnErr result (HasNative expr.now) }
 {
     Ok(match expr {
         Expr::And(a, b) => eval(alloc, a, row, native)? && eval(alloc, b, row, native)?,
