@@ -1,0 +1,5 @@
+pub mod Checksum
+pub mod Comparisons
+pub mod Meaning
+pub mod Parity
+pub mod Sides

@@ -1,0 +1,40 @@
+//! Questions that a database asks of one row: expressions, their value, and checks that a host program brings.
+//!
+//! An [`Expr`] is a question over the columns of one row, put together with AND, OR and NOT from comparisons, IS
+//! NULL and native checks. [`eval`] answers it. A native check is a question that expressions cannot put, such as a
+//! checksum: it has a number, and its meaning is a [`Relation`]. A [`Native`] keeps a host program's code, of a type
+//! that [`Checks`] that relation, so that whatever is proved of checked rows is proved of the relation, and not of
+//! the code. [`Luhn`] is the relation that is shipped, and the code that answers it.
+//!
+//! ```text
+//! let native: Native<Luhn, Luhn> = Native::new(Luhn);
+//! let short = Expr::Compare { left: Term::Length(0), cmp: Cmp::Le, right: Term::Literal(Value::Int(8)) };
+//! eval(alloc, &short, row, &native)?       // whether the text in column 0 has at most 8 bytes
+//! ```
+//!
+//! It reads no text of expressions and knows no tables: whether an expression fits the rows of a table is for the
+//! crate that reads schemas.
+#![tactic(auto)]
+
+mod cmp;
+mod comparing;
+mod evaluation;
+mod expr;
+mod fitting;
+mod luhn;
+mod native;
+mod relation;
+mod side;
+mod term;
+#[cfg(test)]
+mod tests;
+
+pub use cmp::Cmp;
+pub use comparing::compare;
+pub use evaluation::eval;
+pub use expr::Expr;
+pub use fitting::fits;
+pub use luhn::{Luhn, passes_luhn};
+pub use native::{Checks, Native};
+pub use relation::Relation;
+pub use term::Term;
