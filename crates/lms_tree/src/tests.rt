@@ -10,6 +10,7 @@ use crate::{LmsType, make_secret, verify};
 use lm_ots::{OtsType, sign};
 use sha2::{Digest, Sha256};
 use std::alloc::Global;
+use std::process::Abort;
 use std::test::Fail;
 use update_model::{AuthorKey, signature_len};
 use vectors::{MADE, TALL};
@@ -106,10 +107,8 @@ fn tall_trees_verify(rt: HostRuntime) -> Result<(), Fail> {
     Ok(())
 }
 
-// Each of these differs from a good signature, its key or its message in one thing, and was refused by
-// another program written from the RFC.
-#[test]
-fn one_change_is_refused(rt: HostRuntime) -> Result<(), Fail> {
+/// A key, and its signature of "abc" by leaf 18.
+fn signed(rt: &(impl Abort + AllocGlobal)) -> Result<(AuthorKey, Vec<u8>), Fail> {
     let Parts {
         ident,
         seed,
@@ -121,9 +120,15 @@ fn one_change_is_refused(rt: HostRuntime) -> Result<(), Fail> {
     assert!(rt; 18 < secret.leaf_count());
     secret.sign_at(18, &random, b"abc", &mut sig);
     assert!(rt; verify(&key, b"abc", &sig));
+    Ok((key, sig))
+}
 
-    // another q, a q beyond the leaves, another LM-OTS type, C, y[0], the last y, another LMS type, the
-    // path's ends
+// Each of these differs from a good signature in one byte, and was refused by another program written from
+// the RFC: another q, a q beyond the leaves, another LM-OTS type, C, y[0], the last y, another LMS type, the
+// path's ends.
+#[test]
+fn one_changed_byte_is_refused(rt: HostRuntime) -> Result<(), Fail> {
+    let (key, mut sig) = signed(&rt)?;
     let changes = [
         (3, 1),
         (3, 50),
@@ -142,7 +147,18 @@ fn one_change_is_refused(rt: HostRuntime) -> Result<(), Fail> {
         assert!(rt; place < sig.len());
         sig[place] ^= change;
     }
+    sig.push(0)?;
+    assert!(rt; !verify(&key, b"abc", &sig));
+    sig.truncate(1291);
+    assert!(rt; !verify(&key, b"abc", &sig));
     assert!(rt; !verify(&key, b"abc", b""));
+    Ok(())
+}
+
+// Another message, or a key that differs in one thing.
+#[test]
+fn another_message_or_key_is_refused(rt: HostRuntime) -> Result<(), Fail> {
+    let (key, sig) = signed(&rt)?;
     assert!(rt; !verify(&key, b"abd", &sig));
     assert!(rt; !verify(&key, b"", &sig));
     assert!(rt; !verify(&AuthorKey { lms: 6, ..key }, b"abc", &sig));
@@ -154,9 +170,5 @@ fn one_change_is_refused(rt: HostRuntime) -> Result<(), Fail> {
     let mut other = key;
     other.root[31] ^= 1;
     assert!(rt; !verify(&other, b"abc", &sig));
-    sig.push(0)?;
-    assert!(rt; !verify(&key, b"abc", &sig));
-    sig.truncate(1291);
-    assert!(rt; !verify(&key, b"abc", &sig));
     Ok(())
 }

@@ -98,9 +98,9 @@ stays (Some ys) None r short given = absurd given
 stays (Some ys) (Some zs) r short given =
     (framed r, given, (let span : span_of ys ≡ length (framed r) = ap span_of given ∙ span_of-framed r zs short in omega (arith, span)))
 
-fault_of : (d : List ℕ) (records : List (List ℕ)) (r more after : List ℕ) (members result : List (List ℕ)) (fault : RecordFault) → AreGood d records → members ≡ firsts records
+fault_of : (d : List ℕ) (records : List (List ℕ)) (r more : List ℕ) (members result : List (List ℕ)) (fault : RecordFault) → AreGood d records → members ≡ firsts records
     → BeginsWith more r → Takes members r result (Some fault) → HasFault d records more fault
-fault_of d records r more after members result Misspelled good is begins taken = (
+fault_of d records r more members result Misspelled good is begins taken = (
   some more r begins,
   λ s again. (
     λ spelled. taken.0 (let P : List ℕ → Type 0 = IsSpelling in subst P (one_record more s r again begins) spelled),
@@ -110,18 +110,18 @@ fault_of d records r more after members result Misspelled good is begins taken =
   where
     some : (bytes w : List ℕ) → BeginsWith bytes w → 0 < length bytes
     some bytes w b = let parts = ap length b.parts in let size = length-framed w in omega (arith, length-append (framed w) b.more)
-fault_of d records r more after members result Operations good is begins taken = (r, begins, taken)
-fault_of d records r more after members result OtherDatabase good is begins taken =
+fault_of d records r more members result Operations good is begins taken = (r, begins, taken)
+fault_of d records r more members result OtherDatabase good is begins taken =
     let other = IsForOthers-members d records r good (subst (λ (ms : List (List ℕ)). 0 < length ms) is taken.1.0)
     (subst (λ (ms : List (List ℕ)). database_of r ≢ database_of (slice_index_or ms 0 [])) is taken.1.1) in
     (r, record { begins = begins; spelled = taken.0 }, other.0, other.1)
-fault_of d records r more after members result (Lacks id) good is begins taken = (
+fault_of d records r more members result (Lacks id) good is begins taken = (
   r,
   record { begins = begins; spelled = taken.0 },
   IsFor-members d records r good (subst (λ (ms : List (List ℕ)). IsForThem ms r) is taken.1),
   subst (λ (ms : List (List ℕ)). LacksPredecessor (map entry_of ms) (entry_of r) id) is taken.2,
 )
-fault_of d records r more after members result Full good is begins taken = (
+fault_of d records r more members result Full good is begins taken = (
   r,
   record { begins = begins; spelled = taken.0 },
   IsFor-members d records r good (subst (λ (ms : List (List ℕ)). IsForThem ms r) is taken.1),
@@ -138,7 +138,7 @@ told_fault a b c members after n r fault h few short given taken = told_stop a b
     stop (Some ys) None g = absurd g
     stop (Some ys) (Some zs) g = inl (
       let counted = h.counted in omega arith,
-      fault_of h.database h.records r ys [] members after fault h.good h.firsts_of (record { short = short; more = zs; parts = g }) taken,
+      fault_of h.database h.records r ys members after fault h.good h.firsts_of (record { short = short; more = zs; parts = g }) taken,
     )
 
 pub told_limit : (a b c : Option (List ℕ)) (members : List (List ℕ)) (n : ℕ) (bytes : List ℕ) → HasRead a b members n → n ≡ 262144 → Consumes b c bytes

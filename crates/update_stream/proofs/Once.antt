@@ -39,9 +39,6 @@ pub record GoesOn (records others : List (List ℕ)) (rest : List ℕ) : Type 0 
 one_more : (x : List ℕ) (xs ys : List (List ℕ)) (rest : List ℕ) → GoesOn xs ys rest → GoesOn (x ∷ xs) (x ∷ ys) rest
 one_more x xs ys rest g = record { next = g.next; more = g.more; tail = g.tail; parts = ap (λ (t : List (List ℕ)). x ∷ t) g.parts; begins = g.begins }
 
-LinesUp : List (List ℕ) → List (List ℕ) → List ℕ → List ℕ → Type 0
-LinesUp xs ys rest other = GoesOn xs ys rest ⊎ (GoesOn ys xs other ⊎ ((xs ≡ ys) × (rest ≡ other)))
-
 pub lines_up : (xs ys : List (List ℕ)) (rest other : List ℕ) → Short xs → Short ys → stream_of xs ++ rest ≡ stream_of ys ++ other
     → GoesOn xs ys rest ⊎ (GoesOn ys xs other ⊎ ((xs ≡ ys) × (rest ≡ other)))
 lines_up [] [] rest other s t e = inr (inr (refl, rw stream_of-nil at e))
@@ -211,11 +208,7 @@ same_databases : (d other : List ℕ) (records : List (List ℕ)) → AreGood d 
 same_databases d other [] a b some = absurd (omega arith)
 same_databases d other (x ∷ xs) a b some = sym (All-head (λ r. database_of r ≡ d) x xs a.same) ∙ All-head (λ r. database_of r ≡ other) x xs b.same
 
--- what is said of the update that stands next
-OfNext : (List ℕ → Type 0) → List ℕ → Type 0
-OfNext P rest = (r : List ℕ) × BeginsWithUpdate rest r × P r
-
--- the same, of the update that another fault speaks of
+-- what is said of the record that stands next holds of the one that another fault speaks of
 moved : (P : List ℕ → Type 0) (rest r s : List ℕ) → BeginsWith rest r → BeginsWith rest s → P r → P s
 moved P rest r s a b x = subst P (one_record rest r s a b) x
 
@@ -233,9 +226,6 @@ lacks_or_passes graph e id lacks passes = let first = lacks.first in let none = 
 
 lacks_once : (graph : List Entry) (e : Entry) (id other : UpdateId) → LacksPredecessor graph e id → LacksPredecessor graph e other → id ≡ other
 lacks_once graph e id other a b = let first = a.first in let again = b.first in cc
-
-abbrev FaultOf : List ℕ → List (List ℕ) → RecordFault → List ℕ → Type 0
-FaultOf d records fault rest = HasFault d records rest fault
 
 faults_once : (d other : List ℕ) (records : List (List ℕ)) (rest : List ℕ) (f g : RecordFault) → AreGood d records → AreGood other records
     → HasFault d records rest f → HasFault other records rest g → f ≡ g
