@@ -1,10 +1,12 @@
 //! Tests of operations that are to stand in a body.
+//!
+//! Machine ranges hold by type. Where a function reads a number that it does not use, the proof learns its range.
 
 ghost use Rattle.std.specs.Prelude.{◌≤◌, ◌↔◌, ◌<◌, ℕ, IsTrue, length};
 ghost use Rattle.std.specs.List.{AllByRecursion};
-ghost use Rattle.update_model.specs.Rows.{IsValue, IsOp, AreOps};
+ghost use Rattle.update_model.specs.Rows.{IsRowName, IsValue, IsOp, AreOps};
 
-use crate::{Op, Value};
+use crate::{Op, RowName, Value};
 
 /// Whether the operations may stand in a body, which has at most 64 of them: each insert gives one to sixteen
 /// values, and each own reference names an earlier operation.
@@ -31,11 +33,12 @@ fn is_op(number: usize, op: &Op) -> bool
     ensures { IsTrue result ↔ IsOp number op.now }
 {
     match op {
-        Op::Insert { table: _, values } => {
+        Op::Insert { table, values } => {
+            let _table = *table;
             let values = values.as_slice();
             1 <= values.len() && values.len() <= 16 && are_values(number, values)
         }
-        Op::Delete { row: _ } => true,
+        Op::Delete { row } => is_row_name(*row),
     }
 }
 
@@ -51,7 +54,24 @@ fn is_value(number: usize, value: &Value) -> bool
     ensures { IsTrue result ↔ IsValue number value.now }
 {
     match value {
+        Value::Null | Value::Flag(_) => true,
+        Value::Int(n) => {
+            let _n = *n;
+            true
+        }
+        Value::Text(text) => {
+            let _bytes = text.as_slice();
+            true
+        }
+        Value::Row(row) => is_row_name(*row),
         Value::Own(index) => (*index as usize) < number,
-        _ => true,
     }
+}
+
+// whether the name is in form, which every name is by its type
+fn is_row_name(_row: RowName) -> bool
+    ensures name { IsRowName _row }
+    ensures value { IsTrue result }
+{
+    true
 }
