@@ -1,5 +1,5 @@
 -- A stream has one answer.
-use Rattle.std.proofs.Common.{◌≡◌, inl, inr, ℕ, List, map, sym, ap, ◌∙◌, ◌&&◌, not}
+use Rattle.std.proofs.Common.{◌≡◌, inl, inr, ℕ, List, None, map, sym, ap, ◌∙◌, ◌&&◌, not}
 use Rattle.update_model.specs.declared.update_id.UpdateId.{UpdateId}
 use Rattle.update_model.specs.Graph.{AreHeads, holds, names}
 use Rattle.update_model.proofs.Heads.{sorted_same}
@@ -19,13 +19,13 @@ heads_once members others heads again same a b =
 pub answer_once : (input rest other : List ℕ) (status another : ℕ) (text line : List ℕ) → HeadsAnswer input rest status text → HeadsAnswer input other another line
     → (status ≡ another) × (text ≡ line)
 answer_once input rest other status another text line (inl a) (inl b) =
-    let same = whole_once input a.1.0 b.1.0 a.1.1 b.1.1 in
+    let same = whole_once None input a.1.0 b.1.0 a.1.1 b.1.1 in
     let heads = heads_once a.1.0 b.1.0 a.0 b.0 same a.1.2 b.1.2 in
     (a.3 ∙ sym b.3, a.4 ∙ ap printed heads ∙ sym b.4)
-answer_once input rest other status another text line (inl a) (inr b) = absurd (whole_and_refused input other a.1.0 b.0 b.1.0 a.1.1 b.1.1)
-answer_once input rest other status another text line (inr a) (inl b) = absurd (whole_and_refused input rest b.1.0 a.0 a.1.0 b.1.1 a.1.1)
+answer_once input rest other status another text line (inl a) (inr b) = absurd (whole_and_refused None input other a.1.0 b.0 b.1.0 a.1.1 b.1.1)
+answer_once input rest other status another text line (inr a) (inl b) = absurd (whole_and_refused None input rest b.1.0 a.0 a.1.0 b.1.1 a.1.1)
 answer_once input rest other status another text line (inr a) (inr b) =
-    let same = refused_once input rest other a.0 b.0 a.1.0 b.1.0 a.1.1 b.1.1 in (
+    let same = refused_once None input rest other a.0 b.0 a.1.0 b.1.0 a.1.1 b.1.1 in (
       a.1.2 ∙ ap status_of same.1 ∙ sym b.1.2,
       a.1.3 ∙ ap (λ (n : ℕ). refusal_text n a.1.0) same.0 ∙ ap (refusal_text b.0) same.1 ∙ sym b.1.3,
     )

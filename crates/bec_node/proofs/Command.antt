@@ -6,7 +6,7 @@ use Rattle.std.specs.Io.KnownBytes.{Appends}
 use Rattle.bec_bytes.specs.Causes.{HasCause}
 use Rattle.bec_bytes.specs.Moved.{TakesAll}
 use Rattle.update_stream.specs.declared.record_fault.RecordFault.{RecordFault}
-use Rattle.update_stream.specs.declared.record_fault.RecordFault.TheVariants.{Misspelled, Operations, OtherDatabase, Lacks, Full}
+use Rattle.update_stream.specs.declared.record_fault.RecordFault.TheVariants.{Check, Lacks, Full}
 use Rattle.update_stream.specs.declared.reading.Reading.{Reading}
 use Rattle.update_stream.specs.declared.reading.Reading.TheVariants.{Whole, Refused}
 use Rattle.update_stream.specs.Told.{Reads}
@@ -41,9 +41,7 @@ no_first (w ∷ words) none is = cc
 -- ---- replies
 
 heads_status : (fault : RecordFault) → IsHeadsStatus (status_of fault)
-heads_status Misspelled = inr (inl refl)
-heads_status Operations = inr (inl refl)
-heads_status OtherDatabase = inr (inl refl)
+heads_status (Check fault) = inr (inl refl)
 heads_status (Lacks id) = inr (inl refl)
 heads_status Full = inr (inr refl)
 
@@ -52,12 +50,12 @@ not_four status (inl a) e = let no : 0 ≡ 4 = sym a ∙ e in absurd (omega arit
 not_four status (inr (inl a)) e = let no : 1 ≡ 4 = sym a ∙ e in absurd (omega arith)
 not_four status (inr (inr a)) e = let no : 7 ≡ 4 = sym a ∙ e in absurd (omega arith)
 
-whole_answer : (before after : Option (List ℕ)) (members : List (List ℕ)) (status : ℕ) (text : List ℕ) → Reads before after (Whole members) → Says (Whole members) status text → IsAnswer before after status text
+whole_answer : (before after : Option (List ℕ)) (members : List (List ℕ)) (status : ℕ) (text : List ℕ) → Reads None before after (Whole members) → Says (Whole members) status text → IsAnswer before after status text
 whole_answer None after members status text reads says = tt
 whole_answer (Some xs) after members status text reads says =
     (reads.0, reads.1, inl (says.0, (members, reads.2.0, says.1), reads.2.1, says.2, says.3))
 
-refused_answer : (before after : Option (List ℕ)) (n : ℕ) (fault : RecordFault) (status : ℕ) (text : List ℕ) → Reads before after (Refused n fault) → Says (Refused n fault) status text → IsAnswer before after status text
+refused_answer : (before after : Option (List ℕ)) (n : ℕ) (fault : RecordFault) (status : ℕ) (text : List ℕ) → Reads None before after (Refused n fault) → Says (Refused n fault) status text → IsAnswer before after status text
 refused_answer None after n fault status text reads says = tt
 refused_answer (Some xs) after n fault status text reads says = (reads.0, reads.1, inr (n, (fault, reads.2, says.0, says.1)))
 
@@ -65,12 +63,12 @@ pub status_said : (reading : Reading) (status : ℕ) (text : List ℕ) → Says 
 status_said (Whole members) status text says = inl says.2
 status_said (Refused n fault) status text says = let P : ℕ → Type 0 = IsHeadsStatus in subst P (sym says.0) (heads_status fault)
 
-pub answer_said : (before after : Option (List ℕ)) (reading : Reading) (status : ℕ) (text : List ℕ) → Reads before after reading → Says reading status text → IsAnswer before after status text
+pub answer_said : (before after : Option (List ℕ)) (reading : Reading) (status : ℕ) (text : List ℕ) → Reads None before after reading → Says reading status text → IsAnswer before after status text
 answer_said before after (Whole members) status text reads says = whole_answer before after members status text reads says
 answer_said before after (Refused n fault) status text reads says = refused_answer before after n fault status text reads says
 
 pub reply_said : (words : List (String Global)) (before after : Option (List ℕ)) (reading : Reading) (status : ℕ) (text : List ℕ) → IsHeadsCommand words
-    → Reads before after reading → Says reading status text → IsReply words before after status text
+    → Reads None before after reading → Says reading status text → IsReply words before after status text
 reply_said words before after reading status text is reads says = inl (is, status_said reading status text says, answer_said before after reading status text reads says)
 
 -- ---- what is written

@@ -1,5 +1,5 @@
 -- What the program answers.
-use Rattle.std.specs.Prelude.{◌≡◌, ◌⊎◌, ℕ, ◌≤◌, List, [], ◌∷◌, length, map, take, codes, Some, IfSome, String, slice_get}
+use Rattle.std.specs.Prelude.{◌≡◌, ◌⊎◌, ℕ, ◌≤◌, List, [], ◌∷◌, length, map, take, codes, None, Some, IfSome, String, slice_get}
 use Rattle.std.specs.declared.alloc.Global.{Global}
 use Rattle.std.specs.declared.option.Option.{Option}
 use Rattle.std.specs.Io.KnownBytes.{Appends}
@@ -22,16 +22,16 @@ IsHeadsCommand words = map string_bytes words ≡ codes "heads" ∷ []
 abbrev pub HasFirstWord : List (String Global) → Type 0
 HasFirstWord words = slice_get (map string_bytes words) 0 ≡ Some (codes "heads")
 
--- The input is good records up to its end, and these are the heads of their graph.
+-- The input is good records up to its end, of the database of the first one, and these are the heads of their graph.
 abbrev pub HasHeads : List ℕ → List UpdateId → Type 0
-HasHeads input heads = (members : List (List ℕ)) × IsWhole input members × AreHeads (map entry_of members) heads
+HasHeads input heads = (members : List (List ℕ)) × IsWhole None input members × AreHeads (map entry_of members) heads
 
 -- The answer to a stream: its heads with status 0 at its end, or the first record that is refused. The rest is
 -- what was not read.
 abbrev pub HeadsAnswer : List ℕ → List ℕ → ℕ → List ℕ → Type 0
 HeadsAnswer input rest status text =
     ((heads : List UpdateId) × HasHeads input heads × (rest ≡ []) × (status ≡ 0) × (text ≡ printed heads))
-    ⊎ ((n : ℕ) × ((fault : RecordFault) × IsRefused input rest n fault × (status ≡ status_of fault) × (text ≡ refusal_text n fault)))
+    ⊎ ((n : ℕ) × ((fault : RecordFault) × IsRefused None input rest n fault × (status ≡ status_of fault) × (text ≡ refusal_text n fault)))
 
 -- what `heads` says of what a stream holds
 abbrev pub Says : Reading → ℕ → List ℕ → Type 0

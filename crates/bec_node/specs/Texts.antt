@@ -4,8 +4,12 @@ use Rattle.std.specs.List.{flat_map}
 use Rattle.std.specs.Fmt.{decimal}
 use Rattle.hex.specs.Hex.{encode_lower}
 use Rattle.update_model.specs.declared.update_id.UpdateId.{UpdateId}
+use Rattle.update_codec.specs.declared.codec_fault.CodecKind.{CodecKind}
+use Rattle.update_codec.specs.declared.codec_fault.CodecKind.TheVariants as kinds
+use Rattle.update_check.specs.declared.check_error.CheckFault.{CheckFault}
+use Rattle.update_check.specs.declared.check_error.CheckFault.TheVariants.{Codec, WrongDatabase, AuthorNotListed, BadSignature}
 use Rattle.update_stream.specs.declared.record_fault.RecordFault.{RecordFault}
-use Rattle.update_stream.specs.declared.record_fault.RecordFault.TheVariants.{Misspelled, Operations, OtherDatabase, Lacks, Full}
+use Rattle.update_stream.specs.declared.record_fault.RecordFault.TheVariants.{Check, Lacks, Full}
 
 -- an id in lower-case hexadecimal, on a line of its own
 abbrev pub line_of : UpdateId → List ℕ
@@ -15,18 +19,35 @@ line_of id = encode_lower id.0 ++ 10 ∷ []
 abbrev pub printed : List UpdateId → List ℕ
 printed ids = flat_map line_of ids
 
+-- the word for what is wrong with a spelling
+abbrev pub word_of : CodecKind → List ℕ
+word_of kinds.Version = codes "version"
+word_of kinds.Short = codes "short"
+word_of kinds.Trailing = codes "trailing"
+word_of kinds.Order = codes "order"
+word_of kinds.Count = codes "count"
+word_of kinds.Tag = codes "tag"
+word_of kinds.Text = codes "text"
+word_of kinds.KeyType = codes "key type"
+word_of kinds.SignatureLength = codes "signature length"
+word_of kinds.TooLong = codes "too long"
+word_of kinds.OwnIndex = codes "own index"
+
+-- what is said of a record that is no checked update
+abbrev pub check_text : CheckFault → List ℕ
+check_text (Codec fault) = word_of fault.kind ++ (codes " at " ++ decimal fault.place)
+check_text WrongDatabase = codes "other database"
+check_text AuthorNotListed = codes "author not listed"
+check_text BadSignature = codes "bad signature"
+
 -- the line for the n-th record, which is refused
 abbrev pub refusal_text : ℕ → RecordFault → List ℕ
-refusal_text n Misspelled = codes "! update " ++ decimal n ++ codes ": misspelled\n"
-refusal_text n Operations = codes "! update " ++ decimal n ++ codes ": operations\n"
-refusal_text n OtherDatabase = codes "! update " ++ decimal n ++ codes ": other database\n"
+refusal_text n (Check fault) = codes "! update " ++ decimal n ++ (codes ": " ++ (check_text fault ++ 10 ∷ []))
 refusal_text n (Lacks id) = codes "! update " ++ decimal n ++ (codes ": lacks " ++ line_of id)
 refusal_text n Full = codes "! full\n"
 
 -- the status for a refused record
 abbrev pub status_of : RecordFault → ℕ
-status_of Misspelled = 1
-status_of Operations = 1
-status_of OtherDatabase = 1
+status_of (Check fault) = 1
 status_of (Lacks id) = 1
 status_of Full = 7

@@ -32,7 +32,7 @@ pub fn command_heads<S: Source, K: Sink>(
     if words.len() > 1 {
         return no_command(out);
     }
-    let reading = match read_stream(alloc, input) {
+    let reading = match read_stream(alloc, &None, input) {
         Ok(reading) => reading,
         Err(ReadError::Failed) => {
             let _ = write_all_of(out, b"! stream fault\n");
