@@ -6,7 +6,7 @@ use Rattle.update_model.proofs.Heads.{sorted_same}
 use Rattle.update_codec.specs.Parts.{entry_of}
 use Rattle.update_stream.proofs.Once.{whole_once, refused_once, whole_and_refused}
 use Rattle.bec_node.specs.Texts.{printed, refusal_text, status_of}
-use Rattle.bec_node.specs.Run.{HeadsAnswer}
+use Rattle.bec_node.specs.Run.{Command, Heads, HeadsAnswer, AnswerTo}
 
 heads_once : (members others : List (List ℕ)) (heads again : List UpdateId) → members ≡ others → AreHeads (map entry_of members) heads → AreHeads (map entry_of others) again → heads ≡ again
 heads_once members others heads again same a b =
@@ -16,7 +16,7 @@ heads_once members others heads again same a b =
     let moved = ap (λ (ms : List (List ℕ)). holds (map entry_of ms) q && not (names (map entry_of ms) q)) same in
     here ∙ moved ∙ sym there)
 
-pub answer_once : (input rest other : List ℕ) (status another : ℕ) (text line : List ℕ) → HeadsAnswer input rest status text → HeadsAnswer input other another line
+answer_once : (input rest other : List ℕ) (status another : ℕ) (text line : List ℕ) → HeadsAnswer input rest status text → HeadsAnswer input other another line
     → (status ≡ another) × (text ≡ line)
 answer_once input rest other status another text line (inl a) (inl b) =
     let same = whole_once None input a.1.0 b.1.0 a.1.1 b.1.1 in
@@ -29,3 +29,7 @@ answer_once input rest other status another text line (inr a) (inr b) =
       a.1.2 ∙ ap status_of same.1 ∙ sym b.1.2,
       a.1.3 ∙ ap (λ (n : ℕ). refusal_text n a.1.0) same.0 ∙ ap (refusal_text b.0) same.1 ∙ sym b.1.3,
     )
+
+pub answers_once : (command : Command) (input rest other : List ℕ) (status another : ℕ) (text line : List ℕ) → AnswerTo command input rest status text → AnswerTo command input other another line
+    → (status ≡ another) × (text ≡ line)
+answers_once Heads input rest other status another text line a b = answer_once input rest other status another text line a b

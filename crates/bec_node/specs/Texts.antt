@@ -4,8 +4,7 @@ use Rattle.std.specs.List.{flat_map}
 use Rattle.std.specs.Fmt.{decimal}
 use Rattle.hex.specs.Hex.{encode_lower}
 use Rattle.update_model.specs.declared.update_id.UpdateId.{UpdateId}
-use Rattle.update_codec.specs.declared.codec_fault.CodecKind.{CodecKind}
-use Rattle.update_codec.specs.declared.codec_fault.CodecKind.TheVariants as kinds
+use Rattle.update_codec.specs.Words.{fault_words}
 use Rattle.update_check.specs.declared.check_error.CheckFault.{CheckFault}
 use Rattle.update_check.specs.declared.check_error.CheckFault.TheVariants.{Codec, WrongDatabase, AuthorNotListed, BadSignature}
 use Rattle.update_stream.specs.declared.record_fault.RecordFault.{RecordFault}
@@ -19,23 +18,9 @@ line_of id = encode_lower id.0 ++ 10 ∷ []
 abbrev pub printed : List UpdateId → List ℕ
 printed ids = flat_map line_of ids
 
--- the word for what is wrong with a spelling
-abbrev pub word_of : CodecKind → List ℕ
-word_of kinds.Version = codes "version"
-word_of kinds.Short = codes "short"
-word_of kinds.Trailing = codes "trailing"
-word_of kinds.Order = codes "order"
-word_of kinds.Count = codes "count"
-word_of kinds.Tag = codes "tag"
-word_of kinds.Text = codes "text"
-word_of kinds.KeyType = codes "key type"
-word_of kinds.SignatureLength = codes "signature length"
-word_of kinds.TooLong = codes "too long"
-word_of kinds.OwnIndex = codes "own index"
-
 -- what is said of a record that is no checked update
 abbrev pub check_text : CheckFault → List ℕ
-check_text (Codec fault) = word_of fault.kind ++ (codes " at " ++ decimal fault.place)
+check_text (Codec fault) = fault_words fault.kind fault.place
 check_text WrongDatabase = codes "other database"
 check_text AuthorNotListed = codes "author not listed"
 check_text BadSignature = codes "bad signature"

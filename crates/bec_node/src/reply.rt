@@ -5,7 +5,7 @@ ghost use Rattle.std.specs.Io.KnownBytes.{Appends};
 ghost use Rattle.update_model.specs.Graph.{AreHeads};
 ghost use Rattle.update_codec.specs.Parts.{entry_of};
 ghost use Rattle.bec_bytes.specs.Causes.{Rose};
-ghost use Rattle.bec_node.specs.Texts.{line_of, printed, word_of, check_text, refusal_text, status_of};
+ghost use Rattle.bec_node.specs.Texts.{line_of, printed, check_text, refusal_text, status_of};
 ghost use Rattle.bec_node.specs.Run.{Says, Puts};
 
 use crate::heads::heads_of;
@@ -13,7 +13,6 @@ use bec_bytes::{Sink, write_all_of};
 use std::alloc::{AllocError, Global};
 use std::collections::BTreeSet;
 use update_check::CheckFault;
-use update_codec::CodecKind;
 use update_model::UpdateId;
 use update_stream::{Reading, RecordFault};
 
@@ -113,32 +112,11 @@ fn check_text(alloc: Global, fault: &CheckFault) -> Result<String, AllocError>
 {
     match fault {
         CheckFault::Codec(fault) => {
-            let word = word(fault.kind);
-            let place = fault.place;
-            format!(in alloc; "{word} at {place}")
+            format!(in alloc; "{fault}")
         }
         CheckFault::WrongDatabase => String::from_str(alloc, "other database"),
         CheckFault::AuthorNotListed => String::from_str(alloc, "author not listed"),
         CheckFault::BadSignature => String::from_str(alloc, "bad signature"),
-    }
-}
-
-/// The word for what is wrong with a spelling.
-fn word(kind: CodecKind) -> &'static str
-    ensures { result.now ≡ word_of kind }
-{
-    match kind {
-        CodecKind::Version => "version",
-        CodecKind::Short => "short",
-        CodecKind::Trailing => "trailing",
-        CodecKind::Order => "order",
-        CodecKind::Count => "count",
-        CodecKind::Tag => "tag",
-        CodecKind::Text => "text",
-        CodecKind::KeyType => "key type",
-        CodecKind::SignatureLength => "signature length",
-        CodecKind::TooLong => "too long",
-        CodecKind::OwnIndex => "own index",
     }
 }
 

@@ -8,7 +8,7 @@ use crate::ReadError;
 use bec_bytes::{Source, read_full};
 use byteorder::{BigEndian, ByteOrder};
 use std::alloc::Global;
-use update_codec::{CodecFault, CodecKind, MAX_UPDATE};
+use update_codec::{CodecFault, CodecKind, UPDATE_LIMIT};
 
 /// What stands next in a stream.
 #[derive(Drop)]
@@ -36,14 +36,14 @@ pub fn next_record<S: Source>(alloc: Global, input: &mut S) -> Result<NextRecord
     if count < 4 {
         return Ok(short_at(0));
     }
-    let length = length_of(&prefix);
-    if length > MAX_UPDATE {
+    let length = length_of(&prefix) as usize;
+    if length > UPDATE_LIMIT {
         return Ok(NextRecord::Cut(CodecFault {
             kind: CodecKind::TooLong,
-            place: MAX_UPDATE,
+            place: UPDATE_LIMIT as u32,
         }));
     }
-    let mut bytes = vec![in alloc; 0u8; length as usize]?;
+    let mut bytes = vec![in alloc; 0u8; length]?;
     let held = read_full(input, &mut bytes)?;
     if held < bytes.len() {
         return Ok(short_at(held as u32));
