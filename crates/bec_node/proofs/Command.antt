@@ -41,6 +41,10 @@ other_first (w ∷ words) word at other command is =
     let named : string_bytes w ≡ word_of command = cc in
     other command (ap (λ (t : String Global). string_bytes t) (sym same) ∙ named)
 
+-- a word that is none of the commands' words
+pub other_words : (word : List ℕ) → (word ≡ codes "heads" → ⊥) → (command : Command) → word ≡ word_of command → ⊥
+other_words word heads Heads is = heads is
+
 pub no_first : (words : List (String Global)) → slice_get words 0 ≡ None → IsNoCommand words
 no_first [] none command is = cc
 no_first (w ∷ words) none command is = cc
