@@ -1,0 +1,57 @@
+//! Taking over bytes and spelled updates.
+
+ghost use Rattle.std.specs.Prelude.{◌≡◌, Ok, IfOk, IfErr, IfNone, IfSome};
+ghost use Rattle.update_check.specs.Causes.{HasCause, IsCause, Takes};
+ghost use Rattle.update_check.specs.Signed.{IsChecked};
+
+use crate::{CheckError, CheckFault, Checked};
+use lms_tree::verify;
+use std::alloc::Global;
+use update_codec::{Spelled, one_update, spelled};
+use update_model::DbRule;
+
+/// Takes over bytes that spell an update of the rule's database, by a listed author who signed it.
+///
+/// Else the fault says why not, the first in the order of [`CheckFault`]. It takes the memory that [`spelled`] takes.
+pub fn check(alloc: Global, rule: &DbRule, bytes: Vec<u8>) -> Result<Checked, CheckError>
+    ensures found { IfOk result (λ checked. IsChecked rule.now checked) }
+    ensures same { IfOk result (λ checked. checked ≡ bytes.items) }
+    ensures only { IsChecked rule.now bytes.items → Takes result bytes.items }
+    ensures fault { IfErr result (λ error. HasCause rule.now bytes.items error) }
+{
+    let update = spelled(alloc, bytes)?;
+    Ok(check_spelled(rule, update)?)
+}
+
+/// Takes over a spelled update of the rule's database, by a listed author who signed it. It takes no memory.
+///
+/// Else the fault says why not, the first in the order of [`CheckFault`]; it is not one of the codec.
+pub fn check_spelled(rule: &DbRule, update: Spelled) -> Result<Checked, CheckFault>
+    ensures found { IfOk result (λ checked. IsChecked rule.now checked) }
+    ensures same { IfOk result (λ checked. checked ≡ update) }
+    ensures only { IsChecked rule.now update → result ≡ Ok update }
+    ensures fault { IfErr result (λ fault. IsCause rule.now update fault) }
+{
+    match fault_of(rule, &update) {
+        Some(fault) => Err(fault),
+        None => Ok(Checked::new(update)),
+    }
+}
+
+/// Why a spelled update is refused, if it is.
+fn fault_of(rule: &DbRule, update: &Spelled) -> Option<CheckFault>
+    ensures none { IfNone result (IsChecked rule.now update.now) }
+    ensures fault { IfSome result (λ fault. IsCause rule.now update.now fault) }
+{
+    let body = update.body();
+    if body.database != rule.database {
+        return Some(CheckFault::WrongDatabase);
+    }
+    if !rule.lists(&body.author) {
+        return Some(CheckFault::AuthorNotListed);
+    }
+    if !verify(&body.author, update.message(), update.signature()) {
+        return Some(CheckFault::BadSignature);
+    }
+    None
+}

@@ -1,0 +1,1 @@
+//! Signed updates, and each reason why one is refused.
