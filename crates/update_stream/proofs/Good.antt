@@ -6,12 +6,12 @@ use Rattle.update_model.specs.Rule.{RuleData}
 use Rattle.update_model.specs.Graph.{holds, IsNext, IsClosed, is_within}
 use Rattle.update_model.proofs.Closed.{Follows-push}
 use Rattle.update_codec.specs.Parts.{id_of, entry_of}
-use Rattle.update_check.specs.Signed.{IsAccepted}
+use Rattle.update_check.specs.Signed.{IsChecked}
 use Rattle.update_stream.specs.Stream.{firsts, graph_of, rule_of, AreGood}
 use Rattle.update_stream.proofs.Firsts.{firsts-held, firsts-new}
 
 pub AreGood-none : (given : Option RuleData) → AreGood given []
-AreGood-none given = record { accepted = All-nil (IsAccepted (rule_of given [])); closed = tt; within = refl; few = omega arith }
+AreGood-none given = record { accepted = All-nil (IsChecked (rule_of given [])); closed = tt; within = refl; few = omega arith }
 
 -- what comes after a record does not change its rule
 pub rule_of-longer : (given : Option RuleData) (records : List (List ℕ)) (r : List ℕ) (more : List (List ℕ)) → rule_of given (records ++ r ∷ more) ≡ rule_of given (records ++ r ∷ [])
@@ -26,13 +26,13 @@ rule_of-members None [] r = refl
 rule_of-members None (x ∷ xs) r = refl
 
 -- Records that are accepted, and one more.
-accepted-push : (given : Option RuleData) (records : List (List ℕ)) (r : List ℕ) → All (IsAccepted (rule_of given records)) records
-    → IsAccepted (rule_of given (records ++ r ∷ [])) r → All (IsAccepted (rule_of given (records ++ r ∷ []))) (records ++ r ∷ [])
-accepted-push (Some rule) records r all next = All-push (IsAccepted rule) records r all next
-accepted-push None [] r all next = All-cons (IsAccepted (rule_of None (r ∷ []))) r [] next (All-nil (IsAccepted (rule_of None (r ∷ []))))
-accepted-push None (x ∷ xs) r all next = All-push (IsAccepted (rule_of None (x ∷ xs))) (x ∷ xs) r all next
+accepted-push : (given : Option RuleData) (records : List (List ℕ)) (r : List ℕ) → All (IsChecked (rule_of given records)) records
+    → IsChecked (rule_of given (records ++ r ∷ [])) r → All (IsChecked (rule_of given (records ++ r ∷ []))) (records ++ r ∷ [])
+accepted-push (Some rule) records r all next = All-push (IsChecked rule) records r all next
+accepted-push None [] r all next = All-cons (IsChecked (rule_of None (r ∷ []))) r [] next (All-nil (IsChecked (rule_of None (r ∷ []))))
+accepted-push None (x ∷ xs) r all next = All-push (IsChecked (rule_of None (x ∷ xs))) (x ∷ xs) r all next
 
-pub AreGood-held : (given : Option RuleData) (records : List (List ℕ)) (r : List ℕ) → AreGood given records → IsAccepted (rule_of given (records ++ r ∷ [])) r → length records < 262144
+pub AreGood-held : (given : Option RuleData) (records : List (List ℕ)) (r : List ℕ) → AreGood given records → IsChecked (rule_of given (records ++ r ∷ [])) r → length records < 262144
     → holds (graph_of records) (id_of r) ≡ true → AreGood given (records ++ r ∷ [])
 AreGood-held given records r good accepted few held =
     let same = ap (λ (rs : List (List ℕ)). map entry_of rs) (firsts-held records r held) in
@@ -43,7 +43,7 @@ AreGood-held given records r good accepted few held =
       few = omega (arith, length-append records (r ∷ []));
     }
 
-pub AreGood-new : (given : Option RuleData) (records : List (List ℕ)) (r : List ℕ) → AreGood given records → IsAccepted (rule_of given (records ++ r ∷ [])) r → length records < 262144
+pub AreGood-new : (given : Option RuleData) (records : List (List ℕ)) (r : List ℕ) → AreGood given records → IsChecked (rule_of given (records ++ r ∷ [])) r → length records < 262144
     → IsNext (graph_of records) (entry_of r) → is_within (graph_of records ++ entry_of r ∷ []) ≡ true → AreGood given (records ++ r ∷ [])
 AreGood-new given records r good accepted few next within =
     let same : graph_of (records ++ r ∷ []) ≡ graph_of records ++ entry_of r ∷ [] =

@@ -7,7 +7,8 @@ use Rattle.update_codec.specs.Stream.{framed, stream_of}
 use Rattle.update_codec.specs.Parts.{entry_of}
 use Rattle.update_codec.specs.declared.codec_fault.CodecFault.{CodecFault}
 use Rattle.update_check.specs.declared.check_error.CheckFault.TheVariants.{Codec}
-use Rattle.update_check.specs.Signed.{IsAccepted, IsCause}
+use Rattle.update_check.specs.Signed.{IsChecked}
+use Rattle.update_check.specs.Causes.{IsCause}
 use Rattle.update_stream.specs.declared.record_fault.RecordFault.{RecordFault}
 use Rattle.update_stream.specs.declared.record_fault.RecordFault.TheVariants.{Check, Lacks, Full}
 use Rattle.update_stream.specs.declared.next_record.NextRecord.TheVariants.{Cut}
@@ -38,7 +39,7 @@ under_rule given records members r P is holds = subst P (ap (λ (ms : List (List
 pub HasRead-more : (given : Option RuleData) (a b c : Option (List ℕ)) (members after : List (List ℕ)) (n : ℕ) (r : List ℕ) → HasRead given a b members n → n < 262144
     → Consumes b c (framed r) → Takes given members r after None → HasRead given a c after (n + 1)
 HasRead-more given a b c members after n r h few came taken =
-    let accepted = under_rule given h.records members r (λ (rule : RuleData). IsAccepted rule r) h.firsts_of taken.0 in
+    let accepted = under_rule given h.records members r (λ (rule : RuleData). IsChecked rule r) h.firsts_of taken.0 in
     let counted = h.counted in
     let short : length h.records < 262144 = omega arith in
     let added : Adds (firsts h.records) r after = (let P : List (List ℕ) → Type 0 = λ ms. Adds ms r after in subst P h.firsts_of taken.1) in
@@ -104,12 +105,12 @@ fault_of given records r more members result (Check fault) is begins taken =
     inr (r, begins, under_rule given records members r (λ (rule : RuleData). IsCause rule r fault) is taken)
 fault_of given records r more members result (Lacks id) is begins taken = (
   r,
-  record { begins = begins; accepted = under_rule given records members r (λ (rule : RuleData). IsAccepted rule r) is taken.0 },
+  record { begins = begins; accepted = under_rule given records members r (λ (rule : RuleData). IsChecked rule r) is taken.0 },
   subst (λ (ms : List (List ℕ)). LacksPredecessor (map entry_of ms) (entry_of r) id) is taken.1,
 )
 fault_of given records r more members result Full is begins taken = (
   r,
-  record { begins = begins; accepted = under_rule given records members r (λ (rule : RuleData). IsAccepted rule r) is taken.0 },
+  record { begins = begins; accepted = under_rule given records members r (λ (rule : RuleData). IsChecked rule r) is taken.0 },
   subst (λ (ms : List (List ℕ)). PassesLimit (map entry_of ms) (entry_of r)) is taken.1,
 )
 

@@ -16,8 +16,8 @@ use Rattle.update_codec.specs.declared.codec_fault.CodecFault.{CodecFault}
 use Rattle.update_codec.proofs.StreamLemmas.{framed_one as one_frame}
 use Rattle.update_check.specs.declared.check_error.CheckFault.{CheckFault}
 use Rattle.update_check.specs.declared.check_error.CheckFault.TheVariants.{Codec, WrongDatabase, AuthorNotListed, BadSignature}
-use Rattle.update_check.specs.Signed.{IsAccepted, IsCause}
-use Rattle.update_check.proofs.Causes.{accepted_or_cause, cause_once, accepted_short}
+use Rattle.update_check.specs.Signed.{IsChecked}
+use Rattle.update_check.specs.Causes.{IsCause}
 use Rattle.update_stream.specs.declared.record_fault.RecordFault.{RecordFault}
 use Rattle.update_stream.specs.declared.record_fault.RecordFault.TheVariants.{Check, Lacks, Full}
 use Rattle.update_stream.specs.Stream.{has_id, firsts_after, firsts, graph_of, rule_of, AreGood, IsWhole, BeginsWith, IsCut, in_length, too_long, in_update, IsCutAs, LacksPredecessor, PassesLimit, HasFault, IsStop, IsRefused}
@@ -25,13 +25,24 @@ use Rattle.update_stream.proofs.Frames.{stream_of-cons, stream_of-nil, framed_so
 use Rattle.update_stream.proofs.Firsts.{graph_of-append, holds-graph_of}
 use Rattle.update_stream.proofs.Good.{rule_of-longer}
 
+-- bytes are refused under a rule for one cause
+abbrev pub OneCause : Type 0
+OneCause = (rule : RuleData) (bytes : List ℕ) (fault other : CheckFault) → IsCause rule bytes fault → IsCause rule bytes other → fault ≡ other
+
+-- what is checked is not refused
+abbrev pub NoCause : Type 0
+NoCause = (rule : RuleData) (bytes : List ℕ) (fault : CheckFault) → IsCause rule bytes fault → IsChecked rule bytes → ⊥
+
 -- ---- two lists of records of one stream
 
 abbrev pub Short : List (List ℕ) → Type 0
 Short records = All (λ r. length r ≤ 262144) records
 
+checked_short : (rule : RuleData) (r : List ℕ) → IsChecked rule r → length r ≤ 262144
+checked_short rule r checked = checked.1.spells.short
+
 pub AreGood-short : (given : Option RuleData) (records : List (List ℕ)) → AreGood given records → Short records
-AreGood-short given records good = λ k e low. accepted_short (rule_of given records) _ (good.accepted k e low)
+AreGood-short given records good = λ k e low. checked_short (rule_of given records) _ (good.accepted k e low)
 
 -- After these records the others go on with a record that stands at the front of the rest.
 pub record GoesOn (records others : List (List ℕ)) (rest : List ℕ) : Type 0 where
@@ -72,7 +83,7 @@ lines_up (x ∷ xs) (y ∷ ys) rest other s t e =
 -- what a longer good list says of the record that stands next after a shorter one
 pub record IsGoodNext (given : Option RuleData) (records : List (List ℕ)) (r : List ℕ) : Type 0 where
   pub few : length records < 262144
-  pub accepted : IsAccepted (rule_of given (records ++ r ∷ [])) r
+  pub accepted : IsChecked (rule_of given (records ++ r ∷ [])) r
   pub known_or_next : (holds (graph_of records) (id_of r) ≡ true) ⊎ (IsNext (graph_of records) (entry_of r) × (is_within (graph_of records ++ entry_of r ∷ []) ≡ true))
 
 -- a front of what is within the limits is within them
@@ -101,8 +112,8 @@ All-back P (x ∷ xs) ys a = All-back P xs ys (All-tail P x (xs ++ ys) a)
 pub goes_on_good : (given : Option RuleData) (records others : List (List ℕ)) (rest : List ℕ) → AreGood given others → (g : GoesOn records others rest) → IsGoodNext given records g.next
 goes_on_good given records others rest good g =
     let longer : AreGood given (records ++ g.next ∷ g.more) = subst (λ (t : List (List ℕ)). AreGood given t) g.parts good in
-    let P : RuleData → Type 0 = λ rule. IsAccepted rule g.next in
-    let all = IsAccepted (rule_of given (records ++ g.next ∷ g.more)) in
+    let P : RuleData → Type 0 = λ rule. IsChecked rule g.next in
+    let all = IsChecked (rule_of given (records ++ g.next ∷ g.more)) in
     let few = longer.few in
     record {
       few = omega (arith, length-append records (g.next ∷ g.more));
@@ -135,26 +146,26 @@ cut_or_whole rest r AuthorNotListed cut begins = absurd cut
 cut_or_whole rest r BadSignature cut begins = absurd cut
 
 -- a fault of what stands next is none of a checked update that stands there
-cause_or_accepted : (given : Option RuleData) (records : List (List ℕ)) (rest r : List ℕ) (fault : CheckFault) → HasFault given records rest (Check fault) → BeginsWith rest r
-    → IsAccepted (rule_of given (records ++ r ∷ [])) r → ⊥
-cause_or_accepted given records rest r fault (inl cut) begins accepted = cut_or_whole rest r fault cut begins
-cause_or_accepted given records rest r fault (inr f) begins accepted =
-    let P : List ℕ → Type 0 = λ w. IsAccepted (rule_of given (records ++ w ∷ [])) w in
-    accepted_or_cause (rule_of given (records ++ f.0 ∷ [])) f.0 fault (moved P rest r f.0 begins f.1 accepted) f.2
+cause_or_accepted : NoCause → (given : Option RuleData) (records : List (List ℕ)) (rest r : List ℕ) (fault : CheckFault) → HasFault given records rest (Check fault) → BeginsWith rest r
+    → IsChecked (rule_of given (records ++ r ∷ [])) r → ⊥
+cause_or_accepted none given records rest r fault (inl cut) begins accepted = cut_or_whole rest r fault cut begins
+cause_or_accepted none given records rest r fault (inr f) begins accepted =
+    let P : List ℕ → Type 0 = λ w. IsChecked (rule_of given (records ++ w ∷ [])) w in
+    none (rule_of given (records ++ f.0 ∷ [])) f.0 fault f.2 (moved P rest r f.0 begins f.1 accepted)
 
-good_or_fault : (given : Option RuleData) (records : List (List ℕ)) (rest r : List ℕ) (fault : RecordFault) → IsGoodNext given records r → BeginsWith rest r → HasFault given records rest fault → ⊥
-good_or_fault given records rest r (Check fault) good begins f = cause_or_accepted given records rest r fault f begins good.accepted
-good_or_fault given records rest r (Lacks id) good begins f =
+good_or_fault : NoCause → (given : Option RuleData) (records : List (List ℕ)) (rest r : List ℕ) (fault : RecordFault) → IsGoodNext given records r → BeginsWith rest r → HasFault given records rest fault → ⊥
+good_or_fault none given records rest r (Check fault) good begins f = cause_or_accepted none given records rest r fault f begins good.accepted
+good_or_fault none given records rest r (Lacks id) good begins f =
     held_and_lacks (graph_of records) (entry_of r) id good.known_or_next (moved (λ (w : List ℕ). LacksPredecessor (graph_of records) (entry_of w) id) rest f.0 r f.1.begins begins f.2)
-good_or_fault given records rest r Full good begins f =
+good_or_fault none given records rest r Full good begins f =
     held_and_passes (graph_of records) (entry_of r) good.known_or_next (moved (λ (w : List ℕ). PassesLimit (graph_of records) (entry_of w)) rest f.0 r f.1.begins begins f.2)
 
-pub good_or_stop : (given : Option RuleData) (records others : List (List ℕ)) (rest : List ℕ) (fault : RecordFault) → AreGood given others
+pub good_or_stop : NoCause → (given : Option RuleData) (records others : List (List ℕ)) (rest : List ℕ) (fault : RecordFault) → AreGood given others
     → GoesOn records others rest → IsStop given records rest fault → ⊥
-good_or_stop given records others rest fault more g (inl stop) =
+good_or_stop none given records others rest fault more g (inl stop) =
     let next = goes_on_good given records others rest more g in
-    good_or_fault given records rest g.next fault next (record { short = accepted_short (rule_of given (records ++ g.next ∷ [])) g.next next.accepted; more = g.tail; parts = g.begins }) stop.1
-good_or_stop given records others rest fault more g (inr stop) =
+    good_or_fault none given records rest g.next fault next (record { short = checked_short (rule_of given (records ++ g.next ∷ [])) g.next next.accepted; more = g.tail; parts = g.begins }) stop.1
+good_or_stop none given records others rest fault more g (inr stop) =
     let next = goes_on_good given records others rest more g in
     absurd (let few = next.few in omega (arith, few, stop.0))
 
@@ -202,8 +213,8 @@ whole_once given input members others a b =
       ]
     ]
 
-pub whole_and_refused : (given : Option RuleData) (input rest : List ℕ) (members : List (List ℕ)) (n : ℕ) (fault : RecordFault) → IsWhole given input members → IsRefused given input rest n fault → ⊥
-whole_and_refused given input rest members n fault a b =
+pub whole_and_refused : NoCause → (given : Option RuleData) (input rest : List ℕ) (members : List (List ℕ)) (n : ℕ) (fault : RecordFault) → IsWhole given input members → IsRefused given input rest n fault → ⊥
+whole_and_refused none given input rest members n fault a b =
     let xs = a.0 in
     let ys = b.0 in
     let f = b.1 in
@@ -212,7 +223,7 @@ whole_and_refused given input rest members n fault a b =
     elim one [
       | inl g ↦ absurd (no_more xs ys g)
       | inr more ↦ elim more [
-        | inl g ↦ good_or_stop given ys xs back fault a.1 g f.4
+        | inl g ↦ good_or_stop none given ys xs back fault a.1 g f.4
         | inr same ↦ no_stop_at_end given ys fault (let P : List ℕ → Type 0 = λ w. IsStop given ys w fault in subst P (sym same.1) f.4)
       ]
     ]
@@ -240,53 +251,53 @@ cuts_once rest WrongDatabase g a b = absurd a
 cuts_once rest AuthorNotListed g a b = absurd a
 cuts_once rest BadSignature g a b = absurd a
 
-checks_once : (given : Option RuleData) (records : List (List ℕ)) (rest : List ℕ) (f g : CheckFault) → HasFault given records rest (Check f) → HasFault given records rest (Check g) → f ≡ g
-checks_once given records rest f g (inl a) (inl b) = cuts_once rest f g a b
-checks_once given records rest f g (inl a) (inr b) = absurd (cut_or_whole rest b.0 f a b.1)
-checks_once given records rest f g (inr a) (inl b) = absurd (cut_or_whole rest a.0 g b a.1)
-checks_once given records rest f g (inr a) (inr b) =
+checks_once : OneCause → (given : Option RuleData) (records : List (List ℕ)) (rest : List ℕ) (f g : CheckFault) → HasFault given records rest (Check f) → HasFault given records rest (Check g) → f ≡ g
+checks_once one given records rest f g (inl a) (inl b) = cuts_once rest f g a b
+checks_once one given records rest f g (inl a) (inr b) = absurd (cut_or_whole rest b.0 f a b.1)
+checks_once one given records rest f g (inr a) (inl b) = absurd (cut_or_whole rest a.0 g b a.1)
+checks_once one given records rest f g (inr a) (inr b) =
     let P : List ℕ → Type 0 = λ w. IsCause (rule_of given (records ++ w ∷ [])) w f in
-    cause_once (rule_of given (records ++ b.0 ∷ [])) b.0 f g (moved P rest a.0 b.0 a.1 b.1 a.2) b.2
+    one (rule_of given (records ++ b.0 ∷ [])) b.0 f g (moved P rest a.0 b.0 a.1 b.1 a.2) b.2
 
-faults_once : (given : Option RuleData) (records : List (List ℕ)) (rest : List ℕ) (f g : RecordFault) → HasFault given records rest f → HasFault given records rest g → f ≡ g
-faults_once given records rest (Check f) (Check g) a b = ap Check (checks_once given records rest f g a b)
-faults_once given records rest (Check f) (Lacks id) a b = absurd (cause_or_accepted given records rest b.0 f a b.1.begins b.1.accepted)
-faults_once given records rest (Check f) Full a b = absurd (cause_or_accepted given records rest b.0 f a b.1.begins b.1.accepted)
-faults_once given records rest (Lacks id) (Check g) a b = absurd (cause_or_accepted given records rest a.0 g b a.1.begins a.1.accepted)
-faults_once given records rest (Lacks id) (Lacks name) a b =
+faults_once : OneCause → NoCause → (given : Option RuleData) (records : List (List ℕ)) (rest : List ℕ) (f g : RecordFault) → HasFault given records rest f → HasFault given records rest g → f ≡ g
+faults_once one none given records rest (Check f) (Check g) a b = ap Check (checks_once one given records rest f g a b)
+faults_once one none given records rest (Check f) (Lacks id) a b = absurd (cause_or_accepted none given records rest b.0 f a b.1.begins b.1.accepted)
+faults_once one none given records rest (Check f) Full a b = absurd (cause_or_accepted none given records rest b.0 f a b.1.begins b.1.accepted)
+faults_once one none given records rest (Lacks id) (Check g) a b = absurd (cause_or_accepted none given records rest a.0 g b a.1.begins a.1.accepted)
+faults_once one none given records rest (Lacks id) (Lacks name) a b =
     let P : List ℕ → Type 0 = λ w. LacksPredecessor (graph_of records) (entry_of w) id in
     ap Lacks (lacks_once (graph_of records) (entry_of b.0) id name (moved P rest a.0 b.0 a.1.begins b.1.begins a.2) b.2)
-faults_once given records rest (Lacks id) Full a b =
+faults_once one none given records rest (Lacks id) Full a b =
     let P : List ℕ → Type 0 = λ w. LacksPredecessor (graph_of records) (entry_of w) id in
     absurd (lacks_or_passes (graph_of records) (entry_of b.0) id (moved P rest a.0 b.0 a.1.begins b.1.begins a.2) b.2)
-faults_once given records rest Full (Check g) a b = absurd (cause_or_accepted given records rest a.0 g b a.1.begins a.1.accepted)
-faults_once given records rest Full (Lacks id) a b =
+faults_once one none given records rest Full (Check g) a b = absurd (cause_or_accepted none given records rest a.0 g b a.1.begins a.1.accepted)
+faults_once one none given records rest Full (Lacks id) a b =
     let P : List ℕ → Type 0 = λ w. LacksPredecessor (graph_of records) (entry_of w) id in
     absurd (lacks_or_passes (graph_of records) (entry_of a.0) id (moved P rest b.0 a.0 b.1.begins a.1.begins b.2) a.2)
-faults_once given records rest Full Full a b = refl
+faults_once one none given records rest Full Full a b = refl
 
-stops_once : (given : Option RuleData) (records : List (List ℕ)) (rest : List ℕ) (f g : RecordFault) → IsStop given records rest f → IsStop given records rest g → f ≡ g
-stops_once given records rest f g (inl a) (inl b) = faults_once given records rest f g a.1 b.1
-stops_once given records rest f g (inl a) (inr b) = absurd (omega (arith, a.0, b.0))
-stops_once given records rest f g (inr a) (inl b) = absurd (omega (arith, a.0, b.0))
-stops_once given records rest f g (inr a) (inr b) = a.2 ∙ sym b.2
+stops_once : OneCause → NoCause → (given : Option RuleData) (records : List (List ℕ)) (rest : List ℕ) (f g : RecordFault) → IsStop given records rest f → IsStop given records rest g → f ≡ g
+stops_once one none given records rest f g (inl a) (inl b) = faults_once one none given records rest f g a.1 b.1
+stops_once one none given records rest f g (inl a) (inr b) = absurd (omega (arith, a.0, b.0))
+stops_once one none given records rest f g (inr a) (inl b) = absurd (omega (arith, a.0, b.0))
+stops_once one none given records rest f g (inr a) (inr b) = a.2 ∙ sym b.2
 
-pub refused_once : (given : Option RuleData) (input rest other : List ℕ) (m n : ℕ) (f g : RecordFault) → IsRefused given input rest m f → IsRefused given input other n g → (m ≡ n) × (f ≡ g)
-refused_once given input rest other m n f g a b =
+pub refused_once : OneCause → NoCause → (given : Option RuleData) (input rest other : List ℕ) (m n : ℕ) (f g : RecordFault) → IsRefused given input rest m f → IsRefused given input other n g → (m ≡ n) × (f ≡ g)
+refused_once one none given input rest other m n f g a b =
     let xs = a.0 in
     let ys = b.0 in
     let x = a.1 in
     let y = b.1 in
-    let one = lines_up xs ys (x.0 ++ rest) (y.0 ++ other) (AreGood-short given xs x.1) (AreGood-short given ys y.1) (sym x.2 ∙ y.2) in
-    elim one [
-      | inl go ↦ absurd (good_or_stop given xs ys (x.0 ++ rest) f y.1 go x.4)
+    let up = lines_up xs ys (x.0 ++ rest) (y.0 ++ other) (AreGood-short given xs x.1) (AreGood-short given ys y.1) (sym x.2 ∙ y.2) in
+    elim up [
+      | inl go ↦ absurd (good_or_stop none given xs ys (x.0 ++ rest) f y.1 go x.4)
       | inr more ↦ elim more [
-        | inl go ↦ absurd (good_or_stop given ys xs (y.0 ++ other) g x.1 go y.4)
+        | inl go ↦ absurd (good_or_stop none given ys xs (y.0 ++ other) g x.1 go y.4)
         | inr same ↦
             let Q : List (List ℕ) → Type 0 = λ w. IsStop given w (y.0 ++ other) g in
             let R : List ℕ → Type 0 = λ w. IsStop given xs w g in (
               x.3 ∙ ap (λ (w : List (List ℕ)). length w + 1) same.0 ∙ sym y.3,
-              stops_once given xs (x.0 ++ rest) f g x.4 (subst R (sym same.1) (subst Q (sym same.0) y.4)),
+              stops_once one none given xs (x.0 ++ rest) f g x.4 (subst R (sym same.1) (subst Q (sym same.0) y.4)),
             )
       ]
     ]

@@ -6,7 +6,8 @@ use Rattle.update_model.specs.Graph.{IsNext, is_within, holds}
 use Rattle.update_model.specs.Rule.{RuleData}
 use Rattle.update_codec.specs.Parts.{entry_of}
 use Rattle.update_codec.specs.Stream.{framed}
-use Rattle.update_check.specs.Signed.{IsAccepted, IsCause}
+use Rattle.update_check.specs.Signed.{IsChecked}
+use Rattle.update_check.specs.Causes.{IsCause}
 use Rattle.update_stream.specs.declared.record_fault.RecordFault.{RecordFault}
 use Rattle.update_stream.specs.declared.record_fault.RecordFault.TheVariants.{Check, Lacks, Full}
 use Rattle.update_stream.specs.declared.next_record.NextRecord.{NextRecord}
@@ -31,7 +32,7 @@ Adds members r after =
 
 -- what taking a record does to the members
 abbrev pub Takes : Option RuleData → List (List ℕ) → List ℕ → List (List ℕ) → Option RecordFault → Type 0
-Takes given members r after None = IsAccepted (rule_of given (members ++ r ∷ [])) r × Adds members r after
+Takes given members r after None = IsChecked (rule_of given (members ++ r ∷ [])) r × Adds members r after
 Takes given members r after (Some (Check fault)) = IsCause (rule_of given (members ++ r ∷ [])) r fault
-Takes given members r after (Some (Lacks id)) = IsAccepted (rule_of given (members ++ r ∷ [])) r × LacksPredecessor (map entry_of members) (entry_of r) id
-Takes given members r after (Some Full) = IsAccepted (rule_of given (members ++ r ∷ [])) r × PassesLimit (map entry_of members) (entry_of r)
+Takes given members r after (Some (Lacks id)) = IsChecked (rule_of given (members ++ r ∷ [])) r × LacksPredecessor (map entry_of members) (entry_of r) id
+Takes given members r after (Some Full) = IsChecked (rule_of given (members ++ r ∷ [])) r × PassesLimit (map entry_of members) (entry_of r)

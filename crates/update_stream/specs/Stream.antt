@@ -12,7 +12,8 @@ use Rattle.update_codec.specs.declared.codec_fault.CodecKind.{CodecKind}
 use Rattle.update_codec.specs.declared.codec_fault.CodecKind.TheVariants as kinds
 use Rattle.update_check.specs.declared.check_error.CheckFault.{CheckFault}
 use Rattle.update_check.specs.declared.check_error.CheckFault.TheVariants.{Codec, WrongDatabase, AuthorNotListed, BadSignature}
-use Rattle.update_check.specs.Signed.{IsAccepted, IsCause}
+use Rattle.update_check.specs.Signed.{IsChecked}
+use Rattle.update_check.specs.Causes.{IsCause}
 use Rattle.update_stream.specs.declared.record_fault.RecordFault.{RecordFault}
 use Rattle.update_stream.specs.declared.record_fault.RecordFault.TheVariants.{Check, Lacks, Full}
 
@@ -42,7 +43,7 @@ rule_of None (first ∷ others) = record { database = database_of first; authors
 
 -- Checked updates under the stream's rule, whose graph is closed and within the limits, and not too many of them.
 pub record AreGood (given : Option RuleData) (records : List (List ℕ)) : Type 0 where
-  pub accepted : All (IsAccepted (rule_of given records)) records
+  pub accepted : All (IsChecked (rule_of given records)) records
   pub closed : IsClosed (graph_of records)
   pub within : is_within (graph_of records) ≡ true
   pub few : length records ≤ 262144
@@ -78,7 +79,7 @@ IsCutAs bytes BadSignature = ⊥
 -- The bytes begin with a record that is a checked update, after these records.
 pub record BeginsWithUpdate (given : Option RuleData) (records : List (List ℕ)) (bytes r : List ℕ) : Type 0 where
   pub begins : BeginsWith bytes r
-  pub accepted : IsAccepted (rule_of given (records ++ r ∷ [])) r
+  pub accepted : IsChecked (rule_of given (records ++ r ∷ [])) r
 
 -- The member is new, and this is the first of its predecessors that is not held.
 pub record LacksPredecessor (graph : List Entry) (e : Entry) (id : UpdateId) : Type 0 where

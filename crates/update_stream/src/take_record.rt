@@ -1,6 +1,7 @@
 ghost use Rattle.std.specs.Prelude.{◌≡◌, ◌++◌, ◌∷◌, [], IfOk, IfErr, IfSome};
 ghost use Rattle.update_codec.specs.Parts.{database_of};
-ghost use Rattle.update_check.specs.Signed.{IsAccepted, IsCause};
+ghost use Rattle.update_check.specs.Causes.{IsCause};
+ghost use Rattle.update_check.specs.Signed.{IsChecked};
 ghost use Rattle.update_stream.specs.Stream.{rule_of};
 ghost use Rattle.update_stream.specs.Steps.{Takes};
 
@@ -49,7 +50,7 @@ fn check_next(
     graph: &Graph<Checked>,
     update: Spelled,
 ) -> Result<Checked, CheckFault>
-    ensures found { IfOk result (λ checked. (checked ≡ update) × IsAccepted (rule_of rule.now (graph.now ++ update ∷ [])) update) }
+    ensures found { IfOk result (λ checked. (checked ≡ update) × IsChecked (rule_of rule.now (graph.now ++ update ∷ [])) update) }
     ensures fault { IfErr result (λ fault. IsCause (rule_of rule.now (graph.now ++ update ∷ [])) update fault) }
 {
     match rule {
