@@ -23,6 +23,25 @@ Follows-pop before (x ∷ es) e follows =
     let rest = Follows-pop (before ++ x ∷ []) es e follows.1
     in ((follows.0, rest.0), subst (λ (graph : List Entry). IsNext graph e) (append_assoc before (x ∷ []) es) rest.1)
 
+-- the members in front
+pub Follows-front : (before xs ys : List Entry) → Follows before (xs ++ ys) → Follows before xs
+Follows-front before [] ys f = tt
+Follows-front before (x ∷ xs) ys f = (f.0, Follows-front (before ++ x ∷ []) xs ys f.1)
+
+-- the members behind
+pub Follows-split : (before xs ys : List Entry) → Follows before (xs ++ ys) → Follows (before ++ xs) ys
+Follows-split before [] ys f = rw append-nil f
+Follows-split before (x ∷ xs) ys f = rw append_assoc at (Follows-split (before ++ x ∷ []) xs ys f.1)
+
+-- a member between
+pub Follows-at : (before xs ys : List Entry) (e : Entry) → Follows before (xs ++ e ∷ ys) → IsNext (before ++ xs) e
+Follows-at before xs ys e f = (Follows-split before xs (e ∷ ys) f).0
+
+-- two closed parts, the second after the first
+pub Follows-join : (before xs ys : List Entry) → Follows before xs → Follows (before ++ xs) ys → Follows before (xs ++ ys)
+Follows-join before [] ys f g = rw append-nil at g
+Follows-join before (x ∷ xs) ys f g = (f.0, Follows-join (before ++ x ∷ []) xs ys f.1 (rw append_assoc g))
+
 -- a position is found exactly where an element passes
 pub is_some-position : {X : Type 0} (t : X → Bool) (i : ℕ) (xs : List X) → is_some (position_from t i xs) ≡ list_any t xs
 is_some-position t i [] = refl

@@ -1,33 +1,25 @@
 -- What updates are, as plain data, and which of them are in form.
-use Rattle.std.specs.Prelude.{◌≡◌, ℕ, ◌+◌, ◌*◌, ◌<◌, ◌≤◌, List, [], ◌∷◌, length, slice_index, Bool, Option, Some, None, IsTrue, ◌==◌, if◌then◌else◌}
+use Rattle.std.specs.Prelude.{◌≡◌, ℕ, ◌+◌, ◌*◌, ◌≤◌, List, [], ◌∷◌, length, Bool, Option, Some, None, IsTrue, ◌==◌, if◌then◌else◌}
 use Rattle.std.specs.List.{AllByRecursion}
 use Rattle.std.specs.Ordering.{nat_cmp, is_lt}
 use Rattle.std.specs.Cmp.Lexicographic.{slice_cmp}
 use Rattle.update_model.specs.declared.update_id.UpdateId.{UpdateId}
 use Rattle.update_model.specs.declared.author_key.AuthorKey.{AuthorKey}
+use Rattle.update_model.specs.declared.op.Op.{Op}
+use Rattle.update_model.specs.Block.{IsBlock, IsId}
+use Rattle.update_model.specs.Rows.{AreOps}
 
 -- the parts of a body
 pub record BodyData : Type 0 where
   pub database : List ℕ
   pub author : AuthorKey
   pub preds : List UpdateId
+  pub ops : List Op
 
 -- a body and a signature
 pub record UpdateData : Type 0 where
   pub body : BodyData
   pub signature : List ℕ
-
--- each number is a byte
-abbrev pub AreBytes : List ℕ → Type 0
-AreBytes bytes = (i : ℕ) → slice_index bytes i < 256
-
--- n bytes
-pub record IsBlock (n : ℕ) (bytes : List ℕ) : Type 0 where
-  pub len : length bytes ≡ n
-  pub each : AreBytes bytes
-
-abbrev pub IsId : UpdateId → Type 0
-IsId id = IsBlock 32 id.0
 
 -- whether an id is below another, byte by byte
 abbrev pub is_below : UpdateId → UpdateId → Bool
@@ -56,6 +48,8 @@ pub record IsBody (body : BodyData) : Type 0 where
   pub few_preds : length body.preds ≤ 1024
   pub ids : AllByRecursion IsId body.preds
   pub rising : AreRising None body.preds
+  pub few_ops : length body.ops ≤ 64
+  pub ops : AreOps 0 body.ops
 
 -- how many bytes the one-time signatures of an LM-OTS type have
 abbrev pub ots_length : ℕ → ℕ

@@ -7,7 +7,7 @@ use Rattle.update_model.specs.declared.value.Value.{Value}
 use Rattle.update_model.specs.declared.value.Value.TheVariants.{Null, Int, Text, Flag, Row, Own}
 use Rattle.update_model.specs.declared.op.Op.{Op}
 use Rattle.update_model.specs.declared.op.Op.TheVariants.{Insert, Delete}
-use Rattle.update_model.specs.Form.{IsId}
+use Rattle.update_model.specs.Block.{IsId}
 use Rattle.update_model.specs.Text.{IsText}
 
 -- an update's id and the number of an operation there
