@@ -1,13 +1,8 @@
-//! Lists that a table and a schema hold.
+//! Lists that a table has.
 
-ghost use Rattle.std.specs.Prelude.{◌≡◌, List, [], ◌∷◌, ◌++◌, OnOk};
-ghost use Rattle.schema.specs.declared.column.Column.{Column};
-ghost use Rattle.schema.specs.declared.rules.CheckRule.{CheckRule};
-ghost use Rattle.schema.specs.declared.rules.MatchRule.{MatchRule};
-ghost use Rattle.schema.specs.declared.rules.UniqueRule.{UniqueRule};
-ghost use Rattle.schema.specs.declared.table_def.TableDef.{TableDef};
+ghost use Rattle.std.specs.Prelude.{◌≡◌, [], ◌∷◌, ◌++◌, OnOk};
 
-use crate::{CheckRule, Column, MatchRule, TableDef, UniqueRule};
+use crate::{CheckRule, Column, MatchRule, UniqueRule};
 use std::alloc::AllocError;
 use std::marker::Model;
 
@@ -18,6 +13,9 @@ pub struct ColumnList {
 }
 
 impl Model for ColumnList {
+    ghost use Rattle.std.specs.Prelude.{List};
+    ghost use Rattle.schema.specs.declared.column.Column.{Column};
+
     ghost Value = { List Column };
 
     ghost view = { λ list. list.columns.items };
@@ -62,6 +60,9 @@ pub struct CheckList {
 }
 
 impl Model for CheckList {
+    ghost use Rattle.std.specs.Prelude.{List};
+    ghost use Rattle.schema.specs.declared.rules.CheckRule.{CheckRule};
+
     ghost Value = { List CheckRule };
 
     ghost view = { λ list. list.checks.items };
@@ -106,6 +107,9 @@ pub struct MatchList {
 }
 
 impl Model for MatchList {
+    ghost use Rattle.std.specs.Prelude.{List};
+    ghost use Rattle.schema.specs.declared.rules.MatchRule.{MatchRule};
+
     ghost Value = { List MatchRule };
 
     ghost view = { λ list. list.matches.items };
@@ -150,6 +154,9 @@ pub struct UniqueList {
 }
 
 impl Model for UniqueList {
+    ghost use Rattle.std.specs.Prelude.{List};
+    ghost use Rattle.schema.specs.declared.rules.UniqueRule.{UniqueRule};
+
     ghost Value = { List UniqueRule };
 
     ghost view = { λ list. list.uniques.items };
@@ -183,42 +190,6 @@ impl UniqueList {
         ensures { OnOk result (self.new ≡ self.old ++ rule ∷ []) }
     {
         self.uniques.push(rule)?;
-        Ok(())
-    }
-}
-
-/// A list of tables, which number from 0. A contract sees the list of its items.
-#[derive(Debug, Drop)]
-pub(crate) struct TableList {
-    tables: Vec<TableDef>,
-}
-
-impl Model for TableList {
-    ghost Value = { List TableDef };
-
-    ghost view = { λ list. list.tables.items };
-}
-
-impl TableList {
-    /// Takes over a vector.
-    pub(crate) fn from_vec(tables: Vec<TableDef>) -> Self
-        ensures { result ≡ tables.items }
-    {
-        TableList { tables }
-    }
-
-    /// Lends the items.
-    pub(crate) fn as_slice(&self) -> &[TableDef]
-        ensures { result.now ≡ self.now }
-    {
-        self.tables.as_slice()
-    }
-
-    /// Puts one more at the end.
-    pub(crate) fn push(&mut self, table: TableDef) -> Result<(), AllocError>
-        ensures { OnOk result (self.new ≡ self.old ++ table ∷ []) }
-    {
-        self.tables.push(table)?;
         Ok(())
     }
 }
