@@ -1,0 +1,1 @@
+-- What words of an expression are.
