@@ -1,6 +1,5 @@
 -- What the lines so far declare, whose turn is next, and what a line adds.
 use Rattle.std.specs.Prelude.{ℕ, nat_abs, Bool, true, false, ◌&&◌, ◌||◌, List, [], ◌∷◌, ◌++◌, length, nat_lt, unwrap_or, slice_get, Option, Some, None, if◌then◌else◌, bytes_eq, position}
-use Rattle.std.specs.Option.{or_else}
 use Rattle.schema.specs.declared.column.Column.{Column}
 use Rattle.schema.specs.declared.column.ColumnKind.{ColumnKind}
 use Rattle.schema.specs.declared.column.ColumnKind.TheVariants as kind
@@ -36,10 +35,14 @@ start = record { phase = phase.Start; authors = []; tables = []; table = no_tabl
 abbrev pub table_at : Draft → ℕ → TableDef
 table_at draft number = unwrap_or (slice_get draft.tables number) draft.table
 
+abbrev pub first_some : Option ℕ → Option ℕ → Option ℕ
+first_some None second = second
+first_some (Some first) second = Some first
+
 -- the number of the table with this name, the one that has begun included
 abbrev pub table_named : Draft → List ℕ → Option ℕ
 table_named draft name =
-    or_else (position (λ table. bytes_eq table.name name) draft.tables) (if bytes_eq draft.table.name name then Some (length draft.tables) else None)
+    first_some (position (λ table. bytes_eq table.name name) draft.tables) (if bytes_eq draft.table.name name then Some (length draft.tables) else None)
 
 -- no line has said anything
 abbrev pub is_start : Phase → Bool

@@ -16,7 +16,7 @@ use Rattle.text_words.specs.Integers.{int_of}
 use Rattle.text_words.specs.Hexadecimal.{block_of_hex}
 use Rattle.expression_text.specs.declared.token.Token.{Token}
 use Rattle.expression_text.specs.declared.token.Token.TheVariants as token
-use Rattle.expression_text.specs.Tokens.{token_of}
+use Rattle.expression_text.specs.Words.{token_of}
 use Rattle.expression_text.specs.Grammar.{IsExpression}
 use Rattle.schema.specs.declared.action.Action.{Action}
 use Rattle.schema.specs.declared.action.Action.TheVariants as action

@@ -27,7 +27,7 @@ pub record IsPassedOver (line : List ℕ) : Type 0 where
 -- A line has this form, and it is its turn.
 pub record IsItsTurn (draft : Draft) (line : List ℕ) (form : Form) : Type 0 where
   pub says : IsTrue (passed_over line) → ⊥
-  pub form : HasForm line form
+  pub written : HasForm line form
   pub turn : IsTrue (is_turn draft form)
 
 -- Nothing is wrong with it.

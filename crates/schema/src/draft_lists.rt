@@ -19,6 +19,11 @@ impl Model for TableList {
 
     ghost Value = { List TableDef };
 
+    ghost use Rattle.row_check.specs.contracts.expr.Expr as expr;
+    ghost use Rattle.std.specs.Coded.{codes};
+
+    ghost coded = { Prim.hlevel (codes, expr.the_row.coded) };
+
     ghost view = { λ list. list.tables.items };
 }
 

@@ -11,6 +11,7 @@ mod form;
 mod keyword;
 mod laws;
 mod lists;
+mod lookups;
 mod reading;
 mod rules;
 mod schema;

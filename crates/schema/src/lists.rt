@@ -65,6 +65,11 @@ impl Model for CheckList {
 
     ghost Value = { List CheckRule };
 
+    ghost use Rattle.row_check.specs.contracts.expr.Expr as expr;
+    ghost use Rattle.std.specs.Coded.{codes};
+
+    ghost coded = { Prim.hlevel (codes, expr.the_row.coded) };
+
     ghost view = { λ list. list.checks.items };
 }
 

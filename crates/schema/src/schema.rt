@@ -3,6 +3,7 @@ ghost use Rattle.schema.specs.Sound.{IsSchema};
 
 use crate::TableDef;
 use crate::draft_lists::TableList;
+use crate::lookups::table_number;
 use std::marker::Model;
 use update_model::{ByteList, DbRule};
 
@@ -21,6 +22,11 @@ impl Model for Schema {
     ghost use Rattle.schema.specs.Schemas.{SchemaData};
 
     ghost Value = { SchemaData };
+
+    ghost use Rattle.row_check.specs.contracts.expr.Expr as expr;
+    ghost use Rattle.std.specs.Coded.{codes};
+
+    ghost coded = { Prim.hlevel (codes, expr.the_row.coded) };
 
     ghost use Rattle.schema.specs.Sound.{IsSchema};
 
@@ -57,11 +63,7 @@ impl Schema {
     pub fn table_named(&self, name: &str) -> Option<u8>
         ensures { result ≡ position (λ table. bytes_eq table.name name.now) self.now.tables }
     {
-        let place = self
-            .tables
-            .as_slice()
-            .iter()
-            .position(|table| table.name.as_slice() == name.as_bytes())?;
+        let place = table_number(self.tables.as_slice(), name.as_bytes())?;
         Some(place as u8)
     }
 
