@@ -1,0 +1,21 @@
+//! Expressions about rows, read from their words.
+//!
+//! The words of a CHECK line become [`Token`]s, [`is_expression`] tells whether these are an expression, and [`build`]
+//! makes it.
+#![tactic(auto)]
+
+mod building;
+mod judging;
+mod kind;
+mod laws;
+mod reading;
+mod recognizing;
+mod token;
+
+pub use building::build;
+pub use judging::{are_known, are_row_texts, are_short_texts, has_kinds};
+pub use kind::Kind;
+pub use laws::{any_columns, kinds_fit_rows, one_expression, trees_hold};
+pub use reading::{token_of, tokens_of};
+pub use recognizing::is_expression;
+pub use token::Token;

@@ -1,0 +1,123 @@
+-- What each kind of fault asks of a line, by its form. A line is judged by these in turn: its form and turn, limits,
+-- names, targets, kinds, the references of a MATCH, and the sample.
+use Rattle.std.specs.Prelude.{◌≡◌, ℕ, pos, ◌<◌, ◌≤◌, ◌≤ℤ◌, Bool, true, false, not, ◌&&◌, ◌||◌, ◌==◌, nat_lt, List, length, All, Contains, Option, Some, None, IsTrue, IsSome, MatchOption, bytes_eq}
+use Rattle.std.specs.List.{list_any}
+use Rattle.update_model.specs.declared.value.Value.{Value}
+use Rattle.update_model.specs.Form.{IsKnownKey}
+use Rattle.row_check.specs.declared.expr.Expr.{Expr}
+use Rattle.text_words.specs.declared.literal.Literal.{Literal}
+use Rattle.text_words.specs.declared.literal.Literal.TheVariants as literal
+use Rattle.text_words.specs.Names.{is_a_name, is_spelled_as_name}
+use Rattle.expression_text.specs.declared.token.Token.{Token}
+use Rattle.expression_text.specs.declared.token.Token.TheVariants as token
+use Rattle.expression_text.specs.Columns.{IsKnown, HasShortText}
+use Rattle.expression_text.specs.Grammar.{IsReading}
+use Rattle.expression_text.specs.Kinds.{HasKinds}
+use Rattle.expression_text.specs.Trees.{tree_of}
+use Rattle.schema.specs.declared.action.Action.{Action}
+use Rattle.schema.specs.declared.column.Column.{Column}
+use Rattle.schema.specs.declared.draft.Draft.{Draft}
+use Rattle.schema.specs.declared.form.Form.{Form}
+use Rattle.schema.specs.declared.form.Form.TheVariants as form
+use Rattle.schema.specs.declared.form.PlainKind.{PlainKind}
+use Rattle.schema.specs.declared.form.PlainKind.TheVariants as plain
+use Rattle.schema.specs.declared.table_def.TableDef.{TableDef}
+use Rattle.schema.specs.Columns.{is_reference, kinds_of, names_of, number_named, column_named, reference_named, is_restrict, is_set_null, are_comparable}
+use Rattle.schema.specs.Drafts.{table_at, table_named}
+use Rattle.schema.specs.Rows.{sample_row, plain_count, FitsSample, passes_checks, passes_matches}
+
+-- No name, for its length alone.
+abbrev pub is_overlong : List ℕ → Bool
+is_overlong name = nat_lt 32 (length name) && is_spelled_as_name name
+
+abbrev pub IsShort : List ℕ → Type 0
+IsShort name = is_overlong name ≡ false
+
+abbrev pub HasShortName : Token → Type 0
+HasShortName (token.Column name) = IsShort name
+HasShortName other = Unit {0}
+
+abbrev pub HasShortLiteral : Literal → Type 0
+HasShortLiteral (literal.Text bytes) = length bytes ≤ 1024
+HasShortLiteral other = Unit {0}
+
+-- whether a UNIQUE of the column with this name stands already
+abbrev pub is_unique : TableDef → Option ℕ → Bool
+is_unique table None = false
+is_unique table (Some column) = list_any (λ rule. rule.column == column) table.uniques
+
+-- Nothing is too many, too long or there twice.
+abbrev pub IsWithinLimits : Draft → Form → Type 0
+IsWithinLimits draft (form.Database name) = IsShort name
+IsWithinLimits draft (form.Author key) = (length draft.authors < 256) × ¬ Contains draft.authors key
+IsWithinLimits draft (form.Table name deletable owned) = (length draft.tables < 16) × IsShort name
+IsWithinLimits draft (form.Column name kind null) = (length draft.table.columns < 16) × IsShort name
+IsWithinLimits draft (form.Ref name table act null) = (length draft.table.columns < 16) × IsShort name
+IsWithinLimits draft (form.Check tokens) = (length draft.table.checks < 16) × (length tokens ≤ 256) × All HasShortText tokens × All HasShortName tokens
+IsWithinLimits draft (form.Match column cmp reference target) = (length draft.table.matches < 16) × IsShort column × IsShort reference × IsShort target
+IsWithinLimits draft (form.Unique column) = IsShort column × (is_unique draft.table (number_named draft.table.columns column) ≡ false)
+IsWithinLimits draft (form.AtMost count) = (pos 1 ≤ℤ count) × (count ≤ℤ pos 64) × (draft.table.at_most ≡ 0)
+IsWithinLimits draft (form.Sample values) = All HasShortLiteral values
+
+-- A name that no column has.
+abbrev pub IsNewColumn : List Column → List ℕ → Type 0
+IsNewColumn columns name = IsTrue (is_a_name name) × (list_any (λ column. bytes_eq column.name name) columns ≡ false)
+
+abbrev pub IsColumn : List Column → List ℕ → Type 0
+IsColumn columns name = IsSome (column_named columns name)
+
+-- New names are names that are not taken, and the others are those of columns. The target's column is asked for where
+-- there is a target.
+abbrev pub IsNamed : Draft → Form → Type 0
+IsNamed draft (form.Database name) = IsTrue (is_a_name name)
+IsNamed draft (form.Author key) = Unit {0}
+IsNamed draft (form.Table name deletable owned) = IsTrue (is_a_name name) × (list_any (λ table. bytes_eq table.name name) draft.tables ≡ false)
+IsNamed draft (form.Column name kind null) = IsNewColumn draft.table.columns name
+IsNamed draft (form.Ref name table act null) = IsNewColumn draft.table.columns name
+IsNamed draft (form.Check tokens) = All (IsKnown (names_of draft.table.columns)) tokens
+IsNamed draft (form.Match column cmp reference target) =
+    IsColumn draft.table.columns column × IsColumn draft.table.columns reference
+    × MatchOption (reference_named draft.table.columns reference) (Unit {0}) (λ r. IsColumn (table_at draft r.0).columns target)
+IsNamed draft (form.Unique column) = IsColumn draft.table.columns column
+IsNamed draft (form.AtMost count) = Unit {0}
+IsNamed draft (form.Sample values) = Unit {0}
+
+-- A reference is to an earlier table, or to its own with NULL, and SETNULL has NULL.
+abbrev pub HasTarget : Draft → Form → Type 0
+HasTarget draft (form.Ref name table act null) =
+    MatchOption (table_named draft table) ⊥ (λ number. IsTrue (null || nat_lt number (length draft.tables)) × IsTrue (null || not (is_set_null act)))
+HasTarget draft other = Unit {0}
+
+-- Bounds that rise, and for lengths are from 0 to 1,024.
+abbrev pub AreBounds : PlainKind → Type 0
+AreBounds (plain.Int lo hi) = lo ≤ℤ hi
+AreBounds (plain.Text lo hi) = (pos 0 ≤ℤ lo) × (lo ≤ℤ hi) × (hi ≤ℤ pos 1024)
+AreBounds plain.Flag = Unit {0}
+
+-- Kinds and bounds go together. A reference column stands where one is asked for, and nowhere else.
+abbrev pub IsTyped : Draft → Form → Type 0
+IsTyped draft (form.Author key) = IsKnownKey key
+IsTyped draft (form.Column name kind null) = AreBounds kind
+IsTyped draft (form.Check tokens) =
+    (expr : Expr) × IsReading (names_of draft.table.columns) tokens expr × HasKinds (kinds_of draft.table.columns) (tree_of expr)
+IsTyped draft (form.Match column cmp reference target) = MatchOption (reference_named draft.table.columns reference) ⊥
+    (λ r. IsTrue (are_comparable (column_named draft.table.columns column) (column_named (table_at draft r.0).columns target)))
+IsTyped draft (form.Unique column) = MatchOption (column_named draft.table.columns column) ⊥ (λ c. IsTrue (not (is_reference c.kind) && not c.null))
+IsTyped draft other = Unit {0}
+
+-- A MATCH is not along a RESTRICT reference.
+abbrev pub IsMatchable : Draft → Form → Type 0
+IsMatchable draft (form.Match column cmp reference target) =
+    MatchOption (reference_named draft.table.columns reference) (Unit {0}) (λ r. IsTrue (not (is_restrict r.1)))
+IsMatchable draft other = Unit {0}
+
+-- A row that the table may have: its values fit the columns, each CHECK is true of it, and so is each MATCH beside the
+-- sample of its target.
+abbrev pub IsSample : (ℕ → List Value → Bool) → Draft → List Value → Type 0
+IsSample relation draft row = FitsSample draft.table.columns row × IsTrue (passes_checks relation draft.table.checks row) × IsTrue (passes_matches draft row)
+
+-- A sample has a value for each column that is no reference, and is such a row.
+abbrev pub HasSample : (ℕ → List Value → Bool) → Draft → Form → Type 0
+HasSample relation draft (form.Sample values) =
+    (length values ≡ plain_count draft.table.columns) × IsSample relation draft (sample_row draft.table.columns values)
+HasSample relation draft other = Unit {0}

@@ -1,0 +1,9 @@
+pub mod Columns
+pub mod Drafts
+pub mod Faults
+pub mod Forms
+pub mod Outcome
+pub mod Rows
+pub mod Schemas
+pub mod Sound
+pub mod Steps

@@ -1,0 +1,71 @@
+-- What every schema keeps, so that its expressions may be asked of rows that fit and its numbers name what is there.
+use Rattle.std.specs.Prelude.{◌≡◌, ℕ, ◌≤◌, ◌≤ℤ◌, Bool, not, ◌&&◌, ◌||◌, nat_lt, List, [], ◌∷◌, ◌++◌, length, slice_get, unwrap_or, Option, Some, None, IsTrue, MatchOption}
+use Rattle.std.specs.List.{AllByRecursion}
+use Rattle.expression_text.specs.Kinds.{HasKinds}
+use Rattle.expression_text.specs.Trees.{tree_of}
+use Rattle.schema.specs.declared.column.Column.{Column}
+use Rattle.schema.specs.declared.column.ColumnKind.{ColumnKind}
+use Rattle.schema.specs.declared.column.ColumnKind.TheVariants as kind
+use Rattle.schema.specs.declared.rules.CheckRule.{CheckRule}
+use Rattle.schema.specs.declared.rules.MatchRule.{MatchRule}
+use Rattle.schema.specs.declared.rules.UniqueRule.{UniqueRule}
+use Rattle.schema.specs.declared.table_def.TableDef.{TableDef}
+use Rattle.schema.specs.Columns.{is_reference, kinds_of, reference_at, is_restrict, is_set_null, are_comparable}
+use Rattle.schema.specs.Rows.{FitsSample}
+use Rattle.schema.specs.Schemas.{SchemaData}
+
+-- In the table with this number: bounds rise, lengths are at most 1,024, a reference is to an earlier table or to its own
+-- with NULL, and SETNULL has NULL.
+abbrev pub IsSoundKind : ℕ → Bool → ColumnKind → Type 0
+IsSoundKind number null (kind.Int lo hi) = lo ≤ℤ hi
+IsSoundKind number null (kind.Text lo hi) = (lo ≤ hi) × (hi ≤ 1024)
+IsSoundKind number null kind.Flag = Unit {0}
+IsSoundKind number null (kind.Reference target act) = (target ≤ number) × IsTrue (null || nat_lt target number) × IsTrue (null || not (is_set_null act))
+
+abbrev pub IsSoundColumn : ℕ → Column → Type 0
+IsSoundColumn number column = IsSoundKind number column.null column.kind
+
+-- the table with this number: one of those before a table, or that one
+abbrev pub table_in : List TableDef → TableDef → ℕ → TableDef
+table_in before table number = unwrap_or (slice_get before number) table
+
+-- A MATCH compares two plain columns of one kind, along a reference that is not RESTRICT.
+abbrev pub IsSoundMatch : List TableDef → TableDef → MatchRule → Type 0
+IsSoundMatch before table rule = MatchOption (reference_at table.columns rule.reference) ⊥
+    (λ r. IsTrue (not (is_restrict r.1)) × IsTrue (are_comparable (slice_get table.columns rule.column) (slice_get (table_in before table r.0).columns rule.target_column)))
+
+-- A UNIQUE is of a plain column without NULL.
+abbrev pub IsSoundUnique : List Column → UniqueRule → Type 0
+IsSoundUnique columns rule = MatchOption (slice_get columns rule.column) ⊥ (λ column. IsTrue (not (is_reference column.kind) && not column.null))
+
+-- A CHECK reads plain columns, and compares values of one kind.
+abbrev pub IsSoundCheck : List Column → CheckRule → Type 0
+IsSoundCheck columns check = HasKinds (kinds_of columns) (tree_of check.expr)
+
+-- A table behind these is sound.
+pub record IsSoundTable (before : List TableDef) (table : TableDef) : Type 0 where
+  pub few_columns : length table.columns ≤ 16
+  pub columns : AllByRecursion (IsSoundColumn (length before)) table.columns
+  pub few_checks : length table.checks ≤ 16
+  pub checks : AllByRecursion (IsSoundCheck table.columns) table.checks
+  pub few_matches : length table.matches ≤ 16
+  pub matches : AllByRecursion (IsSoundMatch before table) table.matches
+  pub uniques : AllByRecursion (IsSoundUnique table.columns) table.uniques
+  pub at_most : table.at_most ≤ 64
+
+-- A whole table: it has a column, and a sample that fits.
+pub record IsTable (before : List TableDef) (table : TableDef) : Type 0 where
+  pub sound : IsSoundTable before table
+  pub some_columns : 1 ≤ length table.columns
+  pub sample : FitsSample table.columns table.sample
+
+-- Each of these tables is whole, behind those before it.
+abbrev pub AreTables : List TableDef → List TableDef → Type 0
+AreTables before [] = Unit {0}
+AreTables before (table ∷ tables) = IsTable before table × AreTables (before ++ table ∷ []) tables
+
+-- A schema has one to sixteen tables, each of them whole.
+pub record IsSchema (schema : SchemaData) : Type 0 where
+  pub some_tables : 1 ≤ length schema.tables
+  pub few_tables : length schema.tables ≤ 16
+  pub tables : AreTables [] schema.tables

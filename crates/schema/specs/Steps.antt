@@ -1,0 +1,65 @@
+-- What a line of each form adds to a draft.
+use Rattle.std.specs.Prelude.{◌≡◌, ℕ, nat_abs, List, [], ◌∷◌, ◌++◌, length, Option, Some, None, unwrap_or}
+use Rattle.row_check.specs.declared.cmp.Cmp.{Cmp}
+use Rattle.row_check.specs.declared.expr.Expr.{Expr}
+use Rattle.text_words.specs.declared.literal.Literal.{Literal}
+use Rattle.expression_text.specs.Grammar.{IsReading}
+use Rattle.schema.specs.declared.action.Action.{Action}
+use Rattle.schema.specs.declared.column.Column.{Column}
+use Rattle.schema.specs.declared.column.ColumnKind.TheVariants as kind
+use Rattle.schema.specs.declared.draft.Draft.{Draft}
+use Rattle.schema.specs.declared.draft.Phase.TheVariants as phase
+use Rattle.schema.specs.declared.form.Form.{Form}
+use Rattle.schema.specs.declared.form.Form.TheVariants as form
+use Rattle.schema.specs.Columns.{names_of, number_named, reference_named}
+use Rattle.schema.specs.Drafts.{no_table, table_at, table_named, kind_declared, with_column, with_rules}
+use Rattle.schema.specs.Rows.{sample_row}
+
+-- the number of the column with this name, which is there
+abbrev pub number_of : List Column → List ℕ → ℕ
+number_of columns name = unwrap_or (number_named columns name) 0
+
+-- the columns of the table that a reference names
+abbrev pub target_columns : Draft → Option (ℕ × Action) → List Column
+target_columns draft None = []
+target_columns draft (Some target) = (table_at draft target.0).columns
+
+abbrev pub with_check : ℕ → Draft → Expr → Draft
+with_check line draft expr = with_rules draft (record draft.table { checks = draft.table.checks ++ record { expr = expr; line = line } ∷ [] })
+
+abbrev pub with_match : ℕ → Draft → List ℕ → Cmp → List ℕ → List ℕ → Draft
+with_match line draft column cmp reference target = with_rules draft (record draft.table {
+  matches = draft.table.matches ++ record {
+    column = number_of draft.table.columns column;
+    cmp = cmp;
+    reference = number_of draft.table.columns reference;
+    target_column = number_of (target_columns draft (reference_named draft.table.columns reference)) target;
+    line = line;
+  } ∷ [];
+})
+
+abbrev pub with_unique : ℕ → Draft → List ℕ → Draft
+with_unique line draft column = with_rules draft (record draft.table { uniques = draft.table.uniques ++ record { column = number_of draft.table.columns column; line = line } ∷ [] })
+
+-- the table that has begun ends with this sample
+abbrev pub with_sample : Draft → List Literal → Draft
+with_sample draft values = record draft {
+  phase = phase.Between;
+  tables = draft.tables ++ record draft.table { sample = sample_row draft.table.columns values } ∷ [];
+  table = no_table;
+}
+
+-- The draft after a line with this number and form.
+abbrev pub IsAfter : ℕ → Draft → Form → Draft → Type 0
+IsAfter line draft (form.Database name) next = next ≡ record draft { phase = phase.Authors }
+IsAfter line draft (form.Author key) next = next ≡ record draft { authors = draft.authors ++ key ∷ [] }
+IsAfter line draft (form.Table name deletable owned) next =
+    next ≡ record draft { phase = phase.Columns; table = record no_table { name = name; deletable = deletable; owned = owned } }
+IsAfter line draft (form.Column name k null) next = next ≡ with_column draft (record { name = name; kind = kind_declared k; null = null; line = line })
+IsAfter line draft (form.Ref name table act null) next =
+    next ≡ with_column draft (record { name = name; kind = kind.Reference (unwrap_or (table_named draft table) 0) act; null = null; line = line })
+IsAfter line draft (form.Check tokens) next = (expr : Expr) × IsReading (names_of draft.table.columns) tokens expr × (next ≡ with_check line draft expr)
+IsAfter line draft (form.Match column cmp reference target) next = next ≡ with_match line draft column cmp reference target
+IsAfter line draft (form.Unique column) next = next ≡ with_unique line draft column
+IsAfter line draft (form.AtMost count) next = next ≡ with_rules draft (record draft.table { at_most = nat_abs count; at_most_line = line })
+IsAfter line draft (form.Sample values) next = next ≡ with_sample draft values

@@ -1,0 +1,99 @@
+//! Lists that a draft has.
+
+ghost use Rattle.std.specs.Prelude.{◌≡◌, [], ◌∷◌, ◌++◌, OnOk};
+
+use crate::TableDef;
+use update_model::AuthorKey;
+use std::alloc::AllocError;
+use std::marker::Model;
+
+/// A list of tables, which number from 0. A contract sees the list of its items.
+#[derive(Debug, Drop)]
+pub(crate) struct TableList {
+    tables: Vec<TableDef>,
+}
+
+impl Model for TableList {
+    ghost use Rattle.std.specs.Prelude.{List};
+    ghost use Rattle.schema.specs.declared.table_def.TableDef.{TableDef};
+
+    ghost Value = { List TableDef };
+
+    ghost use Rattle.row_check.specs.contracts.expr.Expr as expr;
+    ghost use Rattle.std.specs.Coded.{codes};
+
+    ghost coded = { Prim.hlevel (codes, expr.the_row.coded) };
+
+    ghost view = { λ list. list.tables.items };
+}
+
+impl TableList {
+    /// Takes over a vector.
+    pub(crate) fn from_vec(tables: Vec<TableDef>) -> Self
+        ensures { result ≡ tables.items }
+    {
+        TableList { tables }
+    }
+
+    /// Lends the items.
+    pub(crate) fn as_slice(&self) -> &[TableDef]
+        ensures { result.now ≡ self.now }
+    {
+        self.tables.as_slice()
+    }
+
+    /// Puts one more at the end.
+    pub(crate) fn push(&mut self, table: TableDef) -> Result<(), AllocError>
+        ensures { OnOk result (self.new ≡ self.old ++ table ∷ []) }
+    {
+        self.tables.push(table)?;
+        Ok(())
+    }
+}
+
+/// A list of authors. A contract sees the list of its items.
+#[derive(Debug, Drop)]
+pub(crate) struct AuthorList {
+    authors: Vec<AuthorKey>,
+}
+
+impl Model for AuthorList {
+    ghost use Rattle.std.specs.Prelude.{List};
+    ghost use Rattle.update_model.specs.declared.author_key.AuthorKey.{AuthorKey};
+
+    ghost Value = { List AuthorKey };
+
+    ghost view = { λ list. list.authors.items };
+}
+
+impl AuthorList {
+    /// Takes over a vector.
+    pub(crate) fn from_vec(authors: Vec<AuthorKey>) -> Self
+        ensures { result ≡ authors.items }
+    {
+        AuthorList { authors }
+    }
+
+    /// Lends the items.
+    pub(crate) fn as_slice(&self) -> &[AuthorKey]
+        ensures { result.now ≡ self.now }
+    {
+        self.authors.as_slice()
+    }
+
+    /// Gives the vector back.
+    pub(crate) fn into_vec(self) -> Vec<AuthorKey>
+        ensures { result.items ≡ self }
+    {
+        let AuthorList { authors } = self;
+        authors
+    }
+
+    /// Puts one more at the end.
+    pub(crate) fn push(&mut self, author: AuthorKey) -> Result<(), AllocError>
+        ensures { OnOk result (self.new ≡ self.old ++ author ∷ []) }
+    {
+        self.authors.push(author)?;
+        Ok(())
+    }
+}

@@ -1,0 +1,30 @@
+//! Schemas.
+#![tactic(auto)]
+
+mod action;
+mod column;
+mod draft;
+mod draft_lists;
+mod fault;
+mod fitting;
+mod form;
+mod keyword;
+mod laws;
+mod lists;
+mod lookups;
+mod reading;
+mod rules;
+mod schema;
+mod table_def;
+mod word_lists;
+
+pub use action::Action;
+pub use column::{Column, ColumnKind};
+pub use fault::{SchemaError, SchemaFault, SchemaKind};
+pub use fitting::fits_column;
+pub use laws::{declared_is_sound, no_fault, one_fault, one_schema};
+pub use lists::{CheckList, ColumnList, MatchList, UniqueList};
+pub use reading::read_schema;
+pub use rules::{CheckRule, MatchRule, UniqueRule};
+pub use schema::Schema;
+pub use table_def::TableDef;

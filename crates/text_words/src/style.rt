@@ -1,0 +1,8 @@
+/// How words stand apart.
+#[derive(Clone, Copy, Debug, PartialEq, Eq)]
+pub enum Style {
+    /// By spaces and tabs alone.
+    Spaced,
+    /// By spaces and tabs, and besides `(`, `)` and `,` are words by themselves, which need no blanks.
+    Punctuated,
+}
