@@ -1,5 +1,5 @@
 -- What the program answers.
-use Rattle.std.specs.Prelude.{◌≡◌, ◌⊎◌, ℕ, ◌≤◌, List, [], ◌∷◌, length, map, take, codes, None, Some, IfSome, String, slice_get}
+use Rattle.std.specs.Prelude.{◌≡◌, ◌⊎◌, ℕ, ◌≤◌, List, [], ◌∷◌, length, map, take, drop, codes, None, Some, IfSome, String, slice_get}
 use Rattle.std.specs.declared.alloc.Global.{Global}
 use Rattle.std.specs.declared.option.Option.{Option}
 use Rattle.std.specs.Io.KnownBytes.{Appends}
@@ -12,15 +12,20 @@ use Rattle.update_stream.specs.declared.record_fault.RecordFault.{RecordFault}
 use Rattle.update_stream.specs.declared.reading.Reading.{Reading}
 use Rattle.update_stream.specs.declared.reading.Reading.TheVariants.{Whole, Refused}
 use Rattle.update_stream.specs.Stream.{IsWhole, IsRefused}
-use Rattle.bec_node.specs.Texts.{printed, refusal_text, status_of}
+use Rattle.row_check.specs.Checksum.{is_luhn}
+use Rattle.schema.specs.declared.fault.SchemaKind.{SchemaKind}
+use Rattle.schema.specs.Schemas.{SchemaData, Declares, FirstFault}
+use Rattle.bec_node.specs.Texts.{printed, refusal_text, status_of, verdict_status, verdict_text, schema_text}
 
 -- what a user can ask for
 pub data Command : Type 0 where
   Heads : Command
+  Check : Command
 
 -- its word
 abbrev pub word_of : Command → List ℕ
 word_of Heads = codes "heads"
+word_of Check = codes "check"
 
 -- the one word is the command
 abbrev pub IsCommand : Command → List (String Global) → Type 0
@@ -50,13 +55,33 @@ abbrev pub Says : Reading → ℕ → List ℕ → Type 0
 Says (Whole members) status text = (heads : List UpdateId) × AreHeads (map entry_of members) heads × (status ≡ 0) × (text ≡ printed heads)
 Says (Refused n fault) status text = (status ≡ status_of fault) × (text ≡ refusal_text n fault)
 
+-- how many bytes of a text are read: one more than a schema may have
+abbrev pub read_limit : ℕ
+read_limit = 65537
+
+-- What a text is: it declares a schema, where native checks mean Luhn's, or it has this first fault.
+abbrev pub Judges : List ℕ → ℕ → List ℕ → Type 0
+Judges input status text =
+    ((schema : SchemaData) × Declares is_luhn input schema × (status ≡ verdict_status schema) × (text ≡ verdict_text schema))
+    ⊎ ((kind : SchemaKind) × ((line : ℕ) × FirstFault is_luhn input kind line × (status ≡ 1) × (text ≡ schema_text line kind)))
+
+-- The answer to a text. The rest is what was not read.
+abbrev pub CheckAnswer : List ℕ → List ℕ → ℕ → List ℕ → Type 0
+CheckAnswer input rest status text = (rest ≡ drop read_limit input) × Judges input status text
+
+-- what is read of a text
+abbrev pub ReadsText : Option (List ℕ) → Option (List ℕ) → List ℕ → Type 0
+ReadsText before after text = IfSome before (λ input. (text ≡ take read_limit input) × (after ≡ Some (drop read_limit input)))
+
 -- The answer of a command to an input, with its status and text. The rest is what was not read.
 abbrev pub AnswerTo : Command → List ℕ → List ℕ → ℕ → List ℕ → Type 0
 AnswerTo Heads input rest status text = HeadsAnswer input rest status text
+AnswerTo Check input rest status text = CheckAnswer input rest status text
 
 -- a status that a command has where nothing failed
 abbrev pub IsStatusOf : Command → ℕ → Type 0
 IsStatusOf Heads status = (status ≡ 0) ⊎ ((status ≡ 1) ⊎ (status ≡ 7))
+IsStatusOf Check status = (status ≡ 0) ⊎ (status ≡ 1)
 
 -- The answer, where the source tells its bytes, of which the second are left.
 abbrev pub IsAnswer : Command → Option (List ℕ) → Option (List ℕ) → ℕ → List ℕ → Type 0

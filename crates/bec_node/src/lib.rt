@@ -6,6 +6,7 @@
 //!
 //! ```text
 //! bec heads < stream        the ids of the heads of an update stream, rising, one per line
+//! bec check < schema        whether the text of a schema is right, and what is wrong first
 //! ```
 //!
 //! | Status | When |
@@ -20,12 +21,15 @@
 //! It waits for nobody but its source and its sink, and opens nothing by itself.
 #![tactic(auto)]
 
+mod check_command;
 mod heads;
 mod heads_command;
 mod laws;
 mod program;
 mod reply;
+mod schema_reply;
 
+pub use check_command::command_check;
 pub use heads::heads_of;
 pub use heads_command::command_heads;
 pub use laws::one_answer;
