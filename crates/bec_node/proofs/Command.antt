@@ -12,7 +12,7 @@ use Rattle.update_stream.specs.declared.reading.Reading.TheVariants.{Whole, Refu
 use Rattle.update_stream.specs.Told.{Reads}
 use Rattle.bec_node.specs.Texts.{status_of}
 use Rattle.bec_node.specs.Run.{Command, Heads, word_of, IsCommand, IsNoCommand, HasFirstWord, Says, IsStatusOf, IsAnswer, IsReply, PutsFront, IsStreamFault, Puts, AnswersOnly}
-use Rattle.bec_node.proofs.Answer.{answers_once}
+use Rattle.bec_node.proofs.Answer.{OneAnswer}
 
 -- ---- words
 
@@ -97,15 +97,15 @@ pub fault_put : (words : List (String Global)) (before after : Option (List ℕ)
 fault_put words before after in_old in_new old new held held_new status result text is other (inl put) four = absurd (other (sym put.0 ∙ four))
 fault_put words before after in_old in_new old new held held_new status result text is other (inr failed) four = inr (status, (text, is, failed.1))
 
-pub only_put : (command : Command) (words : List (String Global)) (before after : Option (List ℕ)) (old new : ℕ) (held held_new : Option (List ℕ)) (status result : ℕ) (text : List ℕ)
+pub only_put : OneAnswer → (command : Command) (words : List (String Global)) (before after : Option (List ℕ)) (old new : ℕ) (held held_new : Option (List ℕ)) (status result : ℕ) (text : List ℕ)
     → HasFirstWord command words → IsAnswer command before after status text → Puts old new held held_new status text result
     → (other : Command) → IsCommand other words → AnswersOnly other before result
-only_put command words before after old new held held_new status result text first is put other named =
+only_put one command words before after old new held held_new status result text first is put other named =
     subst (λ (c : Command). AnswersOnly c before result) (sym (one_command command other words first named)) (at before is put)
   where
     at : (o : Option (List ℕ)) → IsAnswer command o after status text → Puts old new held held_new status text result → AnswersOnly command o result
     at None is put = tt
-    at (Some xs) is (inl put) = λ rest again line answer. inl (put.0 ∙ (answers_once command xs is.0 rest status again text line is.2 answer).0)
+    at (Some xs) is (inl put) = λ rest again line answer. inl (put.0 ∙ (one command xs is.0 rest status again text line is.2 answer).0)
     at (Some xs) is (inr failed) = λ rest again line answer. inr (inl failed.0)
 
 -- a status of a stream fault or of want of memory may come in place of any

@@ -2,6 +2,7 @@ ghost use Rattle.std.specs.Prelude.{◌≡◌, ◌≢◌, ℕ, List, []};
 ghost use Rattle.std.specs.Io.KnownBytes.{Appends};
 ghost use Rattle.bec_node.specs.Run.{Command, Heads, IsCommand, HasFirstWord, IsReply, IsStreamFault, AnswersOnly, LeavesInput};
 
+use crate::laws::one_answer;
 use crate::reply::{heads_reply, no_command, put_reply};
 use bec_bytes::{Sink, Source, write_all_of};
 use std::alloc::Global;
@@ -28,6 +29,7 @@ pub fn command_heads<S: Source, K: Sink>(
     ensures only { (command : Command) → IsCommand command words.now → AnswersOnly command (S.left input.old) result }
     ensures other { LeavesInput words.now input.old input.new }
 {
+    one_answer();
     if words.len() > 1 {
         return no_command(out);
     }

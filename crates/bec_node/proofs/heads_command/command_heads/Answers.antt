@@ -46,7 +46,7 @@ returns-in-Ok-heads_reply-clause-fault g c = λ four.
 
 pub returns-in-Ok-heads_reply-clause-only : goal.returns-in-Ok-heads_reply-clause-only
 returns-in-Ok-heads_reply-clause-only g c =
-    only_put Heads c.args.words.now (g.S.Source.left c.args.input.now) (g.S.Source.left c.read_stream.new.input) (g.K.Counted.faults c.args.out.now) (g.K.Counted.faults c.put_reply.new.out)
+    only_put c.one_answer.ensures Heads c.args.words.now (g.S.Source.left c.args.input.now) (g.S.Source.left c.read_stream.new.input) (g.K.Counted.faults c.args.out.now) (g.K.Counted.faults c.put_reply.new.out)
     (g.K.Sink.held c.args.out.now) (g.K.Sink.held c.put_reply.new.out) c.in-Ok-heads_reply.reply.status c.put_reply.result c.in-Ok-heads_reply.reply.text.items c.requires
     (answer_said (g.S.Source.left c.args.input.now) (g.S.Source.left c.read_stream.new.input) c.in-Ok.reading c.in-Ok-heads_reply.reply.status c.in-Ok-heads_reply.reply.text.items
     c.in-Ok.ensures.told c.in-Ok-heads_reply.ensures)
