@@ -7,8 +7,9 @@ use Rattle.update_codec.specs.Parts.{entry_of}
 use Rattle.update_model.specs.Rule.{RuleData}
 use Rattle.update_stream.specs.declared.record_fault.RecordFault.{RecordFault}
 use Rattle.update_stream.specs.Stream.{IsWhole, IsRefused}
+use Rattle.bec_node.proofs.Checking.{SchemaLaws, check_answered}
 use Rattle.bec_node.specs.Texts.{printed, refusal_text, status_of}
-use Rattle.bec_node.specs.Run.{Command, Heads, HeadsAnswer, AnswerTo}
+use Rattle.bec_node.specs.Run.{Command, Heads, Check, HeadsAnswer, AnswerTo}
 
 heads_once : (members others : List (List ℕ)) (heads again : List UpdateId) → members ≡ others → AreHeads (map entry_of members) heads → AreHeads (map entry_of others) again → heads ≡ again
 heads_once members others heads again same a b =
@@ -45,5 +46,6 @@ abbrev pub OneAnswer : Type 0
 OneAnswer = (command : Command) (input rest other : List ℕ) (status another : ℕ) (text line : List ℕ)
     → AnswerTo command input rest status text → AnswerTo command input other another line → (status ≡ another) × (text ≡ line)
 
-pub answered : StreamLaws → OneAnswer
-answered laws Heads input rest other status another text line a b = heads_answered laws input rest other status another text line a b
+pub answered : StreamLaws → SchemaLaws → OneAnswer
+answered streams schemas Heads input rest other status another text line a b = heads_answered streams input rest other status another text line a b
+answered streams schemas Check input rest other status another text line a b = check_answered schemas input rest other status another text line a b

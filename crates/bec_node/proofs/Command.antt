@@ -1,18 +1,20 @@
 -- From what a stream holds to what the command `heads` answers.
-use Rattle.std.proofs.Common.{◌≡◌, ◌≢◌, ◌⊎◌, inl, inr, ℕ, ◌<◌, ◌≤◌, List, [], ◌∷◌, length, codes, refl, sym, ap, subst, ◌∙◌, Option, Some, None, IfSome, String, Result, Ok, Err, slice_get, arith}
+use Rattle.std.proofs.Common.{◌≡◌, ◌≢◌, ◌⊎◌, inl, inr, ℕ, Bool, true, false, drop, ◌<◌, ◌≤◌, List, [], ◌∷◌, length, codes, refl, sym, ap, subst, ◌∙◌, Option, Some, None, IfSome, String, Result, Ok, Err, slice_get, arith}
 use Rattle.std.specs.declared.alloc.Global.{Global}
 use Rattle.std.specs.String.{string_bytes}
 use Rattle.std.specs.Io.KnownBytes.{Appends}
 use Rattle.bec_bytes.specs.Causes.{HasCause}
 use Rattle.bec_bytes.specs.Moved.{TakesAll}
 use Rattle.update_stream.specs.declared.record_fault.RecordFault.{RecordFault}
-use Rattle.update_stream.specs.declared.record_fault.RecordFault.TheVariants.{Check, Lacks, Full}
+use Rattle.update_stream.specs.declared.record_fault.RecordFault.TheVariants as faults
 use Rattle.update_stream.specs.declared.reading.Reading.{Reading}
 use Rattle.update_stream.specs.declared.reading.Reading.TheVariants.{Whole, Refused}
 use Rattle.update_stream.specs.Told.{Reads}
-use Rattle.bec_node.specs.Texts.{status_of}
-use Rattle.bec_node.specs.Run.{Command, Heads, word_of, IsCommand, IsNoCommand, HasFirstWord, Says, IsStatusOf, IsAnswer, IsReply, PutsFront, IsStreamFault, Puts, AnswersOnly}
+use Rattle.schema.specs.Schemas.{SchemaData}
+use Rattle.bec_node.specs.Texts.{status_of, is_untested, verdict_status}
+use Rattle.bec_node.specs.Run.{Command, Heads, Check, word_of, IsCommand, IsNoCommand, HasFirstWord, Says, IsStatusOf, IsAnswer, IsReply, PutsFront, IsStreamFault, Puts, AnswersOnly, read_limit, Judges, ReadsText}
 use Rattle.bec_node.proofs.Answer.{OneAnswer}
+use Rattle.bec_node.proofs.Checking.{judged_whole}
 
 -- ---- words
 
@@ -30,9 +32,18 @@ pub first_word : (command : Command) (words : List (String Global)) (word : Stri
 first_word command [] word at is = absurd cc
 first_word command (w ∷ words) word at is = let same : w ≡ word = cc in ap (λ (t : String Global). Some (string_bytes t)) same ∙ ap Some is
 
+-- the first word is the one word
+first_is : (command other : Command) (words : List (String Global)) → HasFirstWord command words → IsCommand other words → word_of command ≡ word_of other
+first_is command other [] first is = absurd cc
+first_is command other (word ∷ []) first is = let a : string_bytes word ≡ word_of command = cc in let b : string_bytes word ≡ word_of other = cc in sym a ∙ b
+first_is command other (word ∷ more ∷ words) first is = absurd cc
+
 -- the words of two commands
 pub one_command : (command other : Command) (words : List (String Global)) → HasFirstWord command words → IsCommand other words → other ≡ command
 one_command Heads Heads words first is = refl
+one_command Heads Check words first is = absurd (let same = first_is Heads Check words first is in cc)
+one_command Check Heads words first is = absurd (let same = first_is Check Heads words first is in cc)
+one_command Check Check words first is = refl
 
 pub other_first : (words : List (String Global)) (word : String Global) → slice_get words 0 ≡ Some word → ((command : Command) → string_bytes word ≡ word_of command → ⊥) → IsNoCommand words
 other_first [] word at other command is = absurd cc
@@ -42,8 +53,9 @@ other_first (w ∷ words) word at other command is =
     other command (ap (λ (t : String Global). string_bytes t) (sym same) ∙ named)
 
 -- a word that is none of the commands' words
-pub other_words : (word : List ℕ) → (word ≡ codes "heads" → ⊥) → (command : Command) → word ≡ word_of command → ⊥
-other_words word heads Heads is = heads is
+pub other_words : (word : List ℕ) → (word ≡ codes "heads" → ⊥) → (word ≡ codes "check" → ⊥) → (command : Command) → word ≡ word_of command → ⊥
+other_words word heads check Heads is = heads is
+other_words word heads check Check is = check is
 
 pub no_first : (words : List (String Global)) → slice_get words 0 ≡ None → IsNoCommand words
 no_first [] none command is = cc
@@ -52,14 +64,16 @@ no_first (w ∷ words) none command is = cc
 -- ---- replies
 
 heads_status : (fault : RecordFault) → IsStatusOf Heads (status_of fault)
-heads_status (Check fault) = inr (inl refl)
-heads_status (Lacks id) = inr (inl refl)
-heads_status Full = inr (inr refl)
+heads_status (faults.Check fault) = inr (inl refl)
+heads_status (faults.Lacks id) = inr (inl refl)
+heads_status faults.Full = inr (inr refl)
 
 pub not_four : (command : Command) (status : ℕ) → IsStatusOf command status → status ≡ 4 → ⊥
 not_four Heads status (inl a) e = let no : 0 ≡ 4 = sym a ∙ e in absurd (omega arith)
 not_four Heads status (inr (inl a)) e = let no : 1 ≡ 4 = sym a ∙ e in absurd (omega arith)
 not_four Heads status (inr (inr a)) e = let no : 7 ≡ 4 = sym a ∙ e in absurd (omega arith)
+not_four Check status (inl a) e = let no : 0 ≡ 4 = sym a ∙ e in absurd (omega arith)
+not_four Check status (inr a) e = let no : 1 ≡ 4 = sym a ∙ e in absurd (omega arith)
 
 whole_answer : (before after : Option (List ℕ)) (members : List (List ℕ)) (status : ℕ) (text : List ℕ) → Reads None before after (Whole members) → Says (Whole members) status text → IsAnswer Heads before after status text
 whole_answer None after members status text reads says = tt
@@ -81,6 +95,27 @@ answer_said before after (Refused n fault) status text reads says = refused_answ
 pub reply_said : (words : List (String Global)) (before after : Option (List ℕ)) (reading : Reading) (status : ℕ) (text : List ℕ) → IsCommand Heads words
     → Reads None before after reading → Says reading status text → IsReply words before after status text
 reply_said words before after reading status text is reads says = inl (Heads, is, status_said reading status text says, answer_said before after reading status text reads says)
+
+-- the reply to a text
+verdict_status_is : (schema : SchemaData) → IsStatusOf Check (verdict_status schema)
+verdict_status_is schema = by_case (is_untested schema) refl
+  where
+    by_case : (b : Bool) → is_untested schema ≡ b → IsStatusOf Check (verdict_status schema)
+    by_case true e = rw e (inr refl)
+    by_case false e = rw e (inl refl)
+
+pub status_judged : (input : List ℕ) (status : ℕ) (text : List ℕ) → Judges input status text → IsStatusOf Check status
+status_judged input status text (inl a) = let P : ℕ → Type 0 = IsStatusOf Check in subst P (sym a.2) (verdict_status_is a.0)
+status_judged input status text (inr a) = inr a.1.2
+
+pub answer_judged : (before after : Option (List ℕ)) (read : List ℕ) (status : ℕ) (text : List ℕ) → ReadsText before after read → Judges read status text → IsAnswer Check before after status text
+answer_judged None after read status text reads judged = tt
+answer_judged (Some xs) after read status text reads judged =
+    (drop read_limit xs, reads.1, (refl, judged_whole xs status text (let P : List ℕ → Type 0 = λ w. Judges w status text in subst P reads.0 judged)))
+
+pub reply_judged : (words : List (String Global)) (before after : Option (List ℕ)) (read : List ℕ) (status : ℕ) (text : List ℕ) → IsCommand Check words
+    → ReadsText before after read → Judges read status text → IsReply words before after status text
+reply_judged words before after read status text is reads judged = inl (Check, is, status_judged read status text judged, answer_judged before after read status text reads judged)
 
 -- ---- what is written
 

@@ -1,3 +1,4 @@
 pub mod HeadSteps
+pub mod Checking
 pub mod Answer
 pub mod Command

@@ -3,6 +3,7 @@
 ghost use Rattle.std.specs.Prelude.{◌≡◌, ℕ, List};
 ghost use Rattle.bec_node.specs.Run.{Command, AnswerTo};
 
+use schema::{no_fault, one_fault, one_schema};
 use update_stream::{one_graph, one_refusal, whole_or_refused};
 
 /// An input has one answer to a command, so each status and each text comes exactly where its cause stands.
@@ -13,4 +14,7 @@ pub fn one_answer()
     one_graph();
     one_refusal();
     whole_or_refused();
+    one_schema();
+    one_fault();
+    no_fault();
 }
