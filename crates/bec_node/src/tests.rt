@@ -1,10 +1,13 @@
 //! Worked examples of the command line: the bytes, the ids and the signatures come from a separate model of the format
 //! and another implementation of LMS.
 
+mod schemas;
+
 use crate::run;
 use bec_bytes::{MemSink, MemSource, PlainSink, PlainSource};
 use lm_ots::OtsType;
 use lms_tree::{LmsType, Secret, make_secret};
+use schemas::{INVENTORY, SURVEY, TASKS};
 use std::alloc::{AllocError, Global};
 use std::process::Abort;
 use std::test::Fail;
@@ -105,11 +108,11 @@ fn words(alloc: Global, text: &str) -> Result<Vec<String>, AllocError> {
     Ok(words)
 }
 
-/// Runs `heads` over these bytes, and tells the status and what was written.
-fn heads(alloc: Global, bytes: Vec<u8>) -> Result<(u8, Vec<u8>), Fail> {
+/// Runs a command over these bytes, and tells the status and what was written.
+fn answer(alloc: Global, command: &str, bytes: Vec<u8>) -> Result<(u8, Vec<u8>), Fail> {
     let mut input = MemSource::new(bytes, Vec::new(alloc));
     let mut out = MemSink::new(alloc, Vec::new(alloc));
-    let status = run(alloc, &words(alloc, "heads")?, &mut input, &mut out);
+    let status = run(alloc, &words(alloc, command)?, &mut input, &mut out);
     Ok((status, Vec::from_slice(alloc, out.bytes())?))
 }
 
@@ -120,7 +123,7 @@ fn expect_heads(
     status: u8,
     text: &str,
 ) -> Result<(), Fail> {
-    let (got, written) = heads(rt.alloc(), stream(rt.alloc(), records)?)?;
+    let (got, written) = answer(rt.alloc(), "heads", stream(rt.alloc(), records)?)?;
     let written = str::from_utf8(&written)?;
     assert_eq!(rt; got, status, "{text}");
     assert_eq!(rt; written.trim_end(), text);
@@ -229,6 +232,59 @@ fn tells_what_is_wrong_and_where(rt: HostRuntime) -> Result<(), Fail> {
         )?;
     }
     Ok(())
+}
+
+/// Runs `check` over a text, and holds the status and the text to what is wanted.
+fn expect_check(
+    rt: &(impl Abort + AllocGlobal),
+    text: &str,
+    status: u8,
+    line: &str,
+) -> Result<(), Fail> {
+    let bytes = Vec::from_slice(rt.alloc(), text.as_bytes())?;
+    let (got, written) = answer(rt.alloc(), "check", bytes)?;
+    let written = str::from_utf8(&written)?;
+    assert_eq!(rt; written.trim_end(), line);
+    assert_eq!(rt; got, status, "{line}");
+    Ok(())
+}
+
+/// The text, in which this is put in place of that.
+fn with(alloc: Global, text: &str, that: &str, this: &str) -> Result<String, AllocError> {
+    text.replace(alloc, that, this)
+}
+
+#[test]
+fn checks_schemas(rt: HostRuntime) -> Result<(), Fail> {
+    let alloc = rt.alloc();
+    for text in [TASKS, INVENTORY, SURVEY] {
+        expect_check(&rt, text, 0, "confluent")?;
+    }
+    let rows = [
+        (
+            "REF list list CASCADE",
+            "REF list lists CASCADE",
+            "! schema line 10: target",
+        ),
+        (
+            "SAMPLE \"Buy\" 3 NULL",
+            "SAMPLE \"Buy\" 12 NULL",
+            "! schema line 15: sample",
+        ),
+        ("SAMPLE \"Buy\" 3 NULL\n", "", "! schema line 15: line"),
+        ("list CASCADE", "list RESTRICT", "! schema line 14: match"),
+        ("INT 0 9\nSAMPLE", "INT 0 9\nATMOST 3\nSAMPLE", "! untested"),
+        ("INT 0 9\nSAMPLE", "INT 0 9\nUNIQUE cap\nSAMPLE", "! untested"),
+    ];
+    for (that, this, line) in rows {
+        expect_check(&rt, &with(alloc, TASKS, that, this)?, 1, line)?;
+    }
+    expect_check(&rt, "", 1, "! schema line 1: line")?;
+    let mut long = String::from_str(alloc, TASKS)?;
+    while long.len() <= 65_536 {
+        long.push_str("# nothing\n")?;
+    }
+    expect_check(&rt, &long, 1, "! schema line 0: limit")
 }
 
 #[test]
