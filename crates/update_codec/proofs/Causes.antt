@@ -65,13 +65,13 @@ whole_stops : (bytes : List ℕ) (h : Halt) → AreBytes bytes → length bytes 
 unfolding whole
 whole_stops bytes h fits few e = elim (bind_err (update_at bytes) _ h e) [
   | inl f ↦ elim (update_stops bytes h fits f) [
-      | inl is ↦ cut h is f
-      | inr t ↦ subst (λ (p : ℕ). FirstFault bytes h.kind p) (back t.at h.left (length bytes) t.place) (in_field t.front t.rest h.kind t.at few t.parts t.is_fault)
-    ]
+    | inl is ↦ cut h is f
+    | inr t ↦ subst (λ (p : ℕ). FirstFault bytes h.kind p) (back t.at h.left (length bytes) t.place) (in_field t.front t.rest h.kind t.at few t.parts t.is_fault)
+  ]
   | inr a ↦ elim (judge_err (eqb (length a.0.1) 0) kinds.Trailing a.0.1 _ h a.2) [
-      | inl j ↦ let t = update_takes bytes a.0 fits a.1 in trails h a.0.0 a.0.1 t.0.parts t.1 j.0 j.1
-      | inr j ↦ absurd (let g = j.1 in cc)
-    ]
+    | inl j ↦ let t = update_takes bytes a.0 fits a.1 in trails h a.0.0 a.0.1 t.0.parts t.1 j.0 j.1
+    | inr j ↦ absurd (let g = j.1 in cc)
+  ]
 ]
   where
     back : (a l n : ℕ) → a + l ≡ n → a ≡ n - l
@@ -180,9 +180,9 @@ pub one_first : (bytes : List ℕ) (kind other : CodecKind) (place elsewhere : �
 one_first bytes kind other place elsewhere f g = elim (told_or_cut bytes kind place f) [
   | inr c ↦ both c
   | inl t ↦ elim (told_or_cut bytes other elsewhere g) [
-      | inr c ↦ both c
-      | inl u ↦ parts (sym t ∙ u)
-    ]
+    | inr c ↦ both c
+    | inl u ↦ parts (sym t ∙ u)
+  ]
 ]
   where
     parts : faulted UpdateData (record { kind = kind; place = place }) ≡ faulted UpdateData (record { kind = other; place = elsewhere }) → (kind ≡ other) × (place ≡ elsewhere)

@@ -74,8 +74,8 @@ ids_stop (suc n) last bytes h fits e = elim (bind_err (id_at bytes) _ h e) [
       elim (judge_err (is_next last a.0.0) kinds.Order bytes _ h a.2) [
         | inl j ↦ record { ids = []; rest = bytes; few = omega arith; are = tt; rise = none_rise last; took = Takes-none bytes fits; why = inr (a.0.0, a.0.1, ta.1, ta.0, not_next last a.0.0 j.0, j.1) }
         | inr j ↦ elim (bind_err (ids_at n (Some a.0.0) a.0.1) _ h j.1) [
-            | inl g ↦ behind a.0.0 a.0.1 ta.0 ta.1 j.0 (ids_stop n (Some a.0.0) a.0.1 h ta.0.rest_fits g)
-            | inr x ↦ absurd (let g = x.2 in cc)
+          | inl g ↦ behind a.0.0 a.0.1 ta.0 ta.1 j.0 (ids_stop n (Some a.0.0) a.0.1 h ta.0.rest_fits g)
+          | inr x ↦ absurd (let g = x.2 in cc)
         ]
       ]
 ]
@@ -85,7 +85,12 @@ ids_stop (suc n) last bytes h fits e = elim (bind_err (id_at bytes) _ h e) [
 
     behind : (id : UpdateId) (mid : List ℕ) → Takes bytes (spell.id id) mid → IsId id → is_next last id ≡ true → IdsStop n (Some id) mid h → IdsStop (suc n) last bytes h
     behind id mid took is next s = record {
-      ids = id ∷ s.ids; rest = s.rest; few = one_more (length s.ids) n s.few; are = (is, s.are); rise = rising last id s.ids next s.rise; took = Takes-then took s.took;
+      ids = id ∷ s.ids;
+      rest = s.rest;
+      few = one_more (length s.ids) n s.few;
+      are = (is, s.are);
+      rise = rising last id s.ids next s.rise;
+      took = Takes-then took s.took;
       why = elim s.why [
         | inl e ↦ inl e
         | inr w ↦ inr (w.0, w.1, w.2, w.3, λ r. w.4 (next_rises last id (s.ids ++ w.0 ∷ []) r).1, w.5)
@@ -100,10 +105,10 @@ before_ops_stops bytes h fits e = elim (bind_err (byte_at bytes) _ h e) [
       elim (judge_err (eqb a.0.0 1) kinds.Version bytes _ h a.2) [
         | inl j ↦ tell_at BodyFault bytes [] bytes (a.0.0 ∷ []) a.0.1 kinds.Version 0 h j.1 (Takes-none bytes fits) ta.0 refl (other_version a.0.0 (differ a.0.0 j.0))
         | inr j ↦ elim (bind_err (block_at 32 a.0.1) _ h j.1) [
-            | inl f ↦ inl (block_err 32 a.0.1 h f)
-            | inr b ↦ let tb = block_takes 32 a.0.1 b.0 ta.0.rest_fits b.1 in
-                let version : Takes bytes (1 ∷ []) a.0.1 = subst (λ (v : ℕ). Takes bytes (v ∷ []) a.0.1) (eqb-true a.0.0 1 j.0) ta.0 in
-                behind_database b.0.0 b.0.1 (Takes-then version tb.0) tb.1 b.2
+          | inl f ↦ inl (block_err 32 a.0.1 h f)
+          | inr b ↦ let tb = block_takes 32 a.0.1 b.0 ta.0.rest_fits b.1 in
+              let version : Takes bytes (1 ∷ []) a.0.1 = subst (λ (v : ℕ). Takes bytes (v ∷ []) a.0.1) (eqb-true a.0.0 1 j.0) ta.0 in
+              behind_database b.0.0 b.0.1 (Takes-then version tb.0) tb.1 b.2
         ]
       ]
 ]
@@ -122,7 +127,7 @@ before_ops_stops bytes h fits e = elim (bind_err (byte_at bytes) _ h e) [
           let before : Takes bytes (spell.header database key ++ (to_be_bytes w16 n ++ flat_map spell.id s.ids)) s.rest = Takes-then header (Takes-then count s.took) in
           tell_at BodyFault bytes (spell.header database key ++ (to_be_bytes w16 n ++ flat_map spell.id s.ids)) s.rest (spell.id w.0) w.1 kinds.Order (91 + 32 * length s.ids) h w.5 before w.3 (sym (ids_place database key n s.ids is known s.are))
           (subst (λ (b : List ℕ). BodyFault b kinds.Order (91 + 32 * length s.ids)) (sym (grouped (spell.header database key) (to_be_bytes w16 n) (flat_map spell.id s.ids) (spell.id w.0)))
-            (pred_order database key n s.ids w.0 is known few s.few s.are s.rise w.2 w.4))
+          (pred_order database key n s.ids w.0 is known few s.few s.are s.rise w.2 w.4))
     ]
       where
         grouped : (a b c d : List ℕ) → (a ++ (b ++ c)) ++ d ≡ a ++ (b ++ (c ++ d))
@@ -136,8 +141,8 @@ before_ops_stops bytes h fits e = elim (bind_err (byte_at bytes) _ h e) [
           elim (judge_err (leb a.0.0 1024) kinds.Count here _ h a.2) [
             | inl j ↦ tell_at BodyFault bytes (spell.header database key) here (to_be_bytes w16 a.0.0) a.0.1 kinds.Count 89 h j.1 header ta.0 (sym (header_length database key is known)) (pred_count database key a.0.0 is known ta.1 (leb-false a.0.0 1024 j.0))
             | inr j ↦ elim (bind_err (ids_at a.0.0 None a.0.1) _ h j.1) [
-                | inl f ↦ behind_count database key a.0.0 here a.0.1 header is known ta.0 (leb-true a.0.0 1024 j.0) (ids_stop a.0.0 None a.0.1 h ta.0.rest_fits f)
-                | inr x ↦ absurd (let g = x.2 in cc)
+              | inl f ↦ behind_count database key a.0.0 here a.0.1 header is known ta.0 (leb-true a.0.0 1024 j.0) (ids_stop a.0.0 None a.0.1 h ta.0.rest_fits f)
+              | inr x ↦ absurd (let g = x.2 in cc)
             ]
           ]
     ]
@@ -161,8 +166,8 @@ body_stops bytes h fits e = elim (bind_err (before_ops_at bytes) _ h e) [
               | inl j ↦ tell_at BodyFault bytes (spell.before_ops a.0.0) a.0.1 (to_be_bytes w16 b.0.0) b.0.1 kinds.Count (91 + 32 * length a.0.0.preds) h j.1 ta.0 tb.0
                   (sym (ids_place a.0.0.database a.0.0.author (length a.0.0.preds) a.0.0.preds ta.1.database ta.1.author ta.1.ids)) (op_count a.0.0 b.0.0 ta.1 ta.2 tb.1 (leb-false b.0.0 64 j.0))
               | inr j ↦ elim (bind_err (ops_at b.0.0 0 b.0.1) _ h j.1) [
-                  | inl f ↦ behind a.0.0 b.0.0 b.0.1 ta.1 (Takes-then ta.0 tb.0) (leb-true b.0.0 64 j.0) (ops_err b.0.0 0 b.0.1 h tb.0.rest_fits f)
-                  | inr x ↦ absurd (let g = x.2 in cc)
+                | inl f ↦ behind a.0.0 b.0.0 b.0.1 ta.1 (Takes-then ta.0 tb.0) (leb-true b.0.0 64 j.0) (ops_err b.0.0 0 b.0.1 h tb.0.rest_fits f)
+                | inr x ↦ absurd (let g = x.2 in cc)
               ]
             ]
       ]
@@ -195,8 +200,8 @@ update_stops bytes h fits e = elim (bind_err (body_at bytes) _ h e) [
               | inl j ↦ tell_at UpdateFault bytes (spell.message a.0.0) a.0.1 (to_be_bytes w32 b.0.0) b.0.1 kinds.SignatureLength (length (spell.message a.0.0)) h j.1 ta.0 tb.0 refl
                   (other_length a.0.0 b.0.0 ta.1 tb.1 (differ b.0.0 (signature_length a.0.0.author) j.0))
               | inr j ↦ elim (bind_err (block_at b.0.0 b.0.1) _ h j.1) [
-                  | inl f ↦ inl (block_err b.0.0 b.0.1 h f)
-                  | inr x ↦ absurd (let g = x.2 in cc)
+                | inl f ↦ inl (block_err b.0.0 b.0.1 h f)
+                | inr x ↦ absurd (let g = x.2 in cc)
               ]
             ]
       ]

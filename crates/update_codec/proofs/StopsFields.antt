@@ -55,18 +55,18 @@ key_stops bytes h fits e = elim (bind_err (number_at w32 bytes) _ h e) [
       elim (judge_err (leb 5 a.0.0 && leb a.0.0 7) kinds.KeyType bytes _ h a.2) [
         | inl j ↦ tell_at KeyFault bytes [] bytes (to_be_bytes w32 a.0.0) a.0.1 kinds.KeyType 0 h j.1 (Takes-none bytes fits) ta.0 refl (tree_type a.0.0 ta.1 (not_within 5 a.0.0 7 j.0))
         | inr j ↦ elim (bind_err (number_at w32 a.0.1) _ h j.1) [
-            | inl f ↦ inl (number_err w32 a.0.1 h f)
-            | inr b ↦ let tb = u32_takes a.0.1 b.0 ta.0.rest_fits b.1 in
-                elim (judge_err (leb 1 b.0.0 && leb b.0.0 4) kinds.KeyType a.0.1 _ h b.2) [
-                  | inl k ↦ tell_at KeyFault bytes (to_be_bytes w32 a.0.0) a.0.1 (to_be_bytes w32 b.0.0) b.0.1 kinds.KeyType 4 h k.1 ta.0 tb.0 refl (chain_type a.0.0 b.0.0 (between 5 a.0.0 7 j.0) tb.1 (not_within 1 b.0.0 4 k.0))
-                  | inr k ↦ elim (bind_err (block_at 16 b.0.1) _ h k.1) [
-                      | inl f ↦ inl (block_err 16 b.0.1 h f)
-                      | inr c ↦ elim (bind_err (block_at 32 c.0.1) _ h c.2) [
-                          | inl f ↦ inl (block_err 32 c.0.1 h f)
-                          | inr d ↦ absurd (let g = d.2 in cc)
-                      ]
+          | inl f ↦ inl (number_err w32 a.0.1 h f)
+          | inr b ↦ let tb = u32_takes a.0.1 b.0 ta.0.rest_fits b.1 in
+              elim (judge_err (leb 1 b.0.0 && leb b.0.0 4) kinds.KeyType a.0.1 _ h b.2) [
+                | inl k ↦ tell_at KeyFault bytes (to_be_bytes w32 a.0.0) a.0.1 (to_be_bytes w32 b.0.0) b.0.1 kinds.KeyType 4 h k.1 ta.0 tb.0 refl (chain_type a.0.0 b.0.0 (between 5 a.0.0 7 j.0) tb.1 (not_within 1 b.0.0 4 k.0))
+                | inr k ↦ elim (bind_err (block_at 16 b.0.1) _ h k.1) [
+                  | inl f ↦ inl (block_err 16 b.0.1 h f)
+                  | inr c ↦ elim (bind_err (block_at 32 c.0.1) _ h c.2) [
+                    | inl f ↦ inl (block_err 32 c.0.1 h f)
+                    | inr d ↦ absurd (let g = d.2 in cc)
                   ]
                 ]
+              ]
         ]
       ]
 ]
@@ -86,13 +86,13 @@ text_stops number rest h fits e = elim (bind_err (number_at w16 rest) _ h e) [
       elim (judge_err (leb a.0.0 1024) kinds.Text rest _ h a.2) [
         | inl j ↦ tell_at (ValueFault number) (2 ∷ rest) (2 ∷ []) rest (to_be_bytes w16 a.0.0) a.0.1 kinds.Text 1 h j.1 (tag_takes 2 rest fits) ta.0 refl (long_text a.0.0 ta.1 (leb-false a.0.0 1024 j.0))
         | inr j ↦ elim (bind_err (block_at a.0.0 a.0.1) _ h j.1) [
-            | inl f ↦ inl (block_err a.0.0 a.0.1 h f)
-            | inr b ↦ let tb = block_takes a.0.0 a.0.1 b.0 ta.0.rest_fits b.1 in
-                elim (judge_err (is_utf8 b.0.0) kinds.Text a.0.1 _ h b.2) [
-                  | inl k ↦ tell_at (ValueFault number) (2 ∷ rest) (2 ∷ to_be_bytes w16 a.0.0) a.0.1 b.0.0 b.0.1 kinds.Text 3 h k.1 (Takes-byte 2 ta.0) tb.0 refl
-                      (faulty a.0.0 b.0.0 tb.1.len (few a.0.0 j.0) (no_utf8 b.0.0 k.0))
-                  | inr k ↦ absurd (let g = k.1 in cc)
-                ]
+          | inl f ↦ inl (block_err a.0.0 a.0.1 h f)
+          | inr b ↦ let tb = block_takes a.0.0 a.0.1 b.0 ta.0.rest_fits b.1 in
+              elim (judge_err (is_utf8 b.0.0) kinds.Text a.0.1 _ h b.2) [
+                | inl k ↦ tell_at (ValueFault number) (2 ∷ rest) (2 ∷ to_be_bytes w16 a.0.0) a.0.1 b.0.0 b.0.1 kinds.Text 3 h k.1 (Takes-byte 2 ta.0) tb.0 refl
+                    (faulty a.0.0 b.0.0 tb.1.len (few a.0.0 j.0) (no_utf8 b.0.0 k.0))
+                | inr k ↦ absurd (let g = k.1 in cc)
+              ]
         ]
       ]
 ]
@@ -178,8 +178,8 @@ insert_stops number rest h fits e = elim (bind_err (byte_at rest) _ h e) [
             elim (judge_err (leb 1 b.0.0 && leb b.0.0 16) kinds.Count a.0.1 _ h b.2) [
               | inl j ↦ tell_at (OpFault number) (1 ∷ rest) (1 ∷ a.0.0 ∷ []) a.0.1 (b.0.0 ∷ []) b.0.1 kinds.Count 2 h j.1 (Takes-byte 1 ta.0) tb.0 refl (value_count a.0.0 b.0.0 (not_within 1 b.0.0 16 j.0))
               | inr j ↦ elim (bind_err (values_at number b.0.0 b.0.1) _ h j.1) [
-                  | inl f ↦ inner a.0.0 b.0.0 b.0.1 (Takes-byte 1 (Takes-then ta.0 tb.0)) (between 1 b.0.0 16 j.0) (values_err number b.0.0 b.0.1 h tb.0.rest_fits f)
-                  | inr x ↦ absurd (let g = x.2 in cc)
+                | inl f ↦ inner a.0.0 b.0.0 b.0.1 (Takes-byte 1 (Takes-then ta.0 tb.0)) (between 1 b.0.0 16 j.0) (values_err number b.0.0 b.0.1 h tb.0.rest_fits f)
+                | inr x ↦ absurd (let g = x.2 in cc)
               ]
             ]
       ]

@@ -44,7 +44,7 @@ ids_told (suc n) last (first ∷ ids) id rest few are rise is bad =
     (then_is (id_at (first.0 ++ others)) _ (first, others) _ (id_again first others are.0)
     (judge_is (is_next last first) kinds.Order (first.0 ++ others) _ _ next.0
     (fails_first (ids_at n (Some first) others) _ (halt_at kinds.Order (spell.id id ++ rest))
-      (ids_told n (Some first) ids id rest (omega arith) are.1 next.1 is (λ r. bad (rising last first (ids ++ id ∷ []) next.0 r))))))
+    (ids_told n (Some first) ids id rest (omega arith) are.1 next.1 is (λ r. bad (rising last first (ids ++ id ∷ []) next.0 r))))))
 
 -- what reading does behind a header in form
 header_read : (database : List ℕ) (key : AuthorKey) (bytes : List ℕ) → IsBlock 32 database → IsKey key → before_ops_at (spell.header database key ++ bytes) ≡ after_header database key bytes
@@ -157,7 +157,7 @@ body_told front kind at (pred_order database key n ids id is known few more are 
     let fails = before_ops_told (spell.header database key ++ (to_be_bytes w16 n ++ (flat_map spell.id ids ++ (spell.id id ++ rest)))) _ (header_read database key _ is known ∙ told) in
     let before : List ℕ = spell.header database key ++ (to_be_bytes w16 n ++ flat_map spell.id ids) in
     let t = field_told body_at before (spell.id id) rest kinds.Order (91 + 32 * length ids) (sym (ids_place database key n ids is known are))
-        (subst (λ (b : List ℕ). body_at b ≡ failed (BodyData × List ℕ) (halt_at kinds.Order (spell.id id ++ rest))) (sym (grouped (spell.header database key) (to_be_bytes w16 n) (flat_map spell.id ids) (spell.id id ++ rest))) fails) in
+    (subst (λ (b : List ℕ). body_at b ≡ failed (BodyData × List ℕ) (halt_at kinds.Order (spell.id id ++ rest))) (sym (grouped (spell.header database key) (to_be_bytes w16 n) (flat_map spell.id ids) (spell.id id ++ rest))) fails) in
     subst (λ (b : List ℕ). IsTold (body_at (b ++ rest)) (length (b ++ rest)) kinds.Order (91 + 32 * length ids)) (grouped (spell.header database key) (to_be_bytes w16 n) (flat_map spell.id ids) (spell.id id)) t
   where
     grouped : (a b c d : List ℕ) → (a ++ (b ++ c)) ++ d ≡ a ++ (b ++ (c ++ d))
@@ -170,7 +170,7 @@ body_told front k at (in_op before n inner kind at_inner is few more f) rest =
     let told = ops_told n 0 before.ops (inner ++ rest) (record { kind = kind; left = t.left }) (most_of (length before.ops) n more few) more is.ops (subst (λ (k : ℕ). op_at k (inner ++ rest) ≡ failed (Op × List ℕ) (record { kind = kind; left = t.left })) (none_more (length before.ops)) t.is) in
     part_told body_at (spell.before_next_op before n) inner rest kind (length (spell.before_next_op before n)) at_inner t.left refl t.place
     (subst (λ (b : List ℕ). body_at b ≡ failed (BodyData × List ℕ) (record { kind = kind; left = t.left })) (sym (grouped (spell.before_ops before) (to_be_bytes w16 n) (flat_map spell.op before.ops) (inner ++ rest)))
-      (op_behind before n (flat_map spell.op before.ops ++ (inner ++ rest)) (record { kind = kind; left = t.left }) is few told))
+    (op_behind before n (flat_map spell.op before.ops ++ (inner ++ rest)) (record { kind = kind; left = t.left }) is few told))
   where
     none_more : (n : ℕ) → n ≡ 0 + n
     none_more n = omega arith

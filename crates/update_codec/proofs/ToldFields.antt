@@ -154,7 +154,7 @@ ops_told (suc n) number (op ∷ ops) bytes h small few are e =
     rw (append_assoc (spell.op op) (flat_map spell.op ops) bytes)
     (then_is (op_at number (spell.op op ++ (flat_map spell.op ops ++ bytes))) _ (op, flat_map spell.op ops ++ bytes) _ (op_again number op _ (omega arith) are.0)
     (fails_first (ops_at n (number + 1) (flat_map spell.op ops ++ bytes)) _ h
-      (ops_told n (number + 1) ops bytes h (omega arith) (omega arith) are.1 (subst (λ (k : ℕ). op_at k bytes ≡ failed (Op × List ℕ) h) (next number (length ops)) e))))
+    (ops_told n (number + 1) ops bytes h (omega arith) (omega arith) are.1 (subst (λ (k : ℕ). op_at k bytes ≡ failed (Op × List ℕ) h) (next number (length ops)) e))))
   where
     next : (a b : ℕ) → a + suc b ≡ a + 1 + b
     next a b = omega arith
