@@ -60,9 +60,9 @@ pub data BodyFault : List ℕ → CodecKind → ℕ → Type 0 where
   pred_order : (database : List ℕ) (key : AuthorKey) (n : ℕ) (ids : List UpdateId) (id : UpdateId) → IsBlock 32 database → IsKey key → n ≤ 1024 → length ids < n
       → AllByRecursion IsId ids → AreRising None ids → IsId id → ¬ (AreRising None (ids ++ id ∷ []))
       → BodyFault (spell.header database key ++ (to_be_bytes w16 n ++ (flat_map spell.id ids ++ spell.id id))) kinds.Order (91 + 32 * length ids)
-  op_count : (before : BodyData) (n : ℕ) → IsBody before → before.ops ≡ [] → n < 2 ^ 16 → 64 < n
+  op_count : (before : BodyData) (n : ℕ) → IsBody before → before.ops ≡ [] → n < 2 ^ 16 → spell.op_limit before < n
       → BodyFault (spell.before_ops before ++ to_be_bytes w16 n) kinds.Count (91 + 32 * length before.preds)
-  in_op : (before : BodyData) (n : ℕ) (front : List ℕ) (kind : CodecKind) (at : ℕ) → IsBody before → n ≤ 64 → length before.ops < n → OpFault (length before.ops) front kind at
+  in_op : (before : BodyData) (n : ℕ) (front : List ℕ) (kind : CodecKind) (at : ℕ) → IsBody before → n ≤ spell.op_limit before → length before.ops < n → OpFault (length before.ops) front kind at
       → BodyFault (spell.before_next_op before n ++ front) kind (length (spell.before_next_op before n) + at)
 
 -- an update: a body that has a fault, or another length of the signature than its author's key asks for
