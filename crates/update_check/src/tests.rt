@@ -1,1 +1,0 @@
-//! Signed updates, and each reason why one is refused.
