@@ -16,8 +16,9 @@ under_from_parts rule read body seen same_rule same_body database listed = recor
 pub under_where_listed : (rule read : RuleData) (body seen : BodyData) (listed : Bool) → read ≡ rule → seen ≡ body → seen.database ≡ read.database
     → (IsTrue listed ↔ IsListed rule.authors seen.author) → IsTrue listed ↔ IsUnder rule body
 under_where_listed rule read body seen listed same_rule same_body database answer = (
-    λ t. under_from_parts rule read body seen same_rule same_body database (answer.0 t),
-    λ under. answer.1 (subst (λ (b : BodyData). IsListed rule.authors b.author) (sym same_body) under.author))
+  λ t. under_from_parts rule read body seen same_rule same_body database (answer.0 t),
+  λ under. answer.1 (subst (λ (b : BodyData). IsListed rule.authors b.author) (sym same_body) under.author),
+)
 
 -- what does not differ is one
 pub not_apart : (same : Bool) → false ≡ not same → same ≡ true
