@@ -1,3 +1,2 @@
 pub mod Refused
-pub mod Under
-pub mod Signatures
+pub mod Whole
