@@ -1,5 +1,5 @@
 ghost use Rattle.std.specs.Prelude.{◌≡◌, ◌↔◌, IsTrue, IfOk};
-ghost use Rattle.update_codec.specs.Parts.{body_of, database_of, entry_of, signature_of};
+ghost use Rattle.update_codec.specs.Parts.{body_of, database_of, entry_of, signature_of, update_of};
 ghost use Rattle.update_check.specs.Signed.{IsSigned, IsUnder, SpellsSigned, node_of};
 
 use std::alloc::{AllocError, Global};
@@ -31,7 +31,7 @@ impl Model for Checked {
 impl Checked {
     /// The update, whose signature was verified.
     pub(crate) fn new(spelled: Spelled) -> Checked
-        requires { IsSigned spelled }
+        requires { SpellsSigned spelled (update_of spelled) }
         ensures { result ≡ spelled }
     {
         Checked { spelled }

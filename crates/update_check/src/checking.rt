@@ -1,13 +1,14 @@
 //! Taking over bytes and spelled updates.
 
 ghost use Rattle.std.specs.Prelude.{◌≡◌, Ok, IfOk, IfErr, IfNone, IfSome};
+ghost use Rattle.update_codec.specs.Parts.{body_of, update_of};
 ghost use Rattle.update_check.specs.Causes.{HasCause, IsCause, Takes};
-ghost use Rattle.update_check.specs.Signed.{IsChecked};
+ghost use Rattle.update_check.specs.Signed.{IsChecked, IsUnder, SpellsSigned};
 
-use crate::{CheckError, CheckFault, Checked};
+use crate::{CheckError, CheckFault, Checked, no_cause};
 use lms_tree::verify;
 use std::alloc::Global;
-use update_codec::{Spelled, one_update, spelled};
+use update_codec::{Spelled, spelled};
 use update_model::DbRule;
 
 /// Takes over bytes that spell an update of the rule's database, by a listed author who signed it.
@@ -19,6 +20,7 @@ pub fn check(alloc: Global, rule: &DbRule, bytes: Vec<u8>) -> Result<Checked, Ch
     ensures only { IsChecked rule.now bytes.items → Takes result bytes.items }
     ensures fault { IfErr result (λ error. HasCause rule.now bytes.items error) }
 {
+    no_cause();
     let update = spelled(alloc, bytes)?;
     Ok(check_spelled(rule, update)?)
 }
@@ -32,6 +34,7 @@ pub fn check_spelled(rule: &DbRule, update: Spelled) -> Result<Checked, CheckFau
     ensures only { IsChecked rule.now update → result ≡ Ok update }
     ensures fault { IfErr result (λ fault. IsCause rule.now update fault) }
 {
+    no_cause();
     match fault_of(rule, &update) {
         Some(fault) => Err(fault),
         None => Ok(Checked::new(update)),
@@ -40,7 +43,8 @@ pub fn check_spelled(rule: &DbRule, update: Spelled) -> Result<Checked, CheckFau
 
 /// Why a spelled update is refused, if it is.
 fn fault_of(rule: &DbRule, update: &Spelled) -> Option<CheckFault>
-    ensures none { IfNone result (IsChecked rule.now update.now) }
+    ensures signed { IfNone result (SpellsSigned update.now (update_of update.now)) }
+    ensures under { IfNone result (IsUnder rule.now (body_of update.now)) }
     ensures fault { IfSome result (λ fault. IsCause rule.now update.now fault) }
 {
     let body = update.body();

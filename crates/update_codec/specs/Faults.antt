@@ -3,7 +3,7 @@
 -- In each of the families below the bytes end in a whole field that has a fault, all that stands before this field
 -- is in form, and the number is the fault's place among these bytes. That a fault is the first one needs no words:
 -- a field can follow fields in form in one way only.
-use Rattle.std.specs.Prelude.{◌≡◌, ◌≢◌, ◌⊎◌, ℕ, ◌+◌, ◌*◌, ◌≤◌, ◌<◌, ◌^◌, List, [], ◌∷◌, ◌++◌, length, None, IsUtf8}
+use Rattle.std.specs.Prelude.{◌≡◌, ◌≢◌, ℕ, ◌+◌, ◌*◌, ◌≤◌, ◌<◌, ◌^◌, List, [], ◌∷◌, ◌++◌, length, None, IsUtf8}
 use Rattle.std.specs.List.{flat_map, AllByRecursion}
 use Rattle.std.specs.Int.{w16, w32, to_be_bytes}
 use Rattle.update_model.specs.declared.update_id.UpdateId.{UpdateId}
