@@ -6,72 +6,81 @@ use Rattle.std.specs.Io.KnownBytes.{Appends}
 use Rattle.bec_bytes.specs.Causes.{HasCause}
 use Rattle.bec_bytes.specs.Moved.{TakesAll}
 use Rattle.update_stream.specs.declared.record_fault.RecordFault.{RecordFault}
-use Rattle.update_stream.specs.declared.record_fault.RecordFault.TheVariants.{Misspelled, Operations, OtherDatabase, Lacks, Full}
+use Rattle.update_stream.specs.declared.record_fault.RecordFault.TheVariants.{Check, Lacks, Full}
 use Rattle.update_stream.specs.declared.reading.Reading.{Reading}
 use Rattle.update_stream.specs.declared.reading.Reading.TheVariants.{Whole, Refused}
 use Rattle.update_stream.specs.Told.{Reads}
 use Rattle.bec_node.specs.Texts.{status_of}
-use Rattle.bec_node.specs.Run.{IsHeadsCommand, HasFirstWord, HeadsAnswer, Says, IsHeadsStatus, IsAnswer, IsReply, PutsFront, IsStreamFault, Puts, ComesAs}
-use Rattle.bec_node.proofs.Answer.{answer_once}
+use Rattle.bec_node.specs.Run.{Command, Heads, word_of, IsCommand, IsNoCommand, HasFirstWord, Says, IsStatusOf, IsAnswer, IsReply, PutsFront, IsStreamFault, Puts, AnswersOnly}
+use Rattle.bec_node.proofs.Answer.{OneAnswer}
 
 -- ---- words
 
-pub one_word : (words : List (String Global)) → HasFirstWord words → length words ≤ 1 → IsHeadsCommand words
-one_word [] first few = absurd cc
-one_word (word ∷ []) first few = let is : string_bytes word ≡ codes "heads" = cc in ap (λ (w : List ℕ). w ∷ []) is
-one_word (word ∷ other ∷ words) first few = absurd (omega arith)
+pub one_word : (command : Command) (words : List (String Global)) → HasFirstWord command words → length words ≤ 1 → IsCommand command words
+one_word command [] first few = absurd cc
+one_word command (word ∷ []) first few = let is : string_bytes word ≡ word_of command = cc in ap (λ (w : List ℕ). w ∷ []) is
+one_word command (word ∷ other ∷ words) first few = absurd (omega arith)
 
-pub more_words : (words : List (String Global)) → 1 < length words → IsHeadsCommand words → ⊥
-more_words [] many is = absurd (omega arith)
-more_words (word ∷ []) many is = absurd (omega arith)
-more_words (word ∷ other ∷ words) many is = cc
+pub more_words : (words : List (String Global)) → 1 < length words → IsNoCommand words
+more_words [] many command is = absurd (omega arith)
+more_words (word ∷ []) many command is = absurd (omega arith)
+more_words (word ∷ other ∷ words) many command is = cc
 
-pub first_word : (words : List (String Global)) (word : String Global) → slice_get words 0 ≡ Some word → string_bytes word ≡ codes "heads" → HasFirstWord words
-first_word [] word at is = absurd cc
-first_word (w ∷ words) word at is = let same : w ≡ word = cc in ap (λ (t : String Global). Some (string_bytes t)) same ∙ ap Some is
+pub first_word : (command : Command) (words : List (String Global)) (word : String Global) → slice_get words 0 ≡ Some word → string_bytes word ≡ word_of command → HasFirstWord command words
+first_word command [] word at is = absurd cc
+first_word command (w ∷ words) word at is = let same : w ≡ word = cc in ap (λ (t : String Global). Some (string_bytes t)) same ∙ ap Some is
 
-pub other_first : (words : List (String Global)) (word : String Global) → slice_get words 0 ≡ Some word → (string_bytes word ≡ codes "heads" → ⊥) → IsHeadsCommand words → ⊥
-other_first [] word at other is = absurd cc
-other_first (w ∷ words) word at other is = let same : w ≡ word = cc in let named : string_bytes w ≡ codes "heads" = cc in other (ap (λ (t : String Global). string_bytes t) (sym same) ∙ named)
+-- the words of two commands
+pub one_command : (command other : Command) (words : List (String Global)) → HasFirstWord command words → IsCommand other words → other ≡ command
+one_command Heads Heads words first is = refl
 
-pub no_first : (words : List (String Global)) → slice_get words 0 ≡ None → IsHeadsCommand words → ⊥
-no_first [] none is = cc
-no_first (w ∷ words) none is = cc
+pub other_first : (words : List (String Global)) (word : String Global) → slice_get words 0 ≡ Some word → ((command : Command) → string_bytes word ≡ word_of command → ⊥) → IsNoCommand words
+other_first [] word at other command is = absurd cc
+other_first (w ∷ words) word at other command is =
+    let same : w ≡ word = cc in
+    let named : string_bytes w ≡ word_of command = cc in
+    other command (ap (λ (t : String Global). string_bytes t) (sym same) ∙ named)
+
+-- a word that is none of the commands' words
+pub other_words : (word : List ℕ) → (word ≡ codes "heads" → ⊥) → (command : Command) → word ≡ word_of command → ⊥
+other_words word heads Heads is = heads is
+
+pub no_first : (words : List (String Global)) → slice_get words 0 ≡ None → IsNoCommand words
+no_first [] none command is = cc
+no_first (w ∷ words) none command is = cc
 
 -- ---- replies
 
-heads_status : (fault : RecordFault) → IsHeadsStatus (status_of fault)
-heads_status Misspelled = inr (inl refl)
-heads_status Operations = inr (inl refl)
-heads_status OtherDatabase = inr (inl refl)
+heads_status : (fault : RecordFault) → IsStatusOf Heads (status_of fault)
+heads_status (Check fault) = inr (inl refl)
 heads_status (Lacks id) = inr (inl refl)
 heads_status Full = inr (inr refl)
 
-pub not_four : (status : ℕ) → IsHeadsStatus status → status ≡ 4 → ⊥
-not_four status (inl a) e = let no : 0 ≡ 4 = sym a ∙ e in absurd (omega arith)
-not_four status (inr (inl a)) e = let no : 1 ≡ 4 = sym a ∙ e in absurd (omega arith)
-not_four status (inr (inr a)) e = let no : 7 ≡ 4 = sym a ∙ e in absurd (omega arith)
+pub not_four : (command : Command) (status : ℕ) → IsStatusOf command status → status ≡ 4 → ⊥
+not_four Heads status (inl a) e = let no : 0 ≡ 4 = sym a ∙ e in absurd (omega arith)
+not_four Heads status (inr (inl a)) e = let no : 1 ≡ 4 = sym a ∙ e in absurd (omega arith)
+not_four Heads status (inr (inr a)) e = let no : 7 ≡ 4 = sym a ∙ e in absurd (omega arith)
 
-whole_answer : (before after : Option (List ℕ)) (members : List (List ℕ)) (status : ℕ) (text : List ℕ) → Reads before after (Whole members) → Says (Whole members) status text → IsAnswer before after status text
+whole_answer : (before after : Option (List ℕ)) (members : List (List ℕ)) (status : ℕ) (text : List ℕ) → Reads None before after (Whole members) → Says (Whole members) status text → IsAnswer Heads before after status text
 whole_answer None after members status text reads says = tt
 whole_answer (Some xs) after members status text reads says =
     (reads.0, reads.1, inl (says.0, (members, reads.2.0, says.1), reads.2.1, says.2, says.3))
 
-refused_answer : (before after : Option (List ℕ)) (n : ℕ) (fault : RecordFault) (status : ℕ) (text : List ℕ) → Reads before after (Refused n fault) → Says (Refused n fault) status text → IsAnswer before after status text
+refused_answer : (before after : Option (List ℕ)) (n : ℕ) (fault : RecordFault) (status : ℕ) (text : List ℕ) → Reads None before after (Refused n fault) → Says (Refused n fault) status text → IsAnswer Heads before after status text
 refused_answer None after n fault status text reads says = tt
 refused_answer (Some xs) after n fault status text reads says = (reads.0, reads.1, inr (n, (fault, reads.2, says.0, says.1)))
 
-pub status_said : (reading : Reading) (status : ℕ) (text : List ℕ) → Says reading status text → IsHeadsStatus status
+pub status_said : (reading : Reading) (status : ℕ) (text : List ℕ) → Says reading status text → IsStatusOf Heads status
 status_said (Whole members) status text says = inl says.2
-status_said (Refused n fault) status text says = let P : ℕ → Type 0 = IsHeadsStatus in subst P (sym says.0) (heads_status fault)
+status_said (Refused n fault) status text says = let P : ℕ → Type 0 = IsStatusOf Heads in subst P (sym says.0) (heads_status fault)
 
-pub answer_said : (before after : Option (List ℕ)) (reading : Reading) (status : ℕ) (text : List ℕ) → Reads before after reading → Says reading status text → IsAnswer before after status text
+pub answer_said : (before after : Option (List ℕ)) (reading : Reading) (status : ℕ) (text : List ℕ) → Reads None before after reading → Says reading status text → IsAnswer Heads before after status text
 answer_said before after (Whole members) status text reads says = whole_answer before after members status text reads says
 answer_said before after (Refused n fault) status text reads says = refused_answer before after n fault status text reads says
 
-pub reply_said : (words : List (String Global)) (before after : Option (List ℕ)) (reading : Reading) (status : ℕ) (text : List ℕ) → IsHeadsCommand words
-    → Reads before after reading → Says reading status text → IsReply words before after status text
-reply_said words before after reading status text is reads says = inl (is, status_said reading status text says, answer_said before after reading status text reads says)
+pub reply_said : (words : List (String Global)) (before after : Option (List ℕ)) (reading : Reading) (status : ℕ) (text : List ℕ) → IsCommand Heads words
+    → Reads None before after reading → Says reading status text → IsReply words before after status text
+reply_said words before after reading status text is reads says = inl (Heads, is, status_said reading status text says, answer_said before after reading status text reads says)
 
 -- ---- what is written
 
@@ -88,13 +97,25 @@ pub fault_put : (words : List (String Global)) (before after : Option (List ℕ)
 fault_put words before after in_old in_new old new held held_new status result text is other (inl put) four = absurd (other (sym put.0 ∙ four))
 fault_put words before after in_old in_new old new held held_new status result text is other (inr failed) four = inr (status, (text, is, failed.1))
 
-pub only_put : (before after : Option (List ℕ)) (old new : ℕ) (held held_new : Option (List ℕ)) (status result : ℕ) (text : List ℕ)
-    → IsAnswer before after status text → Puts old new held held_new status text result
-    → IfSome before (λ bytes. (rest : List ℕ) (other : ℕ) (line : List ℕ) → HeadsAnswer bytes rest other line → ComesAs result other)
-only_put None after old new held held_new status result text is put = tt
-only_put (Some xs) after old new held held_new status result text is (inl put) = λ rest other line answer.
-    inl (put.0 ∙ (answer_once xs is.0 rest status other text line is.2 answer).0)
-only_put (Some xs) after old new held held_new status result text is (inr failed) = λ rest other line answer. inr (inl failed.0)
+pub only_put : OneAnswer → (command : Command) (words : List (String Global)) (before after : Option (List ℕ)) (old new : ℕ) (held held_new : Option (List ℕ)) (status result : ℕ) (text : List ℕ)
+    → HasFirstWord command words → IsAnswer command before after status text → Puts old new held held_new status text result
+    → (other : Command) → IsCommand other words → AnswersOnly other before result
+only_put one command words before after old new held held_new status result text first is put other named =
+    subst (λ (c : Command). AnswersOnly c before result) (sym (one_command command other words first named)) (at before is put)
+  where
+    at : (o : Option (List ℕ)) → IsAnswer command o after status text → Puts old new held held_new status text result → AnswersOnly command o result
+    at None is put = tt
+    at (Some xs) is (inl put) = λ rest again line answer. inl (put.0 ∙ (one command xs is.0 rest status again text line is.2 answer).0)
+    at (Some xs) is (inr failed) = λ rest again line answer. inr (inl failed.0)
+
+-- a status of a stream fault or of want of memory may come in place of any
+pub comes_as_four : (command : Command) (before : Option (List ℕ)) → AnswersOnly command before 4
+comes_as_four command None = tt
+comes_as_four command (Some xs) = λ rest status text answer. inr (inl refl)
+
+pub comes_as_five : (command : Command) (before : Option (List ℕ)) → AnswersOnly command before 5
+comes_as_five command None = tt
+comes_as_five command (Some xs) = λ rest status text answer. inr (inr refl)
 
 -- a line of which all or a front is written
 pub line_put : {T E : Type 0} (old new : ℕ) (held held_new : Option (List ℕ)) (result : Result T E) (line : List ℕ) → TakesAll held held_new result line → HasCause old new result
@@ -104,7 +125,7 @@ line_put old new held held_new (Err e) line taken cause = inr (cause.failed, (ta
 
 -- words that are no command
 pub fault_words : (words : List (String Global)) (before : Option (List ℕ)) (in_old old new : ℕ) (held held_new : Option (List ℕ)) (result : ℕ)
-    → (IsHeadsCommand words → ⊥) → Puts old new held held_new 2 (codes "! words\n") result → result ≡ 4
+    → IsNoCommand words → Puts old new held held_new 2 (codes "! words\n") result → result ≡ 4
     → IsStreamFault words before before in_old in_old old new held held_new
 fault_words words before in_old old new held held_new result other put four =
     fault_put words before before in_old in_old old new held held_new 2 result (codes "! words\n") (inr (other, refl, refl)) (λ two. absurd (omega arith)) put four

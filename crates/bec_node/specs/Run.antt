@@ -1,5 +1,5 @@
 -- What the program answers.
-use Rattle.std.specs.Prelude.{◌≡◌, ◌⊎◌, ℕ, ◌≤◌, List, [], ◌∷◌, length, map, take, codes, Some, IfSome, String, slice_get}
+use Rattle.std.specs.Prelude.{◌≡◌, ◌⊎◌, ℕ, ◌≤◌, List, [], ◌∷◌, length, map, take, codes, None, Some, IfSome, String, slice_get}
 use Rattle.std.specs.declared.alloc.Global.{Global}
 use Rattle.std.specs.declared.option.Option.{Option}
 use Rattle.std.specs.Io.KnownBytes.{Appends}
@@ -14,43 +14,59 @@ use Rattle.update_stream.specs.declared.reading.Reading.TheVariants.{Whole, Refu
 use Rattle.update_stream.specs.Stream.{IsWhole, IsRefused}
 use Rattle.bec_node.specs.Texts.{printed, refusal_text, status_of}
 
--- the one word is `heads`
-abbrev pub IsHeadsCommand : List (String Global) → Type 0
-IsHeadsCommand words = map string_bytes words ≡ codes "heads" ∷ []
+-- what a user can ask for
+pub data Command : Type 0 where
+  Heads : Command
 
--- the first word is `heads`
-abbrev pub HasFirstWord : List (String Global) → Type 0
-HasFirstWord words = slice_get (map string_bytes words) 0 ≡ Some (codes "heads")
+-- its word
+abbrev pub word_of : Command → List ℕ
+word_of Heads = codes "heads"
 
--- The input is good records up to its end, and these are the heads of their graph.
+-- the one word is the command
+abbrev pub IsCommand : Command → List (String Global) → Type 0
+IsCommand command words = map string_bytes words ≡ word_of command ∷ []
+
+-- the words are no command
+abbrev pub IsNoCommand : List (String Global) → Type 0
+IsNoCommand words = (command : Command) → IsCommand command words → ⊥
+
+-- the first word is the command
+abbrev pub HasFirstWord : Command → List (String Global) → Type 0
+HasFirstWord command words = slice_get (map string_bytes words) 0 ≡ Some (word_of command)
+
+-- The input is good records up to its end, of the database of the first one, and these are the heads of their graph.
 abbrev pub HasHeads : List ℕ → List UpdateId → Type 0
-HasHeads input heads = (members : List (List ℕ)) × IsWhole input members × AreHeads (map entry_of members) heads
+HasHeads input heads = (members : List (List ℕ)) × IsWhole None input members × AreHeads (map entry_of members) heads
 
 -- The answer to a stream: its heads with status 0 at its end, or the first record that is refused. The rest is
 -- what was not read.
 abbrev pub HeadsAnswer : List ℕ → List ℕ → ℕ → List ℕ → Type 0
 HeadsAnswer input rest status text =
     ((heads : List UpdateId) × HasHeads input heads × (rest ≡ []) × (status ≡ 0) × (text ≡ printed heads))
-    ⊎ ((n : ℕ) × ((fault : RecordFault) × IsRefused input rest n fault × (status ≡ status_of fault) × (text ≡ refusal_text n fault)))
+    ⊎ ((n : ℕ) × ((fault : RecordFault) × IsRefused None input rest n fault × (status ≡ status_of fault) × (text ≡ refusal_text n fault)))
 
 -- what `heads` says of what a stream holds
 abbrev pub Says : Reading → ℕ → List ℕ → Type 0
 Says (Whole members) status text = (heads : List UpdateId) × AreHeads (map entry_of members) heads × (status ≡ 0) × (text ≡ printed heads)
 Says (Refused n fault) status text = (status ≡ status_of fault) × (text ≡ refusal_text n fault)
 
--- a status that `heads` has where nothing failed
-abbrev pub IsHeadsStatus : ℕ → Type 0
-IsHeadsStatus status = (status ≡ 0) ⊎ ((status ≡ 1) ⊎ (status ≡ 7))
+-- The answer of a command to an input, with its status and text. The rest is what was not read.
+abbrev pub AnswerTo : Command → List ℕ → List ℕ → ℕ → List ℕ → Type 0
+AnswerTo Heads input rest status text = HeadsAnswer input rest status text
+
+-- a status that a command has where nothing failed
+abbrev pub IsStatusOf : Command → ℕ → Type 0
+IsStatusOf Heads status = (status ≡ 0) ⊎ ((status ≡ 1) ⊎ (status ≡ 7))
 
 -- The answer, where the source tells its bytes, of which the second are left.
-abbrev pub IsAnswer : Option (List ℕ) → Option (List ℕ) → ℕ → List ℕ → Type 0
-IsAnswer before after status text = IfSome before (λ input. (rest : List ℕ) × (after ≡ Some rest) × HeadsAnswer input rest status text)
+abbrev pub IsAnswer : Command → Option (List ℕ) → Option (List ℕ) → ℕ → List ℕ → Type 0
+IsAnswer command before after status text = IfSome before (λ input. (rest : List ℕ) × (after ≡ Some rest) × AnswerTo command input rest status text)
 
 -- the status and the text that the words and the input ask for
 abbrev pub IsReply : List (String Global) → Option (List ℕ) → Option (List ℕ) → ℕ → List ℕ → Type 0
 IsReply words before after status text =
-    (IsHeadsCommand words × IsHeadsStatus status × IsAnswer before after status text)
-    ⊎ ((IsHeadsCommand words → ⊥) × (status ≡ 2) × (text ≡ codes "! words\n"))
+    ((command : Command) × IsCommand command words × IsStatusOf command status × IsAnswer command before after status text)
+    ⊎ (IsNoCommand words × (status ≡ 2) × (text ≡ codes "! words\n"))
 
 -- the sink took a front of this text, and failed
 abbrev pub PutsFront : ℕ → ℕ → Option (List ℕ) → Option (List ℕ) → List ℕ → Type 0
@@ -60,7 +76,7 @@ PutsFront out_old out_new held held_new text = Rose out_old out_new × ((n : ℕ
 -- a front of the reply is written.
 abbrev pub IsStreamFault : List (String Global) → Option (List ℕ) → Option (List ℕ) → ℕ → ℕ → ℕ → ℕ → Option (List ℕ) → Option (List ℕ) → Type 0
 IsStreamFault words before after in_old in_new out_old out_new held held_new =
-    (IsHeadsCommand words × Rose in_old in_new
+    (((command : Command) × IsCommand command words) × Rose in_old in_new
     × (Appends held held_new (codes "! stream fault\n") ⊎ PutsFront out_old out_new held held_new (codes "! stream fault\n")))
     ⊎ ((status : ℕ) × ((text : List ℕ) × IsReply words before after status text × PutsFront out_old out_new held held_new text))
 
@@ -75,4 +91,8 @@ ComesAs result status = (result ≡ status) ⊎ ((result ≡ 4) ⊎ (result ≡ 
 
 -- words that are no command leave the source as it was
 abbrev pub LeavesInput : {S : Type 0} → List (String Global) → S → S → Type 0
-LeavesInput words before after = (IsHeadsCommand words → ⊥) → after ≡ before
+LeavesInput words before after = IsNoCommand words → after ≡ before
+
+-- each answer that the input has comes with its status, unless a stream failed or memory ran out
+abbrev pub AnswersOnly : Command → Option (List ℕ) → ℕ → Type 0
+AnswersOnly command before result = IfSome before (λ input. (rest : List ℕ) (status : ℕ) (text : List ℕ) → AnswerTo command input rest status text → ComesAs result status)

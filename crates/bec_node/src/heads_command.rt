@@ -1,7 +1,8 @@
-ghost use Rattle.std.specs.Prelude.{◌≡◌, ◌≢◌, ℕ, List, [], IfSome};
+ghost use Rattle.std.specs.Prelude.{◌≡◌, ◌≢◌, ℕ, List, []};
 ghost use Rattle.std.specs.Io.KnownBytes.{Appends};
-ghost use Rattle.bec_node.specs.Run.{IsHeadsCommand, HasFirstWord, HeadsAnswer, IsReply, IsStreamFault, ComesAs, LeavesInput};
+ghost use Rattle.bec_node.specs.Run.{Command, Heads, IsCommand, HasFirstWord, IsReply, IsStreamFault, AnswersOnly, LeavesInput};
 
+use crate::laws::one_answer;
 use crate::reply::{heads_reply, no_command, put_reply};
 use bec_bytes::{Sink, Source, write_all_of};
 use std::alloc::Global;
@@ -18,21 +19,21 @@ pub fn command_heads<S: Source, K: Sink>(
     input: &mut S,
     out: &mut K,
 ) -> u8
-    requires { HasFirstWord words.now }
+    requires { HasFirstWord Heads words.now }
 
     ensures reply { result ≢ 4 → result ≢ 5
         → (text : List ℕ) × IsReply words.now (S.left input.old) (S.left input.new) result text × Appends (K.held out.old) (K.held out.new) text }
     ensures fault { result ≡ 4
         → IsStreamFault words.now (S.left input.old) (S.left input.new) (S.faults input.old) (S.faults input.new) (K.faults out.old) (K.faults out.new) (K.held out.old) (K.held out.new) }
-    ensures memory { result ≡ 5 → IsHeadsCommand words.now × Appends (K.held out.old) (K.held out.new) [] }
-    ensures only { IsHeadsCommand words.now
-        → IfSome (S.left input.old) (λ bytes. (rest : List ℕ) (status : ℕ) (text : List ℕ) → HeadsAnswer bytes rest status text → ComesAs result status) }
+    ensures memory { result ≡ 5 → ((command : Command) × IsCommand command words.now) × Appends (K.held out.old) (K.held out.new) [] }
+    ensures only { (command : Command) → IsCommand command words.now → AnswersOnly command (S.left input.old) result }
     ensures other { LeavesInput words.now input.old input.new }
 {
+    one_answer();
     if words.len() > 1 {
         return no_command(out);
     }
-    let reading = match read_stream(alloc, input) {
+    let reading = match read_stream(alloc, &None, input) {
         Ok(reading) => reading,
         Err(ReadError::Failed) => {
             let _ = write_all_of(out, b"! stream fault\n");

@@ -1,10 +1,16 @@
 //! Laws of the program. The function does nothing: its contract is a theorem for callers to cite.
 
 ghost use Rattle.std.specs.Prelude.{◌≡◌, ℕ, List};
-ghost use Rattle.bec_node.specs.Run.{HeadsAnswer};
+ghost use Rattle.bec_node.specs.Run.{Command, AnswerTo};
 
-/// A stream has one answer, so each status and each text comes exactly where its cause stands.
+use update_stream::{one_graph, one_refusal, whole_or_refused};
+
+/// An input has one answer to a command, so each status and each text comes exactly where its cause stands.
 pub fn one_answer()
-    ensures { (input rest other : List ℕ) (status another : ℕ) (text line : List ℕ)
-        → HeadsAnswer input rest status text → HeadsAnswer input other another line → (status ≡ another) × (text ≡ line) }
-{}
+    ensures { (command : Command) (input rest other : List ℕ) (status another : ℕ) (text line : List ℕ)
+        → AnswerTo command input rest status text → AnswerTo command input other another line → (status ≡ another) × (text ≡ line) }
+{
+    one_graph();
+    one_refusal();
+    whole_or_refused();
+}

@@ -1,6 +1,6 @@
-ghost use Rattle.std.specs.Prelude.{◌≡◌, ◌≢◌, ℕ, List, [], IfSome};
+ghost use Rattle.std.specs.Prelude.{◌≡◌, ◌≢◌, ℕ, List, []};
 ghost use Rattle.std.specs.Io.KnownBytes.{Appends};
-ghost use Rattle.bec_node.specs.Run.{IsHeadsCommand, HeadsAnswer, IsReply, IsStreamFault, ComesAs, LeavesInput};
+ghost use Rattle.bec_node.specs.Run.{Command, IsCommand, IsReply, IsStreamFault, AnswersOnly, LeavesInput};
 
 use crate::heads_command::command_heads;
 use crate::reply::no_command;
@@ -21,11 +21,10 @@ pub fn run<S: Source, K: Sink>(alloc: Global, words: &[String], input: &mut S, o
         → IsStreamFault words.now (S.left input.old) (S.left input.new) (S.faults input.old) (S.faults input.new) (K.faults out.old) (K.faults out.new) (K.held out.old) (K.held out.new) }
 
     // Without memory nothing is written.
-    ensures memory { result ≡ 5 → IsHeadsCommand words.now × Appends (K.held out.old) (K.held out.new) [] }
+    ensures memory { result ≡ 5 → ((command : Command) × IsCommand command words.now) × Appends (K.held out.old) (K.held out.new) [] }
 
-    // Each answer of a stream comes exactly where it stands, unless a stream failed or memory ran out.
-    ensures only { IsHeadsCommand words.now
-        → IfSome (S.left input.old) (λ bytes. (rest : List ℕ) (status : ℕ) (text : List ℕ) → HeadsAnswer bytes rest status text → ComesAs result status) }
+    // Each answer to an input comes exactly where it stands, unless a stream failed or memory ran out.
+    ensures only { (command : Command) → IsCommand command words.now → AnswersOnly command (S.left input.old) result }
 
     // Other words leave the source as it was.
     ensures other { LeavesInput words.now input.old input.new }

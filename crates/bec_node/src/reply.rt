@@ -5,13 +5,14 @@ ghost use Rattle.std.specs.Io.KnownBytes.{Appends};
 ghost use Rattle.update_model.specs.Graph.{AreHeads};
 ghost use Rattle.update_codec.specs.Parts.{entry_of};
 ghost use Rattle.bec_bytes.specs.Causes.{Rose};
-ghost use Rattle.bec_node.specs.Texts.{line_of, printed, refusal_text, status_of};
+ghost use Rattle.bec_node.specs.Texts.{line_of, printed, check_text, refusal_text, status_of};
 ghost use Rattle.bec_node.specs.Run.{Says, Puts};
 
 use crate::heads::heads_of;
 use bec_bytes::{Sink, write_all_of};
 use std::alloc::{AllocError, Global};
 use std::collections::BTreeSet;
+use update_check::CheckFault;
 use update_model::UpdateId;
 use update_stream::{Reading, RecordFault};
 
@@ -91,15 +92,31 @@ fn refusal(alloc: Global, number: u32, fault: &RecordFault) -> Result<String, Al
     ensures { IfOk result (λ line. string_bytes line ≡ refusal_text number fault.now) }
 {
     match fault {
-        RecordFault::Misspelled => format!(in alloc; "! update {number}: misspelled\n"),
-        RecordFault::Operations => format!(in alloc; "! update {number}: operations\n"),
-        RecordFault::OtherDatabase => format!(in alloc; "! update {number}: other database\n"),
+        RecordFault::Check(fault) => {
+            let text = check_text(alloc, fault)?;
+            let why = text.as_str();
+            format!(in alloc; "! update {number}: {why}\n")
+        }
         RecordFault::Lacks(id) => {
             let digits = hex::encode(alloc, id.0)?;
             let name = digits.as_str();
             format!(in alloc; "! update {number}: lacks {name}\n")
         }
         RecordFault::Full => String::from_str(alloc, "! full\n"),
+    }
+}
+
+/// What is said of a record that is no checked update.
+fn check_text(alloc: Global, fault: &CheckFault) -> Result<String, AllocError>
+    ensures { IfOk result (λ text. string_bytes text ≡ check_text fault.now) }
+{
+    match fault {
+        CheckFault::Codec(fault) => {
+            format!(in alloc; "{fault}")
+        }
+        CheckFault::WrongDatabase => String::from_str(alloc, "other database"),
+        CheckFault::AuthorNotListed => String::from_str(alloc, "author not listed"),
+        CheckFault::BadSignature => String::from_str(alloc, "bad signature"),
     }
 }
 

@@ -1,40 +1,90 @@
-//! Worked examples of the command line: the bytes and the ids come from a separate model of the format.
+//! Worked examples of the command line: the bytes, the ids and the signatures come from a separate model of the format
+//! and another implementation of LMS.
 
 use crate::run;
 use bec_bytes::{MemSink, MemSource, PlainSink, PlainSource};
+use lm_ots::OtsType;
+use lms_tree::{LmsType, Secret, make_secret};
 use std::alloc::{AllocError, Global};
 use std::process::Abort;
 use std::test::Fail;
 
-const ROOT: &str = "f2fbce917eb9932b1ae7f39687fe1759579cbf8fd0aca3a757d242b2ebd6ea5b";
+const ROOT: &str = "25b35b96afe714c0e91c5770d478eb26eafe18b0a114a767700b0f7b1157df63";
 
-const CHILD: &str = "6c34eb3905873753ba3211d2e19ce3e6f3befbbdb0aba9185c71f11db2feebac";
+const CHILD: &str = "d8365ba45a0a850613e312d0c687e13a24bea071d8055c346c3b34c0d523be21";
 
-const OTHER_ROOT: &str = "24cf3e11037ced611035600f1236158a4b7be2d1e59bc533cbc96edfebbc7868";
+const OTHER_ROOT: &str = "2f83f765262f447d9f7abd111e7c06fc217c2861c823b0bda40d9c6b5a7158eb";
 
-const JOIN: &str = "2a110ddfd3b61b1b91487c027f094f1d0be61aa9dae78a592d6376f6e3cd12a9";
+const JOIN: &str = "0e47ebb5bd6dd6c05f05e0a016519291416779d406893fa44c41ebe88aa73aeb";
 
-/// A record: an update with these predecessors, named in hexadecimal. The key's own bytes count up from `first`, and
-/// its root and the signature are zeros.
-fn record(alloc: Global, database: u8, first: u8, preds: &[&str]) -> Result<Vec<u8>, Fail> {
+/// A key of height 5 with 8 bits a digit, whose own bytes and whose seed count up.
+fn key(alloc: Global, ident_from: u8, seed_from: u8) -> Result<Secret, AllocError> {
+    let mut ident = [0; 16];
+    for (step, byte) in ident.iter_mut().enumerate() {
+        *byte = ident_from.wrapping_add(step as u8);
+    }
+    let mut seed = [0; 32];
+    for (step, byte) in seed.iter_mut().enumerate() {
+        *byte = seed_from.wrapping_add(step as u8);
+    }
+    make_secret(alloc, LmsType::H5, OtsType::W8, ident, seed)
+}
+
+/// What an author signs: an update with these predecessors, named in hexadecimal, and these operations, of which this
+/// is the number.
+fn message(
+    alloc: Global,
+    key: &Secret,
+    database: u8,
+    preds: &[&str],
+    count: u8,
+    operations: &[u8],
+) -> Result<Vec<u8>, Fail> {
+    let author = key.public();
     let mut update = Vec::new(alloc);
     update.push(1)?;
     update.extend_from_slice(&[database; 32])?;
-    update.extend_from_slice(&[0, 0, 0, 5, 0, 0, 0, 4])?;
-    for step in 0..16u8 {
-        update.push(first.wrapping_add(step))?;
-    }
-    update.extend_from_slice(&[0; 32])?;
+    update.extend_from_slice(&author.lms.to_be_bytes())?;
+    update.extend_from_slice(&author.ots.to_be_bytes())?;
+    update.extend_from_slice(&author.ident)?;
+    update.extend_from_slice(&author.root)?;
     update.extend_from_slice(&[0, preds.len().min(255) as u8])?;
     for pred in preds {
         update.extend_from_slice(&hex::decode(alloc, *pred)?)?;
     }
-    update.extend_from_slice(&[0, 0, 0, 0, 5, 12])?;
-    update.extend_from_slice(&[0; 1292])?;
+    update.extend_from_slice(&[0, count])?;
+    update.extend_from_slice(operations)?;
+    Ok(update)
+}
+
+/// A record of bytes.
+fn framed(alloc: Global, update: &[u8]) -> Result<Vec<u8>, AllocError> {
     let mut framed = Vec::new(alloc);
     framed.extend_from_slice(&(update.len().min(65_535) as u32).to_be_bytes())?;
-    framed.extend_from_slice(&update)?;
+    framed.extend_from_slice(update)?;
     Ok(framed)
+}
+
+/// A record that is signed by leaf 0 of its author's key.
+fn signed(
+    alloc: Global,
+    key: &Secret,
+    database: u8,
+    preds: &[&str],
+    count: u8,
+    operations: &[u8],
+) -> Result<Vec<u8>, Fail> {
+    let mut update = message(alloc, key, database, preds, count, operations)?;
+    let mut signature = vec![in alloc; 0u8; 1292]?;
+    key.sign_at(0, &[0; 32], &update, &mut signature);
+    update.extend_from_slice(&[0, 0, 5, 12])?;
+    update.extend_from_slice(&signature)?;
+    Ok(framed(alloc, &update)?)
+}
+
+/// A signed record without operations, of the examples' database.
+fn record(alloc: Global, key: &Secret, preds: &[&str]) -> Result<Vec<u8>, Fail> {
+    signed(alloc, key, 0xdd, preds, 0, &[])
 }
 
 /// The records one after the other.
@@ -80,11 +130,13 @@ fn expect_heads(
 #[test]
 fn prints_heads(rt: HostRuntime) -> Result<(), Fail> {
     let alloc = rt.alloc();
-    let root = record(alloc, 0xdd, 0, &[])?;
-    let child = record(alloc, 0xdd, 0, &[ROOT])?;
-    let other_root = record(alloc, 0xdd, 0x30, &[])?;
-    let join = record(alloc, 0xdd, 0, &[OTHER_ROOT, ROOT])?;
-    let both = format!(in alloc; "{OTHER_ROOT}\n{ROOT}")?;
+    let author = key(alloc, 0x00, 0x10)?;
+    let other = key(alloc, 0x30, 0x40)?;
+    let root = record(alloc, &author, &[])?;
+    let child = record(alloc, &author, &[ROOT])?;
+    let other_root = record(alloc, &other, &[])?;
+    let join = record(alloc, &author, &[ROOT, OTHER_ROOT])?;
+    let both = format!(in alloc; "{ROOT}\n{OTHER_ROOT}")?;
     expect_heads(&rt, &[], 0, "")?;
     expect_heads(&rt, &[&root, &child], 0, CHILD)?;
     expect_heads(&rt, &[&root, &child, &child], 0, CHILD)?;
@@ -95,33 +147,88 @@ fn prints_heads(rt: HostRuntime) -> Result<(), Fail> {
 #[test]
 fn names_the_first_refusal(rt: HostRuntime) -> Result<(), Fail> {
     let alloc = rt.alloc();
-    let root = record(alloc, 0xdd, 0, &[])?;
-    let child = record(alloc, 0xdd, 0, &[ROOT])?;
-    let other_root = record(alloc, 0xdd, 0x30, &[])?;
-    let swapped = record(alloc, 0xdd, 0, &[ROOT, OTHER_ROOT])?;
-    let foreign = record(alloc, 0xee, 0, &[])?;
-    let mut with_operations = root.clone()?;
-    assert!(rt; with_operations.len() == 1393);
-    with_operations[96] = 1;
+    let author = key(alloc, 0x00, 0x10)?;
+    let other = key(alloc, 0x30, 0x40)?;
+    let root = record(alloc, &author, &[])?;
+    let child = record(alloc, &author, &[ROOT])?;
+    let other_root = record(alloc, &other, &[])?;
+    let swapped = record(alloc, &author, &[OTHER_ROOT, ROOT])?;
+    let foreign = signed(alloc, &author, 0xee, &[], 0, &[])?;
+    let lacks = format!(in alloc; "! update 1: lacks {ROOT}")?;
     let mut cut = root.clone()?;
     cut.truncate(704);
-    let lacks = format!(in alloc; "! update 1: lacks {ROOT}")?;
     expect_heads(
         &rt,
         &[&root, &other_root, &swapped],
         1,
-        "! update 3: misspelled",
+        "! update 3: order at 123",
     )?;
+    expect_heads(&rt, &[&cut], 1, "! update 1: short at 700")?;
+    expect_heads(&rt, &[&root[..3]], 1, "! update 1: short at 0")?;
+    expect_heads(&rt, &[&[0, 4, 0, 1]], 1, "! update 1: too long at 262144")?;
     expect_heads(&rt, &[&child], 1, &lacks)?;
-    expect_heads(&rt, &[&with_operations], 1, "! update 1: operations")?;
-    expect_heads(&rt, &[&cut], 1, "! update 1: misspelled")?;
-    expect_heads(&rt, &[&[0, 4, 0, 1]], 1, "! update 1: misspelled")?;
     expect_heads(
         &rt,
         &[&root, &foreign, &cut],
         1,
         "! update 2: other database",
     )
+}
+
+/// A copy of a record in which these bytes of its update are changed to others.
+fn changed(rt: &(impl Abort + AllocGlobal), record: &[u8], place: usize, bytes: &[u8]) -> Result<Vec<u8>, Fail> {
+    let mut other = Vec::from_slice(rt.alloc(), record)?;
+    for (step, byte) in bytes.iter().enumerate() {
+        let at = 4 + place + step;
+        assert!(rt; at < other.len());
+        other[at] = *byte;
+    }
+    Ok(other)
+}
+
+#[test]
+fn tells_what_is_wrong_and_where(rt: HostRuntime) -> Result<(), Fail> {
+    let alloc = rt.alloc();
+    let author = key(alloc, 0x00, 0x10)?;
+    let root = record(alloc, &author, &[])?;
+    let rows: [(usize, &[u8], &str); 7] = [
+        (0, &[2], "version at 0"),
+        (36, &[8], "key type at 33"),
+        (40, &[5], "key type at 37"),
+        (89, &[4, 1], "count at 89"),
+        (91, &[0, 1], "tag at 93"),
+        (93, &[0, 0, 0, 0], "signature length at 93"),
+        (110, &[1], "bad signature"),
+    ];
+    for (place, bytes, text) in rows {
+        let line = format!(in alloc; "! update 1: {text}")?;
+        expect_heads(&rt, &[&changed(&rt, &root, place, bytes)?], 1, &line)?;
+    }
+    expect_heads(&rt, &[&[0, 0, 0, 0]], 1, "! update 1: short at 0")?;
+    let mut longer = Vec::from_slice(alloc, &root[4..])?;
+    longer.push(0)?;
+    expect_heads(
+        &rt,
+        &[&framed(alloc, &longer)?],
+        1,
+        "! update 1: trailing at 1389",
+    )?;
+    let rows: [(&[u8], &str); 4] = [
+        (&[3], "tag at 93"),
+        (&[1, 0, 1, 5, 0, 0], "own index at 97"),
+        (&[1, 0, 1, 2, 4, 1], "text at 97"),
+        (&[1, 0, 1, 2, 0, 1, 0xff], "text at 99"),
+    ];
+    for (operation, text) in rows {
+        let line = format!(in alloc; "! update 1: {text}")?;
+        expect_heads(
+            &rt,
+            &[&signed(alloc, &author, 0xdd, &[], 1, operation)?],
+            1,
+            &line,
+        )?;
+    }
+    Ok(())
 }
 
 #[test]
@@ -138,7 +245,7 @@ fn tells_words_and_faults(rt: HostRuntime) -> Result<(), Fail> {
         assert_eq!(rt; status, 2, "{line}");
         assert_eq!(rt; out.bytes(), b"! words\n".as_slice(), "{line}");
     }
-    let root = record(alloc, 0xdd, 0, &[])?;
+    let root = record(alloc, &key(alloc, 0x00, 0x10)?, &[])?;
     let heads = words(alloc, "heads")?;
     let mut failing = MemSource::new(root.clone()?, vec![in alloc; 2]?);
     let mut out = MemSink::new(alloc, Vec::new(alloc));

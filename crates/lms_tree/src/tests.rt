@@ -6,8 +6,9 @@
 
 mod vectors;
 
+use crate::nodes::{climb, leaf_node};
 use crate::{LmsType, make_secret, verify};
-use lm_ots::{OtsType, sign};
+use lm_ots::{OtsType, public_of, sign};
 use sha2::{Digest, Sha256};
 use std::alloc::Global;
 use std::process::Abort;
@@ -43,7 +44,8 @@ fn parts_of_key(alloc: Global, lms: LmsType, ots: OtsType, q: u32) -> Result<Par
     })
 }
 
-// Trees of height 5 and 10 are made whole, and give the same keys and signatures, which are valid.
+// Trees of height 5 and 10 are made whole, and give the same keys and signatures, which are valid. So is what their
+// first leaf signs.
 #[test]
 fn signatures_are_made_again(rt: HostRuntime) -> Result<(), Fail> {
     for row in &MADE {
@@ -67,6 +69,8 @@ fn signatures_are_made_again(rt: HostRuntime) -> Result<(), Fail> {
         assert!(rt; row.q < secret.leaf_count());
         secret.sign_at(row.q, &random, b"abc", &mut sig);
         assert_eq!(rt; Sha256::digest(&sig), row.digest);
+        assert!(rt; verify(&key, b"abc", &sig));
+        secret.sign_at(0, &random, b"abc", &mut sig);
         assert!(rt; verify(&key, b"abc", &sig));
     }
     Ok(())
@@ -103,6 +107,39 @@ fn tall_trees_verify(rt: HostRuntime) -> Result<(), Fail> {
             root: row.root,
         };
         assert!(rt; verify(&key, b"abc", &sig), "at q {}", row.q);
+    }
+    Ok(())
+}
+
+// The first leaf of a tree of height 15 signs, over stated values beside its path, which give the key's root.
+#[test]
+fn first_leaves_of_tall_trees_sign(rt: HostRuntime) -> Result<(), Fail> {
+    let lms = LmsType::H15;
+    let mut path = [0u8; 480];
+    for (place, byte) in path.iter_mut().enumerate() {
+        *byte = (place / 32) as u8;
+    }
+    for row in &TALL {
+        let Parts {
+            ident,
+            seed,
+            random,
+        } = parts_of_key(rt.alloc(), lms, row.ots, 0)?;
+        let mut one_time = vec![in rt.alloc(); 0; row.ots.signature_length()]?;
+        sign(row.ots, &ident, 0, &seed, &random, b"abc", &mut one_time);
+        let mut sig = u32::to_be_bytes(0).to_vec(rt.alloc())?;
+        sig.extend_from_slice(&one_time)?;
+        sig.extend_from_slice(&u32::to_be_bytes(lms.type_word()))?;
+        sig.extend_from_slice(&path)?;
+        let leaf = leaf_node(&ident, 1 << 15, &public_of(row.ots, &ident, 0, &seed));
+        let key = AuthorKey {
+            lms: lms.type_word(),
+            ots: row.ots.type_word(),
+            ident,
+            root: climb(lms, &ident, 1 << 15, leaf, &path),
+        };
+        assert!(rt; verify(&key, b"abc", &sig));
+        path[479] ^= 1;
     }
     Ok(())
 }

@@ -1,59 +1,56 @@
 -- Good records, and one more of them.
-use Rattle.std.proofs.Common.{◌≡◌, ◌≢◌, ℕ, true, ◌<◌, List, [], ◌∷◌, ◌++◌, length, refl, sym, ap, subst, ◌∙◌, length-append, map, All, arith}
-use Rattle.std.proofs.lemmas.List.Elements.{All-push, All-cons, All-nil, All-head}
-use Rattle.std.specs.Prelude.{slice_index_or}
+use Rattle.std.proofs.Common.{◌≡◌, ℕ, true, ◌<◌, List, [], ◌∷◌, ◌++◌, length, refl, sym, ap, subst, ◌∙◌, length-append, map, All, Option, Some, None, arith}
+use Rattle.std.proofs.lemmas.List.Elements.{All-push, All-cons, All-nil}
 use Rattle.std.proofs.lemmas.List.{map-append}
+use Rattle.update_model.specs.Rule.{RuleData}
 use Rattle.update_model.specs.Graph.{holds, IsNext, IsClosed, is_within}
 use Rattle.update_model.proofs.Closed.{Follows-push}
-use Rattle.update_codec.specs.Spelling.{IsSpelling}
-use Rattle.update_codec.specs.Parts.{id_of, entry_of, database_of}
-use Rattle.update_stream.specs.Stream.{firsts, graph_of, AreGood, IsFor}
+use Rattle.update_codec.specs.Parts.{id_of, entry_of}
+use Rattle.update_check.specs.Signed.{IsChecked}
+use Rattle.update_stream.specs.Stream.{firsts, graph_of, rule_of, AreGood}
 use Rattle.update_stream.proofs.Firsts.{firsts-held, firsts-new}
 
-pub AreGood-none : (d : List ℕ) → AreGood d []
-AreGood-none d = record { spelled = All-nil IsSpelling; same = All-nil (λ r. database_of r ≡ d); closed = tt; within = refl; few = omega arith }
+pub AreGood-none : (given : Option RuleData) → AreGood given []
+AreGood-none given = record { accepted = All-nil (IsChecked (rule_of given [])); closed = tt; within = refl; few = omega arith }
 
--- All is of the database of a further record that is for it.
-same_database : (d : List ℕ) (records : List (List ℕ)) (r : List ℕ) → All (λ x. database_of x ≡ d) records → IsFor d records r
-    → All (λ x. database_of x ≡ database_of r) (records ++ r ∷ [])
-same_database d [] r same for = All-cons (λ x. database_of x ≡ database_of r) r [] refl (All-nil (λ x. database_of x ≡ database_of r))
-same_database d (x ∷ xs) r same for =
-    let is : database_of r ≡ d = for (omega arith) in
-    All-push (λ y. database_of y ≡ database_of r) (x ∷ xs) r (rw is same) refl
+-- what comes after a record does not change its rule
+pub rule_of-longer : (given : Option RuleData) (records : List (List ℕ)) (r : List ℕ) (more : List (List ℕ)) → rule_of given (records ++ r ∷ more) ≡ rule_of given (records ++ r ∷ [])
+rule_of-longer (Some rule) records r more = refl
+rule_of-longer None [] r more = refl
+rule_of-longer None (x ∷ xs) r more = refl
 
-pub AreGood-held : (d : List ℕ) (records : List (List ℕ)) (r : List ℕ) → AreGood d records → IsSpelling r → IsFor d records r → length records < 262144
-    → holds (graph_of records) (id_of r) ≡ true → AreGood (database_of r) (records ++ r ∷ [])
-AreGood-held d records r good spelled for few held =
+-- the members have the first record among them
+pub rule_of-members : (given : Option RuleData) (records : List (List ℕ)) (r : List ℕ) → rule_of given (firsts records ++ r ∷ []) ≡ rule_of given (records ++ r ∷ [])
+rule_of-members (Some rule) records r = refl
+rule_of-members None [] r = refl
+rule_of-members None (x ∷ xs) r = refl
+
+-- Records that are accepted, and one more.
+accepted-push : (given : Option RuleData) (records : List (List ℕ)) (r : List ℕ) → All (IsChecked (rule_of given records)) records
+    → IsChecked (rule_of given (records ++ r ∷ [])) r → All (IsChecked (rule_of given (records ++ r ∷ []))) (records ++ r ∷ [])
+accepted-push (Some rule) records r all next = All-push (IsChecked rule) records r all next
+accepted-push None [] r all next = All-cons (IsChecked (rule_of None (r ∷ []))) r [] next (All-nil (IsChecked (rule_of None (r ∷ []))))
+accepted-push None (x ∷ xs) r all next = All-push (IsChecked (rule_of None (x ∷ xs))) (x ∷ xs) r all next
+
+pub AreGood-held : (given : Option RuleData) (records : List (List ℕ)) (r : List ℕ) → AreGood given records → IsChecked (rule_of given (records ++ r ∷ [])) r → length records < 262144
+    → holds (graph_of records) (id_of r) ≡ true → AreGood given (records ++ r ∷ [])
+AreGood-held given records r good accepted few held =
     let same = ap (λ (rs : List (List ℕ)). map entry_of rs) (firsts-held records r held) in
     record {
-      spelled = All-push IsSpelling records r good.spelled spelled;
-      same = same_database d records r good.same for;
+      accepted = accepted-push given records r good.accepted accepted;
       closed = subst IsClosed (sym same) good.closed;
       within = ap is_within same ∙ good.within;
       few = omega (arith, length-append records (r ∷ []));
     }
 
-pub AreGood-new : (d : List ℕ) (records : List (List ℕ)) (r : List ℕ) → AreGood d records → IsSpelling r → IsFor d records r → length records < 262144
-    → IsNext (graph_of records) (entry_of r) → is_within (graph_of records ++ entry_of r ∷ []) ≡ true → AreGood (database_of r) (records ++ r ∷ [])
-AreGood-new d records r good spelled for few next within =
+pub AreGood-new : (given : Option RuleData) (records : List (List ℕ)) (r : List ℕ) → AreGood given records → IsChecked (rule_of given (records ++ r ∷ [])) r → length records < 262144
+    → IsNext (graph_of records) (entry_of r) → is_within (graph_of records ++ entry_of r ∷ []) ≡ true → AreGood given (records ++ r ∷ [])
+AreGood-new given records r good accepted few next within =
     let same : graph_of (records ++ r ∷ []) ≡ graph_of records ++ entry_of r ∷ [] =
     ap (λ (rs : List (List ℕ)). map entry_of rs) (firsts-new records r next.new) ∙ map-append entry_of (firsts records) (r ∷ []) in
     record {
-      spelled = All-push IsSpelling records r good.spelled spelled;
-      same = same_database d records r good.same for;
+      accepted = accepted-push given records r good.accepted accepted;
       closed = subst IsClosed (sym same) (Follows-push [] (graph_of records) (entry_of r) good.closed next);
       within = ap is_within same ∙ within;
       few = omega (arith, length-append records (r ∷ []));
     }
-
--- A record for the database of the members is for that of the records.
-pub IsFor-members : (d : List ℕ) (records : List (List ℕ)) (r : List ℕ) → AreGood d records
-    → (0 < length (firsts records) → database_of r ≡ database_of (slice_index_or (firsts records) 0 [])) → IsFor d records r
-IsFor-members d [] r good for = λ some. absurd (omega arith)
-IsFor-members d (x ∷ xs) r good for = λ some. for (omega arith) ∙ All-head (λ y. database_of y ≡ d) x xs good.same
-
--- A record for another database than the members' is for another than the records'.
-pub IsForOthers-members : (d : List ℕ) (records : List (List ℕ)) (r : List ℕ) → AreGood d records → 0 < length (firsts records)
-    → database_of r ≢ database_of (slice_index_or (firsts records) 0 []) → (0 < length records) × (database_of r ≢ d)
-IsForOthers-members d [] r good some other = absurd (omega arith)
-IsForOthers-members d (x ∷ xs) r good some other = (omega arith, λ is. other (is ∙ sym (All-head (λ y. database_of y ≡ d) x xs good.same)))

@@ -1,15 +1,21 @@
 -- What a stream of updates is, and where it is refused.
-use Rattle.std.specs.Prelude.{◌≡◌, ◌≢◌, ◌⊎◌, ℕ, ◌+◌, ◌<◌, ◌≤◌, Bool, true, false, List, [], ◌∷◌, ◌++◌, length, map, take, All, None, Some, if◌then◌else◌}
+use Rattle.std.specs.Prelude.{◌≡◌, ◌⊎◌, ℕ, ◌+◌, ◌-◌, ◌<◌, ◌≤◌, Bool, true, false, List, [], ◌∷◌, ◌++◌, length, map, take, All, Option, None, Some, if◌then◌else◌}
 use Rattle.std.specs.List.{list_any}
 use Rattle.std.specs.Int.{w32, from_be_bytes}
 use Rattle.update_model.specs.declared.update_id.UpdateId.{UpdateId}
 use Rattle.update_model.specs.Entry.{Entry, same_id}
 use Rattle.update_model.specs.Graph.{IsClosed, is_within, holds, lacking}
-use Rattle.update_codec.specs.Spelling.{IsSpelling, HasOperations}
+use Rattle.update_model.specs.Rule.{RuleData}
 use Rattle.update_codec.specs.Parts.{id_of, entry_of, database_of}
 use Rattle.update_codec.specs.Stream.{framed, stream_of}
+use Rattle.update_codec.specs.declared.codec_fault.CodecKind.{CodecKind}
+use Rattle.update_codec.specs.declared.codec_fault.CodecKind.TheVariants as kinds
+use Rattle.update_check.specs.declared.check_error.CheckFault.{CheckFault}
+use Rattle.update_check.specs.declared.check_error.CheckFault.TheVariants.{Codec, WrongDatabase, AuthorNotListed, BadSignature}
+use Rattle.update_check.specs.Signed.{IsChecked}
+use Rattle.update_check.specs.Causes.{IsCause}
 use Rattle.update_stream.specs.declared.record_fault.RecordFault.{RecordFault}
-use Rattle.update_stream.specs.declared.record_fault.RecordFault.TheVariants.{Misspelled, Operations, OtherDatabase, Lacks, Full}
+use Rattle.update_stream.specs.declared.record_fault.RecordFault.TheVariants.{Check, Lacks, Full}
 
 -- one of these records has the id of this one
 abbrev pub has_id : List (List ℕ) → List ℕ → Bool
@@ -28,18 +34,23 @@ firsts records = firsts_after [] records
 abbrev pub graph_of : List (List ℕ) → List Entry
 graph_of records = map entry_of (firsts records)
 
--- Updates of one database, whose graph is closed and within the limits, and not too many of them.
-pub record AreGood (database : List ℕ) (records : List (List ℕ)) : Type 0 where
-  pub spelled : All IsSpelling records
-  pub same : All (λ r. database_of r ≡ database) records
+-- The rule under which the records of a stream are checked: the one that is given, or else the database of the
+-- first record, with every author listed.
+abbrev pub rule_of : Option RuleData → List (List ℕ) → RuleData
+rule_of (Some rule) records = rule
+rule_of None [] = record { database = []; authors = [] }
+rule_of None (first ∷ others) = record { database = database_of first; authors = [] }
+
+-- Checked updates under the stream's rule, whose graph is closed and within the limits, and not too many of them.
+pub record AreGood (given : Option RuleData) (records : List (List ℕ)) : Type 0 where
+  pub accepted : All (IsChecked (rule_of given records)) records
   pub closed : IsClosed (graph_of records)
   pub within : is_within (graph_of records) ≡ true
   pub few : length records ≤ 262144
 
 -- The input is good records up to its end, and these are the members of their graph.
-abbrev pub IsWhole : List ℕ → List (List ℕ) → Type 0
-IsWhole input members =
-    (database : List ℕ) × ((records : List (List ℕ)) × AreGood database records × (input ≡ stream_of records) × (members ≡ firsts records))
+abbrev pub IsWhole : Option RuleData → List ℕ → List (List ℕ) → Type 0
+IsWhole given input members = (records : List (List ℕ)) × AreGood given records × (input ≡ stream_of records) × (members ≡ firsts records)
 
 -- The bytes begin with this whole record, which is no longer than an update may be.
 pub record BeginsWith (bytes r : List ℕ) : Type 0 where
@@ -47,14 +58,28 @@ pub record BeginsWith (bytes r : List ℕ) : Type 0 where
   pub more : List ℕ
   pub parts : bytes ≡ framed r ++ more
 
--- The bytes begin with this record, which spells an update.
-pub record BeginsWithUpdate (bytes r : List ℕ) : Type 0 where
-  pub begins : BeginsWith bytes r
-  pub spelled : IsSpelling r
+-- the length that stands before a record
+abbrev pub length_at : List ℕ → ℕ
+length_at bytes = from_be_bytes w32 (take 4 bytes)
 
--- The record is for the database of the records before it, if there are any.
-abbrev pub IsFor : List ℕ → List (List ℕ) → List ℕ → Type 0
-IsFor database records r = 0 < length records → database_of r ≡ database
+-- Bytes that begin with no whole record of at most 262,144 bytes: the input ends in the length or in the update, of
+-- which so many bytes came, or the length is too great, whatever comes after it.
+pub data IsCut (bytes : List ℕ) : CodecKind → ℕ → Type 0 where
+  in_length : 0 < length bytes → length bytes < 4 → IsCut bytes kinds.Short 0
+  too_long : 4 ≤ length bytes → 262144 < length_at bytes → IsCut bytes kinds.TooLong 262144
+  in_update : 4 ≤ length bytes → length_at bytes ≤ 262144 → length bytes < 4 + length_at bytes → IsCut bytes kinds.Short (length bytes - 4)
+
+-- the same, as a fault of a check
+abbrev pub IsCutAs : List ℕ → CheckFault → Type 0
+IsCutAs bytes (Codec fault) = IsCut bytes fault.kind fault.place
+IsCutAs bytes WrongDatabase = ⊥
+IsCutAs bytes AuthorNotListed = ⊥
+IsCutAs bytes BadSignature = ⊥
+
+-- The bytes begin with a record that is a checked update, after these records.
+pub record BeginsWithUpdate (given : Option RuleData) (records : List (List ℕ)) (bytes r : List ℕ) : Type 0 where
+  pub begins : BeginsWith bytes r
+  pub accepted : IsChecked (rule_of given (records ++ r ∷ [])) r
 
 -- The member is new, and this is the first of its predecessors that is not held.
 pub record LacksPredecessor (graph : List Entry) (e : Entry) (id : UpdateId) : Type 0 where
@@ -67,32 +92,30 @@ pub record PassesLimit (graph : List Entry) (e : Entry) : Type 0 where
   pub preds : lacking graph e ≡ None
   pub over : is_within (graph ++ e ∷ []) ≡ false
 
--- Why what stands next, after these records, is no record that can be taken.
-abbrev pub HasFault : List ℕ → List (List ℕ) → List ℕ → RecordFault → Type 0
-HasFault database records rest Misspelled =
-    (0 < length rest) × ((r : List ℕ) → BeginsWith rest r → (IsSpelling r → ⊥) × (HasOperations r → ⊥))
-HasFault database records rest Operations = (r : List ℕ) × BeginsWith rest r × HasOperations r
-HasFault database records rest OtherDatabase =
-    (r : List ℕ) × BeginsWithUpdate rest r × (0 < length records) × (database_of r ≢ database)
-HasFault database records rest (Lacks id) =
-    (r : List ℕ) × BeginsWithUpdate rest r × IsFor database records r × LacksPredecessor (graph_of records) (entry_of r) id
-HasFault database records rest Full =
-    (r : List ℕ) × BeginsWithUpdate rest r × IsFor database records r × PassesLimit (graph_of records) (entry_of r)
+-- Why what stands next, after these records, is no record that can be taken: it is cut or no checked update; or it
+-- is one, and lacks a predecessor, or would pass a limit.
+abbrev pub HasFault : Option RuleData → List (List ℕ) → List ℕ → RecordFault → Type 0
+HasFault given records rest (Check fault) =
+    IsCutAs rest fault ⊎ ((r : List ℕ) × BeginsWith rest r × IsCause (rule_of given (records ++ r ∷ [])) r fault)
+HasFault given records rest (Lacks id) =
+    (r : List ℕ) × BeginsWithUpdate given records rest r × LacksPredecessor (graph_of records) (entry_of r) id
+HasFault given records rest Full =
+    (r : List ℕ) × BeginsWithUpdate given records rest r × PassesLimit (graph_of records) (entry_of r)
 
 -- What stands next after these records has this fault, or there are as many records as a stream has at most.
-abbrev pub IsStop : List ℕ → List (List ℕ) → List ℕ → RecordFault → Type 0
-IsStop database records rest fault =
-    ((length records < 262144) × HasFault database records rest fault)
+abbrev pub IsStop : Option RuleData → List (List ℕ) → List ℕ → RecordFault → Type 0
+IsStop given records rest fault =
+    ((length records < 262144) × HasFault given records rest fault)
     ⊎ ((length records ≡ 262144) × (0 < length rest) × (fault ≡ Full))
 
 -- how many bytes the record that begins here has, with its length before it
 abbrev pub span_of : List ℕ → ℕ
-span_of bytes = 4 + from_be_bytes w32 (take 4 bytes)
+span_of bytes = 4 + length_at bytes
 
 -- The n-th record of the input is the first that is refused. Good records stand before it, and where this is the
 -- rest, no more was read than the record that is refused.
-abbrev pub IsRefused : List ℕ → List ℕ → ℕ → RecordFault → Type 0
-IsRefused input rest n fault =
-    (database : List ℕ) × ((records : List (List ℕ)) × ((front : List ℕ)
-    × AreGood database records × (input ≡ stream_of records ++ (front ++ rest)) × (n ≡ length records + 1)
-    × IsStop database records (front ++ rest) fault × (length front ≤ span_of (front ++ rest))))
+abbrev pub IsRefused : Option RuleData → List ℕ → List ℕ → ℕ → RecordFault → Type 0
+IsRefused given input rest n fault =
+    (records : List (List ℕ)) × ((front : List ℕ)
+    × AreGood given records × (input ≡ stream_of records ++ (front ++ rest)) × (n ≡ length records + 1)
+    × IsStop given records (front ++ rest) fault × (length front ≤ span_of (front ++ rest)))

@@ -1,22 +1,30 @@
 //! Laws of streams. Each function does nothing: its contract is a theorem for callers to cite.
 
-ghost use Rattle.std.specs.Prelude.{◌≡◌, ℕ, List};
+ghost use Rattle.std.specs.Prelude.{◌≡◌, ℕ, List, Option};
+ghost use Rattle.update_model.specs.Rule.{RuleData};
 ghost use Rattle.update_stream.specs.declared.record_fault.RecordFault.{RecordFault};
 ghost use Rattle.update_stream.specs.Stream.{IsWhole, IsRefused};
 
+use update_check::{no_cause, one_cause};
+
 /// A stream that is whole has one graph.
 pub fn one_graph()
-    ensures { (input : List ℕ) (members others : List (List ℕ)) → IsWhole input members → IsWhole input others → members ≡ others }
+    ensures { (given : Option RuleData) (input : List ℕ) (members others : List (List ℕ)) → IsWhole given input members → IsWhole given input others → members ≡ others }
 {}
 
 /// A stream is refused at one record, for one fault.
 pub fn one_refusal()
-    ensures { (input rest other : List ℕ) (m n : ℕ) (fault another : RecordFault)
-        → IsRefused input rest m fault → IsRefused input other n another → (m ≡ n) × (fault ≡ another) }
-{}
+    ensures { (given : Option RuleData) (input rest other : List ℕ) (m n : ℕ) (fault another : RecordFault)
+        → IsRefused given input rest m fault → IsRefused given input other n another → (m ≡ n) × (fault ≡ another) }
+{
+    one_cause();
+    no_cause();
+}
 
 /// No stream is both whole and refused.
 pub fn whole_or_refused()
-    ensures { (input rest : List ℕ) (members : List (List ℕ)) (n : ℕ) (fault : RecordFault)
-        → IsWhole input members → IsRefused input rest n fault → ⊥ }
-{}
+    ensures { (given : Option RuleData) (input rest : List ℕ) (members : List (List ℕ)) (n : ℕ) (fault : RecordFault)
+        → IsWhole given input members → IsRefused given input rest n fault → ⊥ }
+{
+    no_cause();
+}

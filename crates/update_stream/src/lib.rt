@@ -1,11 +1,12 @@
 //! Streams of updates: records read one by one into a graph, up to the first that is refused.
 //!
 //! A record is four bytes of length and an update's spelling. A stream is records to the end of input, of one
-//! database, and at most 262,144 of them. A record whose id an earlier one has is passed over. The first record
-//! that is refused ends the reading: nothing after it is read, and its number and fault are the answer.
+//! database, and at most 262,144 of them, each of which is signed by its author. A record whose id an earlier one has
+//! is passed over. The first record that is refused ends the reading: nothing after it is read, and its number and
+//! fault are the answer.
 //!
 //! ```text
-//! match read_stream(alloc, &mut input)? {
+//! match read_stream(alloc, &rule, &mut input)? {
 //!     Reading::Whole(graph) => ..,                    // a closed graph of every update in the stream
 //!     Reading::Refused { number, fault } => ..,       // the first record that is refused
 //! }

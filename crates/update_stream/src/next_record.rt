@@ -1,26 +1,25 @@
 ghost use Rattle.std.specs.Prelude.{◌≡◌, ◌≤◌, IfOk, IfErr};
 ghost use Rattle.std.specs.Int.{w32, to_be_bytes};
 ghost use Rattle.bec_bytes.specs.Causes.{Rose};
+ghost use Rattle.update_codec.specs.declared.codec_fault.CodecKind.TheVariants as kinds;
 ghost use Rattle.update_stream.specs.Steps.{Finds};
 
 use crate::ReadError;
 use bec_bytes::{Source, read_full};
 use byteorder::{BigEndian, ByteOrder};
 use std::alloc::Global;
+use update_codec::{CodecFault, CodecKind, UPDATE_LIMIT};
 
 /// What stands next in a stream.
 #[derive(Drop)]
 pub enum NextRecord {
     /// The end of input.
     End,
-    /// No whole record, or one that is longer than an update may be.
-    Cut,
+    /// No whole record, or one that is longer than an update may be, and where.
+    Cut(CodecFault),
     /// A whole record, whose bytes these are.
     Whole(Vec<u8>),
 }
-
-/// The greatest length of an update's spelling, in bytes.
-const MAX_LENGTH: u32 = 262_144;
 
 /// Reads what stands next. No more is read than the record that stands there: of one that is too long, its
 /// length alone.
@@ -35,18 +34,31 @@ pub fn next_record<S: Source>(alloc: Global, input: &mut S) -> Result<NextRecord
         return Ok(NextRecord::End);
     }
     if count < 4 {
-        return Ok(NextRecord::Cut);
+        return Ok(short_at(0));
     }
-    let length = length_of(&prefix);
-    if length > MAX_LENGTH {
-        return Ok(NextRecord::Cut);
+    let length = length_of(&prefix) as usize;
+    if length > UPDATE_LIMIT {
+        return Ok(NextRecord::Cut(CodecFault {
+            kind: CodecKind::TooLong,
+            place: UPDATE_LIMIT as u32,
+        }));
     }
-    let mut bytes = vec![in alloc; 0u8; length as usize]?;
+    let mut bytes = vec![in alloc; 0u8; length]?;
     let held = read_full(input, &mut bytes)?;
     if held < bytes.len() {
-        return Ok(NextRecord::Cut);
+        return Ok(short_at(held as u32));
     }
     Ok(NextRecord::Whole(bytes))
+}
+
+/// A record that the input ends in, of whose update so many bytes came.
+fn short_at(place: u32) -> NextRecord
+    ensures { result ≡ NextRecord.Cut (record { kind = kinds.Short; place = place }) }
+{
+    NextRecord::Cut(CodecFault {
+        kind: CodecKind::Short,
+        place,
+    })
 }
 
 /// The length that stands before a record, the high byte first.

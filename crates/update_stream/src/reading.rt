@@ -3,13 +3,13 @@ use bec_bytes::Failed;
 use hash_graph::Graph;
 use std::alloc::AllocError;
 use thiserror::Error;
-use update_codec::Spelled;
+use update_check::Checked;
 
 /// What a stream holds.
 #[derive(Drop)]
 pub enum Reading {
     /// Every record is an update that was taken, up to the end of input. The graph has each update once.
-    Whole(Graph<Spelled>),
+    Whole(Graph<Checked>),
     /// A record is refused.
     Refused {
         /// The number of the record, counted from 1.

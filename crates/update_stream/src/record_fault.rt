@@ -1,15 +1,14 @@
+use update_check::CheckFault;
 use update_model::UpdateId;
 
 /// Why a record of a stream is refused. The first of these that applies to a record is its fault, and the first
 /// record that has one ends the reading.
 #[derive(Clone, Copy, Debug, PartialEq, Eq)]
 pub enum RecordFault {
-    /// No whole record of at most 262,144 bytes stands here, or its bytes spell no update.
-    Misspelled,
-    /// The update has operations, which are not read yet.
-    Operations,
-    /// The update belongs to another database than the first record.
-    OtherDatabase,
+    /// What stands here is no update that passes the checks. A record that the input ends in is cut short where
+    /// it ends, counted from the update's first byte, or at 0 where its length is cut; a record whose length is
+    /// above 262,144 is too long at 262,144. Neither is read further.
+    Check(CheckFault),
     /// This predecessor is the id of no earlier record; of several, the least.
     Lacks(UpdateId),
     /// A new update would pass a limit of a graph, or it is the 262,145th record.

@@ -2,4 +2,4 @@ use Rattle.update_stream.proofs.Once.{whole_and_refused}
 use Rattle.update_stream.proofs.laws.whole_or_refused.Goals as goal
 
 pub returns : goal.returns
-returns c input rest members n fault a b = whole_and_refused input rest members n fault a b
+returns c given input rest members n fault a b = whole_and_refused c.no_cause.ensures given input rest members n fault a b

@@ -1,6 +1,8 @@
 use Rattle.std.proofs.Common.{◌≡◌, ℕ, List, ◌<◌, ◌≤◌, ◌∙◌, sym, subst, length, arith}
 use Rattle.std.specs.Io.KnownBytes.{Consumes}
 use Rattle.update_codec.specs.Stream.{framed}
+use Rattle.update_stream.specs.declared.next_record.NextRecord.{NextRecord}
+use Rattle.update_stream.specs.Steps.{Finds}
 use Rattle.update_stream.proofs.Found.{found_stump, found_long, found_cut, found_whole, rewritten, taken_whole}
 use Rattle.update_stream.proofs.next_record.next_record.Goals as goal
 
@@ -8,16 +10,17 @@ pub returns-then-count-lt4-clause-found : goal.returns-then-count-lt4-clause-fou
 returns-then-count-lt4-clause-found g c =
     let read = c.in_ok-count.ensures.bytes in
     let size : length c.read_full.new.buf ≡ 4 = c.read_full.auto.buf in
-    found_stump (g.S.Source.left c.args.input.now) (g.S.Source.left c.read_full.new.source) c.in_ok-count.count c.read_full.new.buf read.0 read.1 c.if-count-eq0.false c.if-count-lt4.true
-    (read.2 (let few = c.if-count-lt4.true in omega (arith, size, few)))
+    let R : NextRecord → Type 0 = λ next. Finds (g.S.Source.left c.args.input.now) (g.S.Source.left c.read_full.new.source) next in
+    subst R (sym c.short_at.ensures) (found_stump (g.S.Source.left c.args.input.now) (g.S.Source.left c.read_full.new.source) c.in_ok-count.count c.read_full.new.buf read.0 read.1 c.if-count-eq0.false c.if-count-lt4.true
+    (read.2 (let few = c.if-count-lt4.true in omega (arith, size, few))))
 
-pub returns-then-length-gt-MAX_LENGTH-clause-found : goal.returns-then-length-gt-MAX_LENGTH-clause-found
-returns-then-length-gt-MAX_LENGTH-clause-found g c =
+pub returns-then-length-gt-UPDATE_LIMIT-clause-found : goal.returns-then-length-gt-UPDATE_LIMIT-clause-found
+returns-then-length-gt-UPDATE_LIMIT-clause-found g c =
     let read = c.in_ok-count.ensures.bytes in
     let size : length c.read_full.new.buf ≡ 4 = c.read_full.auto.buf in
     let P : List ℕ → Type 0 = λ w. Consumes (g.S.Source.left c.args.input.now) (g.S.Source.left c.read_full.new.source) w in
     let prefix = subst P (taken_whole 4 c.in_ok-count.count c.read_full.new.buf size c.if-count-lt4.false ∙ sym c.length_of-length.ensures) read.0 in
-    found_long (g.S.Source.left c.args.input.now) (g.S.Source.left c.read_full.new.source) c.length_of-length.result (omega (arith, c.length_of-length.type_inv)) c.if-length-gt-MAX_LENGTH.true prefix
+    found_long (g.S.Source.left c.args.input.now) (g.S.Source.left c.read_full.new.source) c.length_of-length.result (omega (arith, c.length_of-length.type_inv)) c.if-length-gt-UPDATE_LIMIT.true prefix
 
 pub returns-then-held-len-clause-found : goal.returns-then-held-len-clause-found
 returns-then-held-len-clause-found g c =
@@ -32,8 +35,9 @@ returns-then-held-len-clause-found g c =
     let now = c.len.ensures in
     let size : length c.read_full-2.new.buf ≡ c.length_of-length.result = omega (arith, kept, lent, made) in
     let less : c.in_ok-held.held < c.length_of-length.result = omega (arith, kept, lent, made, now, c.if-held-len.true) in
-    found_cut (g.S.Source.left c.args.input.now) (g.S.Source.left c.read_full.new.source) (g.S.Source.left c.read_full-2.new.source) c.length_of-length.result c.in_ok-held.held c.read_full-2.new.buf
-    (omega (arith, c.length_of-length.type_inv)) prefix body.0 size less (body.2 (omega (arith, size, less)))
+    let R : NextRecord → Type 0 = λ next. Finds (g.S.Source.left c.args.input.now) (g.S.Source.left c.read_full-2.new.source) next in
+    subst R (sym c.short_at-then-held-len.ensures) (found_cut (g.S.Source.left c.args.input.now) (g.S.Source.left c.read_full.new.source) (g.S.Source.left c.read_full-2.new.source) c.length_of-length.result c.in_ok-held.held c.read_full-2.new.buf
+    c.if-length-gt-UPDATE_LIMIT.false prefix body.0 size less (body.2 (omega (arith, size, less))))
 
 pub returns-clause-found : goal.returns-clause-found
 returns-clause-found g c =
@@ -52,4 +56,4 @@ returns-clause-found g c =
     let Q : List ℕ → Type 0 = λ w. (length w ≤ 262144) × Consumes (g.S.Source.left c.args.input.now) (g.S.Source.left c.read_full-2.new.source) (framed w) in
     subst Q (sym (rewritten c.in_ok-bytes.bytes.len c.read_full-2.new.buf c.in_ok-bytes.bytes.items whole))
     (found_whole (g.S.Source.left c.args.input.now) (g.S.Source.left c.read_full.new.source) (g.S.Source.left c.read_full-2.new.source) c.length_of-length.result c.in_ok-held.held c.read_full-2.new.buf
-    c.if-length-gt-MAX_LENGTH.false prefix body.0 size all)
+    c.if-length-gt-UPDATE_LIMIT.false prefix body.0 size all)
