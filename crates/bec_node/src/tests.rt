@@ -8,6 +8,7 @@ use lms_tree::{LmsType, Secret, make_secret};
 use std::alloc::{AllocError, Global};
 use std::process::Abort;
 use std::test::Fail;
+use update_model::signature_len;
 
 const ROOT: &str = "25b35b96afe714c0e91c5770d478eb26eafe18b0a114a767700b0f7b1157df63";
 
@@ -75,8 +76,10 @@ fn signed(
     operations: &[u8],
 ) -> Result<Vec<u8>, Fail> {
     let mut update = message(alloc, key, database, preds, count, operations)?;
-    let mut signature = vec![in alloc; 0u8; 1292]?;
-    key.sign_at(0, &[0; 32], &update, &mut signature);
+    let mut signature = vec![in alloc; 0u8; signature_len(&key.public()) as usize]?;
+    if key.leaf_count() > 0 {
+        key.sign_at(0, &[0; 32], &update, &mut signature);
+    }
     update.extend_from_slice(&[0, 0, 5, 12])?;
     update.extend_from_slice(&signature)?;
     Ok(framed(alloc, &update)?)
