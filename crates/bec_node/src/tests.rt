@@ -160,6 +160,8 @@ fn names_the_first_refusal(rt: HostRuntime) -> Result<(), Fail> {
     let lacks = format!(in alloc; "! update 1: lacks {ROOT}")?;
     let mut cut = root.clone()?;
     cut.truncate(704);
+    let mut stump = root.clone()?;
+    stump.truncate(3);
     expect_heads(
         &rt,
         &[&root, &other_root, &swapped],
@@ -167,7 +169,7 @@ fn names_the_first_refusal(rt: HostRuntime) -> Result<(), Fail> {
         "! update 3: order at 123",
     )?;
     expect_heads(&rt, &[&cut], 1, "! update 1: short at 700")?;
-    expect_heads(&rt, &[&root[..3]], 1, "! update 1: short at 0")?;
+    expect_heads(&rt, &[&stump], 1, "! update 1: short at 0")?;
     expect_heads(&rt, &[&[0, 4, 0, 1]], 1, "! update 1: too long at 262144")?;
     expect_heads(&rt, &[&child], 1, &lacks)?;
     expect_heads(
@@ -208,14 +210,11 @@ fn tells_what_is_wrong_and_where(rt: HostRuntime) -> Result<(), Fail> {
         expect_heads(&rt, &[&changed(&rt, &root, place, bytes)?], 1, &line)?;
     }
     expect_heads(&rt, &[&[0, 0, 0, 0]], 1, "! update 1: short at 0")?;
-    let mut longer = Vec::from_slice(alloc, &root[4..])?;
+    let mut longer = root.clone()?;
     longer.push(0)?;
-    expect_heads(
-        &rt,
-        &[&framed(alloc, &longer)?],
-        1,
-        "! update 1: trailing at 1389",
-    )?;
+    assert!(rt; longer.len() > 3);
+    longer[3] = 0x6e;
+    expect_heads(&rt, &[&longer], 1, "! update 1: trailing at 1389")?;
     let rows: [(&[u8], &str); 4] = [
         (&[3], "tag at 93"),
         (&[1, 0, 1, 5, 0, 0], "own index at 97"),
