@@ -11,6 +11,7 @@ use schemas::{INVENTORY, SURVEY, TASKS};
 use std::alloc::{AllocError, Global};
 use std::process::Abort;
 use std::test::Fail;
+use update_model::signature_len;
 
 const ROOT: &str = "25b35b96afe714c0e91c5770d478eb26eafe18b0a114a767700b0f7b1157df63";
 
@@ -78,8 +79,10 @@ fn signed(
     operations: &[u8],
 ) -> Result<Vec<u8>, Fail> {
     let mut update = message(alloc, key, database, preds, count, operations)?;
-    let mut signature = vec![in alloc; 0u8; 1292]?;
-    key.sign_at(0, &[0; 32], &update, &mut signature);
+    let mut signature = vec![in alloc; 0u8; signature_len(&key.public()) as usize]?;
+    if key.leaf_count() > 0 {
+        key.sign_at(0, &[0; 32], &update, &mut signature);
+    }
     update.extend_from_slice(&[0, 0, 5, 12])?;
     update.extend_from_slice(&signature)?;
     Ok(framed(alloc, &update)?)
@@ -160,6 +163,8 @@ fn names_the_first_refusal(rt: HostRuntime) -> Result<(), Fail> {
     let lacks = format!(in alloc; "! update 1: lacks {ROOT}")?;
     let mut cut = root.clone()?;
     cut.truncate(704);
+    let mut stump = root.clone()?;
+    stump.truncate(3);
     expect_heads(
         &rt,
         &[&root, &other_root, &swapped],
@@ -167,7 +172,7 @@ fn names_the_first_refusal(rt: HostRuntime) -> Result<(), Fail> {
         "! update 3: order at 123",
     )?;
     expect_heads(&rt, &[&cut], 1, "! update 1: short at 700")?;
-    expect_heads(&rt, &[&root[..3]], 1, "! update 1: short at 0")?;
+    expect_heads(&rt, &[&stump], 1, "! update 1: short at 0")?;
     expect_heads(&rt, &[&[0, 4, 0, 1]], 1, "! update 1: too long at 262144")?;
     expect_heads(&rt, &[&child], 1, &lacks)?;
     expect_heads(
@@ -208,14 +213,11 @@ fn tells_what_is_wrong_and_where(rt: HostRuntime) -> Result<(), Fail> {
         expect_heads(&rt, &[&changed(&rt, &root, place, bytes)?], 1, &line)?;
     }
     expect_heads(&rt, &[&[0, 0, 0, 0]], 1, "! update 1: short at 0")?;
-    let mut longer = Vec::from_slice(alloc, &root[4..])?;
+    let mut longer = root.clone()?;
     longer.push(0)?;
-    expect_heads(
-        &rt,
-        &[&framed(alloc, &longer)?],
-        1,
-        "! update 1: trailing at 1389",
-    )?;
+    assert!(rt; longer.len() > 3);
+    longer[3] = 0x6e;
+    expect_heads(&rt, &[&longer], 1, "! update 1: trailing at 1389")?;
     let rows: [(&[u8], &str); 4] = [
         (&[3], "tag at 93"),
         (&[1, 0, 1, 5, 0, 0], "own index at 97"),

@@ -10,7 +10,7 @@ use Rattle.lms_tree.specs.Signature.{Signed}
 use Rattle.update_check.specs.declared.check_error.CheckFault.{CheckFault}
 use Rattle.update_check.specs.declared.check_error.CheckFault.TheVariants.{Codec, WrongDatabase, AuthorNotListed, BadSignature}
 use Rattle.update_check.specs.Causes.{IsCause}
-use Rattle.update_check.specs.Signed.{IsChecked, IsUnder, SpellsSigned}
+use Rattle.update_check.specs.Signed.{IsChecked}
 
 -- bytes spell one update
 abbrev OneUpdate : Type 0
@@ -26,7 +26,10 @@ abbrev NoFault : Type 0
 NoFault = (bytes : List ℕ) (kind : CodecKind) (place : ℕ) (update : UpdateData) → FirstFault bytes kind place → Spells bytes update → ⊥
 
 same_fault : (a b : CodecFault) → a.kind ≡ b.kind → a.place ≡ b.place → a ≡ b
-same_fault a b e f = let P : CodecFault = record { kind = a.kind; place = a.place } in cc
+same_fault a b e f = ap (λ (k : CodecKind). with_parts k a.place) e ∙ ap (λ (p : ℕ). with_parts b.kind p) f
+  where
+    with_parts : CodecKind → ℕ → CodecFault
+    with_parts k p = record { kind = k; place = p }
 
 -- one update is of the rule's database and of another one
 two_databases : (rule : RuleData) (u v : UpdateData) → u ≡ v → u.body.database ≢ rule.database → v.body.database ≡ rule.database → ⊥

@@ -1,7 +1,8 @@
 ghost use Rattle.std.specs.Prelude.{◌≡◌, ◌↔◌, IsTrue, IfOk};
-ghost use Rattle.update_codec.specs.Parts.{body_of, database_of, entry_of, signature_of};
+ghost use Rattle.update_codec.specs.Parts.{body_of, database_of, entry_of, signature_of, update_of};
 ghost use Rattle.update_check.specs.Signed.{IsSigned, IsUnder, SpellsSigned, node_of};
 
+use crate::checking::is_body_under;
 use std::alloc::{AllocError, Global};
 use std::marker::Model;
 use update_codec::Spelled;
@@ -31,7 +32,7 @@ impl Model for Checked {
 impl Checked {
     /// The update, whose signature was verified.
     pub(crate) fn new(spelled: Spelled) -> Checked
-        requires { IsSigned spelled }
+        requires { SpellsSigned spelled (update_of spelled) }
         ensures { result ≡ spelled }
     {
         Checked { spelled }
@@ -63,8 +64,7 @@ impl Checked {
     pub fn is_under(&self, rule: &DbRule) -> bool
         ensures { IsTrue result ↔ IsUnder rule.now (body_of self.now) }
     {
-        let body = self.body();
-        body.database == rule.database && rule.lists(&body.author)
+        is_body_under(rule, self.body())
     }
 
     /// What tables see of it: a copy of its operations, predecessors and author, and its id.

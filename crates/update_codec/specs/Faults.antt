@@ -3,7 +3,7 @@
 -- In each of the families below the bytes end in a whole field that has a fault, all that stands before this field
 -- is in form, and the number is the fault's place among these bytes. That a fault is the first one needs no words:
 -- a field can follow fields in form in one way only.
-use Rattle.std.specs.Prelude.{◌≡◌, ◌≢◌, ◌⊎◌, ℕ, ◌+◌, ◌*◌, ◌≤◌, ◌<◌, ◌^◌, List, [], ◌∷◌, ◌++◌, length, None, IsUtf8}
+use Rattle.std.specs.Prelude.{◌≡◌, ◌≢◌, ℕ, ◌+◌, ◌*◌, ◌≤◌, ◌<◌, ◌^◌, List, [], ◌∷◌, ◌++◌, length, None, IsUtf8}
 use Rattle.std.specs.List.{flat_map, AllByRecursion}
 use Rattle.std.specs.Int.{w16, w32, to_be_bytes}
 use Rattle.update_model.specs.declared.update_id.UpdateId.{UpdateId}
@@ -60,9 +60,9 @@ pub data BodyFault : List ℕ → CodecKind → ℕ → Type 0 where
   pred_order : (database : List ℕ) (key : AuthorKey) (n : ℕ) (ids : List UpdateId) (id : UpdateId) → IsBlock 32 database → IsKey key → n ≤ 1024 → length ids < n
       → AllByRecursion IsId ids → AreRising None ids → IsId id → ¬ (AreRising None (ids ++ id ∷ []))
       → BodyFault (spell.header database key ++ (to_be_bytes w16 n ++ (flat_map spell.id ids ++ spell.id id))) kinds.Order (91 + 32 * length ids)
-  op_count : (before : BodyData) (n : ℕ) → IsBody before → before.ops ≡ [] → n < 2 ^ 16 → 64 < n
+  op_count : (before : BodyData) (n : ℕ) → IsBody before → before.ops ≡ [] → n < 2 ^ 16 → spell.op_limit before < n
       → BodyFault (spell.before_ops before ++ to_be_bytes w16 n) kinds.Count (91 + 32 * length before.preds)
-  in_op : (before : BodyData) (n : ℕ) (front : List ℕ) (kind : CodecKind) (at : ℕ) → IsBody before → n ≤ 64 → length before.ops < n → OpFault (length before.ops) front kind at
+  in_op : (before : BodyData) (n : ℕ) (front : List ℕ) (kind : CodecKind) (at : ℕ) → IsBody before → n ≤ spell.op_limit before → length before.ops < n → OpFault (length before.ops) front kind at
       → BodyFault (spell.before_next_op before n ++ front) kind (length (spell.before_next_op before n) + at)
 
 -- an update: a body that has a fault, or another length of the signature than its author's key asks for

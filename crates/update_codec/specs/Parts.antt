@@ -1,5 +1,5 @@
 -- The parts of a spelling, as functions of its bytes alone. Of bytes that are no spelling they say nothing.
-use Rattle.std.specs.Prelude.{ℕ, zero, suc, ◌+◌, ◌*◌, ◌-◌, List, [], ◌∷◌, length, take, drop, Result, Ok, Err}
+use Rattle.std.specs.Prelude.{ℕ, zero, suc, ◌*◌, ◌-◌, List, [], ◌∷◌, length, take, drop, Ok, Err}
 use Rattle.std.specs.Int.{w16, w32, from_be_bytes}
 use Rattle.sha2.specs.Sha256.{sha256}
 use Rattle.update_model.specs.declared.update_id.UpdateId.{UpdateId}

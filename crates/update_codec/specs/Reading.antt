@@ -11,6 +11,7 @@ use Rattle.update_model.specs.declared.value.Value.TheVariants as values
 use Rattle.update_model.specs.declared.op.Op.{Op}
 use Rattle.update_model.specs.declared.op.Op.TheVariants as ops
 use Rattle.update_model.specs.Form.{BodyData, UpdateData, is_below, signature_length}
+use Rattle.update_codec.specs.Spelling.{op_limit}
 use Rattle.update_codec.specs.declared.codec_fault.CodecKind.{CodecKind}
 use Rattle.update_codec.specs.declared.codec_fault.CodecKind.TheVariants as kinds
 use Rattle.update_codec.specs.declared.codec_fault.CodecFault.{CodecFault}
@@ -180,7 +181,7 @@ unfoldable pub body_at : List ℕ → Read BodyData
 body_at bytes = do
   before ← before_ops_at bytes
   n ← number_at w16 before.1
-  few ← judge (nat_le n.0 64) kinds.Count before.1
+  few ← judge (nat_le n.0 (op_limit before.0)) kinds.Count before.1
   ops ← ops_at n.0 0 n.1
   Ok (record { database = before.0.database; author = before.0.author; preds = before.0.preds; ops = ops.0 }, ops.1)
 

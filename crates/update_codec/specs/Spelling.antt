@@ -63,6 +63,10 @@ message body = before_next_op body (length body.ops)
 abbrev pub spelling : UpdateData → List ℕ
 spelling update = message update.body ++ (to_be_bytes w32 (length update.signature) ++ update.signature)
 
+-- how many operations a body may have
+abbrev pub op_limit : BodyData → ℕ
+op_limit body = 64
+
 -- how long the spelling is of a body whose author has signed it
 abbrev pub signed_length : BodyData → ℕ
 signed_length body = length (message body) + 4 + signature_length body.author

@@ -43,11 +43,7 @@ fn op_of(alloc: Global, number: u16, bytes: &[u8]) -> Result<(Op, &[u8]), ReadEr
 }
 
 /// This many operations, which number from 0, and the bytes after them.
-pub(crate) fn ops_of(
-    alloc: Global,
-    count: u16,
-    bytes: &[u8],
-) -> Result<(Vec<Op>, &[u8]), ReadError>
+pub(crate) fn ops_of(alloc: Global, count: u16, bytes: &[u8]) -> Result<(Vec<Op>, &[u8]), ReadError>
     ensures { Gives (λ read. (read.0.items, read.1.now)) result (ops_at count 0 bytes.now) }
 {
     let mut ops = Vec::with_capacity(alloc, count as usize)?;

@@ -17,7 +17,7 @@ fn int_of(bytes: &[u8]) -> Result<(Value, &[u8]), ReadError>
     ensures { Gives (λ read. (read.0, read.1.now)) result (int_at bytes.now) }
 {
     let (bits, rest) = u64_of(bytes)?;
-    Ok((Value::Int(bits as i64), rest))
+    Ok((Value::Int(bits.cast_signed()), rest))
 }
 
 fn is_utf8(bytes: &[u8]) -> bool

@@ -48,7 +48,7 @@ fn put_value(out: &mut Vec<u8>, value: &Value) -> Result<(), AllocError>
         Value::Null => out.push(0)?,
         Value::Int(number) => {
             out.push(1)?;
-            put_u64(out, *number as u64)?;
+            put_u64(out, number.cast_unsigned())?;
         }
         Value::Text(text) => {
             let bytes = text.as_slice();
