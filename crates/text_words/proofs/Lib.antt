@@ -2,5 +2,6 @@ pub mod Rules
 pub mod IntegersLemmas
 pub mod LinesLemmas
 pub mod Places
+pub mod Printed
 pub mod Texts
 pub mod WordsLemmas

@@ -1,9 +1,12 @@
 //! Laws of reading. Each function does nothing: its contract is a theorem for callers to cite.
 
-ghost use Rattle.std.specs.Prelude.{◌≡◌, ◌↔◌, ℕ, List};
+ghost use Rattle.std.specs.Prelude.{◌≡◌, ◌↔◌, ℕ, ℤ, List, FitsSigned};
+ghost use Rattle.std.specs.Fmt.{signed_decimal};
+ghost use Rattle.std.specs.Int.{w64};
 ghost use Rattle.text_words.specs.declared.style.Style.{Style};
 ghost use Rattle.text_words.specs.declared.word.Word.{Word};
 ghost use Rattle.text_words.specs.Grammar.{AreWords};
+ghost use Rattle.text_words.specs.Integers.{int_of};
 ghost use Rattle.text_words.specs.Lines.{AreLines, lines_of};
 ghost use Rattle.text_words.specs.Words.{words_of};
 
@@ -15,4 +18,9 @@ pub fn lines_are_the_text()
 /// The words that are read are those of the rules, so a line has at most one list of words.
 pub fn words_are_by_rule()
     ensures { (style : Style) (line : List ℕ) (words : List Word) → AreWords style line words ↔ (words_of style line ≡ Some words) }
+{}
+
+/// An integer is read from a word exactly where the word is what is printed of it, and 64 bits hold it.
+pub fn integers_are_as_printed()
+    ensures { (word : List ℕ) (n : ℤ) → (int_of word ≡ Some n) ↔ ((word ≡ signed_decimal n) × FitsSigned w64 n) }
 {}
