@@ -25,6 +25,7 @@ mod lines;
 mod literal;
 mod literals;
 mod names;
+mod printing;
 mod quoting;
 mod splitting;
 mod style;
@@ -40,6 +41,7 @@ pub use lines::next_line;
 pub use literal::Literal;
 pub use literals::literal_of;
 pub use names::{has_name_letters, is_name};
+pub use printing::{push_literal, push_quoted};
 pub use splitting::{
     expression_words, first_word, is_passed_over, plain_words, skip_blanks, words,
 };
