@@ -1,3 +1,4 @@
+pub mod ReadAgain
 pub mod Rules
 pub mod IntegersLemmas
 pub mod LinesLemmas

@@ -14,7 +14,7 @@ use Rattle.text_words.specs.Integers.{is_positive_numeral, is_integer_form, is_w
 use Rattle.text_words.proofs.IntegersLemmas.{and_true, digit_small, all_digits, positive_digits, positive_some, unsigned_digits, zero_digits, fits, within}
 
 -- digits and their value, as std's lemmas want them
-own : IsNumeralModel (AllDigits 10) (digits_value 10)
+pub own : IsNumeralModel (AllDigits 10) (digits_value 10)
 own = numerals_by_value (AllDigits 10) tells_digits
 
 small_negated : (d : ℕ) → is_within_64_bits (neg_ℤ (pos d)) ≡ true → d < 2 ^ 64

@@ -36,7 +36,9 @@ mod word;
 pub use byte_string::ByteString;
 pub use hexadecimal::{bytes_of_hex, row_name_of};
 pub use integers::integer_of;
-pub use laws::{integers_are_as_printed, lines_are_the_text, words_are_by_rule};
+pub use laws::{
+    integers_are_as_printed, lines_are_the_text, values_are_read_again, words_are_by_rule,
+};
 pub use lines::next_line;
 pub use literal::Literal;
 pub use literals::literal_of;

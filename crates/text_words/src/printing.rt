@@ -8,11 +8,7 @@ use crate::Literal;
 use std::alloc::{AllocError, Global};
 
 /// Adds a value at the end, as it is read: `NULL`, `TRUE`, `FALSE`, an integer in decimal, or a text in quotes.
-pub fn push_literal(
-    alloc: Global,
-    out: &mut Vec<u8>,
-    literal: &Literal,
-) -> Result<(), AllocError>
+pub fn push_literal(alloc: Global, out: &mut Vec<u8>, literal: &Literal) -> Result<(), AllocError>
     ensures { OnOk result (out.new.items ≡ out.old.items ++ literal_text literal.now) }
 {
     match literal {
