@@ -1,8 +1,8 @@
-//! Lines, words, names, integers and quoted texts: what schemas, transactions, queries and scripts are read from.
+//! Lines, words, names and values: what schemas, transactions, queries and scripts are read from.
 //!
 //! A text is cut into lines by [`next_line`], and a line into words by [`plain_words`] or [`expression_words`].
-//! What a word says is told by [`is_name`], [`integer_of`], [`literal_of`] and their kin. All is by bytes: whether a
-//! text is UTF-8 is for callers to test.
+//! What a word says is told by [`is_name`], [`integer_of`], [`literal_of`] and their kin, and [`push_literal`] prints
+//! a value as it is read. All is by bytes: whether a text is UTF-8 is for callers to test.
 //!
 //! ```text
 //! let mut rest = text;
