@@ -8,7 +8,7 @@ mod building;
 mod judging;
 mod kind;
 mod laws;
-mod reading;
+mod place;
 mod recognizing;
 mod token;
 
@@ -16,6 +16,5 @@ pub use building::build;
 pub use judging::{are_known, are_row_texts, are_short_texts, has_kinds};
 pub use kind::Kind;
 pub use laws::{any_columns, kinds_fit_rows, one_expression, trees_hold};
-pub use reading::{token_of, tokens_of};
 pub use recognizing::is_expression;
 pub use token::Token;

@@ -1,0 +1,3 @@
+mod Completeness
+mod Soundness
+mod Places
