@@ -148,8 +148,8 @@ record Reached (c : List ℕ → ℕ) (level : Level) (r : Reading) (frames : Li
 abbrev ReachedBy : (List ℕ → ℕ) → Level → State → List Token → Type 0
 ReachedBy c level state ts = Reached c level state.0 state.1 ts
 
-lost : (c : List ℕ → ℕ) (ts : List Token) → Reached c Conjunction Refused [] ts
-lost c ts = record { before = []; part = ts; parts = refl; stack = bottom; begins = refused }
+lost : {c : List ℕ → ℕ} {frames : List Frame} {before : List Token} → Stands c frames before → (part : List Token) → Reached c Conjunction Refused frames (before ++ part)
+lost {before = ts} s part = record { before = ts; part = part; parts = refl; stack = s; begins = refused }
 
 regrouped : (a b e : List Token) (t : Token) → (a ++ (b ++ t ∷ [])) ++ e ≡ a ++ (b ++ t ∷ e)
 regrouped a b e t = append_assoc a (b ++ t ∷ []) e ∙ ap (λ ts. a ++ ts) (append_assoc b (t ∷ []) e)
@@ -185,12 +185,12 @@ joins (before_other {ts = ts} {left = left} s q) {part} p =
 
 closes : {c : List ℕ → ℕ} {frames : List Frame} {before : List Token} → Stands c frames before → {part : List Token} {e : Tree} → Parses c Disjunction part e
     → ReachedBy c Conjunction (close e frames) (before ++ (part ++ token.Close ∷ []))
-closes {c} bottom {part} p = lost c _
+closes bottom {part} p = lost bottom (part ++ token.Close ∷ [])
 closes {c} (bracket {frames = frames} {ts = ts} s) {part} {e} p =
     subst (λ all. ReachedBy c Conjunction (complete e frames) all) (sym (append_assoc ts (token.Open ∷ []) (part ++ token.Close ∷ []))) (completes s (brackets p))
-closes {c} (before_negation s) p = lost c _
-closes {c} (before_right s q) p = lost c _
-closes {c} (before_other s q) p = lost c _
+closes (before_negation s) {part} p = lost (before_negation s) (part ++ token.Close ∷ [])
+closes (before_right s q) {part} p = lost (before_right s q) (part ++ token.Close ∷ [])
+closes (before_other s q) {part} p = lost (before_other s q) (part ++ token.Close ∷ [])
 
 closes_joined : {c : List ℕ → ℕ} (joined : Tree × List Frame) (ts : List Token) → Joined c joined ts → ReachedBy c Conjunction (close_joined joined) (ts ++ token.Close ∷ [])
 closes_joined {c} joined ts j =
@@ -218,7 +218,7 @@ steps_finished {before = ts} s {part} p token.And =
     record { before = ts ++ (part ++ token.And ∷ []); part = []; parts = append_assoc ts part (token.And ∷ []) ∙ sym (append-nil _); stack = before_right s p; begins = begun }
 steps_finished {frames = frames} {before = ts} s {part} {e} p token.Or = stands_joined (join e frames) (ts ++ part) (joins s p)
 steps_finished {frames = frames} {before = ts} s {part} {e} p token.Close = closes_joined (join e frames) (ts ++ part) (joins s p)
-steps_finished {c} s p other = lost c _
+steps_finished s {part} p other = rw append_assoc (lost s (part ++ other ∷ []))
 
 -- what was read of an operand, or a whole one with what it completes
 settles : {c : List ℕ → ℕ} {frames : List Frame} {before : List Token} → Stands c frames before → {r : Reading} {part : List Token} → Begins c Operand r part

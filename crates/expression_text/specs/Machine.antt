@@ -147,7 +147,7 @@ before_or joined = (Begun, Before_or joined.0 ∷ joined.1)
 -- a parenthesis closes what was opened last
 abbrev pub close : Tree → List Frame → State
 close tree (Bracket ∷ frames) = complete tree frames
-close tree frames = (Refused, [])
+close tree frames = (Refused, frames)
 
 abbrev pub close_joined : Tree × List Frame → State
 close_joined joined = close joined.0 joined.1
@@ -161,7 +161,7 @@ abbrev pub step_finished : Tree → List Frame → Token → State
 step_finished tree frames token.And = (Begun, Before_and tree ∷ frames)
 step_finished tree frames token.Or = before_or (join tree frames)
 step_finished tree frames token.Close = close_joined (join tree frames)
-step_finished tree frames other = (Refused, [])
+step_finished tree frames other = (Refused, frames)
 
 -- the state after a token
 abbrev pub step : (List ℕ → ℕ) → Reading → List Frame → Token → State
