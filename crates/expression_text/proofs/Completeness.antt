@@ -1,14 +1,15 @@
 -- An expression is read to its end, and what is read is its tree.
 use Rattle.std.proofs.Common.{◌≡◌, ℕ, ◌<◌, ◌^◌, pos, true, List, [], ◌∷◌, ◌++◌, refl, ap, ◌∙◌, arith, nat_lt}
-use Rattle.std.specs.Prelude.{Some, cond}
+use Rattle.std.specs.Prelude.{Some, None, cond}
 use Rattle.std.proofs.lemmas.Bool.Decides.{nat_tests}
 use Rattle.row_check.specs.declared.cmp.Cmp.{Cmp}
 use Rattle.row_check.specs.declared.term.Term.{Term}
 use Rattle.expression_text.specs.declared.token.Token.{Token}
 use Rattle.expression_text.specs.declared.token.Token.TheVariants as token
+use Rattle.expression_text.specs.Numbers.{small_number}
 use Rattle.expression_text.specs.Trees.{Tree, Both, Either, Negation, Comparison, Absence, Check}
 use Rattle.expression_text.specs.Grammar.{Level, Disjunction, Conjunction, Operand, IsTerm, a_column, an_integer, a_text, a_flag, a_length, AreColumns, one_column, column_more, Parses, either, conjunction, both, operand, negation, brackets, comparison, absence, check_one, check_all}
-use Rattle.expression_text.specs.Machine.{Reading, Begun, After_sign, After_number, After_comma, After_argument, Finished, Refused, Frame, Bracket, Before_not, Before_and, Before_or, State, number_read, settled, complete, join, close_joined, before_or, run, step, outcome, whole, parsed}
+use Rattle.expression_text.specs.Machine.{Reading, Begun, After_sign, After_number, After_comma, After_argument, Finished, Frame, Bracket, Before_not, Before_and, Before_or, State, number_read, settled, complete, join, close_joined, before_or, run, step, outcome, whole, parsed}
 
 pub run-append : (c : List ℕ → ℕ) (state : State) (ts us : List Token) → run c state (ts ++ us) ≡ run c (run c state ts) us
 run-append c state [] us = refl
@@ -63,12 +64,12 @@ right_read (a_text bytes) a cmp frames = refl
 right_read (a_flag flag) a cmp frames = refl
 right_read (a_length name) a cmp frames = refl
 
-number_fits : (n : ℕ) → n < 2 ^ 16 → number_read (pos n) ≡ After_number n
-number_fits n low = let e : nat_lt n (2 ^ 16) ≡ true = grind (arith, nat_tests) in ap (λ b. cond b (After_number n) Refused) e
+number_fits : (n : ℕ) → n < 2 ^ 16 → small_number (pos n) ≡ Some n
+number_fits n low = let e : nat_lt n (2 ^ 16) ≡ true = grind (arith, nat_tests) in ap (λ b. cond b (Some n) None) e
 
 check_begun : (c : List ℕ → ℕ) (n : ℕ) → n < 2 ^ 16 → (ts : List Token) (frames : List Frame)
     → run c (Begun, frames) (token.Native ∷ token.Integer (pos n) ∷ ts) ≡ run c (After_number n, frames) ts
-check_begun c n low ts frames = ap (λ reading. run c (settled reading frames) ts) (number_fits n low)
+check_begun c n low ts frames = ap (λ number. run c (settled (number_read number) frames) ts) (number_fits n low)
 
 columns_read : {c : List ℕ → ℕ} {ts : List Token} {columns : List ℕ} → AreColumns c ts columns → (n : ℕ) (frames : List Frame)
     → run c (After_comma n [], frames) ts ≡ (After_argument n columns, frames)

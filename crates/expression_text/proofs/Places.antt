@@ -5,12 +5,14 @@ use Rattle.row_check.specs.declared.cmp.Cmp.{Cmp}
 use Rattle.row_check.specs.declared.term.Term.{Term}
 use Rattle.expression_text.specs.declared.place.Place.{Place}
 use Rattle.expression_text.specs.declared.place.Place.TheVariants as place
+use Rattle.expression_text.specs.declared.place.Position.{Position}
 use Rattle.expression_text.specs.declared.token.Token.{Token}
 use Rattle.expression_text.specs.declared.token.Token.TheVariants as token
+use Rattle.expression_text.specs.Numbers.{small_number}
 use Rattle.expression_text.specs.Trees.{Tree, Both, Either, Negation, Comparison}
 use Rattle.expression_text.specs.Grammar.{Disjunction, Parses, IsExpression}
 use Rattle.expression_text.specs.Machine.{Reading, Begun, After_len, After_column, After_term, After_sign, After_sign_len, After_is, After_native, After_number, After_comma, After_argument, Finished, Refused, Frame, Bracket, Before_not, Before_and, Before_or, State, side_of, left_side, right_side, read_begun, read_after_len, read_after_column, read_after_term, read_after_sign, read_after_sign_len, read_after_is, number_read, read_after_native, read_after_number, read_after_comma, read_after_argument, read_more, settled, complete, join, close, close_joined, before_or, step_begun, step_finished, run, step, outcome, whole, parsed}
-use Rattle.expression_text.specs.Places.{next_begun, next_after_sign, number_place, next_place, Position, closed, after, after_all, is_end, is_read}
+use Rattle.expression_text.specs.Places.{next_begun, next_after_sign, number_place, next_place, closed, after, after_all, is_end, is_read}
 use Rattle.expression_text.proofs.Completeness.{IsReady, IsBase, parsed-Parses}
 use Rattle.expression_text.proofs.Soundness.{Parses-parsed}
 
@@ -80,13 +82,9 @@ settled_kept : (r : Reading) (frames : List Frame) → IsFormed frames → IsKep
 settled_kept (Finished e) frames h = complete_kept e frames h
 settled_kept r frames h = h
 
-number_same : (n : ℤ) → place_of (number_read n) ≡ number_place n
-number_same (pos n) = fits (nat_lt n (2 ^ 16))
-  where
-    fits : (b : Bool) → place_of (cond b (After_number n) Refused) ≡ cond b place.AfterNumber place.Refused
-    fits true = refl
-    fits false = refl
-number_same (negsuc n) = refl
+number_same : (n : Option ℕ) → place_of (number_read n) ≡ number_place n
+number_same (Some n) = refl
+number_same None = refl
 
 -- The place after a token more of an operand is that of what is read. A NOT and what stands about an operand are
 -- read apart.
@@ -100,7 +98,7 @@ more_after_sign c left cmp token.Len = refl
 more_after_sign c left cmp t = refl
 
 more_after_native : (c : List ℕ → ℕ) (t : Token) → place_of (read_after_native t) ≡ next_place place.AfterNative t
-more_after_native c (token.Integer n) = number_same n
+more_after_native c (token.Integer n) = number_same (small_number n)
 more_after_native c t = refl
 
 -- what stands open, and so the place, after a token more of an operand that is begun and not whole

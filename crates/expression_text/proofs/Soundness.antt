@@ -6,6 +6,7 @@ use Rattle.row_check.specs.declared.cmp.Cmp.{Cmp}
 use Rattle.row_check.specs.declared.term.Term.{Term}
 use Rattle.expression_text.specs.declared.token.Token.{Token}
 use Rattle.expression_text.specs.declared.token.Token.TheVariants as token
+use Rattle.expression_text.specs.Numbers.{small_number}
 use Rattle.expression_text.specs.Trees.{Tree, Both, Either, Negation, Comparison, Absence, Check}
 use Rattle.expression_text.specs.Grammar.{Level, Disjunction, Conjunction, Operand, IsTerm, a_column, an_integer, a_text, a_flag, a_length, AreColumns, one_column, column_more, Parses, either, conjunction, both, operand, negation, brackets, comparison, absence, check_one, check_all}
 use Rattle.expression_text.specs.Machine.{Reading, Begun, After_len, After_column, After_term, After_sign, After_sign_len, After_is, After_native, After_number, After_comma, After_argument, Finished, Refused, Frame, Bracket, Before_not, Before_and, Before_or, State, side_of, left_side, right_side, read_begun, read_after_len, read_after_column, read_after_term, read_after_sign, read_after_sign_len, read_after_is, number_read, read_after_native, read_after_number, read_after_comma, read_after_argument, read_more, settled, complete, join, close, close_joined, before_or, step_begun, step_finished, run, step, outcome, whole, parsed}
@@ -87,16 +88,23 @@ more_after_is : (c : List ℕ → ℕ) (name : List ℕ) (t : Token) → Begins 
 more_after_is c name token.Null = finished (absence name)
 more_after_is c name other = refused
 
-number_more : (c : List ℕ → ℕ) (n : ℤ) → Begins c Operand (number_read n) (token.Native ∷ token.Integer n ∷ [])
-number_more c (pos n) = fits (nat_lt n (2 ^ 16)) refl
+-- a number of a native check is what its token says
+number_is : (n : ℤ) (m : ℕ) → small_number n ≡ Some m → (n ≡ pos m) × (m < 2 ^ 16)
+number_is (pos n) m e = fits (nat_lt n (2 ^ 16)) refl e
   where
-    fits : (b : Bool) → nat_lt n (2 ^ 16) ≡ b → Begins c Operand (cond b (After_number n) Refused) (token.Native ∷ token.Integer (pos n) ∷ [])
-    fits true e = after_number n (grind (arith, nat_tests))
-    fits false e = refused
-number_more c (negsuc n) = refused
+    fits : (b : Bool) → nat_lt n (2 ^ 16) ≡ b → cond b (Some n) None ≡ Some m → (pos n ≡ pos m) × (m < 2 ^ 16)
+    fits true low is = let same : n ≡ m = cc in (ap pos same, grind (arith, nat_tests))
+    fits false low is = absurd cc
+number_is (negsuc n) m e = absurd cc
+
+number_more : (c : List ℕ → ℕ) (n : ℤ) (o : Option ℕ) → small_number n ≡ o → Begins c Operand (number_read o) (token.Native ∷ token.Integer n ∷ [])
+number_more c n (Some m) e =
+    let h = number_is n m e in
+    subst (λ i. Begins c Operand (After_number m) (token.Native ∷ token.Integer i ∷ [])) (sym h.0) (after_number m h.1)
+number_more c n None e = refused
 
 more_after_native : (c : List ℕ → ℕ) (t : Token) → Begins c Operand (read_after_native t) (token.Native ∷ t ∷ [])
-more_after_native c (token.Integer n) = number_more c n
+more_after_native c (token.Integer n) = number_more c n (small_number n) refl
 more_after_native c other = refused
 
 more_after_number : (c : List ℕ → ℕ) (n : ℕ) → n < 2 ^ 16 → (t : Token) → Begins c Operand (read_after_number c n t) (token.Native ∷ token.Integer (pos n) ∷ t ∷ [])

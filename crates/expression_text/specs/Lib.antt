@@ -4,3 +4,4 @@ pub mod Kinds
 pub mod Machine
 pub mod Places
 pub mod Trees
+pub mod Numbers

@@ -1,11 +1,12 @@
 -- Expressions read from the left, token by token, with what stands open on a stack.
-use Rattle.std.specs.Prelude.{ℕ, ◌^◌, ℤ, pos, negsuc, true, false, nat_lt, List, [], ◌∷◌, ◌++◌, Option, Some, None, if◌then◌else◌}
+use Rattle.std.specs.Prelude.{ℕ, List, [], ◌∷◌, ◌++◌, Option, Some, None}
 use Rattle.update_model.specs.declared.value.Value.TheVariants as value
 use Rattle.row_check.specs.declared.cmp.Cmp.{Cmp}
 use Rattle.row_check.specs.declared.term.Term.{Term}
 use Rattle.row_check.specs.declared.term.Term.TheVariants as term
 use Rattle.expression_text.specs.declared.token.Token.{Token}
 use Rattle.expression_text.specs.declared.token.Token.TheVariants as token
+use Rattle.expression_text.specs.Numbers.{small_number}
 use Rattle.expression_text.specs.Trees.{Tree, Both, Either, Negation, Comparison, Absence, Check}
 
 -- what has been read of an operand
@@ -84,13 +85,13 @@ abbrev pub read_after_is : ℕ → Token → Reading
 read_after_is column token.Null = Finished (Absence column)
 read_after_is column other = Refused
 
--- the number of a native check
-abbrev pub number_read : ℤ → Reading
-number_read (pos n) = if nat_lt n (2 ^ 16) then After_number n else Refused
-number_read (negsuc n) = Refused
+-- the number of a native check, where it is one
+abbrev pub number_read : Option ℕ → Reading
+number_read (Some n) = After_number n
+number_read None = Refused
 
 abbrev pub read_after_native : Token → Reading
-read_after_native (token.Integer n) = number_read n
+read_after_native (token.Integer n) = number_read (small_number n)
 read_after_native other = Refused
 
 abbrev pub read_after_number : (List ℕ → ℕ) → ℕ → Token → Reading

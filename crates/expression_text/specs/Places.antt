@@ -1,9 +1,11 @@
 -- Whether tokens are an expression, told with a place in an operand and a count of open parentheses.
-use Rattle.std.specs.Prelude.{ℕ, zero, suc, ◌+◌, ◌^◌, ℤ, pos, negsuc, Bool, true, false, nat_lt, List, [], ◌∷◌, if◌then◌else◌}
+use Rattle.std.specs.Prelude.{ℕ, zero, suc, ◌+◌, Bool, true, false, List, [], ◌∷◌, Option, Some, None}
 use Rattle.expression_text.specs.declared.place.Place.{Place}
 use Rattle.expression_text.specs.declared.place.Place.TheVariants.{Begun, AfterLen, AfterColumn, AfterTerm, AfterSign, AfterSignLen, AfterIs, AfterNative, AfterNumber, AfterComma, AfterArgument, Finished, Refused}
+use Rattle.expression_text.specs.declared.place.Position.{Position}
 use Rattle.expression_text.specs.declared.token.Token.{Token}
 use Rattle.expression_text.specs.declared.token.Token.TheVariants as token
+use Rattle.expression_text.specs.Numbers.{small_number}
 
 abbrev pub next_begun : Token → Place
 next_begun (token.Column name) = AfterColumn
@@ -41,13 +43,13 @@ abbrev pub next_after_is : Token → Place
 next_after_is token.Null = Finished
 next_after_is other = Refused
 
--- the number of a native check
-abbrev pub number_place : ℤ → Place
-number_place (pos n) = if nat_lt n (2 ^ 16) then AfterNumber else Refused
-number_place (negsuc n) = Refused
+-- the number of a native check, where it is one
+abbrev pub number_place : Option ℕ → Place
+number_place (Some n) = AfterNumber
+number_place None = Refused
 
 abbrev pub next_after_native : Token → Place
-next_after_native (token.Integer n) = number_place n
+next_after_native (token.Integer n) = number_place (small_number n)
 next_after_native other = Refused
 
 abbrev pub next_after_number : Token → Place
@@ -80,11 +82,6 @@ next_place AfterComma token = next_column AfterArgument token
 next_place AfterArgument token = next_after_argument token
 next_place Finished token = next_finished token
 next_place Refused token = Refused
-
--- a place, and how many parentheses are open
-pub record Position : Type 0 where
-  pub place : Place
-  pub depth : ℕ
 
 -- one parenthesis less
 abbrev pub closed : ℕ → Position

@@ -8,6 +8,7 @@ mod building;
 mod judging;
 mod kind;
 mod laws;
+mod numbers;
 mod place;
 mod recognizing;
 mod token;
