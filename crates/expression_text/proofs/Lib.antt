@@ -1,3 +1,5 @@
 mod Completeness
 mod Soundness
+mod Tests
+mod Meaning
 mod Places

@@ -1,6 +1,7 @@
 -- A place and a count of parentheses tell whether what was read is whole.
-use Rattle.std.proofs.Common.{◌≡◌, ℕ, zero, suc, ◌+◌, ◌<◌, ◌^◌, ℤ, pos, negsuc, Bool, true, false, List, [], ◌∷◌, ◌++◌, refl, ap, ◌∙◌, sym, subst, arith, nat_lt, add-one}
+use Rattle.std.proofs.Common.{◌≡◌, ℕ, zero, suc, ◌+◌, ◌<◌, ◌^◌, ℤ, pos, negsuc, Bool, true, false, List, [], ◌∷◌, ◌++◌, refl, ap, ◌∙◌, sym, subst, arith, nat_lt, add-one, ◌≤◌, length, drop, IsTrue}
 use Rattle.std.specs.Prelude.{Option, Some, None, is_some, cond}
+use Rattle.std.proofs.lemmas.List.{drop_all}
 use Rattle.row_check.specs.declared.cmp.Cmp.{Cmp}
 use Rattle.row_check.specs.declared.term.Term.{Term}
 use Rattle.expression_text.specs.declared.place.Place.{Place}
@@ -262,3 +263,11 @@ Parses-read {c} {ts} p = sym (parsed_is_read c ts) ∙ ap is_some (parsed-Parses
 -- what is an expression over some columns is read over any others
 pub parsed_again : (c : List ℕ → ℕ) (ts : List Token) → IsExpression ts → (e : Tree) × (parsed c ts ≡ Some e)
 parsed_again c ts x = some_of (parsed c ts) (parsed_is_read c ts ∙ Parses-read x.1)
+
+-- the reading at the end of the tokens
+pub end_reads : (ts : List Token) (i : ℕ) (start p : Position) (r : Bool) → start ≡ record { place = place.Begun; depth = 0 } → length ts ≤ i
+    → after_all p (drop i ts) ≡ after_all start ts → r ≡ is_end p.place p.depth → (IsTrue r → IsExpression ts) × (IsExpression ts → IsTrue r)
+end_reads ts i start p r begins past same is =
+    let last : after_all p (drop i ts) ≡ p = ap (λ (rest : List Token). after_all p rest) (drop_all i ts past) in
+    let read : r ≡ is_read ts = is ∙ ap (λ (q : Position). is_end q.place q.depth) (sym last ∙ (same ∙ ap (λ q. after_all q ts) begins)) in
+    ((λ h. read-IsExpression ts (sym read ∙ h)), (λ x. read ∙ Parses-read x.1))

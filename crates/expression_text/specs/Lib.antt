@@ -5,3 +5,4 @@ pub mod Machine
 pub mod Places
 pub mod Trees
 pub mod Numbers
+pub mod Views
