@@ -6,3 +6,4 @@ pub mod Places
 pub mod Trees
 pub mod Numbers
 pub mod Views
+pub mod Words

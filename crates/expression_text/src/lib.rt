@@ -15,6 +15,7 @@ mod place;
 mod progress;
 mod recognizing;
 mod token;
+mod words;
 
 pub use building::build;
 pub use judging::{are_known, are_row_texts, are_short_texts};
@@ -23,3 +24,4 @@ pub use kinds::has_kinds;
 pub use laws::{any_columns, kinds_fit_rows, one_expression, trees_hold};
 pub use recognizing::is_expression;
 pub use token::Token;
+pub use words::{token_of, tokens_of};
