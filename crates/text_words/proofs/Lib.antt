@@ -1,0 +1,5 @@
+pub mod IntegersLemmas
+pub mod LinesLemmas
+pub mod Places
+pub mod Texts
+pub mod WordsLemmas
