@@ -22,6 +22,8 @@ mod rules;
 mod samples;
 mod schema;
 mod table_def;
+#[cfg(test)]
+mod tests;
 mod word_lists;
 mod words;
 
