@@ -1,3 +1,4 @@
+pub mod Rules
 pub mod IntegersLemmas
 pub mod LinesLemmas
 pub mod Places

@@ -1,11 +1,11 @@
 -- Lines one after another.
-use Rattle.std.proofs.Common.{◌≡◌, ◌≢◌, ℕ, suc, ◌+◌, ◌≤◌, ◌<◌, Bool, true, false, ◌&&◌, ◌==◌, nat_lt, List, [], ◌∷◌, ◌++◌, length, take, drop, Some, None, cond, refl, sym, ap, subst, ◌∙◌, append_assoc, arith, inl, inr, not, ◌-◌, get_or}
+use Rattle.std.proofs.Common.{Option, length-drop, zero, suc, ◌≡◌, ◌≢◌, ℕ, ◌+◌, ◌≤◌, ◌<◌, Bool, true, false, ◌&&◌, ◌==◌, nat_lt, List, [], ◌∷◌, ◌++◌, length, take, drop, Some, None, cond, refl, sym, ap, subst, ◌∙◌, append_assoc, arith, inl, inr, not, ◌-◌, get_or}
 use Rattle.std.specs.Prelude.{position}
 use Rattle.std.specs.List.{AllByRecursion, position_or_len, before_first, after_first}
 use Rattle.std.proofs.lemmas.List.Sums.{split_at_first, passes_at_first}
 use Rattle.std.proofs.lemmas.Bool.Decides.{nat_tests}
 use Rattle.std.proofs.lemmas.List.{append-nil, take_rest, take_all}
-use Rattle.text_words.specs.Lines.{lines_of, with_byte, begins_with_lf, is_lf, EndsInNoCr, LosesCr, MayEnd, lf, cr_lf, text_end, Begins}
+use Rattle.text_words.specs.Lines.{lines_of, with_byte, begins_with_lf, is_lf, EndsInNoCr, LosesCr, MayEnd, lf, cr_lf, text_end, Begins, AreLines, no_line, one_line}
 
 abbrev NoLf : List ℕ → Type 0
 NoLf line = AllByRecursion (λ byte. byte ≢ 10) line
@@ -123,3 +123,56 @@ no_lf_in text none = by_test (nat_lt (position_or_len is_lf text) (length text))
 
 pub begins_at_end : (text : List ℕ) → 0 < length text → None ≡ position is_lf text → Begins text text []
 begins_at_end text some none = record { end = []; no_lf = no_lf_in text none; may_end = text_end text some; parts = sym (append-nil text) }
+
+-- each line before an LF has what is left without a CR
+loses : (line : List ℕ) → (less : List ℕ) × LosesCr line less
+loses [] = ([], inr (refl, λ front e. front_cr front e))
+  where
+    front_cr : (front : List ℕ) → [] ≡ front ++ 13 ∷ [] → ⊥
+    front_cr [] e = cc
+    front_cr (f ∷ fs) e = cc
+loses (b ∷ bs) = loses_more b bs (loses bs)
+  where
+    tail_of : (b : ℕ) (bs front : List ℕ) → 0 < length bs → EndsInNoCr bs → b ∷ bs ≡ front ++ 13 ∷ [] → ⊥
+    tail_of b bs [] some h e = let none : length bs ≡ 0 = ap (λ xs. length (drop 1 xs)) e in omega arith
+    tail_of b bs (f ∷ fs) some h e = h fs (ap (drop 1) e)
+
+    alone : (b : ℕ) (cr : Bool) → (b == 13) ≡ cr → (less : List ℕ) × LosesCr (b ∷ []) less
+    alone b true is = ([], inl (ap (λ x. x ∷ []) (grind (arith, nat_tests, is))))
+    alone b false is = (b ∷ [], inr (refl, λ front e. only_cr b is front e))
+      where
+        only_cr : (b : ℕ) → (b == 13) ≡ false → (front : List ℕ) → b ∷ [] ≡ front ++ 13 ∷ [] → ⊥
+        only_cr b is [] e = let same : b ≡ 13 = ap (λ xs. get_or xs 0 0) e in grind (arith, nat_tests, is, same)
+        only_cr b is (f ∷ []) e = cc
+        only_cr b is (f ∷ g ∷ fs) e = cc
+
+    loses_more : (b : ℕ) (bs : List ℕ) → (less : List ℕ) × LosesCr bs less → (less : List ℕ) × LosesCr (b ∷ bs) less
+    loses_more b [] h = alone b (b == 13) refl
+    loses_more b (c ∷ bs) (less, inl cr) = (b ∷ less, inl (ap (λ xs. b ∷ xs) cr))
+    loses_more b (c ∷ bs) (less, inr same) = (b ∷ c ∷ bs, inr (refl, λ front e. tail_of b (c ∷ bs) front (omega arith) same.1 e))
+
+pub lines_from_rules : {text : List ℕ} {lines : List (List ℕ)} → AreLines text lines → lines ≡ lines_of text
+unfolding lines_of
+lines_from_rules no_line = refl
+lines_from_rules (one_line text line rest lines begins more) = ap (λ ls. line ∷ ls) (lines_from_rules more) ∙ sym (first_and_rest text line rest begins)
+
+one_more : (text line rest : List ℕ) → Begins text line rest → AreLines rest (lines_of rest) → AreLines text (lines_of text)
+one_more text line rest begins more = subst (AreLines text) (sym (first_and_rest text line rest begins)) (one_line text line rest (lines_of rest) begins more)
+
+by_place : (text : List ℕ) (place : Option ℕ) → place ≡ position is_lf text → 0 < length text
+    → ((rest : List ℕ) → length rest < length text → AreLines rest (lines_of rest)) → AreLines text (lines_of text)
+by_place text None at some shorter = one_more text text [] (begins_at_end text some at) (shorter [] some)
+by_place text (Some n) at some shorter =
+    let less = loses (take n text) in
+    let rest = drop (n + 1) text in
+    let begins : Begins text less.0 rest = rw (take_rest text (n + 1)) at (begins_at_lf text less.0 n at less.1) in
+    one_more text less.0 rest begins (shorter rest (omega (arith, length-drop (n + 1) text)))
+
+lines_within : (n : ℕ) (text : List ℕ) → length text ≤ n → AreLines text (lines_of text)
+unfolding lines_of
+lines_within n [] le = no_line
+lines_within zero (b ∷ bs) le = absurd (omega arith)
+lines_within (suc n) (b ∷ bs) le = by_place (b ∷ bs) (position is_lf (b ∷ bs)) refl (omega arith) (λ rest low. lines_within n rest (omega arith))
+
+pub lines_by_rules : (text : List ℕ) → AreLines text (lines_of text)
+lines_by_rules text = lines_within (length text) text (omega arith)

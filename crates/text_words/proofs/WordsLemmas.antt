@@ -64,7 +64,7 @@ word_shorter style bytes after word e =
     omega arith
 
 -- the words that one begins
-abbrev onward : (List ℕ → Option (List Word)) → Option Read → Option (List Word)
+abbrev pub onward : (List ℕ → Option (List Word)) → Option Read → Option (List Word)
 onward words read = option_and_then (λ read. with_word read.0 (words (skip_blanks read.1))) read
 
 alike : (f g : List ℕ → Option (List Word)) (n : ℕ) (read : Option Read) → Shortens n read
@@ -115,7 +115,10 @@ front_of_none : (read : Option (List Word)) → with_front [] read ≡ read
 front_of_none None = refl
 front_of_none (Some words) = refl
 
-pub words_start : (style : Style) (line : List ℕ) → with_front [] (words_on style (skip_blanks line)) ≡ words_of style line
-words_start style line =
+pub on_skipped : (style : Style) (line : List ℕ) → words_on style (skip_blanks line) ≡ words_of style line
+on_skipped style line =
     let le = skipped_length line in
-    front_of_none (words_on style (skip_blanks line)) ∙ same_within (length (skip_blanks line)) (length line) style (skip_blanks line) (omega arith) (omega arith)
+    same_within (length (skip_blanks line)) (length line) style (skip_blanks line) (omega arith) (omega arith)
+
+pub words_start : (style : Style) (line : List ℕ) → with_front [] (words_on style (skip_blanks line)) ≡ words_of style line
+words_start style line = front_of_none (words_on style (skip_blanks line)) ∙ on_skipped style line

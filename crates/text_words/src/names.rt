@@ -15,7 +15,7 @@ pub fn has_name_letters(bytes: &[u8]) -> bool
 {
     match bytes {
         [] => false,
-        [first, rest @ ..] => { first.is_ascii_lowercase() && are_name_bytes(rest) }
+        [first, rest @ ..] => first.is_ascii_lowercase() && are_name_bytes(rest),
     }
 }
 
