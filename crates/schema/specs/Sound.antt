@@ -94,7 +94,7 @@ pub record IsDraft (draft : Draft) : Type 0 where
 -- What an expression needs to be built over the columns of a table.
 abbrev pub CanBuild : Draft → Form → Type 0
 CanBuild draft (form.Check tokens) =
-    (length draft.table.columns ≤ 16) × IsExpression tokens × All (IsKnown (names_of draft.table.columns)) tokens × All HasRowText tokens
+    (length draft.table.columns ≤ 16) × (length tokens ≤ 256) × IsExpression tokens × All (IsKnown (names_of draft.table.columns)) tokens × All HasRowText tokens
 CanBuild draft other = Unit {0}
 
 -- a literal is a value that a row may have

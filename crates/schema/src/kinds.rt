@@ -108,6 +108,7 @@ fn is_typed_check(
     tokens: &[Token],
 ) -> Result<bool, AllocError>
     requires few { length columns.now ≤ 16 }
+    requires short { length tokens.now ≤ 256 }
     requires expression { IsExpression tokens.now }
     requires known { All (IsKnown (names_of columns.now)) tokens.now }
     requires texts { All HasRowText tokens.now }
