@@ -4,16 +4,15 @@ use Rattle.std.specs.Prelude.{◌≡◌, ℕ, pos, ◌<◌, ◌≤◌, ◌≤ℤ
 use Rattle.std.specs.List.{list_any}
 use Rattle.update_model.specs.declared.value.Value.{Value}
 use Rattle.update_model.specs.Form.{IsKnownKey}
-use Rattle.row_check.specs.declared.expr.Expr.{Expr}
 use Rattle.text_words.specs.declared.literal.Literal.{Literal}
 use Rattle.text_words.specs.declared.literal.Literal.TheVariants as literal
 use Rattle.text_words.specs.Names.{is_a_name, is_spelled_as_name}
 use Rattle.expression_text.specs.declared.token.Token.{Token}
 use Rattle.expression_text.specs.declared.token.Token.TheVariants as token
-use Rattle.expression_text.specs.Columns.{IsKnown, HasShortText}
-use Rattle.expression_text.specs.Grammar.{IsReading}
+use Rattle.expression_text.specs.Columns.{IsKnown, HasShortText, column_in}
+use Rattle.expression_text.specs.Grammar.{Parses, Disjunction}
 use Rattle.expression_text.specs.Kinds.{HasKinds}
-use Rattle.expression_text.specs.Trees.{tree_of}
+use Rattle.expression_text.specs.Trees.{Tree}
 use Rattle.schema.specs.declared.action.Action.{Action}
 use Rattle.schema.specs.declared.column.Column.{Column}
 use Rattle.schema.specs.declared.draft.Draft.{Draft}
@@ -105,9 +104,13 @@ AreBounds (plain.Int lo hi) = lo ≤ℤ hi
 AreBounds (plain.Text lo hi) = (pos 0 ≤ℤ lo) × (lo ≤ℤ hi) × (hi ≤ℤ pos 1024)
 AreBounds plain.Flag = Unit {0}
 
+-- The tokens are this question about columns with these names.
+abbrev pub Means : List (List ℕ) → List Token → Tree → Type 0
+Means names tokens tree = Parses (column_in names) Disjunction tokens tree
+
 -- An expression over the columns reads plain ones, and compares values of one kind.
 abbrev pub IsTypedCheck : List Column → List Token → Type 0
-IsTypedCheck columns tokens = (expr : Expr) × IsReading (names_of columns) tokens expr × HasKinds (kinds_of columns) (tree_of expr)
+IsTypedCheck columns tokens = (tree : Tree) × Means (names_of columns) tokens tree × HasKinds (kinds_of columns) tree
 
 -- A reference is one, and the column can be compared with that of the target.
 abbrev pub IsTypedMatch : Draft → List ℕ → List ℕ → List ℕ → Type 0

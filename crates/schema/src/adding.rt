@@ -4,10 +4,11 @@ ghost use Rattle.std.specs.Prelude.{◌≡◌, ◌≤◌, ℕ, IsTrue, All, leng
 ghost use Rattle.expression_text.specs.Columns.{IsKnown, HasRowText};
 ghost use Rattle.expression_text.specs.Grammar.{IsExpression};
 ghost use Rattle.schema.specs.Columns.{names_of};
-ghost use Rattle.schema.specs.Drafts.{kind_declared};
+ghost use Rattle.text_words.specs.Names.{is_a_name};
+ghost use Rattle.schema.specs.Drafts.{kind_declared, with_column};
 ghost use Rattle.schema.specs.Faults.{AreBounds};
 ghost use Rattle.schema.specs.Sound.{IsDraft, CanAdd, IsRowLiteral};
-ghost use Rattle.schema.specs.Steps.{IsAfter, number_of, with_match};
+ghost use Rattle.schema.specs.Steps.{IsAfter, IsCheckAdded, number_of, target_number, match_rule, with_match, with_unique, with_sample, with_table};
 
 use crate::draft::{Draft, Phase, no_table};
 use crate::form::{Form, PlainKind};
@@ -79,7 +80,10 @@ impl Draft {
         }
     }
 
-    fn begin_table(&mut self, alloc: Global, name: ByteString, deletable: bool, owned: bool) {
+    fn begin_table(&mut self, alloc: Global, name: ByteString, deletable: bool, owned: bool)
+        requires { IsTrue (is_a_name name) }
+        ensures { self.new ≡ with_table self.old name deletable owned }
+    {
         self.phase = Phase::Columns;
         self.table = no_table(alloc);
         self.table.name = TextValue::from_vec(name.into_vec());
@@ -93,7 +97,10 @@ impl Draft {
         kind: ColumnKind,
         null: bool,
         line: u32,
-    ) -> Result<(), AllocError> {
+    ) -> Result<(), AllocError>
+        requires { IsTrue (is_a_name name) }
+        ensures { OnOk result (self.new ≡ with_column self.old (record { name = name; kind = kind; null = null; line = line })) }
+    {
         let name = TextValue::from_vec(name.into_vec());
         self.table.columns.push(Column {
             name,
@@ -103,7 +110,14 @@ impl Draft {
         })
     }
 
-    fn add_check(&mut self, alloc: Global, line: u32, tokens: &[Token]) -> Result<(), AllocError> {
+    fn add_check(&mut self, alloc: Global, line: u32, tokens: &[Token]) -> Result<(), AllocError>
+        requires few { length self.old.table.columns ≤ 16 }
+        requires short { length tokens.now ≤ 256 }
+        requires expression { IsExpression tokens.now }
+        requires known { All (IsKnown (names_of self.old.table.columns)) tokens.now }
+        requires texts { All HasRowText tokens.now }
+        ensures { OnOk result (IsCheckAdded line self.old tokens.now self.new) }
+    {
         let names = names_of(alloc, self.table.columns.as_slice())?;
         let expr = build(alloc, tokens, names.as_slice())?;
         self.phase = Phase::Rules;
@@ -117,7 +131,10 @@ impl Draft {
         cmp: Cmp,
         reference: &[u8],
         target_column: &[u8],
-    ) -> Result<(), AllocError> {
+    ) -> Result<(), AllocError>
+        requires { IsDraft self.old }
+        ensures { OnOk result (self.new ≡ with_match line self.old column.now cmp reference.now target_column.now) }
+    {
         let rule = self.match_rule(line, column, cmp, reference, target_column);
         self.phase = Phase::Rules;
         self.table.matches.push(rule)
@@ -131,7 +148,10 @@ impl Draft {
         cmp: Cmp,
         reference: &[u8],
         target_column: &[u8],
-    ) -> MatchRule {
+    ) -> MatchRule
+        requires { IsDraft self.now }
+        ensures { result ≡ match_rule line self.now column.now cmp reference.now target_column.now }
+    {
         let columns = self.table.columns.as_slice();
         MatchRule {
             column: number_of(columns, column),
@@ -143,21 +163,30 @@ impl Draft {
     }
 
     /// The number of a column of the table that a reference names.
-    fn target_number(&self, reference: &[u8], target_column: &[u8]) -> u8 {
+    fn target_number(&self, reference: &[u8], target_column: &[u8]) -> u8
+        requires { IsDraft self.now }
+        ensures { result ≡ target_number self.now reference.now target_column.now }
+    {
         match reference_named(self.table.columns.as_slice(), reference) {
             Some((table, _)) => number_of(columns_at(self, table), target_column),
             None => 0,
         }
     }
 
-    fn add_unique(&mut self, line: u32, column: &[u8]) -> Result<(), AllocError> {
+    fn add_unique(&mut self, line: u32, column: &[u8]) -> Result<(), AllocError>
+        requires { length self.old.table.columns ≤ 16 }
+        ensures { OnOk result (self.new ≡ with_unique line self.old column.now) }
+    {
         let column = number_of(self.table.columns.as_slice(), column);
         self.phase = Phase::Rules;
         self.table.uniques.push(UniqueRule { column, line })
     }
 
     /// Ends the table that has begun with this sample.
-    fn end_table(&mut self, alloc: Global, values: &[Literal]) -> Result<(), AllocError> {
+    fn end_table(&mut self, alloc: Global, values: &[Literal]) -> Result<(), AllocError>
+        requires { All IsRowLiteral values.now }
+        ensures { OnOk result (self.new ≡ with_sample self.old values.now) }
+    {
         let row = sample_row(alloc, self.table.columns.as_slice(), values)?;
         let mut table = mem::replace(&mut self.table, no_table(alloc));
         table.sample = ValueList::from_vec(row);

@@ -147,7 +147,7 @@ fn form_with(
         Keyword::Match => match_form(alloc, words.as_slice()),
         Keyword::Unique => unique_form(alloc, words.as_slice()),
         Keyword::AtMost => Ok(at_most_form(words.as_slice())),
-        Keyword::Sample => sample_form(alloc, words),
+        Keyword::Sample => sample_form(alloc, words.as_slice()),
     }
 }
 
@@ -304,8 +304,8 @@ fn at_most_form(words: &[Word]) -> Option<Form>
     }
 }
 
-fn sample_form(alloc: Global, words: Vec<Word>) -> Result<Option<Form>, AllocError>
-    ensures { IfOk result (λ found. found ≡ sample_form words.items) }
+fn sample_form(alloc: Global, words: &[Word]) -> Result<Option<Form>, AllocError>
+    ensures { IfOk result (λ found. found ≡ sample_form words.now) }
 {
     match values_of(alloc, words)? {
         Some(values) => Ok(Some(Form::Sample {

@@ -158,7 +158,7 @@ fn is_typed_match(draft: &Draft, column: &[u8], reference: &[u8], target_column:
 }
 
 fn are_comparable(left: Option<&Column>, right: Option<&Column>) -> bool
-    ensures { result ≡ are_comparable (option_copied left) (option_copied right) }
+    ensures { result ≡ are_comparable (option_copied left.entry) (option_copied right.entry) }
 {
     match (left, right) {
         (Some(left), Some(right)) => is_comparable(kind_seen(&left.kind), kind_seen(&right.kind)),

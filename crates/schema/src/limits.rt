@@ -1,10 +1,11 @@
-ghost use Rattle.std.specs.Prelude.{◌≡◌, ◌↔◌, IsTrue, All};
+ghost use Rattle.std.specs.Prelude.{◌≡◌, ◌==◌, ◌↔◌, IsTrue, All};
+ghost use Rattle.std.specs.List.{list_any};
 ghost use Rattle.schema.specs.Faults.{IsWithinLimits, IsShort, AreFewAndShort, HasShortName, HasShortLiteral, is_unique, is_overlong};
 
-use crate::TableDef;
 use crate::draft::Draft;
 use crate::form::Form;
 use crate::lookups::number_named;
+use crate::{TableDef, UniqueRule};
 use expression_text::{Token, are_short_texts};
 use text_words::{Literal, has_name_letters};
 
@@ -104,10 +105,12 @@ fn is_unique(table: &TableDef, column: Option<usize>) -> bool
 {
     match column {
         None => false,
-        Some(column) => table
-            .uniques
-            .as_slice()
-            .iter()
-            .any(|rule| usize::from(rule.column) == column),
+        Some(column) => has_unique(table.uniques.as_slice(), column),
     }
+}
+
+fn has_unique(rules: &[UniqueRule], column: usize) -> bool
+    ensures { result ≡ list_any (λ rule. rule.column == column) rules.now }
+{
+    rules.iter().any(|rule| usize::from(rule.column) == column)
 }

@@ -1,5 +1,6 @@
 ghost use Rattle.std.specs.Prelude.{◌≡◌, ◌↔◌, IsTrue, IfOk, bytes_eq};
 ghost use Rattle.std.specs.List.{list_any};
+ghost use Rattle.schema.specs.Columns.{names_of};
 ghost use Rattle.schema.specs.Faults.{IsNamed, IsNewColumn, IsColumn, HasTargetColumn};
 
 use crate::draft::Draft;

@@ -4,8 +4,10 @@ ghost use Rattle.std.specs.Prelude.{◌≡◌, ◌≤◌, ◌+◌, ◌<◌, ◌^
 ghost use Rattle.text_words.specs.Lines.{lines_of};
 ghost use Rattle.schema.specs.Drafts.{start};
 ghost use Rattle.schema.specs.Outcome.{HasCause, HasLineCause, HasFaultIn, Answers};
-ghost use Rattle.schema.specs.Schemas.{Declares, FirstFault, SchemaData, Leads, LeadOn, FaultIn, IsGood, FormFault, IsComplete};
-ghost use Rattle.schema.specs.Sound.{IsDraft, CanAdd};
+ghost use Rattle.schema.specs.Schemas.{Declares, FirstFault, SchemaData, Leads, LeadOn, FaultIn, IsGood, FormFault, IsComplete, schema_of};
+ghost use Rattle.schema.specs.Forms.{IsWhole};
+ghost use Rattle.schema.specs.declared.fault.SchemaError.TheVariants.{Fault, Memory};
+ghost use Rattle.schema.specs.Sound.{IsDraft};
 
 use crate::draft::{Draft, Phase};
 use crate::form::Form;
@@ -46,7 +48,12 @@ pub fn read_schema<L: Relation, C: Checks<L>>(
 }
 
 /// The schema of a draft and the text that it is read from.
-fn schema_of(alloc: Global, draft: Draft, text: &[u8]) -> Result<Schema, SchemaError> {
+fn schema_of(alloc: Global, draft: Draft, text: &[u8]) -> Result<Schema, SchemaError>
+    requires draft { IsDraft draft }
+    requires tables { 1 ≤ length draft.tables }
+    ensures schema { IfOk result (λ schema. schema ≡ schema_of draft text.now) }
+    ensures memory { IfErr result (λ error. error ≡ Memory) }
+{
     let Draft {
         authors, tables, ..
     } = draft;
@@ -58,7 +65,9 @@ fn schema_of(alloc: Global, draft: Draft, text: &[u8]) -> Result<Schema, SchemaE
     Ok(Schema::new(rule, tables, text))
 }
 
-fn fault(kind: SchemaKind, line: u32) -> SchemaError {
+fn fault(kind: SchemaKind, line: u32) -> SchemaError
+    ensures { result ≡ Fault (record { kind = kind; line = line }) }
+{
     SchemaError::Fault(SchemaFault { kind, line })
 }
 
@@ -67,7 +76,13 @@ fn read_lines<L: Relation, C: Checks<L>>(
     alloc: Global,
     text: &[u8],
     native: &Native<L, C>,
-) -> Result<Draft, SchemaError> {
+) -> Result<Draft, SchemaError>
+    requires { length text.now ≤ 65536 }
+    ensures found { IfOk result (λ draft. LeadOn L.answer 1 start (lines_of text.now) draft) }
+    ensures complete { IfOk result (λ draft. IsComplete draft) }
+    ensures sound { IfOk result (λ draft. IsDraft draft) }
+    ensures fault { IfErr result (λ error. HasFaultIn L.answer text.now error) }
+{
     let mut draft = Draft::new(alloc);
     let mut number = 1;
     let mut rest = text;
@@ -89,7 +104,12 @@ fn take_line<L: Relation, C: Checks<L>>(
     draft: &mut Draft,
     number: u32,
     line: &[u8],
-) -> Result<(), SchemaError> {
+) -> Result<(), SchemaError>
+    requires { IsDraft draft.old }
+    ensures taken { OnOk result (Leads L.answer number draft.old line.now draft.new) }
+    ensures sound { OnOk result (IsDraft draft.new) }
+    ensures fault { IfErr result (λ error. HasLineCause L.answer draft.old number line.now error) }
+{
     if !is_utf8(line) {
         return Err(fault(SchemaKind::Line, number));
     }
@@ -115,7 +135,11 @@ fn judge<L: Relation, C: Checks<L>>(
     native: &Native<L, C>,
     draft: &Draft,
     form: &Form,
-) -> Result<Option<SchemaKind>, AllocError> {
+) -> Result<Option<SchemaKind>, AllocError>
+    requires draft { IsDraft draft.now }
+    requires whole { IsWhole form.now }
+    ensures { IfOk result (λ found. MatchOption found (IsGood L.answer draft.now form.now) (λ kind. FormFault L.answer draft.now form.now kind)) }
+{
     if !is_within_limits(draft, form) {
         return Ok(Some(SchemaKind::Limit));
     }

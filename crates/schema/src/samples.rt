@@ -1,9 +1,11 @@
 //! Samples: the rows that they are, and whether they hold.
 
 ghost use Rattle.std.specs.Prelude.{◌≡◌, ◌↔◌, IsTrue, IfOk, All};
+ghost use Rattle.std.specs.List.{AllByRecursion};
+ghost use Rattle.row_check.specs.Meaning.{FitsRow};
 ghost use Rattle.schema.specs.Columns.{FitsSampleAt};
 ghost use Rattle.schema.specs.Faults.{HasSample, IsSample};
-ghost use Rattle.schema.specs.Rows.{sample_row, value_written, plain_count, FitsSample, passes_checks, passes_matches, matches_target};
+ghost use Rattle.schema.specs.Rows.{sample_row, value_written, value_at_column, values_after, plain_count, FitsSample, passes_checks, passes_matches, matches_target};
 ghost use Rattle.schema.specs.Sound.{IsDraft, IsRowLiteral, HasRowValues};
 
 use crate::draft::Draft;
@@ -64,7 +66,12 @@ fn next_value<'a>(
     alloc: Global,
     column: &Column,
     values: &'a [Literal],
-) -> Result<(Value, &'a [Literal]), AllocError> {
+) -> Result<(Value, &'a [Literal]), AllocError>
+    requires { All IsRowLiteral values.now }
+    ensures value { IfOk result (λ read. read.0 ≡ value_at_column column.now values.now) }
+    ensures rest { IfOk result (λ read. read.1.now ≡ values_after column.now values.now) }
+    ensures texts { IfOk result (λ read. All IsRowLiteral read.1.now) }
+{
     if is_reference(&column.kind) {
         return Ok((Value::Null, values));
     }
@@ -151,6 +158,7 @@ fn passes_checks<L: Relation, C: Checks<L>>(
     checks: &[CheckRule],
     row: &[Value],
 ) -> Result<bool, AllocError>
+    requires { AllByRecursion (λ check. FitsRow row.now check.expr) checks.now }
     ensures { IfOk result (λ answer. answer ≡ passes_checks L.answer checks.now row.now) }
 {
     for check in checks {

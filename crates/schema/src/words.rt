@@ -1,6 +1,7 @@
 //! What single words of a line say.
 
-ghost use Rattle.std.specs.Prelude.{◌≡◌, ◌∷◌, IfOk, option_map};
+ghost use Rattle.std.specs.Prelude.{◌≡◌, ◌==◌, ◌<◌, ◌∷◌, length, position, IfOk, IfSome, option_map};
+ghost use Rattle.text_words.specs.Literals.{value_of};
 ghost use Rattle.schema.specs.Forms.{is_word, spelled, number_in, sign_in, action_in, null_at_end, key_in, rights_in, bounds_in, path_in, values_of, keyword_of, keyword_in};
 
 use crate::Action;
@@ -133,25 +134,46 @@ pub(crate) fn bounds_in(words: &[Word]) -> Option<(i64, i64, bool)>
 pub(crate) fn path_in(path: &[u8]) -> Option<(&[u8], &[u8])>
     ensures { option_map (λ parts. (parts.0.now, parts.1.now)) result ≡ path_in path.now }
 {
-    let dot = path.iter().position(|byte| *byte == b'.')?;
-    Some((&path[..dot], &path[dot + 1..]))
+    match dot_in(path) {
+        None => None,
+        Some(dot) => Some((&path[..dot], &path[dot + 1..])),
+    }
+}
+
+/// The place of the first dot.
+fn dot_in(path: &[u8]) -> Option<usize>
+    ensures place { result ≡ position (λ byte. byte == 46) path.now }
+    ensures within { IfSome result (λ place. place < length path.now) }
+{
+    path.iter().position(|byte| *byte == b'.')
 }
 
 /// The values that words write, where each writes one.
 pub(crate) fn values_of(
     alloc: Global,
-    words: Vec<Word>,
+    words: &[Word],
 ) -> Result<Option<Vec<Literal>>, AllocError>
-    ensures { IfOk result (λ found. option_map (λ values. values.items) found ≡ values_of words.items) }
+    ensures { IfOk result (λ found. option_map (λ values. values.items) found ≡ values_of words.now) }
 {
     let mut values = Vec::with_capacity(alloc, words.len())?;
     for word in words {
-        match literal_of(word) {
-            Some(value) => values.push(value)?,
-            None => return Ok(None),
-        }
+        let Some(value) = value_of(alloc, word)? else {
+            return Ok(None);
+        };
+        values.push(value)?;
     }
     Ok(Some(values))
+}
+
+/// The value that a word writes.
+fn value_of(alloc: Global, word: &Word) -> Result<Option<Literal>, AllocError>
+    ensures { IfOk result (λ found. found ≡ value_of word.now) }
+{
+    Ok(match word {
+        Word::Plain(bytes) => literal_of(Word::Plain(bytes.copy(alloc)?)),
+        Word::Quoted(text) => literal_of(Word::Quoted(text.copy(alloc)?)),
+        Word::Open | Word::Close | Word::Comma => None,
+    })
 }
 
 /// The key of these bytes.
