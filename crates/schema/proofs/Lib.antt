@@ -1,0 +1,6 @@
+mod FaultKinds
+mod Keeping
+mod NameTexts
+mod Needs
+mod Samples
+mod Unique

@@ -2,21 +2,30 @@
 #![tactic(auto)]
 
 mod action;
+mod adding;
 mod column;
 mod draft;
 mod draft_lists;
 mod fault;
 mod fitting;
 mod form;
+mod forms;
 mod keyword;
+mod kinds;
 mod laws;
+mod limits;
 mod lists;
 mod lookups;
+mod names;
 mod reading;
 mod rules;
+mod samples;
 mod schema;
 mod table_def;
+#[cfg(test)]
+mod tests;
 mod word_lists;
+mod words;
 
 pub use action::Action;
 pub use column::{Column, ColumnKind};
