@@ -1,6 +1,6 @@
 mod Completeness
-mod Soundness
-mod Tests
-mod Whole
 mod Meaning
+mod Passing
 mod Places
+mod Soundness
+mod Whole

@@ -1,17 +1,17 @@
 -- What trees of expressions mean, and rows of the kinds that they read.
-use Rattle.std.proofs.Common.{◌≡◌, ℕ, ℤ, zero, suc, ◌<◌, Bool, not, ◌&&◌, ◌||◌, List, [], ◌∷◌, length, All, refl, ap, ◌∙◌, sym, subst, arith, slice_index_or}
-use Rattle.std.specs.Prelude.{Option, Some, None, IsSome, slice_get, unwrap_or, map}
+use Rattle.std.proofs.Common.{◌≡◌, ℕ, ℤ, zero, suc, ◌<◌, Bool, not, ◌&&◌, ◌||◌, List, [], ◌∷◌, length, refl, ap, ◌∙◌, sym, subst, arith, slice_index_or}
+use Rattle.std.specs.Prelude.{Option, Some, None, IsSome}
 use Rattle.update_model.specs.declared.value.Value.{Value}
 use Rattle.update_model.specs.declared.value.Value.TheVariants as value
 use Rattle.row_check.specs.declared.term.Term.{Term}
 use Rattle.row_check.specs.declared.term.Term.TheVariants as term
 use Rattle.row_check.specs.declared.expr.Expr.{Expr, And', Or', Not', Compare, IsNull, Native}
 use Rattle.row_check.specs.Comparisons.{AreComparable}
-use Rattle.row_check.specs.Meaning.{value_at, is_null, holds, FitsRow, FitsTerm, IsTextOrNull, term_value, length_of}
+use Rattle.row_check.specs.Meaning.{value_at, holds, FitsRow, FitsTerm, IsTextOrNull, term_value, length_of}
 use Rattle.expression_text.specs.declared.kind.Kind.{Kind}
 use Rattle.expression_text.specs.declared.kind.Kind.TheVariants as kind
-use Rattle.expression_text.specs.Kinds.{unless_reference, plain_kind, literal_kind, length_kind, term_kind, HasKinds, IsOfKind, FitsKinds}
-use Rattle.expression_text.specs.Trees.{Tree, tree_of, holds_tree}
+use Rattle.expression_text.specs.Kinds.{plain_kind, literal_kind, length_kind, term_kind, HasKinds, IsOfKind, FitsKinds}
+use Rattle.expression_text.specs.Trees.{tree_of, holds_tree}
 
 pub holds_as_tree : (relation : ℕ → List Value → Bool) (row : List Value) (expr : Expr) → holds relation row expr ≡ holds_tree relation row (tree_of expr)
 holds_as_tree r row (And' _ a _ b) = ap (λ x. x && holds r row b) (holds_as_tree r row a) ∙ ap (λ x. holds_tree r row (tree_of a) && x) (holds_as_tree r row b)

@@ -1,6 +1,6 @@
 -- A place and a count of parentheses tell whether what was read is whole.
-use Rattle.std.proofs.Common.{◌≡◌, ℕ, zero, suc, ◌+◌, ◌<◌, ◌^◌, ℤ, pos, negsuc, Bool, true, false, List, [], ◌∷◌, ◌++◌, refl, ap, ◌∙◌, sym, subst, arith, nat_lt, add-one, ◌≤◌, length, drop, IsTrue}
-use Rattle.std.specs.Prelude.{Option, Some, None, is_some, cond}
+use Rattle.std.proofs.Common.{◌≡◌, ℕ, zero, suc, Bool, true, List, [], ◌∷◌, refl, ap, ◌∙◌, sym, add-one, ◌≤◌, length, drop, IsTrue}
+use Rattle.std.specs.Prelude.{Option, Some, None, is_some}
 use Rattle.std.proofs.lemmas.List.{drop_all}
 use Rattle.row_check.specs.declared.cmp.Cmp.{Cmp}
 use Rattle.row_check.specs.declared.term.Term.{Term}
@@ -10,10 +10,10 @@ use Rattle.expression_text.specs.declared.place.Position.{Position}
 use Rattle.expression_text.specs.declared.token.Token.{Token}
 use Rattle.expression_text.specs.declared.token.Token.TheVariants as token
 use Rattle.expression_text.specs.Numbers.{small_number}
-use Rattle.expression_text.specs.Trees.{Tree, Both, Either, Negation, Comparison}
+use Rattle.expression_text.specs.Trees.{Tree, Negation}
 use Rattle.expression_text.specs.Grammar.{Disjunction, Parses, IsExpression}
-use Rattle.expression_text.specs.Machine.{Reading, Begun, After_len, After_column, After_term, After_sign, After_sign_len, After_is, After_native, After_number, After_comma, After_argument, Finished, Refused, Frame, Bracket, Before_not, Before_and, Before_or, State, side_of, left_side, right_side, read_begun, read_after_len, read_after_column, read_after_term, read_after_sign, read_after_sign_len, read_after_is, number_read, read_after_native, read_after_number, read_after_comma, read_after_argument, read_more, settled, complete, join, close, close_joined, before_or, step_begun, step_finished, run, step, outcome, whole, parsed}
-use Rattle.expression_text.specs.Places.{next_begun, next_after_sign, number_place, next_place, closed, after, after_all, is_end, is_read}
+use Rattle.expression_text.specs.Machine.{Reading, Begun, After_len, After_column, After_term, After_sign, After_sign_len, After_is, After_native, After_number, After_comma, After_argument, Finished, Refused, Frame, Bracket, Before_not, Before_and, Before_or, State, read_after_sign, number_read, read_after_native, read_more, settled, complete, join, close, step_begun, step_finished, run, step, outcome, whole, parsed}
+use Rattle.expression_text.specs.Places.{next_after_sign, number_place, next_place, closed, after, after_all, is_end, is_read}
 use Rattle.expression_text.proofs.Completeness.{IsReady, IsBase, parsed-Parses}
 use Rattle.expression_text.proofs.Soundness.{Parses-parsed}
 

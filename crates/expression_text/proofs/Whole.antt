@@ -1,6 +1,6 @@
 -- What is read when no token is left.
 use Rattle.std.proofs.Common.{◌≡◌, ℕ, ◌≤◌, List, [], length, drop, ap, ◌∙◌, sym}
-use Rattle.std.specs.Prelude.{Option, Some, IsSome, is_some}
+use Rattle.std.specs.Prelude.{Some, IsSome, is_some}
 use Rattle.std.proofs.lemmas.List.{drop_all}
 use Rattle.row_check.specs.declared.expr.Expr.{Expr}
 use Rattle.expression_text.specs.declared.token.Token.{Token}

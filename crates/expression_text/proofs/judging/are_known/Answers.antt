@@ -1,5 +1,5 @@
 use Rattle.expression_text.specs.Columns.{IsKnown}
-use Rattle.expression_text.proofs.Tests.{each_more, each_told}
+use Rattle.expression_text.proofs.Passing.{each_more, each_told}
 use Rattle.expression_text.proofs.judging.are_known.Goals as goal
 
 pub loop-token-preserved : goal.loop-token-preserved

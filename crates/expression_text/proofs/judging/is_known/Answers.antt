@@ -1,6 +1,6 @@
 use Rattle.std.proofs.Common.{◌∙◌, ap}
 use Rattle.std.specs.Prelude.{is_some}
-use Rattle.expression_text.proofs.Tests.{known_told}
+use Rattle.expression_text.proofs.Passing.{known_told}
 use Rattle.expression_text.proofs.judging.is_known.Goals as goal
 
 pub returns-in-Column : goal.returns-in-Column

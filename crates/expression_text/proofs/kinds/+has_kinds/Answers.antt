@@ -1,4 +1,4 @@
-use Rattle.expression_text.proofs.Tests.{checked_told}
+use Rattle.expression_text.proofs.Passing.{checked_told}
 use Rattle.expression_text.proofs.kinds.+has_kinds.Goals as goal
 
 pub returns-in-Native : goal.returns-in-Native

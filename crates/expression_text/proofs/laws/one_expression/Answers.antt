@@ -1,6 +1,5 @@
 use Rattle.std.proofs.Common.{◌≡◌, ◌∙◌, sym}
 use Rattle.std.specs.Prelude.{Some}
-use Rattle.expression_text.specs.Machine.{parsed}
 use Rattle.expression_text.proofs.Completeness.{parsed-Parses}
 use Rattle.expression_text.proofs.laws.one_expression.Goals as goal
 

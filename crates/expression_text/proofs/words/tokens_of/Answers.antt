@@ -1,4 +1,4 @@
-use Rattle.expression_text.proofs.Tests.{tokens_more}
+use Rattle.expression_text.proofs.Passing.{tokens_more}
 use Rattle.expression_text.proofs.words.tokens_of.Goals as goal
 
 pub loop-word-preserved : goal.loop-word-preserved

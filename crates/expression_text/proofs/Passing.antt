@@ -1,6 +1,6 @@
 -- Tests of each token, and names that are found.
 use Rattle.std.proofs.Common.{◌≡◌, ℕ, zero, suc, ◌+◌, ◌<◌, ◌≤◌, Bool, true, false, not, ◌||◌, IsTrue, List, [], ◌∷◌, length, get_or, take, map, ◌++◌, All, refl, ap, ◌∙◌, sym, subst, arith, nat_lt, slice_index_or}
-use Rattle.std.specs.Prelude.{Option, Some, None, is_some, cond, bytes_eq}
+use Rattle.std.specs.Prelude.{Some, None, is_some, cond, bytes_eq}
 use Rattle.std.specs.List.{position, position_or_len, list_any, list_all, Contains}
 use Rattle.std.proofs.lemmas.List.{take_all, map_more}
 use Rattle.std.proofs.lemmas.List.Elements.{All-more}
