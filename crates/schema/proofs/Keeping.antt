@@ -320,3 +320,15 @@ pub declared_sound : OneExpression → (r : Meaning) (text : List ℕ) (schema :
 declared_sound one r text schema h =
     let s = lead_kept one r 1 start (Rattle.text_words.specs.Lines.lines_of text) h.1.0 start_sound h.1.1 in
     subst IsSchema (sym h.1.3) (schema_sound h.1.0 text s (s.some_tables h.1.2))
+
+tables_few : (before ts : List TableDef) (n : ℕ) (t : TableDef) → AreTables before ts → slice_get ts n ≡ Some t → length t.columns ≤ 16
+tables_few before [] n t a h = absurd cc
+tables_few before (u ∷ ts) zero t a h = let is : u ≡ t = cc in subst (λ (v : TableDef). length v.columns ≤ 16) is a.0.sound.few_columns
+tables_few before (u ∷ ts) (suc n) t a h = tables_few (before ++ u ∷ []) ts n t a.1 h
+
+-- every table of a draft has at most sixteen columns
+pub columns_few : (d : Draft) (n : ℕ) → IsDraft d → length (table_at d n).columns ≤ 16
+columns_few d n s =
+    let step : (o : Option TableDef) → slice_get d.tables n ≡ o → length (unwrap_or o d.table).columns ≤ 16 =
+        elim [ None ↦ λ e. s.table.few_columns | Some t ↦ λ e. tables_few [] d.tables n t s.tables e ] in
+    step (slice_get d.tables n) refl

@@ -62,6 +62,10 @@ IsWithinLimits draft (form.Unique column) = IsShort column × (is_unique draft.t
 IsWithinLimits draft (form.AtMost count) = (pos 1 ≤ℤ count) × (count ≤ℤ pos 64) × (draft.table.at_most ≡ 0)
 IsWithinLimits draft (form.Sample values) = All HasShortLiteral values
 
+-- A name that no table has.
+abbrev pub IsNewTable : List TableDef → List ℕ → Type 0
+IsNewTable tables name = IsTrue (is_a_name name) × (list_any (λ table. bytes_eq table.name name) tables ≡ false)
+
 -- A name that no column has.
 abbrev pub IsNewColumn : List Column → List ℕ → Type 0
 IsNewColumn columns name = IsTrue (is_a_name name) × (list_any (λ column. bytes_eq column.name name) columns ≡ false)
@@ -78,7 +82,7 @@ HasTargetColumn draft reference column =
 abbrev pub IsNamed : Draft → Form → Type 0
 IsNamed draft (form.Database name) = IsTrue (is_a_name name)
 IsNamed draft (form.Author key) = Unit {0}
-IsNamed draft (form.Table name deletable owned) = IsTrue (is_a_name name) × (list_any (λ table. bytes_eq table.name name) draft.tables ≡ false)
+IsNamed draft (form.Table name deletable owned) = IsNewTable draft.tables name
 IsNamed draft (form.Column name kind null) = IsNewColumn draft.table.columns name
 IsNamed draft (form.Ref name table act null) = IsNewColumn draft.table.columns name
 IsNamed draft (form.Check tokens) = All (IsKnown (names_of draft.table.columns)) tokens

@@ -157,10 +157,10 @@ pub(crate) fn values_of(
 {
     let mut values = Vec::with_capacity(alloc, words.len())?;
     for word in words {
-        let Some(value) = value_of(alloc, word)? else {
-            return Ok(None);
-        };
-        values.push(value)?;
+        match value_of(alloc, word)? {
+            Some(value) => values.push(value)?,
+            None => return Ok(None),
+        }
     }
     Ok(Some(values))
 }
