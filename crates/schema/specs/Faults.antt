@@ -49,13 +49,17 @@ abbrev pub is_unique : TableDef → Option ℕ → Bool
 is_unique table None = false
 is_unique table (Some column) = list_any (λ rule. rule.column == column) table.uniques
 
+-- There is room for a column, whose name is not too long.
+abbrev pub MayHaveMore : List Column → List ℕ → Type 0
+MayHaveMore columns name = (length columns < 16) × IsShort name
+
 -- Nothing is too many, too long or there twice.
 abbrev pub IsWithinLimits : Draft → Form → Type 0
 IsWithinLimits draft (form.Database name) = IsShort name
 IsWithinLimits draft (form.Author key) = (length draft.authors < 256) × ¬ Contains draft.authors key
 IsWithinLimits draft (form.Table name deletable owned) = (length draft.tables < 16) × IsShort name
-IsWithinLimits draft (form.Column name kind null) = (length draft.table.columns < 16) × IsShort name
-IsWithinLimits draft (form.Ref name table act null) = (length draft.table.columns < 16) × IsShort name
+IsWithinLimits draft (form.Column name kind null) = MayHaveMore draft.table.columns name
+IsWithinLimits draft (form.Ref name table act null) = MayHaveMore draft.table.columns name
 IsWithinLimits draft (form.Check tokens) = (length draft.table.checks < 16) × AreFewAndShort tokens
 IsWithinLimits draft (form.Match column cmp reference target) = (length draft.table.matches < 16) × IsShort column × IsShort reference × IsShort target
 IsWithinLimits draft (form.Unique column) = IsShort column × (is_unique draft.table (number_named draft.table.columns column) ≡ false)

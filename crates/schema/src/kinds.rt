@@ -102,11 +102,7 @@ fn are_bounds(kind: &PlainKind) -> bool
 }
 
 /// Whether an expression reads plain columns and compares values of one kind.
-fn is_typed_check(
-    alloc: Global,
-    columns: &[Column],
-    tokens: &[Token],
-) -> Result<bool, AllocError>
+fn is_typed_check(alloc: Global, columns: &[Column], tokens: &[Token]) -> Result<bool, AllocError>
     requires few { length columns.now ≤ 16 }
     requires short { length tokens.now ≤ 256 }
     requires expression { IsExpression tokens.now }

@@ -19,9 +19,7 @@ pub(crate) fn is_named(alloc: Global, draft: &Draft, form: &Form) -> Result<bool
     let columns = draft.table.columns.as_slice();
     Ok(match form {
         Form::Database { name } => is_name(name.as_slice()),
-        Form::Table { name, .. } => {
-            is_new_table(draft.tables.as_slice(), name.as_slice())
-        }
+        Form::Table { name, .. } => { is_new_table(draft.tables.as_slice(), name.as_slice()) }
         Form::Column { name, .. } => is_new_column(columns, name.as_slice()),
         Form::Ref { name, .. } => is_new_column(columns, name.as_slice()),
         Form::Check { tokens } => {

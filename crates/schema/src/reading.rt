@@ -10,7 +10,7 @@ ghost use Rattle.schema.specs.Forms.{HasForm, IsWhole};
 ghost use Rattle.schema.specs.declared.fault.SchemaError.TheVariants.{Fault, Memory};
 ghost use Rattle.schema.specs.Sound.{IsDraft};
 
-use crate::draft::{Draft, Phase};
+use crate::draft::Draft;
 use crate::form::Form;
 use crate::forms::{form_of, is_utf8};
 use crate::kinds::{has_target, is_matchable, is_typed};
@@ -59,7 +59,9 @@ fn schema_of(alloc: Global, draft: Draft, text: &[u8]) -> Result<Schema, SchemaE
     ensures memory { IfErr result (λ error. error ≡ Memory) }
 {
     let Draft {
-        authors, tables, ..
+        authors,
+        tables,
+        ..
     } = draft;
     let rule = DbRule {
         database: Sha256::digest(text),
@@ -96,7 +98,7 @@ fn read_lines<L: Relation, C: Checks<L>>(
         number += 1;
         rest = after;
     }
-    if !matches!(draft.phase, Phase::Between) {
+    if !draft.is_complete() {
         return Err(fault(SchemaKind::Line, number));
     }
     Ok(draft)

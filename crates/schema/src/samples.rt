@@ -36,8 +36,10 @@ pub(crate) fn has_sample<L: Relation, C: Checks<L>>(
             let values = values.as_slice();
             let columns = draft.table.columns.as_slice();
             let row = sample_row(alloc, columns, values)?;
-            Ok(values.len() == plain_count(columns)
-                && is_sample(alloc, native, draft, row.as_slice())?)
+            Ok(
+                values.len() == plain_count(columns)
+                    && is_sample(alloc, native, draft, row.as_slice())?,
+            )
         }
         _ => Ok(true),
     }
@@ -106,7 +108,11 @@ fn plain_count(columns: &[Column]) -> usize
         [] => 0,
         [first, rest @ ..] => {
             let count = plain_count(rest);
-            if is_reference(&first.kind) { count } else { count + 1 }
+            if is_reference(&first.kind) {
+                count
+            } else {
+                count + 1
+            }
         }
     }
 }
@@ -197,12 +203,12 @@ fn passes_matches(draft: &Draft, row: &[Value]) -> bool
     ensures { result ≡ passes_matches draft.now row.now }
 {
     let columns = draft.table.columns.as_slice();
-    draft
-        .table
-        .matches
-        .as_slice()
-        .iter()
-        .all(|rule| matches_target(draft, row, rule, reference_at(columns, rule.reference)))
+    draft.table.matches.as_slice().iter().all(|rule| matches_target(
+        draft,
+        row,
+        rule,
+        reference_at(columns, rule.reference),
+    ))
 }
 
 /// Whether a MATCH is true of a row beside the sample of this target. Of the table itself it is not asked.
