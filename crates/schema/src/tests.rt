@@ -28,6 +28,34 @@ const CHAIN: &str =
     "DATABASE v\nTABLE g DELETABLE\nCOLUMN n INT 0 9\nSAMPLE 1\nTABLE t\nCOLUMN n INT 0 9\n\
 REF g g CASCADE\nSAMPLE 2\nTABLE c\nCOLUMN n INT 0 9\nREF t t RESTRICT\nSAMPLE 3\n";
 
+/// The schema of docs/SCHEMAS.md.
+const CLUB: &str = "\
+# What a club lends to its members.\n\
+DATABASE club\n\
+\n\
+TABLE member DELETABLE\n\
+COLUMN name TEXT 1 40\n\
+COLUMN born INT 1900 2100 NULL\n\
+CHECK born IS NULL OR born < 2020\n\
+SAMPLE \"Ann\" 1987\n\
+\n\
+TABLE thing DELETABLE OWNED\n\
+COLUMN label TEXT 1 60\n\
+COLUMN days INT 1 30\n\
+REF kept_by member CASCADE\n\
+REF part_of thing SETNULL NULL\n\
+SAMPLE \"Tent\" 14\n\
+\n\
+TABLE loan DELETABLE\n\
+COLUMN days INT 1 30\n\
+COLUMN note TEXT 0 200 NULL\n\
+COLUMN paid FLAG\n\
+REF thing thing CASCADE\n\
+REF by member CASCADE\n\
+CHECK paid = TRUE OR LEN note > 0\n\
+MATCH days <= thing.days\n\
+SAMPLE 7 NULL TRUE\n";
+
 const NAME_32: &str = "abcdefghijklmnopqrstuvwxyz_01234";
 
 /// What reading gives: nothing where a schema is declared, else the fault.
@@ -357,18 +385,13 @@ fn keeps_limits(rt: HostRuntime) -> Result<(), Fail> {
             " AND NOT NOT\ta\t=\t1\nSAMPLE 1\n",
             Some((Limit, 4)),
         ),
-        ("CHECK ", "NOT ", 252, "a IS NULL\n", None),
+        ("CHECK ", "NOT ", 253, "a IS NULL\nSAMPLE 1\n", None),
         ("CHECK ", "NOT ", 254, "a IS NULL\n", Some((Limit, 4))),
         ("CHECK ", "(", 5000, "a IS NULL\n", Some((Line, 4))),
     ];
     for (front, line, count, back, want) in rows {
         let lines = repeated(alloc, front, line, count, back)?;
         let text = format!(in alloc; "{one}{lines}")?;
-        let want = if want.is_none() && !text.as_str().ends_with("SAMPLE 1\n") {
-            Some((Line, 5))
-        } else {
-            want
-        };
         assert_eq!(rt; fault(alloc, text.as_bytes())?, want, "{line} {count}");
     }
     Ok(())
@@ -480,6 +503,7 @@ fn reads_worked_schemas(rt: HostRuntime) -> Result<(), Fail> {
         4
     );
     assert_eq!(rt; schema(alloc, CHAIN)?.tables(), 3);
+    assert_eq!(rt; schema(alloc, CLUB)?.tables(), 3);
     assert_eq!(rt;
         &schema(alloc, USERS)?.rule().database[..4],
         [0xe0, 0x4e, 0xbe, 0x00].as_slice()
