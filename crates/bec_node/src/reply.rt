@@ -111,9 +111,7 @@ fn check_text(alloc: Global, fault: &CheckFault) -> Result<String, AllocError>
     ensures { IfOk result (λ text. string_bytes text ≡ check_text fault.now) }
 {
     match fault {
-        CheckFault::Codec(fault) => {
-            format!(in alloc; "{fault}")
-        }
+        CheckFault::Codec(fault) => { format!(in alloc; "{fault}") }
         CheckFault::WrongDatabase => String::from_str(alloc, "other database"),
         CheckFault::AuthorNotListed => String::from_str(alloc, "author not listed"),
         CheckFault::BadSignature => String::from_str(alloc, "bad signature"),

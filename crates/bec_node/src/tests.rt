@@ -184,7 +184,12 @@ fn names_the_first_refusal(rt: HostRuntime) -> Result<(), Fail> {
 }
 
 /// A copy of a record in which these bytes of its update are changed to others.
-fn changed(rt: &(impl Abort + AllocGlobal), record: &[u8], place: usize, bytes: &[u8]) -> Result<Vec<u8>, Fail> {
+fn changed(
+    rt: &(impl Abort + AllocGlobal),
+    record: &[u8],
+    place: usize,
+    bytes: &[u8],
+) -> Result<Vec<u8>, Fail> {
     let mut other = Vec::from_slice(rt.alloc(), record)?;
     for (step, byte) in bytes.iter().enumerate() {
         let at = 4 + place + step;
@@ -276,7 +281,11 @@ fn checks_schemas(rt: HostRuntime) -> Result<(), Fail> {
         ("SAMPLE \"Buy\" 3 NULL\n", "", "! schema line 15: line"),
         ("list CASCADE", "list RESTRICT", "! schema line 14: match"),
         ("INT 0 9\nSAMPLE", "INT 0 9\nATMOST 3\nSAMPLE", "! untested"),
-        ("INT 0 9\nSAMPLE", "INT 0 9\nUNIQUE cap\nSAMPLE", "! untested"),
+        (
+            "INT 0 9\nSAMPLE",
+            "INT 0 9\nUNIQUE cap\nSAMPLE",
+            "! untested",
+        ),
     ];
     for (that, this, line) in rows {
         expect_check(&rt, &with(alloc, TASKS, that, this)?, 1, line)?;

@@ -1,6 +1,7 @@
 mod FaultKinds
 mod Keeping
+mod Lines
 mod NameTexts
 mod Needs
-mod Samples
+mod SampleRows
 mod Unique

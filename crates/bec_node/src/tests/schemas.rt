@@ -19,7 +19,8 @@ SAMPLE "Buy" 3 NULL
 "#;
 
 /// The file `examples/inventory.schema`.
-pub const INVENTORY: &str = r#"# What a club owns, where it lies, and who has borrowed it. Members write on their own devices, without a server.
+pub const INVENTORY: &str =
+    r#"# What a club owns, where it lies, and who has borrowed it. Members write on their own devices, without a server.
 DATABASE inventory
 
 # A place where things lie. With a place goes what lies there.
@@ -59,7 +60,8 @@ SAMPLE 20260401 NULL
 "#;
 
 /// The file `examples/survey.schema`.
-pub const SURVEY: &str = r#"# A field team counts plants on plots. Each observer enters sightings offline, and the tablets meet in the evening.
+pub const SURVEY: &str =
+    r#"# A field team counts plants on plots. Each observer enters sightings offline, and the tablets meet in the evening.
 DATABASE survey
 
 # A plot of land, with its corner in millionths of a degree and its side in metres.

@@ -92,4 +92,3 @@ fits_kinds [] [] h = tt
 fits_kinds [] (v ∷ vs) h = h
 fits_kinds (c ∷ cs) [] h = h
 fits_kinds (c ∷ cs) (v ∷ vs) h = (of_kind c.name c.kind c.null c.line v h.0, fits_kinds cs vs h.1)
-
