@@ -1,12 +1,16 @@
 -- The command `check`: what is read of a text, and what the text is by what was read.
-use Rattle.std.proofs.Common.{◌≡◌, ◌⊎◌, inl, inr, ℕ, ◌<◌, ◌≤◌, Bool, true, false, List, [], ◌++◌, length, refl, sym, ap, subst, ◌∙◌, append-nil, length-append, take, drop, length-take, Option, Some, None, arith, nat_lt}
+use Rattle.std.proofs.Common.{◌≡◌, ◌⊎◌, inl, inr, ℕ, ◌<◌, ◌≤◌, Bool, true, false, List, [], ◌++◌, ◌∷◌, length, refl, sym, ap, subst, ◌∙◌, append-nil, length-append, take, drop, length-take, Option, Some, None, arith, nat_lt, slice_get, zero, suc, ◌+◌}
 use Rattle.std.specs.Io.KnownBytes.{Consumes, IsAtEnd}
-use Rattle.std.proofs.lemmas.List.{take_all, drop_all, take_at, drop_at}
+use Rattle.std.specs.List.{list_any}
+use Rattle.std.proofs.lemmas.List.{take_all, drop_all, take_at, drop_at, take_more}
+use Rattle.std.proofs.lemmas.List.Folds.{list_any-append}
+use Rattle.std.proofs.lemmas.Option.{slice_get_within, get_or_from_slice_get}
+use Rattle.schema.specs.declared.table_def.TableDef.{TableDef}
 use Rattle.std.proofs.lemmas.Bool.Decides.{nat_tests}
 use Rattle.row_check.specs.Checksum.{is_luhn}
 use Rattle.schema.specs.declared.fault.SchemaKind.{SchemaKind}
 use Rattle.schema.specs.Schemas.{Meaning, SchemaData, Declares, FirstFault}
-use Rattle.bec_node.specs.Texts.{verdict_status, verdict_text, schema_text}
+use Rattle.bec_node.specs.Texts.{is_untested_table, verdict_status, verdict_text, schema_text}
 use Rattle.bec_node.specs.Run.{read_limit, Judges, CheckAnswer, ReadsText}
 
 -- a text that fits in the buffer, or fills it
@@ -81,3 +85,27 @@ judged_once laws input status another text line (inr a) (inr b) =
 pub check_answered : SchemaLaws → (input rest other : List ℕ) (status another : ℕ) (text line : List ℕ) → CheckAnswer input rest status text → CheckAnswer input other another line
     → (status ≡ another) × (text ≡ line)
 check_answered laws input rest other status another text line a b = judged_once laws input status another text line a.1 b.1
+
+-- ---- tables in turn
+
+-- a table that is not tested makes its schema untested
+pub any_at : (tables : List TableDef) (number : ℕ) (table : TableDef) → slice_get tables number ≡ Some table → is_untested_table table ≡ true → list_any is_untested_table tables ≡ true
+any_at [] number table at is = absurd cc
+any_at (t ∷ ts) zero table at is = let same : t ≡ table = cc in rw same (rw is refl)
+any_at (t ∷ ts) (suc number) table at is = by_case (is_untested_table t) refl
+  where
+    by_case : (b : Bool) → is_untested_table t ≡ b → list_any is_untested_table (t ∷ ts) ≡ true
+    by_case true e = rw e refl
+    by_case false e = rw e (any_at ts number table at is)
+
+-- one more table that is tested
+pub none_next : (tables : List TableDef) (number : ℕ) (table : TableDef) → slice_get tables number ≡ Some table → list_any is_untested_table (take number tables) ≡ false → is_untested_table table ≡ false
+    → list_any is_untested_table (take (number + 1) tables) ≡ false
+none_next tables number table at before is =
+    let low = slice_get_within tables number table at in
+    ap (λ (ts : List TableDef). list_any is_untested_table ts) (take_more tables number table low ∙ ap (λ (t : TableDef). take number tables ++ t ∷ []) (get_or_from_slice_get tables number table table at))
+    ∙ list_any-append is_untested_table (take number tables) (table ∷ []) ∙ rw (before, is) refl
+
+-- all of them
+pub none_of_all : (tables : List TableDef) (number : ℕ) → number ≡ length tables → list_any is_untested_table (take number tables) ≡ false → list_any is_untested_table tables ≡ false
+none_of_all tables number all before = sym (ap (λ (ts : List TableDef). list_any is_untested_table ts) (take_all number tables (omega arith))) ∙ before

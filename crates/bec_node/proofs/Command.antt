@@ -1,5 +1,5 @@
 -- From what a stream holds to what the command `heads` answers.
-use Rattle.std.proofs.Common.{◌≡◌, ◌≢◌, ◌⊎◌, inl, inr, ℕ, Bool, true, false, drop, ◌<◌, ◌≤◌, List, [], ◌∷◌, length, codes, refl, sym, ap, subst, ◌∙◌, Option, Some, None, IfSome, String, Result, Ok, Err, slice_get, arith}
+use Rattle.std.proofs.Common.{◌≡◌, ◌≢◌, ◌⊎◌, inl, inr, ℕ, Bool, true, false, drop, ◌<◌, ◌≤◌, List, [], ◌∷◌, length, codes, refl, sym, ap, subst, ◌∙◌, Option, Some, None, IfSome, String, Result, Ok, Err, slice_get, slice_index_or, arith}
 use Rattle.std.specs.declared.alloc.Global.{Global}
 use Rattle.std.specs.String.{string_bytes}
 use Rattle.std.specs.Io.KnownBytes.{Appends}
@@ -38,11 +38,15 @@ first_is command other [] first is = absurd cc
 first_is command other (word ∷ []) first is = let a : string_bytes word ≡ word_of command = cc in let b : string_bytes word ≡ word_of other = cc in sym a ∙ b
 first_is command other (word ∷ more ∷ words) first is = absurd cc
 
+-- the words differ in their first letter
+apart : word_of Heads ≡ word_of Check → ⊥
+apart same = let first : 104 ≡ 99 = ap (λ (xs : List ℕ). slice_index_or xs 0 0) same in absurd (omega (arith, first))
+
 -- the words of two commands
 pub one_command : (command other : Command) (words : List (String Global)) → HasFirstWord command words → IsCommand other words → other ≡ command
 one_command Heads Heads words first is = refl
-one_command Heads Check words first is = absurd (let same = first_is Heads Check words first is in cc)
-one_command Check Heads words first is = absurd (let same = first_is Check Heads words first is in cc)
+one_command Heads Check words first is = absurd (apart (first_is Heads Check words first is))
+one_command Check Heads words first is = absurd (apart (sym (first_is Check Heads words first is)))
 one_command Check Check words first is = refl
 
 pub other_first : (words : List (String Global)) (word : String Global) → slice_get words 0 ≡ Some word → ((command : Command) → string_bytes word ≡ word_of command → ⊥) → IsNoCommand words

@@ -1,12 +1,13 @@
 ghost use Rattle.std.specs.Prelude.{◌≡◌, IfOk};
+ghost use Rattle.std.specs.List.{list_any};
 ghost use Rattle.std.specs.String.{string_bytes};
 ghost use Rattle.schema.specs.Columns.{is_restrict};
-ghost use Rattle.bec_node.specs.Texts.{is_restricting, is_untested_table, is_untested, verdict_text, verdict_status, schema_text};
+ghost use Rattle.bec_node.specs.Texts.{is_restricting, word_of_kind, is_untested_table, is_untested, verdict_text, verdict_status, schema_text};
 ghost use Rattle.bec_node.specs.Run.{Judges};
 
 use crate::reply::Reply;
 use row_check::{Luhn, Native};
-use schema::{Action, ColumnKind, Schema, SchemaError, SchemaFault, TableDef, read_schema};
+use schema::{Action, Column, ColumnKind, Schema, SchemaError, SchemaFault, SchemaKind, TableDef, read_schema};
 use std::alloc::{AllocError, Global};
 
 /// The reply of `check` to a text.
@@ -50,8 +51,23 @@ fn refusal(alloc: Global, fault: &SchemaFault) -> Result<String, AllocError>
     ensures { IfOk result (λ line. string_bytes line ≡ schema_text fault.now.line fault.now.kind) }
 {
     let line = fault.line;
-    let kind = fault.kind;
-    format!(in alloc; "! schema line {line}: {kind}\n")
+    let word = word(fault.kind);
+    format!(in alloc; "! schema line {line}: {word}\n")
+}
+
+/// The word for what is wrong with a schema.
+fn word(kind: SchemaKind) -> &'static str
+    ensures { result.now ≡ word_of_kind kind }
+{
+    match kind {
+        SchemaKind::Line => "line",
+        SchemaKind::Name => "name",
+        SchemaKind::WrongType => "type",
+        SchemaKind::Target => "target",
+        SchemaKind::MatchKind => "match",
+        SchemaKind::BadSample => "sample",
+        SchemaKind::Limit => "limit",
+    }
 }
 
 /// Whether it is not tested yet whether all that the schema asks for survives merging.
@@ -71,11 +87,14 @@ fn is_untested_table(table: &TableDef) -> bool
 {
     !table.uniques.as_slice().is_empty()
         || table.at_most > 0
-        || table
-            .columns
-            .as_slice()
-            .iter()
-            .any(|column| is_restricting(&column.kind))
+        || has_restricting(table.columns.as_slice())
+}
+
+/// Whether a column is a reference that keeps the row that it names.
+fn has_restricting(columns: &[Column]) -> bool
+    ensures { result ≡ list_any (λ column. is_restricting column.kind) columns.now }
+{
+    columns.iter().any(|column| is_restricting(&column.kind))
 }
 
 fn is_restricting(kind: &ColumnKind) -> bool

@@ -4,7 +4,7 @@ use Rattle.std.proofs.lemmas.Slice.Eq.{bytes_eq-Decides}
 use Rattle.std.specs.String.{string_bytes}
 use Rattle.bec_node.specs.Run.{Heads}
 use Rattle.bec_node.proofs.Command.{first_word, other_first, other_words, no_first, fault_words}
-use Rattle.bec_node.proofs.program.run.Goals.{in_default-via-in-Some+else-eq, in_default-via-in_default}
+use Rattle.bec_node.proofs.program.run.Goals.{in_default-via-in-Some-2+else-eq-2, in_default-via-in_default}
 use Rattle.bec_node.proofs.program.run.Goals as goal
 
 pub command_heads-requires : goal.command_heads-requires
@@ -17,7 +17,7 @@ returns-in_default-clause-fault g c = λ four.
     fault_words c.args.words.now (g.S.Source.left c.args.input.now) (g.S.Counted.faults c.args.input.now) (g.K.Counted.faults c.args.out.now) (g.K.Counted.faults c.no_command.new.out)
     (g.K.Sink.held c.args.out.now) (g.K.Sink.held c.no_command.new.out) c.no_command.result
     (elim c.in_default.branch [
-      | in_default-via-in-Some+else-eq w ↦ other_first c.args.words.now w.in-Some.word.now (sym w.in-Some.ensures.value) (other_words (string_bytes w.in-Some.word.now) (λ is.
+      | in_default-via-in-Some-2+else-eq-2 w ↦ other_first c.args.words.now w.in-Some.word.now (sym w.in-Some.ensures.value) (other_words (string_bytes w.in-Some.word.now) (λ is.
           let equal = (bytes_eq-Decides w.as_str.result.now (codes "heads")).1 (w.as_str.ensures.value ∙ is) in
           let was = w.eq.ensures in
           let no = w.if-eq.false in cc))
