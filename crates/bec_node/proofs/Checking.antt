@@ -1,5 +1,5 @@
 -- The command `check`: what is read of a text, and what the text is by what was read.
-use Rattle.std.proofs.Common.{◌≡◌, ◌⊎◌, inl, inr, ℕ, ◌<◌, ◌≤◌, Bool, true, false, List, [], ◌++◌, ◌∷◌, length, refl, sym, ap, subst, ◌∙◌, append-nil, length-append, take, drop, length-take, Option, Some, None, arith, nat_lt, slice_get, zero, suc, ◌+◌}
+use Rattle.std.proofs.Common.{◌≡◌, ◌⊎◌, inl, inr, ℕ, ◌<◌, ◌≤◌, Bool, true, false, ◌||◌, List, [], ◌++◌, ◌∷◌, length, refl, sym, ap, subst, ◌∙◌, append-nil, length-append, take, drop, length-take, Option, Some, None, arith, nat_lt, slice_get, zero, suc, ◌+◌}
 use Rattle.std.specs.Io.KnownBytes.{Consumes, IsAtEnd}
 use Rattle.std.specs.List.{list_any}
 use Rattle.std.proofs.lemmas.List.{take_all, drop_all, take_at, drop_at, take_more}
@@ -88,15 +88,15 @@ check_answered laws input rest other status another text line a b = judged_once 
 
 -- ---- tables in turn
 
+or_right : (a b : Bool) → b ≡ true → (a || b) ≡ true
+or_right true b e = refl
+or_right false b e = e
+
 -- a table that is not tested makes its schema untested
 pub any_at : (tables : List TableDef) (number : ℕ) (table : TableDef) → slice_get tables number ≡ Some table → is_untested_table table ≡ true → list_any is_untested_table tables ≡ true
 any_at [] number table at is = absurd cc
 any_at (t ∷ ts) zero table at is = let same : t ≡ table = cc in rw same (rw is refl)
-any_at (t ∷ ts) (suc number) table at is = by_case (is_untested_table t) refl
-  where
-    by_case : (b : Bool) → is_untested_table t ≡ b → list_any is_untested_table (t ∷ ts) ≡ true
-    by_case true e = rw e refl
-    by_case false e = rw e (any_at ts number table at is)
+any_at (t ∷ ts) (suc number) table at is = or_right (is_untested_table t) (list_any is_untested_table ts) (any_at ts number table at is)
 
 -- one more table that is tested
 pub none_next : (tables : List TableDef) (number : ℕ) (table : TableDef) → slice_get tables number ≡ Some table → list_any is_untested_table (take number tables) ≡ false → is_untested_table table ≡ false

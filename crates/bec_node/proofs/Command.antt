@@ -61,6 +61,14 @@ pub other_words : (word : List ℕ) → (word ≡ codes "heads" → ⊥) → (wo
 other_words word heads check Heads is = heads is
 other_words word heads check Check is = check is
 
+-- the first word, met twice, is neither command
+pub other_both : (words : List (String Global)) (a b : String Global) → slice_get words 0 ≡ Some a → slice_get words 0 ≡ Some b
+    → (string_bytes a ≡ codes "heads" → ⊥) → (string_bytes b ≡ codes "check" → ⊥) → IsNoCommand words
+other_both words a b at again heads check =
+    let both : Some a ≡ Some b = sym at ∙ again in
+    let same : a ≡ b = cc in
+    other_first words a at (other_words (string_bytes a) heads (λ is. check (ap (λ (t : String Global). string_bytes t) (sym same) ∙ is)))
+
 pub no_first : (words : List (String Global)) → slice_get words 0 ≡ None → IsNoCommand words
 no_first [] none command is = cc
 no_first (w ∷ words) none command is = cc

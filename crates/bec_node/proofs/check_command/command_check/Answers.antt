@@ -60,3 +60,8 @@ returns-in-Ok-schema_reply-clause-only g c =
 pub returns-in-Ok-schema_reply-clause-other : goal.returns-in-Ok-schema_reply-clause-other
 returns-in-Ok-schema_reply-clause-other g c = λ other. absurd (other Check (one_word Check c.args.words.now c.requires c.if-words-gt1.false))
 
+pub returns-clause-memory : goal.returns-clause-memory
+returns-clause-memory g c = λ five. ((Check, one_word Check c.args.words.now c.requires c.if-words-gt1.false), Appends-nil (g.K.Sink.held c.args.out.now))
+
+pub returns-clause-other : goal.returns-clause-other
+returns-clause-other g c = λ other. absurd (other Check (one_word Check c.args.words.now c.requires c.if-words-gt1.false))
