@@ -7,7 +7,9 @@ ghost use Rattle.bec_node.specs.Run.{Judges};
 
 use crate::reply::Reply;
 use row_check::{Luhn, Native};
-use schema::{Action, Column, ColumnKind, Schema, SchemaError, SchemaFault, SchemaKind, TableDef, read_schema};
+use schema::{
+    Action, Column, ColumnKind, Schema, SchemaError, SchemaFault, SchemaKind, TableDef, read_schema,
+};
 use std::alloc::{AllocError, Global};
 
 /// The reply of `check` to a text.
