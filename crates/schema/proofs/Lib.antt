@@ -1,0 +1,14 @@
+pub mod Accepted
+pub mod Alike
+pub mod Arrivals
+pub mod Confirmed
+pub mod DeclaredClaims
+pub mod Founded
+pub mod Order
+pub mod Permuted
+pub mod Plain
+pub mod SameClaims
+pub mod SameEffects
+pub mod Soundness
+pub mod Standing
+pub mod Union

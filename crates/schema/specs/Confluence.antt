@@ -1,5 +1,5 @@
 -- Invariants that survive merging, the rule by which they are accepted, and counterexamples.
-use Rattle.std.specs.Prelude.{ℕ, zero, suc, ◌==◌, Bool, true, false, not, ◌&&◌, ◌||◌, List, [], ◌∷◌, ◌++◌, length, reverse, Option, Some, None, IsTrue}
+use Rattle.std.specs.Prelude.{ℕ, zero, suc, ◌==◌, Bool, true, false, not, ◌&&◌, ◌||◌, List, [], ◌∷◌, ◌++◌, length, reverse, Option, Some, None, IsTrue, if◌then◌else◌}
 use Rattle.std.specs.List.{list_all}
 use Rattle.update_model.specs.Node.{NodeData}
 use Rattle.schema.specs.declared.action.Action.{Action}
@@ -21,7 +21,7 @@ IsConfluent rules earlier claim =
 -- the table that a column refers to by CASCADE, if any
 abbrev pub cascade_target : Option (ℕ × Action) → List ℕ
 cascade_target None = []
-cascade_target (Some target) = elim (is_cascade target.1) [ true ↦ target.0 ∷ [] | false ↦ [] ]
+cascade_target (Some target) = if is_cascade target.1 then target.0 ∷ [] else []
 
 abbrev pub cascade_targets : List Column → List ℕ
 cascade_targets [] = []
@@ -63,9 +63,9 @@ is_closed (node ∷ older) = not (holds older node.id) && list_all (holds older)
 -- this one, and both together break this one.
 abbrev pub breaks : Rules → List Claim → Claim → (base left right : List NodeData) → Bool
 breaks rules earlier claim base left right =
-    is_closed (left ++ base) && is_closed (right ++ base) && is_closed (right ++ left ++ base)
+    is_closed (left ++ base) && is_closed (right ++ base) && is_closed (right ++ (left ++ base))
     && satisfies rules (left ++ base) (earlier ++ claim ∷ []) && satisfies rules (right ++ base) (earlier ++ claim ∷ [])
-    && not (claim_holds rules (shown_in rules (right ++ left ++ base)) claim)
+    && not (claim_holds rules (shown_in rules (right ++ (left ++ base))) claim)
 
 -- the same of a counterexample, whose lists are in the order of arrival
 abbrev pub confirms : Rules → List Claim → Claim → Counterexample → Bool

@@ -13,7 +13,7 @@ use Rattle.update_model.specs.Graph.{has}
 use Rattle.update_model.specs.Node.{NodeData}
 use Rattle.row_check.specs.declared.cmp.Cmp.TheVariants as cmp
 use Rattle.row_check.specs.Comparisons.{compares}
-use Rattle.row_check.specs.Meaning.{value_at} 
+use Rattle.row_check.specs.Meaning.{value_at}
 use Rattle.row_check.specs.Meaning.{holds as holds_of_row}
 use Rattle.schema.specs.declared.column.Column.{Column}
 use Rattle.schema.specs.declared.column.ColumnKind.{ColumnKind}
@@ -149,12 +149,14 @@ verdict_after rules past rows node number did [] =
     if limits_hold (visible_rows rules (joined did past)) 0 rules.tables then verdict.Valid else verdict.Void 9 number
 verdict_after rules past rows node number did (op.Insert table values ∷ ops) =
     elim (insert_reason rules (did.inserted ++ rows) (row_inserted node number table values)) [
-      Some reason ↦ verdict.Void reason number
-    | None ↦ verdict_after rules past rows node (number + 1) (record did { inserted = row_inserted node number table values ∷ did.inserted }) ops ]
+      | Some reason ↦ verdict.Void reason number
+      | None ↦ verdict_after rules past rows node (number + 1) (record did { inserted = row_inserted node number table values ∷ did.inserted }) ops
+    ]
 verdict_after rules past rows node number did (op.Delete name ∷ ops) =
     elim (delete_reason rules rows did.deleted node.author name) [
-      Some reason ↦ verdict.Void reason number
-    | None ↦ verdict_after rules past rows node (number + 1) (record did { deleted = name ∷ did.deleted }) ops ]
+      | Some reason ↦ verdict.Void reason number
+      | None ↦ verdict_after rules past rows node (number + 1) (record did { deleted = name ∷ did.deleted }) ops
+    ]
 
 -- the verdict on a node after what its ancestors did
 abbrev pub verdict_on : Rules → Effects → NodeData → Verdict

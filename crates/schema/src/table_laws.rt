@@ -1,0 +1,75 @@
+//! Laws of tables. Each function does nothing: its contract is a theorem for callers to cite. Lists of nodes stand newest
+//! first, and `ask` is whatever native checks mean.
+
+ghost use Rattle.std.specs.Prelude.{◌≡◌, List, [], Contains, reverse, IsTrue};
+ghost use Rattle.std.specs.List.Sorted.{IsPermutation};
+ghost use Rattle.update_model.specs.declared.row_name.RowName.{RowName};
+ghost use Rattle.update_model.specs.Entry.{Entry};
+ghost use Rattle.update_model.specs.Graph.{Follows};
+ghost use Rattle.update_model.specs.Node.{NodeData};
+ghost use Rattle.schema.specs.declared.counterexample.Counterexample.{Counterexample};
+ghost use Rattle.schema.specs.Confluence.{IsConfluent, accepts, confirms};
+ghost use Rattle.schema.specs.Invariants.{Claim, Declared, claim_holds, invariants_of, shown_in};
+ghost use Rattle.schema.specs.Nodes.{Agree, AreNodesOf, IsClosed, IsSameSet, union};
+ghost use Rattle.schema.specs.Sound.{AreTables};
+ghost use Rattle.schema.specs.Verdicts.{effects_in, judged};
+ghost use Rattle.schema.specs.Visible.{Rules, is_visible, shows};
+
+/// A list that is closed in the order of arrival is closed newest first.
+pub fn arrivals_are_closed()
+    ensures { (graph : List Entry) (nodes : List NodeData) → AreNodesOf graph nodes → Follows [] graph → IsClosed (reverse nodes) }
+{}
+
+/// Verdicts are a function of the set of nodes: two closed lists of one set have the same nodes with the same ancestors and
+/// verdicts, in whatever order.
+pub fn verdicts_are_of_the_set()
+    ensures { (rules : Rules) (xs ys : List NodeData) → IsClosed xs → IsClosed ys → IsSameSet xs ys
+        → IsPermutation (judged rules xs) (judged rules ys) }
+{}
+
+/// In a closed list a row is visible exactly where a valid member inserted it, none deletes it, and each row that it names
+/// by CASCADE is visible.
+pub fn visible_is_shown()
+    ensures { (rules : Rules) (nodes : List NodeData) (name : RowName) → IsClosed nodes
+        → is_visible rules (effects_in rules nodes) name ≡ shows rules (effects_in rules nodes) (is_visible rules (effects_in rules nodes)) name }
+{}
+
+/// Which rows are visible is a function of the set of nodes.
+pub fn visible_rows_are_of_the_set()
+    ensures { (rules : Rules) (xs ys : List NodeData) (name : RowName) → IsClosed xs → IsClosed ys → IsSameSet xs ys
+        → is_visible rules (effects_in rules xs) name ≡ is_visible rules (effects_in rules ys) name }
+{}
+
+/// The union of two closed lists is closed.
+pub fn union_is_closed()
+    ensures { (xs ys : List NodeData) → IsClosed xs → IsClosed ys → IsClosed (union xs ys) }
+{}
+
+/// The union of two lists in which equal ids mean equal nodes is one set, whichever comes first.
+pub fn union_is_of_both()
+    ensures { (xs ys : List NodeData) → Agree xs ys → IsSameSet (union xs ys) (union ys xs) }
+{}
+
+/// Whatever holds in the tables is a function of the set of nodes.
+pub fn invariants_are_of_the_set()
+    ensures { (rules : Rules) (xs ys : List NodeData) (claim : Claim) → IsClosed xs → IsClosed ys → IsSameSet xs ys
+        → claim_holds rules (shown_in rules xs) claim ≡ claim_holds rules (shown_in rules ys) claim }
+{}
+
+/// An invariant that the rule accepts holds in the tables of every closed list.
+pub fn accepted_holds()
+    ensures { (rules : Rules) (nodes : List NodeData) (declared : Declared) → AreTables [] rules.tables → IsClosed nodes
+        → Contains (invariants_of rules) declared → IsTrue (accepts rules declared.claim) → IsTrue (claim_holds rules (shown_in rules nodes) declared.claim) }
+{}
+
+/// An invariant that the rule accepts is confluent.
+pub fn accepted_is_confluent()
+    ensures { (rules : Rules) (earlier : List Claim) (declared : Declared) → AreTables [] rules.tables
+        → Contains (invariants_of rules) declared → IsTrue (accepts rules declared.claim) → IsConfluent rules earlier declared.claim }
+{}
+
+/// An invariant with a counterexample that confirms is not confluent.
+pub fn confirmed_refutes()
+    ensures { (rules : Rules) (earlier : List Claim) (claim : Claim) (example : Counterexample)
+        → IsTrue (confirms rules earlier claim example) → IsConfluent rules earlier claim → ⊥ }
+{}
