@@ -231,7 +231,7 @@ module _ (rules : Rules) (sound : IsSound rules) (g : Effects) (f : IsWellFounde
         | inl own ↦ px (suc depth) (subst (λ (n : ℕ). permanent_to rules (suc depth) n ≡ true) (sym (table ∙ eqb-true r.target e.table own)) h)
         | inr far ↦ px depth (subst (λ (n : ℕ). permanent_to rules depth n ≡ true) (sym table) far)
       ] in
-      subst (λ (n : RowName). visible_to rules g (length older) n ≡ true) (row_from_same x.name r.name two.0) seen)
+      subst (λ (n : RowName). visible_to rules g (length older) n ≡ true) {x = x.name} (row_from_same x.name r.name two.0) seen)
       older before there)
       (cascade_refs rules e)
       (all_filtered (λ r. is_cascade r.action) (stands_among older) (refs rules e) it.referred)

@@ -9,6 +9,7 @@ pub mod Permuted
 pub mod Plain
 pub mod SameClaims
 pub mod SameEffects
+pub mod SameTables
 pub mod Soundness
 pub mod Standing
 pub mod Union

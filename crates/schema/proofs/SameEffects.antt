@@ -50,7 +50,7 @@ module _ (rules : Rules) where
   same_shown_value a kind (value.Flag flag) = refl
   same_shown_value a kind (value.Own index) = refl
 
-  same_shown_values : {g h : Effects} → AlikeEffects g h → (cs : List Column) (vs : List Value) → shown_values rules g cs vs ≡ shown_values rules h cs vs
+  pub same_shown_values : {g h : Effects} → AlikeEffects g h → (cs : List Column) (vs : List Value) → shown_values rules g cs vs ≡ shown_values rules h cs vs
   same_shown_values a [] vs = refl
   same_shown_values a (c ∷ cs) [] = refl
   same_shown_values a (c ∷ cs) (v ∷ vs) = ap₂ (λ x xs. x ∷ xs) (same_shown_value a c.kind v) (same_shown_values a cs vs)

@@ -10,5 +10,6 @@ pub mod Rows
 pub mod Schemas
 pub mod Sound
 pub mod Steps
+pub mod Tables
 pub mod Verdicts
 pub mod Visible

@@ -8,10 +8,13 @@ ghost use Rattle.update_model.specs.Entry.{Entry};
 ghost use Rattle.update_model.specs.Graph.{Follows};
 ghost use Rattle.update_model.specs.Node.{NodeData};
 ghost use Rattle.schema.specs.declared.counterexample.Counterexample.{Counterexample};
+ghost use Rattle.schema.specs.declared.shown_row.ShownRow.{ShownRow};
+ghost use Rattle.schema.specs.declared.void_line.VoidLine.{VoidLine};
 ghost use Rattle.schema.specs.Confluence.{IsConfluent, accepts, confirms};
 ghost use Rattle.schema.specs.Invariants.{Claim, Declared, claim_holds, invariants_of, shown_in};
 ghost use Rattle.schema.specs.Nodes.{Agree, AreNodesOf, IsClosed, IsSameSet, union};
 ghost use Rattle.schema.specs.Sound.{AreTables};
+ghost use Rattle.schema.specs.Tables.{AreTablesOf};
 ghost use Rattle.schema.specs.Verdicts.{effects_in, judged};
 ghost use Rattle.schema.specs.Visible.{Rules, is_visible, shows};
 
@@ -38,6 +41,13 @@ pub fn visible_is_shown()
 pub fn visible_rows_are_of_the_set()
     ensures { (rules : Rules) (xs ys : List NodeData) (name : RowName) → IsClosed xs → IsClosed ys → IsSameSet xs ys
         → is_visible rules (effects_in rules xs) name ≡ is_visible rules (effects_in rules ys) name }
+{}
+
+/// Tables, and the lines of updates that do nothing, are a function of the set of nodes.
+pub fn tables_are_of_the_set()
+    ensures { (rules : Rules) (xs ys : List NodeData) (tables others : List (List ShownRow)) (voids lines : List VoidLine)
+        → IsClosed xs → IsClosed ys → IsSameSet xs ys → AreTablesOf rules xs tables voids → AreTablesOf rules ys others lines
+        → (tables ≡ others) × (voids ≡ lines) }
 {}
 
 /// The union of two closed lists is closed.
