@@ -9,7 +9,8 @@ use Rattle.schema.specs.declared.column.ColumnKind.TheVariants as kind
 use Rattle.schema.specs.declared.rules.MatchRule.{MatchRule}
 use Rattle.schema.specs.declared.table_def.TableDef.{TableDef}
 use Rattle.schema.specs.Columns.{target_of, reference_at, is_restrict, are_comparable}
-use Rattle.schema.specs.Sound.{IsSoundKind, IsSoundColumn, table_in, IsSoundMatch, IsSoundCheck, IsTable, AreTables}
+use Rattle.schema.specs.Rows.{FitsSample}
+use Rattle.schema.specs.Sound.{IsSoundKind, IsSoundColumn, table_in, IsSoundMatch, IsSoundCheck, IsSoundUnique, IsTable, AreTables}
 use Rattle.schema.specs.Visible.{Rules, missing_table, table_of}
 
 -- the table with this number
@@ -25,6 +26,8 @@ pub record IsSoundAt (tables : List TableDef) (number : ℕ) (table : TableDef) 
   pub columns : AllByRecursion (IsSoundColumn number) table.columns
   pub checks : AllByRecursion (IsSoundCheck table.columns) table.checks
   pub matches : AllByRecursion (ComparesPlain tables table) table.matches
+  pub uniques : AllByRecursion (IsSoundUnique table.columns) table.uniques
+  pub sample : FitsSample table.columns table.sample
 
 abbrev pub IsSound : Rules → Type 0
 IsSound rules = (number : ℕ) → IsSoundAt rules.tables number (table_of rules number)
@@ -42,7 +45,7 @@ kind_of_target kind.Flag target act e = absurd (cc)
 kind_of_target (kind.Reference t a) target act e = let here : ℕ × Action = (t, a) in let there : ℕ × Action = (target, act) in let p : here ≡ there = cc in λ i. kind.Reference (p i).0 (p i).1
 
 -- references of a sound table are to no later one
-target_below : (number : ℕ) (columns : List Column) → AllByRecursion (IsSoundColumn number) columns → (place target : ℕ) (act : Action)
+pub target_below : (number : ℕ) (columns : List Column) → AllByRecursion (IsSoundColumn number) columns → (place target : ℕ) (act : Action)
     → reference_at columns place ≡ Some (target, act) → target ≤ number
 target_below number [] h place target act e = absurd (cc)
 target_below number (column ∷ columns) h zero target act e =
@@ -74,12 +77,12 @@ match_in before table rest number n sound (rule ∷ rules) h =
     (step (reference_at columns rule.reference) refl h.0, match_in before table rest number n sound rules h.1)
 
 sound_each : (before tables : List TableDef) → AreTables before tables → (place : ℕ) → IsSoundAt (before ++ tables) (length before + place) (table_number tables place)
-sound_each before [] h place = record { columns = tt; checks = tt; matches = tt }
+sound_each before [] h place = record { columns = tt; checks = tt; matches = tt; uniques = tt; sample = tt }
 sound_each before (table ∷ tables) h zero =
     let is : IsTable before table = h.0 in
     let n : length before ≡ length before + 0 = omega arith in
     subst (λ (number : ℕ). IsSoundAt (before ++ table ∷ tables) number table) n
-    (record { columns = is.sound.columns; checks = is.sound.checks; matches = match_in before table tables (length before) refl is.sound.columns table.matches is.sound.matches })
+    (record { columns = is.sound.columns; checks = is.sound.checks; matches = match_in before table tables (length before) refl is.sound.columns table.matches is.sound.matches; uniques = is.sound.uniques; sample = is.sample })
 sound_each before (table ∷ tables) h (suc place) =
     let rest = sound_each (before ++ table ∷ []) tables h.1 place in
     let n : length (before ++ table ∷ []) + place ≡ length before + suc place = (let e = length-append before (table ∷ []) in omega arith) in

@@ -1,6 +1,7 @@
 pub mod Columns
 pub mod Confluence
 pub mod Drafts
+pub mod Examples
 pub mod Faults
 pub mod Forms
 pub mod Invariants
