@@ -26,10 +26,10 @@ from_each P declares number (x ∷ xs) h =
     (from_each P declares (number + 1) xs (λ place y at.
     let there : number + suc place ≡ (number + 1) + place = omega arith in subst (λ (n : ℕ). AllByRecursion P (declares n y)) there (h (suc place) y at)))
 
-abbrev Says : Rules → Declared → Type 0
+abbrev pub Says : Rules → Declared → Type 0
 Says rules d = IsDeclared rules d.claim
 
-found : {X : Type 0} (declares : ℕ → X → List Declared) (P : Declared → Type 0) (xs : List X)
+pub found : {X : Type 0} (declares : ℕ → X → List Declared) (P : Declared → Type 0) (xs : List X)
     → ((place : ℕ) (x : X) → slice_get xs place ≡ Some x → AllByRecursion P (declares place x)) → AllByRecursion P (each_from declares 0 xs)
 found declares P xs h = from_each P declares 0 xs (λ place x at. let n : place ≡ 0 + place = omega arith in subst (λ (k : ℕ). AllByRecursion P (declares k x)) n (h place x at))
 
@@ -60,7 +60,7 @@ table_says rules number =
     checks)
     matches
 
-declared_each : (rules : Rules) → AllByRecursion (Says rules) (invariants_of rules)
+pub declared_each : (rules : Rules) → AllByRecursion (Says rules) (invariants_of rules)
 declared_each rules = found table_declared (Says rules) rules.tables (λ number table at.
     let is : table_of rules number ≡ table = ap (λ (o : Option TableDef). unwrap_or o missing_table) at in
     subst (λ (t : TableDef). AllByRecursion (Says rules) (table_declared number t)) is (table_says rules number))

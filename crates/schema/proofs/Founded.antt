@@ -221,7 +221,7 @@ pub record IsWellFounded (rules : Rules) (g : Effects) : Type 0 where
   pub founded : Founded rules g.inserted
   pub erased : list_all (erasable rules g.inserted) g.deleted ≡ true
 
-all-append : {X : Type 0} (p : X → Bool) (xs ys : List X) → list_all p xs ≡ true → list_all p ys ≡ true → list_all p (xs ++ ys) ≡ true
+pub all-append : {X : Type 0} (p : X → Bool) (xs ys : List X) → list_all p xs ≡ true → list_all p ys ≡ true → list_all p (xs ++ ys) ≡ true
 all-append p [] ys a b = b
 all-append p (x ∷ xs) ys a b = let parts = and_parts (p x) _ a in and_from _ _ parts.0 (all-append p xs ys parts.1 b)
 

@@ -4,6 +4,7 @@ pub mod Arrivals
 pub mod AtMostRefused
 pub mod Confirmed
 pub mod DeclaredClaims
+pub mod FirstRefused
 pub mod Founded
 pub mod Needed
 pub mod Order

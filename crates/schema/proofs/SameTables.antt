@@ -137,11 +137,11 @@ listed_each P v s q f (x ∷ xs) h =
     let r = step (v x) (q (s x)) refl refl h in
     (r.0, listed_each P v s q f xs r.1)
 
-each-left : {X : Type 0} (P : X → Type 0) (xs ys : List X) → AllByRecursion P (xs ++ ys) → AllByRecursion P xs
+pub each-left : {X : Type 0} (P : X → Type 0) (xs ys : List X) → AllByRecursion P (xs ++ ys) → AllByRecursion P xs
 each-left P [] ys h = tt
 each-left P (x ∷ xs) ys h = (h.0, each-left P xs ys h.1)
 
-each-right : {X : Type 0} (P : X → Type 0) (xs ys : List X) → AllByRecursion P (xs ++ ys) → AllByRecursion P ys
+pub each-right : {X : Type 0} (P : X → Type 0) (xs ys : List X) → AllByRecursion P (xs ++ ys) → AllByRecursion P ys
 each-right P [] ys h = h
 each-right P (x ∷ xs) ys h = each-right P xs ys h.1
 

@@ -9,7 +9,7 @@ use Rattle.schema.specs.declared.counterexample.Counterexample.{Counterexample}
 use Rattle.schema.specs.Columns.{target_of}
 use Rattle.schema.specs.Nodes.{holds, IsClosed, Agree, union}
 use Rattle.schema.specs.Visible.{Rules, table_of, is_cascade}
-use Rattle.schema.specs.Invariants.{Claim, Unique, AtMost, Refers, Check, Match, claim_holds, shown_in, satisfies}
+use Rattle.schema.specs.Invariants.{Claim, Declared, Unique, AtMost, Refers, Check, Match, claim_holds, shown_in, satisfies}
 
 -- Whenever two closed lists that agree satisfy the earlier invariants and this one, their union satisfies this one.
 abbrev pub IsConfluent : Rules → List Claim → Claim → Type 0
@@ -53,6 +53,10 @@ accepts rules (AtMost table count) = false
 accepts rules (Refers table column target act) = accepts_reference rules target act
 accepts rules (Check table expr) = true
 accepts rules (Match table rule) = true
+
+-- whether all of these are accepted
+abbrev pub are_accepted : Rules → List Declared → Bool
+are_accepted rules declared = list_all (λ d. accepts rules d.claim) declared
 
 -- whether a list is closed, newest first
 abbrev pub is_closed : List NodeData → Bool

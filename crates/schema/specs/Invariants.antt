@@ -1,5 +1,5 @@
 -- The invariants that a schema declares, and whether they hold in tables.
-use Rattle.std.specs.Prelude.{ℕ, ◌+◌, ◌==◌, Bool, true, not, ◌&&◌, ◌||◌, List, [], ◌∷◌, ◌++◌, Option, Some, None, if◌then◌else◌}
+use Rattle.std.specs.Prelude.{ℕ, ◌+◌, ◌==◌, Bool, true, not, ◌&&◌, ◌||◌, List, [], ◌∷◌, ◌++◌, map, Option, Some, None, if◌then◌else◌}
 use Rattle.std.specs.List.{list_any, list_all}
 use Rattle.update_model.specs.declared.value.Value.{Value}
 use Rattle.update_model.specs.declared.value.Value.TheVariants as value
@@ -77,6 +77,10 @@ table_declared number table =
 -- the invariants of a schema, table by table
 abbrev pub invariants_of : Rules → List Declared
 invariants_of rules = each_from table_declared 0 rules.tables
+
+-- what they say
+abbrev pub claims_of : List Declared → List Claim
+claims_of declared = map (λ d. d.claim) declared
 
 -- whether a reference is null or names a row of the target table among these
 abbrev pub names_shown : List TableRow → ℕ → Value → Bool
