@@ -96,7 +96,7 @@ ref_at q (column ∷ columns) (x ∷ values) zero target act name e v h =
 ref_at q (column ∷ columns) (x ∷ values) (suc c) target act name e v h = ref_at q columns values c target act name e v (all_right q (ref_in column.kind x) (refs_in columns values) h)
 
 -- what a reference column shows
-shown_at : (rules : Rules) (g : Effects) (columns : List Column) (values : List Value) (c target : ℕ) (act : Action) → reference_at columns c ≡ Some (target, act)
+pub shown_at : (rules : Rules) (g : Effects) (columns : List Column) (values : List Value) (c target : ℕ) (act : Action) → reference_at columns c ≡ Some (target, act)
     → value_at (shown_values rules g columns values) c ≡ shown_value rules g (kind.Reference target act) (value_at values c)
 shown_at rules g [] values c target act e = absurd (cc)
 shown_at rules g (column ∷ columns) [] c target act e = refl
@@ -118,7 +118,7 @@ module _ (rules : Rules) (sound : IsSound rules) (g : Effects) (f : IsWellFounde
   each = each_stands rules g.inserted f.founded
 
   -- a row with this name in the target table, where the name is visible, is shown
-  named_shown : (target : ℕ) (name : RowName) → list_any (λ row. same_row row.name name && (row.table == target)) g.inserted ≡ true → is_visible rules g name ≡ true
+  pub named_shown : (target : ℕ) (name : RowName) → list_any (λ row. same_row row.name name && (row.table == target)) g.inserted ≡ true → is_visible rules g name ≡ true
       → names_shown (shown_rows rules g) target (value.Row name) ≡ true
   named_shown target name there v =
       any_shown rules g (λ e. Unit {0}) (λ row. same_row row.name name && (row.table == target)) (λ row. same_row row.name name && (row.table == target))
@@ -126,7 +126,7 @@ module _ (rules : Rules) (sound : IsSound rules) (g : Effects) (f : IsWellFounde
       g.inserted (each-map (Stands rules g.inserted) (λ e. Unit {0}) (λ e s. tt) g.inserted each) there
 
   -- what a reference names, its shown value names among the shown rows
-  refers_holds : (t c target : ℕ) (act : Action) → reference_at (table_of rules t).columns c ≡ Some (target, act)
+  pub refers_holds : (t c target : ℕ) (act : Action) → reference_at (table_of rules t).columns c ≡ Some (target, act)
       → ((e : TableRow) → Stands rules g.inserted e → is_visible rules g e.name ≡ true → (name : RowName) → e.table ≡ t → value_at e.values c ≡ value.Row name
       → names_shown (shown_rows rules g) target (shown_value rules g (kind.Reference target act) (value.Row name)) ≡ true)
       → claim_holds rules (shown_rows rules g) (Refers t c target act) ≡ true
@@ -146,12 +146,12 @@ module _ (rules : Rules) (sound : IsSound rules) (g : Effects) (f : IsWellFounde
       ap (names_shown (shown_rows rules g) target) (shown_at rules g (table_of rules e.table).columns e.values c target act here) ∙ plain (value_at e.values c) refl))
 
   -- the row that a reference names stands in the target table
-  named_stands : (e : TableRow) → Stands rules g.inserted e → (c target : ℕ) (act : Action) (name : RowName)
+  pub named_stands : (e : TableRow) → Stands rules g.inserted e → (c target : ℕ) (act : Action) (name : RowName)
       → reference_at (table_of rules e.table).columns c ≡ Some (target, act) → value_at e.values c ≡ value.Row name
       → list_any (λ row. same_row row.name name && (row.table == target)) g.inserted ≡ true
   named_stands e s c target act name at v = ref_at (stands_among g.inserted) (table_of rules e.table).columns e.values c target act name at v s.referred
 
-  cascade_visible : (e : TableRow) → Stands rules g.inserted e → (c target : ℕ) (name : RowName)
+  pub cascade_visible : (e : TableRow) → Stands rules g.inserted e → (c target : ℕ) (name : RowName)
       → reference_at (table_of rules e.table).columns c ≡ Some (target, action.Cascade) → value_at e.values c ≡ value.Row name
       → is_visible rules g e.name ≡ true → is_visible rules g name ≡ true
   cascade_visible e s c target name at v seen =

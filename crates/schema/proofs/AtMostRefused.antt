@@ -90,7 +90,7 @@ module _ (rules : Rules) (items : List Item) (all : AllPass rules items) (x : It
       (not_from_false _ fails)
 
 -- limits hold where they hold in each table
-limits_each : (rows : List TableRow) (t : ℕ) (tables : List TableDef)
+pub limits_each : (rows : List TableRow) (t : ℕ) (tables : List TableDef)
     → ((u : ℕ) (table : TableDef) → slice_get tables u ≡ Some table → (list_all (λ rule. unique_holds rows (t + u) rule.column) table.uniques ≡ true) × (at_most_holds rows (t + u) table.at_most ≡ true))
     → limits_hold rows t tables ≡ true
 limits_each rows t [] h = refl

@@ -30,7 +30,7 @@ use Rattle.schema.specs.Invariants.{Claim, Unique, AtMost, Refers, Check, Match,
 use Rattle.schema.specs.Confluence.{accepts, are_accepted, breaks, confirms}
 use Rattle.schema.specs.Examples.{after, chain, copies, item_of, base_of, twice_after, unique_example, at_most_example}
 use Rattle.schema.proofs.Founded.{all-append}
-use Rattle.schema.proofs.Plain.{is_plain}
+use Rattle.schema.proofs.Plain.{is_plain, plain_target}
 use Rattle.schema.proofs.Soundness.{IsSound, each_at}
 use Rattle.schema.proofs.Accepted.{IsDeclared}
 use Rattle.schema.proofs.DeclaredClaims.{found, Says, declared_each}
@@ -61,12 +61,6 @@ equals_itself c (value.Flag a) p n h = ap is_eq (tied_itself bool_cmp_total a)
 equals_itself c (value.Row name) p n h = absurd (row_unfit c.kind name p h)
 equals_itself c (value.Own index) p n h = absurd (own_unfit c.kind index p h)
 
-plain_target : (k : ColumnKind) → not (is_reference k) ≡ true → is_some (target_of k) ≡ false
-plain_target (kind.Int lo hi) h = refl
-plain_target (kind.Text lo hi) h = refl
-plain_target kind.Flag h = refl
-plain_target (kind.Reference target act) h = absurd (cc)
-
 sample_fits_at : (cs : List Column) (vs : List Value) → sample_fits cs vs ≡ true → (number : ℕ) (c : Column) → slice_get cs number ≡ Some c → not (is_reference c.kind) ≡ true → fits c (value_at vs number) ≡ true
 sample_fits_at [] vs h number c e p = absurd (cc)
 sample_fits_at (k ∷ cs) [] h number c e p = absurd (cc)
@@ -83,7 +77,7 @@ plain_at (k ∷ cs) (suc number) c e p = plain_at cs number c e p
 
 -- ---- what is known of an invariant where all before it are accepted
 
-abbrev IsBare : Rules → ℕ → Type 0
+abbrev pub IsBare : Rules → ℕ → Type 0
 IsBare rules table = ((table_of rules table).uniques ≡ []) × ((table_of rules table).at_most ≡ 0)
 
 abbrev pub IsReady : Rules → Claim → Type 0

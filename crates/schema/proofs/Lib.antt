@@ -6,6 +6,7 @@ pub mod Confirmed
 pub mod DeclaredClaims
 pub mod FirstRefused
 pub mod Founded
+pub mod Naming
 pub mod Needed
 pub mod Order
 pub mod Permuted
@@ -20,3 +21,5 @@ pub mod Soundness
 pub mod Standing
 pub mod Union
 pub mod UniqueRefused
+pub mod VanishPath
+pub mod Vanishing

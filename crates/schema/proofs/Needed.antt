@@ -17,7 +17,7 @@ use Rattle.schema.specs.declared.rules.CheckRule.{CheckRule}
 use Rattle.schema.specs.declared.rules.MatchRule.{MatchRule}
 use Rattle.schema.specs.declared.rules.UniqueRule.{UniqueRule}
 use Rattle.schema.specs.declared.table_def.TableDef.{TableDef}
-use Rattle.schema.specs.Columns.{is_reference, target_of}
+use Rattle.schema.specs.Columns.{is_reference, target_of, is_restrict}
 use Rattle.schema.specs.Sound.{IsSoundCheck}
 use Rattle.schema.specs.Visible.{Rules, TableRow, RowRef, same_row, table_of, ref_to, ref_in, refs_in}
 use Rattle.schema.specs.Verdicts.{fits_kind, fits, all_fit, checks_hold, named, stands_among, matches_among, matches_hold, first_reason, in_table, unique_holds, at_most_holds, limits_hold}
@@ -50,7 +50,7 @@ sample_fits [] (v ∷ vs) = false
 sample_fits (c ∷ cs) [] = false
 sample_fits (c ∷ cs) (v ∷ vs) = (is_some (target_of c.kind) || fits c v) && sample_fits cs vs
 
-filled_named_at : (id : UpdateId) (items : List Item) (c : Column) (o : Option (ℕ × Action)) → target_of c.kind ≡ o → (v : Value) → (is_some o || fits c v) ≡ true
+pub filled_named_at : (id : UpdateId) (items : List Item) (c : Column) (o : Option (ℕ × Action)) → target_of c.kind ≡ o → (v : Value) → (is_some o || fits c v) ≡ true
     → named id (fill items c.null o v) ≡ fill items c.null o v
 filled_named_at id items c None t v h = fits_named id c v t h
 filled_named_at id items c (Some r) t v h =
@@ -63,10 +63,10 @@ filled_named id items (c ∷ cs) (v ∷ vs) h =
     let parts = and_parts (is_some (target_of c.kind) || fits c v) _ h in
     ap₂ (λ x xs. x ∷ xs) (filled_named_at id items c (target_of c.kind) refl v parts.0) (filled_named id items cs vs parts.1)
 
-name_fits : (k : ColumnKind) (r : ℕ × Action) (name : RowName) → target_of k ≡ Some r → fits_kind k (value.Row name) ≡ true
+pub name_fits : (k : ColumnKind) (r : ℕ × Action) (name : RowName) → target_of k ≡ Some r → fits_kind k (value.Row name) ≡ true
 name_fits k r name t = ap (λ (x : ColumnKind). fits_kind x (value.Row name)) (kind_of_target k r.0 r.1 t)
 
-fill_fits : (items : List Item) (c : Column) (o : Option (ℕ × Action)) → target_of c.kind ≡ o → (v : Value) → (is_some o || fits c v) ≡ true → fits c (fill items c.null o v) ≡ true
+pub fill_fits : (items : List Item) (c : Column) (o : Option (ℕ × Action)) → target_of c.kind ≡ o → (v : Value) → (is_some o || fits c v) ≡ true → fits c (fill items c.null o v) ≡ true
 fill_fits items c None t v h = h
 fill_fits items c (Some r) t v h =
     let step : (b : Bool) → c.null ≡ b → fits c (cond b value.Null (value.Row (name_in items r.0))) ≡ true =
@@ -81,7 +81,7 @@ filled_fits items (c ∷ cs) (v ∷ vs) h =
     let parts = and_parts (is_some (target_of c.kind) || fits c v) _ h in
     and_from _ _ (fill_fits items c (target_of c.kind) refl v parts.0) (filled_fits items cs vs parts.1)
 
-fill_plain : (items : List Item) (null : Bool) (k : ColumnKind) (v : Value) → not (is_reference k) ≡ true → fill items null (target_of k) v ≡ v
+pub fill_plain : (items : List Item) (null : Bool) (k : ColumnKind) (v : Value) → not (is_reference k) ≡ true → fill items null (target_of k) v ≡ v
 fill_plain items null (kind.Int lo hi) v h = refl
 fill_plain items null (kind.Text lo hi) v h = refl
 fill_plain items null kind.Flag v h = refl
@@ -105,7 +105,7 @@ name_stands (i ∷ items) t h =
     ] in
     step (i.table == t) refl h
 
-no_ref : (k : ColumnKind) (v : Value) → target_of k ≡ None → ref_in k v ≡ []
+pub no_ref : (k : ColumnKind) (v : Value) → target_of k ≡ None → ref_in k v ≡ []
 no_ref k value.Null t = refl
 no_ref k (value.Int n) t = refl
 no_ref k (value.Text bytes) t = refl
@@ -176,7 +176,9 @@ pub record IsMatched (rules : Rules) (t : ℕ) (m : MatchRule) : Type 0 where
   pub to : target_of column.kind ≡ Some target
   pub far : is_plain (table_of rules target.0).columns m.target_column ≡ true
   pub known : nat_le (length rules.tables) target.0 ≡ false
-  pub passes : column.null ≡ false → compares m.cmp (value_at (table_of rules t).sample m.column) (value_at (table_of rules target.0).sample m.target_column) ≡ true
+  pub loose : not (is_restrict target.1) ≡ true
+  pub apart : column.null ≡ false → (target.0 == t) ≡ false
+  pub passes : (target.0 == t) ≡ false → compares m.cmp (value_at (table_of rules t).sample m.column) (value_at (table_of rules target.0).sample m.target_column) ≡ true
 
 -- what the reading of the samples makes sure of
 pub record IsSampled (rules : Rules) (t : ℕ) : Type 0 where
@@ -221,7 +223,7 @@ module _ (rules : Rules) (samples : AreSampled rules) where
       step (i.table == t) refl
 
   -- what holds of each needed row of a table holds of the one that has the name
-  named_has : (items : List Item) (u : ℕ) (q : TableRow → Bool) → Made items → has_table items u ≡ true → ((older : List Item) (id : ℕ) → q (row_of id (item_of rules older u)) ≡ true)
+  pub named_has : (items : List Item) (u : ℕ) (q : TableRow → Bool) → Made items → has_table items u ≡ true → ((older : List Item) (id : ℕ) → q (row_of id (item_of rules older u)) ≡ true)
       → list_any (λ row. same_row row.name (name_in items u) && q row) (rows_of items) ≡ true
   named_has [] u q m h all = absurd (cc)
   named_has (i ∷ items) u q m h all =
@@ -251,7 +253,7 @@ module _ (rules : Rules) (samples : AreSampled rules) where
       subst (λ (x : Column). list_all (has_table items) (needed_by x.null (target_of x.kind)) ≡ true) same (all_parts (has_table items) (needed_by k.null (target_of k.kind)) (needed_tables cs) n).0
   target_made items (k ∷ cs) (suc c) col h n = target_made items cs c col h (all_parts (has_table items) (needed_by k.null (target_of k.kind)) (needed_tables cs) n).1
 
-  match_filled : (items : List Item) (t : ℕ) (m : MatchRule) (values : List Value) (v : Value) → Made items → (is : IsMatched rules t m) → value_at values m.column ≡ value_at (table_of rules t).sample m.column
+  pub match_filled : (items : List Item) (t : ℕ) (m : MatchRule) (values : List Value) (v : Value) → Made items → (is : IsMatched rules t m) → value_at values m.column ≡ value_at (table_of rules t).sample m.column
       → (null : Bool) → is.column.null ≡ null → list_all (has_table items) (needed_by null (Some is.target)) ≡ true → matches_among (rows_of items) values m (fill items null (Some is.target) v) ≡ true
   match_filled items t m values v made is own true e n = refl
   match_filled items t m values v made is own false e n =
@@ -262,9 +264,9 @@ module _ (rules : Rules) (samples : AreSampled rules) where
       ap₂ (compares m.cmp) own
       (ap (λ (l : List Value). value_at l m.target_column) (filled_named (numbered id) older (table_of rules u).columns (table_of rules u).sample fit)
       ∙ filled_plain older (table_of rules u).columns (table_of rules u).sample m.target_column is.far)
-      ∙ is.passes e)
+      ∙ is.passes (is.apart e))
 
-  all_checked : (items : List Item) (cols : List Column) (vs : List Value) (xs : List CheckRule) → AllByRecursion (IsSoundCheck cols) xs → checks_hold rules.ask vs xs ≡ true → checks_hold rules.ask (filled items cols vs) xs ≡ true
+  pub all_checked : (items : List Item) (cols : List Column) (vs : List Value) (xs : List CheckRule) → AllByRecursion (IsSoundCheck cols) xs → checks_hold rules.ask vs xs ≡ true → checks_hold rules.ask (filled items cols vs) xs ≡ true
   all_checked items cols vs [] p h = refl
   all_checked items cols vs (x ∷ xs) p h =
       let b = and_parts (holds rules.ask vs x.expr) _ h in
@@ -323,10 +325,10 @@ module _ (rules : Rules) (samples : AreSampled rules) where
     pub keeps : (u : ℕ) → has_table items u ≡ true → has_table new u ≡ true
     pub above : (u : ℕ) → bound ≤ u → has_table new u ≡ has_table items u
 
-  known_lower : (t u : ℕ) → nat_le (length rules.tables) t ≡ false → nat_lt u t ≡ true → nat_le (length rules.tables) u ≡ false
+  pub known_lower : (t u : ℕ) → nat_le (length rules.tables) t ≡ false → nat_lt u t ≡ true → nat_le (length rules.tables) u ≡ false
   known_lower t u h l = lt-leb (length rules.tables) u (omega (arith, leb-false (length rules.tables) t h, ltb-true u t l))
 
-  all_made : (f : List Item → ℕ → List Item) (t : ℕ) → nat_le (length rules.tables) t ≡ false
+  pub all_made : (f : List Item → ℕ → List Item) (t : ℕ) → nat_le (length rules.tables) t ≡ false
       → ((items : List Item) (u : ℕ) → Made items → nat_le (length rules.tables) u ≡ false → u < t → Grows items (f items u) (suc u) × (has_table (f items u) u ≡ true))
       → (ts : List ℕ) (items : List Item) → Made items → list_all (λ u. nat_lt u t) ts ≡ true → Grows items (for_each f ts items) t × (list_all (has_table (for_each f ts items)) ts ≡ true)
   all_made f t known step [] items m l = (record { made = m; keeps = λ u h. h; above = λ u h. refl }, refl)

@@ -1,5 +1,5 @@
 -- Columns that are no references show what was inserted, and expressions read no others.
-use Rattle.std.proofs.Common.{◌≡◌, ℕ, zero, suc, Bool, true, false, not, ◌&&◌, ◌||◌, List, [], ◌∷◌, map, refl, ap, ap₂, subst, Option, Some, None, slice_get, All}
+use Rattle.std.proofs.Common.{is_some, ◌≡◌, ℕ, zero, suc, Bool, true, false, not, ◌&&◌, ◌||◌, List, [], ◌∷◌, map, refl, ap, ap₂, subst, Option, Some, None, slice_get, All}
 use Rattle.std.specs.Prelude.{IsSome}
 use Rattle.std.proofs.lemmas.List.Elements.{All-head, All-tail}
 use Rattle.update_model.specs.declared.value.Value.{Value}
@@ -16,7 +16,7 @@ use Rattle.expression_text.specs.Trees.{tree_of}
 use Rattle.schema.specs.declared.column.Column.{Column}
 use Rattle.schema.specs.declared.column.ColumnKind.{ColumnKind}
 use Rattle.schema.specs.declared.column.ColumnKind.TheVariants as kind
-use Rattle.schema.specs.Columns.{is_reference, kind_seen, kinds_of, is_comparable, are_comparable}
+use Rattle.schema.specs.Columns.{target_of, is_reference, kind_seen, kinds_of, is_comparable, are_comparable}
 use Rattle.schema.specs.Visible.{Rules, Effects, shown_value, shown_values}
 
 -- whether there is a column with this number, and it is no reference
@@ -123,3 +123,9 @@ module _ (columns : List Column) (a b : List Value) (same : (number : ℕ) → i
       ap₂ (compares cmp) (same_term left h.0) (same_term right (subst (λ (o : Option Kind). IsSome o) h.1 h.0))
   same_holds ask (IsNull number) h = ap is_null (same_kind number h)
   same_holds ask (Native number numbers) h = ap (ask number) (same_columns numbers h)
+
+pub plain_target : (k : ColumnKind) → not (is_reference k) ≡ true → is_some (target_of k) ≡ false
+plain_target (kind.Int lo hi) h = refl
+plain_target (kind.Text lo hi) h = refl
+plain_target kind.Flag h = refl
+plain_target (kind.Reference target act) h = absurd (cc)

@@ -9,7 +9,7 @@ use Rattle.update_model.specs.Graph.{has}
 use Rattle.update_model.proofs.Ids.{id_from_same, same_id-refl}
 use Rattle.schema.specs.declared.verdict.Verdict.TheVariants as verdict
 use Rattle.schema.specs.Nodes.{holds, IsClosed}
-use Rattle.schema.specs.Visible.{Rules, TableRow, Effects, same_row, refs, is_cascade, cascade_refs, visible_to, is_visible, visible_rows, shows}
+use Rattle.schema.specs.Visible.{Rules, TableRow, Effects, same_row, refs, is_cascade, cascade_refs, visible_to, is_visible, visible_rows, shows, is_deleted}
 use Rattle.schema.specs.Verdicts.{is_valid, verdict_on, effects, effects_of, ancestor_of, judge_next, judged, stands_among, row_inserted, joined, limits_hold, insert_reason}
 use Rattle.schema.specs.Examples.{Item, numbered, row_numbered, last_of, after, chain}
 use Rattle.schema.proofs.Founded.{IsFounded, Founded, IsWellFounded, founded_closed, founded_insert}
@@ -63,42 +63,50 @@ all_before rules (x ∷ items) id item =
       each-map _ _ (λ j h. or_right (has (numbered top ∷ []) j.node.id) _ (or_left _ _ (and_from _ _ named h))) (judged rules (chain items)) (all_before rules items top x),
     )
 
-filter_all : {X : Type 0} (p : X → Bool) (xs : List X) → AllByRecursion (λ x. p x ≡ true) xs → filter p xs ≡ xs
+pub filter_all : {X : Type 0} (p : X → Bool) (xs : List X) → AllByRecursion (λ x. p x ≡ true) xs → filter p xs ≡ xs
 filter_all p [] h = refl
 filter_all p (x ∷ xs) h = (λ i. cond (h.0 i) (x ∷ filter p xs) (filter p xs)) ∙ ap (λ l. x ∷ l) (filter_all p xs h.1)
 
--- where nothing is deleted, each row is visible
-module _ (rules : Rules) (g : Effects) (f : IsWellFounded rules g) (none : g.deleted ≡ []) where
-  stay_each : (rows : List TableRow) → Founded rules rows → AllByRecursion (Stands rules g.inserted) rows
+-- where none of these older rows is deleted, each of them is visible
+module _ (rules : Rules) (g : Effects) where
+  pub stay_each : (rows : List TableRow) → Founded rules rows → AllByRecursion (Stands rules g.inserted) rows → AllByRecursion (λ e. is_deleted g e.name ≡ false) rows
       → AllByRecursion (λ e. (more : ℕ) → visible_to rules g (more + length rows) e.name ≡ true) rows
-  stay_each [] fs s = tt
-  stay_each (e ∷ older) fs s =
+  stay_each [] fs s n = tt
+  stay_each (e ∷ older) fs s n =
       let it : IsFounded rules older e = fs.0 in
       let st : Stands rules g.inserted e = s.0 in
-      let before = stay_each older fs.1 s.1 in
+      let before = stay_each older fs.1 s.1 n.1 in
+      let named = all_filtered (λ r. is_cascade r.action) (stands_among older) (refs rules e) it.referred in
       let stays : (more : ℕ) → shows rules g (visible_to rules g (more + length older)) e.name ≡ true =
-      λ more. and_from _ _
-      (st.here (λ row. same_row row.name e.name && list_all (λ r. visible_to rules g (more + length older) r.name) (cascade_refs rules row))
-      (and_from _ _ (same_row-refl e.name)
-      (all_both (stands_among older) (stands_among older) (λ r. visible_to rules g (more + length older) r.name)
-      (λ r there again. any_each (λ x. (n : ℕ) → visible_to rules g (n + length older) x.name ≡ true) (λ x. same_row x.name r.name && (x.table == r.target)) _
-      (λ x px hx. subst (λ (n : RowName). visible_to rules g (more + length older) n ≡ true) (row_from_same x.name r.name (and_parts (same_row x.name r.name) _ hx).0) (px more))
-      older before there)
-      (cascade_refs rules e) (all_filtered (λ r. is_cascade r.action) (stands_among older) (refs rules e) it.referred) (all_filtered (λ r. is_cascade r.action) (stands_among older) (refs rules e) it.referred))))
-      (ap (λ l. not (list_any (same_row e.name) l)) none) in
-      let deep : (more : ℕ) → more + suc (length older) ≡ suc (more + length older) = λ more. omega arith in (
-        λ more. subst (λ (n : ℕ). visible_to rules g n e.name ≡ true) (sym (deep more)) (stays more),
-        each-map _ _ (λ x p more. subst (λ (n : ℕ). visible_to rules g n x.name ≡ true) (let e : suc more + length older ≡ more + suc (length older) = omega arith in e) (p (suc more))) older before,
-      )
+        λ more. and_from _ _
+          (st.here (λ row. same_row row.name e.name && list_all (λ r. visible_to rules g (more + length older) r.name) (cascade_refs rules row))
+            (and_from _ _ (same_row-refl e.name)
+              (all_both (stands_among older) (stands_among older) (λ r. visible_to rules g (more + length older) r.name)
+                (λ r there again. any_each (λ x. (m : ℕ) → visible_to rules g (m + length older) x.name ≡ true) (λ x. same_row x.name r.name && (x.table == r.target)) _
+                  (λ x px hx. subst (λ (m : RowName). visible_to rules g (more + length older) m ≡ true) (row_from_same x.name r.name (and_parts (same_row x.name r.name) _ hx).0) (px more))
+                  older before there)
+                (cascade_refs rules e) named named)))
+          (ap not n.0) in
+      let deep : (more : ℕ) → more + suc (length older) ≡ suc (more + length older) = λ more. omega arith in
+      (λ more. subst (λ (m : ℕ). visible_to rules g m e.name ≡ true) (sym (deep more)) (stays more),
+        each-map _ _ (λ x p more. subst (λ (m : ℕ). visible_to rules g m x.name ≡ true) (let e : suc more + length older ≡ more + suc (length older) = omega arith in e) (p (suc more))) older before)
+
+kept_each : (g : Effects) → g.deleted ≡ [] → (rows : List TableRow) → AllByRecursion (λ e. is_deleted g e.name ≡ false) rows
+kept_each g none [] = tt
+kept_each g none (e ∷ rows) = (ap (λ l. list_any (same_row e.name) l) none, kept_each g none rows)
+
+-- where nothing is deleted, each row is visible
+module _ (rules : Rules) (g : Effects) (f : IsWellFounded rules g) (none : g.deleted ≡ []) where
+  pub each_visible : AllByRecursion (λ row. is_visible rules g row.name ≡ true) g.inserted
+  each_visible =
+      each-map _ _ (λ e p. subst (λ (n : ℕ). visible_to rules g n e.name ≡ true) (let z : 0 + length g.inserted ≡ length g.inserted = omega arith in z) (p 0)) g.inserted
+      (stay_each rules g g.inserted f.founded (each_stands rules g.inserted f.founded) (kept_each g none g.inserted))
 
   pub all_visible : visible_rows rules g ≡ g.inserted
-  all_visible =
-      filter_all (λ row. is_visible rules g row.name) g.inserted
-      (each-map _ _ (λ e p. subst (λ (n : ℕ). visible_to rules g n e.name ≡ true) (let z : 0 + length g.inserted ≡ length g.inserted = omega arith in z) (p 0)) g.inserted
-      (stay_each g.inserted f.founded (each_stands rules g.inserted f.founded)))
+  all_visible = filter_all (λ row. is_visible rules g row.name) g.inserted each_visible
 
 -- the rows of a chain have the names of its updates
-rows_below : (items : List Item) (id : ℕ) → length items < id → list_any (λ e. same_row e.name (row_numbered id)) (rows_of items) ≡ false
+pub rows_below : (items : List Item) (id : ℕ) → length items < id → list_any (λ e. same_row e.name (row_numbered id)) (rows_of items) ≡ false
 rows_below [] id h = refl
 rows_below (item ∷ items) id h =
     or_from _ _ (and_left (same_id (numbered (suc (length items))) (numbered id)) (0 == 0) (apart (suc (length items)) id (λ e. omega arith))) (rows_below items id (omega arith))

@@ -78,12 +78,12 @@ sample_fits_from (c ∷ cs) [] h = absurd h
 sample_fits_from (c ∷ cs) (v ∷ vs) h = and_from _ _ (sample_at c v h.0) (sample_fits_from cs vs h.1)
 
 -- a reference that may not be null is to an earlier table
-lower_at : (number : ℕ) (c : Column) → IsSoundColumn number c → (r : ℕ × Action) → target_of c.kind ≡ Some r → c.null ≡ false → nat_lt r.0 number ≡ true
+pub lower_at : (number : ℕ) (c : Column) → IsSoundColumn number c → (r : ℕ × Action) → target_of c.kind ≡ Some r → c.null ≡ false → nat_lt r.0 number ≡ true
 lower_at number c sound r t null =
     let s = subst (λ (k : ColumnKind). IsSoundKind number c.null k) (kind_of_target c.kind r.0 r.1 t) sound in
     ap (λ b. b || nat_lt r.0 number) (sym null) ∙ s.1
 
-append_all : (q : ℕ → Bool) (xs ys : List ℕ) → list_all q xs ≡ true → list_all q ys ≡ true → list_all q (xs ++ ys) ≡ true
+pub append_all : (q : ℕ → Bool) (xs ys : List ℕ) → list_all q xs ≡ true → list_all q ys ≡ true → list_all q (xs ++ ys) ≡ true
 append_all q [] ys a b = b
 append_all q (x ∷ xs) ys a b = let parts = and_parts (q x) _ a in and_from _ _ parts.0 (append_all q xs ys parts.1 b)
 
@@ -98,7 +98,7 @@ lower_needed number (c ∷ cs) h =
     append_all (λ u. nat_lt u number) (needed_by c.null (target_of c.kind)) (needed_tables cs) (step (target_of c.kind) refl c.null refl) (lower_needed number cs h.1)
 
 -- the column of a reference
-column_at : (cs : List Column) (place : ℕ) (r : ℕ × Action) → reference_at cs place ≡ Some r → (c : Column) × ((slice_get cs place ≡ Some c) × (target_of c.kind ≡ Some r))
+pub column_at : (cs : List Column) (place : ℕ) (r : ℕ × Action) → reference_at cs place ≡ Some r → (c : Column) × ((slice_get cs place ≡ Some c) × (target_of c.kind ≡ Some r))
 column_at cs place r e =
     let step : (o : Option Column) → slice_get cs place ≡ o → option_and_then (λ column. target_of column.kind) o ≡ Some r → (c : Column) × ((slice_get cs place ≡ Some c) × (target_of c.kind ≡ Some r)) =
     elim [ None ↦ λ f g. absurd (cc) | Some c ↦ λ f g. (c, (f, g)) ] in
@@ -130,9 +130,11 @@ module _ (rules : Rules) (sound : IsSound rules) (pass : SamplesPass rules) (t :
               to = c.1.1;
               far = compared_right (table_of rules r.0).columns m.target_column (slice_get columns m.column) h.1;
               known = known_below r.0 below;
-              passes = λ null.
+              loose = h.0;
+              apart = λ null.
                   let lower : r.0 < t = ltb-true r.0 t (lower_at t c.0 (each_at (IsSoundColumn t) columns m.reference c.0 (sound t).columns c.1.0) r c.1.1 null) in
-                  ap (λ b. b || compares m.cmp (value_at (table_of rules t).sample m.column) (value_at (table_of rules r.0).sample m.target_column)) (sym (ne_eqb r.0 t (λ same. omega arith))) ∙ q;
+                  ne_eqb r.0 t (λ same. omega arith);
+              passes = λ apart. ap (λ b. b || compares m.cmp (value_at (table_of rules t).sample m.column) (value_at (table_of rules r.0).sample m.target_column)) (sym apart) ∙ q;
             }
       ] in
       (step (reference_at columns m.reference) refl s.0 parts.0, matched_each ms s.1 parts.1)

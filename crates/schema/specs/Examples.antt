@@ -1,5 +1,5 @@
 -- The counterexamples that are given for invariants that are refused.
-use Rattle.std.specs.Prelude.{ℕ, ◌+◌, ◌-◌, zero, suc, ◌==◌, Bool, false, ◌||◌, List, [], ◌∷◌, ◌++◌, length, reverse, replicate, set, Option, Some, None, if◌then◌else◌, IsTrue}
+use Rattle.std.specs.Prelude.{ℕ, ◌+◌, ◌-◌, zero, suc, ◌==◌, Bool, false, ◌||◌, List, [], ◌∷◌, ◌++◌, length, reverse, replicate, Option, Some, None, if◌then◌else◌, IsTrue}
 use Rattle.std.specs.List.{list_any, list_all, flat_map}
 use Rattle.update_model.specs.declared.author_key.AuthorKey.{AuthorKey}
 use Rattle.update_model.specs.declared.op.Op.{Op}
@@ -147,15 +147,17 @@ abbrev pub next_step : Rules → ℕ → ℕ → List Column → Option (ℕ × 
 next_step rules table number [] = None
 next_step rules table number (column ∷ columns) = step_by rules table number (target_of column.kind) (next_step rules table (number + 1) columns)
 
+-- a row of the path and what follows it, where there is a step to take
+abbrev pub path_by : ℕ → (ℕ → List Step) → Option (ℕ × ℕ) → List Step
+path_by table on None = []
+path_by table on (Some step) = record { table = table; column = Some step.0 } ∷ on step.1
+
 -- the path from a table to one that is DELETABLE, followed this deep
 abbrev pub path_from : Rules → ℕ → ℕ → List Step
 path_from rules zero table = []
 path_from rules (suc depth) table =
     if (table_of rules table).deletable then record { table = table; column = None } ∷ []
-    else elim (next_step rules table 0 (table_of rules table).columns) [
-      | None ↦ []
-      | Some step ↦ record { table = table; column = Some step.0 } ∷ path_from rules depth step.1
-    ]
+    else path_by table (path_from rules depth) (next_step rules table 0 (table_of rules table).columns)
 
 abbrev pub is_skipped : Option ℕ → ℕ → Bool
 is_skipped None number = false
@@ -167,16 +169,23 @@ needed_but skip number [] = []
 needed_but skip number (column ∷ columns) =
     (if is_skipped skip number then [] else needed_by column.null (target_of column.kind)) ++ needed_but skip (number + 1) columns
 
--- a row with one column set to the name of the row that the update with this number inserts
-abbrev pub with_name : Item → Option ℕ → ℕ → Item
-with_name item None number = item
-with_name item (Some column) number = record item { values = set item.values column (value.Row (row_numbered number)) }
+-- What a row has in columns that number from here: what a needed row has, but for one of them, which has this name.
+abbrev pub filled_but : List Item → Option ℕ → RowName → ℕ → List Column → List Value → List Value
+filled_but items skip name number [] values = []
+filled_but items skip name number (column ∷ columns) [] = []
+filled_but items skip name number (column ∷ columns) (v ∷ values) =
+    (if is_skipped skip number then value.Row name else fill items column.null (target_of column.kind) v) ∷ filled_but items skip name (number + 1) columns values
+
+-- a row of a table that names in one column, if any, the row that the update with this number inserts
+abbrev pub item_naming : Rules → List Item → ℕ → Option ℕ → ℕ → Item
+item_naming rules items table column number =
+    record { table = table; values = filled_but items column (row_numbered number) 0 (table_of rules table).columns (table_of rules table).sample }
 
 -- the rows of the path in front of the shared ones, the path's end made first
 abbrev pub path_items : Rules → List Item → List Step → List Item
 path_items rules shared [] = shared
 path_items rules shared (step ∷ steps) =
-    with_name (item_of rules shared step.table) step.column (length (path_items rules shared steps)) ∷ path_items rules shared steps
+    item_naming rules shared step.table step.column (length (path_items rules shared steps)) ∷ path_items rules shared steps
 
 -- the shared rows: what the path's rows need, from its end, and then what the row that names the path needs
 abbrev pub shared_of : Rules → List Step → ℕ → ℕ → List Item
@@ -191,7 +200,7 @@ restrict_example rules table column target =
     let steps = path_from rules (suc target) target in
     let shared = shared_of rules steps table column in
     let items = path_items rules shared steps in
-    split_after items (after (length items) (suc (length items)) (with_name (item_of rules shared table) (Some column) (length items)))
+    split_after items (after (length items) (suc (length items)) (item_naming rules shared table (Some column) (length items)))
     (one_after (length items) (suc (suc (length items))) (op.Delete (row_numbered (suc (length shared)))))
 
 -- the counterexample of an invariant that is refused
