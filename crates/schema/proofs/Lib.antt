@@ -12,6 +12,8 @@ pub mod Order
 pub mod Permuted
 pub mod Plain
 pub mod Plans
+pub mod Refused
+pub mod RestrictRefused
 pub mod SameClaims
 pub mod SameEffects
 pub mod SameTables

@@ -1,5 +1,5 @@
 -- A row that names another one passes its tests.
-use Rattle.std.proofs.Common.{◌≡◌, ℕ, ◌+◌, ◌==◌, ◌<◌, ◌≤◌, zero, suc, Bool, true, false, cond, not, ◌&&◌, ◌||◌, List, [], ◌∷◌, ◌++◌, length, map, refl, sym, ap, ap₂, ◌∙◌, subst, Option, Some, None, is_some, arith, nat_le, nat_lt, slice_get}
+use Rattle.std.proofs.Common.{◌≡◌, ℕ, ◌+◌, ◌==◌, ◌<◌, zero, suc, Bool, true, false, cond, not, ◌&&◌, ◌||◌, List, [], ◌∷◌, length, map, refl, sym, ap, ap₂, ◌∙◌, subst, Option, Some, None, is_some, arith, nat_le, nat_lt, slice_get}
 use Rattle.std.specs.List.{list_any, list_all, AllByRecursion}
 use Rattle.std.proofs.lemmas.Bool.{and_parts, and_from, both_ways, eq-eqb, ne_eqb}
 use Rattle.update_model.specs.declared.row_name.RowName.{RowName}
@@ -12,15 +12,15 @@ use Rattle.schema.specs.declared.action.Action.{Action}
 use Rattle.schema.specs.declared.column.Column.{Column}
 use Rattle.schema.specs.declared.rules.CheckRule.{CheckRule}
 use Rattle.schema.specs.declared.rules.MatchRule.{MatchRule}
-use Rattle.schema.specs.Columns.{is_reference, target_of, reference_at, is_restrict}
+use Rattle.schema.specs.Columns.{target_of, reference_at, is_restrict}
 use Rattle.schema.specs.Sound.{IsSoundCheck, IsSoundColumn}
 use Rattle.schema.specs.Visible.{Rules, TableRow, RowRef, same_row, table_of, ref_to, ref_in, refs_in}
 use Rattle.schema.specs.Verdicts.{fits, all_fit, checks_hold, named, stands_among, matches_among, matches_hold, first_reason, insert_reason}
-use Rattle.schema.specs.Examples.{Item, numbered, row_numbered, has_table, name_in, fill, needed_by, needed_tables, is_skipped, needed_but, filled_but, item_naming}
+use Rattle.schema.specs.Examples.{Item, numbered, row_numbered, has_table, name_in, fill, needed_by, is_skipped, needed_but, filled_but, item_naming}
 use Rattle.schema.proofs.Founded.{Sub, match_more, all-append}
 use Rattle.schema.proofs.Plain.{is_plain, plain_target, same_holds}
 use Rattle.schema.proofs.Plans.{row_of, rows_of}
-use Rattle.schema.proofs.Needed.{sample_fits, filled_named_at, name_fits, fill_fits, fill_plain, no_ref, all_parts, name_stands, IsMatched, IsSampled, AreSampled, Made, match_filled}
+use Rattle.schema.proofs.Needed.{sample_fits, filled_named_at, name_fits, fill_fits, fill_plain, no_ref, all_parts, name_stands, IsMatched, AreSampled, Made, match_filled}
 use Rattle.schema.proofs.Sampled.{lower_at, append_all}
 
 -- Where a column is skipped, it is this reference.
@@ -39,9 +39,10 @@ naming_past r k number l (c ∷ cs) = ((λ e. absurd (both_ways _ (ne_eqb number
 pub naming_some : (r : ℕ × Action) (number place : ℕ) (cs : List Column) → reference_at cs place ≡ Some r → IsNaming r (Some (number + place)) number cs
 naming_some r number place [] e = absurd (cc)
 naming_some r number zero (c ∷ cs) e = ((λ h. e), naming_past r (number + 0) (number + 1) (omega arith) cs)
-naming_some r number (suc place) (c ∷ cs) e =
-    ((λ h. absurd (both_ways _ (ne_eqb number (number + suc place) (λ same. omega arith)) h)),
-      subst (λ (k : ℕ). IsNaming r (Some k) (number + 1) cs) (let m : (number + 1) + place ≡ number + suc place = omega arith in m) (naming_some r (number + 1) place cs e))
+naming_some r number (suc place) (c ∷ cs) e = (
+  (λ h. absurd (both_ways _ (ne_eqb number (number + suc place) (λ same. omega arith)) h)),
+  subst (λ (k : ℕ). IsNaming r (Some k) (number + 1) cs) (let m : (number + 1) + place ≡ number + suc place = omega arith in m) (naming_some r (number + 1) place cs e),
+)
 
 module _ (items : List Item) (skip : Option ℕ) (name : RowName) (r : ℕ × Action) where
   pub but_named : (id : UpdateId) (number : ℕ) (cs : List Column) (vs : List Value) → sample_fits cs vs ≡ true → map (named id) (filled_but items skip name number cs vs) ≡ filled_but items skip name number cs vs
@@ -50,9 +51,9 @@ module _ (items : List Item) (skip : Option ℕ) (name : RowName) (r : ℕ × Ac
   but_named id number (c ∷ cs) (v ∷ vs) h =
       let parts = and_parts (is_some (target_of c.kind) || fits c v) _ h in
       ap₂ (λ x xs. x ∷ xs)
-        (elim (is_skipped skip number) as (λ b. named id (cond b (value.Row name) (fill items c.null (target_of c.kind) v)) ≡ cond b (value.Row name) (fill items c.null (target_of c.kind) v))
-          [ true ↦ refl | false ↦ filled_named_at id items c (target_of c.kind) refl v parts.0 ])
-        (but_named id (number + 1) cs vs parts.1)
+      (elim (is_skipped skip number) as (λ b. named id (cond b (value.Row name) (fill items c.null (target_of c.kind) v)) ≡ cond b (value.Row name) (fill items c.null (target_of c.kind) v))
+      [ true ↦ refl | false ↦ filled_named_at id items c (target_of c.kind) refl v parts.0 ])
+      (but_named id (number + 1) cs vs parts.1)
 
   pub but_fits : (number : ℕ) (cs : List Column) (vs : List Value) → IsNaming r skip number cs → sample_fits cs vs ≡ true → all_fit cs (filled_but items skip name number cs vs) ≡ true
   but_fits number [] [] n h = refl
@@ -61,7 +62,7 @@ module _ (items : List Item) (skip : Option ℕ) (name : RowName) (r : ℕ × Ac
   but_fits number (c ∷ cs) (v ∷ vs) n h =
       let parts = and_parts (is_some (target_of c.kind) || fits c v) _ h in
       let step : (b : Bool) → is_skipped skip number ≡ b → fits c (cond b (value.Row name) (fill items c.null (target_of c.kind) v)) ≡ true =
-        elim [ true ↦ λ e. name_fits c.kind r name (n.0 e) | false ↦ λ e. fill_fits items c (target_of c.kind) refl v parts.0 ] in
+      elim [ true ↦ λ e. name_fits c.kind r name (n.0 e) | false ↦ λ e. fill_fits items c (target_of c.kind) refl v parts.0 ] in
       and_from _ _ (step (is_skipped skip number) refl) (but_fits (number + 1) cs vs n.1 parts.1)
 
   pub but_plain : (number : ℕ) (cs : List Column) (vs : List Value) → IsNaming r skip number cs → (place : ℕ) → is_plain cs place ≡ true → value_at (filled_but items skip name number cs vs) place ≡ value_at vs place
@@ -69,7 +70,7 @@ module _ (items : List Item) (skip : Option ℕ) (name : RowName) (r : ℕ × Ac
   but_plain number (c ∷ cs) [] n place h = refl
   but_plain number (c ∷ cs) (v ∷ vs) n zero h =
       let step : (b : Bool) → is_skipped skip number ≡ b → cond b (value.Row name) (fill items c.null (target_of c.kind) v) ≡ v =
-        elim [ true ↦ λ e. absurd (both_ways _ (plain_target c.kind h) (ap is_some (n.0 e))) | false ↦ λ e. fill_plain items c.null c.kind v h ] in
+      elim [ true ↦ λ e. absurd (both_ways _ (plain_target c.kind h) (ap is_some (n.0 e))) | false ↦ λ e. fill_plain items c.null c.kind v h ] in
       step (is_skipped skip number) refl
   but_plain number (c ∷ cs) (v ∷ vs) n (suc place) h = but_plain (number + 1) cs vs n.1 place h
 
@@ -83,18 +84,21 @@ module _ (items : List Item) (skip : Option ℕ) (name : RowName) (r : ℕ × Ac
   but_refs q ok each number (c ∷ cs) (v ∷ vs) n h =
       let here = all_parts (has_table items) (cond (is_skipped skip number) [] (needed_by c.null (target_of c.kind))) (needed_but skip (number + 1) cs) h in
       let plain : (o : Option (ℕ × Action)) → target_of c.kind ≡ o → (null : Bool) → list_all (has_table items) (needed_by null o) ≡ true → list_all q (ref_in c.kind (fill items null o v)) ≡ true =
-        elim [
-          None ↦ λ t null g. ap (list_all q) (no_ref c.kind v t)
+      elim [
+        | None ↦ λ t null g. ap (list_all q) (no_ref c.kind v t)
         | Some u ↦ λ t. elim [
-            true ↦ λ g. refl
-          | false ↦ λ g. ap (λ (o : Option (ℕ × Action)). list_all q (ref_to (name_in items u.0) o)) t ∙ and_from _ _ (each u.0 u.1 (and_parts (has_table items u.0) _ g).0) refl ] ] in
+          | true ↦ λ g. refl
+          | false ↦ λ g. ap (λ (o : Option (ℕ × Action)). list_all q (ref_to (name_in items u.0) o)) t ∙ and_from _ _ (each u.0 u.1 (and_parts (has_table items u.0) _ g).0) refl
+        ]
+      ] in
       let step : (b : Bool) → is_skipped skip number ≡ b → list_all (has_table items) (cond b [] (needed_by c.null (target_of c.kind))) ≡ true
-          → list_all q (ref_in c.kind (cond b (value.Row name) (fill items c.null (target_of c.kind) v))) ≡ true =
-        elim [
-          true ↦ λ e g. ap (λ (o : Option (ℕ × Action)). list_all q (ref_to name o)) (n.0 e) ∙ and_from _ _ (ok number e) refl
-        | false ↦ λ e g. plain (target_of c.kind) refl c.null g ] in
+      → list_all q (ref_in c.kind (cond b (value.Row name) (fill items c.null (target_of c.kind) v))) ≡ true =
+      elim [
+        | true ↦ λ e g. ap (λ (o : Option (ℕ × Action)). list_all q (ref_to name o)) (n.0 e) ∙ and_from _ _ (ok number e) refl
+        | false ↦ λ e g. plain (target_of c.kind) refl c.null g
+      ] in
       all-append q (ref_in c.kind (cond (is_skipped skip number) (value.Row name) (fill items c.null (target_of c.kind) v))) (refs_in cs (filled_but items skip name (number + 1) cs vs))
-        (step (is_skipped skip number) refl here.0) (but_refs q ok each (number + 1) cs vs n.1 here.1)
+      (step (is_skipped skip number) refl here.0) (but_refs q ok each (number + 1) cs vs n.1 here.1)
 
   pub but_at : (number : ℕ) (cs : List Column) (vs : List Value) (place : ℕ) (c : Column) → sample_fits cs vs ≡ true → slice_get cs place ≡ Some c
       → (v : Value) × (value_at (filled_but items skip name number cs vs) place ≡ cond (is_skipped skip (number + place)) (value.Row name) (fill items c.null (target_of c.kind) v))
@@ -119,22 +123,23 @@ needed_at items skip number (k ∷ cs) zero c e s h =
     let none : is_skipped skip number ≡ false = ap (is_skipped skip) (sym m) ∙ s in
     let here = (all_parts (has_table items) (cond (is_skipped skip number) [] (needed_by k.null (target_of k.kind))) (needed_but skip (number + 1) cs) h).0 in
     subst (λ (x : Column). list_all (has_table items) (needed_by x.null (target_of x.kind)) ≡ true) same
-      (subst (λ (b : Bool). list_all (has_table items) (cond b [] (needed_by k.null (target_of k.kind))) ≡ true) none here)
+    (subst (λ (b : Bool). list_all (has_table items) (cond b [] (needed_by k.null (target_of k.kind))) ≡ true) none here)
 needed_at items skip number (k ∷ cs) (suc place) c e s h =
     let m : number + suc place ≡ (number + 1) + place = omega arith in
     needed_at items skip (number + 1) cs place c e (ap (is_skipped skip) (sym m) ∙ s)
-      (all_parts (has_table items) (cond (is_skipped skip number) [] (needed_by k.null (target_of k.kind))) (needed_but skip (number + 1) cs) h).1
+    (all_parts (has_table items) (cond (is_skipped skip number) [] (needed_by k.null (target_of k.kind))) (needed_but skip (number + 1) cs) h).1
 
 -- what a row needs are lower tables
 pub lower_but : (table : ℕ) (skip : Option ℕ) (number : ℕ) (cs : List Column) → AllByRecursion (IsSoundColumn table) cs → list_all (λ u. nat_lt u table) (needed_but skip number cs) ≡ true
 lower_but table skip number [] h = refl
 lower_but table skip number (c ∷ cs) h =
     let plain : (o : Option (ℕ × Action)) → target_of c.kind ≡ o → (b : Bool) → c.null ≡ b → list_all (λ u. nat_lt u table) (needed_by b o) ≡ true =
-      elim [
-        None ↦ λ t b e. refl
-      | Some r ↦ λ t. elim [ true ↦ λ e. refl | false ↦ λ e. and_from _ _ (lower_at table c h.0 r t e) refl ] ] in
+    elim [
+      | None ↦ λ t b e. refl
+      | Some r ↦ λ t. elim [ true ↦ λ e. refl | false ↦ λ e. and_from _ _ (lower_at table c h.0 r t e) refl ]
+    ] in
     let step : (b : Bool) → list_all (λ u. nat_lt u table) (cond b [] (needed_by c.null (target_of c.kind))) ≡ true =
-      elim [ true ↦ refl | false ↦ plain (target_of c.kind) refl c.null refl ] in
+    elim [ true ↦ refl | false ↦ plain (target_of c.kind) refl c.null refl ] in
     append_all (λ u. nat_lt u table) (cond (is_skipped skip number) [] (needed_by c.null (target_of c.kind))) (needed_but skip (number + 1) cs) (step (is_skipped skip number)) (lower_but table skip (number + 1) cs h.1)
 
 -- the row with this name stands among these: it is in that table, and has its sample's values in plain columns
@@ -161,8 +166,8 @@ module _ (rules : Rules) (samples : AreSampled rules) (items : List Item) (made 
   checked (x ∷ xs) p h =
       let b = and_parts (holds rules.ask sample x.expr) _ h in
       and_from _ _
-        (same_holds columns values sample (λ number plain. but_plain items skip (row_numbered n) r 0 columns sample naming number plain) rules.ask x.expr p.0 ∙ b.0)
-        (checked xs p.1 b.1)
+      (same_holds columns values sample (λ number plain. but_plain items skip (row_numbered n) r 0 columns sample naming number plain) rules.ask x.expr p.0 ∙ b.0)
+      (checked xs p.1 b.1)
 
   matched_one : (m : MatchRule) → IsMatched rules t m → matches_among rows values m (value_at values m.reference) ≡ true
   matched_one m is =
@@ -171,22 +176,23 @@ module _ (rules : Rules) (samples : AreSampled rules) (items : List Item) (made 
       let own = but_plain items skip (row_numbered n) r 0 columns sample naming m.column is.plain in
       let z : 0 + m.reference ≡ m.reference = omega arith in
       let step : (b : Bool) → is_skipped skip (0 + m.reference) ≡ b → matches_among rows values m (cond b (value.Row (row_numbered n)) (fill items is.column.null (target_of is.column.kind) f.0)) ≡ true =
-        elim [
-          true ↦ λ e.
+      elim [
+        | true ↦ λ e.
             let named_target : Some r ≡ Some is.target = sym (naming_at 0 columns m.reference is.column naming is.at e) ∙ is.to in
             let same : r ≡ is.target = cc in
             let tables : (r.0 == t) ≡ false = far (0 + m.reference) e (subst (λ (x : ℕ × Action). not (is_restrict x.1) ≡ true) (sym same) is.loose) in
             let apart : (is.target.0 == t) ≡ false = subst (λ (x : ℕ × Action). (x.0 == t) ≡ false) same tables in
             (there (0 + m.reference) e).there (λ x. compares m.cmp (value_at values m.column) (value_at x.values m.target_column))
-              (λ x in_table plain.
-                let far_plain : is_plain (table_of rules r.0).columns m.target_column ≡ true = subst (λ (y : ℕ × Action). is_plain (table_of rules y.0).columns m.target_column ≡ true) (sym same) is.far in
-                ap₂ (compares m.cmp) own (plain m.target_column far_plain ∙ ap (λ (y : ℕ × Action). value_at (table_of rules y.0).sample m.target_column) same) ∙ is.passes apart)
+            (λ x in_table plain.
+            let far_plain : is_plain (table_of rules r.0).columns m.target_column ≡ true = subst (λ (y : ℕ × Action). is_plain (table_of rules y.0).columns m.target_column ≡ true) (sym same) is.far in
+            ap₂ (compares m.cmp) own (plain m.target_column far_plain ∙ ap (λ (y : ℕ × Action). value_at (table_of rules y.0).sample m.target_column) same) ∙ is.passes apart)
         | false ↦ λ e.
             let need = needed_at items skip 0 columns m.reference is.column is.at e needs in
             let filled : matches_among (rows_of items) values m (fill items is.column.null (target_of is.column.kind) f.0) ≡ true =
-              ap (λ (o : Option (ℕ × Action)). matches_among (rows_of items) values m (fill items is.column.null o f.0)) is.to
-              ∙ match_filled rules samples items t m values f.0 made is own is.column.null refl (ap (λ (o : Option (ℕ × Action)). list_all (has_table items) (needed_by is.column.null o)) (sym is.to) ∙ need) in
-            match_more {b = rows_of items} {c = rows} sub values m (fill items is.column.null (target_of is.column.kind) f.0) filled ] in
+            ap (λ (o : Option (ℕ × Action)). matches_among (rows_of items) values m (fill items is.column.null o f.0)) is.to
+            ∙ match_filled rules samples items t m values f.0 made is own is.column.null refl (ap (λ (o : Option (ℕ × Action)). list_all (has_table items) (needed_by is.column.null o)) (sym is.to) ∙ need) in
+            match_more {b = rows_of items} {c = rows} sub values m (fill items is.column.null (target_of is.column.kind) f.0) filled
+      ] in
       ap (matches_among rows values m) f.1 ∙ step (is_skipped skip (0 + m.reference)) refl
     where
       naming_at : (number : ℕ) (cs : List Column) (place : ℕ) (c : Column) → IsNaming r skip number cs → slice_get cs place ≡ Some c → is_skipped skip (number + place) ≡ true → target_of c.kind ≡ Some r
@@ -209,13 +215,13 @@ module _ (rules : Rules) (samples : AreSampled rules) (items : List Item) (made 
       let same = but_named items skip (row_numbered n) r (numbered id) 0 columns sample s.fit in
       let fit : all_fit columns (map own values) ≡ true = ap (all_fit columns) same ∙ but_fits items skip (row_numbered n) r 0 columns sample naming s.fit in
       let check : checks_hold rules.ask (map own values) (table_of rules t).checks ≡ true =
-        ap (λ (l : List Value). checks_hold rules.ask l (table_of rules t).checks) same ∙ checked (table_of rules t).checks s.plain s.checked in
+      ap (λ (l : List Value). checks_hold rules.ask l (table_of rules t).checks) same ∙ checked (table_of rules t).checks s.plain s.checked in
       let referred : list_all (stands_among rows) (refs_in columns (map own values)) ≡ true =
-        ap (λ (l : List Value). list_all (stands_among rows) (refs_in columns l)) same
-        ∙ but_refs items skip (row_numbered n) r (stands_among rows)
-          (λ number e. (there number e).there (λ row. row.table == r.0) (λ x in_table plain. eq-eqb x.table r.0 in_table))
-          (λ u act has. sub.more (λ row. same_row row.name (name_in items u) && (row.table == u)) (name_stands items u has))
-          0 columns sample naming needs in
+      ap (λ (l : List Value). list_all (stands_among rows) (refs_in columns l)) same
+      ∙ but_refs items skip (row_numbered n) r (stands_among rows)
+      (λ number e. (there number e).there (λ row. row.table == r.0) (λ x in_table plain. eq-eqb x.table r.0 in_table))
+      (λ u act has. sub.more (λ row. same_row row.name (name_in items u) && (row.table == u)) (name_stands items u has))
+      0 columns sample naming needs in
       let match : matches_hold rows (map own values) (table_of rules t).matches ≡ true =
-        ap (λ (l : List Value). matches_hold rows l (table_of rules t).matches) same ∙ matched (table_of rules t).matches s.matched in
+      ap (λ (l : List Value). matches_hold rows l (table_of rules t).matches) same ∙ matched (table_of rules t).matches s.matched in
       λ i. first_reason ((1, known i) ∷ (2, not (fit i)) ∷ (3, not (check i)) ∷ (4, not (referred i)) ∷ (5, not (match i)) ∷ [])

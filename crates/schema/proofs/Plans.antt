@@ -78,18 +78,19 @@ module _ (rules : Rules) (g : Effects) where
       let before = stay_each older fs.1 s.1 n.1 in
       let named = all_filtered (λ r. is_cascade r.action) (stands_among older) (refs rules e) it.referred in
       let stays : (more : ℕ) → shows rules g (visible_to rules g (more + length older)) e.name ≡ true =
-        λ more. and_from _ _
-          (st.here (λ row. same_row row.name e.name && list_all (λ r. visible_to rules g (more + length older) r.name) (cascade_refs rules row))
-            (and_from _ _ (same_row-refl e.name)
-              (all_both (stands_among older) (stands_among older) (λ r. visible_to rules g (more + length older) r.name)
-                (λ r there again. any_each (λ x. (m : ℕ) → visible_to rules g (m + length older) x.name ≡ true) (λ x. same_row x.name r.name && (x.table == r.target)) _
-                  (λ x px hx. subst (λ (m : RowName). visible_to rules g (more + length older) m ≡ true) (row_from_same x.name r.name (and_parts (same_row x.name r.name) _ hx).0) (px more))
-                  older before there)
-                (cascade_refs rules e) named named)))
-          (ap not n.0) in
-      let deep : (more : ℕ) → more + suc (length older) ≡ suc (more + length older) = λ more. omega arith in
-      (λ more. subst (λ (m : ℕ). visible_to rules g m e.name ≡ true) (sym (deep more)) (stays more),
-        each-map _ _ (λ x p more. subst (λ (m : ℕ). visible_to rules g m x.name ≡ true) (let e : suc more + length older ≡ more + suc (length older) = omega arith in e) (p (suc more))) older before)
+      λ more. and_from _ _
+      (st.here (λ row. same_row row.name e.name && list_all (λ r. visible_to rules g (more + length older) r.name) (cascade_refs rules row))
+      (and_from _ _ (same_row-refl e.name)
+      (all_both (stands_among older) (stands_among older) (λ r. visible_to rules g (more + length older) r.name)
+      (λ r there again. any_each (λ x. (m : ℕ) → visible_to rules g (m + length older) x.name ≡ true) (λ x. same_row x.name r.name && (x.table == r.target)) _
+      (λ x px hx. subst (λ (m : RowName). visible_to rules g (more + length older) m ≡ true) (row_from_same x.name r.name (and_parts (same_row x.name r.name) _ hx).0) (px more))
+      older before there)
+      (cascade_refs rules e) named named)))
+      (ap not n.0) in
+      let deep : (more : ℕ) → more + suc (length older) ≡ suc (more + length older) = λ more. omega arith in (
+        λ more. subst (λ (m : ℕ). visible_to rules g m e.name ≡ true) (sym (deep more)) (stays more),
+        each-map _ _ (λ x p more. subst (λ (m : ℕ). visible_to rules g m x.name ≡ true) (let e : suc more + length older ≡ more + suc (length older) = omega arith in e) (p (suc more))) older before,
+      )
 
 kept_each : (g : Effects) → g.deleted ≡ [] → (rows : List TableRow) → AllByRecursion (λ e. is_deleted g e.name ≡ false) rows
 kept_each g none [] = tt

@@ -33,7 +33,7 @@ pub record PassesOn {X : Type 0} (xs ys : List X) : Type 1 where
 PassesOn-trans : {X : Type 0} {xs ys zs : List X} → PassesOn xs ys → PassesOn ys zs → PassesOn xs zs
 PassesOn-trans a b = record { on = λ P h. b.on P (a.on P h) }
 
-permuted_on : {X : Type 0} (xs ys : List X) → IsPermutation xs ys → PassesOn xs ys
+pub permuted_on : {X : Type 0} (xs ys : List X) → IsPermutation xs ys → PassesOn xs ys
 permuted_on xs ys p = record { on = λ P h. recursion_from_All P ys (All-permutation P xs ys p (All-from_recursion P xs h)) }
 
 -- ---- rising lists of the same elements

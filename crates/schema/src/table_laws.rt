@@ -1,7 +1,7 @@
 //! Laws of tables. Each function does nothing: its contract is a theorem for callers to cite. Lists of nodes stand newest
 //! first, and `ask` is whatever native checks mean.
 
-ghost use Rattle.std.specs.Prelude.{◌≡◌, ℕ, List, [], ◌∷◌, ◌++◌, Contains, reverse, IsTrue};
+ghost use Rattle.std.specs.Prelude.{◌≡◌, List, [], ◌∷◌, ◌++◌, Contains, reverse, IsTrue, false};
 ghost use Rattle.std.specs.List.Sorted.{IsPermutation};
 ghost use Rattle.update_model.specs.declared.row_name.RowName.{RowName};
 ghost use Rattle.update_model.specs.Entry.{Entry};
@@ -11,8 +11,8 @@ ghost use Rattle.schema.specs.declared.counterexample.Counterexample.{Counterexa
 ghost use Rattle.schema.specs.declared.shown_row.ShownRow.{ShownRow};
 ghost use Rattle.schema.specs.declared.void_line.VoidLine.{VoidLine};
 ghost use Rattle.schema.specs.Confluence.{IsConfluent, accepts, are_accepted, confirms};
-ghost use Rattle.schema.specs.Examples.{SamplesPass, at_most_example, unique_example};
-ghost use Rattle.schema.specs.Invariants.{AtMost, Claim, Declared, Unique, claim_holds, claims_of, invariants_of, shown_in};
+ghost use Rattle.schema.specs.Examples.{SamplesPass, example_of};
+ghost use Rattle.schema.specs.Invariants.{Claim, Declared, claim_holds, claims_of, invariants_of, shown_in};
 ghost use Rattle.schema.specs.Nodes.{Agree, AreNodesOf, IsClosed, IsSameSet, union};
 ghost use Rattle.schema.specs.Sound.{AreTables};
 ghost use Rattle.schema.specs.Tables.{AreTablesOf};
@@ -85,18 +85,10 @@ pub fn confirmed_refutes()
         → IsTrue (confirms rules earlier claim example) → IsConfluent rules earlier claim → ⊥ }
 {}
 
-/// Where the rule refuses a UNIQUE and accepts all invariants before it, its counterexample confirms, whatever native checks
-/// mean, as long as the samples pass.
-pub fn first_unique_is_confirmed()
-    ensures { (rules : Rules) (earlier later : List Declared) (declared : Declared) (table column : ℕ) → AreTables [] rules.tables → SamplesPass rules
-        → invariants_of rules ≡ earlier ++ declared ∷ later → IsTrue (are_accepted rules earlier) → declared.claim ≡ Unique table column
-        → IsTrue (confirms rules (claims_of earlier) (Unique table column) (unique_example rules table)) }
-{}
-
-/// Where the rule refuses an ATMOST and accepts all invariants before it, its counterexample confirms, whatever native checks
-/// mean, as long as the samples pass.
-pub fn first_at_most_is_confirmed()
-    ensures { (rules : Rules) (earlier later : List Declared) (declared : Declared) (table count : ℕ) → AreTables [] rules.tables → SamplesPass rules
-        → invariants_of rules ≡ earlier ++ declared ∷ later → IsTrue (are_accepted rules earlier) → declared.claim ≡ AtMost table count
-        → IsTrue (confirms rules (claims_of earlier) (AtMost table count) (at_most_example rules table count)) }
+/// Of the first invariant that the rule refuses the counterexample confirms, whatever native checks mean, as long as the
+/// samples pass.
+pub fn first_refused_is_confirmed()
+    ensures { (rules : Rules) (earlier later : List Declared) (declared : Declared) → AreTables [] rules.tables → SamplesPass rules
+        → invariants_of rules ≡ earlier ++ declared ∷ later → IsTrue (are_accepted rules earlier) → accepts rules declared.claim ≡ false
+        → IsTrue (confirms rules (claims_of earlier) declared.claim (example_of rules declared.claim)) }
 {}
