@@ -2,6 +2,7 @@ ghost use Rattle.std.specs.Prelude.{◌↔◌, IsTrue};
 ghost use Rattle.expression_text.specs.Grammar.{IsExpression};
 
 use crate::Token;
+use crate::place::Position;
 
 /// Whether the tokens are an expression, whatever its columns are.
 ///
@@ -9,5 +10,9 @@ use crate::Token;
 pub fn is_expression(tokens: &[Token]) -> bool
     ensures { IsTrue result ↔ IsExpression tokens.now }
 {
-    tokens.is_empty()
+    let mut position = Position::start();
+    for token in tokens {
+        position = position.after(token);
+    }
+    position.is_end()
 }

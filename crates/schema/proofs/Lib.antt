@@ -1,3 +1,9 @@
+mod FaultKinds
+mod Keeping
+mod NameTexts
+mod Needs
+mod Samples
+mod Unique
 pub mod Accepted
 pub mod Alike
 pub mod Arrivals

@@ -4,16 +4,15 @@ use Rattle.std.specs.Prelude.{◌≡◌, ℕ, pos, ◌<◌, ◌≤◌, ◌≤ℤ
 use Rattle.std.specs.List.{list_any}
 use Rattle.update_model.specs.declared.value.Value.{Value}
 use Rattle.update_model.specs.Form.{IsKnownKey}
-use Rattle.row_check.specs.declared.expr.Expr.{Expr}
 use Rattle.text_words.specs.declared.literal.Literal.{Literal}
 use Rattle.text_words.specs.declared.literal.Literal.TheVariants as literal
 use Rattle.text_words.specs.Names.{is_a_name, is_spelled_as_name}
 use Rattle.expression_text.specs.declared.token.Token.{Token}
 use Rattle.expression_text.specs.declared.token.Token.TheVariants as token
-use Rattle.expression_text.specs.Columns.{IsKnown, HasShortText}
-use Rattle.expression_text.specs.Grammar.{IsReading}
+use Rattle.expression_text.specs.Columns.{IsKnown, HasShortText, column_in}
+use Rattle.expression_text.specs.Grammar.{Parses, Disjunction}
 use Rattle.expression_text.specs.Kinds.{HasKinds}
-use Rattle.expression_text.specs.Trees.{tree_of}
+use Rattle.expression_text.specs.Trees.{Tree}
 use Rattle.schema.specs.declared.action.Action.{Action}
 use Rattle.schema.specs.declared.column.Column.{Column}
 use Rattle.schema.specs.declared.draft.Draft.{Draft}
@@ -41,7 +40,11 @@ abbrev pub HasShortLiteral : Literal → Type 0
 HasShortLiteral (literal.Text bytes) = length bytes ≤ 1024
 HasShortLiteral other = Unit {0}
 
--- whether a UNIQUE of the column with this name stands already
+-- An expression has at most 256 tokens, and no text or name in it is too long.
+abbrev pub AreFewAndShort : List Token → Type 0
+AreFewAndShort tokens = (length tokens ≤ 256) × All HasShortText tokens × All HasShortName tokens
+
+-- whether a UNIQUE of the column with this number stands already
 abbrev pub is_unique : TableDef → Option ℕ → Bool
 is_unique table None = false
 is_unique table (Some column) = list_any (λ rule. rule.column == column) table.uniques
@@ -53,7 +56,7 @@ IsWithinLimits draft (form.Author key) = (length draft.authors < 256) × ¬ Cont
 IsWithinLimits draft (form.Table name deletable owned) = (length draft.tables < 16) × IsShort name
 IsWithinLimits draft (form.Column name kind null) = (length draft.table.columns < 16) × IsShort name
 IsWithinLimits draft (form.Ref name table act null) = (length draft.table.columns < 16) × IsShort name
-IsWithinLimits draft (form.Check tokens) = (length draft.table.checks < 16) × (length tokens ≤ 256) × All HasShortText tokens × All HasShortName tokens
+IsWithinLimits draft (form.Check tokens) = (length draft.table.checks < 16) × AreFewAndShort tokens
 IsWithinLimits draft (form.Match column cmp reference target) = (length draft.table.matches < 16) × IsShort column × IsShort reference × IsShort target
 IsWithinLimits draft (form.Unique column) = IsShort column × (is_unique draft.table (number_named draft.table.columns column) ≡ false)
 IsWithinLimits draft (form.AtMost count) = (pos 1 ≤ℤ count) × (count ≤ℤ pos 64) × (draft.table.at_most ≡ 0)
@@ -66,8 +69,12 @@ IsNewColumn columns name = IsTrue (is_a_name name) × (list_any (λ column. byte
 abbrev pub IsColumn : List Column → List ℕ → Type 0
 IsColumn columns name = IsSome (column_named columns name)
 
--- New names are names that are not taken, and the others are those of columns. The target's column is asked for where
--- there is a target.
+-- The target of a reference has this column. Where the column is no reference, none is asked for.
+abbrev pub HasTargetColumn : Draft → List ℕ → List ℕ → Type 0
+HasTargetColumn draft reference column =
+    MatchOption (reference_named draft.table.columns reference) (Unit {0}) (λ r. IsColumn (table_at draft r.0).columns column)
+
+-- New names are names that are not taken, and the others are those of columns.
 abbrev pub IsNamed : Draft → Form → Type 0
 IsNamed draft (form.Database name) = IsTrue (is_a_name name)
 IsNamed draft (form.Author key) = Unit {0}
@@ -76,16 +83,19 @@ IsNamed draft (form.Column name kind null) = IsNewColumn draft.table.columns nam
 IsNamed draft (form.Ref name table act null) = IsNewColumn draft.table.columns name
 IsNamed draft (form.Check tokens) = All (IsKnown (names_of draft.table.columns)) tokens
 IsNamed draft (form.Match column cmp reference target) =
-    IsColumn draft.table.columns column × IsColumn draft.table.columns reference
-    × MatchOption (reference_named draft.table.columns reference) (Unit {0}) (λ r. IsColumn (table_at draft r.0).columns target)
+    IsColumn draft.table.columns column × IsColumn draft.table.columns reference × HasTargetColumn draft reference target
 IsNamed draft (form.Unique column) = IsColumn draft.table.columns column
 IsNamed draft (form.AtMost count) = Unit {0}
 IsNamed draft (form.Sample values) = Unit {0}
 
--- A reference is to an earlier table, or to its own with NULL, and SETNULL has NULL.
-abbrev pub HasTarget : Draft → Form → Type 0
-HasTarget draft (form.Ref name table act null) =
+-- The table is an earlier one, or its own with NULL, and SETNULL has NULL.
+abbrev pub HasGoodTarget : Draft → List ℕ → Action → Bool → Type 0
+HasGoodTarget draft table act null =
     MatchOption (table_named draft table) ⊥ (λ number. IsTrue (null || nat_lt number (length draft.tables)) × IsTrue (null || not (is_set_null act)))
+
+-- A reference is to such a table.
+abbrev pub HasTarget : Draft → Form → Type 0
+HasTarget draft (form.Ref name table act null) = HasGoodTarget draft table act null
 HasTarget draft other = Unit {0}
 
 -- Bounds that rise, and for lengths are from 0 to 1,024.
@@ -94,21 +104,39 @@ AreBounds (plain.Int lo hi) = lo ≤ℤ hi
 AreBounds (plain.Text lo hi) = (pos 0 ≤ℤ lo) × (lo ≤ℤ hi) × (hi ≤ℤ pos 1024)
 AreBounds plain.Flag = Unit {0}
 
--- Kinds and bounds go together. A reference column stands where one is asked for, and nowhere else.
+-- The tokens are this question about columns with these names.
+abbrev pub Means : List (List ℕ) → List Token → Tree → Type 0
+Means names tokens tree = Parses (column_in names) Disjunction tokens tree
+
+-- An expression over the columns reads plain ones, and compares values of one kind.
+abbrev pub IsTypedCheck : List Column → List Token → Type 0
+IsTypedCheck columns tokens = (tree : Tree) × Means (names_of columns) tokens tree × HasKinds (kinds_of columns) tree
+
+-- A reference is one, and the column can be compared with that of the target.
+abbrev pub IsTypedMatch : Draft → List ℕ → List ℕ → List ℕ → Type 0
+IsTypedMatch draft column reference target = MatchOption (reference_named draft.table.columns reference) ⊥
+    (λ r. IsTrue (are_comparable (column_named draft.table.columns column) (column_named (table_at draft r.0).columns target)))
+
+-- A column has values of its own, and never null.
+abbrev pub IsTypedUnique : List Column → List ℕ → Type 0
+IsTypedUnique columns name = MatchOption (column_named columns name) ⊥ (λ column. IsTrue (not (is_reference column.kind) && not column.null))
+
+-- Kinds and bounds go together. A reference stands where one is asked for, and nowhere else.
 abbrev pub IsTyped : Draft → Form → Type 0
 IsTyped draft (form.Author key) = IsKnownKey key
 IsTyped draft (form.Column name kind null) = AreBounds kind
-IsTyped draft (form.Check tokens) =
-    (expr : Expr) × IsReading (names_of draft.table.columns) tokens expr × HasKinds (kinds_of draft.table.columns) (tree_of expr)
-IsTyped draft (form.Match column cmp reference target) = MatchOption (reference_named draft.table.columns reference) ⊥
-    (λ r. IsTrue (are_comparable (column_named draft.table.columns column) (column_named (table_at draft r.0).columns target)))
-IsTyped draft (form.Unique column) = MatchOption (column_named draft.table.columns column) ⊥ (λ c. IsTrue (not (is_reference c.kind) && not c.null))
+IsTyped draft (form.Check tokens) = IsTypedCheck draft.table.columns tokens
+IsTyped draft (form.Match column cmp reference target) = IsTypedMatch draft column reference target
+IsTyped draft (form.Unique column) = IsTypedUnique draft.table.columns column
 IsTyped draft other = Unit {0}
 
--- A MATCH is not along a RESTRICT reference.
+-- A reference is not RESTRICT.
+abbrev pub MayMatch : Draft → List ℕ → Type 0
+MayMatch draft reference = MatchOption (reference_named draft.table.columns reference) (Unit {0}) (λ r. IsTrue (not (is_restrict r.1)))
+
+-- A MATCH is along such a reference.
 abbrev pub IsMatchable : Draft → Form → Type 0
-IsMatchable draft (form.Match column cmp reference target) =
-    MatchOption (reference_named draft.table.columns reference) (Unit {0}) (λ r. IsTrue (not (is_restrict r.1)))
+IsMatchable draft (form.Match column cmp reference target) = MayMatch draft reference
 IsMatchable draft other = Unit {0}
 
 -- A row that the table may have: its values fit the columns, each CHECK is true of it, and so is each MATCH beside the

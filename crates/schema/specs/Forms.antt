@@ -84,10 +84,14 @@ database_form [] = None
 database_form (name ∷ []) = Some (form.Database (spelled name))
 database_form (name ∷ w ∷ ws) = None
 
+-- the author whose key these digits write
+abbrev pub author_in : List ℕ → Option Form
+author_in digits = option_map (λ bytes. form.Author (key_in bytes)) (block_of_hex 56 digits)
+
 -- 112 lower-case hexadecimal digits
 abbrev pub author_form : List Word → Option Form
 author_form [] = None
-author_form (key ∷ []) = option_map (λ bytes. form.Author (key_in bytes)) (block_of_hex 56 (spelled key))
+author_form (key ∷ []) = author_in (spelled key)
 author_form (key ∷ w ∷ ws) = None
 
 -- nothing, DELETABLE, or DELETABLE OWNED
@@ -107,14 +111,18 @@ bounds_in [] = None
 bounds_in (lo ∷ []) = None
 bounds_in (lo ∷ hi ∷ end) = option_and_then (λ l. option_and_then (λ h. option_map (λ null. (l, h, null)) (null_at_end end)) (number_in hi)) (number_in lo)
 
+-- the kind of a column, and whether it has NULL
+abbrev pub kind_in : Word → List Word → Option (PlainKind × Bool)
+kind_in kind end =
+    if is_word (codes "INT") kind then option_map (λ b. (plain.Int b.0 b.1, b.2)) (bounds_in end)
+    else if is_word (codes "TEXT") kind then option_map (λ b. (plain.Text b.0 b.1, b.2)) (bounds_in end)
+    else if is_word (codes "FLAG") kind then option_map (λ null. (plain.Flag, null)) (null_at_end end)
+    else None
+
 abbrev pub column_form : List Word → Option Form
 column_form [] = None
 column_form (name ∷ []) = None
-column_form (name ∷ kind ∷ end) =
-    if is_word (codes "INT") kind then option_map (λ b. form.Column (spelled name) (plain.Int b.0 b.1) b.2) (bounds_in end)
-    else if is_word (codes "TEXT") kind then option_map (λ b. form.Column (spelled name) (plain.Text b.0 b.1) b.2) (bounds_in end)
-    else if is_word (codes "FLAG") kind then option_map (λ null. form.Column (spelled name) plain.Flag null) (null_at_end end)
-    else None
+column_form (name ∷ kind ∷ end) = option_map (λ k. form.Column (spelled name) k.0 k.1) (kind_in kind end)
 
 abbrev pub ref_form : List Word → Option Form
 ref_form [] = None
@@ -224,3 +232,8 @@ pub record HasForm (line : List ℕ) (form : Form) : Type 0 where
   pub utf8 : IsUtf8 line
   pub words : form_at (skip_blanks line) ≡ Some form
   pub whole : IsWhole form
+
+-- What stands for the form of a line of UTF-8: it is that form, or there is none.
+abbrev pub IsForm : List ℕ → Option Form → Type 0
+IsForm line (Some form) = (form_at (skip_blanks line) ≡ Some form) × IsWhole form
+IsForm line None = (form : Form) → form_at (skip_blanks line) ≡ Some form → IsWhole form → ⊥

@@ -4,13 +4,14 @@ use Rattle.std.specs.List.{list_all}
 use Rattle.update_model.specs.declared.value.Value.{Value}
 use Rattle.update_model.specs.declared.value.Value.TheVariants as value
 use Rattle.row_check.specs.Comparisons.{compares}
-use Rattle.row_check.specs.Meaning.{holds, value_at}
+use Rattle.row_check.specs.Meaning.{value_at}
+use Rattle.expression_text.specs.Trees.{holds_tree}
 use Rattle.text_words.specs.declared.literal.Literal.{Literal}
 use Rattle.text_words.specs.declared.literal.Literal.TheVariants as literal
 use Rattle.schema.specs.declared.action.Action.{Action}
 use Rattle.schema.specs.declared.column.Column.{Column}
 use Rattle.schema.specs.declared.draft.Draft.{Draft}
-use Rattle.schema.specs.declared.rules.CheckRule.{CheckRule}
+use Rattle.schema.specs.Checks.{CheckData}
 use Rattle.schema.specs.declared.rules.MatchRule.{MatchRule}
 use Rattle.schema.specs.Columns.{is_reference, reference_at, FitsSampleAt}
 use Rattle.schema.specs.Drafts.{table_at}
@@ -30,11 +31,18 @@ abbrev pub after_first : List Literal → List Literal
 after_first [] = []
 after_first (l ∷ ls) = ls
 
+-- what a column has of a sample's literals: null in a reference, else the first one
+abbrev pub value_at_column : Column → List Literal → Value
+value_at_column column ls = if is_reference column.kind then value.Null else first_written ls
+
+-- the literals that are left for the columns after it
+abbrev pub values_after : Column → List Literal → List Literal
+values_after column ls = if is_reference column.kind then ls else after_first ls
+
 -- The row that a sample's literals are: null in each reference, and a literal for each other column in order.
 abbrev pub sample_row : List Column → List Literal → List Value
 sample_row [] ls = []
-sample_row (c ∷ cs) ls =
-    if is_reference c.kind then value.Null ∷ sample_row cs ls else first_written ls ∷ sample_row cs (after_first ls)
+sample_row (c ∷ cs) ls = value_at_column c ls ∷ sample_row cs (values_after c ls)
 
 -- how many columns are no references
 abbrev pub plain_count : List Column → ℕ
@@ -49,8 +57,8 @@ FitsSample (c ∷ cs) [] = ⊥
 FitsSample (c ∷ cs) (v ∷ vs) = FitsSampleAt c v × FitsSample cs vs
 
 -- every CHECK is true of a row
-abbrev pub passes_checks : (ℕ → List Value → Bool) → List CheckRule → List Value → Bool
-passes_checks relation checks row = list_all (λ check. holds relation row check.expr) checks
+abbrev pub passes_checks : (ℕ → List Value → Bool) → List CheckData → List Value → Bool
+passes_checks relation checks row = list_all (λ check. holds_tree relation row check.tree) checks
 
 -- a comparison of a row's value with the sample of the table that a reference names, which is not asked of a table itself
 abbrev pub matches_target : Draft → List Value → MatchRule → Option (ℕ × Action) → Bool

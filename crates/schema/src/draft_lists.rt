@@ -19,10 +19,10 @@ impl Model for TableList {
 
     ghost Value = { List TableDef };
 
-    ghost use Rattle.row_check.specs.contracts.expr.Expr as expr;
+    ghost use Rattle.schema.specs.Checks.{coded_tree};
     ghost use Rattle.std.specs.Coded.{codes};
 
-    ghost coded = { Prim.hlevel (codes, expr.the_row.coded) };
+    ghost coded = { Prim.hlevel (codes, coded_tree) };
 
     ghost view = { λ list. list.tables.items };
 }

@@ -1,9 +1,6 @@
-ghost use Rattle.std.specs.Prelude.{◌≡◌};
-ghost use Rattle.schema.specs.Forms.{keyword_of};
-
 /// The first word of a line, which tells what the words after it are. `CHECK` is told apart before, since the words of
 /// an expression are read otherwise.
-#[derive(Clone, Copy, Debug, PartialEq, Eq)]
+#[derive(Clone, Copy, Debug)]
 pub(crate) enum Keyword {
     Database,
     Author,

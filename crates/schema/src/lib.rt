@@ -2,6 +2,7 @@
 #![tactic(auto)]
 
 mod action;
+mod adding;
 mod column;
 mod counterexample;
 mod draft;
@@ -9,23 +10,31 @@ mod draft_lists;
 mod fault;
 mod fitting;
 mod form;
+mod forms;
 mod invariant;
 mod keyword;
+mod kinds;
 mod laws;
+mod limits;
 mod lists;
 mod lookups;
+mod names;
 mod node_list;
 mod reading;
 mod rules;
+mod samples;
 mod schema;
 mod shown_row;
 mod shown_row_list;
 mod table_def;
 mod table_laws;
+#[cfg(test)]
+mod tests;
 mod verdict;
 mod void_line;
 mod void_list;
 mod word_lists;
+mod words;
 
 pub use action::Action;
 pub use column::{Column, ColumnKind};

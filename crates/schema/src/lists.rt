@@ -61,14 +61,14 @@ pub struct CheckList {
 
 impl Model for CheckList {
     ghost use Rattle.std.specs.Prelude.{List};
-    ghost use Rattle.schema.specs.declared.rules.CheckRule.{CheckRule};
+    ghost use Rattle.schema.specs.Checks.{CheckData};
 
-    ghost Value = { List CheckRule };
+    ghost Value = { List CheckData };
 
-    ghost use Rattle.row_check.specs.contracts.expr.Expr as expr;
+    ghost use Rattle.schema.specs.Checks.{coded_tree};
     ghost use Rattle.std.specs.Coded.{codes};
 
-    ghost coded = { Prim.hlevel (codes, expr.the_row.coded) };
+    ghost coded = { Prim.hlevel (codes, coded_tree) };
 
     ghost view = { λ list. list.checks.items };
 }

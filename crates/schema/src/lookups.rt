@@ -2,7 +2,9 @@
 
 ghost use Rattle.std.specs.Prelude.{◌≡◌, bytes_eq, position, option_copied};
 ghost use Rattle.schema.specs.Columns.{number_named, column_named, target_of, reference_at, reference_named};
+ghost use Rattle.schema.specs.Drafts.{table_at, table_named};
 
+use crate::draft::Draft;
 use crate::{Action, Column, ColumnKind, TableDef};
 
 /// The number of the table with this name.
@@ -54,4 +56,32 @@ pub(crate) fn reference_named(columns: &[Column], name: &[u8]) -> Option<(u8, Ac
     ensures { result ≡ reference_named columns.now name.now }
 {
     target_of(&column_named(columns, name)?.kind)
+}
+
+/// The columns of the table with this number: one that has ended, or the one that has begun.
+pub(crate) fn columns_at(draft: &Draft, number: u8) -> &[Column]
+    ensures { result.now ≡ (table_at draft.now number).columns }
+{
+    table_at(draft, number).columns.as_slice()
+}
+
+/// The table with this number: one that has ended, or the one that has begun.
+pub(crate) fn table_at(draft: &Draft, number: u8) -> &TableDef
+    ensures { result.now ≡ table_at draft.now number }
+{
+    match draft.tables.as_slice().get(usize::from(number)) {
+        Some(table) => table,
+        None => &draft.table,
+    }
+}
+
+/// The number of the table with this name, the one that has begun included.
+pub(crate) fn table_named(draft: &Draft, name: &[u8]) -> Option<usize>
+    ensures { result ≡ table_named draft.now name.now }
+{
+    let tables = draft.tables.as_slice();
+    match table_number(tables, name) {
+        Some(number) => Some(number),
+        None => (draft.table.name.as_slice() == name).then_some(tables.len()),
+    }
 }

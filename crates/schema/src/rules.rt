@@ -1,12 +1,25 @@
 use row_check::{Cmp, Expr};
+use std::marker::Model;
 
-/// A `CHECK`: an expression that is true of each row of the table.
+/// A `CHECK`: an expression that is true of each row of the table. A contract sees the tree of the expression, and not
+/// where its parts lie in memory.
 #[derive(Debug, Drop)]
 pub struct CheckRule {
     /// The expression, over the numbers of the table's columns.
     pub expr: Expr,
     /// The line that declares it, from 1.
     pub line: u32,
+}
+
+impl Model for CheckRule {
+    ghost use Rattle.schema.specs.Checks.{CheckData, coded_check};
+    ghost use Rattle.expression_text.specs.Trees.{tree_of};
+
+    ghost Value = { CheckData };
+
+    ghost coded = { coded_check };
+
+    ghost view = { λ check. record { tree = tree_of check.expr; line = check.line } };
 }
 
 /// A `MATCH`: a comparison of a row's value with one of the row that it refers to. It is asked where the reference

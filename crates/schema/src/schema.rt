@@ -23,10 +23,10 @@ impl Model for Schema {
 
     ghost Value = { SchemaData };
 
-    ghost use Rattle.row_check.specs.contracts.expr.Expr as expr;
+    ghost use Rattle.schema.specs.Checks.{coded_tree};
     ghost use Rattle.std.specs.Coded.{codes};
 
-    ghost coded = { Prim.hlevel (codes, expr.the_row.coded) };
+    ghost coded = { Prim.hlevel (codes, coded_tree) };
 
     ghost use Rattle.schema.specs.Sound.{IsSchema};
 

@@ -1,0 +1,6 @@
+pub mod Rules
+pub mod IntegersLemmas
+pub mod LinesLemmas
+pub mod Places
+pub mod Texts
+pub mod WordsLemmas

@@ -1,25 +1,28 @@
--- Integers in decimal. `-` is the byte 45.
-use Rattle.std.specs.Prelude.{ℕ, ◌^◌, Bool, false, not, ◌&&◌, ◌==◌, nat_lt, nat_le, List, [], ◌∷◌, ℤ, pos, neg_ℤ, Option, Some, None, if◌then◌else◌}
+-- Integers in decimal. `-` is the byte 45, and `0` is 48.
+use Rattle.std.specs.Prelude.{ℕ, ◌^◌, Bool, false, not, ◌&&◌, ◌||◌, ◌==◌, nat_lt, List, [], ◌∷◌, ℤ, pos, negsuc, Option, Some, None, if◌then◌else◌, bytes_eq, codes}
 use Rattle.std.specs.Char.{is_ascii_digit}
 use Rattle.std.specs.List.{list_all}
-use Rattle.std.specs.Str.Parse.{digits_value}
+use Rattle.std.specs.Str.Parse.{signed_digits_value}
 
 -- digits of which the first is not 0
 abbrev pub is_positive_numeral : List ℕ → Bool
 is_positive_numeral [] = false
 is_positive_numeral (first ∷ digits) = not (first == 48) && list_all is_ascii_digit (first ∷ digits)
 
--- the integer that a `-` and these digits write
-abbrev pub negative_of : List ℕ → Option ℤ
-negative_of digits = if is_positive_numeral digits && nat_le (digits_value 10 digits) (2 ^ 63) then Some (neg_ℤ (pos (digits_value 10 digits))) else None
+-- an integer in decimal: `0`, or an optional `-` and digits of which the first is not 0
+abbrev pub is_integer_form : List ℕ → Bool
+is_integer_form [] = false
+is_integer_form (byte ∷ digits) =
+    if byte == 45 then is_positive_numeral digits
+    else bytes_eq (byte ∷ digits) (codes "0") || is_positive_numeral (byte ∷ digits)
 
--- the integer that these digits write: 0, or a numeral that does not begin with 0
-abbrev pub positive_of : List ℕ → Option ℤ
-positive_of (48 ∷ []) = Some (pos 0)
-positive_of digits = if is_positive_numeral digits && nat_lt (digits_value 10 digits) (2 ^ 63) then Some (pos (digits_value 10 digits)) else None
+-- from -2^63 to 2^63 - 1; negsuc n is -(n + 1)
+abbrev pub is_within_64_bits : ℤ → Bool
+is_within_64_bits (pos n) = nat_lt n (2 ^ 63)
+is_within_64_bits (negsuc n) = nat_lt n (2 ^ 63)
 
--- The integer within 64 bits, two's complement, that a word writes: an optional `-` and digits without a leading zero,
--- but for `0` itself. `-0` is none.
+-- the integer that a word writes
 abbrev pub int_of : List ℕ → Option ℤ
-int_of [] = None
-int_of (byte ∷ digits) = if byte == 45 then negative_of digits else positive_of (byte ∷ digits)
+int_of word =
+    let value = signed_digits_value 10 word in
+    if is_integer_form word && is_within_64_bits value then Some value else None

@@ -1,3 +1,4 @@
+pub mod Grammar
 pub mod Hexadecimal
 pub mod Integers
 pub mod Lines

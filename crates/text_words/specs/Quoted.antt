@@ -1,5 +1,5 @@
 -- Texts in double quotes. `"` is the byte 34, and the backslash is 92.
-use Rattle.std.specs.Prelude.{ℕ, zero, suc, ◌+◌, ◌-◌, ◌*◌, Bool, ◌&&◌, ◌==◌, nat_lt, nat_le, List, [], ◌∷◌, length, Option, Some, None, option_and_then, option_map, if◌then◌else◌}
+use Rattle.std.specs.Prelude.{ℕ, zero, suc, ◌+◌, ◌-◌, ◌*◌, ◌&&◌, ◌==◌, nat_lt, nat_le, List, [], ◌∷◌, length, Option, Some, None, option_and_then, option_map, if◌then◌else◌}
 use Rattle.std.specs.Option.{option_map_or}
 
 -- the value of a lower-case hexadecimal digit
@@ -49,7 +49,7 @@ with_byte byte read = option_map (λ text. (byte ∷ text.0, text.1)) read
 -- a text of at most n bytes, and the bytes after its closing quote: pieces as long as there are any, then the quote
 unfoldable pub text_within : ℕ → List ℕ → Option (List ℕ × List ℕ)
 text_within zero bytes = closing bytes
-text_within (suc n) bytes = option_map_or (λ piece. with_byte piece.0 (text_within n piece.1)) (closing bytes) (piece_at bytes)
+text_within (suc n) bytes = option_map_or (λ piece. with_byte piece.0 (text_within n piece.1)) (piece_at bytes) (closing bytes)
 
 -- the text that goes on here after its opening quote, and the bytes after its closing quote
 abbrev pub text_at : List ℕ → Option (List ℕ × List ℕ)

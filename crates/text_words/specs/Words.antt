@@ -1,5 +1,5 @@
 -- Words of a line.
-use Rattle.std.specs.Prelude.{ℕ, zero, suc, Bool, true, false, ◌||◌, ◌==◌, List, [], ◌∷◌, length, take, drop, Option, Some, None, is_some, option_and_then, option_map, if◌then◌else◌}
+use Rattle.std.specs.Prelude.{ℕ, zero, suc, Bool, true, ◌||◌, ◌==◌, List, [], ◌∷◌, length, take, drop, Option, Some, None, is_some, option_and_then, option_map, if◌then◌else◌}
 use Rattle.std.specs.List.{position_or_len}
 use Rattle.text_words.specs.declared.style.Style.{Style}
 use Rattle.text_words.specs.declared.style.Style.TheVariants.{Spaced, Punctuated}

@@ -1,8 +1,8 @@
 //! Bytes in lower-case hexadecimal, and names of rows.
 
-ghost use Rattle.std.specs.Prelude.{◌≡◌};
+ghost use Rattle.std.specs.Prelude.{◌≡◌, position};
 ghost use Rattle.std.specs.List.{list_all};
-ghost use Rattle.text_words.specs.Hexadecimal.{is_lower_digit, block_of_hex, row_of};
+ghost use Rattle.text_words.specs.Hexadecimal.{is_lower_digit, block_of_hex, index_of as number_of, is_colon, row_of};
 
 use crate::integer_of;
 
@@ -30,9 +30,21 @@ fn are_lower_digits(digits: &[u8]) -> bool
 pub fn row_name_of(word: &[u8]) -> Option<([u8; 32], u16)>
     ensures { result ≡ row_of word.now }
 {
-    let colon = word.iter().position(|byte| *byte == b':')?;
-    let (digits, rest) = word.split_at(colon);
-    let id = bytes_of_hex(digits)?;
-    let index = u16::try_from(integer_of(&rest[1..])?).ok()?;
+    let colon = place_of_colon(word)?;
+    let id = bytes_of_hex(&word[..colon])?;
+    let index = index_of(&word[colon + 1..])?;
     Some((id, index))
+}
+
+fn place_of_colon(word: &[u8]) -> Option<usize>
+    ensures { result ≡ position is_colon word.now }
+{
+    word.iter().position(|byte| *byte == b':')
+}
+
+/// The number of an operation that a word writes.
+fn index_of(word: &[u8]) -> Option<u16>
+    ensures { result ≡ number_of word.now }
+{
+    u16::try_from(integer_of(word)?).ok()
 }

@@ -1,5 +1,7 @@
 ghost use Rattle.std.specs.Prelude.{◌≡◌};
-ghost use Rattle.text_words.specs.Integers.{int_of, is_positive_numeral as is_numeral};
+ghost use Rattle.std.specs.Char.{is_ascii_digit};
+ghost use Rattle.std.specs.List.{list_all};
+ghost use Rattle.text_words.specs.Integers.{int_of, is_integer_form as is_form, is_positive_numeral as is_numeral};
 
 use std::str;
 
@@ -11,15 +13,19 @@ pub fn integer_of(bytes: &[u8]) -> Option<i64>
     if !is_integer_form(bytes) {
         return None;
     }
-    str::from_utf8(bytes).ok()?.parse().ok()
+    match str::from_utf8(bytes) {
+        Ok(digits) => digits.parse().ok(),
+        Err(_) => None,
+    }
 }
 
 /// Whether bytes are an integer in decimal, of whatever size.
-fn is_integer_form(bytes: &[u8]) -> bool {
+fn is_integer_form(bytes: &[u8]) -> bool
+    ensures { result ≡ is_form bytes.now }
+{
     match bytes {
-        [b'0'] => true,
         [b'-', digits @ ..] => is_positive_numeral(digits),
-        digits => is_positive_numeral(digits),
+        _ => bytes == b"0".as_slice() || is_positive_numeral(bytes),
     }
 }
 
@@ -28,6 +34,12 @@ fn is_positive_numeral(digits: &[u8]) -> bool
 {
     match digits {
         [] | [b'0', ..] => false,
-        digits => digits.iter().all(|byte| byte.is_ascii_digit()),
+        _ => are_digits(digits),
     }
+}
+
+fn are_digits(bytes: &[u8]) -> bool
+    ensures { result ≡ list_all is_ascii_digit bytes.now }
+{
+    bytes.iter().all(|byte| byte.is_ascii_digit())
 }

@@ -20,6 +20,7 @@
 mod byte_string;
 mod hexadecimal;
 mod integers;
+mod laws;
 mod lines;
 mod literal;
 mod literals;
@@ -34,6 +35,7 @@ mod word;
 pub use byte_string::ByteString;
 pub use hexadecimal::{bytes_of_hex, row_name_of};
 pub use integers::integer_of;
+pub use laws::{lines_are_the_text, words_are_by_rule};
 pub use lines::next_line;
 pub use literal::Literal;
 pub use literals::literal_of;

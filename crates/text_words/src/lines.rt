@@ -1,5 +1,5 @@
-ghost use Rattle.std.specs.Prelude.{◌≡◌, [], ◌∷◌, ◌<◌, length, IfSome, IfNone};
-ghost use Rattle.text_words.specs.Lines.{lines_of, Begins};
+ghost use Rattle.std.specs.Prelude.{◌≡◌, [], ◌∷◌, ◌<◌, length, position, IfSome, IfNone};
+ghost use Rattle.text_words.specs.Lines.{lines_of, Begins, LosesCr, is_lf};
 
 /// The first line of a text, and what comes after it. There is none where the text is empty.
 ///
@@ -14,17 +14,22 @@ pub fn next_line(text: &[u8]) -> Option<(&[u8], &[u8])>
     if text.is_empty() {
         return None;
     }
-    match text.iter().position(|byte| *byte == b'\n') {
-        None => Some((text, &text[text.len()..])),
-        Some(place) => {
-            let (line, rest) = text.split_at(place);
-            Some((without_cr(line), &rest[1..]))
-        }
+    match place_of_lf(text) {
+        None => Some((text, &[])),
+        Some(place) => Some((without_cr(&text[..place]), &text[place + 1..])),
     }
 }
 
+fn place_of_lf(text: &[u8]) -> Option<usize>
+    ensures { result ≡ position is_lf text.now }
+{
+    text.iter().position(|byte| *byte == b'\n')
+}
+
 /// What stands before an LF, without one CR at its end.
-fn without_cr(line: &[u8]) -> &[u8] {
+fn without_cr(line: &[u8]) -> &[u8]
+    ensures { LosesCr line.now result.now }
+{
     match line {
         [front @ .., b'\r'] => front,
         _ => line,

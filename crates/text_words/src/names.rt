@@ -1,4 +1,5 @@
 ghost use Rattle.std.specs.Prelude.{◌≡◌};
+ghost use Rattle.std.specs.List.{list_all};
 ghost use Rattle.text_words.specs.Names.{is_a_name, is_spelled_as_name, is_name_byte};
 
 /// Whether bytes are a name: 1 to 32 of `a` to `z`, `0` to `9` and `_`, of which the first is a letter.
@@ -14,10 +15,14 @@ pub fn has_name_letters(bytes: &[u8]) -> bool
 {
     match bytes {
         [] => false,
-        [first, rest @ ..] => {
-            first.is_ascii_lowercase() && rest.iter().all(|byte| is_name_letter(*byte))
-        }
+        [first, rest @ ..] => first.is_ascii_lowercase() && are_name_bytes(rest),
     }
+}
+
+fn are_name_bytes(bytes: &[u8]) -> bool
+    ensures { result ≡ list_all is_name_byte bytes.now }
+{
+    bytes.iter().all(|byte| is_name_letter(*byte))
 }
 
 fn is_name_letter(byte: u8) -> bool

@@ -1,7 +1,7 @@
 //! Texts in double quotes, and their escapes.
 
-ghost use Rattle.std.specs.Prelude.{◌≡◌, option_map, IfOk};
-ghost use Rattle.text_words.specs.Quoted.{text_at, piece_at, escape_at, hex_escape, digit_of};
+ghost use Rattle.std.specs.Prelude.{◌≡◌, [], option_map, IfOk};
+ghost use Rattle.text_words.specs.Quoted.{text_at, closing, piece_at, escape_at, hex_escape, digit_of};
 
 use crate::ByteString;
 use std::alloc::{AllocError, Global};
@@ -19,10 +19,20 @@ pub(crate) fn text_of(
         text.push(byte)?;
         rest = after;
     }
-    Ok(match rest {
-        [b'"', after @ ..] => Some((ByteString::from_vec(text), after)),
+    let Some(after) = after_quote(rest) else {
+        return Ok(None);
+    };
+    Ok(Some((ByteString::from_vec(text), after)))
+}
+
+/// The bytes after a closing quote.
+fn after_quote(bytes: &[u8]) -> Option<&[u8]>
+    ensures { option_map (λ after. ([], after.now)) result ≡ closing bytes.now }
+{
+    match bytes {
+        [b'"', after @ ..] => Some(after),
         _ => None,
-    })
+    }
 }
 
 /// One byte of a text, as it stands or escaped, and the bytes after it.

@@ -1,4 +1,5 @@
-ghost use Rattle.std.specs.Prelude.{◌≡◌, option_map, IfOk};
+ghost use Rattle.std.specs.Prelude.{◌≡◌, option_map, position, IfOk};
+ghost use Rattle.std.specs.List.{position_or_len};
 ghost use Rattle.text_words.specs.Words.{skip_blanks as after_blanks, passed_over, first_word as word_at_front, quoted_word as quoted_at, plain_word as plain_at, words_of, mark_of, is_end as is_end_byte, ends_word as word_ends};
 ghost use Rattle.text_words.specs.declared.style.Style.TheVariants.{Spaced, Punctuated};
 
@@ -64,6 +65,7 @@ pub fn skip_blanks(bytes: &[u8]) -> &[u8]
 ///
 /// With [`skip_blanks`] before it, it reads a line word by word, where callers need the place of each word, or want a
 /// fault before a bad text: a word's place is the length of the line less the length of what it begins.
+#[tactic(auto, unfolding(crate::specs::Words::first_word))]
 pub fn first_word(
     alloc: Global,
     style: Style,
@@ -91,10 +93,13 @@ fn quoted_word(
 ) -> Result<Option<(Word, &[u8])>, AllocError>
     ensures { IfOk result (λ found. option_map (λ read. (read.0, read.1.now)) found ≡ quoted_at style bytes.now) }
 {
-    Ok(match text_of(alloc, bytes)? {
-        Some((text, rest)) if ends_word(style, rest) => Some((Word::Quoted(text), rest)),
-        _ => None,
-    })
+    let Some((text, rest)) = text_of(alloc, bytes)? else {
+        return Ok(None);
+    };
+    if !ends_word(style, rest) {
+        return Ok(None);
+    }
+    Ok(Some((Word::Quoted(text), rest)))
 }
 
 /// The first byte and the bytes up to the next that ends a word.
@@ -106,15 +111,25 @@ fn plain_word(
 ) -> Result<(Word, &[u8]), AllocError>
     ensures { IfOk result (λ read. (read.0, read.1.now) ≡ plain_at style first rest.now) }
 {
-    let length = rest
-        .iter()
-        .position(|byte| is_end(style, *byte))
-        .unwrap_or(rest.len());
+    let length = length_to_end(style, rest);
     let (more, after) = rest.split_at(length);
     let mut bytes = Vec::with_capacity(alloc, 1 + length)?;
     bytes.push(first)?;
     bytes.extend_from_slice(more)?;
     Ok((Word::Plain(ByteString::from_vec(bytes)), after))
+}
+
+/// How many bytes stand before the first that ends a word.
+fn length_to_end(style: Style, bytes: &[u8]) -> usize
+    ensures { result ≡ position_or_len (is_end_byte style) bytes.now }
+{
+    place_of_end(style, bytes).unwrap_or(bytes.len())
+}
+
+fn place_of_end(style: Style, bytes: &[u8]) -> Option<usize>
+    ensures { result ≡ position (is_end_byte style) bytes.now }
+{
+    bytes.iter().position(|byte| is_end(style, *byte))
 }
 
 fn ends_word(style: Style, bytes: &[u8]) -> bool

@@ -1,0 +1,6 @@
+mod Completeness
+mod Soundness
+mod Tests
+mod Whole
+mod Meaning
+mod Places

@@ -1,0 +1,11 @@
+use Rattle.expression_text.specs.Columns.{HasRowText}
+use Rattle.expression_text.proofs.Tests.{each_more, each_told}
+use Rattle.expression_text.proofs.judging.are_row_texts.Goals as goal
+
+pub loop-token-preserved : goal.loop-token-preserved
+loop-token-preserved c =
+    each_more HasRowText c.args.tokens.now c.loop-token.token-index c.token-item.result c.loop-token-test.true c.loop-token.invariant c.token-item.is
+    (c.has_row_text.ensures.0 c.if-not-has_row_text.false)
+
+pub returns : goal.returns
+returns c = each_told HasRowText c.args.tokens.now c.loop-token.token-index c.loop-token-test.false c.loop-token.invariant

@@ -1,0 +1,219 @@
+//! What a line adds to a draft.
+
+ghost use Rattle.std.specs.Prelude.{◌≡◌, ◌≤◌, ℕ, IsTrue, All, length, OnOk};
+ghost use Rattle.expression_text.specs.Columns.{IsKnown, HasRowText};
+ghost use Rattle.expression_text.specs.Grammar.{IsExpression};
+ghost use Rattle.schema.specs.Columns.{names_of};
+ghost use Rattle.text_words.specs.Names.{is_a_name};
+ghost use Rattle.schema.specs.Drafts.{kind_declared, with_column};
+ghost use Rattle.schema.specs.Faults.{AreBounds};
+ghost use Rattle.schema.specs.Sound.{IsDraft, CanAdd, IsRowLiteral};
+ghost use Rattle.schema.specs.Steps.{IsAfter, IsCheckAdded, number_of, target_number, match_rule, with_match, with_unique, with_sample, with_table};
+
+use crate::draft::{Draft, Phase, no_table};
+use crate::form::{Form, PlainKind};
+use crate::lookups::{columns_at, number_named, reference_named, table_named};
+use crate::names::names_of;
+use crate::samples::sample_row;
+use crate::{CheckRule, Column, ColumnKind, MatchRule, UniqueRule};
+use expression_text::{Token, build};
+use row_check::Cmp;
+use std::alloc::{AllocError, Global};
+use std::mem;
+use text_words::{ByteString, Literal};
+use update_model::{TextValue, ValueList};
+
+impl Draft {
+    /// Adds what the line with this number says, in which nothing is wrong.
+    pub(crate) fn add(&mut self, alloc: Global, line: u32, form: Form) -> Result<(), AllocError>
+        requires draft { IsDraft self.old }
+        requires form { CanAdd self.old form }
+        ensures { OnOk result (IsAfter line self.old form self.new) }
+    {
+        match form {
+            Form::Database { .. } => {
+                self.phase = Phase::Authors;
+                Ok(())
+            }
+            Form::Author { key } => self.authors.push(key),
+            Form::Table {
+                name,
+                deletable,
+                owned,
+            } => {
+                self.begin_table(alloc, name, deletable, owned);
+                Ok(())
+            }
+            Form::Column { name, kind, null } => {
+                self.add_column(name, kind_declared(&kind), null, line)
+            }
+            Form::Ref {
+                name,
+                table,
+                action,
+                null,
+            } => {
+                let target = table_named(self, table.as_slice()).unwrap_or(0) as u8;
+                self.add_column(name, ColumnKind::Reference { target, action }, null, line)
+            }
+            Form::Check { tokens } => self.add_check(alloc, line, tokens.as_slice()),
+            Form::Match {
+                column,
+                cmp,
+                reference,
+                target_column,
+            } => self.add_match(
+                line,
+                column.as_slice(),
+                cmp,
+                reference.as_slice(),
+                target_column.as_slice(),
+            ),
+            Form::Unique { column } => self.add_unique(line, column.as_slice()),
+            Form::AtMost { count } => {
+                self.phase = Phase::Rules;
+                self.table.at_most = count.unsigned_abs() as u8;
+                self.table.at_most_line = line;
+                Ok(())
+            }
+            Form::Sample { values } => self.end_table(alloc, values.as_slice()),
+        }
+    }
+
+    fn begin_table(&mut self, alloc: Global, name: ByteString, deletable: bool, owned: bool)
+        requires { IsTrue (is_a_name name) }
+        ensures { self.new ≡ with_table self.old name deletable owned }
+    {
+        self.phase = Phase::Columns;
+        self.table = no_table(alloc);
+        self.table.name = TextValue::from_vec(name.into_vec());
+        self.table.deletable = deletable;
+        self.table.owned = owned;
+    }
+
+    fn add_column(
+        &mut self,
+        name: ByteString,
+        kind: ColumnKind,
+        null: bool,
+        line: u32,
+    ) -> Result<(), AllocError>
+        requires { IsTrue (is_a_name name) }
+        ensures { OnOk result (self.new ≡ with_column self.old (record { name = name; kind = kind; null = null; line = line })) }
+    {
+        let name = TextValue::from_vec(name.into_vec());
+        self.table.columns.push(Column {
+            name,
+            kind,
+            null,
+            line,
+        })
+    }
+
+    fn add_check(&mut self, alloc: Global, line: u32, tokens: &[Token]) -> Result<(), AllocError>
+        requires few { length self.old.table.columns ≤ 16 }
+        requires short { length tokens.now ≤ 256 }
+        requires expression { IsExpression tokens.now }
+        requires known { All (IsKnown (names_of self.old.table.columns)) tokens.now }
+        requires texts { All HasRowText tokens.now }
+        ensures { OnOk result (IsCheckAdded line self.old tokens.now self.new) }
+    {
+        let names = names_of(alloc, self.table.columns.as_slice())?;
+        let expr = build(alloc, tokens, names.as_slice())?;
+        self.phase = Phase::Rules;
+        self.table.checks.push(CheckRule { expr, line })
+    }
+
+    fn add_match(
+        &mut self,
+        line: u32,
+        column: &[u8],
+        cmp: Cmp,
+        reference: &[u8],
+        target_column: &[u8],
+    ) -> Result<(), AllocError>
+        requires { IsDraft self.old }
+        ensures { OnOk result (self.new ≡ with_match line self.old column.now cmp reference.now target_column.now) }
+    {
+        let rule = self.match_rule(line, column, cmp, reference, target_column);
+        self.phase = Phase::Rules;
+        self.table.matches.push(rule)
+    }
+
+    /// A MATCH by the numbers of its columns.
+    fn match_rule(
+        &self,
+        line: u32,
+        column: &[u8],
+        cmp: Cmp,
+        reference: &[u8],
+        target_column: &[u8],
+    ) -> MatchRule
+        requires { IsDraft self.now }
+        ensures { result ≡ match_rule line self.now column.now cmp reference.now target_column.now }
+    {
+        let columns = self.table.columns.as_slice();
+        MatchRule {
+            column: number_of(columns, column),
+            cmp,
+            reference: number_of(columns, reference),
+            target_column: self.target_number(reference, target_column),
+            line,
+        }
+    }
+
+    /// The number of a column of the table that a reference names.
+    fn target_number(&self, reference: &[u8], target_column: &[u8]) -> u8
+        requires { IsDraft self.now }
+        ensures { result ≡ target_number self.now reference.now target_column.now }
+    {
+        match reference_named(self.table.columns.as_slice(), reference) {
+            Some((table, _)) => number_of(columns_at(self, table), target_column),
+            None => 0,
+        }
+    }
+
+    fn add_unique(&mut self, line: u32, column: &[u8]) -> Result<(), AllocError>
+        requires { length self.old.table.columns ≤ 16 }
+        ensures { OnOk result (self.new ≡ with_unique line self.old column.now) }
+    {
+        let column = number_of(self.table.columns.as_slice(), column);
+        self.phase = Phase::Rules;
+        self.table.uniques.push(UniqueRule { column, line })
+    }
+
+    /// Ends the table that has begun with this sample.
+    fn end_table(&mut self, alloc: Global, values: &[Literal]) -> Result<(), AllocError>
+        requires { All IsRowLiteral values.now }
+        ensures { OnOk result (self.new ≡ with_sample self.old values.now) }
+    {
+        let row = sample_row(alloc, self.table.columns.as_slice(), values)?;
+        let mut table = mem::replace(&mut self.table, no_table(alloc));
+        table.sample = ValueList::from_vec(row);
+        self.phase = Phase::Between;
+        self.tables.push(table)
+    }
+}
+
+/// The number of the column with this name, which is there.
+fn number_of(columns: &[Column], name: &[u8]) -> u8
+    requires { length columns.now ≤ 16 }
+    ensures { result ≡ number_of columns.now name.now }
+{
+    number_named(columns, name).unwrap_or(0) as u8
+}
+
+/// The kind of a column of values.
+fn kind_declared(kind: &PlainKind) -> ColumnKind
+    requires { AreBounds kind.now }
+    ensures { result ≡ kind_declared kind.now }
+{
+    match kind {
+        PlainKind::Int { lo, hi } => ColumnKind::Int { lo: *lo, hi: *hi },
+        PlainKind::Text { lo, hi } => ColumnKind::Text {
+            lo: lo.unsigned_abs() as u16,
+            hi: hi.unsigned_abs() as u16,
+        },
+        PlainKind::Flag => ColumnKind::Flag,
+    }
+}

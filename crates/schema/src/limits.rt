@@ -1,0 +1,116 @@
+ghost use Rattle.std.specs.Prelude.{◌≡◌, ◌==◌, ◌↔◌, IsTrue, All};
+ghost use Rattle.std.specs.List.{list_any};
+ghost use Rattle.schema.specs.Faults.{IsWithinLimits, IsShort, AreFewAndShort, HasShortName, HasShortLiteral, is_unique, is_overlong};
+
+use crate::draft::Draft;
+use crate::form::Form;
+use crate::lookups::number_named;
+use crate::{TableDef, UniqueRule};
+use expression_text::{Token, are_short_texts};
+use text_words::{Literal, has_name_letters};
+
+/// Whether nothing in a line is too many, too long or there twice.
+pub(crate) fn is_within_limits(draft: &Draft, form: &Form) -> bool
+    ensures { IsTrue result ↔ IsWithinLimits draft.now form.now }
+{
+    let table = &draft.table;
+    match form {
+        Form::Database { name } => is_short(name.as_slice()),
+        Form::Author { key } => {
+            let authors = draft.authors.as_slice();
+            authors.len() < 256 && !authors.contains(key)
+        }
+        Form::Table { name, .. } => {
+            draft.tables.as_slice().len() < 16 && is_short(name.as_slice())
+        }
+        Form::Column { name, .. } => {
+            table.columns.as_slice().len() < 16 && is_short(name.as_slice())
+        }
+        Form::Ref { name, .. } => {
+            table.columns.as_slice().len() < 16 && is_short(name.as_slice())
+        }
+        Form::Check { tokens } => {
+            table.checks.as_slice().len() < 16 && are_few_and_short(tokens.as_slice())
+        }
+        Form::Match {
+            column,
+            reference,
+            target_column,
+            ..
+        } => {
+            table.matches.as_slice().len() < 16
+                && is_short(column.as_slice())
+                && is_short(reference.as_slice())
+                && is_short(target_column.as_slice())
+        }
+        Form::Unique { column } => {
+            is_short(column.as_slice())
+                && !is_unique(
+                    table,
+                    number_named(table.columns.as_slice(), column.as_slice()),
+                )
+        }
+        Form::AtMost { count } => 1 <= *count && *count <= 64 && table.at_most == 0,
+        Form::Sample { values } => are_short_literals(values.as_slice()),
+    }
+}
+
+/// Whether bytes are no name that is too long.
+fn is_short(name: &[u8]) -> bool
+    ensures { IsTrue result ↔ IsShort name.now }
+{
+    name.len() <= 32 || !has_name_letters(name)
+}
+
+/// Whether an expression has at most 256 tokens, and no text or name in it is too long.
+fn are_few_and_short(tokens: &[Token]) -> bool
+    ensures { IsTrue result ↔ AreFewAndShort tokens.now }
+{
+    tokens.len() <= 256 && are_short_texts(tokens) && are_short_names(tokens)
+}
+
+fn are_short_names(tokens: &[Token]) -> bool
+    ensures { IsTrue result ↔ All HasShortName tokens.now }
+{
+    tokens.iter().all(|token| has_short_name(token))
+}
+
+fn has_short_name(token: &Token) -> bool
+    ensures { IsTrue result ↔ HasShortName token.now }
+{
+    match token {
+        Token::Column(name) => is_short(name.as_slice()),
+        _ => true,
+    }
+}
+
+fn are_short_literals(literals: &[Literal]) -> bool
+    ensures { IsTrue result ↔ All HasShortLiteral literals.now }
+{
+    literals.iter().all(|literal| is_short_literal(literal))
+}
+
+fn is_short_literal(literal: &Literal) -> bool
+    ensures { IsTrue result ↔ HasShortLiteral literal.now }
+{
+    match literal {
+        Literal::Text(text) => text.as_slice().len() <= 1024,
+        Literal::Null | Literal::Integer(_) | Literal::Flag(_) => true,
+    }
+}
+
+/// Whether a `UNIQUE` of the column with this number stands already.
+fn is_unique(table: &TableDef, column: Option<usize>) -> bool
+    ensures { result ≡ is_unique table.now column }
+{
+    match column {
+        None => false,
+        Some(column) => has_unique(table.uniques.as_slice(), column),
+    }
+}
+
+fn has_unique(rules: &[UniqueRule], column: usize) -> bool
+    ensures { result ≡ list_any (λ rule. rule.column == column) rules.now }
+{
+    rules.iter().any(|rule| usize::from(rule.column) == column)
+}
