@@ -31,7 +31,7 @@ use Rattle.schema.proofs.Plain.{is_plain, compared_left, compared_right, plain_s
 use Rattle.schema.proofs.Soundness.{table_number, ComparesPlain, IsSound, each_at, kind_of_target}
 
 -- a test of each shown row
-all_shown : (rules : Rules) (g : Effects) (q : TableRow → Bool) → (rows : List TableRow) → AllByRecursion (Stands rules g.inserted) rows
+pub all_shown : (rules : Rules) (g : Effects) (q : TableRow → Bool) → (rows : List TableRow) → AllByRecursion (Stands rules g.inserted) rows
     → ((e : TableRow) → Stands rules g.inserted e → is_visible rules g e.name ≡ true → q (shown rules g e) ≡ true)
     → list_all q (map (shown rules g) (filter (λ row. is_visible rules g row.name) rows)) ≡ true
 all_shown rules g q [] s h = refl

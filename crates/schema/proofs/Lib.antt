@@ -24,6 +24,7 @@ pub mod SameClaims
 pub mod SameEffects
 pub mod SameTables
 pub mod Sampled
+pub mod ShownFit
 pub mod Sides
 pub mod Soundness
 pub mod Standing

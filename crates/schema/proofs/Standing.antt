@@ -7,7 +7,7 @@ use Rattle.update_model.specs.Entry.{same_id}
 use Rattle.update_model.proofs.Ids.{id_from_same, same_id-refl}
 use Rattle.row_check.specs.Meaning.{value_at}
 use Rattle.schema.specs.Visible.{Rules, TableRow, Effects, same_row, table_of, refs, is_cascade, cascade_refs, shows, visible_to, is_visible, is_deleted}
-use Rattle.schema.specs.Verdicts.{checks_hold, stands_among, matches_among, matches_hold}
+use Rattle.schema.specs.Verdicts.{all_fit, checks_hold, stands_among, matches_among, matches_hold}
 use Rattle.schema.proofs.Order.{any_weaker}
 use Rattle.schema.proofs.Founded.{match_more, all_weaker, IsFounded, Founded, IsWellFounded}
 
@@ -23,6 +23,7 @@ same_row-refl a = and_from _ _ (same_id-refl a.update) (eq-eqb a.index a.index r
 pub record Stands (rules : Rules) (rows : List TableRow) (row : TableRow) : Type 0 where
   pub here : (p : TableRow → Bool) → p row ≡ true → list_any p rows ≡ true
   pub only : (p : TableRow → Bool) → list_any (λ e. same_row e.name row.name && p e) rows ≡ true → p row ≡ true
+  pub fit : all_fit (table_of rules row.table).columns row.values ≡ true
   pub checked : checks_hold rules.ask row.values (table_of rules row.table).checks ≡ true
   pub referred : list_all (stands_among rows) (refs rules row) ≡ true
   pub matched : matches_hold rows row.values (table_of rules row.table).matches ≡ true
@@ -47,6 +48,7 @@ each_stands rules (row ∷ older) f =
           | inl own ↦ (and_parts _ _ own).1
           | inr other ↦ absurd (both_ways _ it.new (any_weaker (λ e. same_row e.name row.name && p e) (λ e. same_row e.name row.name) (λ e g. (and_parts _ _ g).0) older other))
         ];
+        fit = it.fits;
         checked = it.checked;
         referred = referred row it.referred;
         matched = matched row it.matched;
@@ -59,6 +61,7 @@ each_stands rules (row ∷ older) f =
               subst (λ (n : RowName). same_row e.name n ≡ true) (sym same) (same_row-refl e.name))))
           | inr other ↦ s.only p other
         ];
+        fit = s.fit;
         checked = s.checked;
         referred = referred e s.referred;
         matched = matched e s.matched;

@@ -141,6 +141,10 @@ limits_hold rows number [] = true
 limits_hold rows number (table ∷ tables) =
     list_all (λ rule. unique_holds rows number rule.column) table.uniques && at_most_holds rows number table.at_most && limits_hold rows (number + 1) tables
 
+-- whether a table has neither UNIQUE nor ATMOST
+abbrev pub is_unlimited : TableDef → Bool
+is_unlimited table = (length table.uniques == 0) && (table.at_most == 0)
+
 -- The first reason that applies, operation by operation from this number on, after what the ancestors did, of which these
 -- rows are visible, and what earlier operations did. At the end 9: a UNIQUE or an AT MOST is broken in the tables of the
 -- ancestors and the update together.

@@ -2,6 +2,7 @@
 //! first, and `ask` is whatever native checks mean.
 
 ghost use Rattle.std.specs.Prelude.{◌≡◌, List, [], ◌∷◌, ◌++◌, Contains, reverse, IsTrue, false};
+ghost use Rattle.std.specs.List.{list_all};
 ghost use Rattle.std.specs.List.Sorted.{IsPermutation};
 ghost use Rattle.update_model.specs.declared.row_name.RowName.{RowName};
 ghost use Rattle.update_model.specs.Entry.{Entry};
@@ -16,8 +17,8 @@ ghost use Rattle.schema.specs.Invariants.{Claim, Declared, claim_holds, claims_o
 ghost use Rattle.schema.specs.Nodes.{Agree, AreNodesOf, IsClosed, IsSameSet, union};
 ghost use Rattle.schema.specs.Sound.{AreTables};
 ghost use Rattle.schema.specs.Tables.{AreTablesOf};
-ghost use Rattle.schema.specs.Verdicts.{effects_in, judged};
-ghost use Rattle.schema.specs.Visible.{Rules, is_visible, shows};
+ghost use Rattle.schema.specs.Verdicts.{all_fit, effects_in, is_unlimited, judged, limits_hold};
+ghost use Rattle.schema.specs.Visible.{Rules, TableRow, is_visible, shows, table_of};
 
 /// A list that is closed in the order of arrival is closed newest first.
 pub fn arrivals_are_closed()
@@ -91,4 +92,15 @@ pub fn first_refused_is_confirmed()
     ensures { (rules : Rules) (earlier later : List Declared) (declared : Declared) → AreTables [] rules.tables → SamplesPass rules
         → invariants_of rules ≡ earlier ++ declared ∷ later → IsTrue (are_accepted rules earlier) → accepts rules declared.claim ≡ false
         → IsTrue (confirms rules (claims_of earlier) declared.claim (example_of rules declared.claim)) }
+{}
+
+/// Every row that a closed list shows fits the columns of its table.
+pub fn shown_rows_fit()
+    ensures { (rules : Rules) (nodes : List NodeData) → AreTables [] rules.tables → IsClosed nodes
+        → IsTrue (list_all (λ row. all_fit (table_of rules row.table).columns row.values) (shown_in rules nodes)) }
+{}
+
+/// Where no table has a UNIQUE or an ATMOST, no update is void for the ninth reason.
+pub fn unlimited_tables_hold()
+    ensures { (rules : Rules) (rows : List TableRow) → IsTrue (list_all is_unlimited rules.tables) → IsTrue (limits_hold rows 0 rules.tables) }
 {}
