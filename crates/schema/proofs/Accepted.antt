@@ -22,7 +22,7 @@ use Rattle.schema.specs.Columns.{target_of, reference_at, is_restrict, are_compa
 use Rattle.schema.specs.Sound.{IsSoundCheck}
 use Rattle.schema.specs.Nodes.{IsClosed}
 use Rattle.schema.specs.Visible.{Rules, TableRow, Effects, RowRef, same_row, table_of, ref_to, ref_in, refs_in, refs, is_cascade, cascade_refs, visible_to, is_visible, is_deleted, shown_value, shown_values, shown, shown_rows}
-use Rattle.schema.specs.Verdicts.{stands_among, matches_among, in_table, effects_in}
+use Rattle.schema.specs.Verdicts.{stands_among, matches_among, in_table, effects_in, effects, judge_next, judged, verdict_on}
 use Rattle.schema.specs.Invariants.{Claim, Unique, AtMost, Refers, Check, Match, names_shown, claim_holds, shown_in}
 use Rattle.schema.specs.Confluence.{cascade_target, cascade_targets, permanent_to, is_permanent, accepts}
 use Rattle.schema.proofs.Founded.{IsFounded, Founded, erasable, IsWellFounded, founded_closed}
@@ -210,6 +210,7 @@ module _ (rules : Rules) (sound : IsSound rules) (g : Effects) (f : IsWellFounde
   -- rows of permanent tables stay
   permanent_each : (rows : List TableRow) → Founded rules rows → AllByRecursion (Stands rules g.inserted) rows
       → AllByRecursion (λ e. (depth : ℕ) → permanent_to rules depth e.table ≡ true → visible_to rules g (length rows) e.name ≡ true) rows
+  unfolding visible_to permanent_to
   permanent_each [] fs s = tt
   permanent_each (e ∷ older) fs s =
       let it : IsFounded rules older e = fs.0 in
@@ -246,6 +247,7 @@ module _ (rules : Rules) (sound : IsSound rules) (g : Effects) (f : IsWellFounde
       (first, each-map _ _ (λ x p d h. deeper rules g (length older) x.name (p d h)) older before)
 
   permanent_visible : (target : ℕ) (name : RowName) → is_permanent rules target ≡ true → list_any (λ row. same_row row.name name && (row.table == target)) g.inserted ≡ true → is_visible rules g name ≡ true
+  unfolding permanent_to
   permanent_visible target name h there =
       any_each (λ x. (d : ℕ) → permanent_to rules d x.table ≡ true → is_visible rules g x.name ≡ true) (λ row. same_row row.name name && (row.table == target)) _
       (λ x px hx. let two = and_parts (same_row x.name name) _ hx in
@@ -364,6 +366,7 @@ IsDeclared rules (Match t m) = (place : ℕ) × (slice_get (table_of rules t).ma
 -- accepted invariants hold in every closed list
 pub accepted_stands : (rules : Rules) → IsSound rules → (nodes : List NodeData) → IsClosed nodes → (claim : Claim) → IsDeclared rules claim → accepts rules claim ≡ true
     → claim_holds rules (shown_in rules nodes) claim ≡ true
+unfolding verdict_on effects judge_next judged
 accepted_stands rules sound nodes c (Unique t col) d h = absurd (cc)
 accepted_stands rules sound nodes c (AtMost t k) d h = absurd (cc)
 accepted_stands rules sound nodes c (Refers t col target action.Restrict) d h = restrict_holds rules sound (effects_in rules nodes) (founded_closed rules nodes c) t col target d h

@@ -9,7 +9,7 @@ use Rattle.schema.specs.Visible.{Rules, TableRow, Effects, table_of, missing_tab
 use Rattle.schema.specs.Verdicts.{in_table, insert_reason, first_reason, stands_among, matches_among, limits_hold, at_most_holds, unique_holds}
 use Rattle.schema.specs.Invariants.{Claim, AtMost, claim_holds, shown_in}
 use Rattle.schema.specs.Confluence.{accepts, breaks}
-use Rattle.schema.specs.Examples.{Item, after, chain, copies, has_table, item_of, base_of}
+use Rattle.schema.specs.Examples.{Item, after, chain, copies, has_table, item_of, base_of, need}
 use Rattle.schema.proofs.Alike.{weight, one_if, count-weight, weight-map}
 use Rattle.schema.proofs.Founded.{Sub, IsWellFounded, founded_closed, match_more, all_weaker, none_of_five}
 use Rattle.schema.proofs.Soundness.{IsSound}
@@ -136,6 +136,7 @@ pub at_most_refused : (rules : Rules) → AreSampled rules → IsSound rules →
     → breaks rules earlier (AtMost t (suc k)) (chain (copies k (item_of rules (base_of rules t) t) (base_of rules t)))
     (after (length (copies k (item_of rules (base_of rules t) t) (base_of rules t))) (suc (length (copies k (item_of rules (base_of rules t) t) (base_of rules t)))) (item_of rules (base_of rules t) t) ∷ [])
     (after (length (copies k (item_of rules (base_of rules t) t) (base_of rules t))) (suc (suc (length (copies k (item_of rules (base_of rules t) t) (base_of rules t))))) (item_of rules (base_of rules t) t) ∷ []) ≡ true
+unfolding need
 at_most_refused rules samples sound t k known bare most earlier ok =
     let items = base_of rules t in
     let x = item_of rules items t in

@@ -4,6 +4,7 @@ use Rattle.std.proofs.lemmas.Bool.{and_parts, or_parts, or_from, or_left, or_rig
 use Rattle.update_model.specs.declared.update_id.UpdateId.{UpdateId}
 use Rattle.update_model.specs.Entry.{same_id}
 use Rattle.update_model.specs.Node.{NodeData}
+use Rattle.schema.specs.Verdicts.{effects, judge_next, judged, verdict_on}
 use Rattle.schema.specs.Nodes.{node_of, Agree, holds, IsClosed, union}
 use Rattle.schema.specs.Visible.{Rules}
 use Rattle.schema.specs.Invariants.{Claim, claim_holds, shown_in, satisfies}
@@ -63,6 +64,7 @@ sides_agree base left right c id a b e f =
 
 -- what breaks an invariant shows that it is not confluent
 pub broken : (rules : Rules) (earlier : List Claim) (claim : Claim) (base left right : List NodeData) → breaks rules earlier claim base left right ≡ true → IsConfluent rules earlier claim → ⊥
+unfolding verdict_on effects judge_next judged
 broken rules earlier claim base left right h all =
     let a = left ++ base in
     let b = right ++ base in

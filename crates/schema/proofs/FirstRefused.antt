@@ -28,7 +28,7 @@ use Rattle.schema.specs.Visible.{Rules, missing_table, table_of}
 use Rattle.schema.specs.Verdicts.{fits_kind, fits}
 use Rattle.schema.specs.Invariants.{Claim, Unique, AtMost, Refers, Check, Match, Declared, each_from, declared_at, unique_declared, at_most_declared, refers_declared, reference_declared, check_declared, match_declared, table_declared, invariants_of, claims_of}
 use Rattle.schema.specs.Confluence.{accepts, are_accepted, breaks, confirms}
-use Rattle.schema.specs.Examples.{after, chain, copies, item_of, base_of, twice_after, unique_example, at_most_example}
+use Rattle.schema.specs.Examples.{after, chain, copies, item_of, base_of, twice_after, unique_example, at_most_example, need}
 use Rattle.schema.proofs.Founded.{all-append}
 use Rattle.schema.proofs.Plain.{is_plain, plain_target}
 use Rattle.schema.proofs.Soundness.{IsSound, each_at}
@@ -228,6 +228,7 @@ module _ (rules : Rules) (sound : IsSound rules) where
 
   module _ (samples : AreSampled rules) (earlier later : List Declared) (d : Declared) (e : invariants_of rules ≡ earlier ++ d ∷ later) (a : are_accepted rules earlier ≡ true) where
     pub unique_confirms : (t c : ℕ) → d.claim ≡ Unique t c → confirms rules (claims_of earlier) (Unique t c) (unique_example rules t) ≡ true
+    unfolding need
     unique_confirms t c is =
         let ready : IsReady rules (Unique t c) = subst (IsReady rules) is (first_ready earlier later d e a) in
         let columns = (table_of rules t).columns in
@@ -246,6 +247,7 @@ module _ (rules : Rules) (sound : IsSound rules) where
         ∙ unique_refused rules samples sound t c ready.0 facts.0 facts.1 (claims_of earlier) (earlier_accepted earlier later d e a)
 
     pub at_most_confirms : (t k : ℕ) → d.claim ≡ AtMost t k → confirms rules (claims_of earlier) (AtMost t k) (at_most_example rules t k) ≡ true
+    unfolding need
     at_most_confirms t zero is =
         let ready : IsReady rules (AtMost t zero) = subst (IsReady rules) is (first_ready earlier later d e a) in absurd (ready.3 refl)
     at_most_confirms t (suc k) is =

@@ -17,7 +17,7 @@ use Rattle.schema.specs.declared.rules.MatchRule.{MatchRule}
 use Rattle.schema.specs.declared.verdict.Verdict.TheVariants as verdict
 use Rattle.schema.specs.Nodes.{holds, IsNext, IsClosed}
 use Rattle.schema.specs.Visible.{Rules, TableRow, Effects, same_row, table_of, refs, visible_rows, is_visible}
-use Rattle.schema.specs.Verdicts.{is_valid, verdict_after, effects, effects_of, effects_after, row_inserted, joined, nothing, Judged, ancestor_of, judge_next, judged, all_fit, checks_hold, stands_among, matches_among, matches_hold, first_reason, insert_reason, delete_reason}
+use Rattle.schema.specs.Verdicts.{is_valid, verdict_after, effects, effects_of, effects_after, row_inserted, joined, nothing, Judged, ancestor_of, judge_next, judged, all_fit, checks_hold, stands_among, matches_among, matches_hold, first_reason, insert_reason, delete_reason, verdict_on}
 use Rattle.schema.proofs.Order.{any_weaker}
 
 -- whatever is among the first is among the second
@@ -177,6 +177,7 @@ own_rows node id apart k did (Insert t values ∷ ops) h = own_rows node id apar
 own_rows node id apart k did (Delete name ∷ ops) h = own_rows node id apart (k + 1) (record did { deleted = name ∷ did.deleted }) ops h
 
 rows_held : (rules : Rules) (nodes : List NodeData) (id : UpdateId) → holds nodes id ≡ false → list_any (λ e. same_id id e.name.update) (effects (judged rules nodes)).inserted ≡ false
+unfolding verdict_on effects judge_next judged
 rows_held rules [] id h = refl
 rows_held rules (n ∷ nodes) id h =
     let parts = or_parts (same_id id n.id) (holds nodes id) h in
@@ -191,6 +192,7 @@ rows_held rules (n ∷ nodes) id h =
 
 -- fewer members did less
 pub Sub-inserted : (p : Judged → Bool) (js : List Judged) → Sub (effects (filter p js)).inserted (effects js).inserted
+unfolding verdict_on effects judge_next judged
 Sub-inserted p js = record { more = go js } where
   go : (js : List Judged) (q : TableRow → Bool) → list_any q (effects (filter p js)).inserted ≡ true → list_any q (effects js).inserted ≡ true
   go [] q h = h
@@ -226,6 +228,7 @@ all-append p [] ys a b = b
 all-append p (x ∷ xs) ys a b = let parts = and_parts (p x) _ a in and_from _ _ parts.0 (all-append p xs ys parts.1 b)
 
 pub founded_closed : (rules : Rules) (nodes : List NodeData) → IsClosed nodes → IsWellFounded rules (effects (judged rules nodes))
+unfolding verdict_on effects judge_next judged
 founded_closed rules [] c = record { founded = tt; erased = refl }
 founded_closed rules (n ∷ nodes) c =
     let next : IsNext nodes n = c.0 in

@@ -16,7 +16,7 @@ use Rattle.schema.specs.Columns.{target_of, reference_at, is_restrict}
 use Rattle.schema.specs.Sound.{IsSoundCheck, IsSoundColumn}
 use Rattle.schema.specs.Visible.{Rules, TableRow, RowRef, same_row, table_of, ref_to, ref_in, refs_in}
 use Rattle.schema.specs.Verdicts.{fits, all_fit, checks_hold, named, stands_among, matches_among, matches_hold, first_reason, insert_reason}
-use Rattle.schema.specs.Examples.{Item, numbered, row_numbered, has_table, name_in, fill, needed_by, is_skipped, needed_but, filled_but, item_naming}
+use Rattle.schema.specs.Examples.{Item, numbered, row_numbered, has_table, name_in, fill, needed_by, is_skipped, needed_but, filled_but, item_naming, need}
 use Rattle.schema.proofs.Founded.{Sub, match_more, all-append}
 use Rattle.schema.proofs.Plain.{is_plain, plain_target, same_holds}
 use Rattle.schema.proofs.Plans.{row_of, rows_of}
@@ -170,6 +170,7 @@ module _ (rules : Rules) (samples : AreSampled rules) (items : List Item) (made 
       (checked xs p.1 b.1)
 
   matched_one : (m : MatchRule) → IsMatched rules t m → matches_among rows values m (value_at values m.reference) ≡ true
+  unfolding need
   matched_one m is =
       let fit = (samples t known).fit in
       let f = but_at items skip (row_numbered n) r 0 columns sample m.reference is.column fit is.at in

@@ -347,6 +347,7 @@ module _ (rules : Rules) (samples : AreSampled rules) where
 
   pub need_made : (depth : ℕ) (items : List Item) (t : ℕ) → Made items → nat_le (length rules.tables) t ≡ false → t < depth
       → Grows items (need rules depth items t) (suc t) × (has_table (need rules depth items t) t ≡ true)
+  unfolding need
   need_made zero items t m known l = absurd (omega arith)
   need_made (suc depth) items t m known l =
       let ts = needed_tables (table_of rules t).columns in
@@ -370,5 +371,6 @@ module _ (rules : Rules) (samples : AreSampled rules) where
 
   -- the base of an example: what the rows of a table need
   pub base_made : (t : ℕ) → nat_le (length rules.tables) t ≡ false → Grows [] (base_of rules t) t × (list_all (has_table (base_of rules t)) (needed_tables (table_of rules t).columns) ≡ true)
+  unfolding need
   base_made t known =
       all_made (need rules t) t known (λ items u m k l. need_made t items u m k l) (needed_tables (table_of rules t).columns) [] tt (samples t known).lower

@@ -43,6 +43,7 @@ at_id p (x ∷ xs) id h e =
 
 -- what an update names stands before it, and so does each ancestor
 pub ancestors_held : (rules : Rules) (older : List NodeData) → IsClosed older → (id : UpdateId) → list_any (λ j. j.is_ancestor id) (judged rules older) ≡ true → holds older id ≡ true
+unfolding verdict_on effects judge_next judged
 ancestors_held rules [] c id e = absurd (cc)
 ancestors_held rules (n ∷ older) c id e =
     let next : IsNext older n = c.0 in
@@ -59,6 +60,7 @@ ancestors_held rules (n ∷ older) c id e =
 -- an update that is no ancestor changes nothing
 pub unaffected : (rules : Rules) (k : Judged) (js : List Judged) (n : NodeData) → has n.preds k.node.id ≡ false → list_any (λ j. j.is_ancestor k.node.id) js ≡ false
     → judge_next rules (k ∷ js) n ≡ judge_next rules js n
+unfolding verdict_on effects judge_next judged
 unaffected rules k js n apart new =
     let same : (id : UpdateId) → ancestor_of (k ∷ js) n id ≡ ancestor_of js n id =
     λ id i. has n.preds id || ((apart i && k.is_ancestor id) || list_any (λ j. has n.preds j.node.id && j.is_ancestor id) js) in
@@ -112,6 +114,7 @@ module _ (n : NodeData) (older : List NodeData) where
   -- an update that nobody names can be left out, and can as well come last
   pub judged_middle : (rules : Rules) (newer : List NodeData) → IsClosed (newer ++ n ∷ older) → names newer n.id ≡ false
       → IsClosed (newer ++ older) × IsPermutation (judged rules (newer ++ n ∷ older)) (judge_next rules (judged rules (newer ++ older)) n ∷ judged rules (newer ++ older))
+  unfolding verdict_on effects judge_next judged
   judged_middle rules [] c free = (c.1, IsPermutation-refl (judged rules (n ∷ older)))
   judged_middle rules (m ∷ newer) c free =
       let next : IsNext (newer ++ n ∷ older) m = c.0 in
@@ -236,6 +239,7 @@ unnamed (m ∷ xs) id c h =
 
 -- two closed lists of one set have the same verdicts
 pub same_judged : (rules : Rules) (xs ys : List NodeData) → IsClosed xs → IsClosed ys → IsSameSet xs ys → IsPermutation (judged rules xs) (judged rules ys)
+unfolding verdict_on effects judge_next judged
 same_judged rules [] [] c d same = IsPermutation-refl []
 same_judged rules [] (y ∷ ys) c d same = absurd (missing y ys same)
 same_judged rules (n ∷ xs) ys c d same =

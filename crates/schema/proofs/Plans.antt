@@ -55,6 +55,7 @@ chain_closed (item ∷ items) = (record { new = ids_below items (suc (length ite
 
 -- an update after a chain has all of it for ancestors
 pub all_before : (rules : Rules) (items : List Item) (id : ℕ) (item : Item) → AllByRecursion (λ j. ancestor_of (judged rules (chain items)) (after (length items) id item) j.node.id ≡ true) (judged rules (chain items))
+unfolding verdict_on effects judge_next judged
 all_before rules [] id item = tt
 all_before rules (x ∷ items) id item =
     let top = suc (length items) in
@@ -71,6 +72,7 @@ filter_all p (x ∷ xs) h = (λ i. cond (h.0 i) (x ∷ filter p xs) (filter p xs
 module _ (rules : Rules) (g : Effects) where
   pub stay_each : (rows : List TableRow) → Founded rules rows → AllByRecursion (Stands rules g.inserted) rows → AllByRecursion (λ e. is_deleted g e.name ≡ false) rows
       → AllByRecursion (λ e. (more : ℕ) → visible_to rules g (more + length rows) e.name ≡ true) rows
+  unfolding visible_to
   stay_each [] fs s n = tt
   stay_each (e ∷ older) fs s n =
       let it : IsFounded rules older e = fs.0 in
@@ -99,6 +101,7 @@ kept_each g none (e ∷ rows) = (ap (λ l. list_any (same_row e.name) l) none, k
 -- where nothing is deleted, each row is visible
 module _ (rules : Rules) (g : Effects) (f : IsWellFounded rules g) (none : g.deleted ≡ []) where
   pub each_visible : AllByRecursion (λ row. is_visible rules g row.name ≡ true) g.inserted
+  unfolding visible_to
   each_visible =
       each-map _ _ (λ e p. subst (λ (n : ℕ). visible_to rules g n e.name ≡ true) (let z : 0 + length g.inserted ≡ length g.inserted = omega arith in z) (p 0)) g.inserted
       (stay_each rules g g.inserted f.founded (each_stands rules g.inserted f.founded) (kept_each g none g.inserted))
@@ -115,6 +118,7 @@ rows_below (item ∷ items) id h =
 -- an update that passes its tests after a chain is valid
 pub passes_valid : (rules : Rules) (items : List Item) (id : ℕ) (item : Item) → length items < id → effects (judged rules (chain items)) ≡ record { inserted = rows_of items; deleted = [] }
     → Passes rules id item (rows_of items) → (judge_next rules (judged rules (chain items)) (after (length items) id item)).verdict ≡ verdict.Valid
+unfolding verdict_on effects judge_next judged
 passes_valid rules items id item new did p =
     let js = judged rules (chain items) in
     let node = after (length items) id item in
@@ -135,6 +139,7 @@ passes_valid rules items id item new did p =
 
 -- what a chain of passing inserts did
 pub chain_effects : (rules : Rules) (items : List Item) → AllPass rules items → effects (judged rules (chain items)) ≡ record { inserted = rows_of items; deleted = [] }
+unfolding verdict_on effects judge_next judged
 chain_effects rules [] p = refl
 chain_effects rules (item ∷ items) p =
     let did = chain_effects rules items p.1 in

@@ -153,6 +153,7 @@ module _ (rules : Rules) (sound : IsSound rules) (samples : AreSampled rules) (t
       (lower_but table (Some column) 0 (table_of rules table).columns (sound table).columns)
 
   grown : Grows rules samples [] shared table × (list_all (has_table shared) all_needs ≡ true)
+  unfolding need
   grown = all_made rules samples (need rules table) table ready.0 (λ some u m k l. need_made rules samples table some u m k l) all_needs [] tt lower_all
 
   made : Made rules samples shared
@@ -204,6 +205,7 @@ module _ (rules : Rules) (sound : IsSound rules) (samples : AreSampled rules) (t
   )
 
   did : effects (judged rules (chain items)) ≡ record { inserted = rows_of items; deleted = [] }
+  unfolding verdict_on effects judge_next judged
   did = chain_effects rules items path.pass
 
   end_there : (t : ℕ) (ss : List Step) → Leads rules t ss → list_any (λ row. same_row row.name (row_numbered last) && (table_of rules row.table).deletable) (rows_of (path_items rules shared ss)) ≡ true
@@ -229,6 +231,7 @@ module _ (rules : Rules) (sound : IsSound rules) (samples : AreSampled rules) (t
   without = record { inserted = rows_of items; deleted = row_numbered last ∷ [] }
 
   right_valid : (judge_next rules (judged rules (chain items)) right).verdict ≡ verdict.Valid
+  unfolding verdict_on effects judge_next judged
   right_valid =
       let js = judged rules (chain items) in
       let old : Effects = record { inserted = rows_of items; deleted = [] } in
@@ -251,15 +254,18 @@ module _ (rules : Rules) (sound : IsSound rules) (samples : AreSampled rules) (t
       ∙ (λ i. if limits i then verdict.Valid else verdict.Void 9 (0 + 1))
 
   right_did : effects (judged rules (right ∷ chain items)) ≡ without
+  unfolding verdict_on effects judge_next judged
   right_did = λ i. cond (is_valid (right_valid i)) (joined (effects_of right) (did i)) (did i)
 
   left_did : effects (judged rules (left ∷ chain items)) ≡ record { inserted = rows_of (naming_row ∷ items); deleted = [] }
+  unfolding verdict_on effects judge_next judged
   left_did = chain_effects rules (naming_row ∷ items) with_row.pass
 
   abbrev merged : Effects
   merged = record { inserted = rows_of (naming_row ∷ items); deleted = row_numbered last ∷ [] }
 
   both_did : effects (judged rules (right ∷ left ∷ chain items)) ≡ merged
+  unfolding verdict_on effects judge_next judged
   both_did =
       let js = judged rules (chain items) in
       let absent : list_any (λ j. j.is_ancestor (numbered (suc (length items)))) js ≡ false =
@@ -272,6 +278,7 @@ module _ (rules : Rules) (sound : IsSound rules) (samples : AreSampled rules) (t
   claim = Refers table column target action.Restrict
 
   left_holds : claim_holds rules (shown_in rules (left ∷ chain items)) claim ≡ true
+  unfolding verdict_on effects judge_next judged
   left_holds =
       let g : Effects = record { inserted = rows_of (naming_row ∷ items); deleted = [] } in
       let f : IsWellFounded rules g = subst (IsWellFounded rules) left_did (founded_closed rules (left ∷ chain items) left_closed) in
@@ -345,6 +352,7 @@ module _ (rules : Rules) (sound : IsSound rules) (samples : AreSampled rules) (t
       or_from _ _ (null_here s ss low s.column leads.1 (suc (length older)) (length older)) (rest s.column leads.1)
 
   right_holds : claim_holds rules (shown_in rules (right ∷ chain items)) claim ≡ true
+  unfolding verdict_on effects judge_next judged
   right_holds =
       let f : IsWellFounded rules without = subst (IsWellFounded rules) right_did (founded_closed rules (right ∷ chain items) right_closed) in
       ap (λ (e : Effects). claim_holds rules (shown_rows rules e) claim) right_did
@@ -366,6 +374,7 @@ module _ (rules : Rules) (sound : IsSound rules) (samples : AreSampled rules) (t
   not_end (e ∷ rows) h = (or_from _ _ h.0 refl, not_end rows h.1)
 
   shared_visible : AllByRecursion (λ row. is_visible rules merged row.name ≡ true) (rows_of shared)
+  unfolding visible_to
   shared_visible =
       let stands = (each_stands rules merged.inserted merged_founded.founded).1 in
       let deep = stay_each rules merged (rows_of shared)
@@ -399,6 +408,7 @@ module _ (rules : Rules) (sound : IsSound rules) (samples : AreSampled rules) (t
       ∙ and_from _ _ (or_left _ _ (and_from _ _ (same_row-refl name) (filter_kept (λ r. is_cascade r.action) (λ r. seen r.name) (refs rules row) tested))) (not_from_false _ kept)
 
   both_fail : claim_holds rules (shown_in rules (right ∷ left ∷ chain items)) claim ≡ false
+  unfolding verdict_on effects judge_next judged
   both_fail =
       let row = row_of (suc (length items)) naming_row in
       let cs = (table_of rules table).columns in

@@ -20,7 +20,7 @@ use Rattle.schema.specs.declared.table_def.TableDef.{TableDef}
 use Rattle.schema.specs.declared.verdict.Verdict.TheVariants as verdict
 use Rattle.schema.specs.Columns.{target_of, is_restrict}
 use Rattle.schema.specs.Visible.{Rules, TableRow, same_row, table_of, Effects, refs, cascade_refs, visible_to, is_visible, visible_rows, is_nulled, shown, shown_rows, shown_value, shown_values}
-use Rattle.schema.specs.Verdicts.{is_valid, verdict_after, verdict_on, insert_reason, delete_reason, matches_among, checks_hold, limits_hold, unique_holds, in_table, joined, nothing, effects_of, effects, Judged, ancestor_of, judge_next, row_inserted, first_reason, all_fit, same_author}
+use Rattle.schema.specs.Verdicts.{is_valid, verdict_after, verdict_on, insert_reason, delete_reason, matches_among, checks_hold, limits_hold, unique_holds, in_table, joined, nothing, effects_of, effects, Judged, ancestor_of, judge_next, row_inserted, first_reason, all_fit, same_author, judged}
 use Rattle.schema.proofs.Alike.{weight, weight-append, Alike, Alike-refl, Alike-append, Alike-filter, Alike-map, Alike-same, Alike-trans, same_any, same_all, same_count, same_length, filter-each}
 
 pub record AlikeEffects (g h : Effects) : Type 0 where
@@ -29,6 +29,7 @@ pub record AlikeEffects (g h : Effects) : Type 0 where
 
 module _ (rules : Rules) where
   pub same_visible_to : {g h : Effects} → AlikeEffects g h → (depth : ℕ) (name : RowName) → visible_to rules g depth name ≡ visible_to rules h depth name
+  unfolding visible_to
   same_visible_to a zero name = refl
   same_visible_to {g} {h} a (suc depth) name =
       ap₂ (λ x y. x && not y)
@@ -37,6 +38,7 @@ module _ (rules : Rules) where
       (same_any (same_row name) a.deleted)
 
   pub same_visible : {g h : Effects} → AlikeEffects g h → (name : RowName) → is_visible rules g name ≡ is_visible rules h name
+  unfolding visible_to
   same_visible {g} {h} a name = ap (λ n. visible_to rules g n name) (same_length a.inserted) ∙ same_visible_to a (length h.inserted) name
 
   pub same_rows : {g h : Effects} → AlikeEffects g h → Alike (visible_rows rules g) (visible_rows rules h)
@@ -117,9 +119,11 @@ module _ (rules : Rules) where
       ]
 
   pub same_verdict_on : {g h : Effects} → AlikeEffects g h → (node : NodeData) → verdict_on rules g node ≡ verdict_on rules h node
+  unfolding verdict_on effects judge_next judged
   same_verdict_on a node = same_verdict a (same_rows a) node 0 nothing node.ops
 
 weight-inserted : (w : TableRow → ℕ) (js : List Judged) → weight w (effects js).inserted ≡ weight (λ j. cond (is_valid j.verdict) (weight w (effects_of j.node).inserted) 0) js
+unfolding verdict_on effects judge_next judged
 weight-inserted w [] = refl
 weight-inserted w (j ∷ js) =
     elim (is_valid j.verdict) as (λ b. weight w (cond b (joined (effects_of j.node) (effects js)) (effects js)).inserted ≡ cond b (weight w (effects_of j.node).inserted) 0 + weight (λ j. cond (is_valid j.verdict) (weight w (effects_of j.node).inserted) 0) js) [
@@ -128,6 +132,7 @@ weight-inserted w (j ∷ js) =
     ]
 
 weight-deleted : (w : RowName → ℕ) (js : List Judged) → weight w (effects js).deleted ≡ weight (λ j. cond (is_valid j.verdict) (weight w (effects_of j.node).deleted) 0) js
+unfolding verdict_on effects judge_next judged
 weight-deleted w [] = refl
 weight-deleted w (j ∷ js) =
     elim (is_valid j.verdict) as (λ b. weight w (cond b (joined (effects_of j.node) (effects js)) (effects js)).deleted ≡ cond b (weight w (effects_of j.node).deleted) 0 + weight (λ j. cond (is_valid j.verdict) (weight w (effects_of j.node).deleted) 0) js) [
@@ -136,6 +141,7 @@ weight-deleted w (j ∷ js) =
     ]
 
 pub same_effects : {js ks : List Judged} → Alike js ks → AlikeEffects (effects js) (effects ks)
+unfolding verdict_on effects judge_next judged
 same_effects {js} {ks} a = record {
   inserted = record { weighs = λ w. weight-inserted w js ∙ a.weighs (λ j. cond (is_valid j.verdict) (weight w (effects_of j.node).inserted) 0) ∙ sym (weight-inserted w ks) };
   deleted = record { weighs = λ w. weight-deleted w js ∙ a.weighs (λ j. cond (is_valid j.verdict) (weight w (effects_of j.node).deleted) 0) ∙ sym (weight-deleted w ks) };
@@ -146,6 +152,7 @@ same_ancestors a node id = λ i. has node.preds id || same_any (λ j. has node.p
 
 -- what is judged next depends on the set before it alone
 pub same_next : (rules : Rules) {js ks : List Judged} → Alike js ks → (node : NodeData) → judge_next rules js node ≡ judge_next rules ks node
+unfolding verdict_on effects judge_next judged
 same_next rules {js} {ks} a node =
     let past : Alike (filter (λ j. ancestor_of js node j.node.id) js) (filter (λ j. ancestor_of ks node j.node.id) ks) =
     Alike-trans (Alike-same (filter-each _ _ js (λ j. same_ancestors a node j.node.id))) (Alike-filter (λ j. ancestor_of ks node j.node.id) a) in

@@ -17,7 +17,7 @@ use Rattle.schema.specs.declared.shown_row.ShownRow.{ShownRow}
 use Rattle.schema.specs.declared.void_line.VoidLine.{VoidLine}
 use Rattle.schema.specs.Nodes.{IsClosed, IsSameSet}
 use Rattle.schema.specs.Visible.{Rules, TableRow, table_of, is_visible, shown}
-use Rattle.schema.specs.Verdicts.{is_valid, Judged, judged, effects, effects_of, effects_in, joined, in_table}
+use Rattle.schema.specs.Verdicts.{is_valid, Judged, judged, effects, effects_of, effects_in, joined, in_table, judge_next, verdict_on}
 use Rattle.schema.specs.Tables.{name_cmp, listed, listed_in, void_line, void_lines, AreRowsIn, AreVoidsIn, AreTablesOf}
 use Rattle.schema.proofs.Alike.{filter-each}
 use Rattle.schema.proofs.SameEffects.{AlikeEffects, same_effects, same_visible, same_shown_values}
@@ -150,6 +150,7 @@ abbrev EachInserted : (TableRow → Type 0) → Judged → Type 0
 EachInserted P j = is_valid j.verdict ≡ true → AllByRecursion P (effects_of j.node).inserted
 
 each_inserted : (P : TableRow → Type 0) (js : List Judged) → AllByRecursion (EachInserted P) js → AllByRecursion P (effects js).inserted
+unfolding verdict_on effects judge_next judged
 each_inserted P [] h = tt
 each_inserted P (j ∷ js) h =
     let rest = each_inserted P js h.1 in
@@ -158,6 +159,7 @@ each_inserted P (j ∷ js) h =
     step (is_valid j.verdict) refl
 
 inserted_each : (P : TableRow → Type 0) (js : List Judged) → AllByRecursion P (effects js).inserted → AllByRecursion (EachInserted P) js
+unfolding verdict_on effects judge_next judged
 inserted_each P [] h = tt
 inserted_each P (j ∷ js) h =
     let step : (b : Bool) → is_valid j.verdict ≡ b → AllByRecursion P (cond b (joined (effects_of j.node) (effects js)) (effects js)).inserted → EachInserted P j × AllByRecursion P (effects js).inserted =
@@ -169,6 +171,7 @@ inserted_each P (j ∷ js) h =
     (r.0, inserted_each P js r.1)
 
 inserted_on : (js ks : List Judged) → PassesOn js ks → PassesOn (effects js).inserted (effects ks).inserted
+unfolding verdict_on effects judge_next judged
 inserted_on js ks a = record { on = λ P h. each_inserted P ks (a.on (EachInserted P) (inserted_each P js h)) }
 
 each_void : (P : VoidLine → Type 0) (js : List Judged) → AllByRecursion (λ j. AllByRecursion P (void_line j.node.id j.verdict)) js → AllByRecursion P (void_lines js)
@@ -185,9 +188,11 @@ void_on js ks a = record { on = λ P h. each_void P ks (a.on (λ j. AllByRecursi
 -- what one list of a set shows, another does
 module _ (rules : Rules) (xs ys : List NodeData) (c : IsClosed xs) (d : IsClosed ys) (same : IsSameSet xs ys) where
   judged_on : PassesOn (judged rules xs) (judged rules ys)
+  unfolding verdict_on effects judge_next judged
   judged_on = permuted_on (judged rules xs) (judged rules ys) (same_judged rules xs ys c d same)
 
   listed_on : (number : ℕ) → PassesOn (listed_in rules xs number) (listed_in rules ys number)
+  unfolding verdict_on effects judge_next judged
   listed_on number =
       let g = effects_in rules xs in
       let h = effects_in rules ys in
@@ -204,6 +209,7 @@ module _ (rules : Rules) (xs ys : List NodeData) (c : IsClosed xs) (d : IsClosed
       }
 
   voids_on : PassesOn (void_lines (judged rules xs)) (void_lines (judged rules ys))
+  unfolding verdict_on effects judge_next judged
   voids_on = void_on (judged rules xs) (judged rules ys) judged_on
 
 flipped : (xs ys : List NodeData) → IsSameSet xs ys → IsSameSet ys xs
@@ -225,6 +231,7 @@ same_rows_in rules xs ys c d same number rows others a b =
 
 pub same_voids_in : (rules : Rules) (xs ys : List NodeData) → IsClosed xs → IsClosed ys → IsSameSet xs ys → (lines others : List VoidLine)
     → AreVoidsIn rules xs lines → AreVoidsIn rules ys others → lines ≡ others
+unfolding verdict_on effects judge_next judged
 same_voids_in rules xs ys c d same lines others a b =
     let one = void_lines (judged rules xs) in
     let two = void_lines (judged rules ys) in

@@ -14,7 +14,7 @@ use Rattle.schema.specs.Columns.{target_of, is_set_null}
 use Rattle.schema.specs.Sound.{IsSoundKind, IsSoundColumn}
 use Rattle.schema.specs.Nodes.{IsClosed}
 use Rattle.schema.specs.Visible.{Rules, TableRow, Effects, table_of, is_visible, is_nulled, shown_value, shown_values}
-use Rattle.schema.specs.Verdicts.{fits, all_fit, effects_in, unique_holds, limits_hold, is_unlimited}
+use Rattle.schema.specs.Verdicts.{fits, all_fit, effects_in, unique_holds, limits_hold, is_unlimited, effects, judge_next, judged, verdict_on}
 use Rattle.schema.specs.Invariants.{shown_in}
 use Rattle.schema.proofs.Founded.{IsWellFounded, founded_closed}
 use Rattle.schema.proofs.Standing.{each_stands}
@@ -56,6 +56,7 @@ values_fit rules g number (c ∷ cs) sound (v ∷ vs) h =
     let parts = and_parts (fits c v) _ h in and_from _ _ (value_fits rules g number c sound.0 v parts.0) (values_fit rules g number cs sound.1 vs parts.1)
 
 pub shown_fit : (rules : Rules) → IsSound rules → (nodes : List NodeData) → IsClosed nodes → list_all (λ row. all_fit (table_of rules row.table).columns row.values) (shown_in rules nodes) ≡ true
+unfolding verdict_on effects judge_next judged
 shown_fit rules sound nodes c =
     let g = effects_in rules nodes in
     let f : IsWellFounded rules g = founded_closed rules nodes c in

@@ -11,7 +11,7 @@ use Rattle.row_check.specs.Meaning.{value_at}
 use Rattle.schema.specs.declared.verdict.Verdict.TheVariants as verdict
 use Rattle.schema.specs.Nodes.{holds, IsNext, IsClosed}
 use Rattle.schema.specs.Visible.{Rules, TableRow, Effects, table_of, shown, shown_rows}
-use Rattle.schema.specs.Verdicts.{is_valid, effects, effects_of, Judged, judge_next, judged, joined, in_table, unique_holds}
+use Rattle.schema.specs.Verdicts.{is_valid, effects, effects_of, Judged, judge_next, judged, joined, in_table, unique_holds, verdict_on}
 use Rattle.schema.specs.Invariants.{Claim, Unique, claim_holds, shown_in, satisfies}
 use Rattle.schema.specs.Confluence.{accepts, is_closed, breaks}
 use Rattle.schema.specs.Examples.{Item, numbered, last_of, after, chain}
@@ -30,6 +30,7 @@ test_from_closed (n ∷ nodes) c = let next : IsNext nodes n = c.0 in and_from _
 -- what is accepted holds on both sides
 pub all_accepted : (rules : Rules) → IsSound rules → (nodes : List NodeData) → IsClosed nodes → (earlier : List Claim) (i : Claim)
     → AllByRecursion (λ i. IsDeclared rules i × (accepts rules i ≡ true)) earlier → claim_holds rules (shown_in rules nodes) i ≡ true → satisfies rules nodes (earlier ++ i ∷ []) ≡ true
+unfolding verdict_on effects judge_next judged
 all_accepted rules sound nodes c [] i a h = and_from _ _ h refl
 all_accepted rules sound nodes c (e ∷ earlier) i a h = and_from _ _ (accepted_stands rules sound nodes c e a.0.0 a.0.1) (all_accepted rules sound nodes c earlier i a.1 h)
 
@@ -79,6 +80,7 @@ pair_breaks t c a b rest ta tb own other =
 module _ (rules : Rules) (items : List Item) (all : AllPass rules items) (x : Item) where
   pub one_more : (id : ℕ) → length items < id → Passes rules id x (rows_of items)
       → effects (judged rules (after (length items) id x ∷ chain items)) ≡ record { inserted = row_of id x ∷ rows_of items; deleted = [] }
+  unfolding verdict_on effects judge_next judged
   one_more id new p =
       let did = chain_effects rules items all in
       let valid = passes_valid rules items id x new did p in
@@ -107,7 +109,7 @@ module _ (rules : Rules) (items : List Item) (all : AllPass rules items) (x : It
 
   pub pair_effects : Passes rules (suc (length items)) x (rows_of items) → Passes rules (suc (suc (length items))) x (rows_of items)
       → effects (judged rules pair) ≡ record { inserted = row_of (suc (suc (length items))) x ∷ row_of (suc (length items)) x ∷ rows_of items; deleted = [] }
-  unfolding pair
+  unfolding pair verdict_on effects judge_next judged
   pair_effects p q =
       let js = judged rules (chain items) in
       let left = after (length items) (suc (length items)) x in

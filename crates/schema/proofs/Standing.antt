@@ -91,6 +91,7 @@ bool_same false false f h = refl
 
 module _ (rules : Rules) (g : Effects) where
   pub deeper : (depth : ℕ) (name : RowName) → visible_to rules g depth name ≡ true → visible_to rules g (suc depth) name ≡ true
+  unfolding visible_to
   deeper zero name h = absurd (cc)
   deeper (suc depth) name h =
       let parts = and_parts _ (not (is_deleted g name)) h in
@@ -106,6 +107,7 @@ module _ (rules : Rules) (g : Effects) (f : IsWellFounded rules g) where
   -- what is visible at any depth is visible at that of the rows up to it
   deep_each : (rows : List TableRow) → Founded rules rows → AllByRecursion (Stands rules g.inserted) rows
       → AllByRecursion (λ e. (depth : ℕ) → visible_to rules g depth e.name ≡ true → visible_to rules g (length rows) e.name ≡ true) rows
+  unfolding visible_to
   deep_each [] fs s = tt
   deep_each (e ∷ older) fs s =
       let it : IsFounded rules older e = fs.0 in
@@ -134,6 +136,7 @@ module _ (rules : Rules) (g : Effects) (f : IsWellFounded rules g) where
   -- a row is visible exactly where a valid member inserted it, none deletes it, and each CASCADE target of it is visible
   pub visible_is : (name : RowName) → is_visible rules g name
       ≡ shows rules g (is_visible rules g) name
+  unfolding visible_to
   visible_is name =
       bool_same (is_visible rules g name) (visible_to rules g (suc (length g.inserted)) name)
       (deeper rules g (length g.inserted) name)

@@ -6,7 +6,7 @@ use Rattle.update_model.specs.Entry.{same_id}
 use Rattle.update_model.specs.Node.{NodeData}
 use Rattle.schema.specs.Nodes.{node_of, IsSameSet, Agree, holds, IsNext, IsClosed, union}
 use Rattle.schema.specs.Visible.{Rules}
-use Rattle.schema.specs.Verdicts.{judged}
+use Rattle.schema.specs.Verdicts.{judged, effects, judge_next, verdict_on}
 use Rattle.schema.specs.Invariants.{Claim, shown_in}
 use Rattle.schema.specs.Confluence.{IsConfluent, accepts}
 use Rattle.schema.proofs.Alike.{Alike}
@@ -100,9 +100,11 @@ union_same xs ys agree id =
 
 -- what the rows that a closed list shows are depends on its set alone
 pub same_judgements : (rules : Rules) (xs ys : List NodeData) → IsClosed xs → IsClosed ys → IsSameSet xs ys → Alike (judged rules xs) (judged rules ys)
+unfolding verdict_on effects judge_next judged
 same_judgements rules xs ys c d same = Alike-permuted (judged rules xs) (judged rules ys) (same_judged rules xs ys c d same)
 
 pub same_tables : (rules : Rules) (xs ys : List NodeData) → IsClosed xs → IsClosed ys → IsSameSet xs ys → Alike (shown_in rules xs) (shown_in rules ys)
+unfolding verdict_on effects judge_next judged
 same_tables rules xs ys c d same = same_shown rules (same_effects (same_judgements rules xs ys c d same))
 
 -- the static rule accepts only what is confluent

@@ -8,7 +8,7 @@ use Rattle.row_check.specs.Meaning.{value_at}
 use Rattle.schema.specs.Visible.{Rules, table_of}
 use Rattle.schema.specs.Invariants.{Claim, Unique}
 use Rattle.schema.specs.Confluence.{accepts, breaks}
-use Rattle.schema.specs.Examples.{numbered, has_table, item_of, base_of, after, chain}
+use Rattle.schema.specs.Examples.{numbered, has_table, item_of, base_of, after, chain, need}
 use Rattle.schema.proofs.Plain.{is_plain}
 use Rattle.schema.proofs.Soundness.{IsSound}
 use Rattle.schema.proofs.Accepted.{IsDeclared}
@@ -21,6 +21,7 @@ pub unique_refused : (rules : Rules) → AreSampled rules → IsSound rules
     → (earlier : List Claim) → AllByRecursion (λ i. IsDeclared rules i × (accepts rules i ≡ true)) earlier
     → breaks rules earlier (Unique t c) (chain (base_of rules t)) (after (length (base_of rules t)) (suc (length (base_of rules t))) (item_of rules (base_of rules t) t) ∷ [])
     (after (length (base_of rules t)) (suc (suc (length (base_of rules t)))) (item_of rules (base_of rules t) t) ∷ []) ≡ true
+unfolding need
 unique_refused rules samples sound t c known plain self_equal earlier ok =
     let items = base_of rules t in
     let x = item_of rules items t in

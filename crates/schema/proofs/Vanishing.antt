@@ -112,6 +112,7 @@ module _ (rules : Rules) (sound : IsSound rules) where
 
   -- a depth above the table's number is enough
   permanent_same : (depth u : ℕ) → u < depth → permanent_to rules depth u ≡ permanent_to rules (suc depth) u
+  unfolding permanent_to
   permanent_same zero u l = absurd (omega arith)
   permanent_same (suc depth) u l =
       let targets = cascade_targets (table_of rules u).columns in
@@ -127,6 +128,7 @@ module _ (rules : Rules) (sound : IsSound rules) where
   -- a table whose CASCADE targets are permanent is permanent where its rows cannot be deleted
   permanent_from : (t : ℕ) (deep : ℕ) → deep ≡ length rules.tables → t < deep → (table_of rules t).deletable ≡ false
       → list_all (λ u. (u == t) || is_permanent rules u) (cascade_targets (table_of rules t).columns) ≡ true → permanent_to rules deep t ≡ true
+  unfolding permanent_to
   permanent_from t zero e l d h = absurd (omega arith)
   permanent_from t (suc depth) e l d h =
       let targets = cascade_targets (table_of rules t).columns in

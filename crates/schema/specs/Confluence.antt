@@ -29,7 +29,7 @@ cascade_targets (column ∷ columns) = cascade_target (target_of column.kind) ++
 
 -- A table is permanent where it is not DELETABLE and each other table that it refers to by CASCADE is permanent. Here
 -- references are followed this deep.
-abbrev pub permanent_to : Rules → ℕ → ℕ → Bool
+unfoldable pub permanent_to : Rules → ℕ → ℕ → Bool
 permanent_to rules zero table = false
 permanent_to rules (suc depth) table =
     not (table_of rules table).deletable

@@ -96,7 +96,7 @@ for_each grow [] items = items
 for_each grow (table ∷ tables) items = for_each grow tables (grow items table)
 
 -- A chain with a needed row of this table, made once, after those that it needs in turn. References are followed this deep.
-abbrev pub need : Rules → ℕ → List Item → ℕ → List Item
+unfoldable pub need : Rules → ℕ → List Item → ℕ → List Item
 need rules zero items table = items
 need rules (suc depth) items table =
     if has_table items table then items

@@ -163,7 +163,7 @@ verdict_after rules past rows node number did (op.Delete name ∷ ops) =
     ]
 
 -- the verdict on a node after what its ancestors did
-abbrev pub verdict_on : Rules → Effects → NodeData → Verdict
+unfoldable pub verdict_on : Rules → Effects → NodeData → Verdict
 verdict_on rules past node = verdict_after rules past (visible_rows rules past) node 0 nothing node.ops
 
 abbrev pub is_valid : Verdict → Bool
@@ -177,7 +177,7 @@ pub record Judged : Type 0 where
   pub verdict : Verdict
 
 -- what the valid ones did
-abbrev pub effects : List Judged → Effects
+unfoldable pub effects : List Judged → Effects
 effects [] = nothing
 effects (j ∷ js) = if is_valid j.verdict then joined (effects_of j.node) (effects js) else effects js
 
@@ -186,7 +186,7 @@ abbrev pub ancestor_of : List Judged → NodeData → UpdateId → Bool
 ancestor_of js node id = has node.preds id || list_any (λ j. has node.preds j.node.id && j.is_ancestor id) js
 
 -- A node is judged on its ancestors alone.
-abbrev pub judge_next : Rules → List Judged → NodeData → Judged
+unfoldable pub judge_next : Rules → List Judged → NodeData → Judged
 judge_next rules js node = record {
   node = node;
   is_ancestor = ancestor_of js node;
@@ -194,7 +194,7 @@ judge_next rules js node = record {
 }
 
 -- the nodes of a closed list, newest first, each with its verdict
-abbrev pub judged : Rules → List NodeData → List Judged
+unfoldable pub judged : Rules → List NodeData → List Judged
 judged rules [] = []
 judged rules (node ∷ older) = judge_next rules (judged rules older) node ∷ judged rules older
 

@@ -97,7 +97,7 @@ shows rules did seen name =
     && not (is_deleted did name)
 
 -- the same, where references are followed this deep
-abbrev pub visible_to : Rules → Effects → ℕ → RowName → Bool
+unfoldable pub visible_to : Rules → Effects → ℕ → RowName → Bool
 visible_to rules did zero name = false
 visible_to rules did (suc depth) name = shows rules did (visible_to rules did depth) name
 
