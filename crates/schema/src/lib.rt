@@ -29,6 +29,8 @@ mod shown_row_list;
 mod table_def;
 mod table_laws;
 #[cfg(test)]
+mod table_tests;
+#[cfg(test)]
 mod tests;
 mod verdict;
 mod void_line;
