@@ -87,13 +87,15 @@ Reads c Disjunction ts e = (frames : List Frame) → IsBase frames
 
 pub reads : {c : List ℕ → ℕ} {level : Level} {ts : List Token} {e : Tree} → Parses c level ts e → Reads c level ts e
 reads {c} (either {left = left} {right = right} {a = a} {b = b} p q) = λ frames base.
-    let h = reads p frames base in
-    (b, Before_or a ∷ frames,
+    let h = reads p frames base in (
+      b,
+      Before_or a ∷ frames,
       run-append c (Begun, frames) left (token.Or ∷ right)
-      ∙ (ap (λ (state : State). run c state (token.Or ∷ right)) h.2
-      ∙ (ap (λ (joined : Tree × List Frame). run c (before_or joined) right) h.3
-      ∙ reads q (Before_or a ∷ frames) tt)),
-      refl)
+          ∙ (ap (λ (state : State). run c state (token.Or ∷ right)) h.2
+          ∙ (ap (λ (joined : Tree × List Frame). run c (before_or joined) right) h.3
+          ∙ reads q (Before_or a ∷ frames) tt)),
+      refl,
+    )
 reads (conjunction {a = a} p) = λ frames base. (a, frames, reads p frames (base_ready frames base), join_base a frames base)
 reads {c} (both {left = left} {right = right} {a = a} p q) = λ frames ready.
     run-append c (Begun, frames) left (token.And ∷ right)

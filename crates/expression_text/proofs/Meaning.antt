@@ -21,7 +21,6 @@ holds_as_tree r row (Compare left cmp right) = refl
 holds_as_tree r row (IsNull column) = refl
 holds_as_tree r row (Native number columns) = refl
 
-
 -- a kind that no reference has
 abbrev IsPlain : Kind → Type 0
 IsPlain kind.Reference = ⊥

@@ -203,8 +203,8 @@ closes (before_other s q) {part} p = lost (before_other s q) (part ++ token.Clos
 closes_joined : {c : List ℕ → ℕ} (joined : Tree × List Frame) (ts : List Token) → Joined c joined ts → ReachedBy c Conjunction (close_joined joined) (ts ++ token.Close ∷ [])
 closes_joined {c} joined ts j =
     subst (λ all. ReachedBy c Conjunction (close_joined joined) all)
-      (sym (ap (λ all. all ++ token.Close ∷ []) j.parts ∙ append_assoc j.before j.part (token.Close ∷ [])))
-      (closes j.stack j.reads)
+    (sym (ap (λ all. all ++ token.Close ∷ []) j.parts ∙ append_assoc j.before j.part (token.Close ∷ [])))
+    (closes j.stack j.reads)
 
 stands_joined : {c : List ℕ → ℕ} (joined : Tree × List Frame) (ts : List Token) → Joined c joined ts → ReachedBy c Conjunction (before_or joined) (ts ++ token.Or ∷ [])
 stands_joined joined ts j =
@@ -276,7 +276,7 @@ runs c state ts [] h = subst (λ all. ReachedBy c Conjunction state all) (sym (a
 runs c state ts (u ∷ us) h =
     let next = step c state.0 state.1 u in
     let stepped : ReachedBy c Conjunction next (ts ++ u ∷ []) =
-        subst (λ (all : List Token). ReachedBy c Conjunction next (all ++ u ∷ [])) (sym h.parts) (steps h.stack h.begins u) in
+    subst (λ (all : List Token). ReachedBy c Conjunction next (all ++ u ∷ [])) (sym h.parts) (steps h.stack h.begins u) in
     subst (λ all. ReachedBy c Conjunction (run c next us) all) (append_assoc ts (u ∷ []) us) (runs c next (ts ++ u ∷ []) us stepped)
 
 -- nothing stands before what is whole

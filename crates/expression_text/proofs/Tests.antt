@@ -1,8 +1,8 @@
 -- Tests of each token, and names that are found.
-use Rattle.std.proofs.Common.{◌≡◌, ℕ, zero, suc, ◌+◌, ◌<◌, ◌≤◌, Bool, true, false, not, ◌||◌, IsTrue, List, [], ◌∷◌, length, get_or, take, All, refl, ap, ◌∙◌, sym, subst, arith, nat_lt, slice_index_or}
+use Rattle.std.proofs.Common.{◌≡◌, ℕ, zero, suc, ◌+◌, ◌<◌, ◌≤◌, Bool, true, false, not, ◌||◌, IsTrue, List, [], ◌∷◌, length, get_or, take, map, ◌++◌, All, refl, ap, ◌∙◌, sym, subst, arith, nat_lt, slice_index_or}
 use Rattle.std.specs.Prelude.{Option, Some, None, is_some, cond, bytes_eq}
 use Rattle.std.specs.List.{position, position_or_len, list_any, list_all, Contains}
-use Rattle.std.proofs.lemmas.List.{take_all}
+use Rattle.std.proofs.lemmas.List.{take_all, map_more}
 use Rattle.std.proofs.lemmas.List.Elements.{All-more}
 use Rattle.std.proofs.lemmas.List.Sums.{AllPass-from_list_all, list_all-from_AllPass}
 use Rattle.std.proofs.lemmas.Slice.Eq.{bytes_eq-Decides}
@@ -14,6 +14,8 @@ use Rattle.expression_text.specs.declared.token.Token.TheVariants as token
 use Rattle.expression_text.specs.Columns.{IsKnown}
 use Rattle.expression_text.specs.Kinds.{HasKinds, plain_kind}
 use Rattle.expression_text.specs.Trees.{tree_of}
+use Rattle.expression_text.specs.Words.{token_of}
+use Rattle.text_words.specs.declared.word.Word.{Word}
 
 -- each token so far, and one more
 pub each_more : (P : Token → Type 0) (ts : List Token) (i : ℕ) (t : Token) → i < length ts → All P (take i ts) → t ≡ get_or ts i t → P t → All P (take (i + 1) ts)
@@ -77,3 +79,10 @@ checked_told kinds expr number columns slice r is same told =
       (λ h. subst (λ e. HasKinds kinds (tree_of e)) (sym is) (AllPass-from_list_all p columns (sym read ∙ h))),
       (λ has. let all : HasKinds kinds (tree_of (Native number columns)) = subst (λ e. HasKinds kinds (tree_of e)) is has in read ∙ list_all-from_AllPass p columns all),
     )
+
+-- the tokens of the words so far, and of one more
+pub tokens_more : (words : List Word) (i : ℕ) (word : Word) (t : Token) (old new : List Token) → i < length words → old ≡ map token_of (take i words)
+    → word ≡ get_or words i word → t ≡ token_of word → new ≡ old ++ t ∷ [] → new ≡ map token_of (take (i + 1) words)
+tokens_more words i word t old new low so_far is told pushed =
+    let there : token_of (get_or words i word) ≡ t = ap token_of (sym is) ∙ sym told in
+    pushed ∙ (ap (λ (all : List Token). all ++ t ∷ []) so_far ∙ (ap (λ u. map token_of (take i words) ++ u ∷ []) (sym there) ∙ sym (map_more token_of words i word low)))

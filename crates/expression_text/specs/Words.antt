@@ -47,8 +47,8 @@ column_or_bad bytes = if begins_as_value bytes then token.Bad else token.Column 
 abbrev pub plain_token : List ℕ → Token
 plain_token bytes =
     unwrap_or (keyword_of bytes)
-        (unwrap_or (option_map (λ sign. token.Sign sign) (sign_of bytes))
-            (unwrap_or (option_map (λ n. token.Integer n) (int_of bytes)) (column_or_bad bytes)))
+    (unwrap_or (option_map (λ sign. token.Sign sign) (sign_of bytes))
+    (unwrap_or (option_map (λ n. token.Integer n) (int_of bytes)) (column_or_bad bytes)))
 
 -- what a word is
 abbrev pub token_of : Word → Token

@@ -117,11 +117,7 @@ fn settled(
 }
 
 /// A whole expression, of which nothing stands open.
-fn finish(
-    alloc: Global,
-    progress: Progress,
-    mut pending: Vec<Pending>,
-) -> Result<Expr, AllocError>
+fn finish(alloc: Global, progress: Progress, mut pending: Vec<Pending>) -> Result<Expr, AllocError>
     requires { IsSome (outcome (reading_of progress) (frames_of pending.items)) }
     ensures { IfOk result (λ expr. outcome (reading_of progress) (frames_of pending.items) ≡ Some (tree_of expr)) }
 {

@@ -14,6 +14,8 @@ mod pending;
 mod place;
 mod progress;
 mod recognizing;
+#[cfg(test)]
+mod tests;
 mod token;
 mod words;
 

@@ -87,10 +87,7 @@ fn side(alloc: Global, token: &Token, names: &[TextValue]) -> Result<Option<Term
     Ok(match token {
         Token::Column(name) => Some(Term::Column(column(name, names))),
         Token::Integer(n) => Some(Term::Literal(Value::Int(*n))),
-        Token::Text(bytes) => Some(Term::Literal(Value::Text(row_text(
-            alloc,
-            bytes.as_slice(),
-        )?))),
+        Token::Text(bytes) => Some(Term::Literal(Value::Text(row_text(alloc, bytes.as_slice())?))),
         Token::Flag(flag) => Some(Term::Literal(Value::Flag(*flag))),
         _ => None,
     })

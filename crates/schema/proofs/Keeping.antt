@@ -49,7 +49,7 @@ number_stands columns name c h =
     let at : slice_get columns (position_or_len p columns) ≡ Some c = sym (find_at p columns) ∙ h in
     let low : position_or_len p columns < length columns = get_low columns (position_or_len p columns) c at in
     let is : number_of columns name ≡ position_or_len p columns =
-        ap (λ (b : Bool). unwrap_or (cond b (Some (position_or_len p columns)) None) 0) (lt-ltb (position_or_len p columns) (length columns) low) in
+    ap (λ (b : Bool). unwrap_or (cond b (Some (position_or_len p columns)) None) 0) (lt-ltb (position_or_len p columns) (length columns) low) in
     ap (slice_get columns) is ∙ at
 
 some_value : {X : Type 0} (o : Option X) → IsSome o → (x : X) × (o ≡ Some x)
@@ -80,10 +80,10 @@ still_comparable d column target n h =
     let b = some_value (column_named (table_at d n).columns target) known.1 in
     let left : slice_get d.table.columns (number_of d.table.columns column) ≡ column_named d.table.columns column = number_stands d.table.columns column a.0 a.1 ∙ sym a.1 in
     let right : slice_get (table_at d n).columns (number_of (table_at d n).columns target) ≡ column_named (table_at d n).columns target =
-        number_stands (table_at d n).columns target b.0 b.1 ∙ sym b.1 in
+    number_stands (table_at d n).columns target b.0 b.1 ∙ sym b.1 in
     let cols : columns_or (slice_get d.tables n) d.table.columns ≡ (table_at d n).columns = sym (same_columns (slice_get d.tables n) d.table) in
     let there : slice_get (columns_or (slice_get d.tables n) d.table.columns) (number_of (table_at d n).columns target) ≡ column_named (table_at d n).columns target =
-        ap (λ (cs : List Column). slice_get cs (number_of (table_at d n).columns target)) cols ∙ right in
+    ap (λ (cs : List Column). slice_get cs (number_of (table_at d n).columns target)) cols ∙ right in
     ap (λ (o : Option Column). are_comparable o (slice_get (columns_or (slice_get d.tables n) d.table.columns) (number_of (table_at d n).columns target))) left
     ∙ ap (λ (o : Option Column). are_comparable (column_named d.table.columns column) o) there ∙ h
 
@@ -93,17 +93,17 @@ match_sound : (line : ℕ) (d : Draft) (column reference target : List ℕ) (cmp
 match_sound line d column reference target cmp known typed may =
     let number = λ (o : Option (ℕ × Action)). number_of (target_columns d o) target in
     let Sound : Option (ℕ × Action) → ℕ → Type 0 = λ o k. MatchOption o ⊥ (λ r. (not (is_restrict r.1) ≡ true)
-      × (are_comparable (slice_get d.table.columns (number_of d.table.columns column)) (slice_get (columns_or (slice_get d.tables r.0) d.table.columns) k) ≡ true)) in
+    × (are_comparable (slice_get d.table.columns (number_of d.table.columns column)) (slice_get (columns_or (slice_get d.tables r.0) d.table.columns) k) ≡ true)) in
     let step : (o : Option (ℕ × Action)) → MatchOption o ⊥ (λ r. are_comparable (column_named d.table.columns column) (column_named (table_at d r.0).columns target) ≡ true)
-      → MatchOption o (Unit {0}) (λ r. not (is_restrict r.1) ≡ true) → Sound o (number o) =
-        elim [ None ↦ λ t m. t | Some r ↦ λ t m. (m, still_comparable d column target r.0 t) ] in
+    → MatchOption o (Unit {0}) (λ r. not (is_restrict r.1) ≡ true) → Sound o (number o) =
+    elim [ None ↦ λ t m. t | Some r ↦ λ t m. (m, still_comparable d column target r.0 t) ] in
     subst (λ (o : Option (ℕ × Action)). Sound o (number (reference_named d.table.columns reference))) (sym (reference_stands d.table.columns reference known)) (step (reference_named d.table.columns reference) typed may)
 
 unique_sound : (line : ℕ) (columns : List Column) (name : List ℕ) → IsTypedUnique columns name → IsSoundUnique columns (record { column = number_of columns name; line = line })
 unique_sound line columns name typed =
     let Plain : Column → Type 0 = λ column. (not (is_reference column.kind) && not column.null) ≡ true in
     let step : (o : Option Column) → column_named columns name ≡ o → MatchOption o ⊥ Plain → MatchOption (slice_get columns (number_of columns name)) ⊥ Plain =
-        elim [ None ↦ λ e t. absurd t | Some c ↦ λ e t. subst (λ (o : Option Column). MatchOption o ⊥ Plain) (sym (number_stands columns name c e)) t ] in
+    elim [ None ↦ λ e t. absurd t | Some c ↦ λ e t. subst (λ (o : Option Column). MatchOption o ⊥ Plain) (sym (number_stands columns name c e)) t ] in
     step (column_named columns name) refl typed
 
 lengths : (lo hi : ℤ) → pos 0 ≤ℤ lo → lo ≤ℤ hi → hi ≤ℤ pos 1024 → (nat_abs lo ≤ nat_abs hi) × (nat_abs hi ≤ 1024)
@@ -124,9 +124,10 @@ pub table_low : (d : Draft) (name : List ℕ) (n : ℕ) → table_named d name �
 table_low d name n h =
     let p : TableDef → Bool = λ table. bytes_eq table.name name in
     let step : (o : Option ℕ) → position p d.tables ≡ o → (b : Bool) → first_some o (cond b (Some (length d.tables)) None) ≡ Some n → n ≤ length d.tables =
-        elim [
-          None ↦ λ e. elim [ true ↦ λ (f : Some (length d.tables) ≡ Some n). let is : length d.tables ≡ n = cc in omega arith | false ↦ λ f. absurd cc ]
-          | Some m ↦ λ e b (f : Some m ≡ Some n). let is : m ≡ n = cc in omega (arith, (position-Some p d.tables m no_table e).0) ] in
+    elim [
+      | None ↦ λ e. elim [ true ↦ λ (f : Some (length d.tables) ≡ Some n). let is : length d.tables ≡ n = cc in omega arith | false ↦ λ f. absurd cc ]
+      | Some m ↦ λ e b (f : Some m ≡ Some n). let is : m ≡ n = cc in omega (arith, (position-Some p d.tables m no_table e).0)
+    ] in
     step (position p d.tables) refl (bytes_eq d.table.name name) h
 
 target_sound : (d : Draft) (table : List ℕ) (act : Action) (null : Bool) → HasGoodTarget d table act null
@@ -134,7 +135,7 @@ target_sound : (d : Draft) (table : List ℕ) (act : Action) (null : Bool) → H
 target_sound d table act null good =
     let Good : Option ℕ → Type 0 = λ o. MatchOption o ⊥ (λ number. ((null || ltb number (length d.tables)) ≡ true) × ((null || not (Rattle.schema.specs.Columns.is_set_null act)) ≡ true)) in
     let step : (o : Option ℕ) → table_named d table ≡ o → Good o → IsSoundKind (length d.tables) null (kind.Reference (unwrap_or o 0) act) =
-        elim [ None ↦ λ e g. absurd g | Some n ↦ λ e g. (table_low d table n e, g.0, g.1) ] in
+    elim [ None ↦ λ e g. absurd g | Some n ↦ λ e g. (table_low d table n e, g.0, g.1) ] in
     step (table_named d table) refl good
 
 column_kept : (d : Draft) (column : Column) → IsDraft d → is_columns d.phase ≡ true → length d.table.columns < 16 → IsSoundColumn (length d.tables) column → IsDraft (with_column d column)
@@ -320,3 +321,15 @@ pub declared_sound : OneExpression → (r : Meaning) (text : List ℕ) (schema :
 declared_sound one r text schema h =
     let s = lead_kept one r 1 start (Rattle.text_words.specs.Lines.lines_of text) h.1.0 start_sound h.1.1 in
     subst IsSchema (sym h.1.3) (schema_sound h.1.0 text s (s.some_tables h.1.2))
+
+tables_few : (before ts : List TableDef) (n : ℕ) (t : TableDef) → AreTables before ts → slice_get ts n ≡ Some t → length t.columns ≤ 16
+tables_few before [] n t a h = absurd cc
+tables_few before (u ∷ ts) zero t a h = let is : u ≡ t = cc in subst (λ (v : TableDef). length v.columns ≤ 16) is a.0.sound.few_columns
+tables_few before (u ∷ ts) (suc n) t a h = tables_few (before ++ u ∷ []) ts n t a.1 h
+
+-- every table of a draft has at most sixteen columns
+pub columns_few : (d : Draft) (n : ℕ) → IsDraft d → length (table_at d n).columns ≤ 16
+columns_few d n s =
+    let step : (o : Option TableDef) → slice_get d.tables n ≡ o → length (unwrap_or o d.table).columns ≤ 16 =
+    elim [ None ↦ λ e. s.table.few_columns | Some t ↦ λ e. tables_few [] d.tables n t s.tables e ] in
+    step (slice_get d.tables n) refl

@@ -1,8 +1,9 @@
 mod FaultKinds
 mod Keeping
+mod Lines
 mod NameTexts
 mod Needs
-mod Samples
+mod SampleRows
 mod Unique
 pub mod Accepted
 pub mod Alike

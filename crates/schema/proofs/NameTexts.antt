@@ -13,10 +13,12 @@ high lo hi c h = leb-true c hi (and_parts (leb lo c) (leb c hi) h).1
 
 byte_small : (c : ℕ) → is_name_byte c ≡ true → c < 128
 byte_small c h = elim (or_cases (is_ascii_lowercase c || is_ascii_digit c) (eqb c 95) h) [
-  inl a ↦ elim (or_cases (is_ascii_lowercase c) (is_ascii_digit c) a) [
-    inl b ↦ omega (arith, high 97 122 c b)
-    | inr b ↦ omega (arith, high 48 57 c b) ]
-  | inr a ↦ omega (arith, eqb-true c 95 a) ]
+  | inl a ↦ elim (or_cases (is_ascii_lowercase c) (is_ascii_digit c) a) [
+    | inl b ↦ omega (arith, high 97 122 c b)
+    | inr b ↦ omega (arith, high 48 57 c b)
+  ]
+  | inr a ↦ omega (arith, eqb-true c 95 a)
+]
 
 all_small : (bs : List ℕ) → list_all is_name_byte bs ≡ true → IsAscii bs
 all_small [] h i = omega arith

@@ -49,18 +49,26 @@ abbrev pub is_unique : TableDef → Option ℕ → Bool
 is_unique table None = false
 is_unique table (Some column) = list_any (λ rule. rule.column == column) table.uniques
 
+-- There is room for a column, whose name is not too long.
+abbrev pub MayHaveMore : List Column → List ℕ → Type 0
+MayHaveMore columns name = (length columns < 16) × IsShort name
+
 -- Nothing is too many, too long or there twice.
 abbrev pub IsWithinLimits : Draft → Form → Type 0
 IsWithinLimits draft (form.Database name) = IsShort name
 IsWithinLimits draft (form.Author key) = (length draft.authors < 256) × ¬ Contains draft.authors key
 IsWithinLimits draft (form.Table name deletable owned) = (length draft.tables < 16) × IsShort name
-IsWithinLimits draft (form.Column name kind null) = (length draft.table.columns < 16) × IsShort name
-IsWithinLimits draft (form.Ref name table act null) = (length draft.table.columns < 16) × IsShort name
+IsWithinLimits draft (form.Column name kind null) = MayHaveMore draft.table.columns name
+IsWithinLimits draft (form.Ref name table act null) = MayHaveMore draft.table.columns name
 IsWithinLimits draft (form.Check tokens) = (length draft.table.checks < 16) × AreFewAndShort tokens
 IsWithinLimits draft (form.Match column cmp reference target) = (length draft.table.matches < 16) × IsShort column × IsShort reference × IsShort target
 IsWithinLimits draft (form.Unique column) = IsShort column × (is_unique draft.table (number_named draft.table.columns column) ≡ false)
 IsWithinLimits draft (form.AtMost count) = (pos 1 ≤ℤ count) × (count ≤ℤ pos 64) × (draft.table.at_most ≡ 0)
 IsWithinLimits draft (form.Sample values) = All HasShortLiteral values
+
+-- A name that no table has.
+abbrev pub IsNewTable : List TableDef → List ℕ → Type 0
+IsNewTable tables name = IsTrue (is_a_name name) × (list_any (λ table. bytes_eq table.name name) tables ≡ false)
 
 -- A name that no column has.
 abbrev pub IsNewColumn : List Column → List ℕ → Type 0
@@ -78,7 +86,7 @@ HasTargetColumn draft reference column =
 abbrev pub IsNamed : Draft → Form → Type 0
 IsNamed draft (form.Database name) = IsTrue (is_a_name name)
 IsNamed draft (form.Author key) = Unit {0}
-IsNamed draft (form.Table name deletable owned) = IsTrue (is_a_name name) × (list_any (λ table. bytes_eq table.name name) draft.tables ≡ false)
+IsNamed draft (form.Table name deletable owned) = IsNewTable draft.tables name
 IsNamed draft (form.Column name kind null) = IsNewColumn draft.table.columns name
 IsNamed draft (form.Ref name table act null) = IsNewColumn draft.table.columns name
 IsNamed draft (form.Check tokens) = All (IsKnown (names_of draft.table.columns)) tokens

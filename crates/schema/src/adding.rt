@@ -86,7 +86,7 @@ impl Draft {
     {
         self.phase = Phase::Columns;
         self.table = no_table(alloc);
-        self.table.name = TextValue::from_vec(name.into_vec());
+        self.table.name = text_of(name);
         self.table.deletable = deletable;
         self.table.owned = owned;
     }
@@ -101,7 +101,7 @@ impl Draft {
         requires { IsTrue (is_a_name name) }
         ensures { OnOk result (self.new ≡ with_column self.old (record { name = name; kind = kind; null = null; line = line })) }
     {
-        let name = TextValue::from_vec(name.into_vec());
+        let name = text_of(name);
         self.table.columns.push(Column {
             name,
             kind,
@@ -193,6 +193,14 @@ impl Draft {
         self.phase = Phase::Between;
         self.tables.push(table)
     }
+}
+
+/// A name as a text.
+fn text_of(name: ByteString) -> TextValue
+    requires { IsTrue (is_a_name name) }
+    ensures { result ≡ name }
+{
+    TextValue::from_vec(name.into_vec())
 }
 
 /// The number of the column with this name, which is there.

@@ -1,5 +1,5 @@
 ghost use Rattle.std.specs.Prelude.{◌≡◌};
-ghost use Rattle.schema.specs.Drafts.{start, no_table, is_turn, has_columns};
+ghost use Rattle.schema.specs.Drafts.{start, no_table, is_turn, is_between, has_columns};
 
 use crate::draft_lists::{AuthorList, TableList};
 use crate::form::Form;
@@ -64,6 +64,13 @@ impl Draft {
             Form::AtMost { .. } => self.has_columns(),
             Form::Sample { .. } => self.has_columns(),
         }
+    }
+
+    /// Whether a table has ended, and no other has begun.
+    pub(crate) fn is_complete(&self) -> bool
+        ensures { result ≡ is_between self.now.phase }
+    {
+        matches!(self.phase, Phase::Between)
     }
 
     /// Whether a table has begun, and has a column.

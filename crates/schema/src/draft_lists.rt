@@ -3,9 +3,9 @@
 ghost use Rattle.std.specs.Prelude.{◌≡◌, [], ◌∷◌, ◌++◌, OnOk};
 
 use crate::TableDef;
-use update_model::AuthorKey;
 use std::alloc::AllocError;
 use std::marker::Model;
+use update_model::AuthorKey;
 
 /// A list of tables, which number from 0. A contract sees the list of its items.
 #[derive(Debug, Drop)]

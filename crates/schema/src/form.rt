@@ -8,9 +8,13 @@ use update_model::AuthorKey;
 #[derive(Debug, Drop)]
 pub(crate) enum Form {
     /// `DATABASE name`
-    Database { name: ByteString },
+    Database {
+        name: ByteString,
+    },
     /// `AUTHOR hex`
-    Author { key: AuthorKey },
+    Author {
+        key: AuthorKey,
+    },
     /// `TABLE name [DELETABLE [OWNED]]`
     Table {
         name: ByteString,
@@ -31,7 +35,9 @@ pub(crate) enum Form {
         null: bool,
     },
     /// `CHECK expression`
-    Check { tokens: TokenList },
+    Check {
+        tokens: TokenList,
+    },
     /// `MATCH column cmp ref.column`
     Match {
         column: ByteString,
@@ -40,11 +46,17 @@ pub(crate) enum Form {
         target_column: ByteString,
     },
     /// `UNIQUE column`
-    Unique { column: ByteString },
+    Unique {
+        column: ByteString,
+    },
     /// `ATMOST k`
-    AtMost { count: i64 },
+    AtMost {
+        count: i64,
+    },
     /// `SAMPLE value ..`
-    Sample { values: LiteralList },
+    Sample {
+        values: LiteralList,
+    },
 }
 
 /// The kind of a plain column as a line writes it, with bounds of whatever size.

@@ -131,11 +131,7 @@ fn plain_form(alloc: Global, start: &[u8]) -> Result<Option<Form>, AllocError>
 }
 
 /// The form that a keyword and the words after it are.
-fn form_with(
-    alloc: Global,
-    keyword: Keyword,
-    words: Vec<Word>,
-) -> Result<Option<Form>, AllocError>
+fn form_with(alloc: Global, keyword: Keyword, words: Vec<Word>) -> Result<Option<Form>, AllocError>
     ensures { IfOk result (λ found. found ≡ form_with keyword words.items) }
 {
     match keyword {

@@ -13,7 +13,7 @@ use crate::form::{Form, PlainKind};
 use crate::lookups::{column_named, columns_at, reference_named, table_named};
 use crate::names::names_of;
 use crate::{Action, Column, ColumnKind};
-use expression_text::{Kind, Token, build, has_kinds};
+use expression_text::{Kind, Token, build, has_kinds, one_expression};
 use std::alloc::{AllocError, Global};
 use update_model::AuthorKey;
 
@@ -102,11 +102,7 @@ fn are_bounds(kind: &PlainKind) -> bool
 }
 
 /// Whether an expression reads plain columns and compares values of one kind.
-fn is_typed_check(
-    alloc: Global,
-    columns: &[Column],
-    tokens: &[Token],
-) -> Result<bool, AllocError>
+fn is_typed_check(alloc: Global, columns: &[Column], tokens: &[Token]) -> Result<bool, AllocError>
     requires few { length columns.now ≤ 16 }
     requires short { length tokens.now ≤ 256 }
     requires expression { IsExpression tokens.now }
@@ -117,6 +113,7 @@ fn is_typed_check(
     let names = names_of(alloc, columns)?;
     let expr = build(alloc, tokens, names.as_slice())?;
     let kinds = kinds_of(alloc, columns)?;
+    one_expression();
     Ok(has_kinds(&expr, kinds.as_slice()))
 }
 

@@ -1,4 +1,25 @@
-//! Schemas.
+//! Schemas: what a database's tables are, read from a text.
+//!
+//! A schema names a database, lists whose updates it takes, and declares tables: their columns, the references between
+//! them, and what holds of each row. [`read_schema`] reads a text of one line for each of these, and answers the
+//! [`Schema`], or the first [`SchemaFault`] with its line.
+//!
+//! ```text
+//! DATABASE club
+//! TABLE member DELETABLE
+//! COLUMN name TEXT 1 40
+//! COLUMN born INT 1900 2100 NULL
+//! CHECK born IS NULL OR born < 2020
+//! SAMPLE "Ann" 1987
+//! ```
+//!
+//! A table ends with a sample: a row that it may have, of which each CHECK and MATCH is tried. Every schema keeps that
+//! its numbers name what is there, that each expression may be asked of every row that fits, and that samples fit
+//! (`IsSchema` of the definitions).
+//!
+//! What a text declares is a relation over its lines (`Declares` in specs/Schemas): the form of a line, whose turn it
+//! is, what it adds, and what each kind of fault asks of it, apart from the code that reads. No rows are kept here, and
+//! no invariant is judged: a schema that is read may still be refused for its invariants.
 #![tactic(auto)]
 
 mod action;

@@ -1,11 +1,11 @@
 ghost use Rattle.std.specs.Prelude.{◌≡◌, ◌==◌, ◌↔◌, IsTrue, All};
 ghost use Rattle.std.specs.List.{list_any};
-ghost use Rattle.schema.specs.Faults.{IsWithinLimits, IsShort, AreFewAndShort, HasShortName, HasShortLiteral, is_unique, is_overlong};
+ghost use Rattle.schema.specs.Faults.{IsWithinLimits, IsShort, MayHaveMore, AreFewAndShort, HasShortName, HasShortLiteral, is_unique, is_overlong};
 
 use crate::draft::Draft;
 use crate::form::Form;
 use crate::lookups::number_named;
-use crate::{TableDef, UniqueRule};
+use crate::{Column, TableDef, UniqueRule};
 use expression_text::{Token, are_short_texts};
 use text_words::{Literal, has_name_letters};
 
@@ -23,12 +23,8 @@ pub(crate) fn is_within_limits(draft: &Draft, form: &Form) -> bool
         Form::Table { name, .. } => {
             draft.tables.as_slice().len() < 16 && is_short(name.as_slice())
         }
-        Form::Column { name, .. } => {
-            table.columns.as_slice().len() < 16 && is_short(name.as_slice())
-        }
-        Form::Ref { name, .. } => {
-            table.columns.as_slice().len() < 16 && is_short(name.as_slice())
-        }
+        Form::Column { name, .. } => may_have_more(table.columns.as_slice(), name.as_slice()),
+        Form::Ref { name, .. } => may_have_more(table.columns.as_slice(), name.as_slice()),
         Form::Check { tokens } => {
             table.checks.as_slice().len() < 16 && are_few_and_short(tokens.as_slice())
         }
@@ -53,6 +49,13 @@ pub(crate) fn is_within_limits(draft: &Draft, form: &Form) -> bool
         Form::AtMost { count } => 1 <= *count && *count <= 64 && table.at_most == 0,
         Form::Sample { values } => are_short_literals(values.as_slice()),
     }
+}
+
+/// Whether there is room for a column with this name.
+fn may_have_more(columns: &[Column], name: &[u8]) -> bool
+    ensures { IsTrue result ↔ MayHaveMore columns.now name.now }
+{
+    columns.len() < 16 && is_short(name)
 }
 
 /// Whether bytes are no name that is too long.

@@ -29,9 +29,7 @@ pub(crate) fn number_named(columns: &[Column], name: &[u8]) -> Option<usize>
 pub(crate) fn column_named<'a>(columns: &'a [Column], name: &[u8]) -> Option<&'a Column>
     ensures { option_copied result ≡ column_named columns.now name.now }
 {
-    columns
-        .iter()
-        .find(|column| column.name.as_slice() == name)
+    columns.iter().find(|column| column.name.as_slice() == name)
 }
 
 /// The table that a column refers to, and what becomes of a row when the one that it refers to goes.

@@ -1,7 +1,7 @@
 ghost use Rattle.std.specs.Prelude.{◌≡◌, ◌↔◌, IsTrue, IfOk, bytes_eq};
 ghost use Rattle.std.specs.List.{list_any};
 ghost use Rattle.schema.specs.Columns.{names_of};
-ghost use Rattle.schema.specs.Faults.{IsNamed, IsNewColumn, IsColumn, HasTargetColumn};
+ghost use Rattle.schema.specs.Faults.{IsNamed, IsNewTable, IsNewColumn, IsColumn, HasTargetColumn};
 
 use crate::draft::Draft;
 use crate::form::Form;
@@ -19,9 +19,7 @@ pub(crate) fn is_named(alloc: Global, draft: &Draft, form: &Form) -> Result<bool
     let columns = draft.table.columns.as_slice();
     Ok(match form {
         Form::Database { name } => is_name(name.as_slice()),
-        Form::Table { name, .. } => {
-            is_name(name.as_slice()) && !has_table(draft.tables.as_slice(), name.as_slice())
-        }
+        Form::Table { name, .. } => { is_new_table(draft.tables.as_slice(), name.as_slice()) }
         Form::Column { name, .. } => is_new_column(columns, name.as_slice()),
         Form::Ref { name, .. } => is_new_column(columns, name.as_slice()),
         Form::Check { tokens } => {
@@ -53,6 +51,13 @@ pub(crate) fn names_of(alloc: Global, columns: &[Column]) -> Result<Vec<TextValu
         names.push(column.name.copy(alloc)?)?;
     }
     Ok(names)
+}
+
+/// Whether bytes are a name that no table has.
+fn is_new_table(tables: &[TableDef], name: &[u8]) -> bool
+    ensures { IsTrue result ↔ IsNewTable tables.now name.now }
+{
+    is_name(name) && !has_table(tables, name)
 }
 
 fn has_table(tables: &[TableDef], name: &[u8]) -> bool

@@ -5,18 +5,20 @@ ghost use Rattle.text_words.specs.Lines.{lines_of};
 ghost use Rattle.schema.specs.Drafts.{start};
 ghost use Rattle.schema.specs.Outcome.{HasCause, HasLineCause, HasFaultIn, Answers};
 ghost use Rattle.schema.specs.Schemas.{Declares, FirstFault, SchemaData, Leads, LeadOn, FaultIn, IsGood, FormFault, IsComplete, schema_of};
-ghost use Rattle.schema.specs.Forms.{IsWhole};
+ghost use Rattle.text_words.specs.Words.{passed_over};
+ghost use Rattle.schema.specs.Forms.{HasForm, IsWhole};
 ghost use Rattle.schema.specs.declared.fault.SchemaError.TheVariants.{Fault, Memory};
 ghost use Rattle.schema.specs.Sound.{IsDraft};
 
-use crate::draft::{Draft, Phase};
+use crate::draft::Draft;
 use crate::form::Form;
 use crate::forms::{form_of, is_utf8};
 use crate::kinds::{has_target, is_matchable, is_typed};
 use crate::limits::is_within_limits;
 use crate::names::is_named;
 use crate::samples::has_sample;
-use crate::{Schema, SchemaError, SchemaFault, SchemaKind};
+use crate::{Schema, SchemaError, SchemaFault, SchemaKind, no_fault, one_schema};
+use expression_text::one_expression;
 use row_check::{Checks, Native, Relation};
 use sha2::{Digest, Sha256};
 use std::alloc::{AllocError, Global};
@@ -43,6 +45,8 @@ pub fn read_schema<L: Relation, C: Checks<L>>(
     if MAX_BYTES < text.len() {
         return Err(fault(SchemaKind::Limit, 0));
     }
+    one_schema();
+    no_fault();
     let draft = read_lines(alloc, text, native)?;
     schema_of(alloc, draft, text)
 }
@@ -55,7 +59,9 @@ fn schema_of(alloc: Global, draft: Draft, text: &[u8]) -> Result<Schema, SchemaE
     ensures memory { IfErr result (λ error. error ≡ Memory) }
 {
     let Draft {
-        authors, tables, ..
+        authors,
+        tables,
+        ..
     } = draft;
     let rule = DbRule {
         database: Sha256::digest(text),
@@ -83,6 +89,7 @@ fn read_lines<L: Relation, C: Checks<L>>(
     ensures sound { IfOk result (λ draft. IsDraft draft) }
     ensures fault { IfErr result (λ error. HasFaultIn L.answer text.now error) }
 {
+    one_expression();
     let mut draft = Draft::new(alloc);
     let mut number = 1;
     let mut rest = text;
@@ -91,7 +98,7 @@ fn read_lines<L: Relation, C: Checks<L>>(
         number += 1;
         rest = after;
     }
-    if !matches!(draft.phase, Phase::Between) {
+    if !draft.is_complete() {
         return Err(fault(SchemaKind::Line, number));
     }
     Ok(draft)
@@ -116,17 +123,36 @@ fn take_line<L: Relation, C: Checks<L>>(
     if is_passed_over(line) {
         return Ok(());
     }
-    let Some(form) = form_of(alloc, line)? else {
-        return Err(fault(SchemaKind::Line, number));
-    };
+    match form_of(alloc, line)? {
+        Some(form) => take_form(alloc, native, draft, number, line, form),
+        None => Err(fault(SchemaKind::Line, number)),
+    }
+}
+
+/// Takes the line with this number, of this form.
+fn take_form<L: Relation, C: Checks<L>>(
+    alloc: Global,
+    native: &Native<L, C>,
+    draft: &mut Draft,
+    number: u32,
+    line: &[u8],
+    form: Form,
+) -> Result<(), SchemaError>
+    requires draft { IsDraft draft.old }
+    requires says { IsTrue (passed_over line.now) → ⊥ }
+    requires form { HasForm line.now form }
+    ensures taken { OnOk result (Leads L.answer number draft.old line.now draft.new) }
+    ensures sound { OnOk result (IsDraft draft.new) }
+    ensures fault { IfErr result (λ error. HasLineCause L.answer draft.old number line.now error) }
+{
+    one_expression();
     if !draft.is_turn(&form) {
         return Err(fault(SchemaKind::Line, number));
     }
-    if let Some(kind) = judge(alloc, native, draft, &form)? {
-        return Err(fault(kind, number));
+    match judge(alloc, native, draft, &form)? {
+        Some(kind) => Err(fault(kind, number)),
+        None => Ok(draft.add(alloc, number, form)?),
     }
-    draft.add(alloc, number, form)?;
-    Ok(())
 }
 
 /// What is wrong with a line of this form, whose turn it is: the first kind that applies.

@@ -1,12 +1,12 @@
 //! Samples: the rows that they are, and whether they hold.
 
-ghost use Rattle.std.specs.Prelude.{◌≡◌, ◌↔◌, IsTrue, IfOk, All};
+ghost use Rattle.std.specs.Prelude.{◌≡◌, ◌↔◌, ◌≤◌, length, IsTrue, IfOk, All};
 ghost use Rattle.std.specs.List.{AllByRecursion};
-ghost use Rattle.row_check.specs.Meaning.{FitsRow};
+ghost use Rattle.expression_text.specs.Trees.{holds_tree};
 ghost use Rattle.schema.specs.Columns.{FitsSampleAt};
 ghost use Rattle.schema.specs.Faults.{HasSample, IsSample};
 ghost use Rattle.schema.specs.Rows.{sample_row, value_written, value_at_column, values_after, plain_count, FitsSample, passes_checks, passes_matches, matches_target};
-ghost use Rattle.schema.specs.Sound.{IsDraft, IsRowLiteral, HasRowValues};
+ghost use Rattle.schema.specs.Sound.{IsDraft, IsSoundCheck, IsRowLiteral, HasRowValues};
 
 use crate::draft::Draft;
 use crate::fitting::fits_column;
@@ -14,6 +14,7 @@ use crate::form::Form;
 use crate::kinds::is_reference;
 use crate::lookups::{reference_at, table_at};
 use crate::{Action, CheckRule, Column, MatchRule};
+use expression_text::{kinds_fit_rows, trees_hold};
 use row_check::{Checks, Native, Relation, compare, eval};
 use std::alloc::{AllocError, Global};
 use text_words::Literal;
@@ -35,8 +36,10 @@ pub(crate) fn has_sample<L: Relation, C: Checks<L>>(
             let values = values.as_slice();
             let columns = draft.table.columns.as_slice();
             let row = sample_row(alloc, columns, values)?;
-            Ok(values.len() == plain_count(columns)
-                && is_sample(alloc, native, draft, row.as_slice())?)
+            Ok(
+                values.len() == plain_count(columns)
+                    && is_sample(alloc, native, draft, row.as_slice())?,
+            )
         }
         _ => Ok(true),
     }
@@ -98,13 +101,18 @@ fn value_written(alloc: Global, literal: &Literal) -> Result<Value, AllocError>
 
 /// How many columns are no references.
 fn plain_count(columns: &[Column]) -> usize
-    ensures { result ≡ plain_count columns.now }
+    ensures value { result ≡ plain_count columns.now }
+    ensures few { result ≤ length columns.now }
 {
     match columns {
         [] => 0,
         [first, rest @ ..] => {
             let count = plain_count(rest);
-            if is_reference(&first.kind) { count } else { count + 1 }
+            if is_reference(&first.kind) {
+                count
+            } else {
+                count + 1
+            }
         }
     }
 }
@@ -119,11 +127,12 @@ fn is_sample<L: Relation, C: Checks<L>>(
     requires { IsDraft draft.now }
     ensures { IfOk result (λ answer. IsTrue answer ↔ IsSample L.answer draft.now row.now) }
 {
-    if !fits_sample(draft.table.columns.as_slice(), row) {
+    let columns = draft.table.columns.as_slice();
+    if !fits_sample(columns, row) {
         return Ok(false);
     }
     Ok(
-        passes_checks(alloc, native, draft.table.checks.as_slice(), row)?
+        passes_checks(alloc, native, columns, draft.table.checks.as_slice(), row)?
             && passes_matches(draft, row),
     )
 }
@@ -132,12 +141,12 @@ fn is_sample<L: Relation, C: Checks<L>>(
 fn fits_sample(columns: &[Column], row: &[Value]) -> bool
     ensures { IsTrue result ↔ FitsSample columns.now row.now }
 {
-    match (columns, row) {
-        ([], []) => true,
-        ([column, columns @ ..], [value, row @ ..]) => {
-            fits_sample_at(column, value) && fits_sample(columns, row)
-        }
-        _ => false,
+    match columns {
+        [] => row.is_empty(),
+        [column, columns @ ..] => match row {
+            [] => false,
+            [value, row @ ..] => fits_sample_at(column, value) && fits_sample(columns, row),
+        },
     }
 }
 
@@ -151,22 +160,42 @@ fn fits_sample_at(column: &Column, value: &Value) -> bool
     }
 }
 
-/// Whether every CHECK is true of a row.
+/// Whether every CHECK is true of a row that fits.
 fn passes_checks<L: Relation, C: Checks<L>>(
     alloc: Global,
     native: &Native<L, C>,
+    columns: &[Column],
     checks: &[CheckRule],
     row: &[Value],
 ) -> Result<bool, AllocError>
-    requires { AllByRecursion (λ check. FitsRow row.now check.expr) checks.now }
+    requires sound { AllByRecursion (IsSoundCheck columns.now) checks.now }
+    requires fits { FitsSample columns.now row.now }
     ensures { IfOk result (λ answer. answer ≡ passes_checks L.answer checks.now row.now) }
 {
     for check in checks {
-        if !eval(alloc, &check.expr, row, native)? {
+        let passes = passes_check(alloc, native, columns, check, row)?;
+        if !passes {
             return Ok(false);
         }
     }
     Ok(true)
+}
+
+/// Whether a CHECK is true of a row that fits.
+fn passes_check<L: Relation, C: Checks<L>>(
+    alloc: Global,
+    native: &Native<L, C>,
+    columns: &[Column],
+    check: &CheckRule,
+    row: &[Value],
+) -> Result<bool, AllocError>
+    requires sound { IsSoundCheck columns.now check.now }
+    requires fits { FitsSample columns.now row.now }
+    ensures { IfOk result (λ answer. answer ≡ holds_tree L.answer row.now check.now.tree) }
+{
+    kinds_fit_rows();
+    trees_hold();
+    eval(alloc, &check.expr, row, native)
 }
 
 /// Whether every MATCH is true of a row beside the samples of its targets.
@@ -174,12 +203,12 @@ fn passes_matches(draft: &Draft, row: &[Value]) -> bool
     ensures { result ≡ passes_matches draft.now row.now }
 {
     let columns = draft.table.columns.as_slice();
-    draft
-        .table
-        .matches
-        .as_slice()
-        .iter()
-        .all(|rule| matches_target(draft, row, rule, reference_at(columns, rule.reference)))
+    draft.table.matches.as_slice().iter().all(|rule| matches_target(
+        draft,
+        row,
+        rule,
+        reference_at(columns, rule.reference),
+    ))
 }
 
 /// Whether a MATCH is true of a row beside the sample of this target. Of the table itself it is not asked.

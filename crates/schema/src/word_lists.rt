@@ -3,8 +3,8 @@
 ghost use Rattle.std.specs.Prelude.{◌≡◌};
 
 use expression_text::Token;
-use text_words::Literal;
 use std::marker::Model;
+use text_words::Literal;
 
 /// A list of tokens of an expression. A contract sees the list of its items.
 #[derive(Debug, Drop)]

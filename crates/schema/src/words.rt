@@ -149,18 +149,15 @@ fn dot_in(path: &[u8]) -> Option<usize>
 }
 
 /// The values that words write, where each writes one.
-pub(crate) fn values_of(
-    alloc: Global,
-    words: &[Word],
-) -> Result<Option<Vec<Literal>>, AllocError>
+pub(crate) fn values_of(alloc: Global, words: &[Word]) -> Result<Option<Vec<Literal>>, AllocError>
     ensures { IfOk result (λ found. option_map (λ values. values.items) found ≡ values_of words.now) }
 {
     let mut values = Vec::with_capacity(alloc, words.len())?;
     for word in words {
-        let Some(value) = value_of(alloc, word)? else {
-            return Ok(None);
-        };
-        values.push(value)?;
+        match value_of(alloc, word)? {
+            Some(value) => values.push(value)?,
+            None => return Ok(None),
+        }
     }
     Ok(Some(values))
 }

@@ -12,34 +12,34 @@ use Rattle.std.proofs.lemmas.Slice.Eq.{bytes_eq-Decides}
 use Rattle.std.proofs.lemmas.Fmt.{IsAscii-from_digits}
 use Rattle.text_words.specs.Integers.{is_positive_numeral, is_integer_form, is_within_64_bits, int_of}
 
-and_true : (a b : Bool) → (a && b) ≡ true → (a ≡ true) × (b ≡ true)
+pub and_true : (a b : Bool) → (a && b) ≡ true → (a ≡ true) × (b ≡ true)
 and_true true b h = (refl, h)
 and_true false b h = absurd cc
 
-digit_small : (c : ℕ) → is_ascii_digit c ≡ true → (digit_value c < 10) × (48 ≤ c) × (c ≤ 57)
+pub digit_small : (c : ℕ) → is_ascii_digit c ≡ true → (digit_value c < 10) × (48 ≤ c) × (c ≤ 57)
 digit_small c h =
     let low : 48 ≤ c = grind (arith, nat_tests, h) in
     let high : c ≤ 57 = grind (arith, nat_tests, h) in
     (grind (arith, nat_tests, low, high), low, high)
 
-all_digits : (ds : List ℕ) → list_all is_ascii_digit ds ≡ true → AllDigits 10 ds
+pub all_digits : (ds : List ℕ) → list_all is_ascii_digit ds ≡ true → AllDigits 10 ds
 all_digits [] h = tt
 all_digits (c ∷ cs) h = let both = and_true (is_ascii_digit c) _ h in ((digit_small c both.0).0, all_digits cs both.1)
 
-positive_digits : (ds : List ℕ) → is_positive_numeral ds ≡ true → list_all is_ascii_digit ds ≡ true
+pub positive_digits : (ds : List ℕ) → is_positive_numeral ds ≡ true → list_all is_ascii_digit ds ≡ true
 positive_digits [] h = absurd cc
 positive_digits (first ∷ ds) h = (and_true (not (first == 48)) _ h).1
 
-positive_some : (ds : List ℕ) → is_positive_numeral ds ≡ true → 0 < length ds
+pub positive_some : (ds : List ℕ) → is_positive_numeral ds ≡ true → 0 < length ds
 positive_some [] h = absurd cc
 positive_some (first ∷ ds) h = omega arith
 
-zero_digits : (word : List ℕ) → bytes_eq word (codes "0") ≡ true → list_all is_ascii_digit word ≡ true
+pub zero_digits : (word : List ℕ) → bytes_eq word (codes "0") ≡ true → list_all is_ascii_digit word ≡ true
 zero_digits word h =
     let same : word ≡ 48 ∷ [] = (bytes_eq-Decides word (codes "0")).0 h in
     rw same refl
 
-unsigned_digits : (word : List ℕ) (nought : Bool) → (nought ≡ true → list_all is_ascii_digit word ≡ true) → (nought || is_positive_numeral word) ≡ true → list_all is_ascii_digit word ≡ true
+pub unsigned_digits : (word : List ℕ) (nought : Bool) → (nought ≡ true → list_all is_ascii_digit word ≡ true) → (nought || is_positive_numeral word) ≡ true → list_all is_ascii_digit word ≡ true
 unsigned_digits word true at_zero h = at_zero refl
 unsigned_digits word false at_zero h = positive_digits word h
 
@@ -70,11 +70,11 @@ is_decimal (byte ∷ ds) h = by_sign byte ds (byte == 45) refl h
 pub is_text : (word : List ℕ) → is_integer_form word ≡ true → IsUtf8 word
 is_text word h = IsUtf8-from_ascii word (is_decimal word h).1
 
-fits : (z : ℤ) → is_within_64_bits z ≡ true → FitsSigned w64 z
+pub fits : (z : ℤ) → is_within_64_bits z ≡ true → FitsSigned w64 z
 fits (pos n) h = record { sfits = grind (arith, nat_tests, h) }
 fits (negsuc n) h = record { sfits = grind (arith, nat_tests, h) }
 
-within : (z : ℤ) → FitsSigned w64 z → is_within_64_bits z ≡ true
+pub within : (z : ℤ) → FitsSigned w64 z → is_within_64_bits z ≡ true
 within (pos n) f = let low : n < 2 ^ 63 = f.sfits in grind (arith, nat_tests, low)
 within (negsuc n) f = let low : n < 2 ^ 63 = f.sfits in grind (arith, nat_tests, low)
 

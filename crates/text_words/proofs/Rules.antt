@@ -1,5 +1,5 @@
 -- What the rules of words give is what is read, and the other way round.
-use Rattle.std.proofs.Common.{◌≡◌, ◌≢◌, ℕ, zero, suc, ◌+◌, ◌-◌, ◌*◌, ◌≤◌, ◌<◌, Bool, true, false, not, ◌&&◌, ◌||◌, ◌==◌, nat_lt, nat_le, List, [], ◌∷◌, ◌++◌, length, take, drop, Option, Some, None, option_map, option_and_then, is_some, cond, refl, sym, ap, subst, ◌∙◌, append_assoc, get_or, arith, inl, inr, ◌⊎◌}
+use Rattle.std.proofs.Common.{◌≡◌, ◌≢◌, ℕ, zero, suc, ◌+◌, ◌<◌, Bool, true, false, not, ◌||◌, ◌==◌, nat_lt, List, [], ◌∷◌, ◌++◌, length, take, drop, Option, Some, None, option_and_then, is_some, cond, refl, sym, ap, subst, ◌∙◌, append_assoc, get_or, arith, inl, inr, ◌⊎◌}
 use Rattle.std.proofs.Math.Seq.{take-append_seam, drop-append_seam}
 use Rattle.std.proofs.lemmas.Bool.Decides.{nat_tests}
 use Rattle.std.proofs.lemmas.List.{take-append-drop, append-nil}
@@ -7,10 +7,10 @@ use Rattle.std.specs.List.{AllByRecursion, position_or_len}
 use Rattle.text_words.specs.declared.style.Style.{Style}
 use Rattle.text_words.specs.declared.style.Style.TheVariants.{Spaced, Punctuated}
 use Rattle.text_words.specs.declared.word.Word.{Word}
-use Rattle.text_words.specs.declared.word.Word.TheVariants.{Plain, Quoted, Open, Close, Comma}
+use Rattle.text_words.specs.declared.word.Word.TheVariants.{Quoted, Open, Close, Comma}
 use Rattle.text_words.specs.Grammar.{IsPiece, raw, escaped_quote, escaped_backslash, escaped_newline, escaped_tab, escaped_digits, IsQuoted, no_byte, one_byte, IsWord, a_text, bytes, a_mark, MayFollow, AreBlanks, AreWords, no_word, one_word}
 use Rattle.text_words.specs.Quoted.{byte_of, hex_escape, escape_at, piece_at, closing, with_byte, text_within, text_at}
-use Rattle.text_words.specs.Words.{Read, is_blank, is_end, ends_word, skip_blanks, mark_of, plain_word, quoted_word, unquoted_word, first_word, with_word, words_within, words_of}
+use Rattle.text_words.specs.Words.{Read, is_blank, is_end, ends_word, skip_blanks, mark_of, quoted_word, unquoted_word, first_word, with_word, words_within, words_of}
 use Rattle.text_words.proofs.Texts.{onward, text_step}
 use Rattle.text_words.proofs.WordsLemmas.{words_on, on_skipped, words_step, onward as words_onward}
 

@@ -1,5 +1,5 @@
 -- The words of a line by rules, apart from how a line is read.
-use Rattle.std.specs.Prelude.{◌≡◌, ◌≢◌, ℕ, ◌≤◌, Bool, true, false, List, [], ◌∷◌, ◌++◌, Some}
+use Rattle.std.specs.Prelude.{◌≡◌, ◌≢◌, ℕ, ◌≤◌, true, false, List, [], ◌∷◌, ◌++◌, Some}
 use Rattle.std.specs.List.{AllByRecursion}
 use Rattle.text_words.specs.declared.style.Style.{Style}
 use Rattle.text_words.specs.declared.word.Word.{Word}

@@ -4,5 +4,6 @@ pub mod Integers
 pub mod Lines
 pub mod Literals
 pub mod Names
+pub mod Printing
 pub mod Quoted
 pub mod Words

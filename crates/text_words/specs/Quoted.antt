@@ -43,6 +43,7 @@ abbrev pub closing : List ℕ → Option (List ℕ × List ℕ)
 closing [] = None
 closing (byte ∷ rest) = if byte == 34 then Some ([], rest) else None
 
+-- a byte before the text that is read after it
 abbrev pub with_byte : ℕ → Option (List ℕ × List ℕ) → Option (List ℕ × List ℕ)
 with_byte byte read = option_map (λ text. (byte ∷ text.0, text.1)) read
 

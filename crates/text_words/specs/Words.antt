@@ -55,6 +55,7 @@ plain_word style byte rest = let n = position_or_len (is_end style) rest in (Pla
 abbrev pub quoted_word : Style → List ℕ → Option Read
 quoted_word style bytes = option_and_then (λ text. if ends_word style text.1 then Some (Quoted text.0, text.1) else None) (text_at bytes)
 
+-- a word that is no text, by the mark that its first byte is
 abbrev pub unquoted_word : Style → ℕ → List ℕ → Option Word → Read
 unquoted_word style byte rest (Some mark) = (mark, rest)
 unquoted_word style byte rest None = plain_word style byte rest
@@ -64,6 +65,7 @@ unfoldable pub first_word : Style → List ℕ → Option Read
 first_word style [] = None
 first_word style (byte ∷ rest) = if byte == 34 then quoted_word style rest else Some (unquoted_word style byte rest (mark_of style byte))
 
+-- a word before those that are read after it
 abbrev pub with_word : Word → Option (List Word) → Option (List Word)
 with_word word read = option_map (λ words. word ∷ words) read
 

@@ -1,8 +1,8 @@
-//! Lines, words, names, integers and quoted texts: what schemas, transactions, queries and scripts are read from.
+//! Lines, words, names and values: what schemas, transactions, queries and scripts are read from.
 //!
 //! A text is cut into lines by [`next_line`], and a line into words by [`plain_words`] or [`expression_words`].
-//! What a word says is told by [`is_name`], [`integer_of`], [`literal_of`] and their kin. All is by bytes: whether a
-//! text is UTF-8 is for callers to test.
+//! What a word says is told by [`is_name`], [`integer_of`], [`literal_of`] and their kin, and [`push_literal`] prints
+//! a value as it is read. All is by bytes: whether a text is UTF-8 is for callers to test.
 //!
 //! ```text
 //! let mut rest = text;
@@ -25,6 +25,7 @@ mod lines;
 mod literal;
 mod literals;
 mod names;
+mod printing;
 mod quoting;
 mod splitting;
 mod style;
@@ -35,11 +36,14 @@ mod word;
 pub use byte_string::ByteString;
 pub use hexadecimal::{bytes_of_hex, row_name_of};
 pub use integers::integer_of;
-pub use laws::{lines_are_the_text, words_are_by_rule};
+pub use laws::{
+    integers_are_as_printed, lines_are_the_text, values_are_read_again, words_are_by_rule,
+};
 pub use lines::next_line;
 pub use literal::Literal;
 pub use literals::literal_of;
 pub use names::{has_name_letters, is_name};
+pub use printing::{push_literal, push_quoted};
 pub use splitting::{
     expression_words, first_word, is_passed_over, plain_words, skip_blanks, words,
 };

@@ -1,8 +1,8 @@
 //! Worked lines, words and values.
 
 use crate::{
-    Literal, Style, Word, bytes_of_hex, has_name_letters, integer_of, is_name, is_passed_over,
-    literal_of, next_line, row_name_of, words,
+    Style, Word, bytes_of_hex, has_name_letters, integer_of, is_name, is_passed_over, literal_of,
+    next_line, push_literal, row_name_of, words,
 };
 use std::alloc::{AllocError, Global};
 use std::test::Fail;
@@ -49,7 +49,10 @@ fn reads_lines(rt: HostRuntime) -> Result<(), Fail> {
     for (text, want) in rows {
         let mut lines = Vec::new(alloc);
         let mut rest = text.as_bytes();
-        while let Some((line, after)) = next_line(rest) {
+        for _ in 0..4 {
+            let Some((line, after)) = next_line(rest) else {
+                break;
+            };
             lines.extend_from_slice(line)?;
             lines.push(b'|')?;
             rest = after;
@@ -134,8 +137,7 @@ fn tells_lines_and_names(rt: HostRuntime) -> Result<(), Fail> {
 }
 
 #[test]
-fn reads_values(rt: HostRuntime) -> Result<(), Fail> {
-    let alloc = rt.alloc();
+fn reads_integers(rt: HostRuntime) -> Result<(), Fail> {
     let rows = [
         ("0", Some(0)),
         ("10", Some(10)),
@@ -155,32 +157,48 @@ fn reads_values(rt: HostRuntime) -> Result<(), Fail> {
     for (word, want) in rows {
         assert_eq!(rt; integer_of(word.as_bytes()), want, "{word}");
     }
+    Ok(())
+}
+
+/// What is printed of the value of a line's one word, or `!` where there is none.
+fn printed(alloc: Global, line: &[u8]) -> Result<Vec<u8>, AllocError> {
+    let mut out = Vec::new(alloc);
+    let mut words = match words(alloc, Style::Punctuated, line)? {
+        Some(words) => words,
+        None => Vec::new(alloc),
+    };
+    let value = match words.pop() {
+        Some(word) => literal_of(word),
+        None => None,
+    };
+    match value {
+        Some(value) => push_literal(alloc, &mut out, &value)?,
+        None => out.push(b'!')?,
+    }
+    Ok(out)
+}
+
+#[test]
+fn prints_what_it_reads(rt: HostRuntime) -> Result<(), Fail> {
+    let alloc = rt.alloc();
     let rows = [
-        ("NULL", "n"),
-        ("TRUE", "t"),
-        ("FALSE", "f"),
-        ("7", "7"),
-        ("\"NULL\"", "NULL"),
+        ("NULL", "NULL"),
+        ("TRUE", "TRUE"),
+        (" FALSE ", "FALSE"),
+        ("-17", "-17"),
+        ("\"NULL\"", "\"NULL\""),
+        (r#""\x41\x0a\x1f\x7f\"\\""#, r#""A\n\x1f\x7f\"\\""#),
+        ("\"\u{e9}\"", "\"\u{e9}\""),
         ("true", "!"),
+        ("-0", "!"),
         ("(", "!"),
     ];
     for (line, want) in rows {
-        let mut words = match words(alloc, Style::Punctuated, line.as_bytes())? {
-            Some(words) => words,
-            None => Vec::new(alloc),
-        };
-        let value = match words.pop() {
-            Some(word) => literal_of(word),
-            None => None,
-        };
-        let is_wanted = match value {
-            Some(Literal::Null) => want == "n",
-            Some(Literal::Flag(flag)) => want == if flag { "t" } else { "f" },
-            Some(Literal::Integer(n)) => Some(n) == integer_of(want.as_bytes()),
-            Some(Literal::Text(text)) => text.as_slice() == want.as_bytes(),
-            None => want == "!",
-        };
-        assert!(rt; is_wanted, "{line}");
+        assert_eq!(rt;
+            printed(alloc, line.as_bytes())?.as_slice(),
+            want.as_bytes(),
+            "{line}"
+        );
     }
     Ok(())
 }

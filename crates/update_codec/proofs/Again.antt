@@ -1,58 +1,25 @@
 -- Reading gives back what was spelled, and leaves what stands behind it.
-use Rattle.std.proofs.Common.{◌≡◌, ℕ, ◌^◌, ◌<◌, ◌≤◌, true, List, [], ◌∷◌, ◌++◌, length, refl, sym, ap, subst, ◌∙◌, arith, append_assoc, ltb, leb, eqb, ◌&&◌}
-use Rattle.std.proofs.Math.Seq.{take-append_seam, drop-append_seam}
-use Rattle.std.proofs.lemmas.List.{append-nil, length-append}
-use Rattle.std.proofs.lemmas.Bool.{le-ltb, le-leb, eq-eqb}
+use Rattle.std.proofs.Common.{◌≡◌, ℕ, ◌+◌, ◌^◌, ◌<◌, ◌≤◌, true, List, [], ◌∷◌, ◌++◌, length, refl, sym, ap, subst, ◌∙◌, arith, append_assoc, leb, eqb}
+use Rattle.std.proofs.lemmas.List.{append-nil}
+use Rattle.std.proofs.lemmas.Bool.{le-leb, eq-eqb}
 use Rattle.std.proofs.lemmas.Bool.Decides.{nat_tests}
-use Rattle.std.proofs.lemmas.Nat.{from_be_bytes-to_be_bytes_2, from_be_bytes-to_be_bytes_4}
 use Rattle.std.specs.Prelude.{Ok, Option, Some, None}
 use Rattle.std.specs.Int.{w16, w32, to_be_bytes}
 use Rattle.std.specs.List.{flat_map, AllByRecursion}
 use Rattle.update_model.specs.declared.update_id.UpdateId.{UpdateId}
 use Rattle.update_model.specs.declared.author_key.AuthorKey.{AuthorKey}
-use Rattle.update_model.specs.Form.{BodyData, UpdateData, IsId, IsKey, IsBody, IsUpdate, AreRising, signature_length}
-use Rattle.update_codec.specs.Reading.{block_at, number_at, id_at, ids_at, is_next, author_at, before_ops_at, body_at, update_at, whole}
+use Rattle.update_model.specs.Block.{IsId}
+use Rattle.update_model.specs.Form.{BodyData, UpdateData, IsBody, IsUpdate, AreRising, signature_length}
+use Rattle.update_codec.specs.declared.codec_fault.CodecKind.TheVariants as kinds
+use Rattle.update_codec.specs.Reading.{Read, ◌>>=◌, judge, block_at, number_at, id_at, ids_at, is_next, author_at, ops_at, before_ops_at, body_at, update_at, whole}
 use Rattle.update_codec.specs.Spelling as spell
 use Rattle.update_codec.specs.Spelling.{Spells}
-use Rattle.update_codec.proofs.Steps.{then_is, judge_is, guard_is, ok_is}
-
-pub block_again : (n : ℕ) (block rest : List ℕ) → length block ≡ n → block_at n (block ++ rest) ≡ Ok (block, rest)
-block_again n block rest e = subst (λ (k : ℕ). block_at k (block ++ rest) ≡ Ok (block, rest)) e (whole_block block rest)
-  where
-    pair : (a b c d : List ℕ) → a ≡ c → b ≡ d → (let x : List ℕ × List ℕ = (a, b) in x) ≡ (c, d)
-    pair a b c d p q = cc
-
-    whole_block : (block rest : List ℕ) → block_at (length block) (block ++ rest) ≡ Ok (block, rest)
-    whole_block block rest = guard_is (ltb (length (block ++ rest)) (length block)) _ (block, rest) (le-ltb _ _ (omega (arith, length-append block rest))) (pair _ _ block rest (take-append_seam block rest) (drop-append_seam block rest))
-
-pub u16_again : (n : ℕ) (rest : List ℕ) → n < 2 ^ 16 → number_at w16 (to_be_bytes w16 n ++ rest) ≡ Ok (n, rest)
-u16_again n rest h = guard_is (ltb (length (to_be_bytes w16 n ++ rest)) 2) _ (n, rest) (le-ltb _ _ (omega arith)) (ap (λ (k : ℕ). (let x : ℕ × List ℕ = (k, rest) in x)) (from_be_bytes-to_be_bytes_2 n h))
-
-pub u32_again : (n : ℕ) (rest : List ℕ) → n < 2 ^ 32 → number_at w32 (to_be_bytes w32 n ++ rest) ≡ Ok (n, rest)
-u32_again n rest h = guard_is (ltb (length (to_be_bytes w32 n ++ rest)) 4) _ (n, rest) (le-ltb _ _ (omega arith)) (ap (λ (k : ℕ). (let x : ℕ × List ℕ = (k, rest) in x)) (from_be_bytes-to_be_bytes_4 n h))
-
-pub id_again : (id : UpdateId) (rest : List ℕ) → IsId id → id_at (spell.id id ++ rest) ≡ Ok (id, rest)
-unfolding id_at
-id_again id rest is = then_is (block_at 32 (id.0 ++ rest)) _ (id.0, rest) _ (block_again 32 id.0 rest is.len) refl
-
-within : (a b c : ℕ) → a ≤ b → b ≤ c → (leb a b && leb b c) ≡ true
-within a b c h k = grind (arith, nat_tests)
-
-pub author_again : (key : AuthorKey) (rest : List ℕ) → IsKey key → author_at (to_be_bytes w32 key.lms ++ (to_be_bytes w32 key.ots ++ (key.ident ++ (key.root ++ rest)))) ≡ Ok (key, rest)
-unfolding author_at
-author_again key rest is =
-    then_is (number_at w32 (to_be_bytes w32 key.lms ++ (to_be_bytes w32 key.ots ++ (key.ident ++ (key.root ++ rest))))) _ (key.lms, to_be_bytes w32 key.ots ++ (key.ident ++ (key.root ++ rest))) _ (u32_again key.lms _ (small key.lms 7 (is.known.lms.1) (omega arith)))
-    (judge_is (leb 5 key.lms && leb key.lms 7) _ _ _ (within 5 key.lms 7 is.known.lms.0 is.known.lms.1)
-    (then_is (number_at w32 (to_be_bytes w32 key.ots ++ (key.ident ++ (key.root ++ rest)))) _ (key.ots, key.ident ++ (key.root ++ rest)) _ (u32_again key.ots _ (small key.ots 4 (is.known.ots.1) (omega arith)))
-    (judge_is (leb 1 key.ots && leb key.ots 4) _ _ _ (within 1 key.ots 4 is.known.ots.0 is.known.ots.1)
-    (then_is (block_at 16 (key.ident ++ (key.root ++ rest))) _ (key.ident, key.root ++ rest) _ (block_again 16 key.ident _ is.ident.len)
-    (then_is (block_at 32 (key.root ++ rest)) _ (key.root, rest) _ (block_again 32 key.root rest is.root.len) refl)))))
-  where
-    small : (n k : ℕ) → n ≤ k → k < 2 ^ 32 → n < 2 ^ 32
-    small n k h g = omega arith
+use Rattle.update_codec.proofs.Steps.{then_is, judge_is, ok_is}
+use Rattle.update_codec.proofs.AgainFields.{block_again, u16_again, u32_again, id_again, author_again}
+use Rattle.update_codec.proofs.AgainRows.{ops_again}
 
 -- the first of ids that rise, and the others
-next_rises : (last : Option UpdateId) (id : UpdateId) (ids : List UpdateId) → AreRising last (id ∷ ids) → (is_next last id ≡ true) × AreRising (Some id) ids
+pub next_rises : (last : Option UpdateId) (id : UpdateId) (ids : List UpdateId) → AreRising last (id ∷ ids) → (is_next last id ≡ true) × AreRising (Some id) ids
 next_rises None id ids r = (refl, r)
 next_rises (Some last) id ids r = (r.0, r.1)
 
@@ -63,7 +30,7 @@ ids_again (id ∷ ids) last rest are rise =
     let next = next_rises last id ids rise in
     rw (append_assoc id.0 (flat_map spell.id ids) rest)
     (then_is (id_at (id.0 ++ (flat_map spell.id ids ++ rest))) _ (id, flat_map spell.id ids ++ rest) _ (id_again id _ are.0)
-    (judge_is (is_next last id) _ _ _ next.0
+    (judge_is (is_next last id) kinds.Order (id.0 ++ (flat_map spell.id ids ++ rest)) _ _ next.0
     (then_is (ids_at (length ids) (Some id) (flat_map spell.id ids ++ rest)) _ (ids, rest) _ (ids_again ids (Some id) rest are.1 next.1) refl)))
 
 -- how the fields up to the predecessors stand before what follows
@@ -75,15 +42,27 @@ before_ops_flat body rest = flat body.database (to_be_bytes w32 body.author.lms)
     flat : (d l o i t p q rest : List ℕ) → ((1 ∷ (d ++ (l ++ (o ++ (i ++ t))))) ++ (p ++ q)) ++ rest ≡ 1 ∷ (d ++ (l ++ (o ++ (i ++ (t ++ (p ++ (q ++ rest)))))))
     flat d l o i t p q rest = simp append_assoc
 
-pub before_ops_again : (body : BodyData) (rest : List ℕ) → IsBody body → before_ops_at (spell.before_ops body ++ rest) ≡ Ok (body, rest)
+-- what is read behind the author: the predecessors
+abbrev pub after_header : List ℕ → AuthorKey → List ℕ → Read BodyData
+after_header database key bytes =
+    number_at w16 bytes >>= λ n.
+    judge (leb n.0 1024) kinds.Count bytes >>= λ few.
+    ids_at n.0 None n.1 >>= λ preds.
+    Ok (record { database = database; author = key; preds = preds.0; ops = [] }, preds.1)
+
+-- a body up to its operations
+abbrev pub without_ops : BodyData → BodyData
+without_ops body = record { database = body.database; author = body.author; preds = body.preds; ops = [] }
+
+pub before_ops_again : (body : BodyData) (rest : List ℕ) → IsBody body → before_ops_at (spell.before_ops body ++ rest) ≡ Ok (without_ops body, rest)
 unfolding before_ops_at
-before_ops_again body rest is = subst (λ (bytes : List ℕ). before_ops_at bytes ≡ Ok (body, rest)) (sym (before_ops_flat body rest)) (flat body rest is)
+before_ops_again body rest is = subst (λ (bytes : List ℕ). before_ops_at bytes ≡ Ok (without_ops body, rest)) (sym (before_ops_flat body rest)) (flat body rest is)
   where
     below : (n : ℕ) → n ≤ 1024 → n < 2 ^ 16
     below n h = omega arith
 
     flat : (body : BodyData) (rest : List ℕ) → IsBody body → before_ops_at (1 ∷ (body.database ++ (to_be_bytes w32 body.author.lms ++ (to_be_bytes w32 body.author.ots ++ (body.author.ident ++ (body.author.root
-        ++ (to_be_bytes w16 (length body.preds) ++ (flat_map spell.id body.preds ++ rest)))))))) ≡ Ok (body, rest)
+        ++ (to_be_bytes w16 (length body.preds) ++ (flat_map spell.id body.preds ++ rest)))))))) ≡ Ok (without_ops body, rest)
     flat body rest is =
         let ids : List ℕ = flat_map spell.id body.preds ++ rest in
         let count : List ℕ = to_be_bytes w16 (length body.preds) ++ ids in
@@ -91,14 +70,30 @@ before_ops_again body rest is = subst (λ (bytes : List ℕ). before_ops_at byte
         then_is (block_at 32 (body.database ++ key)) _ (body.database, key) _ (block_again 32 body.database key is.database.len)
         (then_is (author_at key) _ (body.author, count) _ (author_again body.author count is.author)
         (then_is (number_at w16 count) _ (length body.preds, ids) _ (u16_again (length body.preds) ids (below (length body.preds) is.few_preds))
-        (judge_is (leb (length body.preds) 1024) _ _ _ (le-leb _ _ is.few_preds)
+        (judge_is (leb (length body.preds) 1024) kinds.Count count _ _ (le-leb _ _ is.few_preds)
         (then_is (ids_at (length body.preds) None ids) _ (body.preds, rest) _ (ids_again body.preds None rest is.ids is.rising) refl))))
 
 pub body_again : (body : BodyData) (rest : List ℕ) → IsBody body → body_at (spell.message body ++ rest) ≡ Ok (body, rest)
 unfolding body_at
-body_again body rest is = rw (append_assoc (spell.before_ops body) (to_be_bytes w16 0) rest)
-    (then_is (before_ops_at (spell.before_ops body ++ (to_be_bytes w16 0 ++ rest))) _ (body, to_be_bytes w16 0 ++ rest) _ (before_ops_again body _ is)
-    (then_is (number_at w16 (to_be_bytes w16 0 ++ rest)) _ (0, rest) _ (u16_again 0 rest (omega arith)) refl))
+body_again body rest is = subst (λ (bytes : List ℕ). body_at bytes ≡ Ok (body, rest)) (sym (flat (spell.before_ops body) (to_be_bytes w16 (length body.ops)) (flat_map spell.op body.ops) rest)) (read body rest is)
+  where
+    flat : (b n o rest : List ℕ) → (b ++ (n ++ o)) ++ rest ≡ b ++ (n ++ (o ++ rest))
+    flat b n o rest = simp append_assoc
+
+    below : (n : ℕ) → n ≤ 64 → n < 2 ^ 16
+    below n h = omega arith
+
+    read : (body : BodyData) (rest : List ℕ) → IsBody body → body_at (spell.before_ops body ++ (to_be_bytes w16 (length body.ops) ++ (flat_map spell.op body.ops ++ rest))) ≡ Ok (body, rest)
+    read body rest is =
+        let ops : List ℕ = flat_map spell.op body.ops ++ rest in
+        let count : List ℕ = to_be_bytes w16 (length body.ops) ++ ops in
+        then_is (before_ops_at (spell.before_ops body ++ count)) _ (without_ops body, count) _ (before_ops_again body count is)
+        (then_is (number_at w16 count) _ (length body.ops, ops) _ (u16_again (length body.ops) ops (below _ is.few_ops))
+        (judge_is (leb (length body.ops) 64) kinds.Count count _ _ (le-leb _ _ is.few_ops)
+        (then_is (ops_at (length body.ops) 0 ops) _ (body.ops, rest) _ (ops_again 0 body.ops rest (few 0 (length body.ops) refl is.few_ops) is.ops) refl)))
+      where
+        few : (n m : ℕ) → n ≡ 0 → m ≤ 64 → n + m ≤ 256
+        few n m e h = omega arith
 
 -- no signature is longer
 pub signature_length_le : (key : AuthorKey) → signature_length key ≤ 9004
@@ -120,15 +115,14 @@ update_again update rest is = subst (λ (bytes : List ℕ). update_at bytes ≡ 
         let len : List ℕ = to_be_bytes w32 (length update.signature) ++ signature in
         then_is (body_at (spell.message update.body ++ len)) _ (update.body, len) _ (body_again update.body len is.body)
         (then_is (number_at w32 len) _ (length update.signature, signature) _ (u32_again (length update.signature) signature (below _ _ is.signature.len (signature_length_le update.body.author)))
-        (judge_is (eqb (length update.signature) (signature_length update.body.author)) _ _ _ (eq-eqb _ _ is.signature.len)
+        (judge_is (eqb (length update.signature) (signature_length update.body.author)) kinds.SignatureLength len _ _ (eq-eqb _ _ is.signature.len)
         (then_is (block_at (length update.signature) signature) _ (update.signature, rest) _ (block_again (length update.signature) update.signature rest refl) refl)))
 
 -- Bytes that spell an update are read as this update.
 pub whole_again : (bytes : List ℕ) (update : UpdateData) → Spells bytes update → whole bytes ≡ Ok update
 unfolding whole
 whole_again bytes update s =
-    then_is (update_at bytes) _ (update, []) _ (subst (λ (b : List ℕ). update_at b ≡ Ok (update, [])) (append-nil (spell.spelling update) ∙ sym s.spells) (update_again update [] s.form))
-    (judge_is (eqb 0 0 && leb (length bytes) 262144) _ _ _ (le-leb (length bytes) 262144 s.short) refl)
+    then_is (update_at bytes) _ (update, []) _ (subst (λ (b : List ℕ). update_at b ≡ Ok (update, [])) (append-nil (spell.spelling update) ∙ sym s.spells) (update_again update [] s.form)) refl
 
 -- A spelling ends where reading it does.
 pub one_end : (bytes more : List ℕ) (update other : UpdateData) → Spells bytes update → Spells (bytes ++ more) other → more ≡ []

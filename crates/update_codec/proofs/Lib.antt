@@ -1,8 +1,17 @@
 pub mod Again
-pub mod Causes
+mod AgainFields
+mod AgainRows
 pub mod Loops
-pub mod Places
 pub mod Rising
 pub mod Steps
 pub mod StreamLemmas
+mod TakesFields
+mod TakesRows
 pub mod TakesLemmas
+pub mod FaultSteps
+mod StopsFields
+pub mod Stops
+mod ToldFields
+pub mod Told
+pub mod Places
+pub mod Causes

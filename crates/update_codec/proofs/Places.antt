@@ -1,5 +1,5 @@
 -- The parts of an update stand at their places in its spelling.
-use Rattle.std.proofs.Common.{◌≡◌, ℕ, ◌+◌, ◌-◌, ◌^◌, ◌<◌, ◌≤◌, List, [], ◌∷◌, ◌++◌, length, take, drop, refl, sym, ap, subst, ◌∙◌, arith, append_assoc}
+use Rattle.std.proofs.Common.{◌≡◌, ℕ, ◌+◌, ◌*◌, ◌-◌, ◌^◌, ◌<◌, ◌≤◌, List, [], ◌∷◌, ◌++◌, length, take, drop, refl, sym, ap, subst, ◌∙◌, arith, append_assoc}
 use Rattle.std.proofs.Math.Seq.{take-append_seam, drop-append_seam, drop-append-add}
 use Rattle.std.proofs.lemmas.List.{length-append, take_rest}
 use Rattle.std.proofs.lemmas.Nat.{from_be_bytes-to_be_bytes_2, from_be_bytes-to_be_bytes_4}
@@ -7,12 +7,18 @@ use Rattle.std.specs.Int.{w16, w32, to_be_bytes, from_be_bytes}
 use Rattle.std.specs.List.{flat_map, AllByRecursion}
 use Rattle.update_model.specs.declared.update_id.UpdateId.{UpdateId}
 use Rattle.update_model.specs.declared.author_key.AuthorKey.{AuthorKey}
-use Rattle.update_model.specs.Form.{BodyData, UpdateData, IsId, IsBody, signature_length}
-use Rattle.update_codec.specs.Parts.{database_of, author_of, first_ids, preds_of, signature_of, body_of, update_of, id_of}
+use Rattle.update_model.specs.declared.op.Op.{Op}
+use Rattle.update_model.specs.Block.{IsId}
+use Rattle.update_model.specs.Form.{BodyData, UpdateData, IsBody, signature_length}
+use Rattle.update_model.specs.Rows.{AreOps}
+use Rattle.update_codec.specs.Parts.{database_of, author_of, first_ids, pred_count, preds_of, ops_read, first_ops, ops_of, signature_of, body_of, update_of, id_of}
+use Rattle.update_codec.specs.Reading.{Read, ops_at}
 use Rattle.update_codec.specs.Spelling as spell
 use Rattle.update_codec.specs.Spelling.{Spells}
 use Rattle.update_codec.specs.Kept.{IsKept}
 use Rattle.update_codec.proofs.Again.{before_ops_flat}
+use Rattle.update_codec.proofs.AgainRows.{ops_again}
+use Rattle.update_codec.proofs.Stops.{ids_length}
 
 -- a block at the front
 front_of : (n : ℕ) (block rest : List ℕ) → length block ≡ n → take n (block ++ rest) ≡ block
@@ -91,25 +97,61 @@ first_ids_again (id ∷ ids) rest are =
     cons_is : (block : List ℕ) (read : List UpdateId) (id : UpdateId) (ids : List UpdateId) → block ≡ id.0 → read ≡ ids → (let made : UpdateId = record { 0 = block } in made) ∷ read ≡ id ∷ ids
     cons_is block read id ids e g = λ t. (let made : UpdateId = record { 0 = e t } in made) ∷ g t
 
-preds_laid : (body : BodyData) (rest : List ℕ) → IsBody body → preds_of (laid body rest) ≡ body.preds
-unfolding preds_of
-preds_laid body rest is =
+count_laid : (body : BodyData) (rest : List ℕ) → IsBody body → pred_count (laid body rest) ≡ length body.preds
+unfolding pred_count
+count_laid body rest is =
     let at = laid_stands body rest is in
-    let count : from_be_bytes w16 (take 2 (drop 89 (laid body rest))) ≡ length body.preds = ap (from_be_bytes w16) at.count ∙ from_be_bytes-to_be_bytes_2 (length body.preds) (below (length body.preds) is.few_preds) in
-    same_ids _ (length body.preds) _ (flat_map spell.id body.preds ++ rest) count at.preds ∙ first_ids_again body.preds rest is.ids
+    ap (from_be_bytes w16) at.count ∙ from_be_bytes-to_be_bytes_2 (length body.preds) (below (length body.preds) is.few_preds)
   where
     below : (n : ℕ) → n ≤ 1024 → n < 2 ^ 16
     below n h = omega arith
 
+preds_laid : (body : BodyData) (rest : List ℕ) → IsBody body → preds_of (laid body rest) ≡ body.preds
+unfolding preds_of
+preds_laid body rest is =
+    let at = laid_stands body rest is in
+    same_ids _ (length body.preds) _ (flat_map spell.id body.preds ++ rest) (count_laid body rest is) at.preds ∙ first_ids_again body.preds rest is.ids
+  where
     same_ids : (n m : ℕ) (a b : List ℕ) → n ≡ m → a ≡ b → first_ids n a ≡ first_ids m b
     same_ids n m a b e g = λ t. first_ids (e t) (g t)
 
+-- the number of operations, and the operations
+abbrev counted_ops : List Op → List ℕ
+counted_ops ops = to_be_bytes w16 (length ops) ++ flat_map spell.op ops
+
+first_ops_again : (ops : List Op) (rest : List ℕ) → length ops ≤ 64 → AreOps 0 ops → first_ops (counted_ops ops ++ rest) ≡ ops
+unfolding first_ops
+first_ops_again ops rest few are =
+    ap (λ (n : ℕ). ops_read (ops_at n 0 (flat_map spell.op ops ++ rest))) (from_be_bytes-to_be_bytes_2 (length ops) (below (length ops) few))
+    ∙ ap (λ (read : Read (List Op)). ops_read read) (ops_again 0 ops rest (small (length ops) few) are)
+  where
+    below : (n : ℕ) → n ≤ 64 → n < 2 ^ 16
+    below n h = omega arith
+
+    small : (n : ℕ) → n ≤ 64 → 0 + n ≤ 256
+    small n h = omega arith
+
+ops_laid : (body : BodyData) (rest : List ℕ) → IsBody body → ops_of (laid body (counted_ops body.ops ++ rest)) ≡ body.ops
+unfolding ops_of
+ops_laid body rest is =
+    let tail : List ℕ = counted_ops body.ops ++ rest in
+    let at = laid_stands body tail is in
+    let skipped : drop (32 * length body.preds) (flat_map spell.id body.preds ++ tail) ≡ tail = subst (λ (n : ℕ). drop n (flat_map spell.id body.preds ++ tail) ≡ tail) (ids_length body.preds is.ids) (drop-append_seam (flat_map spell.id body.preds) tail) in
+    same_ops _ (length body.preds) _ (flat_map spell.id body.preds ++ tail) (count_laid body tail is) at.preds ∙ ap first_ops skipped ∙ first_ops_again body.ops rest is.few_ops is.ops
+  where
+    same_ops : (n m : ℕ) (a b : List ℕ) → n ≡ m → a ≡ b → first_ops (drop (32 * n) a) ≡ first_ops (drop (32 * m) b)
+    same_ops n m a b e g = λ t. first_ops (drop (32 * e t) (g t))
+
+-- what stands behind the operations
+abbrev signed : UpdateData → List ℕ
+signed update = to_be_bytes w32 (length update.signature) ++ update.signature
+
 -- what stands behind the predecessors
 abbrev tail_of : UpdateData → List ℕ
-tail_of update = to_be_bytes w16 0 ++ (to_be_bytes w32 (length update.signature) ++ update.signature)
+tail_of update = counted_ops update.body.ops ++ signed update
 
 spelling_laid : (bytes : List ℕ) (update : UpdateData) → Spells bytes update → bytes ≡ laid update.body (tail_of update)
-spelling_laid bytes update s = s.spells ∙ append_assoc (spell.before_ops update.body) (to_be_bytes w16 0) (to_be_bytes w32 (length update.signature) ++ update.signature) ∙ before_ops_flat update.body (tail_of update)
+spelling_laid bytes update s = s.spells ∙ append_assoc (spell.before_ops update.body) (counted_ops update.body.ops) (signed update) ∙ before_ops_flat update.body (tail_of update)
 
 pub database_stands : (bytes : List ℕ) (update : UpdateData) → Spells bytes update → database_of bytes ≡ update.body.database
 database_stands bytes update s = ap database_of (spelling_laid bytes update s) ∙ database_laid update.body (tail_of update) s.form.body
@@ -119,6 +161,9 @@ author_stands bytes update s = ap author_of (spelling_laid bytes update s) ∙ a
 
 pub preds_stand : (bytes : List ℕ) (update : UpdateData) → Spells bytes update → preds_of bytes ≡ update.body.preds
 preds_stand bytes update s = ap preds_of (spelling_laid bytes update s) ∙ preds_laid update.body (tail_of update) s.form.body
+
+pub ops_stand : (bytes : List ℕ) (update : UpdateData) → Spells bytes update → ops_of bytes ≡ update.body.ops
+ops_stand bytes update s = ap ops_of (spelling_laid bytes update s) ∙ ops_laid update.body (signed update) s.form.body
 
 -- the last bytes, of which a signature has this many
 last_of : (front last : List ℕ) (n : ℕ) → length last ≡ n → drop (length (front ++ last) - n) (front ++ last) ≡ last
@@ -142,8 +187,9 @@ update_stands bytes update s =
     let database = database_stands bytes update s in
     let author = author_stands bytes update s in
     let preds = preds_stand bytes update s in
+    let ops = ops_stand bytes update s in
     let signature = signature_stands bytes update s in
-    λ t. record { body = record { database = database t; author = author t; preds = preds t }; signature = signature t }
+    λ t. record { body = record { database = database t; author = author t; preds = preds t; ops = ops t }; signature = signature t }
 
 -- What agrees with the update that bytes spell may be kept beside them.
 pub kept_of : (bytes : List ℕ) (update : UpdateData) → Spells bytes update → IsKept bytes update.body (id_of bytes)
@@ -160,3 +206,23 @@ signature_read slice kept body len n is e sized same =
   where
     at : (slice kept : List ℕ) (len n m : ℕ) → slice ≡ kept → len ≡ length slice → n ≡ m → drop (len - n) slice ≡ drop (length kept - m) kept
     at slice kept len n m is e a = rw (e, a, is) refl
+
+-- the first bytes of what is kept, as a slice of it is seen
+pub message_read : (slice kept : List ℕ) (body : BodyData) (len n : ℕ) → slice ≡ kept → len ≡ length slice → n ≡ signature_length body.author → body ≡ body_of kept → Spells kept (update_of kept)
+    → take (len - n - 4) slice ≡ spell.message (body_of kept)
+message_read slice kept body len n is e sized same s =
+    front slice (spell.message (body_of kept)) (to_be_bytes w32 (length (signature_of kept))) (signature_of kept) len n (is ∙ s.spells) e refl (sized ∙ ap (λ (b : BodyData). signature_length b.author) same ∙ sym s.form.signature.len)
+  where
+    front : (slice m l t : List ℕ) (len n : ℕ) → slice ≡ m ++ (l ++ t) → len ≡ length slice → length l ≡ 4 → n ≡ length t → take (len - n - 4) slice ≡ m
+    front slice m l t len n parts e four sized =
+        let all = ap length parts ∙ length-append m (l ++ t) in
+        let behind = length-append l t in
+        let size : len - n - 4 ≡ length m = size_of len (length slice) (length m) (length (l ++ t)) (length l) (length t) n e all behind four sized in
+        ap (λ (k : ℕ). take k slice) size ∙ ap (take (length m)) parts ∙ take-append_seam m (l ++ t)
+      where
+        size_of : (len s m b l t n : ℕ) → len ≡ s → s ≡ m + b → b ≡ l + t → l ≡ 4 → n ≡ t → len - n - 4 ≡ m
+        size_of len s m b l t n e f g h k = omega arith
+
+-- What is kept is the message, the length of the signature, and the signature.
+pub kept_parts : (kept front : List ℕ) → Spells kept (update_of kept) → front ≡ spell.message (body_of kept) → kept ≡ front ++ (to_be_bytes w32 (length (signature_of kept)) ++ signature_of kept)
+kept_parts kept front s e = s.spells ∙ ap (λ (m : List ℕ). m ++ (to_be_bytes w32 (length (signature_of kept)) ++ signature_of kept)) (sym e)

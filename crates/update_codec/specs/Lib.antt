@@ -1,6 +1,8 @@
+pub mod Faults
 pub mod Kept
 pub mod Outcome
 pub mod Parts
 pub mod Reading
 pub mod Spelling
 pub mod Stream
+pub mod Words

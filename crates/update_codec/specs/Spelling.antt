@@ -1,14 +1,43 @@
 -- The one spelling of each update.
-use Rattle.std.specs.Prelude.{◌≡◌, ℕ, ◌+◌, ◌^◌, ◌≤◌, ◌<◌, List, ◌∷◌, ◌++◌, length}
+use Rattle.std.specs.Prelude.{◌≡◌, ℕ, ◌+◌, ◌≤◌, ◌<◌, List, [], ◌∷◌, ◌++◌, length, true, false}
 use Rattle.std.specs.List.{flat_map}
-use Rattle.std.specs.Int.{w16, w32, to_be_bytes}
+use Rattle.std.specs.Int.{w16, w32, w64, to_be_bytes, cast_unsigned}
 use Rattle.update_model.specs.declared.update_id.UpdateId.{UpdateId}
 use Rattle.update_model.specs.declared.author_key.AuthorKey.{AuthorKey}
-use Rattle.update_model.specs.Form.{BodyData, UpdateData, IsBody, IsUpdate, signature_length}
+use Rattle.update_model.specs.declared.row_name.RowName.{RowName}
+use Rattle.update_model.specs.declared.value.Value.{Value}
+use Rattle.update_model.specs.declared.value.Value.TheVariants.{Null, Int, Text, Flag, Row, Own}
+use Rattle.update_model.specs.declared.op.Op.{Op}
+use Rattle.update_model.specs.declared.op.Op.TheVariants.{Insert, Delete}
+use Rattle.update_model.specs.Form.{BodyData, UpdateData, IsUpdate, signature_length}
 
 -- an id: its 32 bytes
 abbrev pub id : UpdateId → List ℕ
 id name = name.0
+
+-- the name of a row: the update's id, and the number of the operation there
+abbrev pub row : RowName → List ℕ
+row name = id name.update ++ to_be_bytes w16 name.index
+
+-- a value: the tag of its kind, and what it is; a text has its length before it
+abbrev pub value : Value → List ℕ
+value Null = 0 ∷ []
+value (Int n) = 1 ∷ to_be_bytes w64 (cast_unsigned w64 n)
+value (Text bytes) = 2 ∷ (to_be_bytes w16 (length bytes) ++ bytes)
+value (Flag false) = 3 ∷ 0 ∷ []
+value (Flag true) = 3 ∷ 1 ∷ []
+value (Row name) = 4 ∷ row name
+value (Own index) = 5 ∷ to_be_bytes w16 index
+
+-- an operation: the tag of its kind, and either the table and the counted values, or the row
+abbrev pub op : Op → List ℕ
+op (Insert table values) = 1 ∷ table ∷ length values ∷ flat_map value values
+op (Delete name) = 2 ∷ row name
+
+-- an operation whose values can be counted in a byte
+abbrev pub IsCounted : Op → Type 0
+IsCounted (Insert table values) = length values < 256
+IsCounted (Delete name) = Unit {0}
 
 -- an author's key: the LMS type, the LM-OTS type, the key's own 16 bytes, and the root
 abbrev pub author : AuthorKey → List ℕ
@@ -22,13 +51,21 @@ header database key = 1 ∷ (database ++ author key)
 abbrev pub before_ops : BodyData → List ℕ
 before_ops body = header body.database body.author ++ (to_be_bytes w16 (length body.preds) ++ flat_map id body.preds)
 
--- What is signed. The number of operations is 0, and no operation follows.
+-- all that stands before the next one of n operations, of which the body has those before it
+abbrev pub before_next_op : BodyData → ℕ → List ℕ
+before_next_op body n = before_ops body ++ (to_be_bytes w16 n ++ flat_map op body.ops)
+
+-- what is signed: all up to the operations, their number, and the operations
 abbrev pub message : BodyData → List ℕ
-message body = before_ops body ++ to_be_bytes w16 0
+message body = before_next_op body (length body.ops)
 
 -- the message, the length of the signature, and the signature
 abbrev pub spelling : UpdateData → List ℕ
 spelling update = message update.body ++ (to_be_bytes w32 (length update.signature) ++ update.signature)
+
+-- how many operations a body may have
+abbrev pub op_limit : BodyData → ℕ
+op_limit body = 64
 
 -- how long the spelling is of a body whose author has signed it
 abbrev pub signed_length : BodyData → ℕ
@@ -43,14 +80,3 @@ pub record Spells (bytes : List ℕ) (update : UpdateData) : Type 0 where
 -- The bytes are the spelling of an update.
 abbrev pub IsSpelling : List ℕ → Type 0
 IsSpelling bytes = (update : UpdateData) × Spells bytes update
-
--- The bytes begin with a body in form up to its predecessors, and a number of operations that is not 0.
--- Whatever follows is not looked at.
-pub record HasOperations (bytes : List ℕ) : Type 0 where
-  pub body : BodyData
-  pub count : ℕ
-  pub rest : List ℕ
-  pub form : IsBody body
-  pub some : 0 < count
-  pub fits : count < 2 ^ 16
-  pub parts : bytes ≡ before_ops body ++ (to_be_bytes w16 count ++ rest)

@@ -1,19 +1,9 @@
 ghost use Rattle.std.specs.Prelude.{◌≡◌};
 ghost use Rattle.update_codec.specs.declared.decode_error.DecodeError.TheVariants.{Memory};
 
+use crate::CodecFault;
 use std::alloc::{AllocError, AllocFailed};
 use thiserror::Error;
-
-/// What is wrong with bytes that spell no update.
-#[derive(Clone, Copy, Debug, PartialEq, Eq, Hash, Error)]
-pub enum CodecFault {
-    /// They spell no update, and begin with none that has operations.
-    #[error("misspelled")]
-    Misspelled,
-    /// They begin with an update that has operations, which are not read yet.
-    #[error("operations")]
-    Operations,
-}
 
 /// Why bytes were not decoded.
 #[derive(Clone, Copy, Debug, PartialEq, Eq, Hash, Error)]

@@ -2,34 +2,34 @@
 
 ghost use Rattle.std.specs.Prelude.{◌≡◌, ◌+◌, List, ℕ, Ok, Err, IfOk, IfErr};
 ghost use Rattle.update_model.specs.Form.{BodyData, UpdateData};
-ghost use Rattle.update_codec.specs.declared.decode_error.CodecFault.TheVariants.{Operations};
-ghost use Rattle.update_codec.specs.Outcome.{Gives, Answers, HasCause};
-ghost use Rattle.update_codec.specs.Reading.{before_ops_at, body_at, whole};
-ghost use Rattle.update_codec.specs.Spelling.{Spells, HasOperations};
+ghost use Rattle.update_codec.specs.Outcome.{Shows, Answers, Fails, HasCause};
+ghost use Rattle.update_codec.specs.Reading.{Gives, Stops, before_ops_at, body_at, whole, placed as placed_in, first_of};
+ghost use Rattle.update_codec.specs.Spelling.{Spells};
 
-use crate::fields::{MISSPELLED, array_of, author_of, block_of, byte_of, u16_of, u32_of};
-use crate::limits::{MAX_BYTES, MAX_PREDS, VERSION};
+use crate::fields::{array_of, author_of, block_of, byte_of, u16_of, u32_of};
+use crate::halt::{ReadError, fault_at};
+use crate::limits::{MAX_OPS, MAX_PREDS, UPDATE_LIMIT, VERSION};
+use crate::operations::ops_of;
 use crate::predecessors::preds_of;
-use crate::{CodecFault, DecodeError};
+use crate::{CodecFault, CodecKind, DecodeError};
 use std::alloc::Global;
-use update_model::{Body, ByteList, IdList, Update, signature_len};
+use update_model::{Body, ByteList, IdList, OpList, Update, signature_len};
 
 /// The update whose spelling these bytes are.
 ///
-/// `Operations` comes exactly where the bytes begin with a body in form up to its predecessors and a number of
-/// operations that is not 0, whatever follows and however long they are. `Misspelled` comes exactly where the bytes
-/// spell no update and have no such beginning. What is kept of the bytes is copied.
+/// A fault comes exactly where the bytes spell no update, and is their first one: fields are judged from left to
+/// right, each as soon as it is whole, and more than 262,144 bytes are too long before any field is. What is kept of
+/// the bytes is copied, once.
 pub fn decode(alloc: Global, bytes: &[u8]) -> Result<Update, DecodeError>
     ensures found { IfOk result (λ update. Spells bytes.now update) }
     ensures only { (update : UpdateData) → Spells bytes.now update → Answers result (Ok update) }
-    ensures operations { HasOperations bytes.now → Answers result (Err Operations) }
     ensures fault { IfErr result (λ error. HasCause bytes.now error) }
 {
     read_update(alloc, bytes)
 }
 
 fn read_update(alloc: Global, bytes: &[u8]) -> Result<Update, DecodeError>
-    ensures { Answers result (whole bytes.now) }
+    ensures { Answers result (first_of bytes.now) }
 {
     let (body, signature) = parts_of(alloc, bytes)?;
     let signature = ByteList::from_vec(Vec::from_slice(alloc, signature)?);
@@ -37,57 +37,81 @@ fn read_update(alloc: Global, bytes: &[u8]) -> Result<Update, DecodeError>
 }
 
 /// The body and the signature of the update whose spelling these bytes are.
-#[tactic(auto, unfolding(crate::specs::Reading::whole, crate::specs::Reading::update_at))]
+#[tactic(auto, unfolding(crate::specs::Reading::first_of))]
 pub(crate) fn parts_of(alloc: Global, bytes: &[u8]) -> Result<(Body, &[u8]), DecodeError>
+    ensures { Shows (λ read. record { body = read.0; signature = read.1.now }) result (first_of bytes.now) }
+{
+    if UPDATE_LIMIT < bytes.len() {
+        return Err(DecodeError::Fault(CodecFault {
+            kind: CodecKind::TooLong,
+            place: UPDATE_LIMIT as u32,
+        }));
+    }
+    match whole_of(alloc, bytes) {
+        Ok(parts) => Ok(parts),
+        Err(ReadError::Memory) => Err(DecodeError::Memory),
+        Err(ReadError::Halted(halt)) => Err(DecodeError::Fault(CodecFault {
+            kind: halt.kind,
+            place: bytes.len().saturating_sub(halt.left) as u32,
+        })),
+    }
+}
+
+#[tactic(auto, unfolding(crate::specs::Reading::whole, crate::specs::Reading::update_at))]
+fn whole_of(alloc: Global, bytes: &[u8]) -> Result<(Body, &[u8]), ReadError>
     ensures { Gives (λ read. record { body = read.0; signature = read.1.now }) result (whole bytes.now) }
 {
-    let (body, rest) = body_of(alloc, bytes)?;
-    let (len, rest) = u32_of(rest)?;
+    let (body, after_body) = body_of(alloc, bytes)?;
+    let (len, rest) = u32_of(after_body)?;
     if len != signature_len(&body.author) {
-        return Err(MISSPELLED);
+        return Err(fault_at(CodecKind::SignatureLength, after_body));
     }
     let (signature, rest) = block_of(rest, len as usize)?;
-    if !rest.is_empty() || MAX_BYTES < bytes.len() {
-        return Err(MISSPELLED);
+    if !rest.is_empty() {
+        return Err(fault_at(CodecKind::Trailing, rest));
     }
     Ok((body, signature))
 }
 
 /// All that is signed.
 #[tactic(auto, unfolding(crate::specs::Reading::body_at))]
-fn body_of(alloc: Global, bytes: &[u8]) -> Result<(Body, &[u8]), DecodeError>
+fn body_of(alloc: Global, bytes: &[u8]) -> Result<(Body, &[u8]), ReadError>
     ensures { Gives (λ read. (read.0, read.1.now)) result (body_at bytes.now) }
 {
-    let (body, rest) = before_ops_of(alloc, bytes)?;
-    let (count, rest) = u16_of(rest)?;
-    if count != 0 {
-        return Err(DecodeError::Fault(CodecFault::Operations));
+    let (before, after_preds) = before_ops_of(alloc, bytes)?;
+    let (count, rest) = u16_of(after_preds)?;
+    if MAX_OPS < count {
+        return Err(fault_at(CodecKind::Count, after_preds));
     }
-    Ok((body, rest))
+    let (ops, rest) = ops_of(alloc, count, rest)?;
+    let ops = OpList::from_vec(ops);
+    Ok((Body { ops, ..before }, rest))
 }
 
-/// All that stands before the number of operations.
+/// All that stands before the number of operations: a body that has none.
 #[tactic(auto, unfolding(crate::specs::Reading::before_ops_at))]
-fn before_ops_of(alloc: Global, bytes: &[u8]) -> Result<(Body, &[u8]), DecodeError>
+fn before_ops_of(alloc: Global, bytes: &[u8]) -> Result<(Body, &[u8]), ReadError>
     ensures { Gives (λ read. (read.0, read.1.now)) result (before_ops_at bytes.now) }
 {
     let (version, rest) = byte_of(bytes)?;
     if version != VERSION {
-        return Err(MISSPELLED);
+        return Err(fault_at(CodecKind::Version, bytes));
     }
     let (database, rest) = array_of(rest)?;
-    let (author, rest) = author_of(rest)?;
-    let (count, rest) = u16_of(rest)?;
+    let (author, after_author) = author_of(rest)?;
+    let (count, rest) = u16_of(after_author)?;
     if MAX_PREDS < count {
-        return Err(MISSPELLED);
+        return Err(fault_at(CodecKind::Count, after_author));
     }
     let (preds, rest) = preds_of(alloc, count as usize, rest)?;
     let preds = IdList::from_vec(preds);
+    let ops = OpList::from_vec(Vec::new(alloc));
     Ok((
         Body {
             database,
             author,
             preds,
+            ops,
         },
         rest,
     ))

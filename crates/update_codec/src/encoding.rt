@@ -1,13 +1,12 @@
 //! Writing updates.
 
 ghost use Rattle.std.specs.Prelude.{◌≡◌, ◌+◌, ◌≤◌, ◌<◌, ◌++◌, length, IfOk, OnOk};
-ghost use Rattle.std.specs.Int.{w16, w32, to_be_bytes};
 ghost use Rattle.update_codec.specs.Outcome.{Writes, Refuses};
 ghost use Rattle.update_codec.specs.Spelling.{Spells, before_ops, message, signed_length, spelling};
 
-use crate::limits::{MAX_BYTES, VERSION};
+use crate::limits::{UPDATE_LIMIT, VERSION};
+use crate::writing_ops::{put_ops, put_u16, put_u32};
 use crate::{EncodeError, TooLong};
-use byteorder::{BigEndian, ByteOrder};
 use std::alloc::{AllocError, Global};
 use update_model::{Body, Update, signature_len};
 
@@ -21,7 +20,7 @@ pub fn encode_body(alloc: Global, body: &Body) -> Result<Vec<u8>, EncodeError>
 {
     let out = message_of(alloc, body, 0)?;
     let len = out.len() + 4 + signature_len(&body.author) as usize;
-    if MAX_BYTES < len {
+    if UPDATE_LIMIT < len {
         return Err(EncodeError::TooLong(TooLong { len: len as u64 }));
     }
     Ok(out)
@@ -39,7 +38,7 @@ pub fn encode(alloc: Global, update: &Update) -> Result<Vec<u8>, EncodeError>
     let mut out = message_of(alloc, &update.body, 4 + signature.len())?;
     put_u32(&mut out, signature.len() as u32)?;
     out.extend_from_slice(signature)?;
-    if MAX_BYTES < out.len() {
+    if UPDATE_LIMIT < out.len() {
         return Err(EncodeError::TooLong(TooLong {
             len: out.len() as u64,
         }));
@@ -55,7 +54,7 @@ fn message_of(alloc: Global, body: &Body, more: usize) -> Result<Vec<u8>, AllocE
     let preds = body.preds.as_slice().len();
     let mut out = Vec::with_capacity(alloc, 93 + 32 * preds + more)?;
     put_before_ops(&mut out, body)?;
-    put_u16(&mut out, 0)?;
+    put_ops(&mut out, body.ops.as_slice())?;
     Ok(out)
 }
 
@@ -74,20 +73,4 @@ fn put_before_ops(out: &mut Vec<u8>, body: &Body) -> Result<(), AllocError>
         out.extend_from_slice(&pred.0)?;
     }
     Ok(())
-}
-
-fn put_u16(out: &mut Vec<u8>, number: u16) -> Result<(), AllocError>
-    ensures { OnOk result (out.new.items ≡ out.old.items ++ to_be_bytes w16 number) }
-{
-    let mut field = [0; 2];
-    BigEndian::write_u16(&mut field, number);
-    out.extend_from_slice(&field)
-}
-
-fn put_u32(out: &mut Vec<u8>, number: u32) -> Result<(), AllocError>
-    ensures { OnOk result (out.new.items ≡ out.old.items ++ to_be_bytes w32 number) }
-{
-    let mut field = [0; 4];
-    BigEndian::write_u32(&mut field, number);
-    out.extend_from_slice(&field)
 }

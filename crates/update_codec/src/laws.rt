@@ -1,9 +1,12 @@
 //! Laws of the spelling. Each function does nothing: its contract is a theorem for callers to cite.
 
 ghost use Rattle.std.specs.Prelude.{◌≡◌, ◌+◌, ◌≤◌, ℕ, List, [], ◌++◌, length};
+ghost use Rattle.update_model.specs.Block.{AreBytes};
 ghost use Rattle.update_model.specs.Form.{UpdateData};
-ghost use Rattle.update_codec.specs.Parts.{database_of, author_of, preds_of, signature_of, update_of};
-ghost use Rattle.update_codec.specs.Spelling.{Spells, IsSpelling, HasOperations};
+ghost use Rattle.update_codec.specs.declared.codec_fault.CodecKind.{CodecKind};
+ghost use Rattle.update_codec.specs.Faults.{FirstFault};
+ghost use Rattle.update_codec.specs.Parts.{database_of, author_of, preds_of, ops_of, signature_of, update_of};
+ghost use Rattle.update_codec.specs.Spelling.{Spells, IsSpelling};
 ghost use Rattle.update_codec.specs.Stream.{framed};
 
 /// An update has one spelling.
@@ -22,9 +25,22 @@ pub fn no_prefix()
         → Spells bytes update → Spells (bytes ++ more) other → more ≡ [] }
 {}
 
-/// Bytes that have operations spell no update.
-pub fn operations_are_no_update()
-    ensures { (bytes : List ℕ) (update : UpdateData) → Spells bytes update → HasOperations bytes → ⊥ }
+/// Bytes have one first fault at most.
+pub fn one_fault()
+    ensures { (bytes : List ℕ) (kind other : CodecKind) (place elsewhere : ℕ)
+        → FirstFault bytes kind place → FirstFault bytes other elsewhere → (kind ≡ other) × (place ≡ elsewhere) }
+{}
+
+/// Bytes that have a first fault spell no update.
+pub fn no_fault()
+    ensures { (bytes : List ℕ) (kind : CodecKind) (place : ℕ) (update : UpdateData)
+        → FirstFault bytes kind place → Spells bytes update → ⊥ }
+{}
+
+/// Bytes that spell no update have a first fault.
+pub fn some_fault()
+    ensures { (bytes : List ℕ) → AreBytes bytes → (IsSpelling bytes → ⊥)
+        → (kind : CodecKind) × (place : ℕ) × FirstFault bytes kind place }
 {}
 
 /// The parts of an update stand at their places in its spelling.
@@ -32,6 +48,7 @@ pub fn fields_of_spelling()
     ensures database { (bytes : List ℕ) (update : UpdateData) → Spells bytes update → database_of bytes ≡ update.body.database }
     ensures author { (bytes : List ℕ) (update : UpdateData) → Spells bytes update → author_of bytes ≡ update.body.author }
     ensures preds { (bytes : List ℕ) (update : UpdateData) → Spells bytes update → preds_of bytes ≡ update.body.preds }
+    ensures ops { (bytes : List ℕ) (update : UpdateData) → Spells bytes update → ops_of bytes ≡ update.body.ops }
     ensures signature { (bytes : List ℕ) (update : UpdateData) → Spells bytes update → signature_of bytes ≡ update.signature }
     ensures update { (bytes : List ℕ) (update : UpdateData) → Spells bytes update → update_of bytes ≡ update }
 {}

@@ -1,9 +1,9 @@
 //! The one spelling of each update in bytes: encoding, decoding, and the id of an update.
 //!
-//! Version 1 of the format, of which updates without operations are read and written: version, database,
-//! author's key, predecessors, number of operations, and the author's signature. [`encode`] gives the spelling
-//! of an update and [`decode`] the update whose spelling bytes are; each answers exactly where there is one.
-//! [`spelled`] checks bytes in the same way and keeps them, as a member of a graph does.
+//! Version 1 of the format: version, database, author's key, predecessors, operations, and the author's signature.
+//! [`encode`] gives the spelling of an update and [`decode`] the update whose spelling bytes are; each answers exactly
+//! where there is one. Other bytes have one first fault, with its kind and place. [`spelled`] checks bytes in the same
+//! way and keeps them, as a member of a graph does.
 //!
 //! ```text
 //! let bytes = encode(alloc, &update)?;
@@ -12,32 +12,38 @@
 //! let name = record.id();                 // SHA-256 of the bytes
 //! ```
 //!
-//! It verifies no signature, reads no operations (bytes with operations are refused by a fault of their own),
-//! and does no input or output.
+//! It verifies no signature, knows no tables, and does no input or output.
 #![tactic(auto)]
 
+mod codec_fault;
 mod decode_error;
 mod decoding;
 mod digest;
 mod encode_error;
 mod encoding;
 mod fields;
+mod halt;
 mod laws;
 mod limits;
+mod operations;
 mod predecessors;
 mod spelled_update;
 mod taking;
 #[cfg(test)]
 mod tests;
+mod values;
+mod writing_ops;
 
-pub use decode_error::{CodecFault, DecodeError};
+pub use codec_fault::{CodecFault, CodecKind};
+pub use decode_error::DecodeError;
 pub use decoding::decode;
 pub use digest::id_of;
 pub use encode_error::{EncodeError, TooLong};
 pub use encoding::{encode, encode_body};
 pub use laws::{
-    fields_of_spelling, framed_length, no_prefix, one_frame, one_spelling, one_update,
-    operations_are_no_update, spells_its_parts,
+    fields_of_spelling, framed_length, no_fault, no_prefix, one_fault, one_frame, one_spelling,
+    one_update, some_fault, spells_its_parts,
 };
+pub use limits::UPDATE_LIMIT;
 pub use spelled_update::Spelled;
 pub use taking::spelled;

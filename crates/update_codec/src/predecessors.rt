@@ -1,21 +1,13 @@
 //! Reading predecessors, whose ids rise.
 
 ghost use Rattle.std.specs.Prelude.{◌≡◌, None};
-ghost use Rattle.update_codec.specs.Outcome.{Gives};
-ghost use Rattle.update_codec.specs.Reading.{id_at, ids_at, is_next as may_follow};
+ghost use Rattle.update_codec.specs.Reading.{Gives, ids_at, is_next as may_follow};
 
-use crate::DecodeError;
-use crate::fields::{MISSPELLED, array_of};
+use crate::CodecKind;
+use crate::fields::id_of_update;
+use crate::halt::{ReadError, fault_at};
 use std::alloc::Global;
 use update_model::UpdateId;
-
-#[tactic(auto, unfolding(crate::specs::Reading::id_at))]
-fn pred_of(bytes: &[u8]) -> Result<(UpdateId, &[u8]), DecodeError>
-    ensures { Gives (λ read. (read.0, read.1.now)) result (id_at bytes.now) }
-{
-    let (digest, rest) = array_of(bytes)?;
-    Ok((UpdateId(digest), rest))
-}
 
 /// Whether an id may come after the one before it, if there is one.
 fn is_next(last: Option<UpdateId>, id: UpdateId) -> bool
@@ -32,16 +24,16 @@ pub(crate) fn preds_of(
     alloc: Global,
     count: usize,
     bytes: &[u8],
-) -> Result<(Vec<UpdateId>, &[u8]), DecodeError>
+) -> Result<(Vec<UpdateId>, &[u8]), ReadError>
     ensures { Gives (λ read. (read.0.items, read.1.now)) result (ids_at count None bytes.now) }
 {
     let mut ids = Vec::with_capacity(alloc, count)?;
     let mut last = None;
     let mut rest = bytes;
     for _ in 0..count {
-        let (id, after) = pred_of(rest)?;
+        let (id, after) = id_of_update(rest)?;
         if !is_next(last, id) {
-            return Err(MISSPELLED);
+            return Err(fault_at(CodecKind::Order, rest));
         }
         ids.push(id)?;
         last = Some(id);

@@ -1,8 +1,10 @@
-ghost use Rattle.std.specs.Prelude.{◌≡◌};
+ghost use Rattle.std.specs.Prelude.{◌≡◌, ◌++◌, length, IfOk};
+ghost use Rattle.std.specs.Int.{w32, to_be_bytes};
 ghost use Rattle.update_codec.specs.Parts.{database_of, body_of, signature_of, update_of, entry_of};
 ghost use Rattle.update_codec.specs.Kept.{IsKept};
-ghost use Rattle.update_codec.specs.Spelling.{Spells};
+ghost use Rattle.update_codec.specs.Spelling.{Spells, message as message_bytes};
 
+use std::alloc::{AllocError, Global};
 use std::marker::Model;
 use update_model::{Body, Member, UpdateId, signature_len};
 
@@ -51,12 +53,32 @@ impl Spelled {
         &self.body.database
     }
 
+    /// The bytes that its author signed: its spelling up to the signature's length.
+    pub fn message(&self) -> &[u8]
+        ensures value { result.now ≡ message_bytes (body_of self.now) }
+        ensures parts { self.now ≡ result.now ++ (to_be_bytes w32 (length (signature_of self.now)) ++ signature_of self.now) }
+    {
+        let len = signature_len(&self.body().author) as usize;
+        &self.bytes[..self.bytes.len() - len - 4]
+    }
+
     /// Its author's signature.
     pub fn signature(&self) -> &[u8]
         ensures { result.now ≡ signature_of self.now }
     {
         let len = signature_len(&self.body().author) as usize;
         &self.bytes[self.bytes.len() - len..]
+    }
+
+    /// An equal update on memory of its own.
+    pub fn copy(&self, alloc: Global) -> Result<Spelled, AllocError>
+        ensures { IfOk result (λ copy. copy ≡ self.now) }
+    {
+        Ok(Spelled {
+            bytes: Vec::from_slice(alloc, self.bytes.as_slice())?,
+            body: self.body.copy(alloc)?,
+            id: self.id,
+        })
     }
 
     /// Gives the bytes back.

@@ -2,12 +2,11 @@
 
 ghost use Rattle.std.specs.Prelude.{◌≡◌, Ok, Err, IfOk, IfErr};
 ghost use Rattle.update_model.specs.Form.{UpdateData};
-ghost use Rattle.update_codec.specs.declared.decode_error.CodecFault.TheVariants.{Operations};
 ghost use Rattle.update_codec.specs.Kept.{IsKept};
 ghost use Rattle.update_codec.specs.Outcome.{Answers, Fails, HasCause};
 ghost use Rattle.update_codec.specs.Parts.{update_of};
-ghost use Rattle.update_codec.specs.Reading.{whole};
-ghost use Rattle.update_codec.specs.Spelling.{Spells, HasOperations};
+ghost use Rattle.update_codec.specs.Reading.{first_of};
+ghost use Rattle.update_codec.specs.Spelling.{Spells};
 
 use crate::decoding::parts_of;
 use crate::{DecodeError, Spelled, id_of};
@@ -16,12 +15,11 @@ use update_model::{Body, UpdateId};
 
 /// Takes over bytes that spell an update, with the update's body and id beside them.
 ///
-/// It refuses as [`decode`](crate::decode) does, and copies nothing but the predecessors' ids.
+/// It refuses as [`decode`](crate::decode) does, and does not copy the signature.
 pub fn spelled(alloc: Global, bytes: Vec<u8>) -> Result<Spelled, DecodeError>
     ensures found { IfOk result (λ kept. Spells kept (update_of kept)) }
     ensures same { IfOk result (λ kept. kept ≡ bytes.items) }
     ensures only { (update : UpdateData) → Spells bytes.items update → Answers result (Ok bytes.items) }
-    ensures operations { HasOperations bytes.items → Answers result (Err Operations) }
     ensures fault { IfErr result (λ error. HasCause bytes.items error) }
 {
     let (body, id) = beside(alloc, bytes.as_slice())?;
@@ -31,7 +29,7 @@ pub fn spelled(alloc: Global, bytes: Vec<u8>) -> Result<Spelled, DecodeError>
 /// What is kept beside these bytes.
 fn beside(alloc: Global, bytes: &[u8]) -> Result<(Body, UpdateId), DecodeError>
     ensures kept { IfOk result (λ read. IsKept bytes.now read.0 read.1) }
-    ensures fails { IfErr result (λ error. Fails error (whole bytes.now)) }
+    ensures fails { IfErr result (λ error. Fails error (first_of bytes.now)) }
     ensures cause { IfErr result (λ error. HasCause bytes.now error) }
 {
     let (body, _signature) = parts_of(alloc, bytes)?;

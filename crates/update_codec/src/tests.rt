@@ -1,12 +1,20 @@
-use crate::{CodecFault, DecodeError, decode, encode, encode_body, id_of, spelled};
+use crate::{DecodeError, UPDATE_LIMIT, decode, encode, encode_body, id_of, spelled};
 use std::alloc::{AllocError, Global};
 use std::test::Fail;
-use update_model::{Member, UpdateId};
+use update_model::{Member, Op, RowName, TextValue, UpdateId, Value};
 
-/// The spelling of an update with these predecessors, whose ids begin with 31 bytes 1 and end in the given byte:
-/// database of bytes 0xdd, types 5 and 4, the key's own bytes 0 to 15, and a root and a signature of zeros.
-fn written(alloc: Global, preds: &[u8]) -> Result<Vec<u8>, AllocError> {
-    let mut bytes = Vec::with_capacity(alloc, 1453)?;
+/// No operations: their number.
+const NONE: &[u8] = b"\x00\x00";
+
+/// Two inserts: of two values into table 0, and of five, one of them a reference to the first row, into table 1.
+const TWO: &[u8] =
+    b"\x00\x02\x01\x00\x02\x02\x00\x04Home\x01\x00\x00\x00\x00\x00\x00\x00\x09\x01\x01\x05\x02\x00\x03Buy\x01\x00\x00\x00\x00\x00\x00\x00\x03\x00\x05\x00\x00\x00";
+
+/// The spelling of an update with these predecessors, whose ids begin with 31 bytes 1 and end in the given byte, and
+/// these operations with their number: database of bytes 0xdd, types 5 and 4, the key's own bytes 0 to 15, and a
+/// root and a signature of zeros.
+fn written(alloc: Global, preds: &[u8], ops: &[u8]) -> Result<Vec<u8>, AllocError> {
+    let mut bytes = Vec::with_capacity(alloc, 1463)?;
     bytes.extend_from_slice(&[1])?;
     bytes.extend_from_slice(&[0xdd; 32])?;
     bytes.extend_from_slice(&[0, 0, 0, 5, 0, 0, 0, 4])?;
@@ -19,7 +27,8 @@ fn written(alloc: Global, preds: &[u8]) -> Result<Vec<u8>, AllocError> {
         bytes.extend_from_slice(&[1; 31])?;
         bytes.push(*pred)?;
     }
-    bytes.extend_from_slice(&[0, 0, 0, 0, 5, 12])?;
+    bytes.extend_from_slice(ops)?;
+    bytes.extend_from_slice(&[0, 0, 5, 12])?;
     bytes.extend_from_slice(&[0; 1292])?;
     Ok(bytes)
 }
@@ -40,9 +49,10 @@ fn are_written_again(alloc: Global, bytes: &[u8]) -> Result<bool, Fail> {
 fn kept_beside(alloc: Global, bytes: Vec<u8>) -> Result<Option<(usize, UpdateId)>, Fail> {
     let len = bytes.len();
     let id = id_of(bytes.as_slice());
-    let record = spelled(alloc, bytes)?;
+    let record = spelled(alloc, bytes)?.copy(alloc)?;
     let agrees = record.id() == id
         && record.signature().len() == 1292
+        && record.message().len() + 1296 == len
         && record.body().author.ots == 4;
     let preds = record.preds().len();
     let same = *record.database() == [0xdd; 32] && record.into_bytes().len() == len;
@@ -52,24 +62,33 @@ fn kept_beside(alloc: Global, bytes: Vec<u8>) -> Result<Option<(usize, UpdateId)
 /// The ids are those of Python's hashlib.
 #[test]
 fn reads_and_writes_spellings(rt: HostRuntime) -> Result<(), Fail> {
-    for (preds, len, id) in [
+    for (preds, ops, len, id) in [
         (
             [].as_slice(),
+            NONE,
             1389,
             b"\xf2\xfb\xce\x91\x7e\xb9\x93\x2b\x1a\xe7\xf3\x96\x87\xfe\x17\x59\x57\x9c\xbf\x8f\xd0\xac\xa3\xa7\x57\xd2\x42\xb2\xeb\xd6\xea\x5b",
         ),
         (
             [1].as_slice(),
+            NONE,
             1421,
             b"\x52\x28\xb8\x0f\xbd\x61\xc5\xe4\x68\x79\x01\xdf\x22\x63\xea\x5e\xf1\xef\xd6\xd9\x0c\xfa\x8f\x04\xbc\xa2\x38\x84\x87\x6c\xb2\xd4",
         ),
         (
             [1, 2].as_slice(),
+            NONE,
             1453,
             b"\xa3\x73\x19\x95\x7f\xd4\x6e\x12\xe0\x67\x84\x5e\x33\x9d\x9c\x24\xfc\x9e\x59\x50\x06\x80\xe1\xdb\xa6\xb8\xe6\x1b\x51\xd0\x7c\x19",
         ),
+        (
+            [1].as_slice(),
+            TWO,
+            1463,
+            b"\x58\x53\x5f\x66\x27\xa0\x98\x1c\x7f\xa5\x23\xf6\x05\x5b\xa4\x88\x9f\xc7\xfd\xcf\xa2\x11\xac\x1c\x15\x42\x2d\x5b\x87\x59\x97\xad",
+        ),
     ] {
-        let bytes = written(rt.alloc(), preds)?;
+        let bytes = written(rt.alloc(), preds, ops)?;
         assert_eq!(rt; bytes.len(), len);
         assert!(rt;
             are_written_again(rt.alloc(), bytes.as_slice())?,
@@ -84,22 +103,70 @@ fn reads_and_writes_spellings(rt: HostRuntime) -> Result<(), Fail> {
     Ok(())
 }
 
-/// What `decode` and `spelled` answer of the spelling with two predecessors, once the byte at a place is set and it
-/// is cut to a length, or has a zero more.
+/// Whether a value that is spelled so, in an insert behind one that deletes a row, is read as this one.
+fn is_read_as(alloc: Global, spelling: &[u8], value: &Value) -> Result<bool, Fail> {
+    let mut ops = Vec::from_slice(alloc, b"\x00\x02\x02")?;
+    ops.extend_from_slice(&[7; 34])?;
+    ops.extend_from_slice(b"\x01\x00\x01")?;
+    ops.extend_from_slice(spelling)?;
+    let bytes = written(alloc, &[], ops.as_slice())?;
+    let update = decode(alloc, bytes.as_slice())?;
+    Ok(match update.body.ops.as_slice() {
+        [Op::Delete { .. }, Op::Insert { values, .. }] => match values.as_slice() {
+            [read] => read.equals(value),
+            _ => false,
+        },
+        _ => false,
+    })
+}
+
+#[test]
+fn reads_each_kind_of_value(rt: HostRuntime) -> Result<(), Fail> {
+    let row = RowName {
+        update: UpdateId([7; 32]),
+        index: 1800,
+    };
+    let mut named = Vec::from_slice(rt.alloc(), &[4; 1])?;
+    named.extend_from_slice(&[7; 32])?;
+    named.extend_from_slice(&[7, 8])?;
+    let text = TextValue::from_vec(Vec::from_slice(rt.alloc(), b"ann")?);
+    for (spelling, value) in [
+        (b"\x00".as_slice(), &Value::Null),
+        (
+            b"\x01\x7f\xff\xff\xff\xff\xff\xff\xff".as_slice(),
+            &Value::Int(i64::MAX),
+        ),
+        (
+            b"\x01\x80\x00\x00\x00\x00\x00\x00\x00".as_slice(),
+            &Value::Int(i64::MIN),
+        ),
+        (b"\x02\x00\x03ann".as_slice(), &Value::Text(text)),
+        (b"\x03\x00".as_slice(), &Value::Flag(false)),
+        (b"\x03\x01".as_slice(), &Value::Flag(true)),
+        (named.as_slice(), &Value::Row(row)),
+        (b"\x05\x00\x00".as_slice(), &Value::Own(0)),
+    ] {
+        assert!(rt; is_read_as(rt.alloc(), spelling, value)?, "{spelling:?}");
+    }
+    Ok(())
+}
+
+/// What `decode` and `spelled` answer of an update with these predecessors and operations, once some bytes are set
+/// and it is cut to a length, or has zeros more.
 fn refusal(
     alloc: Global,
+    (preds, ops): (&[u8], &[u8]),
     place: usize,
-    value: u8,
+    values: &[u8],
     len: usize,
 ) -> Result<Option<DecodeError>, AllocError> {
-    let mut bytes = written(alloc, &[1, 2])?;
-    if let Some(byte) = bytes.get_mut(place) {
-        *byte = value;
+    let mut bytes = written(alloc, preds, ops)?;
+    for (i, value) in values.iter().enumerate() {
+        if let Some(byte) = bytes.get_mut(place.saturating_add(i)) {
+            *byte = *value;
+        }
     }
-    bytes.truncate(len);
-    if bytes.len() < len {
-        bytes.push(0)?;
-    }
+    bytes.resize(len, 0)?;
     let decoded = decode(alloc, bytes.as_slice()).err();
     Ok(
         spelled(alloc, bytes)
@@ -109,29 +176,71 @@ fn refusal(
 }
 
 #[test]
-fn refuses_what_is_no_spelling(rt: HostRuntime) -> Result<(), Fail> {
-    use CodecFault::{Misspelled, Operations};
-
-    for (what, place, value, len, fault) in [
-        ("version 2", 0, 2, 1453, Misspelled),
-        ("LMS type 8", 36, 8, 1453, Misspelled),
-        ("LM-OTS type 0", 40, 0, 1453, Misspelled),
-        ("LM-OTS type 5", 40, 5, 1453, Misspelled),
-        ("1,026 predecessors", 89, 4, 1453, Misspelled),
-        ("ids that fall", 122, 3, 1453, Misspelled),
-        ("equal ids", 122, 2, 1453, Misspelled),
-        ("an operation", 156, 1, 1453, Operations),
-        ("65 operations", 156, 65, 1453, Operations),
-        ("256 operations", 155, 1, 1453, Operations),
-        ("cut behind an operation's count", 156, 1, 157, Operations),
-        ("a count that is cut", 155, 1, 156, Misspelled),
-        ("a signature's length", 160, 13, 1453, Misspelled),
-        ("cut by a byte", 0, 1, 1452, Misspelled),
-        ("a byte more", 0, 1, 1454, Misspelled),
-        ("no bytes", 0, 1, 0, Misspelled),
+fn tells_the_first_fault(rt: HostRuntime) -> Result<(), Fail> {
+    let root: (&[u8], &[u8]) = (&[], NONE);
+    for (kind, place, values, len, fault) in [
+        (root, 0, b"\x02".as_slice(), 1389, "version at 0"),
+        (root, 36, b"\x08", 1389, "key type at 33"),
+        (root, 36, b"\x08", 40, "key type at 33"),
+        (root, 40, b"\x05", 1389, "key type at 37"),
+        (root, 89, b"\x04\x01", 1389, "count at 89"),
+        (root, 91, b"\x00\x41", 1389, "count at 91"),
+        (
+            root,
+            93,
+            b"\x00\x00\x00\x00",
+            1389,
+            "signature length at 93",
+        ),
+        (root, 0, b"", 1390, "trailing at 1389"),
+        (root, 0, b"", 700, "short at 700"),
+        (root, 0, b"", 0, "short at 0"),
+        (root, 0, b"\x02", UPDATE_LIMIT + 1, "too long at 262144"),
+        ((&[2, 1], NONE), 0, b"", 1453, "order at 123"),
+        ((&[1, 1], NONE), 0, b"", 1453, "order at 123"),
+        ((&[], b"\x00\x01\x03"), 0, b"", 1390, "tag at 93"),
+        ((&[], b"\x00\x01\x01\x00\x00"), 0, b"", 1392, "count at 95"),
+        ((&[], b"\x00\x01\x01\x00\x11"), 0, b"", 1392, "count at 95"),
+        (
+            (&[], b"\x00\x01\x01\x00\x01\x06"),
+            0,
+            b"",
+            1393,
+            "tag at 96",
+        ),
+        (
+            (&[], b"\x00\x01\x01\x00\x01\x03\x02"),
+            0,
+            b"",
+            1394,
+            "tag at 97",
+        ),
+        (
+            (&[], b"\x00\x01\x01\x00\x01\x05\x00\x00"),
+            0,
+            b"",
+            1395,
+            "own index at 97",
+        ),
+        (
+            (&[], b"\x00\x01\x01\x00\x01\x02\x04\x01"),
+            0,
+            b"",
+            1395,
+            "text at 97",
+        ),
+        (
+            (&[], b"\x00\x01\x01\x00\x01\x02\x00\x01\xff"),
+            0,
+            b"",
+            1396,
+            "text at 99",
+        ),
     ] {
-        let refused = refusal(rt.alloc(), place, value, len)?;
-        assert_eq!(rt; refused, Some(DecodeError::Fault(fault)), "{what}");
+        match refusal(rt.alloc(), kind, place, values, len)? {
+            Some(error) => assert_eq!(rt; error.to_string(rt.alloc())?.as_str(), fault),
+            None => return Err(Fail::from(fault)),
+        }
     }
     Ok(())
 }

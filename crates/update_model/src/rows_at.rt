@@ -32,7 +32,13 @@ pub trait RowsAt {
         ensures { IfOk result (λ answer. answer ≡ has_child self.now name.now) };
 
     /// How many visible rows of the table have this value in this column.
-    fn equal_rows(&self, alloc: Global, table: u8, column: u8, value: &Value) -> Result<u32, AllocError>
+    fn equal_rows(
+        &self,
+        alloc: Global,
+        table: u8,
+        column: u8,
+        value: &Value,
+    ) -> Result<u32, AllocError>
         ensures { IfOk result (λ number. number ≡ equal_count self.now table column value.now) };
 
     /// How many visible rows the table has.

@@ -1,9 +1,10 @@
 //! Lengths from the tables of RFC 8554, and each call once.
 
 use crate::{
-    AuthorKey, ByteList, IdList, KeyList, Op, OpList, PositionList, RowName, TextValue, UpdateId,
-    Value, ValueList, check_value_text, signature_len,
+    AuthorKey, ByteList, DbRule, IdList, KeyList, Node, Op, OpList, PositionList, RowEntry,
+    RowName, TextValue, UpdateId, Value, ValueList, check_ops, check_value_text, signature_len,
 };
+use std::alloc::{AllocError, Global};
 use std::test::Fail;
 
 /// The columns are heights 5, 10 and 15, the rows digits of 1, 2, 4 and 8 bits.
@@ -101,4 +102,93 @@ fn knows_texts(rt: HostRuntime) {
         assert!(rt; !check_value_text(bytes));
     }
     assert!(rt; check_value_text("\u{0}\u{10ffff}".as_bytes()));
+}
+
+const KEY: AuthorKey = AuthorKey {
+    lms: 5,
+    ots: 4,
+    ident: [1; 16],
+    root: [2; 32],
+};
+
+// an insert of so many own references to this operation
+fn insert(alloc: Global, own: u16, count: usize) -> Result<Op, AllocError> {
+    let mut values = Vec::new(alloc);
+    for _ in 0..count {
+        values.push(Value::Own(own))?;
+    }
+    Ok(Op::Insert {
+        table: 1,
+        values: ValueList::from_vec(values),
+    })
+}
+
+#[test]
+fn knows_operations(rt: HostRuntime) -> Result<(), Fail> {
+    let alloc = rt.alloc();
+    // deletes in front, the own reference and the number of values of one insert, and whether they may stand
+    for (front, own, count, good) in [
+        (1, 0, 1, true),
+        (0, 0, 1, false),
+        (1, 1, 1, false),
+        (1, 0, 0, false),
+        (1, 0, 16, true),
+        (1, 0, 17, false),
+        (63, 62, 1, true),
+        (64, 62, 1, false),
+    ] {
+        let mut ops = Vec::new(alloc);
+        for _ in 0..front {
+            ops.push(Op::Delete {
+                row: RowName {
+                    update: UpdateId([6; 32]),
+                    index: 7,
+                },
+            })?;
+        }
+        ops.push(insert(alloc, own, count)?)?;
+        assert_eq!(rt; check_ops(&ops), good);
+    }
+    Ok(())
+}
+
+#[test]
+fn lists_authors(rt: HostRuntime) -> Result<(), Fail> {
+    let alloc = rt.alloc();
+    let other = AuthorKey { ots: 3, ..KEY };
+    for (listed, own, others) in [
+        ([].as_slice(), true, true),
+        (&[KEY], true, false),
+        (&[other, KEY], true, true),
+        (&[other], false, true),
+    ] {
+        let rule = DbRule {
+            database: [3; 32],
+            authors: KeyList::from_vec(Vec::from_slice(alloc, listed)?),
+        };
+        let copy = rule.copy(alloc)?;
+        assert_eq!(rt; (rule.lists(&KEY), copy.lists(&other)), (own, others));
+    }
+    Ok(())
+}
+
+#[test]
+fn copies_nodes_and_rows(rt: HostRuntime) -> Result<(), Fail> {
+    let alloc = rt.alloc();
+    let mut ops = Vec::new(alloc);
+    ops.push(insert(alloc, 0, 2)?)?;
+    let node = Node {
+        id: UpdateId([4; 32]),
+        preds: IdList::from_vec(Vec::from_slice(alloc, &[UpdateId([3; 32])])?),
+        author: KEY,
+        ops: OpList::from_vec(ops),
+    };
+    assert_eq!(rt; node.copy(alloc)?.ops.as_slice().len(), 1);
+    let row = RowEntry {
+        table: 1,
+        author: KEY,
+        values: ValueList::from_vec(Vec::new(alloc)),
+    };
+    assert_eq!(rt; row.copy(alloc)?.table, 1);
+    Ok(())
 }

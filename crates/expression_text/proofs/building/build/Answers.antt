@@ -11,4 +11,4 @@ finish-requires c =
 pub returns : goal.returns
 returns c =
     IfOk-weaker c.finish.result _ _ (last_reads c.args.names.now c.args.tokens.now c.loop-token.token-index (reading_of c.loop-token.progress)
-      (frames_of c.loop-token.pending.items) c.loop-token-test.false c.loop-token.invariant) c.finish.ensures
+    (frames_of c.loop-token.pending.items) c.loop-token-test.false c.loop-token.invariant) c.finish.ensures

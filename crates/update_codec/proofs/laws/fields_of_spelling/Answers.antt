@@ -1,4 +1,4 @@
-use Rattle.update_codec.proofs.Places.{database_stands, author_stands, preds_stand, signature_stands, update_stands}
+use Rattle.update_codec.proofs.Places.{database_stands, author_stands, preds_stand, ops_stand, signature_stands, update_stands}
 use Rattle.update_codec.proofs.laws.fields_of_spelling.Goals as goal
 
 pub returns-clause-database : goal.returns-clause-database
@@ -9,6 +9,9 @@ returns-clause-author c = author_stands
 
 pub returns-clause-preds : goal.returns-clause-preds
 returns-clause-preds c = preds_stand
+
+pub returns-clause-ops : goal.returns-clause-ops
+returns-clause-ops c = ops_stand
 
 pub returns-clause-signature : goal.returns-clause-signature
 returns-clause-signature c = signature_stands

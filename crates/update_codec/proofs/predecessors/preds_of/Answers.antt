@@ -12,7 +12,7 @@ returns-in_err-id c =
 
 pub returns-then-not-is_next : goal.returns-then-not-is_next
 returns-then-not-is_next c =
-    id_refused c.loop.ids.items c.args.count c.loop.counter c.loop.last c.loop.rest.now c.in_ok-id.id c.in_ok-id.after.now (ids_at c.args.count None c.args.bytes.now) c.loop-test.true c.in_ok-id.ensures (sym c.is_next.ensures ∙ c.if-not-is_next.true) c.loop.invariant
+    rw c.fault_at.ensures (id_refused c.loop.ids.items c.args.count c.loop.counter c.loop.last c.loop.rest.now c.in_ok-id.id c.in_ok-id.after.now (ids_at c.args.count None c.args.bytes.now) c.loop-test.true c.in_ok-id.ensures (sym c.is_next.ensures ∙ c.if-not-is_next.true) c.loop.invariant)
 
 pub loop-preserved : goal.loop-preserved
 loop-preserved c =

@@ -1,11 +1,8 @@
 use Rattle.std.proofs.lemmas.Result.{err_from_is_err_and}
-use Rattle.update_codec.proofs.Causes.{fails_only, kept_has_none}
+use Rattle.update_codec.proofs.Causes.{fails_only}
 use Rattle.update_codec.proofs.taking.spelled.Goals as goal
 
 pub returns-in_err-body-clause-only : goal.returns-in_err-body-clause-only
 returns-in_err-body-clause-only c = λ update s.
     let p = err_from_is_err_and c.from_residual.result c.from_residual.ensures.1 in
     rw (p.1, p.2) (fails_only c.args.bytes.items c.in_err-body.field-0.0 c.args.bytes.items update (rw (← c.as_slice.ensures.value) c.in_err-body.ensures.fails) s)
-
-pub returns-clause-operations : goal.returns-clause-operations
-returns-clause-operations c = λ has. absurd (kept_has_none c.as_slice.result.now c.args.bytes.items c.in_ok-body.body c.in_ok-body.id c.as_slice.ensures.value c.in_ok-body.ensures.kept has)

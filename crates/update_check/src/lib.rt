@@ -1,0 +1,31 @@
+//! Updates that are checked: spelled, of the right database, by a listed author, and signed.
+//!
+//! [`check`] takes bytes and answers a [`Checked`], or the one reason why there is none. A `Checked` keeps by its
+//! type that its bytes spell an update, that its id is theirs, and that its author signed it (RFC 8554), so nothing
+//! above this crate verifies a signature again. Whether it is also under a rule (its database is the rule's and its
+//! author is listed there) depends on the rule, and [`Checked::is_under`] tells it.
+//!
+//! ```text
+//! let rule = DbRule { database, authors };
+//! let update = check(alloc, &rule, bytes)?;
+//! update.body();                          // what its author signed
+//! update.node(alloc)?;                    // what tables see of it
+//! ```
+//!
+//! Where the rule is to come from the bytes, as the first record of a stream sets it, [`update_codec::spelled`] and
+//! [`check_spelled`] are the two halves of `check`.
+//!
+//! It keeps no graph (`hash_graph`), and does not look at whether predecessors are known.
+#![tactic(auto)]
+
+mod check_error;
+mod checked_update;
+mod checking;
+mod laws;
+#[cfg(test)]
+mod tests;
+
+pub use check_error::{CheckError, CheckFault};
+pub use checked_update::Checked;
+pub use checking::{check, check_spelled};
+pub use laws::{no_cause, one_cause};

@@ -1,0 +1,77 @@
+use std::error::Error;
+use std::fmt;
+
+/// What is wrong with bytes that spell no update.
+#[derive(Clone, Copy, Debug, PartialEq, Eq, Hash)]
+pub enum CodecKind {
+    /// The first byte is not 1.
+    Version,
+    /// The bytes end in a field, or before one.
+    Short,
+    /// Bytes follow the update.
+    Trailing,
+    /// A predecessor is not above the one before it.
+    Order,
+    /// There are more than 1,024 predecessors, more than 64 operations, or other than 1 to 16 values in an insert.
+    Count,
+    /// An operation or a value has an unknown tag, or a flag is neither 0 nor 1.
+    Tag,
+    /// A text has more than 1,024 bytes, or is no UTF-8.
+    Text,
+    /// The LMS type is not 5 to 7, or the LM-OTS type is not 1 to 4.
+    KeyType,
+    /// The signature's length is not the one that the author's key asks for.
+    SignatureLength,
+    /// There are more than 262,144 bytes.
+    TooLong,
+    /// An own reference names no earlier operation.
+    OwnIndex,
+}
+
+impl fmt::Display for CodecKind {
+    ghost use Rattle.std.specs.Prelude.{Some};
+    ghost use Rattle.update_codec.specs.Words.{kind_words};
+
+    ghost output = { λ kind. Some (kind_words kind) };
+
+    fn fmt<W: fmt::Write>(&self, f: &mut fmt::Formatter<W>) -> fmt::Result {
+        f.write_str(match self {
+            CodecKind::Version => "version",
+            CodecKind::Short => "short",
+            CodecKind::Trailing => "trailing",
+            CodecKind::Order => "order",
+            CodecKind::Count => "count",
+            CodecKind::Tag => "tag",
+            CodecKind::Text => "text",
+            CodecKind::KeyType => "key type",
+            CodecKind::SignatureLength => "signature length",
+            CodecKind::TooLong => "too long",
+            CodecKind::OwnIndex => "own index",
+        })
+    }
+}
+
+/// The first fault of bytes that spell no update.
+#[derive(Clone, Copy, Debug, PartialEq, Eq, Hash)]
+pub struct CodecFault {
+    /// What is wrong.
+    pub kind: CodecKind,
+    /// Where, in bytes from the first one: mostly the first byte of the field that has the fault. A text that is no
+    /// UTF-8 is told at its first byte, behind its length.
+    pub place: u32,
+}
+
+impl fmt::Display for CodecFault {
+    ghost use Rattle.std.specs.Prelude.{Some};
+    ghost use Rattle.update_codec.specs.Words.{fault_words};
+
+    ghost output = { λ fault. Some (fault_words fault.kind fault.place) };
+
+    fn fmt<W: fmt::Write>(&self, f: &mut fmt::Formatter<W>) -> fmt::Result {
+        let kind = self.kind;
+        let place = self.place;
+        write!(f, "{kind} at {place}")
+    }
+}
+
+impl Error for CodecFault {}
