@@ -7,15 +7,15 @@ use Rattle.update_model.specs.declared.row_name.RowName.{RowName}
 use Rattle.update_model.specs.declared.value.Value.{Value}
 use Rattle.update_model.specs.declared.value.Value.TheVariants as value
 use Rattle.update_model.specs.Node.{NodeData}
-use Rattle.row_check.specs.declared.expr.Expr.{Expr}
 use Rattle.row_check.specs.Comparisons.{compares}
-use Rattle.row_check.specs.Meaning.{holds, value_at}
+use Rattle.row_check.specs.Meaning.{value_at}
+use Rattle.expression_text.specs.Trees.{Tree, holds_tree}
 use Rattle.schema.specs.declared.action.Action.{Action}
 use Rattle.schema.specs.declared.action.Action.TheVariants as action
 use Rattle.schema.specs.declared.column.Column.{Column}
 use Rattle.schema.specs.declared.column.ColumnKind.{ColumnKind}
 use Rattle.schema.specs.declared.column.ColumnKind.TheVariants as kind
-use Rattle.schema.specs.declared.rules.CheckRule.{CheckRule}
+use Rattle.schema.specs.Checks.{CheckData}
 use Rattle.schema.specs.declared.rules.MatchRule.{MatchRule}
 use Rattle.schema.specs.declared.rules.UniqueRule.{UniqueRule}
 use Rattle.schema.specs.Columns.{target_of, reference_at, is_restrict, are_comparable}
@@ -104,15 +104,15 @@ shown_at rules g (column ∷ columns) (x ∷ values) zero target act e = ap (λ 
 shown_at rules g (column ∷ columns) (x ∷ values) (suc c) target act e = shown_at rules g columns values c target act e
 
 module _ (rules : Rules) (sound : IsSound rules) (g : Effects) (f : IsWellFounded rules g) where
-  pub check_holds : (t place : ℕ) (rule : CheckRule) → slice_get (table_of rules t).checks place ≡ Some rule → claim_holds rules (shown_rows rules g) (Check t rule.expr) ≡ true
+  pub check_holds : (t place : ℕ) (rule : CheckData) → slice_get (table_of rules t).checks place ≡ Some rule → claim_holds rules (shown_rows rules g) (Check t rule.tree) ≡ true
   check_holds t place rule at =
-      all_shown rules g (λ row. not (in_table t row) || holds rules.ask row.values rule.expr) g.inserted (each_stands rules g.inserted f.founded)
+      all_shown rules g (λ row. not (in_table t row) || holds_tree rules.ask row.values rule.tree) g.inserted (each_stands rules g.inserted f.founded)
       (λ e s v. elsewhere t e.table _ (λ same.
       let here = subst (λ (n : ℕ). slice_get (table_of rules n).checks place ≡ Some rule) (sym same) at in
       same_holds (table_of rules e.table).columns (shown_values rules g (table_of rules e.table).columns e.values) e.values
-      (λ number plain. plain_shown rules g (table_of rules e.table).columns e.values number plain) rules.ask rule.expr
+      (λ number plain. plain_shown rules g (table_of rules e.table).columns e.values number plain) rules.ask rule.tree
       (each_at (IsSoundCheck (table_of rules e.table).columns) (table_of rules e.table).checks place rule (sound e.table).checks here)
-      ∙ all_at (λ check. holds rules.ask e.values check.expr) (table_of rules e.table).checks place rule s.checked here))
+      ∙ all_at (λ check. holds_tree rules.ask e.values check.tree) (table_of rules e.table).checks place rule s.checked here))
 
   each : AllByRecursion (Stands rules g.inserted) g.inserted
   each = each_stands rules g.inserted f.founded
@@ -360,7 +360,7 @@ abbrev pub IsDeclared : Rules → Claim → Type 0
 IsDeclared rules (Unique t c) = (place : ℕ) × (rule : UniqueRule) × (slice_get (table_of rules t).uniques place ≡ Some rule) × (rule.column ≡ c)
 IsDeclared rules (AtMost t k) = ((table_of rules t).at_most ≡ k) × (k ≡ 0 → ⊥)
 IsDeclared rules (Refers t c target act) = reference_at (table_of rules t).columns c ≡ Some (target, act)
-IsDeclared rules (Check t x) = (place : ℕ) × (rule : CheckRule) × (slice_get (table_of rules t).checks place ≡ Some rule) × (rule.expr ≡ x)
+IsDeclared rules (Check t x) = (place : ℕ) × (rule : CheckData) × (slice_get (table_of rules t).checks place ≡ Some rule) × (rule.tree ≡ x)
 IsDeclared rules (Match t m) = (place : ℕ) × (slice_get (table_of rules t).matches place ≡ Some m)
 
 -- accepted invariants hold in every closed list
@@ -373,5 +373,5 @@ accepted_stands rules sound nodes c (Refers t col target action.Restrict) d h = 
 accepted_stands rules sound nodes c (Refers t col target action.Cascade) d h = cascade_holds rules sound (effects_in rules nodes) (founded_closed rules nodes c) t col target d
 accepted_stands rules sound nodes c (Refers t col target action.SetNull) d h = set_null_holds rules sound (effects_in rules nodes) (founded_closed rules nodes c) t col target d
 accepted_stands rules sound nodes c (Check t x) d h =
-    subst (λ (y : Expr). claim_holds rules (shown_in rules nodes) (Check t y) ≡ true) d.3 (check_holds rules sound (effects_in rules nodes) (founded_closed rules nodes c) t d.0 d.1 d.2)
+    subst (λ (y : Tree). claim_holds rules (shown_in rules nodes) (Check t y) ≡ true) d.3 (check_holds rules sound (effects_in rules nodes) (founded_closed rules nodes c) t d.0 d.1 d.2)
 accepted_stands rules sound nodes c (Match t m) d h = match_holds rules sound (effects_in rules nodes) (founded_closed rules nodes c) t d.0 m d.1

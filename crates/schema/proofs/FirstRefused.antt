@@ -85,7 +85,7 @@ IsReady rules (Unique table column) = (nat_le (length rules.tables) table ≡ fa
     × MatchOption (slice_get (table_of rules table).columns column) ⊥ (λ c. IsTrue (not (is_reference c.kind) && not c.null))
 IsReady rules (AtMost table count) = (nat_le (length rules.tables) table ≡ false) × ((table_of rules table).uniques ≡ []) × ((table_of rules table).at_most ≡ count) × (count ≡ 0 → ⊥)
 IsReady rules (Refers table column target act) = (nat_le (length rules.tables) table ≡ false) × (reference_at (table_of rules table).columns column ≡ Some (target, act)) × ((u : ℕ) → u ≤ table → IsBare rules u)
-IsReady rules (Check table expr) = Unit {0}
+IsReady rules (Check table tree) = Unit {0}
 IsReady rules (Match table rule) = Unit {0}
 
 abbrev Ready : Rules → Declared → Type 0

@@ -7,10 +7,11 @@ use Rattle.update_model.specs.declared.update_id.UpdateId.{UpdateId}
 use Rattle.update_model.specs.declared.value.Value.{Value}
 use Rattle.update_model.specs.declared.value.Value.TheVariants as value
 use Rattle.row_check.specs.Comparisons.{compares}
-use Rattle.row_check.specs.Meaning.{holds, value_at}
+use Rattle.row_check.specs.Meaning.{value_at}
+use Rattle.expression_text.specs.Trees.{holds_tree}
 use Rattle.schema.specs.declared.action.Action.{Action}
 use Rattle.schema.specs.declared.column.Column.{Column}
-use Rattle.schema.specs.declared.rules.CheckRule.{CheckRule}
+use Rattle.schema.specs.Checks.{CheckData}
 use Rattle.schema.specs.declared.rules.MatchRule.{MatchRule}
 use Rattle.schema.specs.Columns.{target_of, reference_at, is_restrict}
 use Rattle.schema.specs.Sound.{IsSoundCheck, IsSoundColumn}
@@ -161,12 +162,12 @@ module _ (rules : Rules) (samples : AreSampled rules) (items : List Item) (made 
   abbrev values : List Value
   values = filled_but items skip (row_numbered n) 0 columns sample
 
-  checked : (xs : List CheckRule) → AllByRecursion (IsSoundCheck columns) xs → checks_hold rules.ask sample xs ≡ true → checks_hold rules.ask values xs ≡ true
+  checked : (xs : List CheckData) → AllByRecursion (IsSoundCheck columns) xs → checks_hold rules.ask sample xs ≡ true → checks_hold rules.ask values xs ≡ true
   checked [] p h = refl
   checked (x ∷ xs) p h =
-      let b = and_parts (holds rules.ask sample x.expr) _ h in
+      let b = and_parts (holds_tree rules.ask sample x.tree) _ h in
       and_from _ _
-      (same_holds columns values sample (λ number plain. but_plain items skip (row_numbered n) r 0 columns sample naming number plain) rules.ask x.expr p.0 ∙ b.0)
+      (same_holds columns values sample (λ number plain. but_plain items skip (row_numbered n) r 0 columns sample naming number plain) rules.ask x.tree p.0 ∙ b.0)
       (checked xs p.1 b.1)
 
   matched_one : (m : MatchRule) → IsMatched rules t m → matches_among rows values m (value_at values m.reference) ≡ true

@@ -8,12 +8,13 @@ use Rattle.update_model.specs.declared.value.Value.{Value}
 use Rattle.update_model.specs.declared.value.Value.TheVariants as value
 use Rattle.row_check.specs.declared.cmp.Cmp.TheVariants as cmp
 use Rattle.row_check.specs.Comparisons.{compares}
-use Rattle.row_check.specs.Meaning.{holds, value_at}
+use Rattle.row_check.specs.Meaning.{value_at}
+use Rattle.expression_text.specs.Trees.{holds_tree}
 use Rattle.schema.specs.declared.action.Action.{Action}
 use Rattle.schema.specs.declared.column.Column.{Column}
 use Rattle.schema.specs.declared.column.ColumnKind.{ColumnKind}
 use Rattle.schema.specs.declared.column.ColumnKind.TheVariants as kind
-use Rattle.schema.specs.declared.rules.CheckRule.{CheckRule}
+use Rattle.schema.specs.Checks.{CheckData}
 use Rattle.schema.specs.declared.rules.MatchRule.{MatchRule}
 use Rattle.schema.specs.declared.rules.UniqueRule.{UniqueRule}
 use Rattle.schema.specs.declared.table_def.TableDef.{TableDef}
@@ -266,11 +267,11 @@ module _ (rules : Rules) (samples : AreSampled rules) where
       ∙ filled_plain older (table_of rules u).columns (table_of rules u).sample m.target_column is.far)
       ∙ is.passes (is.apart e))
 
-  pub all_checked : (items : List Item) (cols : List Column) (vs : List Value) (xs : List CheckRule) → AllByRecursion (IsSoundCheck cols) xs → checks_hold rules.ask vs xs ≡ true → checks_hold rules.ask (filled items cols vs) xs ≡ true
+  pub all_checked : (items : List Item) (cols : List Column) (vs : List Value) (xs : List CheckData) → AllByRecursion (IsSoundCheck cols) xs → checks_hold rules.ask vs xs ≡ true → checks_hold rules.ask (filled items cols vs) xs ≡ true
   all_checked items cols vs [] p h = refl
   all_checked items cols vs (x ∷ xs) p h =
-      let b = and_parts (holds rules.ask vs x.expr) _ h in
-      and_from _ _ (same_holds cols (filled items cols vs) vs (λ number plain. filled_plain items cols vs number plain) rules.ask x.expr p.0 ∙ b.0) (all_checked items cols vs xs p.1 b.1)
+      let b = and_parts (holds_tree rules.ask vs x.tree) _ h in
+      and_from _ _ (same_holds cols (filled items cols vs) vs (λ number plain. filled_plain items cols vs number plain) rules.ask x.tree p.0 ∙ b.0) (all_checked items cols vs xs p.1 b.1)
 
   all_matched : (items : List Item) (t : ℕ) → Made items → IsSampled rules t → list_all (has_table items) (needed_tables (table_of rules t).columns) ≡ true → (ms : List MatchRule) → AllByRecursion (IsMatched rules t) ms
       → matches_hold (rows_of items) (filled items (table_of rules t).columns (table_of rules t).sample) ms ≡ true

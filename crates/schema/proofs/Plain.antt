@@ -4,15 +4,14 @@ use Rattle.std.specs.Prelude.{IsSome}
 use Rattle.std.proofs.lemmas.List.Elements.{All-head, All-tail}
 use Rattle.update_model.specs.declared.value.Value.{Value}
 use Rattle.update_model.specs.declared.value.Value.TheVariants as value
-use Rattle.row_check.specs.declared.expr.Expr.{Expr, And', Or', Not', Compare, IsNull, Native}
 use Rattle.row_check.specs.declared.term.Term.{Term}
 use Rattle.row_check.specs.declared.term.Term.TheVariants as term
 use Rattle.row_check.specs.Comparisons.{compares}
-use Rattle.row_check.specs.Meaning.{value_at, is_null, length_of, term_value, holds}
+use Rattle.row_check.specs.Meaning.{value_at, is_null, length_of, term_value}
 use Rattle.expression_text.specs.declared.kind.Kind.{Kind}
 use Rattle.expression_text.specs.declared.kind.Kind.TheVariants as seen
 use Rattle.expression_text.specs.Kinds.{unless_reference, plain_kind, length_kind, term_kind, HasKinds}
-use Rattle.expression_text.specs.Trees.{tree_of}
+use Rattle.expression_text.specs.Trees.{Tree, Both, Either, Negation, Comparison, Absence, Check, holds_tree}
 use Rattle.schema.specs.declared.column.Column.{Column}
 use Rattle.schema.specs.declared.column.ColumnKind.{ColumnKind}
 use Rattle.schema.specs.declared.column.ColumnKind.TheVariants as kind
@@ -99,7 +98,7 @@ length_some : (o : Option Kind) → IsSome (length_kind o) → IsSome o
 length_some None h = absurd (cc)
 length_some (Some k) h = refl
 
--- Two rows that have the same values in plain columns answer expressions alike.
+-- Two rows that have the same values in plain columns answer questions alike.
 module _ (columns : List Column) (a b : List Value) (same : (number : ℕ) → is_plain columns number ≡ true → value_at a number ≡ value_at b number) where
   same_kind : (number : ℕ) → IsSome (plain_kind (kinds_of columns) number) → value_at a number ≡ value_at b number
   same_kind number h = same number (plain_from_kind columns number h)
@@ -115,14 +114,14 @@ module _ (columns : List Column) (a b : List Value) (same : (number : ℕ) → i
       ap₂ (λ v vs. v ∷ vs) (same_kind number (All-head (λ n. IsSome (plain_kind (kinds_of columns) n)) number numbers h))
       (same_columns numbers (All-tail (λ n. IsSome (plain_kind (kinds_of columns) n)) number numbers h))
 
-  pub same_holds : (ask : ℕ → List Value → Bool) (x : Expr) → HasKinds (kinds_of columns) (tree_of x) → holds ask a x ≡ holds ask b x
-  same_holds ask (And' p x q y) h = ap₂ (λ c d. c && d) (same_holds ask x h.0) (same_holds ask y h.1)
-  same_holds ask (Or' p x q y) h = ap₂ (λ c d. c || d) (same_holds ask x h.0) (same_holds ask y h.1)
-  same_holds ask (Not' p x) h = ap not (same_holds ask x h)
-  same_holds ask (Compare left cmp right) h =
+  pub same_holds : (ask : ℕ → List Value → Bool) (x : Tree) → HasKinds (kinds_of columns) x → holds_tree ask a x ≡ holds_tree ask b x
+  same_holds ask (Both x y) h = ap₂ (λ c d. c && d) (same_holds ask x h.0) (same_holds ask y h.1)
+  same_holds ask (Either x y) h = ap₂ (λ c d. c || d) (same_holds ask x h.0) (same_holds ask y h.1)
+  same_holds ask (Negation x) h = ap not (same_holds ask x h)
+  same_holds ask (Comparison left cmp right) h =
       ap₂ (compares cmp) (same_term left h.0) (same_term right (subst (λ (o : Option Kind). IsSome o) h.1 h.0))
-  same_holds ask (IsNull number) h = ap is_null (same_kind number h)
-  same_holds ask (Native number numbers) h = ap (ask number) (same_columns numbers h)
+  same_holds ask (Absence number) h = ap is_null (same_kind number h)
+  same_holds ask (Check number numbers) h = ap (ask number) (same_columns numbers h)
 
 pub plain_target : (k : ColumnKind) → not (is_reference k) ≡ true → is_some (target_of k) ≡ false
 plain_target (kind.Int lo hi) h = refl

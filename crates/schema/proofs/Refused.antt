@@ -34,7 +34,7 @@ module _ (rules : Rules) (sound : IsSound rules) (samples : AreSampled rules) (e
   by_claim (Refers table column target action.Restrict) is h = restrict_confirms table column target is h
   by_claim (Refers table column target action.Cascade) is h = absurd (cc)
   by_claim (Refers table column target action.SetNull) is h = absurd (cc)
-  by_claim (Check table expr) is h = absurd (cc)
+  by_claim (Check table tree) is h = absurd (cc)
   by_claim (Match table rule) is h = absurd (cc)
 
   pub first_refused : accepts rules d.claim ≡ false → confirms rules (claims_of earlier) d.claim (example_of rules d.claim) ≡ true

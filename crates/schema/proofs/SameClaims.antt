@@ -3,7 +3,8 @@ use Rattle.std.proofs.Common.{◌≡◌, ℕ, ◌==◌, not, ◌&&◌, ◌||◌,
 use Rattle.std.specs.List.{list_all}
 use Rattle.update_model.specs.declared.value.Value.{Value}
 use Rattle.update_model.specs.declared.value.Value.TheVariants as value
-use Rattle.row_check.specs.Meaning.{holds, value_at}
+use Rattle.row_check.specs.Meaning.{value_at}
+use Rattle.expression_text.specs.Trees.{holds_tree}
 use Rattle.schema.specs.Visible.{Rules, TableRow, same_row}
 use Rattle.schema.specs.Verdicts.{in_table, matches_among}
 use Rattle.schema.specs.Invariants.{Claim, Unique, AtMost, Refers, Check, Match, names_shown, claim_holds}
@@ -25,7 +26,7 @@ same_claim rules a (AtMost t k) = λ i. (k == 0) || nat_le (same_count (in_table
 same_claim rules {b} {c} a (Refers t col target act) =
     (λ i. list_all (λ row. not (in_table t row) || same_named a target (value_at row.values col) i) b)
     ∙ same_all (λ row. not (in_table t row) || names_shown c target (value_at row.values col)) a
-same_claim rules a (Check t x) = same_all (λ row. not (in_table t row) || holds rules.ask row.values x) a
+same_claim rules a (Check t x) = same_all (λ row. not (in_table t row) || holds_tree rules.ask row.values x) a
 same_claim rules {b} {c} a (Match t m) =
     (λ i. list_all (λ row. not (in_table t row) || same_match rules a row.values m (value_at row.values m.reference) i) b)
     ∙ same_all (λ row. not (in_table t row) || matches_among c row.values m (value_at row.values m.reference)) a

@@ -10,7 +10,7 @@ use Rattle.schema.specs.declared.rules.MatchRule.{MatchRule}
 use Rattle.schema.specs.declared.table_def.TableDef.{TableDef}
 use Rattle.schema.specs.Columns.{target_of, reference_at, is_restrict, are_comparable}
 use Rattle.schema.specs.Rows.{FitsSample}
-use Rattle.schema.specs.Sound.{IsSoundKind, IsSoundColumn, table_in, IsSoundMatch, IsSoundCheck, IsSoundUnique, IsTable, AreTables}
+use Rattle.schema.specs.Sound.{IsSoundKind, IsSoundColumn, columns_or, IsSoundMatch, IsSoundCheck, IsSoundUnique, IsTable, AreTables}
 use Rattle.schema.specs.Visible.{Rules, missing_table, table_of}
 
 -- the table with this number
@@ -52,27 +52,27 @@ target_below number (column ∷ columns) h zero target act e =
     (subst (λ (k : ColumnKind). IsSoundKind number column.null k) (kind_of_target column.kind target act e) h.0).0
 target_below number (column ∷ columns) h (suc place) target act e = target_below number columns h.1 place target act e
 
--- a table that was declared before or is this one is found by its number
+-- the columns of a table that was declared before or is this one are found by its number
 found_in : (before : List TableDef) (table : TableDef) (rest : List TableDef) (number : ℕ) → number ≤ length before
-    → table_in before table number ≡ table_number (before ++ table ∷ rest) number
+    → columns_or (slice_get before number) table.columns ≡ (table_number (before ++ table ∷ rest) number).columns
 found_in [] table rest zero h = refl
 found_in [] table rest (suc number) h = absurd (omega arith)
 found_in (t ∷ before) table rest zero h = refl
 found_in (t ∷ before) table rest (suc number) h = found_in before table rest number (omega arith)
 
 match_in : (before : List TableDef) (table : TableDef) (rest : List TableDef) (number : ℕ) → number ≡ length before → AllByRecursion (IsSoundColumn number) table.columns
-    → (rules : List MatchRule) → AllByRecursion (IsSoundMatch before table) rules → AllByRecursion (ComparesPlain (before ++ table ∷ rest) table) rules
+    → (rules : List MatchRule) → AllByRecursion (IsSoundMatch before table.columns) rules → AllByRecursion (ComparesPlain (before ++ table ∷ rest) table) rules
 match_in before table rest number n sound [] h = tt
 match_in before table rest number n sound (rule ∷ rules) h =
     let columns = table.columns in
     let step : (o : Option (ℕ × Action)) → reference_at columns rule.reference ≡ o
-    → MatchOption o ⊥ (λ r. IsTrue (not (is_restrict r.1)) × IsTrue (are_comparable (slice_get columns rule.column) (slice_get (table_in before table r.0).columns rule.target_column)))
+    → MatchOption o ⊥ (λ r. IsTrue (not (is_restrict r.1)) × IsTrue (are_comparable (slice_get columns rule.column) (slice_get (columns_or (slice_get before r.0) columns) rule.target_column)))
     → MatchOption o ⊥ (λ r. IsTrue (not (is_restrict r.1)) × IsTrue (are_comparable (slice_get columns rule.column) (slice_get (table_number (before ++ table ∷ rest) r.0).columns rule.target_column))) =
     elim [
       | None ↦ λ e m. m
       | Some r ↦ λ e m.
           let low = target_below number columns sound rule.reference r.0 r.1 e in
-          (m.0, subst (λ (t : TableDef). IsTrue (are_comparable (slice_get columns rule.column) (slice_get t.columns rule.target_column))) (found_in before table rest r.0 (omega arith)) m.1)
+          (m.0, subst (λ (cs : List Column). IsTrue (are_comparable (slice_get columns rule.column) (slice_get cs rule.target_column))) (found_in before table rest r.0 (omega arith)) m.1)
     ] in
     (step (reference_at columns rule.reference) refl h.0, match_in before table rest number n sound rules h.1)
 

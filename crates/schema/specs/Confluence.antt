@@ -51,7 +51,7 @@ abbrev pub accepts : Rules → Claim → Bool
 accepts rules (Unique table column) = false
 accepts rules (AtMost table count) = false
 accepts rules (Refers table column target act) = accepts_reference rules target act
-accepts rules (Check table expr) = true
+accepts rules (Check table tree) = true
 accepts rules (Match table rule) = true
 
 -- whether all of these are accepted

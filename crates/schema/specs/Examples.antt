@@ -208,7 +208,7 @@ abbrev pub example_of : Rules → Claim → Counterexample
 example_of rules (Unique table column) = unique_example rules table
 example_of rules (AtMost table count) = at_most_example rules table count
 example_of rules (Refers table column target act) = restrict_example rules table column target
-example_of rules (Check table expr) = record { base = []; left = []; right = [] }
+example_of rules (Check table tree) = record { base = []; left = []; right = [] }
 example_of rules (Match table rule) = record { base = []; left = []; right = [] }
 
 -- whether a MATCH along a reference of a table to another one is true of the samples

@@ -4,17 +4,17 @@ use Rattle.std.specs.List.{list_any, list_all}
 use Rattle.update_model.specs.declared.value.Value.{Value}
 use Rattle.update_model.specs.declared.value.Value.TheVariants as value
 use Rattle.update_model.specs.Node.{NodeData}
-use Rattle.row_check.specs.declared.expr.Expr.{Expr}
-use Rattle.row_check.specs.Meaning.{holds as holds_of_row, value_at}
+use Rattle.row_check.specs.Meaning.{value_at}
+use Rattle.expression_text.specs.Trees.{Tree, holds_tree}
 use Rattle.schema.specs.declared.action.Action.{Action}
 use Rattle.schema.specs.declared.column.Column.{Column}
 use Rattle.schema.specs.declared.invariant.Invariant.{Invariant}
 use Rattle.schema.specs.declared.invariant.InvariantKind.{InvariantKind}
 use Rattle.schema.specs.declared.invariant.InvariantKind.TheVariants as kind
-use Rattle.schema.specs.declared.rules.CheckRule.{CheckRule}
 use Rattle.schema.specs.declared.rules.MatchRule.{MatchRule}
 use Rattle.schema.specs.declared.rules.UniqueRule.{UniqueRule}
 use Rattle.schema.specs.declared.table_def.TableDef.{TableDef}
+use Rattle.schema.specs.Checks.{CheckData}
 use Rattle.schema.specs.Columns.{target_of}
 use Rattle.schema.specs.Visible.{Rules, TableRow, same_row, shown_rows}
 use Rattle.schema.specs.Verdicts.{effects_in, in_table, unique_holds, at_most_holds, matches_among}
@@ -27,8 +27,8 @@ pub data Claim : Type 0 where
   AtMost : (table count : ℕ) → Claim
   -- where the table's column is not null, it names a row of the target
   Refers : (table column target : ℕ) (act : Action) → Claim
-  -- the expression is true of each row of the table
-  Check : (table : ℕ) (expr : Expr) → Claim
+  -- the question is true of each row of the table
+  Check : (table : ℕ) (tree : Tree) → Claim
   -- the comparison is true of each row of the table and the row that it names
   Match : (table : ℕ) (rule : MatchRule) → Claim
 
@@ -59,8 +59,8 @@ refers_declared table place line (Some target) = declared_at kind.Reference tabl
 abbrev pub reference_declared : ℕ → ℕ → Column → List Declared
 reference_declared table place column = refers_declared table place column.line (target_of column.kind)
 
-abbrev pub check_declared : ℕ → ℕ → CheckRule → List Declared
-check_declared table place rule = declared_at kind.Check table place rule.line (Check table rule.expr)
+abbrev pub check_declared : ℕ → ℕ → CheckData → List Declared
+check_declared table place rule = declared_at kind.Check table place rule.line (Check table rule.tree)
 
 abbrev pub match_declared : ℕ → ℕ → MatchRule → List Declared
 match_declared table place rule = declared_at kind.Match table place rule.line (Match table rule)
@@ -96,7 +96,7 @@ abbrev pub claim_holds : Rules → List TableRow → Claim → Bool
 claim_holds rules rows (Unique table column) = unique_holds rows table column
 claim_holds rules rows (AtMost table count) = at_most_holds rows table count
 claim_holds rules rows (Refers table column target act) = each_row rows table (λ row. names_shown rows target (value_at row.values column))
-claim_holds rules rows (Check table expr) = each_row rows table (λ row. holds_of_row rules.ask row.values expr)
+claim_holds rules rows (Check table tree) = each_row rows table (λ row. holds_tree rules.ask row.values tree)
 claim_holds rules rows (Match table rule) = each_row rows table (λ row. matches_among rows row.values rule (value_at row.values rule.reference))
 
 -- the shown rows of a closed list

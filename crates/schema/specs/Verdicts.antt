@@ -14,15 +14,15 @@ use Rattle.update_model.specs.Node.{NodeData}
 use Rattle.row_check.specs.declared.cmp.Cmp.TheVariants as cmp
 use Rattle.row_check.specs.Comparisons.{compares}
 use Rattle.row_check.specs.Meaning.{value_at}
-use Rattle.row_check.specs.Meaning.{holds as holds_of_row}
+use Rattle.expression_text.specs.Trees.{holds_tree}
 use Rattle.schema.specs.declared.column.Column.{Column}
 use Rattle.schema.specs.declared.column.ColumnKind.{ColumnKind}
 use Rattle.schema.specs.declared.column.ColumnKind.TheVariants as kind
-use Rattle.schema.specs.declared.rules.CheckRule.{CheckRule}
 use Rattle.schema.specs.declared.rules.MatchRule.{MatchRule}
 use Rattle.schema.specs.declared.table_def.TableDef.{TableDef}
 use Rattle.schema.specs.declared.verdict.Verdict.{Verdict}
 use Rattle.schema.specs.declared.verdict.Verdict.TheVariants as verdict
+use Rattle.schema.specs.Checks.{CheckData}
 use Rattle.schema.specs.Columns.{is_restrict}
 use Rattle.schema.specs.Visible.{Rules, TableRow, RowRef, refs, Effects, visible_rows, same_row, table_of}
 
@@ -48,8 +48,8 @@ all_fit (column ∷ columns) [] = false
 all_fit (column ∷ columns) (value ∷ values) = fits column value && all_fit columns values
 
 -- whether every CHECK is true of a row
-abbrev pub checks_hold : (ℕ → List Value → Bool) → List Value → List CheckRule → Bool
-checks_hold ask values checks = list_all (λ check. holds_of_row ask values check.expr) checks
+abbrev pub checks_hold : (ℕ → List Value → Bool) → List Value → List CheckData → Bool
+checks_hold ask values checks = list_all (λ check. holds_tree ask values check.tree) checks
 
 -- whether the row that a reference names stands among these, in the table that the reference is to
 abbrev pub stands_among : List TableRow → RowRef → Bool
