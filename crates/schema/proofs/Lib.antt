@@ -11,6 +11,7 @@ pub mod Arrivals
 pub mod AtMostRefused
 pub mod Confirmed
 pub mod DeclaredClaims
+pub mod DeclaredSamples
 pub mod FirstRefused
 pub mod Founded
 pub mod Naming

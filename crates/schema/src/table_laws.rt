@@ -1,7 +1,7 @@
 //! Laws of tables. Each function does nothing: its contract is a theorem for callers to cite. Lists of nodes stand newest
 //! first, and `ask` is whatever native checks mean.
 
-ghost use Rattle.std.specs.Prelude.{◌≡◌, List, [], ◌∷◌, ◌++◌, Contains, reverse, IsTrue, false, filter, if◌then◌else◌};
+ghost use Rattle.std.specs.Prelude.{◌≡◌, ℕ, List, [], ◌∷◌, ◌++◌, Contains, reverse, IsTrue, false, filter, if◌then◌else◌};
 ghost use Rattle.std.specs.List.{list_all};
 ghost use Rattle.std.specs.List.Sorted.{IsPermutation};
 ghost use Rattle.update_model.specs.declared.row_name.RowName.{RowName};
@@ -15,10 +15,13 @@ ghost use Rattle.schema.specs.Confluence.{IsConfluent, accepts, are_accepted, co
 ghost use Rattle.schema.specs.Examples.{SamplesPass, example_of};
 ghost use Rattle.schema.specs.Invariants.{Claim, Declared, claim_holds, claims_of, invariants_of, shown_in};
 ghost use Rattle.schema.specs.Nodes.{Agree, AreNodesOf, IsClosed, IsSameSet, union};
+ghost use Rattle.schema.specs.Schemas.{Meaning, SchemaData, Declares};
 ghost use Rattle.schema.specs.Sound.{AreTables};
 ghost use Rattle.schema.specs.Tables.{AreTablesOf};
 ghost use Rattle.schema.specs.Verdicts.{Judged, all_fit, ancestor_of, effects, effects_in, effects_of, is_unlimited, is_valid, joined, judge_next, judged, limits_hold, nothing, verdict_after, verdict_on};
 ghost use Rattle.schema.specs.Visible.{Effects, Rules, TableRow, is_visible, shows, table_of, visible_rows};
+
+use expression_text::one_expression;
 
 /// A list that is closed in the order of arrival is closed newest first.
 pub fn arrivals_are_closed()
@@ -93,6 +96,14 @@ pub fn first_refused_is_confirmed()
         → invariants_of rules ≡ earlier ++ declared ∷ later → IsTrue (are_accepted rules earlier) → accepts rules declared.claim ≡ false
         → IsTrue (confirms rules (claims_of earlier) declared.claim (example_of rules declared.claim)) }
 {}
+
+/// The samples of a schema that a text declares pass under the meaning of native checks under which it is declared.
+pub fn declared_samples_pass()
+    ensures { (relation : Meaning) (text : List ℕ) (schema : SchemaData) → Declares relation text schema
+        → SamplesPass (record { tables = schema.tables; ask = relation }) }
+{
+    one_expression();
+}
 
 /// Every row that a closed list shows fits the columns of its table.
 pub fn shown_rows_fit()
