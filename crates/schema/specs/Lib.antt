@@ -1,10 +1,17 @@
 pub mod Checks
 pub mod Columns
+pub mod Confluence
 pub mod Drafts
+pub mod Examples
 pub mod Faults
 pub mod Forms
+pub mod Invariants
+pub mod Nodes
 pub mod Outcome
 pub mod Rows
 pub mod Schemas
 pub mod Sound
 pub mod Steps
+pub mod Tables
+pub mod Verdicts
+pub mod Visible
