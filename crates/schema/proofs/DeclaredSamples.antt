@@ -93,9 +93,9 @@ more_behind : (relation : Meaning) (before more : List TableDef) (table : TableD
 more_behind relation before more table sound is = record {
   checks = is.checks;
   matches = by_reference (length before) table.columns sound (placed_matches before (length before) table.sample) (placed_matches (before ++ more) (length before) table.sample)
-  (λ rule target low h. unless_own target.0 (length before) _ _ low
+      (λ rule target low h. unless_own target.0 (length before) _ _ low
       (λ lower. ap (λ (t : TableDef). compares rule.cmp (value_at table.sample rule.column) (value_at t.sample rule.target_column)) (found_with_more before more missing_table target.0 lower)) h)
-  (λ rule. refl) table.matches is.matches;
+      (λ rule. refl) table.matches is.matches;
 }
 
 -- the sample line of a table
@@ -105,9 +105,9 @@ sample_passes relation d values s g =
     let row = sample_row d.table.columns values in record {
       checks = g.sample.1.1;
       matches = by_reference (length d.tables) d.table.columns s.table.columns (matches_target d row) (placed_matches d.tables (length d.tables) row)
-      (λ rule target low h. unless_own target.0 (length d.tables) _ _ low
+          (λ rule target low h. unless_own target.0 (length d.tables) _ _ low
           (λ lower. ap (λ (t : TableDef). compares rule.cmp (value_at row rule.column) (value_at t.sample rule.target_column)) (found_there d.tables d.table missing_table target.0 lower)) h)
-      (λ rule. refl) d.table.matches g.sample.1.2;
+          (λ rule. refl) d.table.matches g.sample.1.2;
     }
 
 pass_on : (relation : Meaning) (n : ℕ) (d : Draft) (f : Form) (next : Draft) → IsDraft d → PassEach relation [] d.tables → IsGood relation d f → IsAfter n d f next → PassEach relation [] next.tables
@@ -156,7 +156,7 @@ tables_pass relation tables a p =
     λ number rule. elim [ None ↦ λ h. h | Some target ↦ λ h. h ] in record {
       checks = λ number. (at number).checks;
       matches = λ number. all_weaker (λ rule. placed_matches tables number (table_number tables number).sample rule (reference_at (table_number tables number).columns rule.reference)) _
-      (λ rule h. same number rule (reference_at (table_number tables number).columns rule.reference) h) (table_number tables number).matches (at number).matches;
+          (λ rule h. same number rule (reference_at (table_number tables number).columns rule.reference) h) (table_number tables number).matches (at number).matches;
     }
 
 -- the samples of every schema that a text declares

@@ -76,10 +76,11 @@ pub use shown_row_list::ShownRowList;
 pub use table_def::TableDef;
 pub use table_laws::{
     accepted_holds, accepted_is_confluent, arrivals_are_closed, confirmed_refutes,
-    declared_samples_pass, effects_one_by_one, first_refused_is_confirmed, invariants_are_of_the_set, judged_one_by_one,
-    shown_rows_fit, tables_are_of_the_set, union_is_closed, union_is_of_both,
-    unlimited_tables_hold, verdict_goes_by_operations, verdict_is_on_ancestors,
-    verdicts_are_of_the_set, visible_is_shown, visible_rows_are_of_the_set,
+    declared_samples_pass, effects_one_by_one, first_refused_is_confirmed,
+    invariants_are_of_the_set, judged_one_by_one, shown_rows_fit, tables_are_of_the_set,
+    union_is_closed, union_is_of_both, unlimited_tables_hold, verdict_goes_by_operations,
+    verdict_is_on_ancestors, verdicts_are_of_the_set, visible_is_shown,
+    visible_rows_are_of_the_set,
 };
 pub use verdict::Verdict;
 pub use void_line::VoidLine;
