@@ -477,37 +477,46 @@ fn judges_authors(rt: HostRuntime) -> Result<(), Fail> {
 fn reads_worked_schemas(rt: HostRuntime) -> Result<(), Fail> {
     let alloc = rt.alloc();
     let tasks = schema(alloc, TASKS)?;
-    assert_eq!(rt; tasks.tables(), 2);
     assert_eq!(rt; tasks.table_named("task"), Some(1));
     assert_eq!(rt; tasks.table_named("tasks"), None);
     assert_eq!(rt; tasks.text(), TASKS.as_bytes());
     assert!(rt; tasks.rule().authors.as_slice().is_empty());
+    assert!(rt; tasks.tables() == 2);
     let task = tasks.table(1);
-    assert_eq!(rt; task.columns.as_slice().len(), 5);
-    assert_eq!(rt; task.checks.as_slice()[1].line, 13);
-    assert!(rt; fits_column(&task.columns.as_slice()[1], &Value::Int(9)));
-    assert!(rt; !fits_column(&task.columns.as_slice()[1], &Value::Null));
-    assert!(rt;
-        matches!(
-            task.columns.as_slice()[4].kind,
-            ColumnKind::Reference { target: 1, .. }
-        )
-    );
-    let rule = task.matches.as_slice()[0];
+    let columns = task.columns.as_slice();
+    assert!(rt; columns.len() == 5);
+    assert!(rt; fits_column(&columns[1], &Value::Int(9)));
+    assert!(rt; !fits_column(&columns[1], &Value::Null));
+    let after = &columns[4];
+    assert!(rt; matches!(after.kind, ColumnKind::Reference { target: 1, .. }));
+    let checks = task.checks.as_slice();
+    assert!(rt; checks.len() == 2);
+    let second = &checks[1];
+    assert_eq!(rt; second.line, 13);
+    let rules = task.matches.as_slice();
+    assert!(rt; rules.len() == 1);
+    let rule = &rules[0];
     assert_eq!(rt;
         (rule.column, rule.reference, rule.target_column, rule.line),
         (1, 3, 1, 14)
     );
-    assert_eq!(rt;
-        schema(alloc, USERS)?.table(0).uniques.as_slice()[0].line,
-        4
-    );
+    Ok(())
+}
+
+#[test]
+fn reads_other_worked_schemas(rt: HostRuntime) -> Result<(), Fail> {
+    let alloc = rt.alloc();
+    let users = schema(alloc, USERS)?;
+    assert!(rt; users.tables() == 1);
+    let user = users.table(0);
+    let uniques = user.uniques.as_slice();
+    assert!(rt; uniques.len() == 1);
+    let unique = &uniques[0];
+    assert_eq!(rt; unique.line, 4);
+    let database = users.rule().database;
+    assert_eq!(rt; &database[..4], [0xe0, 0x4e, 0xbe, 0x00].as_slice());
     assert_eq!(rt; schema(alloc, CHAIN)?.tables(), 3);
     assert_eq!(rt; schema(alloc, CLUB)?.tables(), 3);
-    assert_eq!(rt;
-        &schema(alloc, USERS)?.rule().database[..4],
-        [0xe0, 0x4e, 0xbe, 0x00].as_slice()
-    );
     Ok(())
 }
 
