@@ -34,6 +34,6 @@ mod testing;
 #[cfg(test)]
 mod tests;
 
-pub use laws::refused_is_confirmed;
+pub use laws::{declared_refusal_is_confirmed, refused_is_confirmed};
 pub use tested::Tested;
 pub use testing::test;
