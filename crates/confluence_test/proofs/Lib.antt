@@ -1,0 +1,11 @@
+mod Chains
+mod Fills
+mod Listing
+mod Needing
+mod Once
+mod Sounds
+mod Permanents
+mod Paths
+mod Scans
+mod Askings
+mod Restricts

@@ -1,0 +1,15 @@
+use schema::{Counterexample, Invariant};
+
+/// What the confluence test says of a schema.
+#[derive(Debug, Drop)]
+pub enum Tested {
+    /// Every invariant survives merging.
+    Accepted,
+    /// One does not.
+    Refused {
+        /// The first invariant that is refused.
+        which: Invariant,
+        /// A history that breaks it.
+        example: Counterexample,
+    },
+}
