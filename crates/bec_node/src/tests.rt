@@ -192,7 +192,7 @@ fn changed(
 ) -> Result<Vec<u8>, Fail> {
     let mut other = Vec::from_slice(rt.alloc(), record)?;
     for (step, byte) in bytes.iter().enumerate() {
-        let at = 4 + place + step;
+        let at = place.saturating_add(step).saturating_add(4);
         assert!(rt; at < other.len());
         other[at] = *byte;
     }
@@ -292,7 +292,7 @@ fn checks_schemas(rt: HostRuntime) -> Result<(), Fail> {
     }
     expect_check(&rt, "", 1, "! schema line 1: line")?;
     let mut long = String::from_str(alloc, TASKS)?;
-    while long.len() <= 65_536 {
+    for _ in 0..6_600 {
         long.push_str("# nothing\n")?;
     }
     expect_check(&rt, &long, 1, "! schema line 0: limit")
