@@ -14,8 +14,6 @@
 
 mod ancestry;
 mod laws;
-#[cfg(test)]
-mod tests;
 mod walk;
 
 pub use ancestry::{Ancestry, MAX_MEMBERS};

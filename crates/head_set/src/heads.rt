@@ -99,10 +99,7 @@ impl Heads {
     pub fn copy(&self, alloc: Global) -> Result<Heads, AllocError>
         ensures { IfOk result (λ heads. heads ≡ self.now) }
     {
-        let mut ids = BTreeSet::new(alloc);
-        for id in &self.ids {
-            ids.insert(*id)?;
-        }
+        let ids = self.ids.clone()?;
         Ok(Heads { ids })
     }
 }
