@@ -1,11 +1,12 @@
 -- The sweep from a member down: what its marks mean after each step.
-use Rattle.std.proofs.Common.{◌≡◌, ◌≢◌, ◌⊎◌, inl, inr, ℕ, zero, suc, ◌+◌, ◌-◌, ◌<◌, ◌≤◌, Bool, true, false, ◌||◌, List, [], ◌∷◌, length, refl, sym, ap, subst, ◌∙◌, arith, Contains, slice_index_or, set, replicate, get_or}
+use Rattle.std.proofs.Common.{◌≡◌, ◌≢◌, ◌⊎◌, inl, inr, ℕ, zero, suc, ◌+◌, ◌-◌, ◌<◌, ◌≤◌, Bool, true, false, ◌||◌, List, [], ◌∷◌, length, refl, sym, ap, subst, ◌∙◌, arith, Contains, slice_index_or, set, replicate, get_or, All, take, drop, ◌++◌}
 use Rattle.std.specs.Prelude.{◌==◌}
 use Rattle.std.specs.List.{list_any, AllByRecursion}
 use Rattle.std.proofs.lemmas.Bool.{eqb-true, eq-eqb, cases_lt}
 use Rattle.std.proofs.lemmas.Bool.Decides.{eqb_tells}
-use Rattle.std.proofs.lemmas.List.{get_or-set_same, get_or-set_other, get_or-replicate, get_or_past, length-set, length-replicate}
-use Rattle.std.proofs.lemmas.List.Elements.{All-contains}
+use Rattle.std.proofs.lemmas.Option.{unwrap_or-slice_get}
+use Rattle.std.proofs.lemmas.List.{get_or_read, take_at, get_or-set_same, get_or-set_other, get_or-replicate, get_or_past, length-set, length-replicate}
+use Rattle.std.proofs.lemmas.List.Elements.{All-contains, All-weaker}
 use Rattle.update_model.proofs.Heads.{witness, any_from_member}
 use Rattle.ancestry.specs.Walks.{preds_at, AreLower, is_ancestor}
 use Rattle.ancestry.proofs.Steps.{by_predecessors, not_below}
@@ -141,6 +142,27 @@ module _ (graph : List (List ℕ)) (a b k : ℕ) (marks new : List Bool) (lower 
 
   pub swept_marked : length new ≡ length marks → IsSwept graph a b (k + 1) marks → IsSwept graph a b k new
   swept_marked long swept = record { sound = new_sound swept long; complete = new_complete swept }
+
+-- what the member that the sweep comes to names
+preds_read : (graph : List (List ℕ)) (i : ℕ) (preds : List ℕ) → i < length graph → preds ≡ get_or graph i preds → preds_at graph i ≡ preds
+preds_read graph i preds low is = unwrap_or-slice_get graph i [] ∙ sym (get_or_read graph i preds low is [])
+
+pub named_within : (graph : List (List ℕ)) (a k n : ℕ) (preds : List ℕ) → AreLower graph → a + k < length graph → preds ≡ get_or graph (a + k) preds → k < n → All (λ p. p < a + n) preds
+named_within graph a k n preds lower held is low =
+    All-weaker (λ p. p < a + k) (λ p. p < a + n) (λ p below. omega arith) preds
+    (subst (All (λ p. p < a + k)) (preds_read graph (a + k) preds held is) (lower (a + k)))
+
+pub swept_next : (graph : List (List ℕ)) (a b k last : ℕ) (marks new : List Bool) (preds : List ℕ) (mark : Bool) → AreLower graph → 0 < k → last ≡ k + 1 → k < length marks → a + k < length graph
+    → mark ≡ get_or marks k mark → mark ≡ true → preds ≡ get_or graph (a + k) preds → length new ≡ length marks
+    → ((j : ℕ) → j < length marks → mark_at new j ≡ (mark_at marks j || list_any (λ p. p == a + j) preds)) → IsSwept graph a b last marks → IsSwept graph a b k new
+swept_next graph a b k last marks new preds mark lower high is_last low held reads marked are_preds long are swept =
+    swept_marked graph a b k marks new lower high low (sym (get_or_read marks k mark low reads false) ∙ marked)
+    (λ j below. are j below ∙ ap (λ (ps : List ℕ). mark_at marks j || list_any (λ p. p == a + j) ps) (sym (preds_read graph (a + k) preds held are_preds)))
+    long (subst (λ n. IsSwept graph a b n marks) is_last swept)
+
+-- marks that are lent whole and come back
+pub put_back : (n : ℕ) (new items : List Bool) → length new ≡ n → take n (new ++ drop (length new) items) ≡ new
+put_back n new items long = take_at new (drop (length new) items) n long
 
 -- ---- the answer
 

@@ -94,7 +94,8 @@ impl Ancestors for Ancestry {
 
     /// Positions that no member has are nobody's ancestors, and have none.
     fn is_ancestor(&self, alloc: Global, a: u32, b: u32) -> Result<bool, AllocError> {
-        if b <= a || self.len() <= b {
+        let len = self.len();
+        if b <= a || len <= b {
             return Ok(false);
         }
         reaches(alloc, self.members.as_slice(), a as usize, b as usize)

@@ -14,6 +14,8 @@
 
 mod ancestry;
 mod laws;
+#[cfg(test)]
+mod tests;
 mod walk;
 
 pub use ancestry::{Ancestry, MAX_MEMBERS};
