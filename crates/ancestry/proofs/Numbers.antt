@@ -11,7 +11,7 @@ use Rattle.update_model.specs.Graph.{has, holds, position_of, IsNext, IsClosed, 
 use Rattle.update_model.proofs.Closed.{Follows-at}
 use Rattle.update_model.proofs.Heads.{witness, any_from_member}
 use Rattle.update_model.proofs.Ids.{id_from_same, same_id-refl, same_id-symm}
-use Rattle.ancestry.specs.Numbered.{AreNumbered}
+use Rattle.ancestry.specs.Numbered.{AreNumbered, ArePlaces}
 use Rattle.ancestry.specs.Walks.{preds_at, AreLower, leads_in, is_ancestor}
 use Rattle.ancestry.proofs.Steps.{by_predecessors}
 
@@ -74,15 +74,12 @@ placed graph k e closed at =
 
 -- ---- predecessors by ids and by positions
 
-abbrev pub Placed : List Entry → List UpdateId → List ℕ → Type 0
-Placed graph ids places = AllZip (λ id place. position_of graph id ≡ Some place) ids places
-
 or_right : (a b : Bool) → b ≡ true → (a || b) ≡ true
 or_right true b e = refl
 or_right false b e = e
 
 -- a place of the list is that of an id
-place_to_id : (graph : List Entry) (f : ℕ → Bool) (ids : List UpdateId) (places : List ℕ) → Placed graph ids places → list_any f places ≡ true
+place_to_id : (graph : List Entry) (f : ℕ → Bool) (ids : List UpdateId) (places : List ℕ) → ArePlaces graph ids places → list_any f places ≡ true
     → (id : UpdateId) × (place : ℕ) × (has ids id ≡ true) × (position_of graph id ≡ Some place) × (f place ≡ true)
 place_to_id graph f [] [] all any = absurd cc
 place_to_id graph f [] (p ∷ ps) all any = absurd all
@@ -96,7 +93,7 @@ place_to_id graph f (id ∷ ids) (p ∷ ps) all any = by_case (place_to_id graph
 
 -- an id of the list has its place there
 id_to_place : (graph : List Entry) (f : ℕ → Bool) (q : UpdateId) (place : ℕ) → position_of graph q ≡ Some place → f place ≡ true
-    → (ids : List UpdateId) (places : List ℕ) → Placed graph ids places → has ids q ≡ true → list_any f places ≡ true
+    → (ids : List UpdateId) (places : List ℕ) → ArePlaces graph ids places → has ids q ≡ true → list_any f places ≡ true
 id_to_place graph f q place at passes [] [] all any = absurd cc
 id_to_place graph f q place at passes [] (p ∷ ps) all any = absurd all
 id_to_place graph f q place at passes (id ∷ ids) [] all any = absurd all
@@ -122,16 +119,16 @@ zip_right R [] (b ∷ ys) k y all at = absurd all
 zip_right {A} {B} R (a ∷ xs) (b ∷ ys) zero y all at = let is : b ≡ y = cc in (a, refl, subst (λ (z : B). R a z) is all.0)
 zip_right R (a ∷ xs) (b ∷ ys) (suc k) y all at = zip_right R xs ys k y all.1 at
 
-named_places : (graph : List Entry) (positions : List (List ℕ)) (k : ℕ) (e : Entry) → AreNumbered graph positions → slice_get graph k ≡ Some e → Placed graph e.preds (preds_at positions k)
+named_places : (graph : List Entry) (positions : List (List ℕ)) (k : ℕ) (e : Entry) → AreNumbered graph positions → slice_get graph k ≡ Some e → ArePlaces graph e.preds (preds_at positions k)
 named_places graph positions k e numbered at =
-    let places = zip_left (λ (m : Entry) ps. Placed graph m.preds ps) graph positions k e numbered at in
+    let places = zip_left (λ (m : Entry) ps. ArePlaces graph m.preds ps) graph positions k e numbered at in
     let is : preds_at positions k ≡ places.0 = ap (λ (o : Option (List ℕ)). unwrap_or o []) places.1 in
-    subst (λ (ps : List ℕ). Placed graph e.preds ps) (sym is) places.2
+    subst (λ (ps : List ℕ). ArePlaces graph e.preds ps) (sym is) places.2
 
 -- ---- positions are lower
 
 lower_each : (graph : List Entry) (front : List Entry) (back : List Entry) (k : ℕ) → graph ≡ front ++ back → length front ≡ k → (ids : List UpdateId) (places : List ℕ)
-    → Placed graph ids places → AllByRecursion (λ id. holds front id ≡ true) ids → AllByRecursion (λ p. p < k) places
+    → ArePlaces graph ids places → AllByRecursion (λ id. holds front id ≡ true) ids → AllByRecursion (λ p. p < k) places
 lower_each graph front back k is long [] [] all held = tt
 lower_each graph front back k is long [] (p ∷ ps) all held = absurd all
 lower_each graph front back k is long (id ∷ ids) [] all held = absurd all
@@ -146,7 +143,7 @@ numbered_lower graph positions closed numbered = λ b. All-from_recursion (λ p.
     by_case : (b : ℕ) (o : Option (List ℕ)) → slice_get positions b ≡ o → AllByRecursion (λ p. p < b) (unwrap_or o [])
     by_case b None none = tt
     by_case b (Some ps) at =
-        let mine = zip_right (λ (m : Entry) qs. Placed graph m.preds qs) graph positions b ps numbered at in
+        let mine = zip_right (λ (m : Entry) qs. ArePlaces graph m.preds qs) graph positions b ps numbered at in
         let parts = split_at graph b mine.0 mine.1 in
         let next : IsNext parts.0 mine.0 = Follows-at [] parts.0 parts.1 mine.0 (subst IsClosed parts.2 closed) in
         lower_each graph parts.0 (mine.0 ∷ parts.1) b parts.2 parts.3 mine.0.preds ps mine.2

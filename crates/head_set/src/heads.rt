@@ -8,6 +8,7 @@ ghost use Rattle.head_set.specs.Grown.{KeepsHeads};
 
 use std::alloc::{AllocError, Global};
 use std::collections::BTreeSet;
+use std::collections::btree_set::Iter;
 use std::marker::Model;
 use update_model::UpdateId;
 
@@ -81,6 +82,13 @@ impl Heads {
         ensures { IsTrue result ↔ (length self.now ≡ 0) }
     {
         self.ids.is_empty()
+    }
+
+    /// The ids of the heads, rising, one after another.
+    pub fn iter(&self) -> Iter<'_, UpdateId>
+        ensures { result ≡ self.now }
+    {
+        self.ids.iter()
     }
 
     /// The ids of the heads, rising.
