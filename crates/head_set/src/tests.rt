@@ -38,6 +38,7 @@ fn follows_a_small_graph(rt: HostRuntime) -> Result<(), Fail> {
     }
     let copy = heads.copy(alloc)?;
     assert!(rt; copy.contains(&id(9)) && !copy.contains(&id(5)));
+    assert!(rt; copy.iter().next() == Some(&id(1)));
     Ok(())
 }
 
