@@ -1,11 +1,11 @@
 -- Numbers of a graph that grows, and of the members in front.
-use Rattle.std.proofs.Common.{◌≡◌, ℕ, ◌+◌, ◌<◌, Bool, true, false, cond, ◌||◌, List, [], ◌∷◌, ◌++◌, length, Some, refl, sym, ◌∙◌, arith, All, Contains, take, zero, suc}
+use Rattle.std.proofs.Common.{◌≡◌, ℕ, ◌+◌, ◌<◌, Bool, true, false, cond, ◌||◌, List, [], ◌∷◌, ◌++◌, length, Some, refl, sym, ◌∙◌, arith, All, Contains, take}
 use Rattle.std.specs.List.{list_any, position_from, AllByRecursion, AllZip}
 use Rattle.std.proofs.lemmas.List.Elements.{All-from_recursion, Contains-append_right}
 use Rattle.std.proofs.lemmas.Option.{slice_get_within}
 use Rattle.update_model.specs.declared.update_id.UpdateId.{UpdateId}
 use Rattle.update_model.specs.Entry.{Entry, same_id}
-use Rattle.update_model.specs.Graph.{has, holds, position_of, IsClosed}
+use Rattle.update_model.specs.Graph.{has, holds, IsClosed}
 use Rattle.update_model.proofs.Heads.{holds-named, any_from_member}
 use Rattle.update_model.proofs.Ids.{same_id-refl}
 use Rattle.ancestry.specs.Numbered.{AreNumbered, ArePlaces}

@@ -1,5 +1,5 @@
 -- Ancestors by positions are ancestors by ids.
-use Rattle.std.proofs.Common.{◌≡◌, ◌⊎◌, inl, inr, ℕ, zero, suc, ◌+◌, ◌<◌, ◌≤◌, Bool, true, false, cond, ◌||◌, List, [], ◌∷◌, ◌++◌, length, refl, sym, ap, subst, ◌∙◌, arith, Contains, Some, None, slice_get, zero-add}
+use Rattle.std.proofs.Common.{◌≡◌, ◌⊎◌, inl, inr, ℕ, zero, suc, ◌+◌, ◌<◌, Bool, true, false, cond, ◌||◌, List, [], ◌∷◌, ◌++◌, length, refl, sym, ap, subst, ◌∙◌, arith, Contains, Some, None, slice_get, zero-add}
 use Rattle.std.specs.Prelude.{◌==◌, ◌↔◌, Option, unwrap_or}
 use Rattle.std.specs.List.{list_any, position_from, AllByRecursion, AllZip}
 use Rattle.std.proofs.lemmas.Bool.{eqb-true, eq-eqb}
@@ -9,8 +9,7 @@ use Rattle.update_model.specs.declared.update_id.UpdateId.{UpdateId}
 use Rattle.update_model.specs.Entry.{Entry, same_id}
 use Rattle.update_model.specs.Graph.{has, holds, position_of, IsNext, IsClosed, IsAncestor, named, through}
 use Rattle.update_model.proofs.Closed.{Follows-at}
-use Rattle.update_model.proofs.Heads.{witness, any_from_member}
-use Rattle.update_model.proofs.Ids.{id_from_same, same_id-refl, same_id-symm}
+use Rattle.update_model.proofs.Ids.{id_from_same, same_id-refl}
 use Rattle.ancestry.specs.Numbered.{AreNumbered, ArePlaces}
 use Rattle.ancestry.specs.Walks.{preds_at, AreLower, leads_in, is_ancestor}
 use Rattle.ancestry.proofs.Steps.{by_predecessors}

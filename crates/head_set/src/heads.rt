@@ -51,7 +51,7 @@ impl Heads {
     /// closed graph are now those of the graph with the update. It gives up where memory runs out, and then nothing
     /// has changed.
     pub fn add(&mut self, id: UpdateId, preds: &[UpdateId]) -> Result<(), AllocError>
-        requires { length self.old < 131072 }
+        requires { length self.old < MAX_HEADS }
         ensures exact { OnOk result ((x : Id) → has self.new x ≡ ((same_id x id || has self.old x) && not (has preds.now x))) }
         ensures graph { OnOk result (KeepsHeads self.old id preds.now self.new) }
         ensures same { OnErr result (self.new ≡ self.old) }
@@ -71,7 +71,7 @@ impl Heads {
     /// How many heads there are, and what holds of them all.
     pub fn len(&self) -> u32
         ensures value { result ≡ length self.now }
-        ensures few { length self.now ≤ 131072 }
+        ensures few { length self.now ≤ MAX_HEADS }
         ensures rising { IsStrictlySortedBy id_cmp self.now }
     {
         self.ids.len() as u32

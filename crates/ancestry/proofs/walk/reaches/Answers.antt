@@ -1,6 +1,6 @@
-use Rattle.std.proofs.Common.{◌≡◌, ◌+◌, ◌-◌, ◌<◌, length, slice_set, true, false, subst, sym, ◌∙◌, refl, ap, arith, Bool, List}
+use Rattle.std.proofs.Common.{◌≡◌, ◌+◌, ◌-◌, length, slice_set, true, false, ◌∙◌, refl, ap, arith, Bool, List}
 use Rattle.std.proofs.lemmas.List.{length-set, length-replicate}
-use Rattle.ancestry.proofs.Sweep.{IsSwept, swept_first, swept_next, named_within, put_back}
+use Rattle.ancestry.proofs.Sweep.{swept_first, swept_next, named_within, put_back}
 use Rattle.ancestry.proofs.walk.reaches.Goals as goal
 
 pub loop-offset-init : goal.loop-offset-init
