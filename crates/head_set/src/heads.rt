@@ -107,7 +107,10 @@ impl Heads {
     pub fn copy(&self, alloc: Global) -> Result<Heads, AllocError>
         ensures { IfOk result (λ heads. heads ≡ self.now) }
     {
-        let ids = self.ids.clone()?;
+        let mut ids = BTreeSet::new(alloc);
+        for id in &self.ids {
+            ids.insert(*id)?;
+        }
         Ok(Heads { ids })
     }
 }
