@@ -1,6 +1,6 @@
 //! A diamond, and each call once.
 
-use crate::Ancestry;
+use crate::{Ancestry, MAX_MEMBERS};
 use std::alloc::{AllocError, Global};
 use std::test::Fail;
 use update_model::Ancestors;
@@ -61,11 +61,11 @@ fn walks_far(rt: HostRuntime) -> Result<(), Fail> {
     let mut ancestry = Ancestry::new(alloc);
     ancestry.add(&[])?;
     ancestry.add(&[])?;
-    for position in 2..131_072 {
+    for position in 2..MAX_MEMBERS {
         assert!(rt; ancestry.len() == position);
         ancestry.add(&[position - 2])?;
     }
-    assert!(rt; ancestry.is_ancestor(alloc, 1, 131_071)?);
-    assert!(rt; !ancestry.is_ancestor(alloc, 0, 131_071)?);
+    assert!(rt; ancestry.is_ancestor(alloc, 1, MAX_MEMBERS - 1)?);
+    assert!(rt; !ancestry.is_ancestor(alloc, 0, MAX_MEMBERS - 1)?);
     Ok(())
 }
