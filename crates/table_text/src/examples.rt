@@ -9,8 +9,8 @@ use schema::{Counterexample, Schema};
 use std::alloc::AllocError;
 use update_model::{Node, Op, UpdateId};
 
-/// Adds a counterexample at the end: a line for each operation, with its side `BASE`, `A` or `B`, the number of its update,
-/// and the operation with short names. First comes the base, then one side, then the other.
+/// Adds a counterexample at the end: a line for each operation, with its side `BASE`, `A` or `B`, the number of its
+/// update, and the operation with short names. First comes the base, then one side, then the other.
 pub fn push_counterexample(
     out: &mut Vec<u8>,
     schema: &Schema,

@@ -10,8 +10,8 @@ use schema::Schema;
 use std::alloc::AllocError;
 use update_model::{Op, Value};
 
-/// Adds an operation at the end as it stands in a transaction: `INSERT`, the table's name and the values, or `DELETE` and
-/// the row's name. In place of a table that the schema does not have its number is printed.
+/// Adds an operation at the end as it stands in a transaction: `INSERT`, the table's name and the values, or `DELETE`
+/// and the row's name. In place of a table that the schema does not have its number is printed.
 pub fn push_operation(
     out: &mut Vec<u8>,
     schema: &Schema,

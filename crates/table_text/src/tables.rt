@@ -9,8 +9,8 @@ use crate::values::push_values;
 use schema::{Schema, ShownRow, ShownRowList, TableDef, VoidLine};
 use std::alloc::AllocError;
 
-/// Adds the tables of a schema at the end, each with the rows of the list that has its number, and then the updates that do
-/// nothing. A table without a list is not printed, nor is a list without a table.
+/// Adds the tables of a schema at the end, each with the rows of the list that has its number, and then the updates that
+/// do nothing. A table without a list is not printed, nor is a list without a table.
 pub fn push_tables(
     out: &mut Vec<u8>,
     schema: &Schema,
@@ -36,7 +36,7 @@ pub fn push_table(out: &mut Vec<u8>, table: &TableDef, rows: &[ShownRow]) -> Res
     push_rows(out, rows)
 }
 
-/// Adds the line of an update that does nothing at the end: `VOID`, its id, the reason, and the number of the operation.
+/// Adds the line of an update that does nothing at the end: `VOID`, its id, the reason, and the operation's number.
 pub fn push_void(out: &mut Vec<u8>, line: &VoidLine) -> Result<(), AllocError>
     ensures { OnOk result (out.new.items ≡ out.old.items ++ void_text line.now) }
 {

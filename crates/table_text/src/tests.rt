@@ -86,7 +86,7 @@ fn node(alloc: Global, number: u8, op: Op) -> Result<Node, AllocError> {
 }
 
 /// A row that a table shows.
-fn shown(alloc: Global, index: u16, values: Vec<Value>) -> ShownRow {
+fn shown(index: u16, values: Vec<Value>) -> ShownRow {
     ShownRow {
         name: row(index),
         values: ValueList::from_vec(values),
@@ -154,7 +154,7 @@ fn prints_tables(rt: HostRuntime) -> Result<(), Fail> {
     let schema = chain(alloc)?;
     let first = Vec::from_array(alloc, [Value::Int(1)])?;
     let second = Vec::from_array(alloc, [Value::Int(-1), Value::Null])?;
-    let rows = [shown(alloc, 0, first), shown(alloc, 10, second)];
+    let rows = [shown(0, first), shown(10, second)];
     assert!(rt; schema.tables() > 0);
     let mut out = Vec::new(alloc);
     push_table(&mut out, schema.table(0), &rows)?;
@@ -168,7 +168,7 @@ fn prints_all_tables(rt: HostRuntime) -> Result<(), Fail> {
     let schema = chain(alloc)?;
     let first = Vec::from_array(alloc, [Value::Int(1)])?;
     let mut rows = ShownRowList::from_vec(Vec::new(alloc));
-    rows.push(shown(alloc, 0, first))?;
+    rows.push(shown(0, first))?;
     let lists = [rows, ShownRowList::from_vec(Vec::new(alloc))];
     let line = VoidLine {
         id: ID,

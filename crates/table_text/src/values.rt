@@ -9,8 +9,9 @@ use std::alloc::AllocError;
 use text_words::push_quoted;
 use update_model::Value;
 
-/// Adds a value at the end: `NULL`, `TRUE`, `FALSE`, an integer in decimal, a text in quotes as `text_words` prints it, or
-/// the name of a row. A reference to an earlier operation of the same update is `$` and that operation's number from 1.
+/// Adds a value at the end: `NULL`, `TRUE`, `FALSE`, an integer in decimal, a text in quotes as `text_words` prints it,
+/// or the name of a row. A reference to an earlier operation of the same update is `$` and that operation's number
+/// from 1.
 pub fn push_value(out: &mut Vec<u8>, style: NameStyle, value: &Value) -> Result<(), AllocError>
     ensures { OnOk result (out.new.items ≡ out.old.items ++ value_text style value.now) }
 {
