@@ -1,0 +1,2 @@
+//! Whether an update is valid, judged on what its ancestors did.
+#![tactic(auto)]
