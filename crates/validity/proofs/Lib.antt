@@ -1,3 +1,6 @@
 mod Asked
 mod Fitting
+mod Lent
 mod Named
+mod Reasons
+mod Steps

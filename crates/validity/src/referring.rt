@@ -1,10 +1,10 @@
 //! The rows that a new row refers to.
 
-ghost use Rattle.std.specs.Prelude.{◌≡◌, ◌&&◌, IfOk};
-ghost use Rattle.std.specs.List.{list_all};
+ghost use Rattle.std.specs.Prelude.{◌≡◌, ◌==◌, ◌&&◌, IfOk};
+ghost use Rattle.std.specs.List.{list_all, list_any};
 ghost use Rattle.row_check.specs.Meaning.{value_at};
 ghost use Rattle.schema.specs.Visible.{ref_in, refs_in, same_row};
-ghost use Rattle.validity.specs.Asked.{is_match, is_matched, match_asked, stands_asked};
+ghost use Rattle.validity.specs.Asked.{is_in, is_match, is_matched, match_asked, stands_asked};
 
 use crate::own_row::OwnRow;
 use row_check::compare;
@@ -62,16 +62,30 @@ fn stands<Q: RowsAt>(
 ) -> Result<bool, AllocError>
     ensures { IfOk result (λ answer. answer ≡ stands_asked own.now (Q.RowsAt.row rows.now) name.now target) }
 {
-    if own
-        .iter()
+    Ok(stands_own(name, target, own) || stands_visible(alloc, name, target, rows)?)
+}
+
+/// Whether the row with a name stands in a table, among the update's own.
+fn stands_own(name: &RowName, target: u8, own: &[OwnRow]) -> bool
+    ensures { result ≡ list_any (λ o. same_row o.name name.now && (o.entry.table == target)) own.now }
+{
+    own.iter()
         .any(|row| is_row(&row.name, name) && row.entry.table == target)
-    {
-        return Ok(true);
+}
+
+/// The same among the visible ones.
+fn stands_visible<Q: RowsAt>(
+    alloc: Global,
+    name: &RowName,
+    target: u8,
+    rows: &Q,
+) -> Result<bool, AllocError>
+    ensures { IfOk result (λ answer. answer ≡ is_in target (Q.RowsAt.row rows.now name.now)) }
+{
+    match rows.row_at(alloc, name)? {
+        Some(entry) => Ok(entry.table == target),
+        None => Ok(false),
     }
-    Ok(match rows.row_at(alloc, name)? {
-        Some(entry) => entry.table == target,
-        None => false,
-    })
 }
 
 /// Whether each MATCH is true of a new row with these values.
@@ -120,16 +134,34 @@ fn is_matched<Q: RowsAt>(
 ) -> Result<bool, AllocError>
     ensures { IfOk result (λ answer. answer ≡ match_asked own.now (Q.RowsAt.row rows.now) values.now rule.now (Value.Row name.now)) }
 {
-    if own
-        .iter()
+    Ok(
+        is_matched_own(name, rule, values, own)
+            || is_matched_visible(alloc, name, rule, values, rows)?,
+    )
+}
+
+/// Whether one of the update's own rows has this name, and a MATCH is true of it.
+fn is_matched_own(name: &RowName, rule: &MatchRule, values: &[Value], own: &[OwnRow]) -> bool
+    ensures { result ≡ list_any (λ o. same_row o.name name.now && is_match values.now rule.now o.entry.values) own.now }
+{
+    own.iter()
         .any(|row| is_row(&row.name, name) && is_match(values, rule, row.entry.values.as_slice()))
-    {
-        return Ok(true);
+}
+
+/// Whether a visible row has this name, and a MATCH is true of it.
+fn is_matched_visible<Q: RowsAt>(
+    alloc: Global,
+    name: &RowName,
+    rule: &MatchRule,
+    values: &[Value],
+    rows: &Q,
+) -> Result<bool, AllocError>
+    ensures { IfOk result (λ answer. answer ≡ is_matched values.now rule.now (Q.RowsAt.row rows.now name.now)) }
+{
+    match rows.row_at(alloc, name)? {
+        Some(entry) => Ok(is_match(values, rule, entry.values.as_slice())),
+        None => Ok(false),
     }
-    Ok(match rows.row_at(alloc, name)? {
-        Some(entry) => is_match(values, rule, entry.values.as_slice()),
-        None => false,
-    })
 }
 
 /// Whether a MATCH is true of these two rows.
