@@ -122,7 +122,7 @@ module _ (rules : Rules) (past : Effects) (row : RowName → Option RowEntry) (c
       elim (same_insert own did.inserted s (own_row node number table values) i) [
         | Some reason ↦ verdict.Void reason number
         | None ↦ same_verdict limits node (number + 1) (own ++ own_row node number table values ∷ []) names (record did { inserted = row_inserted node number table values ∷ did.inserted })
-          (more_rows own did.inserted (own_row node number table values) s) t ops i
+            (more_rows own did.inserted (own_row node number table values) s) t ops i
       ]
   same_verdict limits node number own names did s t (Delete name ∷ ops) = λ i.
       elim (same_delete names did.deleted t node.author name i) [

@@ -24,7 +24,7 @@ module _ (rules : Rules) (row : RowName → Option RowEntry) (child : RowName �
       → verdict_asked rules row child node number own deleted (drop i ops) ≡ all → verdict.Void reason number ≡ all
   unfolding verdict_asked
   void_at i number own deleted op reason all low is asked rest =
-      sym (ap (λ o. elim o [ | Some reason ↦ verdict.Void reason number | None ↦ verdict_asked rules row child node (number + 1) (own_after node number own op) (deleted_after deleted op) (drop (i + 1) ops) ]) asked)
+      sym (ap (λ o. elim o [ Some reason ↦ verdict.Void reason number | None ↦ verdict_asked rules row child node (number + 1) (own_after node number own op) (deleted_after deleted op) (drop (i + 1) ops) ]) asked)
       ∙ sym (ap (λ l. verdict_asked rules row child node number own deleted l) (at_drop ops i op low is)) ∙ rest
 
   -- it is done, and the rest decides
@@ -35,7 +35,7 @@ module _ (rules : Rules) (row : RowName → Option RowEntry) (child : RowName �
   unfolding verdict_asked
   on_at i number own deleted op all next more names low is asked next-is more-is names-is rest =
       (λ j. verdict_asked rules row child node (next-is j) (more-is j) (names-is j) (drop (i + 1) ops))
-      ∙ sym (ap (λ o. elim o [ | Some reason ↦ verdict.Void reason number | None ↦ verdict_asked rules row child node (number + 1) (own_after node number own op) (deleted_after deleted op) (drop (i + 1) ops) ]) asked)
+      ∙ sym (ap (λ o. elim o [ Some reason ↦ verdict.Void reason number | None ↦ verdict_asked rules row child node (number + 1) (own_after node number own op) (deleted_after deleted op) (drop (i + 1) ops) ]) asked)
       ∙ sym (ap (λ l. verdict_asked rules row child node number own deleted l) (at_drop ops i op low is)) ∙ rest
 
   -- at the end it is valid

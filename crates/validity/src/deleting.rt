@@ -57,8 +57,7 @@ fn is_deletable(schema: &Schema, row: &RowEntry) -> bool
 fn is_anothers(schema: &Schema, author: &AuthorKey, row: &RowEntry) -> bool
     ensures { (ask : Meaning) → result ≡ is_anothers (record { tables = schema.now.tables; ask = ask }) author.now (Some row.now) }
 {
-    table_at(schema, row.table).is_some_and(|table| table.owned)
-        && !is_author(&row.author, author)
+    table_at(schema, row.table).is_some_and(|table| table.owned) && !is_author(&row.author, author)
 }
 
 /// The table with this number, where there is one.

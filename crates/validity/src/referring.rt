@@ -144,8 +144,8 @@ fn is_matched<Q: RowsAt>(
 fn is_matched_own(name: &RowName, rule: &MatchRule, values: &[Value], own: &[OwnRow]) -> bool
     ensures { result ≡ list_any (λ o. same_row o.name name.now && is_match values.now rule.now o.entry.values) own.now }
 {
-    own.iter()
-        .any(|row| is_row(&row.name, name) && is_match(values, rule, row.entry.values.as_slice()))
+    own.iter().any(|row| is_row(&row.name, name)
+        && is_match(values, rule, row.entry.values.as_slice()))
 }
 
 /// Whether a visible row has this name, and a MATCH is true of it.

@@ -1,0 +1,1 @@
+//! Each reason once, on a list of rows.
