@@ -16,5 +16,7 @@ mod own_row;
 mod referring;
 #[cfg(test)]
 mod tests;
+mod unlimited;
 
 pub use judging::judge;
+pub use unlimited::is_unlimited;
