@@ -37,12 +37,13 @@ enum Kept {
 /// One visible row.
 #[derive(Drop)]
 struct Shown {
+    name: RowName,
     entry: RowEntry,
     held: bool,
 }
 
 impl RowsAt for Shown {
-    ghost row = { λ shown name. if same_row OLD name then Some shown.entry else None };
+    ghost row = { λ shown name. if same_row shown.name name then Some shown.entry else None };
 
     ghost has_child = { λ shown name. shown.held };
 
@@ -51,7 +52,7 @@ impl RowsAt for Shown {
     ghost count = { λ shown table. 0 };
 
     fn row_at(&self, _alloc: Global, name: &RowName) -> Result<Option<&RowEntry>, AllocError> {
-        if is_row(&OLD, name) {
+        if is_row(&self.name, name) {
             Ok(Some(&self.entry))
         } else {
             Ok(None)
@@ -111,6 +112,7 @@ fn verdict(
     }
     let ots = if kept == Kept::Anothers { 2 } else { 1 };
     let rows = Shown {
+        name: OLD,
         entry: RowEntry {
             table,
             author: author(ots),
