@@ -1,0 +1,26 @@
+-- What the rows that are visible answer, where one asks for a row by its name or for those that hold on to it.
+use Rattle.std.specs.Prelude.{◌≡◌, Bool, true, ◌&&◌, List, Contains, Option, find, option_map}
+use Rattle.std.specs.List.{list_any}
+use Rattle.update_model.specs.declared.row_entry.RowEntry.{RowEntry}
+use Rattle.update_model.specs.declared.row_name.RowName.{RowName}
+use Rattle.schema.specs.Columns.{is_restrict}
+use Rattle.schema.specs.Visible.{Effects, Rules, TableRow, refs, same_row, visible_rows}
+
+-- a row as it is lent, without its name
+abbrev pub entry_of_row : TableRow → RowEntry
+entry_of_row row = record { table = row.table; author = row.author; values = row.values }
+
+-- the row with this name among these
+abbrev pub entry_in : List TableRow → RowName → Option RowEntry
+entry_in rows name = option_map entry_of_row (find (λ row. same_row row.name name) rows)
+
+-- whether one of these rows names this one by RESTRICT
+abbrev pub has_child_in : Rules → List TableRow → RowName → Bool
+has_child_in rules rows name = list_any (λ row. list_any (λ r. is_restrict r.action && same_row r.name name) (refs rules row)) rows
+
+-- Of the rows visible after what was done no two have one name, and these are their answers: which row has a name, and
+-- whether a row names this one by RESTRICT.
+pub record AreAnswers (rules : Rules) (past : Effects) (row_at : RowName → Option RowEntry) (child_of : RowName → Bool) : Type 0 where
+  pub once : (a b : TableRow) → Contains (visible_rows rules past) a → Contains (visible_rows rules past) b → same_row a.name b.name ≡ true → a ≡ b
+  pub row : (name : RowName) → row_at name ≡ entry_in (visible_rows rules past) name
+  pub child : (name : RowName) → child_of name ≡ has_child_in rules (visible_rows rules past) name

@@ -1,0 +1,79 @@
+//! Why a row may not be deleted.
+
+ghost use Rattle.std.specs.Prelude.{◌≡◌, IfOk, slice_get, option_copied};
+ghost use Rattle.std.specs.List.{list_any};
+ghost use Rattle.schema.specs.Schemas.{Meaning};
+ghost use Rattle.schema.specs.Verdicts.{same_author};
+ghost use Rattle.schema.specs.Visible.{same_row};
+ghost use Rattle.validity.specs.Asked.{delete_asked, is_anothers, is_deletable};
+
+use crate::referring::is_row;
+use schema::{Schema, TableDef};
+use std::alloc::{AllocError, Global};
+use update_model::{AuthorKey, RowEntry, RowName, RowsAt};
+
+/// The number of the first reason for which this author may not delete a row, from 6 to 8, where the update has deleted
+/// these names already, or `None` where he may.
+pub(crate) fn delete_reason<Q: RowsAt>(
+    alloc: Global,
+    schema: &Schema,
+    author: &AuthorKey,
+    name: &RowName,
+    deleted: &[RowName],
+    rows: &Q,
+) -> Result<Option<u8>, AllocError>
+    ensures { IfOk result (λ reason. (ask : Meaning) → reason ≡ delete_asked (record { tables = schema.now.tables; ask = ask }) (Q.RowsAt.row rows.now) (Q.RowsAt.has_child rows.now) deleted.now author.now name.now) }
+{
+    let Some(row) = rows.row_at(alloc, name)? else {
+        return Ok(Some(6));
+    };
+    if !is_deletable(schema, row) || is_among(name, deleted) {
+        return Ok(Some(6));
+    }
+    if is_anothers(schema, author, row) {
+        return Ok(Some(7));
+    }
+    if rows.restrict_child(alloc, name)? {
+        return Ok(Some(8));
+    }
+    Ok(None)
+}
+
+/// Whether a name is among these.
+fn is_among(name: &RowName, names: &[RowName]) -> bool
+    ensures { result ≡ list_any (same_row name.now) names.now }
+{
+    names.iter().any(|other| is_row(name, other))
+}
+
+/// Whether rows of a row's table may be deleted.
+fn is_deletable(schema: &Schema, row: &RowEntry) -> bool
+    ensures { (ask : Meaning) → result ≡ is_deletable (record { tables = schema.now.tables; ask = ask }) (Some row.now) }
+{
+    table_at(schema, row.table).is_some_and(|table| table.deletable)
+}
+
+/// Whether only another author may delete a row.
+fn is_anothers(schema: &Schema, author: &AuthorKey, row: &RowEntry) -> bool
+    ensures { (ask : Meaning) → result ≡ is_anothers (record { tables = schema.now.tables; ask = ask }) author.now (Some row.now) }
+{
+    table_at(schema, row.table).is_some_and(|table| table.owned) && !is_author(&row.author, author)
+}
+
+/// The table with this number, where there is one.
+fn table_at(schema: &Schema, number: u8) -> Option<&TableDef>
+    ensures { option_copied result ≡ slice_get schema.now.tables number }
+{
+    if number < schema.tables() {
+        Some(schema.table(number))
+    } else {
+        None
+    }
+}
+
+/// Whether two keys are one.
+fn is_author(a: &AuthorKey, b: &AuthorKey) -> bool
+    ensures { result ≡ same_author a.now b.now }
+{
+    a == b
+}
