@@ -9,9 +9,11 @@
 #![tactic(auto)]
 
 mod at;
+mod columns;
 mod dropped;
 mod inserted;
 mod laws;
+mod steps;
 mod tables;
 
 pub use at::At;

@@ -8,6 +8,7 @@ ghost use Rattle.validity.specs.Answers.{AreAnswers};
 ghost use Rattle.tuple_state.specs.Past.{IsNextVerdict, IsPastOf, StandsAt};
 ghost use Rattle.tuple_state.specs.State.{IsStateOf, after};
 
+use crate::columns::columns_of;
 use crate::{At, Dropped, Inserted};
 use schema::{ColumnList, Schema, ShownRowList, Verdict, VoidLine, VoidList};
 use std::alloc::{AllocError, Global};
@@ -57,7 +58,18 @@ impl Tables {
     pub fn new(alloc: Global, schema: &Schema) -> Result<Tables, AllocError>
         ensures { IfOk result (λ tables. (ask : ℕ → List Value → Bool) → IsStateOf (record { tables = schema.now.tables; ask = ask }) [] tables) }
     {
-        Err(AllocError)
+        Ok(Tables {
+            alloc,
+            columns: columns_of(alloc, schema)?,
+            count: 0,
+            rows: Vec::new(alloc),
+            places: BTreeMap::new(alloc),
+            shown: Vec::new(alloc),
+            lasts: Vec::new(alloc),
+            dropped: Vec::new(alloc),
+            earlier: Vec::new(alloc),
+            voids: Vec::new(alloc),
+        })
     }
 
     /// Takes the next update with its verdict: a valid one's rows and deletions, or a void one's line. The verdict has to
