@@ -1,3 +1,5 @@
+pub mod Answering
 pub mod Effects
 pub mod Layers
 pub mod Lookups
+pub mod Pasts

@@ -20,7 +20,7 @@ has_child_in rules rows name = list_any (λ row. list_any (λ r. is_restrict r.a
 
 -- Of the rows visible after what was done no two have one name, and these are their answers: which row has a name, and
 -- whether a row names this one by RESTRICT.
-pub record AreAnswers (rules : Rules) (past : Effects) (row : RowName → Option RowEntry) (child : RowName → Bool) : Type 0 where
+pub record AreAnswers (rules : Rules) (past : Effects) (row_at : RowName → Option RowEntry) (has_child : RowName → Bool) : Type 0 where
   pub once : (a b : TableRow) → Contains (visible_rows rules past) a → Contains (visible_rows rules past) b → same_row a.name b.name ≡ true → a ≡ b
-  pub row : (name : RowName) → row name ≡ entry_in (visible_rows rules past) name
-  pub child : (name : RowName) → child name ≡ has_child_in rules (visible_rows rules past) name
+  pub row : (name : RowName) → row_at name ≡ entry_in (visible_rows rules past) name
+  pub child : (name : RowName) → has_child name ≡ has_child_in rules (visible_rows rules past) name
