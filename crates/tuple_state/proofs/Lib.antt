@@ -3,5 +3,6 @@ pub mod Effects
 pub mod Emptiness
 pub mod Layers
 pub mod Lookups
+pub mod Marks
 pub mod Pasts
 pub mod Stepping

@@ -31,12 +31,8 @@ pub struct Tables {
     places: BTreeMap<RowName, usize>,
     /// Of each row whether it is visible.
     shown: Vec<bool>,
-    /// Of each row one more than the place of what deleted it last, or 0.
-    lasts: Vec<usize>,
     /// The deleted names in order of arrival.
     dropped: Vec<Dropped>,
-    /// Of each of these one more than the place of the one before it with the same name, or 0.
-    earlier: Vec<usize>,
     /// The updates that do nothing, in order of arrival.
     voids: Vec<VoidLine>,
 }
@@ -50,7 +46,7 @@ impl Model for Tables {
     ghost view = { λ t. record { columns = t.columns.items; count = t.count; inserted = t.rows.items; dropped = t.dropped.items; voids = t.voids.items } };
 
     ghost invariant = { λ t. IsKept (record { columns = t.columns.items; count = t.count; inserted = t.rows.items; dropped = t.dropped.items; voids = t.voids.items })
-        t.places t.shown.items t.lasts.items t.earlier.items };
+        t.places t.shown.items };
 }
 
 impl Tables {
@@ -65,9 +61,7 @@ impl Tables {
             rows: Vec::new(alloc),
             places: BTreeMap::new(alloc),
             shown: Vec::new(alloc),
-            lasts: Vec::new(alloc),
             dropped: Vec::new(alloc),
-            earlier: Vec::new(alloc),
             voids: Vec::new(alloc),
         })
     }
