@@ -1,8 +1,10 @@
 pub mod Answering
 pub mod Effects
 pub mod Emptiness
+pub mod Growth
 pub mod Layers
 pub mod Lookups
+pub mod Marking
 pub mod Marks
 pub mod Pasts
 pub mod Stepping
