@@ -7,4 +7,5 @@ pub mod Lookups
 pub mod Marking
 pub mod Marks
 pub mod Pasts
+pub mod Regrowth
 pub mod Stepping
