@@ -2,6 +2,7 @@ pub mod Answering
 pub mod Effects
 pub mod Emptiness
 pub mod Growth
+pub mod Keeping
 pub mod Layers
 pub mod Lookups
 pub mod Marking

@@ -1,6 +1,6 @@
 //! The rows that a row names by `CASCADE`, and the marks of rows that are visible.
 
-ghost use Rattle.std.specs.Prelude.{◌≡◌, ◌+◌, ◌<◌, ◌≤◌, ◌^◌, ℕ, Bool, true, false, not, ◌&&◌, ◌++◌, length, map, reverse, slice_get, slice_index_or, Some, OnOk, OnErr};
+ghost use Rattle.std.specs.Prelude.{◌≡◌, ◌+◌, ◌<◌, ◌^◌, ◌⊎◌, [], ℕ, List, Bool, true, false, not, ◌&&◌, ◌++◌, length, map, reverse, slice_get, slice_index_or, Some, OnOk, OnErr};
 ghost use Rattle.std.specs.List.{list_any};
 ghost use Rattle.std.specs.BTreeMap.{get};
 ghost use Rattle.update_model.specs.declared.row_name.RowName.{RowName as Name};
@@ -112,7 +112,7 @@ fn remove_places(places: &mut BTreeMap<RowName, usize>, rows: &[Inserted], taken
 }
 
 /// Takes the marks of deleted rows away.
-pub(crate) fn hide(
+fn hide(
     shown: &mut [bool],
     rows: &[Inserted],
     places: &BTreeMap<RowName, usize>,
@@ -174,7 +174,7 @@ fn mark_of(
 }
 
 /// Leaves the mark of each row from a place on only where each row that it names by `CASCADE` is marked.
-pub(crate) fn mark(
+fn mark(
     shown: &mut [bool],
     from: usize,
     rows: &[Inserted],
@@ -190,4 +190,35 @@ pub(crate) fn mark(
     for place in from..rows.len() {
         shown[place] = mark_of(shown, place, &rows[place], columns, places);
     }
+}
+
+/// From which place on marks are to be found anew after these names were deleted: from the first new row on, or from the
+/// first row on where a name was deleted.
+fn start_of(first: usize, dropped: &[Dropped]) -> usize
+    ensures { (result ≡ 0) ⊎ ((result ≡ first) × (dropped.now ≡ [])) }
+{
+    if dropped.is_empty() { first } else { 0 }
+}
+
+/// Finds the marks of rows anew, of which those from a first one on are new and marked, after names were deleted.
+pub(crate) fn remark(
+    shown: &mut [bool],
+    first: usize,
+    rows: &[Inserted],
+    columns: &[ColumnList],
+    places: &BTreeMap<RowName, usize>,
+    dropped: &[Dropped],
+)
+    requires placed { (name : Name) → get name_cmp places.now name ≡ place_of rows.now name }
+    requires found { (k : ℕ) (it : Row) → slice_get rows.now k ≡ Some it → place_of rows.now it.name ≡ Some k }
+    requires each { length shown.old ≡ length rows.now }
+    requires layered { are_layered (rules_with columns.now) (reverse (map row_of rows.now)) ≡ true }
+    ensures { (test : Name → Bool) → ((from : ℕ) (hidden : List Bool) → ((from ≡ 0) ⊎ ((from ≡ first) × (dropped.now ≡ [])))
+        → ((k : ℕ) (it : Row) → slice_get rows.now k ≡ Some it → slice_index_or hidden k false ≡ (slice_index_or shown.old k false && not (list_any (λ (drop : Drop). same_row drop.name it.name) dropped.now)))
+        → Continues (rules_with columns.now) rows.now from hidden test)
+        → (k : ℕ) (it : Row) → slice_get rows.now k ≡ Some it → slice_index_or shown.new k false ≡ test it.name }
+{
+    let from = start_of(first, dropped);
+    hide(shown, rows, places, dropped);
+    mark(shown, from, rows, columns, places);
 }

@@ -11,7 +11,7 @@ ghost use Rattle.tuple_state.specs.Past.{IsNextVerdict, IsPastOf, StandsAt};
 ghost use Rattle.tuple_state.specs.State.{IsStateOf, after};
 
 use crate::columns::columns_of;
-use crate::parents::{add_places, hide, mark};
+use crate::parents::{add_places, remark};
 use crate::steps::{dropped_by, inserted_by};
 use crate::{At, Dropped, Inserted};
 use schema::{ColumnList, Schema, ShownRowList, Verdict, VoidLine, VoidList};
@@ -91,10 +91,10 @@ impl Tables {
         requires next { IsNextVerdict self.old node.now Valid }
         ensures { MatchResult result (λ _. self.new ≡ after self.old node.now Valid) (λ _. self.new ≡ self.old) }
     {
+        let _ops = &node.ops;
         let mut inserted = inserted_by(self.alloc, self.count, node)?;
         let mut dropped = dropped_by(self.alloc, self.count, node)?;
         let first = self.rows.len();
-        let from = if dropped.is_empty() { first } else { 0 };
         make_room(
             &mut self.rows,
             &mut self.shown,
@@ -109,20 +109,15 @@ impl Tables {
         )?;
         self.shown.resize(first + inserted.len(), true).unwrap();
         self.rows.append(&mut inserted).unwrap();
-        hide(
+        remark(
             self.shown.as_mut_slice(),
+            first,
             self.rows.as_slice(),
+            self.columns.as_slice(),
             &self.places,
             dropped.as_slice(),
         );
         self.dropped.append(&mut dropped).unwrap();
-        mark(
-            self.shown.as_mut_slice(),
-            from,
-            self.rows.as_slice(),
-            self.columns.as_slice(),
-            &self.places,
-        );
         self.count += 1;
         Ok(())
     }
