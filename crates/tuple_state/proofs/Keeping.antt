@@ -52,6 +52,9 @@ few_inserted node number did (Insert table values ∷ ops) =
     let rest = few_inserted node (number + 1) (record did { inserted = row_inserted node number table values ∷ did.inserted }) ops in omega (arith, rest)
 few_inserted node number did (Delete name ∷ ops) = let rest = few_inserted node (number + 1) (record did { deleted = name ∷ did.deleted }) ops in omega (arith, rest)
 
+pub count_next : (state : State) (node : NodeData) (v : Verdict) → IsNextVerdict state node v → state.count < 131072
+count_next state node v next = let c = ap (λ (s : State). s.count) next.is.is ∙ count_is next.rules next.nodes in omega (arith, c, next.few)
+
 marks_are : (rows : List Inserted) (shown : List Bool) (f : Inserted → Bool) → length shown ≡ length rows → ((k : ℕ) (it : Inserted) → slice_get rows k ≡ Some it → get_or shown k false ≡ f it) → shown ≡ map f rows
 marks_are [] [] f len h = refl
 marks_are [] (b ∷ shown) f len h = absurd (omega (arith, len))
