@@ -8,5 +8,7 @@ pub mod Lookups
 pub mod Marking
 pub mod Marks
 pub mod Pasts
+pub mod Reaching
 pub mod Regrowth
 pub mod Stepping
+pub mod Walking

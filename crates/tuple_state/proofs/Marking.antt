@@ -32,7 +32,7 @@ slice_get_below (y ∷ xs) (suc k) x h = let rest = slice_get_below xs k x h in 
 
 -- ---- column by column
 
-parents_next : (test : RowName → Bool) (columns : List Column) (values : List Value) (n : ℕ) (column : Column) (v : Value) → n < length columns → n < length values
+pub parents_next : (test : RowName → Bool) (columns : List Column) (values : List Value) (n : ℕ) (column : Column) (v : Value) → n < length columns → n < length values
     → column ≡ get_or columns n column → v ≡ get_or values n v
     → all_parents test (drop n columns) (drop n values) ≡ (passes test (parent_in column.kind v) && all_parents test (drop (n + 1) columns) (drop (n + 1) values))
 unfolding all_parents

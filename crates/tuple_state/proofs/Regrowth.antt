@@ -16,7 +16,7 @@ use Rattle.tuple_state.proofs.Growth.{bool_same, all_carry, all_come, all_stay, 
 use Rattle.tuple_state.proofs.Lookups.{any_mapped, any_reversed, get_or_from, reverse_cons, slice_get_mapped}
 use Rattle.tuple_state.proofs.Marking.{slice_get_below}
 
-each_back : {X : Type 0} (P : X → Type 0) (xs : List X) → AllByRecursion P (reverse xs) → AllByRecursion P xs
+pub each_back : {X : Type 0} (P : X → Type 0) (xs : List X) → AllByRecursion P (reverse xs) → AllByRecursion P xs
 each_back P [] h = tt
 each_back P (x ∷ xs) h =
     let both = subst (λ l. AllByRecursion P l) (reverse_cons x xs) h in
