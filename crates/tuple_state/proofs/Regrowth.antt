@@ -51,7 +51,7 @@ padded_back [] m k over below = all_true m k (omega (arith, below))
 padded_back (x ∷ xs) m zero over below = absurd (omega (arith, over))
 padded_back (x ∷ xs) m (suc k) over below = padded_back xs m k (omega (arith, over)) (omega (arith, below))
 
-and_true : (b : Bool) → (b && true) ≡ b
+pub and_true : (b : Bool) → (b && true) ≡ b
 and_true true = refl
 and_true false = refl
 

@@ -3,7 +3,7 @@ ghost use Rattle.schema.specs.Visible.{is_deleted, is_visible, same_row};
 ghost use Rattle.tuple_state.specs.declared.inserted.Inserted.{Inserted as Row};
 ghost use Rattle.tuple_state.specs.Kept.{are_layered};
 ghost use Rattle.tuple_state.specs.Past.{StandsAt, child_then, count_then, done_then, equal_then, row_then};
-ghost use Rattle.tuple_state.specs.State.{rules_of};
+ghost use Rattle.tuple_state.specs.State.{done_in, rules_of};
 
 use crate::{Dropped, Tables};
 use std::alloc::{AllocError, Global};
@@ -15,6 +15,7 @@ pub struct At<'a, A: Ancestors> {
     tables: &'a Tables,
     ancestors: &'a A,
     position: u32,
+    ghost founded: { are_layered (rules_of tables.now) (done_in tables.now).inserted ≡ true },
     ghost layered: { are_layered (rules_of tables.now) (done_then tables.now (λ p. A.ancestor ancestors.now p position)).inserted ≡ true },
 }
 

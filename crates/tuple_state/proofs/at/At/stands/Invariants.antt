@@ -9,13 +9,13 @@ use Rattle.tuple_state.specs.State.{rules_of}
 use Rattle.tuple_state.proofs.at.At.stands.Given as goal
 
 -- The rows that are still to be looked at are there, and the first one is visible exactly where all of them are.
-abbrev pub invariant-loop-pending : goal.invariant-loop-pending
-invariant-loop-pending g l = record {
+abbrev pub invariant-loop-next : goal.invariant-loop-next
+invariant-loop-next g l = record {
   there : list_all (λ k. nat_lt k (length l.self.tables.now.inserted)) l.pending.keys ≡ true;
   same : (it : Inserted) → slice_get l.self.tables.now.inserted l.place ≡ Some it
   → is_visible (rules_of l.self.tables.now) (done_then l.self.tables.now (λ p. g.A.Ancestors.ancestor l.self.ancestors.now p l.self.position)) it.name
   ≡ list_all (λ k. passes_row (is_visible (rules_of l.self.tables.now) (done_then l.self.tables.now (λ p. g.A.Ancestors.ancestor l.self.ancestors.now p l.self.position))) (slice_get l.self.tables.now.inserted k)) l.pending.keys;
 }
 
-abbrev pub decreases-loop-pending : goal.decreases-loop-pending
-decreases-loop-pending g l = limit_of l.pending.keys
+abbrev pub decreases-loop-next : goal.decreases-loop-next
+decreases-loop-next g l = limit_of l.pending.keys
