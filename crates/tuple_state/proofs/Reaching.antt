@@ -1,7 +1,8 @@
 -- A row is visible after an update's ancestors exactly where no row to which CASCADE references lead from it is missing or deleted then.
 use Rattle.std.proofs.Common.{◌≡◌, ℕ, zero, suc, ◌+◌, ◌<◌, ◌≤◌, Bool, true, false, cond, not, ◌&&◌, List, [], ◌∷◌, ◌++◌, length, max, map, reverse, refl, sym, ap, ◌∙◌, subst, Option, Some, None, nat_lt, inl, inr, arith}
 use Rattle.std.specs.Prelude.{slice_get, filter, All}
-use Rattle.std.specs.Ordering.{is_lt, nat_cmp}
+use Rattle.std.specs.declared.cmp.Ordering.TheVariants.{Less}
+use Rattle.std.specs.Ordering.{nat_cmp}
 use Rattle.std.specs.List.{list_all, list_any, AllByRecursion}
 use Rattle.std.proofs.lemmas.Bool.{and_parts, and_from, and_right, both_ways, or_cases, false_from_ne_true}
 use Rattle.std.proofs.lemmas.Bool.Decides.{nat_tests}
@@ -75,7 +76,7 @@ unfolding limit_of
 above_limit [] k = omega arith
 above_limit (x ∷ keys) k = let rest = above_limit keys k in omega (arith, rest)
 
-less_tests : (keys : List ℕ) (k : ℕ) → AllByRecursion (λ q. is_lt (nat_cmp q k) ≡ true) keys → list_all (λ q. nat_lt q k) keys ≡ true
+less_tests : (keys : List ℕ) (k : ℕ) → AllByRecursion (λ q. nat_cmp q k ≡ Less) keys → list_all (λ q. nat_lt q k) keys ≡ true
 less_tests [] k h = refl
 less_tests (q ∷ keys) k h = and_from _ _ (let e = h.0 in grind (arith, nat_tests)) (less_tests keys k h.1)
 
@@ -141,16 +142,16 @@ module _ (columns : List (List Column)) (rows : List Inserted) (past : ℕ → B
         pub go_on : (past it.position && not (is_deleted then it.name)) ≡ true → start ≡ list_all at_place next
         go_on h = before_is ∙ ap (λ b. list_all at_place keys && b) (kept_row h) ∙ sym (added at_place)
 
-        next_below : All (λ q. is_lt (nat_cmp q place) ≡ true) keys → list_all (λ k. nat_lt k place) next ≡ true
+        next_below : All (λ q. nat_cmp q place ≡ Less) keys → list_all (λ k. nat_lt k place) next ≡ true
         next_below lower = added (λ k. nat_lt k place) ∙ and_from _ _ (less_tests keys place (recursion_from_All _ keys lower)) parents_below
 
-        pub shrinks : All (λ q. is_lt (nat_cmp q place) ≡ true) keys → limit_of next < limit_of before
+        pub shrinks : All (λ q. nat_cmp q place ≡ Less) keys → limit_of next < limit_of before
         shrinks lower =
             let a = below_limit next place (next_below lower) in
             let b = above_limit keys place in
             let c = ap limit_of popped in
             omega (arith, a, b, c)
 
-        pub in_range : All (λ q. is_lt (nat_cmp q place) ≡ true) keys → place < length rows → list_all (λ k. nat_lt k (length rows)) next ≡ true
+        pub in_range : All (λ q. nat_cmp q place ≡ Less) keys → place < length rows → list_all (λ k. nat_lt k (length rows)) next ≡ true
         in_range lower below =
             all_weaker (λ k. nat_lt k place) (λ k. nat_lt k (length rows)) (λ k h. grind (arith, nat_tests)) next (next_below lower)
