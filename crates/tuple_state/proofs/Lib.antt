@@ -2,6 +2,7 @@ pub mod Answering
 pub mod Dropping
 pub mod Effects
 pub mod Emptiness
+pub mod Finding
 pub mod Growth
 pub mod Keeping
 pub mod Layers

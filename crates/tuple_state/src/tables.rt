@@ -151,11 +151,7 @@ impl Tables {
             inserted.len(),
             dropped.len(),
         )?;
-        add_places(
-            &mut self.places,
-            self.rows.as_slice(),
-            inserted.as_slice(),
-        )?;
+        add_places(&mut self.places, self.rows.as_slice(), inserted.as_slice())?;
         self.shown.resize(first + inserted.len(), true).unwrap();
         self.rows.append(&mut inserted).unwrap();
         remark(
