@@ -12,5 +12,6 @@ pub mod Marks
 pub mod Pasts
 pub mod Reaching
 pub mod Regrowth
+pub mod Restricting
 pub mod Stepping
 pub mod Walking

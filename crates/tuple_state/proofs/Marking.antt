@@ -57,7 +57,7 @@ short_parents test [] values h = refl
 short_parents test (column ∷ columns) [] h = refl
 short_parents test (column ∷ columns) (v ∷ values) h = absurd (omega (arith, h))
 
-length_drop : {X : Type 0} (n : ℕ) (xs : List X) → (length (drop n xs) + n ≡ length xs) ⊎ (drop n xs ≡ [])
+pub length_drop : {X : Type 0} (n : ℕ) (xs : List X) → (length (drop n xs) + n ≡ length xs) ⊎ (drop n xs ≡ [])
 length_drop zero xs = inl (omega arith)
 length_drop (suc n) [] = inr refl
 length_drop (suc n) (x ∷ xs) = elim (length_drop n xs) [ inl e ↦ inl (omega (arith, e)) | inr e ↦ inr e ]

@@ -189,7 +189,7 @@ parents_are test (column ∷ columns) (v ∷ values) =
     ∙ list_all-append (λ (r : RowRef). test r.name) (filter (λ (r : RowRef). is_cascade r.action) (ref_in column.kind v)) (filter (λ (r : RowRef). is_cascade r.action) (refs_in columns values))
     ∙ (λ i. one_parent test column.kind v i && parents_are test columns values i)
 
-columns_there : (columns : List (List Column)) (number : ℕ) → (unwrap_or (slice_get (map (λ (list : List Column). record missing_table { columns = list }) columns) number) missing_table).columns ≡ columns_at columns number
+pub columns_there : (columns : List (List Column)) (number : ℕ) → (unwrap_or (slice_get (map (λ (list : List Column). record missing_table { columns = list }) columns) number) missing_table).columns ≡ columns_at columns number
 columns_there [] number = refl
 columns_there (list ∷ columns) zero = refl
 columns_there (list ∷ columns) (suc number) = columns_there columns number

@@ -14,6 +14,7 @@ mod dropped;
 mod inserted;
 mod laws;
 mod parents;
+mod restricts;
 mod steps;
 mod tables;
 
