@@ -1,18 +1,21 @@
 -- The rows that name a row by RESTRICT.
-use Rattle.std.proofs.Common.{◌≡◌, ℕ, zero, suc, ◌+◌, ◌<◌, ◌≤◌, Bool, true, false, cond, not, ◌&&◌, ◌||◌, ◌⊎◌, List, [], ◌∷◌, ◌++◌, length, get_or, take, drop, map, reverse, refl, sym, ap, ◌∙◌, subst, Some, inl, inr, arith}
-use Rattle.std.specs.Prelude.{slice_get, filter, min}
+use Rattle.std.proofs.Common.{◌≡◌, ℕ, zero, suc, ◌+◌, ◌<◌, ◌≤◌, Bool, true, false, cond, not, ◌&&◌, ◌||◌, ◌⊎◌, List, [], ◌∷◌, ◌++◌, length, get_or, take, drop, map, reverse, refl, sym, ap, ◌∙◌, subst, Option, None, Some, inl, inr, arith}
+use Rattle.std.specs.Prelude.{slice_get, filter, min, Result, Ok, Err, IfOk}
 use Rattle.std.specs.List.{list_any}
 use Rattle.std.proofs.lemmas.Bool.{both_ways, or_right}
 use Rattle.std.proofs.lemmas.List.{take_more, take_all}
 use Rattle.std.proofs.lemmas.List.Folds.{list_any-append}
 use Rattle.update_model.specs.declared.row_name.RowName.{RowName}
 use Rattle.update_model.specs.declared.value.Value.{Value}
+use Rattle.update_model.specs.declared.value.Value.TheVariants as value
+use Rattle.schema.specs.declared.action.Action.{Action}
 use Rattle.schema.specs.declared.column.Column.{Column}
-use Rattle.schema.specs.Columns.{is_restrict}
-use Rattle.schema.specs.Visible.{RowRef, TableRow, is_deleted, is_visible, ref_in, refs, refs_in, same_row}
+use Rattle.schema.specs.declared.column.ColumnKind.{ColumnKind}
+use Rattle.schema.specs.Columns.{is_restrict, target_of}
+use Rattle.schema.specs.Visible.{RowRef, TableRow, is_deleted, is_visible, ref_in, ref_to, refs, refs_in, same_row}
 use Rattle.tuple_state.specs.declared.inserted.Inserted.{Inserted}
 use Rattle.tuple_state.specs.Kept.{are_layered}
-use Rattle.tuple_state.specs.Parents.{any_restricts, columns_at, restricts_in}
+use Rattle.tuple_state.specs.Parents.{any_restricts, columns_at, is_row, name_by_restrict, restricts_in}
 use Rattle.tuple_state.specs.Past.{child_then, done_then}
 use Rattle.tuple_state.specs.State.{State, done_in, row_of, rules_of, rules_with}
 use Rattle.tuple_state.proofs.Lookups.{any_mapped, any_reversed, get_or_from}
@@ -54,12 +57,25 @@ restricts_end name columns values n total past inv =
       | inl e ↦ elim (length_drop n values) [ inr f ↦ let len = ap length f in omega (arith, len) | inl f ↦ omega (arith, e, f, past) ]
     ]) ∙ inv
 
+one_restricts : (name : RowName) (kind : ColumnKind) (v : Value) → list_any (λ (r : RowRef). is_restrict r.action && same_row r.name name) (ref_in kind v) ≡ restricts_in name kind v
+one_restricts name kind (value.Row named) =
+    let or_false : (b : Bool) → (b || false) ≡ b = elim [ true ↦ refl | false ↦ refl ] in
+    let inner : (b : Bool) → ((b && same_row named name) || false) ≡ is_row name (cond b (Some named) None) = elim [ true ↦ or_false (same_row named name) | false ↦ refl ] in
+    let step : (o : Option (ℕ × Action)) → list_any (λ (r : RowRef). is_restrict r.action && same_row r.name name) (ref_to named o) ≡ is_row name (name_by_restrict named o) =
+    elim [ None ↦ refl | Some t ↦ inner (is_restrict t.1) ] in
+    step (target_of kind)
+one_restricts name kind value.Null = refl
+one_restricts name kind (value.Int n) = refl
+one_restricts name kind (value.Text bytes) = refl
+one_restricts name kind (value.Flag flag) = refl
+one_restricts name kind (value.Own index) = refl
+
 restricts_are : (name : RowName) (columns : List Column) (values : List Value) → any_restricts name columns values ≡ list_any (λ (r : RowRef). is_restrict r.action && same_row r.name name) (refs_in columns values)
 unfolding any_restricts
 restricts_are name [] values = refl
 restricts_are name (column ∷ columns) [] = refl
 restricts_are name (column ∷ columns) (v ∷ values) =
-    ap (λ b. restricts_in name column.kind v || b) (restricts_are name columns values)
+    (λ i. sym (one_restricts name column.kind v) i || restricts_are name columns values i)
     ∙ sym (list_any-append (λ (r : RowRef). is_restrict r.action && same_row r.name name) (ref_in column.kind v) (refs_in columns values))
 
 pub restricts_row : (columns : List (List Column)) (name : RowName) (row it : Inserted) (list : List Column) → row ≡ it → columns_at columns row.entry.table ≡ list
@@ -123,3 +139,7 @@ some_here t (y ∷ xs) (suc i) x at h = or_right (t y) _ (some_here t xs i x at 
 
 pub none_at_end : (t : Inserted → Bool) (xs : List Inserted) (i : ℕ) → length xs ≤ i → list_any t (take i xs) ≡ false → list_any t xs ≡ false
 none_at_end t xs i past before = ap (list_any t) (sym (take_all i xs past)) ∙ before
+
+pub if_ok : {T E : Type 0} (P Q : T → Type 0) (r : Result T E) → ((x : T) → P x → Q x) → IfOk r P → IfOk r Q
+if_ok P Q (Ok x) f p = f x p
+if_ok P Q (Err e) f p = p
