@@ -1,5 +1,5 @@
 -- The rows that name a row by RESTRICT.
-use Rattle.std.proofs.Common.{◌≡◌, ℕ, zero, suc, ◌+◌, ◌<◌, ◌≤◌, Bool, true, false, cond, not, ◌&&◌, ◌||◌, ◌⊎◌, List, [], ◌∷◌, ◌++◌, length, get_or, take, drop, map, reverse, refl, sym, ap, ◌∙◌, subst, Option, None, Some, inl, inr, arith}
+use Rattle.std.proofs.Common.{◌≡◌, ℕ, zero, suc, ◌+◌, ◌<◌, ◌≤◌, Bool, true, false, cond, not, ◌&&◌, ◌||◌, List, [], ◌∷◌, length, get_or, take, drop, map, refl, sym, ap, ◌∙◌, Option, None, Some, inl, inr, arith}
 use Rattle.std.specs.Prelude.{slice_get, filter, min, Result, Ok, Err, IfOk}
 use Rattle.std.specs.List.{list_any}
 use Rattle.std.proofs.lemmas.Bool.{both_ways, or_right}
@@ -19,7 +19,7 @@ use Rattle.tuple_state.specs.Parents.{any_restricts, columns_at, is_row, name_by
 use Rattle.tuple_state.specs.Past.{child_then, done_then}
 use Rattle.tuple_state.specs.State.{State, done_in, row_of, rules_of, rules_with}
 use Rattle.tuple_state.proofs.Lookups.{any_mapped, any_reversed, get_or_from}
-use Rattle.tuple_state.proofs.Marking.{length_drop, slice_get_from}
+use Rattle.tuple_state.proofs.Marking.{length_drop}
 use Rattle.tuple_state.proofs.Marks.{columns_there}
 use Rattle.tuple_state.proofs.Reaching.{hidden_row}
 use Rattle.tuple_state.proofs.Stepping.{drop_next}

@@ -65,7 +65,7 @@ impl<'a, A: Ancestors> At<'a, A> {
         requires { place < length self.now.tables.now.inserted }
         ensures { IfOk result (λ answer. (it : Row) → slice_get self.now.tables.now.inserted place ≡ Some it
             → answer ≡ (is_visible (rules_of self.now.tables.now) (done_then self.now.tables.now (λ p. A.ancestor self.now.ancestors.now p self.now.position)) it.name
-                && list_any (λ r. is_restrict r.action && same_row r.name name.now) (refs (rules_of self.now.tables.now) (row_of it)))) }
+            && list_any (λ r. is_restrict r.action && same_row r.name name.now) (refs (rules_of self.now.tables.now) (row_of it)))) }
     {
         if self.tables.restricts(place, name) {
             self.stands(alloc, place)

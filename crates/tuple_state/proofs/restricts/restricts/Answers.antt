@@ -1,4 +1,4 @@
-use Rattle.std.proofs.Common.{◌≡◌, ◌<◌, ◌≤◌, sym, ◌∙◌, subst}
+use Rattle.std.proofs.Common.{◌<◌, ◌≤◌, sym, ◌∙◌, subst}
 use Rattle.tuple_state.proofs.Restricting.{restricts_end, restricts_false, restricts_true}
 use Rattle.tuple_state.proofs.restricts.restricts.Goals as goal
 

@@ -1,4 +1,4 @@
-use Rattle.std.proofs.Common.{◌≡◌, Option, ap, sym, ◌∙◌}
+use Rattle.std.proofs.Common.{Option, ap, sym, ◌∙◌}
 use Rattle.update_model.specs.declared.row_name.RowName.{RowName}
 use Rattle.tuple_state.specs.Parents.{is_row}
 use Rattle.tuple_state.proofs.Dropping.{names_equal}

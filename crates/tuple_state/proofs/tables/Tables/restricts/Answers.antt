@@ -1,4 +1,4 @@
-use Rattle.std.proofs.Common.{◌≡◌, ℕ, ◌≤◌, ◌&&◌, List, [], length, ap, sym, ◌∙◌, subst}
+use Rattle.std.proofs.Common.{◌≤◌, ◌&&◌, List, [], length, ap, ◌∙◌, subst}
 use Rattle.std.specs.Prelude.{slice_get}
 use Rattle.std.specs.List.{list_any}
 use Rattle.schema.specs.declared.column.Column.{Column}
