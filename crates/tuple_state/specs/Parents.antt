@@ -1,0 +1,95 @@
+-- The rows that a row names by CASCADE, column by column.
+use Rattle.std.specs.Prelude.{◌≡◌, ℕ, suc, max, ◌<◌, ◌≤◌, Bool, true, false, ◌&&◌, ◌||◌, List, [], ◌∷◌, ◌++◌, slice_get, slice_index_or, unwrap_or, Option, None, Some, if◌then◌else◌}
+use Rattle.std.specs.List.{list_all, list_any}
+use Rattle.update_model.specs.declared.row_name.RowName.{RowName}
+use Rattle.update_model.specs.declared.value.Value.{Value}
+use Rattle.update_model.specs.declared.value.Value.TheVariants as value
+use Rattle.schema.specs.declared.action.Action.{Action}
+use Rattle.schema.specs.declared.column.Column.{Column}
+use Rattle.schema.specs.declared.column.ColumnKind.{ColumnKind}
+use Rattle.schema.specs.Columns.{is_restrict, target_of}
+use Rattle.schema.specs.Visible.{Rules, cascade_refs, is_cascade, same_row}
+use Rattle.tuple_state.specs.declared.inserted.Inserted.{Inserted}
+use Rattle.tuple_state.specs.State.{row_of}
+
+-- a row's name, where the column is a reference by CASCADE
+abbrev pub name_by_cascade : RowName → Option (ℕ × Action) → Option RowName
+name_by_cascade name None = None
+name_by_cascade name (Some target) = if is_cascade target.1 then Some name else None
+
+-- the row that a value names by CASCADE in a column of this kind
+abbrev pub parent_in : ColumnKind → Value → Option RowName
+parent_in kind (value.Row name) = name_by_cascade name (target_of kind)
+parent_in kind other = None
+
+-- whether a test is true of a row, where there is one
+abbrev pub passes : (RowName → Bool) → Option RowName → Bool
+passes test None = true
+passes test (Some name) = test name
+
+-- whether a test is true of each row that values name by CASCADE
+unfoldable pub all_parents : (RowName → Bool) → List Column → List Value → Bool
+all_parents test [] values = true
+all_parents test (column ∷ columns) [] = true
+all_parents test (column ∷ columns) (value ∷ values) = passes test (parent_in column.kind value) && all_parents test columns values
+
+-- whether the place that is found is marked
+abbrev pub mark_at : List Bool → Option ℕ → Bool
+mark_at shown None = false
+mark_at shown (Some place) = slice_index_or shown place false
+
+-- Each of these rows has a name that none before it has, these ones included.
+unfoldable pub AreFresh : List Inserted → List Inserted → Type 0
+AreFresh rows [] = Unit {0}
+AreFresh rows (it ∷ more) = (list_any (λ row. same_row row.name it.name) rows ≡ false) × AreFresh (rows ++ it ∷ []) more
+
+-- the columns of the table with this number, of which one that is not there has none
+abbrev pub columns_at : List (List Column) → ℕ → List Column
+columns_at columns number = unwrap_or (slice_get columns number) []
+
+-- What a test says of rows, by their marks: before a place it is the mark, and from there on it is true where the row is
+-- marked and it is true of each row that this one names by CASCADE.
+pub record Continues (rules : Rules) (rows : List Inserted) (from : ℕ) (shown : List Bool) (test : RowName → Bool) : Type 0 where
+  pub before : (k : ℕ) (it : Inserted) → slice_get rows k ≡ Some it → k < from → slice_index_or shown k false ≡ test it.name
+  pub onward : (k : ℕ) (it : Inserted) → slice_get rows k ≡ Some it → from ≤ k
+      → test it.name ≡ (slice_index_or shown k false && list_all (λ r. test r.name) (cascade_refs rules (row_of it)))
+
+-- whether a test is true of the place that is found, where one is
+abbrev pub passes_place : (ℕ → Bool) → Option ℕ → Bool
+passes_place test None = true
+passes_place test (Some place) = test place
+
+-- whether a test of names is true of a row, where there is one
+abbrev pub passes_row : (RowName → Bool) → Option Inserted → Bool
+passes_row test None = false
+passes_row test (Some it) = test it.name
+
+-- one more than the greatest of these, or 0
+unfoldable pub limit_of : List ℕ → ℕ
+limit_of [] = 0
+limit_of (place ∷ places) = max (suc place) (limit_of places)
+
+-- a row's name, where the column is a reference by RESTRICT
+abbrev pub name_by_restrict : RowName → Option (ℕ × Action) → Option RowName
+name_by_restrict name None = None
+name_by_restrict name (Some target) = if is_restrict target.1 then Some name else None
+
+-- the row that a value names by RESTRICT in a column of this kind
+abbrev pub held_in : ColumnKind → Value → Option RowName
+held_in kind (value.Row name) = name_by_restrict name (target_of kind)
+held_in kind other = None
+
+-- whether it is this row
+abbrev pub is_row : RowName → Option RowName → Bool
+is_row name None = false
+is_row name (Some named) = same_row named name
+
+-- whether a value names this row by RESTRICT in a column of this kind
+abbrev pub restricts_in : RowName → ColumnKind → Value → Bool
+restricts_in name kind v = is_row name (held_in kind v)
+
+-- whether one of these values does
+unfoldable pub any_restricts : RowName → List Column → List Value → Bool
+any_restricts name [] values = false
+any_restricts name (column ∷ columns) [] = false
+any_restricts name (column ∷ columns) (value ∷ values) = restricts_in name column.kind value || any_restricts name columns values

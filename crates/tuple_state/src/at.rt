@@ -1,0 +1,165 @@
+ghost use Rattle.std.specs.Prelude.{◌≡◌, ◌<◌, true, not, ◌&&◌, IfOk, Some, length, slice_get};
+ghost use Rattle.schema.specs.Visible.{is_deleted, is_visible, refs, same_row};
+ghost use Rattle.schema.specs.Columns.{is_restrict};
+ghost use Rattle.std.specs.List.{list_any};
+ghost use Rattle.tuple_state.specs.declared.inserted.Inserted.{Inserted as Row};
+ghost use Rattle.tuple_state.specs.Kept.{are_layered};
+ghost use Rattle.tuple_state.specs.Past.{StandsAt, child_then, count_then, done_then, equal_then, row_then};
+ghost use Rattle.tuple_state.specs.State.{done_in, row_of, rules_of};
+
+use crate::{Dropped, Tables};
+use std::alloc::{AllocError, Global};
+use std::collections::BTreeSet;
+use update_model::{Ancestors, RowEntry, RowName, RowsAt, Value};
+
+/// The rows that are visible after the ancestors of one update, which [`Tables::at`] lends.
+pub struct At<'a, A: Ancestors> {
+    tables: &'a Tables,
+    ancestors: &'a A,
+    position: u32,
+    ghost founded: { are_layered (rules_of tables.now) (done_in tables.now).inserted ≡ true },
+    ghost layered: { are_layered (rules_of tables.now) (done_then tables.now (λ p. A.ancestor ancestors.now p position)).inserted ≡ true },
+}
+
+impl<'a, A: Ancestors> At<'a, A> {
+    /// The rows of these tables that are visible after the ancestors of the update at this position.
+    pub(crate) fn new(tables: &'a Tables, ancestors: &'a A, position: u32) -> At<'a, A>
+        requires past { StandsAt tables.now (λ p. A.ancestor ancestors.now p position) }
+        ensures tables { result.tables.now ≡ tables.now }
+        ensures ancestors { result.ancestors.now ≡ ancestors.now }
+        ensures position { result.position ≡ position }
+    {
+        At {
+            tables,
+            ancestors,
+            position,
+        }
+    }
+
+    /// Whether an ancestor deletes this name.
+    fn is_dropped(&self, alloc: Global, name: &RowName) -> Result<bool, AllocError>
+        ensures { IfOk result (λ answer. answer ≡ is_deleted (done_then self.now.tables.now (λ p. A.ancestor self.now.ancestors.now p self.now.position)) name.now) }
+    {
+        for drop in self.tables.dropped() {
+            if self.drops(alloc, drop, name)? {
+                return Ok(true);
+            }
+        }
+        Ok(false)
+    }
+
+    /// Whether this is by an ancestor and deletes the name.
+    fn drops(&self, alloc: Global, drop: &Dropped, name: &RowName) -> Result<bool, AllocError>
+        ensures { IfOk result (λ answer. answer ≡ (A.ancestor self.now.ancestors.now drop.now.position self.now.position && same_row name.now drop.now.name)) }
+    {
+        if drop.name == *name {
+            self.ancestors
+                .is_ancestor(alloc, drop.position, self.position)
+        } else {
+            Ok(false)
+        }
+    }
+
+    /// Whether the row at a place is visible then and names this one by `RESTRICT`.
+    fn restricts(&self, alloc: Global, place: usize, name: &RowName) -> Result<bool, AllocError>
+        requires { place < length self.now.tables.now.inserted }
+        ensures { IfOk result (λ answer. (it : Row) → slice_get self.now.tables.now.inserted place ≡ Some it
+            → answer ≡ (is_visible (rules_of self.now.tables.now) (done_then self.now.tables.now (λ p. A.ancestor self.now.ancestors.now p self.now.position)) it.name
+            && list_any (λ r. is_restrict r.action && same_row r.name name.now) (refs (rules_of self.now.tables.now) (row_of it)))) }
+    {
+        if self.tables.restricts(place, name) {
+            self.stands(alloc, place)
+        } else {
+            Ok(false)
+        }
+    }
+
+    /// Whether the update that inserted the row at a place is an ancestor, and no ancestor deletes the row.
+    fn is_kept(&self, alloc: Global, place: usize) -> Result<bool, AllocError>
+        requires { place < length self.now.tables.now.inserted }
+        ensures { IfOk result (λ answer. (it : Row) → slice_get self.now.tables.now.inserted place ≡ Some it
+            → answer ≡ (A.ancestor self.now.ancestors.now it.position self.now.position && not (is_deleted (done_then self.now.tables.now (λ p. A.ancestor self.now.ancestors.now p self.now.position)) it.name))) }
+    {
+        let row = self.tables.row(place);
+        if !self
+            .ancestors
+            .is_ancestor(alloc, row.position, self.position)?
+        {
+            return Ok(false);
+        }
+        let dropped = self.is_dropped(alloc, &row.name)?;
+        Ok(!dropped)
+    }
+
+    /// Whether the row at a place is visible then. It looks at the rows to which `CASCADE` references lead from it, each
+    /// once, the newest first: a row names only rows before it.
+    fn stands(&self, alloc: Global, place: usize) -> Result<bool, AllocError>
+        requires { place < length self.now.tables.now.inserted }
+        ensures { IfOk result (λ answer. (it : Row) → slice_get self.now.tables.now.inserted place ≡ Some it
+            → answer ≡ is_visible (rules_of self.now.tables.now) (done_then self.now.tables.now (λ p. A.ancestor self.now.ancestors.now p self.now.position)) it.name) }
+    {
+        let mut pending = BTreeSet::new(alloc);
+        pending.insert(place)?;
+        while let Some(next) = pending.pop_last() {
+            if !self.is_kept(alloc, next)? {
+                return Ok(false);
+            }
+            self.tables.add_parents(next, &mut pending)?;
+        }
+        Ok(true)
+    }
+}
+
+impl<'a, A: Ancestors> RowsAt for At<'a, A> {
+    ghost row = { λ at. row_then at.tables.now (λ p. A.ancestor at.ancestors.now p at.position) };
+
+    ghost has_child = { λ at. child_then at.tables.now (λ p. A.ancestor at.ancestors.now p at.position) };
+
+    ghost equal_count = { λ at. equal_then at.tables.now (λ p. A.ancestor at.ancestors.now p at.position) };
+
+    ghost count = { λ at. count_then at.tables.now (λ p. A.ancestor at.ancestors.now p at.position) };
+
+    /// The row with this name, where it is visible then. It takes the time of a walk over the rows to which `CASCADE`
+    /// references lead from it, and over what deletes them.
+    fn row_at(&self, alloc: Global, name: &RowName) -> Result<Option<&RowEntry>, AllocError> {
+        match self.tables.place(name) {
+            Some(place) => {
+                if self.stands(alloc, place)? {
+                    Ok(Some(&self.tables.row(place).entry))
+                } else {
+                    Ok(None)
+                }
+            }
+            None => Ok(None),
+        }
+    }
+
+    /// Whether a row that is visible then names this one by `RESTRICT`. It goes over all rows, since no schema that is
+    /// accepted has such a reference.
+    fn restrict_child(&self, alloc: Global, name: &RowName) -> Result<bool, AllocError> {
+        for place in 0..self.tables.row_len() {
+            if self.restricts(alloc, place, name)? {
+                return Ok(true);
+            }
+        }
+        Ok(false)
+    }
+
+    /// How many rows of the table that are visible then have this value in this column, as `UNIQUE` compares them. It
+    /// goes over all rows, since no schema that is accepted has a `UNIQUE`.
+    fn equal_rows(
+        &self,
+        alloc: Global,
+        table: u8,
+        column: u8,
+        value: &Value,
+    ) -> Result<u32, AllocError> {
+        Err(AllocError)
+    }
+
+    /// How many rows of the table are visible then. It goes over all rows, since no schema that is accepted has an
+    /// `ATMOST`.
+    fn row_count(&self, alloc: Global, table: u8) -> Result<u32, AllocError> {
+        Err(AllocError)
+    }
+}

