@@ -5,11 +5,14 @@ pub mod Emptiness
 pub mod Growth
 pub mod Keeping
 pub mod Layers
+pub mod Listing
 pub mod Lookups
 pub mod Marking
 pub mod Marks
 pub mod Pasts
 pub mod Reaching
 pub mod Regrowth
+pub mod Rising
 pub mod Stepping
+pub mod Voiding
 pub mod Walking

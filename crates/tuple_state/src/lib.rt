@@ -14,6 +14,8 @@ mod dropped;
 mod inserted;
 mod laws;
 mod parents;
+mod showing;
+mod sorting;
 mod steps;
 mod tables;
 
