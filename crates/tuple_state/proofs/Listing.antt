@@ -136,16 +136,21 @@ mapped_kept f g p (x ∷ xs) =
 
 -- ---- the rows that a state lists in a table, in order of arrival
 
-pub arrived : State → ℕ → List ShownRow
-arrived state table =
+-- what a table lists of some of the rows
+abbrev pub listed_rows : State → ℕ → List Inserted → List ShownRow
+listed_rows state table rows =
     map (λ (it : Inserted). listed (shown (rules_of state) (done_in state) (row_of it)))
-    (filter (λ (it : Inserted). in_table table (row_of it) && is_visible (rules_of state) (done_in state) it.name) state.inserted)
+    (filter (λ (it : Inserted). in_table table (row_of it) && is_visible (rules_of state) (done_in state) it.name) rows)
+
+-- and of all of them
+abbrev pub arrived : State → ℕ → List ShownRow
+arrived state table = listed_rows state table state.inserted
 
 -- whether a row of a table is visible, and the row as the table lists it
-is_kept : State → ℕ → TableRow → Bool
+abbrev is_kept : State → ℕ → TableRow → Bool
 is_kept state table row = in_table table row && is_visible (rules_of state) (done_in state) row.name
 
-line_of : State → TableRow → ShownRow
+abbrev line_of : State → TableRow → ShownRow
 line_of state row = listed (shown (rules_of state) (done_in state) row)
 
 arrived_last : (state : State) (table : ℕ) → reverse (arrived state table) ≡ map (line_of state) (filter (is_kept state table) (done_in state).inserted)

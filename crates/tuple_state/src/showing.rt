@@ -100,22 +100,30 @@ fn shown_row(alloc: Global, tables: &Tables, row: &Inserted) -> Result<ShownRow,
     })
 }
 
-/// The visible rows of the table with this number in order of arrival, as it lists them.
-pub(crate) fn rows_of(
+/// Whether a row is one of the table with this number, and visible.
+fn is_listed(tables: &Tables, table: u8, row: &Inserted) -> bool
+    ensures { result ≡ (in_table table (row_of row.now) && is_visible (rules_of tables.now) (done_in tables.now) row.now.name) }
+{
+    row.entry.table == table && tables.is_shown(&row.name)
+}
+
+/// Those of these rows that are visible rows of the table with this number, as it lists them.
+pub(crate) fn listed_among(
     alloc: Global,
     tables: &Tables,
     table: u8,
+    rows: &[Inserted],
 ) -> Result<Vec<ShownRow>, AllocError>
-    ensures { IfOk result (λ rows. rows.items ≡ map (λ it. listed (shown (rules_of tables.now) (done_in tables.now) (row_of it)))
-        (filter (λ it. in_table table (row_of it) && is_visible (rules_of tables.now) (done_in tables.now) it.name) tables.now.inserted)) }
+    ensures { IfOk result (λ lines. lines.items ≡ map (λ it. listed (shown (rules_of tables.now) (done_in tables.now) (row_of it)))
+        (filter (λ it. in_table table (row_of it) && is_visible (rules_of tables.now) (done_in tables.now) it.name) rows.now)) }
 {
-    let mut rows = Vec::new(alloc);
-    for row in tables.inserted() {
-        if row.entry.table == table && tables.is_shown(&row.name) {
-            rows.push(shown_row(alloc, tables, row)?)?;
+    let mut lines = Vec::new(alloc);
+    for row in rows {
+        if is_listed(tables, table, row) {
+            lines.push(shown_row(alloc, tables, row)?)?;
         }
     }
-    Ok(rows)
+    Ok(lines)
 }
 
 /// Equal rows on memory of their own.

@@ -16,7 +16,7 @@ ghost use Rattle.tuple_state.specs.declared.inserted.Inserted.{Inserted as Row};
 
 use crate::columns::{columns_of, copy_lists};
 use crate::parents::{add_parents, add_places, remark};
-use crate::showing::{copy_rows, rows_of};
+use crate::showing::{copy_rows, listed_among};
 use crate::sorting::{sort_lines, sort_rows};
 use crate::steps::{dropped_by, inserted_by};
 use crate::{At, Dropped, Inserted};
@@ -207,13 +207,6 @@ impl Tables {
         }
     }
 
-    /// The rows in order of arrival.
-    pub(crate) fn inserted(&self) -> &[Inserted]
-        ensures { result.now ≡ self.now.inserted }
-    {
-        self.rows.as_slice()
-    }
-
     /// The columns of the table with this number. A table that is not there has none.
     pub(crate) fn columns(&self, table: u8) -> &[Column]
         ensures { result.now ≡ columns_at self.now.columns table }
@@ -228,8 +221,8 @@ impl Tables {
     pub fn rows(&self, alloc: Global, table: u8) -> Result<ShownRowList, AllocError>
         ensures { IfOk result (λ rows. (rules : Rules) (nodes : List NodeData) → IsStateOf rules nodes self.now → AreRowsIn rules nodes table rows) }
     {
-        let rows = rows_of(alloc, self, table)?;
-        Ok(ShownRowList::from_vec(sort_rows(rows)))
+        let lines = listed_among(alloc, self, table, self.rows.as_slice())?;
+        Ok(ShownRowList::from_vec(sort_rows(lines)))
     }
 
     /// The updates that do nothing, in rising order of ids, each with its reason.

@@ -14,11 +14,15 @@ index-requires c =
 
 pub returns-in-Some : goal.returns-in-Some
 returns-in-Some c =
-    mark_shown _ c.self.inside.shown.items c.self.invariant.marked c.args.row.now c.in-Some.place.now c.index.result.now
+    let inside = c.self.inside in
+    let state : State = record { columns = inside.columns.items; count = inside.count; inserted = inside.rows.items; dropped = inside.dropped.items; voids = inside.voids.items } in
+    mark_shown state c.self.inside.shown.items c.self.invariant.marked c.args.row.now c.in-Some.place.now c.index.result.now
     (sym (c.self.invariant.placed c.args.row.now) ∙ sym c.in-Some.ensures.value) c.index.ensures
     ∙ ap (λ (s : State). is_visible (rules_of s) (done_in s) c.args.row.now) c.self.view_is
 
 pub returns-in-None : goal.returns-in-None
 returns-in-None c =
-    none_shown _ c.args.row.now (sym (c.self.invariant.placed c.args.row.now) ∙ sym c.in-None.ensures.value)
+    let inside = c.self.inside in
+    let state : State = record { columns = inside.columns.items; count = inside.count; inserted = inside.rows.items; dropped = inside.dropped.items; voids = inside.voids.items } in
+    none_shown state c.args.row.now (sym (c.self.invariant.placed c.args.row.now) ∙ sym c.in-None.ensures.value)
     ∙ ap (λ (s : State). is_visible (rules_of s) (done_in s) c.args.row.now) c.self.view_is
