@@ -6,6 +6,7 @@ pub mod Finding
 pub mod Growth
 pub mod Keeping
 pub mod Layers
+pub mod Listing
 pub mod Lookups
 pub mod Marking
 pub mod Marks
@@ -13,5 +14,7 @@ pub mod Pasts
 pub mod Reaching
 pub mod Regrowth
 pub mod Restricting
+pub mod Rising
 pub mod Stepping
+pub mod Voiding
 pub mod Walking

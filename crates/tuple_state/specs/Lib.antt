@@ -1,5 +1,7 @@
 pub mod Kept
 pub mod Parents
 pub mod Past
+pub mod Showing
+pub mod Sorting
 pub mod State
 pub mod Steps

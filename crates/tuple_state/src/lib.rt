@@ -15,6 +15,8 @@ mod inserted;
 mod laws;
 mod parents;
 mod restricts;
+mod showing;
+mod sorting;
 mod steps;
 mod tables;
 

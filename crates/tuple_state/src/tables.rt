@@ -11,16 +11,18 @@ ghost use Rattle.schema.specs.Columns.{is_restrict};
 ghost use Rattle.validity.specs.Answers.{AreAnswers};
 ghost use Rattle.tuple_state.specs.Past.{IsNextVerdict, IsPastOf, StandsAt};
 ghost use Rattle.tuple_state.specs.Kept.{are_layered, place_of};
-ghost use Rattle.tuple_state.specs.Parents.{passes_place};
+ghost use Rattle.tuple_state.specs.Parents.{columns_at, passes_place};
 ghost use Rattle.tuple_state.specs.State.{IsStateOf, after, done_in, row_of, rules_of};
 ghost use Rattle.tuple_state.specs.declared.inserted.Inserted.{Inserted as Row};
 
-use crate::columns::columns_of;
+use crate::columns::{columns_of, copy_lists};
 use crate::parents::{add_parents, add_places, remark};
 use crate::restricts::restricts;
+use crate::showing::{copy_rows, listed_among};
+use crate::sorting::{sort_lines, sort_rows};
 use crate::steps::{dropped_by, inserted_by};
 use crate::{At, Dropped, Inserted};
-use schema::{ColumnList, Schema, ShownRowList, Verdict, VoidLine, VoidList};
+use schema::{Column, ColumnList, Schema, ShownRowList, Verdict, VoidLine, VoidList};
 use std::alloc::{AllocError, Global};
 use std::collections::{BTreeMap, BTreeSet};
 use std::marker::Model;
@@ -210,9 +212,26 @@ impl Tables {
     pub fn visible(&self, row: &RowName) -> bool
         ensures { (rules : Rules) (nodes : List NodeData) → IsStateOf rules nodes self.now → result ≡ is_visible rules (effects_in rules nodes) row.now }
     {
+        self.is_shown(row)
+    }
+
+    /// Whether a row with this name is visible.
+    pub(crate) fn is_shown(&self, row: &RowName) -> bool
+        ensures { result ≡ is_visible (rules_of self.now) (done_in self.now) row.now }
+    {
         match self.places.get(row) {
             Some(place) => self.shown[*place],
             None => false,
+        }
+    }
+
+    /// The columns of the table with this number. A table that is not there has none.
+    pub(crate) fn columns(&self, table: u8) -> &[Column]
+        ensures { result.now ≡ columns_at self.now.columns table }
+    {
+        match self.columns.get(usize::from(table)) {
+            Some(columns) => columns.as_slice(),
+            None => &[],
         }
     }
 
@@ -220,27 +239,36 @@ impl Tables {
     pub fn rows(&self, alloc: Global, table: u8) -> Result<ShownRowList, AllocError>
         ensures { IfOk result (λ rows. (rules : Rules) (nodes : List NodeData) → IsStateOf rules nodes self.now → AreRowsIn rules nodes table rows) }
     {
-        // TAKEN: `rows`, `voids` and `copy` are being written and proved by another helper in /work/h-rows (branch rows).
-        // Leave these three bodies to it; they are merged later. Go on with `At` (stands, row_at, restrict_child, equal_rows, row_count).
-        Err(AllocError)
+        let lines = listed_among(alloc, self, table, self.rows.as_slice())?;
+        Ok(ShownRowList::from_vec(sort_rows(lines)))
     }
 
     /// The updates that do nothing, in rising order of ids, each with its reason.
     pub fn voids(&self, alloc: Global) -> Result<VoidList, AllocError>
         ensures { IfOk result (λ lines. (rules : Rules) (nodes : List NodeData) → IsStateOf rules nodes self.now → AreVoidsIn rules nodes lines) }
     {
-        // TAKEN: `rows`, `voids` and `copy` are being written and proved by another helper in /work/h-rows (branch rows).
-        // Leave these three bodies to it; they are merged later. Go on with `At` (stands, row_at, restrict_child, equal_rows, row_count).
-        Err(AllocError)
+        let lines = Vec::from_slice(alloc, self.voids.as_slice())?;
+        Ok(VoidList::from_vec(sort_lines(lines)))
     }
 
     /// Equal tables on memory of their own.
     pub fn copy(&self, alloc: Global) -> Result<Tables, AllocError>
         ensures { IfOk result (λ tables. tables ≡ self.now) }
     {
-        // TAKEN: `rows`, `voids` and `copy` are being written and proved by another helper in /work/h-rows (branch rows).
-        // Leave these three bodies to it; they are merged later. Go on with `At` (stands, row_at, restrict_child, equal_rows, row_count).
-        Err(AllocError)
+        let columns = copy_lists(alloc, self.columns.as_slice())?;
+        let rows = copy_rows(alloc, self.rows.as_slice())?;
+        let mut places = BTreeMap::new(alloc);
+        add_places(&mut places, &[], rows.as_slice())?;
+        Ok(Tables {
+            alloc,
+            columns,
+            count: self.count,
+            rows,
+            places,
+            shown: Vec::from_slice(alloc, self.shown.as_slice())?,
+            dropped: Vec::from_slice(alloc, self.dropped.as_slice())?,
+            voids: Vec::from_slice(alloc, self.voids.as_slice())?,
+        })
     }
 
     /// The rows that are visible after the ancestors of the update at this position, where the first positions are those
