@@ -1,0 +1,121 @@
+-- Rows found by their names.
+use Rattle.std.proofs.Common.{◌≡◌, ℕ, zero, suc, ◌+◌, ◌<◌, Bool, true, false, cond, not, ◌||◌, List, [], ◌∷◌, ◌++◌, length, get_or, map, reverse, refl, sym, ap, ◌∙◌, subst, Option, Some, None, arith}
+use Rattle.std.specs.Prelude.{slice_get, is_some, filter}
+use Rattle.std.specs.List.{list_any, list_all, position_from}
+use Rattle.std.proofs.lemmas.List.{reverse-append, map-append}
+use Rattle.std.proofs.lemmas.List.Folds.{list_any-append}
+use Rattle.update_model.specs.declared.row_name.RowName.{RowName}
+use Rattle.update_model.specs.Node.{NodeData}
+use Rattle.update_model.proofs.Closed.{is_some-position}
+use Rattle.schema.specs.Visible.{Rules, TableRow, Effects, same_row, is_visible}
+use Rattle.schema.specs.Verdicts.{effects_in}
+use Rattle.schema.proofs.Standing.{row_from_same}
+use Rattle.tuple_state.specs.declared.inserted.Inserted.{Inserted}
+use Rattle.tuple_state.specs.State.{IsStateOf, State, done_in, row_of, rules_of, state_of}
+use Rattle.tuple_state.specs.Kept.{is_named, place_of}
+use Rattle.tuple_state.proofs.Effects.{did_is, columns_are}
+use Rattle.tuple_state.proofs.Layers.{SameColumns, same_columns, same_visible, unnamed_hidden}
+
+pub reverse_cons : {X : Type 0} (x : X) (xs : List X) → reverse (x ∷ xs) ≡ reverse xs ++ x ∷ []
+reverse_cons x xs = reverse-append (x ∷ []) xs
+
+or_turned : (a b : Bool) → (a || (b || false)) ≡ (b || a)
+or_turned true true = refl
+or_turned true false = refl
+or_turned false true = refl
+or_turned false false = refl
+
+pub any_reversed : {X : Type 0} (p : X → Bool) (xs : List X) → list_any p (reverse xs) ≡ list_any p xs
+any_reversed p [] = refl
+any_reversed p (x ∷ xs) =
+    ap (list_any p) (reverse_cons x xs) ∙ list_any-append p (reverse xs) (x ∷ []) ∙ or_turned (list_any p (reverse xs)) (p x) ∙ ap (λ b. p x || b) (any_reversed p xs)
+
+pub any_mapped : {X Y : Type 0} (f : X → Y) (p : Y → Bool) (xs : List X) → list_any p (map f xs) ≡ list_any (λ x. p (f x)) xs
+any_mapped f p [] = refl
+any_mapped f p (x ∷ xs) = ap (λ b. p (f x) || b) (any_mapped f p xs)
+
+-- whether a row has a name, in either order
+pub named_reversed : (rows : List Inserted) (name : RowName) → is_named (reverse (map row_of rows)) name ≡ list_any (λ (it : Inserted). same_row it.name name) rows
+named_reversed rows name =
+    any_reversed (λ (row : TableRow). same_row row.name name) (map row_of rows) ∙ any_mapped row_of (λ (row : TableRow). same_row row.name name) rows
+
+-- what stands at the place that is found
+pub record FoundAt {X : Type 0} (t : X → Bool) (i : ℕ) (xs : List X) (k : ℕ) : Type 0 where
+  pub off : ℕ
+  pub is : k ≡ i + off
+  pub below : off < length xs
+  pub it : X
+  pub at : slice_get xs off ≡ Some it
+  pub passes : t it ≡ true
+
+pub found_at : {X : Type 0} (t : X → Bool) (i : ℕ) (xs : List X) (k : ℕ) → position_from t i xs ≡ Some k → FoundAt t i xs k
+found_at t i [] k h = absurd (cc)
+found_at t i (x ∷ xs) k h =
+    elim (t x) as (λ b. t x ≡ b → cond b (Some i) (position_from t (i + 1) xs) ≡ Some k → FoundAt t i (x ∷ xs) k) [
+      | true ↦ λ e g. let same : i ≡ k = cc in record { off = 0; is = omega (arith, same); below = omega arith; it = x; at = refl; passes = e }
+      | false ↦ λ e g.
+          let rest = found_at t (i + 1) xs k g in
+          record { off = suc rest.off; is = omega (arith, rest.is); below = omega (arith, rest.below); it = rest.it; at = rest.at; passes = rest.passes }
+    ] refl h
+
+pub slice_get_mapped : {X Y : Type 0} (f : X → Y) (xs : List X) (k : ℕ) (x : X) → slice_get xs k ≡ Some x → slice_get (map f xs) k ≡ Some (f x)
+slice_get_mapped f [] k x h = absurd (cc)
+slice_get_mapped f (y ∷ xs) zero x h = let same : y ≡ x = cc in ap (λ z. Some (f z)) same
+slice_get_mapped f (y ∷ xs) (suc k) x h = slice_get_mapped f xs k x h
+
+pub get_or_from : {X : Type 0} (xs : List X) (k : ℕ) (d x : X) → slice_get xs k ≡ Some x → get_or xs k d ≡ x
+get_or_from [] k d x h = absurd (cc)
+get_or_from (y ∷ xs) zero d x h = let same : y ≡ x = cc in same
+get_or_from (y ∷ xs) (suc k) d x h = get_or_from xs k d x h
+
+-- the row that is found by its name
+pub record RowAt (rows : List Inserted) (name : RowName) (k : ℕ) : Type 0 where
+  pub below : k < length rows
+  pub it : Inserted
+  pub at : slice_get rows k ≡ Some it
+  pub name_is : it.name ≡ name
+
+pub row_found : (rows : List Inserted) (name : RowName) (k : ℕ) → place_of rows name ≡ Some k → RowAt rows name k
+row_found rows name k h =
+    let f = found_at (λ (it : Inserted). same_row it.name name) 0 rows k h in
+    let same : f.off ≡ k = omega (arith, f.is) in
+    record {
+      below = omega (arith, f.below, same);
+      it = f.it;
+      at = ap (slice_get rows) (sym same) ∙ f.at;
+      name_is = row_from_same f.it.name name f.passes;
+    }
+
+none_some : (o : Option ℕ) → o ≡ None → is_some o ≡ false
+none_some o h = ap is_some h
+
+pub unnamed_from_none : (rows : List Inserted) (name : RowName) → place_of rows name ≡ None → is_named (reverse (map row_of rows)) name ≡ false
+unnamed_from_none rows name h = named_reversed rows name ∙ sym (is_some-position (λ (it : Inserted). same_row it.name name) 0 rows) ∙ none_some _ h
+
+-- the rules of a state have the columns of those that it is a state of
+pub columns_same : (rules : Rules) (nodes : List NodeData) (state : State) → IsStateOf rules nodes state → SameColumns (rules_of state) rules
+columns_same rules nodes state held = same_columns rules state.columns (λ number values. false) (ap (λ (s : State). s.columns) held.is ∙ columns_are rules nodes)
+
+pub did_same : (rules : Rules) (nodes : List NodeData) (state : State) → IsStateOf rules nodes state → done_in state ≡ effects_in rules nodes
+did_same rules nodes state held = ap (λ (s : State). done_in s) held.is ∙ did_is rules nodes
+
+-- what a state shows is what its nodes do
+pub visible_now : (rules : Rules) (nodes : List NodeData) (state : State) → IsStateOf rules nodes state → (name : RowName)
+    → is_visible (rules_of state) (done_in state) name ≡ is_visible rules (effects_in rules nodes) name
+visible_now rules nodes state held name =
+    same_visible (columns_same rules nodes state held) (done_in state) name ∙ ap (λ (g : Effects). is_visible rules g name) (did_same rules nodes state held)
+
+-- a name that no row has is not visible
+pub hidden_now : (rules : Rules) (nodes : List NodeData) (state : State) → IsStateOf rules nodes state → (name : RowName) → place_of state.inserted name ≡ None
+    → false ≡ is_visible rules (effects_in rules nodes) name
+hidden_now rules nodes state held name none =
+    sym (unnamed_hidden (rules_of state) (done_in state) name (unnamed_from_none state.inserted name none) (length (done_in state).inserted)) ∙ visible_now rules nodes state held name
+
+-- the mark of a row that is found
+pub mark_now : (rules : Rules) (nodes : List NodeData) (state : State) (shown : List Bool) → IsStateOf rules nodes state
+    → shown ≡ map (λ (it : Inserted). is_visible (rules_of state) (done_in state) it.name) state.inserted → (name : RowName) (k : ℕ) (b : Bool) → place_of state.inserted name ≡ Some k
+    → b ≡ get_or shown k b → b ≡ is_visible rules (effects_in rules nodes) name
+mark_now rules nodes state shown held marked name k b found at =
+    let row = row_found state.inserted name k found in
+    let f : Inserted → Bool = λ it. is_visible (rules_of state) (done_in state) it.name in
+    at ∙ ap (λ l. get_or l k b) marked ∙ get_or_from (map f state.inserted) k b (f row.it) (slice_get_mapped f state.inserted k row.it row.at) ∙ ap (is_visible (rules_of state) (done_in state)) row.name_is ∙ visible_now rules nodes state held name

@@ -1,0 +1,10 @@
+use Rattle.schema.specs.Verdicts.{judge_next, judged}
+use Rattle.tuple_state.specs.State.{after, state_of}
+use Rattle.tuple_state.proofs.laws.applied_is_next.Goals as goal
+
+pub returns : goal.returns
+unfolding state_of
+returns c rules nodes state node verdict held next is = record {
+  closed = (next, held.closed);
+  is = λ i. after (held.is i) node (is i);
+}

@@ -1,0 +1,4 @@
+pub mod Kept
+pub mod Past
+pub mod State
+pub mod Steps

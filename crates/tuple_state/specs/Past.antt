@@ -1,0 +1,66 @@
+-- The rows that are visible after the ancestors of one update, and what they answer.
+use Rattle.std.specs.Prelude.{◌≡◌, ℕ, ◌<◌, ◌+◌, Bool, ◌&&◌, List, ◌∷◌, ◌++◌, count_by, filter, length, map, reverse, Option}
+use Rattle.update_model.specs.declared.row_entry.RowEntry.{RowEntry}
+use Rattle.update_model.specs.declared.row_name.RowName.{RowName}
+use Rattle.update_model.specs.declared.value.Value.{Value}
+use Rattle.update_model.specs.Node.{NodeData}
+use Rattle.row_check.specs.Meaning.{value_at}
+use Rattle.schema.specs.declared.verdict.Verdict.{Verdict}
+use Rattle.schema.specs.Nodes.{IsNext}
+use Rattle.schema.specs.Verdicts.{ancestor_of, effects, in_table, judge_next, judged}
+use Rattle.schema.specs.Visible.{Effects, Rules, TableRow, visible_rows}
+use Rattle.row_check.specs.declared.cmp.Cmp.TheVariants as cmp
+use Rattle.row_check.specs.Comparisons.{compares}
+use Rattle.validity.specs.Answers.{entry_in, has_child_in}
+use Rattle.tuple_state.specs.State.{IsStateOf, State, row_of, rules_of}
+
+-- This verdict is the one on an update that is next in tables of fewer than 131,072 updates.
+pub record IsNextVerdict (state : State) (node : NodeData) (verdict : Verdict) : Type 0 where
+  pub rules : Rules
+  pub nodes : List NodeData
+  pub is : IsStateOf rules nodes state
+  pub next : IsNext nodes node
+  pub few : length nodes < 131072
+  pub judged : verdict ≡ (judge_next rules (judged rules nodes) node).verdict
+
+-- Of the positions of these nodes, the past holds those of the ancestors of the next one.
+pub record IsPastOf (rules : Rules) (nodes : List NodeData) (node : NodeData) (past : ℕ → Bool) : Type 0 where
+  pub next : IsNext nodes node
+  pub exact : (newer : List NodeData) (member : NodeData) (older : List NodeData) → nodes ≡ newer ++ member ∷ older
+      → past (length older) ≡ ancestor_of (judged rules nodes) node member.id
+
+-- The past holds the positions of the ancestors of some next update.
+pub record StandsAt (state : State) (past : ℕ → Bool) : Type 0 where
+  pub rules : Rules
+  pub nodes : List NodeData
+  pub node : NodeData
+  pub is : IsStateOf rules nodes state
+  pub past_of : IsPastOf rules nodes node past
+
+-- what the updates did whose positions the past holds
+abbrev pub done_then : State → (ℕ → Bool) → Effects
+done_then state past = record {
+  inserted = reverse (map row_of (filter (λ it. past it.position) state.inserted));
+  deleted = reverse (map (λ it. it.name) (filter (λ it. past it.position) state.dropped));
+}
+
+-- the rows that are visible then
+abbrev pub visible_then : State → (ℕ → Bool) → List TableRow
+visible_then state past = visible_rows (rules_of state) (done_then state past)
+
+-- the visible row with a name
+abbrev pub row_then : State → (ℕ → Bool) → RowName → Option RowEntry
+row_then state past name = entry_in (visible_then state past) name
+
+-- whether a visible row names this one by RESTRICT
+abbrev pub child_then : State → (ℕ → Bool) → RowName → Bool
+child_then state past name = has_child_in (rules_of state) (visible_then state past) name
+
+-- how many visible rows of a table have a value in a column
+abbrev pub equal_then : State → (ℕ → Bool) → ℕ → ℕ → Value → ℕ
+equal_then state past table column value =
+    count_by (λ row. in_table table row && compares cmp.Eq (value_at row.values column) value) (visible_then state past)
+
+-- how many visible rows a table has
+abbrev pub count_then : State → (ℕ → Bool) → ℕ → ℕ
+count_then state past table = count_by (in_table table) (visible_then state past)

@@ -1,0 +1,71 @@
+-- What tables hold: what the valid updates did, in the order in which they were applied, and the updates that do nothing.
+use Rattle.std.specs.Prelude.{◌≡◌, ℕ, ◌+◌, false, List, [], ◌∷◌, ◌++◌, map, reverse}
+use Rattle.update_model.specs.declared.row_name.RowName.{RowName}
+use Rattle.update_model.specs.declared.value.Value.{Value}
+use Rattle.update_model.specs.Node.{NodeData}
+use Rattle.schema.specs.declared.column.Column.{Column}
+use Rattle.schema.specs.declared.table_def.TableDef.{TableDef}
+use Rattle.schema.specs.declared.verdict.Verdict.{Verdict}
+use Rattle.schema.specs.declared.verdict.Verdict.TheVariants as verdict
+use Rattle.schema.specs.declared.void_line.VoidLine.{VoidLine}
+use Rattle.schema.specs.Nodes.{IsClosed}
+use Rattle.schema.specs.Tables.{void_line}
+use Rattle.schema.specs.Verdicts.{effects_of, judge_next, judged}
+use Rattle.schema.specs.Visible.{Effects, Rules, TableRow, missing_table}
+use Rattle.tuple_state.specs.declared.inserted.Inserted.{Inserted}
+use Rattle.tuple_state.specs.declared.dropped.Dropped.{Dropped}
+
+-- the columns of each table, how many updates were applied, what the valid ones did, oldest first, and the void ones
+pub record State : Type 0 where
+  pub columns : List (List Column)
+  pub count : ℕ
+  pub inserted : List Inserted
+  pub dropped : List Dropped
+  pub voids : List VoidLine
+
+-- a row, as the update at this position inserts it
+abbrev pub inserted_at : ℕ → TableRow → Inserted
+inserted_at position row =
+    record { position = position; name = row.name; entry = record { table = row.table; author = row.author; values = row.values } }
+
+-- the row that was inserted
+abbrev pub row_of : Inserted → TableRow
+row_of it = record { name = it.name; table = it.entry.table; author = it.entry.author; values = it.entry.values }
+
+-- a name, as the update at this position deletes it
+abbrev pub dropped_at : ℕ → RowName → Dropped
+dropped_at position name = record { position = position; name = name }
+
+-- the state after one more update: a valid one's effects come last, a void one has its line and nothing else
+abbrev pub after : State → NodeData → Verdict → State
+after state node verdict.Valid = record state {
+  count = state.count + 1;
+  inserted = state.inserted ++ map (inserted_at state.count) (reverse (effects_of node).inserted);
+  dropped = state.dropped ++ map (dropped_at state.count) (reverse (effects_of node).deleted);
+}
+after state node (verdict.Void reason operation) = record state {
+  count = state.count + 1;
+  voids = state.voids ++ void_line node.id (verdict.Void reason operation);
+}
+
+-- the state before any update
+abbrev pub empty_state : List TableDef → State
+empty_state tables = record { columns = map (λ table. table.columns) tables; count = 0; inserted = []; dropped = []; voids = [] }
+
+-- the state after the nodes of a closed list, newest first, each judged on its ancestors
+unfoldable pub state_of : Rules → List NodeData → State
+state_of rules [] = empty_state rules.tables
+state_of rules (node ∷ older) = after (state_of rules older) node (judge_next rules (judged rules older) node).verdict
+
+-- The tables hold what these nodes do.
+pub record IsStateOf (rules : Rules) (nodes : List NodeData) (state : State) : Type 0 where
+  pub closed : IsClosed nodes
+  pub is : state ≡ state_of rules nodes
+
+-- what the valid updates did, as visibility asks for it
+abbrev pub done_in : State → Effects
+done_in state = record { inserted = reverse (map row_of state.inserted); deleted = reverse (map (λ it. it.name) state.dropped) }
+
+-- rules with these columns. Which rows are visible goes by columns alone
+abbrev pub rules_of : State → Rules
+rules_of state = record { tables = map (λ columns. record missing_table { columns = columns }) state.columns; ask = λ number values. false }

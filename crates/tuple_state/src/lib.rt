@@ -1,0 +1,23 @@
+//! What tables hold after valid updates, kept as the updates arrive.
+//!
+//! [`Tables`] takes one update after another with its verdict. It keeps the rows that the valid ones inserted, the names
+//! that they deleted, and a line for each update that does nothing, and it answers which rows are visible: now
+//! ([`Tables::visible`], [`Tables::rows`]), or after the ancestors of one update ([`Tables::at`], by which the next
+//! verdict is found).
+//!
+//! It judges nothing itself: whoever applies an update says its verdict, and a contract asks that it is the right one.
+#![tactic(auto)]
+
+mod at;
+mod columns;
+mod dropped;
+mod inserted;
+mod laws;
+mod steps;
+mod tables;
+
+pub use at::At;
+pub use dropped::Dropped;
+pub use inserted::Inserted;
+pub use laws::{applied_is_next, states_are_effects};
+pub use tables::Tables;
