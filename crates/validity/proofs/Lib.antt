@@ -1,6 +1,7 @@
 mod Asked
 mod Fitting
 mod Lent
+mod Limits
 mod Named
 mod Reasons
 mod Steps

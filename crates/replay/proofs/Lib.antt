@@ -1,0 +1,3 @@
+mod Ancestors
+mod Arriving
+mod Places
