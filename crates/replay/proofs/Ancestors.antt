@@ -38,7 +38,7 @@ placed_older place n older next p = record {
 pub length-places : (place : UpdateId → Option ℕ) (ns : List NodeData) → length (places_of place ns) ≡ length ns
 unfolding places_of
 length-places place [] = refl
-length-places place (n ∷ older) = let e : length (places_of place older) ≡ length older = length-places place older in simp length-append (omega arith)
+length-places place (n ∷ older) = let e : length (places_of place older) ≡ length older = length-places place older in let more = length-append (places_of place older) (filter_map place n.preds ∷ []) in omega (arith, e, more)
 
 -- what stands at the end
 last_preds : (xs : List (List ℕ)) (x : List ℕ) → preds_at (xs ++ x ∷ []) (length xs) ≡ x

@@ -82,11 +82,14 @@ found_in_front [] more id from held = absurd (cc)
 found_in_front (b ∷ front) more id from held =
     let turned = sym (last_first (node_of b) (map node_of front)) in
     let step : (t : Bool) → same_id id (id_of b) ≡ t
-        → (k : ℕ) × (cond t (Some from) (position_from (λ e. same_id id e.id) (from + 1) (map entry_of (front ++ more))) ≡ Some (from + k)) × IsAt (reverse (map node_of (b ∷ front))) id k =
+    → (k : ℕ) × (cond t (Some from) (position_from (λ e. same_id id e.id) (from + 1) (map entry_of (front ++ more))) ≡ Some (from + k)) × IsAt (reverse (map node_of (b ∷ front))) id k =
     elim [
-      | true ↦ λ same. (0, ap Some (omega arith),
-          subst (λ (l : List NodeData). IsAt l id 0) turned
-          (subst (λ (x : UpdateId). IsAt (reverse (map node_of front) ++ node_of b ∷ []) x 0) (sym (id_from_same id (id_of b) same)) (at_last (reverse (map node_of front)) (node_of b))))
+      | true ↦ λ same. (
+        0,
+        ap Some (omega arith),
+        subst (λ (l : List NodeData). IsAt l id 0) turned
+            (subst (λ (x : UpdateId). IsAt (reverse (map node_of front) ++ node_of b ∷ []) x 0) (sym (id_from_same id (id_of b) same)) (at_last (reverse (map node_of front)) (node_of b))),
+      )
       | false ↦ λ apart.
           let there : holds (reverse (map node_of front)) id ≡ true = elim (held_cases b front id held) [ inl there ↦ there | inr same ↦ absurd (cc) ] in
           let spot = found_in_front front more id (from + 1) there in
@@ -136,7 +139,7 @@ past_is rules graph i bytes e closed lower =
           ap (λ l. is_ancestor (places_of place l) (length older) i) next
           ∙ ap (λ k. is_ancestor (places_of place (n ∷ ns)) (length older) k) (sym size)
           ∙ sym (next_ancestors rules place ns both.1 placed each n both.0 low member.id (length older)
-              (subst (λ (l : List NodeData). IsAt l member.id (length older)) (sym is) (split_at newer member older)));
+          (subst (λ (l : List NodeData). IsAt l member.id (length older)) (sym is) (split_at newer member older)));
     }
 
 pub places_earlier : (graph : List (List ℕ)) (i : ℕ) (bytes : List ℕ) → slice_get graph i ≡ Some bytes → IsClosed (nodes_before graph (i + 1))
@@ -146,3 +149,6 @@ places_earlier graph i bytes e closed =
     let places = filter_map (place_in graph) (preds_of bytes) in
     subst (λ (n : ℕ). All (λ p. p < n) places) (sym (length-places (place_in graph) (nodes_before graph i)))
     (All-from_recursion (λ p. p < length (nodes_before graph i)) places (places_low (place_in graph) (nodes_before graph i) (front_placed graph i) (preds_of bytes) both.0.preds))
+
+pub length-before : (graph : List (List ℕ)) (count : ℕ) → count ≤ length graph → length (places_before graph count) ≡ count
+length-before graph count low = length-places (place_in graph) (nodes_before graph count) ∙ length-nodes graph count low

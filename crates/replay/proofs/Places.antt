@@ -59,5 +59,5 @@ at_last (m ∷ older) n = inr (at_last older n)
 
 pub at_shift : (ns : List NodeData) (n : NodeData) (id : UpdateId) (k : ℕ) → IsAt ns id k → IsAt (ns ++ n ∷ []) id (suc k)
 at_shift [] n id k at = absurd at
-at_shift (m ∷ older) n id k (inl here) = let e = here.1 in inl (here.0, simp length-append (omega arith))
+at_shift (m ∷ older) n id k (inl here) = let e = here.1 in let more = length-append older (n ∷ []) in inl (here.0, omega (arith, e, more))
 at_shift (m ∷ older) n id k (inr there) = inr (at_shift older n id k there)
