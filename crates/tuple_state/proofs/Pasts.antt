@@ -66,6 +66,14 @@ any_two : {X : Type 0} (P : X → Type 0) (p q : X → Bool) → ((x : X) → P 
 any_two P p q h [] s e = e
 any_two P p q h (x ∷ xs) s e = elim (or_cases (p x) _ e) [ inl here ↦ or_left _ _ (h x s.0 here) | inr there ↦ or_right (q x) _ (any_two P p q h xs s.1 there) ]
 
+each_later : (R : Judged → Judged → Type 0) (x : Judged) (all js : List Judged) → AllByRecursion (λ j. R j x) js → AllByRecursion (λ j. AllByRecursion (λ k. R j k) all) js → AllByRecursion (λ j. AllByRecursion (λ k. R j k) (x ∷ all)) js
+each_later R x all [] a b = tt
+each_later R x all (j ∷ js) a b = ((a.0, b.0), each_later R x all js a.1 b.1)
+
+late : (node : NodeData) (js : List Judged) → (list_any (λ j. j.is_ancestor node.id) js ≡ true → ⊥) → AllByRecursion (λ j. j.is_ancestor node.id ≡ true → (id : UpdateId) → has node.preds id ≡ true → j.is_ancestor id ≡ true) js
+late node [] none = tt
+late node (j ∷ js) none = ((λ h id named. absurd (none (or_left _ _ h))), late node js (λ h. none (or_right (j.is_ancestor node.id) _ h)))
+
 module _ (rules : Rules) where
   -- no later node is an ancestor
   not_own : (node : NodeData) (older : List NodeData) → IsClosed (node ∷ older) → ancestor_of (judged rules older) node node.id ≡ true → ⊥
@@ -103,17 +111,9 @@ module _ (rules : Rules) where
       let rest = transitive older c.1 in
       let js = judged rules older in (
         ((λ h id named. absurd (not_own node older c h)), through node js js (λ p h. h) rest (names_own older)),
-        each_later (λ j k. j.is_ancestor k.node.id ≡ true → (id : UpdateId) → has k.node.preds id ≡ true → j.is_ancestor id ≡ true) (judge_next rules js node) js
-        (late js (λ h. both_ways _ c.0.new (ancestors_held rules older c.1 node.id h))) rest,
+        each_later (λ j k. j.is_ancestor k.node.id ≡ true → (id : UpdateId) → has k.node.preds id ≡ true → j.is_ancestor id ≡ true) (judge_next rules js node) js js
+        (late node js (λ h. both_ways _ c.0.new (ancestors_held rules older c.1 node.id h))) rest,
       )
-  where
-    each_later : (R : Judged → Judged → Type 0) (x : Judged) (js : List Judged) → {all : List Judged} → AllByRecursion (λ j. R j x) js → AllByRecursion (λ j. AllByRecursion (λ k. R j k) all) js → AllByRecursion (λ j. AllByRecursion (λ k. R j k) (x ∷ all)) js
-    each_later R x [] a b = tt
-    each_later R x (j ∷ js) a b = ((a.0, b.0), each_later R x js a.1 b.1)
-    late : (js : List Judged) → (list_any (λ j. j.is_ancestor node.id) js ≡ true → ⊥) → AllByRecursion (λ j. j.is_ancestor node.id ≡ true → (id : UpdateId) → has node.preds id ≡ true → j.is_ancestor id ≡ true) js
-    late [] none = tt
-    late (j ∷ js) none = ((λ h id named. absurd (none (or_left _ _ h))), late js (λ h. none (or_right (j.is_ancestor node.id) _ h)))
-
   -- the ancestors of the next node have their predecessors among them
   pub past_keeps : (node : NodeData) (older : List NodeData) → IsClosed older → KeepsPreds (ancestor_of (judged rules older) node) (judged rules older)
   past_keeps node older c =
@@ -207,7 +207,7 @@ agrees_from past keep newer (node ∷ older) h =
     (h newer node older refl, agrees_from past keep (newer ++ node ∷ []) older (λ front member behind e. h front member behind (sym (append_assoc newer (node ∷ []) older) ∙ e)))
 
 kept_rows : (past : ℕ → Bool) (position : ℕ) (rows : List TableRow) → filter (λ (it : Inserted). past it.position) (map (inserted_at position) rows) ≡ cond (past position) (map (inserted_at position) rows) []
-kept_rows past position [] = elim (past position) as (λ b. [] ≡ cond b [] []) [ true ↦ refl | false ↦ refl ]
+kept_rows past position [] = let none : (b : Bool) → ◌≡◌ {A = List Inserted} [] (cond b [] []) = elim [ true ↦ refl | false ↦ refl ] in none (past position)
 kept_rows past position (row ∷ rows) =
     let rest = kept_rows past position rows in
     let step : (b : Bool) → filter (λ (it : Inserted). past it.position) (map (inserted_at position) rows) ≡ cond b (map (inserted_at position) rows) []
@@ -217,7 +217,7 @@ kept_rows past position (row ∷ rows) =
     step (past position) rest
 
 kept_names : (past : ℕ → Bool) (position : ℕ) (names : List RowName) → filter (λ (it : Dropped). past it.position) (map (dropped_at position) names) ≡ cond (past position) (map (dropped_at position) names) []
-kept_names past position [] = elim (past position) as (λ b. [] ≡ cond b [] []) [ true ↦ refl | false ↦ refl ]
+kept_names past position [] = let none : (b : Bool) → ◌≡◌ {A = List Dropped} [] (cond b [] []) = elim [ true ↦ refl | false ↦ refl ] in none (past position)
 kept_names past position (name ∷ names) =
     let rest = kept_names past position names in
     let step : (b : Bool) → filter (λ (it : Dropped). past it.position) (map (dropped_at position) names) ≡ cond b (map (dropped_at position) names) []

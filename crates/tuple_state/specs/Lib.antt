@@ -1,4 +1,5 @@
 pub mod Kept
+pub mod Parents
 pub mod Past
 pub mod State
 pub mod Steps

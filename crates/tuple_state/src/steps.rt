@@ -16,8 +16,9 @@ pub(crate) fn inserted_by(
     ensures { IfOk result (λ rows. rows.items ≡ map (inserted_at position) (reverse (effects_of node.now).inserted)) }
 {
     let mut rows = Vec::new(alloc);
-    for (number, op) in node.ops.as_slice().iter().enumerate() {
-        add_row(alloc, &mut rows, position, node, number as u16, op)?;
+    let ops = node.ops.as_slice();
+    for number in 0..ops.len() {
+        add_row(alloc, &mut rows, position, node, number as u16, &ops[number])?;
     }
     Ok(rows)
 }

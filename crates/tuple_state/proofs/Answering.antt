@@ -1,0 +1,81 @@
+-- What is answered of the rows visible after an update's ancestors.
+use Rattle.std.proofs.Common.{◌≡◌, ℕ, Bool, true, false, cond, List, [], ◌∷◌, refl, sym, ap, ◌∙◌, subst}
+use Rattle.std.specs.Prelude.{filter, Contains}
+use Rattle.std.specs.List.{list_any, AllByRecursion}
+use Rattle.std.proofs.lemmas.Bool.{both_ways, or_parts}
+use Rattle.std.proofs.lemmas.List.Elements.{All-contains, All-from_recursion}
+use Rattle.update_model.specs.declared.row_name.RowName.{RowName}
+use Rattle.update_model.specs.Node.{NodeData}
+use Rattle.schema.specs.Verdicts.{ancestor_of, effects, judged}
+use Rattle.schema.specs.Visible.{Effects, Rules, TableRow, is_visible, same_row, visible_rows}
+use Rattle.schema.proofs.Standing.{row_from_same, same_row-refl, each-map}
+use Rattle.validity.specs.Answers.{AreAnswers, entry_in, has_child_in}
+use Rattle.tuple_state.specs.Kept.{are_layered, is_named}
+use Rattle.tuple_state.specs.Past.{IsPastOf, StandsAt, child_then, done_then, row_then, visible_then}
+use Rattle.tuple_state.specs.State.{IsStateOf, State, rules_of}
+use Rattle.tuple_state.proofs.Layers.{layer_parts, same_child, same_layered, same_rows}
+use Rattle.tuple_state.proofs.Lookups.{columns_same}
+use Rattle.tuple_state.proofs.Pasts.{done_past, layered_past}
+
+none_named : (older : List TableRow) (name : RowName) → is_named older name ≡ false → AllByRecursion (λ b. same_row b.name name ≡ false) older
+none_named [] name h = tt
+none_named (row ∷ older) name h = let parts = or_parts (same_row row.name name) _ h in (parts.0, none_named older name parts.1)
+
+same_turned : (a b : RowName) → same_row a b ≡ true → same_row b a ≡ true
+same_turned a b h = subst (λ (n : RowName). same_row n a ≡ true) (row_from_same a b h) (same_row-refl a)
+
+joined_with : (row : TableRow) (older xs : List TableRow) → AllByRecursion (λ b. same_row b.name row.name ≡ false) xs → AllByRecursion (λ a. AllByRecursion (λ b. same_row a.name b.name ≡ true → a ≡ b) older) xs
+    → AllByRecursion (λ a. AllByRecursion (λ b. same_row a.name b.name ≡ true → a ≡ b) (row ∷ older)) xs
+joined_with row older [] n s = tt
+joined_with row older (x ∷ xs) n s = (((λ same. absurd (both_ways _ n.0 same)), s.0), joined_with row older xs n.1 s.1)
+
+-- two layered rows of one name are one
+once_each : (rules : Rules) (rows : List TableRow) → are_layered rules rows ≡ true → AllByRecursion (λ a. AllByRecursion (λ b. same_row a.name b.name ≡ true → a ≡ b) rows) rows
+once_each rules [] h = tt
+once_each rules (row ∷ older) h =
+    let it = layer_parts rules older row h in
+    let apart = none_named older row.name it.new in
+    let rest = once_each rules older it.rest in (
+      ((λ _. refl), each-map (λ (b : TableRow). same_row b.name row.name ≡ false) (λ (b : TableRow). same_row row.name b.name ≡ true → row ≡ b) (λ b n same. absurd (both_ways _ n (same_turned row.name b.name same))) older apart),
+      joined_with row older older apart rest,
+    )
+
+each_filtered : {X : Type 0} (P : X → Type 0) (p : X → Bool) (xs : List X) → AllByRecursion P xs → AllByRecursion P (filter p xs)
+each_filtered P p [] h = tt
+each_filtered P p (x ∷ xs) h =
+    let rest = each_filtered P p xs h.1 in
+    elim (p x) as (λ b. AllByRecursion P (cond b (x ∷ filter p xs) (filter p xs))) [ true ↦ (h.0, rest) | false ↦ rest ]
+
+at_member : {X : Type 0} (P : X → Type 0) (xs : List X) (x : X) → AllByRecursion P xs → Contains xs x → P x
+at_member P xs x h m = All-contains P xs x (All-from_recursion P xs h) m
+
+pub visible_once : (rules : Rules) (g : Effects) → are_layered rules g.inserted ≡ true → (a b : TableRow) → Contains (visible_rows rules g) a → Contains (visible_rows rules g) b
+    → same_row a.name b.name ≡ true → a ≡ b
+visible_once rules g h a b in_a in_b same =
+    let each = once_each rules g.inserted h in
+    let some = each-map (λ x. AllByRecursion (λ y. same_row x.name y.name ≡ true → x ≡ y) g.inserted) (λ x. AllByRecursion (λ y. same_row x.name y.name ≡ true → x ≡ y) (visible_rows rules g)) (λ x s. each_filtered (λ y. same_row x.name y.name ≡ true → x ≡ y) (λ row. is_visible rules g row.name) g.inserted s) g.inserted each in
+    at_member (λ y. same_row a.name y.name ≡ true → a ≡ y) (visible_rows rules g) b
+    (at_member (λ x. AllByRecursion (λ y. same_row x.name y.name ≡ true → x ≡ y) (visible_rows rules g)) (visible_rows rules g) a
+    (each_filtered (λ x. AllByRecursion (λ y. same_row x.name y.name ≡ true → x ≡ y) (visible_rows rules g)) (λ row. is_visible rules g row.name) g.inserted some) in_a) in_b same
+
+module _ (rules : Rules) (nodes : List NodeData) (node : NodeData) (state : State) (past : ℕ → Bool) (held : IsStateOf rules nodes state) (of : IsPastOf rules nodes node past) where
+  abbrev ancestors_did : Effects
+  ancestors_did = effects (filter (λ j. ancestor_of (judged rules nodes) node j.node.id) (judged rules nodes))
+
+  done_is : done_then state past ≡ ancestors_did
+  done_is = ap (λ (s : State). done_then s past) held.is ∙ done_past rules nodes node past of
+
+  pub layered_then : are_layered (rules_of state) (done_then state past).inserted ≡ true
+  layered_then =
+      same_layered (columns_same rules nodes state held) (done_then state past).inserted ∙ ap (λ (g : Effects). are_layered rules g.inserted) done_is
+      ∙ layered_past rules nodes node held.closed
+
+  rows_is : visible_then state past ≡ visible_rows rules ancestors_did
+  rows_is = same_rows (columns_same rules nodes state held) (done_then state past) ∙ ap (visible_rows rules) done_is
+
+  pub answers_then : AreAnswers rules ancestors_did (row_then state past) (child_then state past)
+  answers_then = record {
+    once = visible_once rules ancestors_did (layered_past rules nodes node held.closed);
+    row = λ name. ap (λ rows. entry_in rows name) rows_is;
+    child = λ name. same_child (columns_same rules nodes state held) (visible_then state past) name ∙ ap (λ rows. has_child_in rules rows name) rows_is;
+  }

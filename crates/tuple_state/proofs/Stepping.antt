@@ -1,0 +1,74 @@
+-- What operations insert and delete one by one is what a node does.
+use Rattle.std.proofs.Common.{◌≡◌, ℕ, zero, suc, ◌+◌, ◌<◌, ◌≤◌, List, [], ◌∷◌, ◌++◌, length, get_or, drop, map, reverse, refl, sym, ap, ◌∙◌, append_assoc, drop-cons, arith}
+use Rattle.std.proofs.lemmas.List.{append-nil, map-append}
+use Rattle.update_model.specs.declared.op.Op.{Op}
+use Rattle.update_model.specs.declared.op.Op.TheVariants.{Insert, Delete}
+use Rattle.update_model.specs.declared.row_name.RowName.{RowName}
+use Rattle.update_model.specs.Node.{NodeData}
+use Rattle.schema.specs.Verdicts.{effects_after, effects_of, nothing, row_inserted}
+use Rattle.schema.specs.Visible.{Effects, TableRow}
+use Rattle.tuple_state.specs.declared.inserted.Inserted.{Inserted}
+use Rattle.tuple_state.specs.declared.dropped.Dropped.{Dropped}
+use Rattle.tuple_state.specs.State.{dropped_at, inserted_at}
+use Rattle.tuple_state.specs.Steps.{name_by, names_by, row_by, rows_by}
+use Rattle.tuple_state.proofs.Lookups.{reverse_cons}
+
+-- one more at the end of a list that is turned round
+turned_more : {X Y : Type 0} (f : X → Y) (x : X) (xs : List X) (rest : List Y) → map f (reverse (x ∷ xs)) ++ rest ≡ map f (reverse xs) ++ f x ∷ rest
+turned_more f x xs rest =
+    ap (λ l. map f l ++ rest) (reverse_cons x xs) ∙ ap (λ l. l ++ rest) (map-append f (reverse xs) (x ∷ [])) ∙ append_assoc (map f (reverse xs)) (f x ∷ []) rest
+
+rows_after : (position : ℕ) (node : NodeData) (number : ℕ) (did : Effects) (ops : List Op)
+    → map (inserted_at position) (reverse (effects_after node number did ops).inserted) ≡ map (inserted_at position) (reverse did.inserted) ++ rows_by position node number ops
+unfolding rows_by
+rows_after position node number did [] = sym (append-nil _)
+rows_after position node number did (Insert table values ∷ ops) =
+    rows_after position node (number + 1) (record did { inserted = row_inserted node number table values ∷ did.inserted }) ops
+    ∙ turned_more (inserted_at position) (row_inserted node number table values) did.inserted (rows_by position node (number + 1) ops)
+rows_after position node number did (Delete name ∷ ops) = rows_after position node (number + 1) (record did { deleted = name ∷ did.deleted }) ops
+
+names_after : (position : ℕ) (node : NodeData) (number : ℕ) (did : Effects) (ops : List Op)
+    → map (dropped_at position) (reverse (effects_after node number did ops).deleted) ≡ map (dropped_at position) (reverse did.deleted) ++ names_by position ops
+unfolding names_by
+names_after position node number did [] = sym (append-nil _)
+names_after position node number did (Insert table values ∷ ops) = names_after position node (number + 1) (record did { inserted = row_inserted node number table values ∷ did.inserted }) ops
+names_after position node number did (Delete name ∷ ops) =
+    names_after position node (number + 1) (record did { deleted = name ∷ did.deleted }) ops
+    ∙ turned_more (dropped_at position) name did.deleted (names_by position ops)
+
+pub rows_all : (position : ℕ) (node : NodeData) → rows_by position node 0 node.ops ≡ map (inserted_at position) (reverse (effects_of node).inserted)
+rows_all position node = sym (rows_after position node 0 nothing node.ops)
+
+pub names_all : (position : ℕ) (node : NodeData) → names_by position node.ops ≡ map (dropped_at position) (reverse (effects_of node).deleted)
+names_all position node = sym (names_after position node 0 nothing node.ops)
+
+pub drop_past : {X : Type 0} (n : ℕ) (xs : List X) → length xs ≤ n → drop n xs ≡ []
+drop_past zero [] h = refl
+drop_past (suc n) [] h = refl
+drop_past zero (x ∷ xs) h = absurd (omega (arith, h))
+drop_past (suc n) (x ∷ xs) h = drop_past n xs (omega (arith, h))
+
+pub drop_next : {X : Type 0} (xs : List X) (i : ℕ) (x : X) → i < length xs → x ≡ get_or xs i x → drop i xs ≡ x ∷ drop (i + 1) xs
+drop_next xs i x below is = let next : suc i ≡ i + 1 = omega arith in drop-cons xs i x below ∙ ap (λ y. y ∷ drop (suc i) xs) (sym is) ∙ ap (λ n. x ∷ drop n xs) next
+
+pub names_step : (position : ℕ) (ops total : List Op) (i : ℕ) (op : Op) (names new : List Dropped) → i < length ops → op ≡ get_or ops i op
+    → names ++ names_by position (drop i ops) ≡ names_by position total → new ≡ names ++ name_by position op → new ++ names_by position (drop (i + 1) ops) ≡ names_by position total
+unfolding names_by
+names_step position ops total i op names new below is inv added =
+    ap (λ l. l ++ names_by position (drop (i + 1) ops)) added ∙ append_assoc names (name_by position op) _
+    ∙ ap (λ l. names ++ names_by position l) (sym (drop_next ops i op below is)) ∙ inv
+
+pub names_end : (position : ℕ) (ops total : List Op) (i : ℕ) (names : List Dropped) → length ops ≤ i → names ++ names_by position (drop i ops) ≡ names_by position total → names ≡ names_by position total
+unfolding names_by
+names_end position ops total i names past inv = sym (append-nil names) ∙ ap (λ l. names ++ names_by position l) (sym (drop_past i ops past)) ∙ inv
+
+pub rows_step : (position : ℕ) (node : NodeData) (ops total : List Op) (i : ℕ) (op : Op) (rows new : List Inserted) → i < length ops → op ≡ get_or ops i op
+    → rows ++ rows_by position node i (drop i ops) ≡ rows_by position node 0 total → new ≡ rows ++ row_by position node i op → new ++ rows_by position node (i + 1) (drop (i + 1) ops) ≡ rows_by position node 0 total
+unfolding rows_by
+rows_step position node ops total i op rows new below is inv added =
+    ap (λ l. l ++ rows_by position node (i + 1) (drop (i + 1) ops)) added ∙ append_assoc rows (row_by position node i op) _
+    ∙ ap (λ l. rows ++ rows_by position node i l) (sym (drop_next ops i op below is)) ∙ inv
+
+pub rows_end : (position : ℕ) (node : NodeData) (ops total : List Op) (i : ℕ) (rows : List Inserted) → length ops ≤ i → rows ++ rows_by position node i (drop i ops) ≡ rows_by position node 0 total → rows ≡ rows_by position node 0 total
+unfolding rows_by
+rows_end position node ops total i rows past inv = sym (append-nil rows) ∙ ap (λ l. rows ++ rows_by position node i l) (sym (drop_past i ops past)) ∙ inv
