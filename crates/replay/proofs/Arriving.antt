@@ -1,5 +1,5 @@
 -- A graph in the order of arrival, and its nodes newest first.
-use Rattle.std.proofs.Common.{◌≡◌, ℕ, zero, suc, ◌+◌, ◌<◌, ◌≤◌, Bool, true, false, cond, ◌||◌, List, [], ◌∷◌, ◌++◌, length, map, reverse, take, drop, refl, sym, ◌∙◌, ap, subst, arith, inl, inr, ◌⊎◌, Option, Some, None, All, append_assoc, slice_get}
+use Rattle.std.proofs.Common.{◌≡◌, ℕ, zero, suc, ◌+◌, ◌<◌, ◌≤◌, Bool, true, false, cond, ◌||◌, List, [], ◌∷◌, ◌++◌, length, map, reverse, take, drop, refl, sym, ◌∙◌, ap, subst, arith, inl, inr, ◌⊎◌, Option, Some, None, All, append_assoc, slice_get, option_map}
 use Rattle.std.specs.List.{list_any, list_all, filter_map, position_from}
 use Rattle.std.proofs.lemmas.Bool.{or_cases}
 use Rattle.std.proofs.lemmas.List.{length-map, length-reverse, map-append, reverse-append, take-append-drop}
@@ -152,3 +152,26 @@ places_earlier graph i bytes e closed =
 
 pub length-before : (graph : List (List ℕ)) (count : ℕ) → count ≤ length graph → length (places_before graph count) ≡ count
 length-before graph count low = length-places (place_in graph) (nodes_before graph count) ∙ length-nodes graph count low
+
+-- the member whose node is there
+found_bytes : (o : Option (List ℕ)) (n : NodeData) → option_map node_of o ≡ Some n → (bytes : List ℕ) × (o ≡ Some bytes) × (node_of bytes ≡ n)
+found_bytes None n e = absurd (cc)
+found_bytes (Some b) n e = (b, refl, cc)
+
+pub past_from : (rules : Rules) (graph : List (List ℕ)) (i : ℕ) (n : NodeData) (ancestry : List (List ℕ)) → option_map node_of (slice_get graph i) ≡ Some n
+    → ((next : List NodeData) → AreNodesOf (map entry_of (take (i + 1) graph)) next → IsClosed (reverse next))
+    → AreLower ancestry → ancestry ≡ places_before graph (i + 1) → IsPastOf rules (nodes_before graph i) n (λ p. is_ancestor ancestry p i)
+past_from rules graph i n ancestry here arrivals lower places =
+    let found = found_bytes (slice_get graph i) n here in
+    let past = past_is rules graph i found.0 found.1 (arrivals (map node_of (take (i + 1) graph)) (are_nodes (take (i + 1) graph))) (subst AreLower places lower) in
+    subst (λ (m : NodeData). IsPastOf rules (nodes_before graph i) m (λ p. is_ancestor ancestry p i)) found.2
+    (subst (λ (l : List (List ℕ)). IsPastOf rules (nodes_before graph i) (node_of found.0) (λ p. is_ancestor l p i)) (sym places) past)
+
+pub next_from : (graph : List (List ℕ)) (i : ℕ) (n : NodeData) → option_map node_of (slice_get graph i) ≡ Some n → nodes_before graph (i + 1) ≡ n ∷ nodes_before graph i
+next_from graph i n here =
+    let found = found_bytes (slice_get graph i) n here in nodes_next graph i found.0 found.1 ∙ ap (λ m. m ∷ nodes_before graph i) found.2
+
+pub is_next_from : (graph : List (List ℕ)) (i : ℕ) (n : NodeData) → option_map node_of (slice_get graph i) ≡ Some n
+    → ((next : List NodeData) → AreNodesOf (map entry_of (take (i + 1) graph)) next → IsClosed (reverse next)) → IsNext (nodes_before graph i) n
+is_next_from graph i n here arrivals =
+    let both : IsClosed (n ∷ nodes_before graph i) = subst IsClosed (next_from graph i n here) (arrivals (map node_of (take (i + 1) graph)) (are_nodes (take (i + 1) graph))) in both.0

@@ -5,7 +5,7 @@ ghost use Rattle.schema.specs.Verdicts.{is_unlimited, judge_next, judged};
 ghost use Rattle.tuple_state.specs.State.{IsStateOf};
 ghost use Rattle.replay.specs.Arrivals.{nodes_before, place_in, places_before};
 
-use ancestry::{Ancestry, ancestors_go_by_predecessors, ancestors_stay};
+use ancestry::Ancestry;
 use hash_graph::Graph;
 use row_check::{Checks, Native, Relation};
 use schema::{Schema, Verdict, arrivals_are_closed, verdict_is_on_ancestors};
@@ -68,6 +68,7 @@ fn take_next<L: Relation, C: Checks<L>>(
     )?;
     arrivals_are_closed();
     applied_is_next();
+    graph.len();
     tables.apply(&node, verdict)
 }
 
@@ -120,8 +121,6 @@ fn judge_next<L: Relation, C: Checks<L>>(
     ensures { IfOk result (λ verdict. verdict ≡ (judge_next (record { tables = schema.now.tables; ask = L.answer }) (judged (record { tables = schema.now.tables; ask = L.answer }) (nodes_before graph.now position)) node.now).verdict) }
 {
     arrivals_are_closed();
-    ancestors_go_by_predecessors();
-    ancestors_stay();
     verdict_is_on_ancestors();
     graph.len();
     ancestry.len();

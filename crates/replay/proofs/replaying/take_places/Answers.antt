@@ -18,7 +18,7 @@ add-requires-clause-earlier c =
     c.as_slice.ensures.value ∙ c.in_ok-places.ensures ∙ ap (filter_map (place_in graph)) c.preds.ensures.value in
     subst (λ (l : List ℕ). All (λ p. p < length c.args.ancestry.now) l) (sym places)
     (subst (λ (old : List (List ℕ)). All (λ p. p < length old) (filter_map (place_in graph) (preds_of bytes))) (sym c.requires.places)
-        (places_earlier graph c.args.position bytes c.at.ensures closed))
+    (places_earlier graph c.args.position bytes c.at.ensures closed))
 
 pub add-requires-clause-room : goal.add-requires-clause-room
 add-requires-clause-room c =
