@@ -5,5 +5,7 @@
 #![tactic(auto)]
 
 mod replaying;
+#[cfg(test)]
+mod tests;
 
 pub use replaying::replay;
