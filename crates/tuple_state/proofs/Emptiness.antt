@@ -5,17 +5,15 @@ use Rattle.std.specs.Map.{lookup}
 use Rattle.update_model.specs.declared.row_name.RowName.{RowName}
 use Rattle.schema.specs.declared.column.Column.{Column}
 use Rattle.schema.specs.Tables.{name_cmp}
-use Rattle.tuple_state.specs.Kept.{IsKept, are_layered, earlier_drops_from}
+use Rattle.tuple_state.specs.Kept.{IsKept, are_layered}
 
 pub kept_new : (columns : List (List Column)) (places : BTreeMap RowName ℕ) → places.entries ≡ []
-    → IsKept (record { columns = columns; count = 0; inserted = []; dropped = []; voids = [] }) places [] [] []
-unfolding are_layered earlier_drops_from
+    → IsKept (record { columns = columns; count = 0; inserted = []; dropped = []; voids = [] }) places []
+unfolding are_layered
 kept_new columns places none = record {
   few = omega arith;
   bounded = omega arith;
   layered = refl;
   placed = λ name. ap (lookup (is_at (name_cmp name))) none;
   marked = refl;
-  recency = refl;
-  chained = refl;
 }

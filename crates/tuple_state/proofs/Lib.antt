@@ -1,7 +1,12 @@
 pub mod Answering
 pub mod Effects
 pub mod Emptiness
+pub mod Growth
+pub mod Keeping
 pub mod Layers
 pub mod Lookups
+pub mod Marking
+pub mod Marks
 pub mod Pasts
+pub mod Regrowth
 pub mod Stepping

@@ -23,27 +23,10 @@ are_layered rules (row ∷ older) =
 abbrev pub place_of : List Inserted → RowName → Option ℕ
 place_of rows name = position_from (λ row. same_row row.name name) 0 rows
 
--- one more than the place of the last one that drops this name, where these number from here, or else this
-unfoldable pub last_drop_from : RowName → ℕ → ℕ → List Dropped → ℕ
-last_drop_from name last number [] = last
-last_drop_from name last number (it ∷ rest) = last_drop_from name (if same_row it.name name then suc number else last) (suc number) rest
-
--- one more than the place of the last one that drops this name, or 0
-abbrev pub last_drop : List Dropped → RowName → ℕ
-last_drop dropped name = last_drop_from name 0 0 dropped
-
--- for each one its last drop before
-unfoldable pub earlier_drops_from : List Dropped → List Dropped → List ℕ
-earlier_drops_from before [] = []
-earlier_drops_from before (it ∷ rest) = last_drop before it.name ∷ earlier_drops_from (before ++ it ∷ []) rest
-
--- The rows are layered, each is found by its name, each is marked where it is visible, and what drops a name leads to what
--- dropped it before.
-pub record IsKept (state : State) (places : BTreeMap RowName ℕ) (shown : List Bool) (recent before : List ℕ) : Type 0 where
+-- The rows are layered, each is found by its name, and each is marked where it is visible.
+pub record IsKept (state : State) (places : BTreeMap RowName ℕ) (shown : List Bool) : Type 0 where
   pub few : state.count ≤ 131072
   pub bounded : length state.inserted ≤ 256 * state.count
   pub layered : are_layered (rules_of state) (done_in state).inserted ≡ true
   pub placed : (name : RowName) → get name_cmp places name ≡ place_of state.inserted name
   pub marked : shown ≡ map (λ it. is_visible (rules_of state) (done_in state) it.name) state.inserted
-  pub recency : recent ≡ map (λ it. last_drop state.dropped it.name) state.inserted
-  pub chained : before ≡ earlier_drops_from [] state.dropped

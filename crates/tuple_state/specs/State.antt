@@ -66,6 +66,10 @@ pub record IsStateOf (rules : Rules) (nodes : List NodeData) (state : State) : T
 abbrev pub done_in : State → Effects
 done_in state = record { inserted = reverse (map row_of state.inserted); deleted = reverse (map (λ it. it.name) state.dropped) }
 
--- rules with these columns. Which rows are visible goes by columns alone
+-- rules with these columns and nothing else. Which rows are visible goes by columns alone
+abbrev pub rules_with : List (List Column) → Rules
+rules_with columns = record { tables = map (λ list. record missing_table { columns = list }) columns; ask = λ number values. false }
+
+-- those of a state
 abbrev pub rules_of : State → Rules
-rules_of state = record { tables = map (λ columns. record missing_table { columns = columns }) state.columns; ask = λ number values. false }
+rules_of state = rules_with state.columns

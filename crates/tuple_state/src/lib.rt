@@ -13,6 +13,7 @@ mod columns;
 mod dropped;
 mod inserted;
 mod laws;
+mod parents;
 mod steps;
 mod tables;
 

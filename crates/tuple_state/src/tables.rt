@@ -1,4 +1,6 @@
-ghost use Rattle.std.specs.Prelude.{◌≡◌, ℕ, ◌<◌, Bool, List, [], IfOk, MatchResult, filter};
+ghost use Rattle.std.specs.Prelude.{◌≡◌, ℕ, ◌+◌, ◌<◌, ◌≤◌, Bool, List, [], ◌∷◌, ◌++◌, IfOk, OnOk, MatchResult, filter, vec_len};
+ghost use Rattle.std.specs.Vec.{vec_capacity};
+ghost use Rattle.schema.specs.declared.verdict.Verdict.TheVariants.{Valid};
 ghost use Rattle.update_model.specs.declared.value.Value.{Value};
 ghost use Rattle.update_model.specs.Node.{NodeData};
 ghost use Rattle.schema.specs.Tables.{AreRowsIn, AreVoidsIn};
@@ -9,6 +11,8 @@ ghost use Rattle.tuple_state.specs.Past.{IsNextVerdict, IsPastOf, StandsAt};
 ghost use Rattle.tuple_state.specs.State.{IsStateOf, after};
 
 use crate::columns::columns_of;
+use crate::parents::{add_places, remark};
+use crate::steps::{dropped_by, inserted_by};
 use crate::{At, Dropped, Inserted};
 use schema::{ColumnList, Schema, ShownRowList, Verdict, VoidLine, VoidList};
 use std::alloc::{AllocError, Global};
@@ -31,12 +35,8 @@ pub struct Tables {
     places: BTreeMap<RowName, usize>,
     /// Of each row whether it is visible.
     shown: Vec<bool>,
-    /// Of each row one more than the place of what deleted it last, or 0.
-    lasts: Vec<usize>,
     /// The deleted names in order of arrival.
     dropped: Vec<Dropped>,
-    /// Of each of these one more than the place of the one before it with the same name, or 0.
-    earlier: Vec<usize>,
     /// The updates that do nothing, in order of arrival.
     voids: Vec<VoidLine>,
 }
@@ -50,7 +50,7 @@ impl Model for Tables {
     ghost view = { λ t. record { columns = t.columns.items; count = t.count; inserted = t.rows.items; dropped = t.dropped.items; voids = t.voids.items } };
 
     ghost invariant = { λ t. IsKept (record { columns = t.columns.items; count = t.count; inserted = t.rows.items; dropped = t.dropped.items; voids = t.voids.items })
-        t.places t.shown.items t.lasts.items t.earlier.items };
+        t.places t.shown.items };
 }
 
 impl Tables {
@@ -65,9 +65,7 @@ impl Tables {
             rows: Vec::new(alloc),
             places: BTreeMap::new(alloc),
             shown: Vec::new(alloc),
-            lasts: Vec::new(alloc),
             dropped: Vec::new(alloc),
-            earlier: Vec::new(alloc),
             voids: Vec::new(alloc),
         })
     }
@@ -78,7 +76,60 @@ impl Tables {
         requires next { IsNextVerdict self.old node.now verdict }
         ensures { MatchResult result (λ _. self.new ≡ after self.old node.now verdict) (λ _. self.new ≡ self.old) }
     {
-        Err(AllocError)
+        match verdict {
+            Verdict::Valid => self.keep_valid(node),
+            Verdict::Void { reason, operation } => self.keep_void(VoidLine {
+                id: node.id,
+                reason,
+                operation,
+            }),
+        }
+    }
+
+    /// Keeps what a valid update does. Memory is taken before anything changes.
+    fn keep_valid(&mut self, node: &Node) -> Result<(), AllocError>
+        requires next { IsNextVerdict self.old node.now Valid }
+        ensures { MatchResult result (λ _. self.new ≡ after self.old node.now Valid) (λ _. self.new ≡ self.old) }
+    {
+        let _ops = &node.ops;
+        let mut inserted = inserted_by(self.alloc, self.count, node)?;
+        let mut dropped = dropped_by(self.alloc, self.count, node)?;
+        let first = self.rows.len();
+        make_room(
+            &mut self.rows,
+            &mut self.shown,
+            &mut self.dropped,
+            inserted.len(),
+            dropped.len(),
+        )?;
+        add_places(
+            &mut self.places,
+            self.rows.as_slice(),
+            inserted.as_slice(),
+        )?;
+        self.shown.resize(first + inserted.len(), true).unwrap();
+        self.rows.append(&mut inserted).unwrap();
+        remark(
+            self.shown.as_mut_slice(),
+            first,
+            self.rows.as_slice(),
+            self.columns.as_slice(),
+            &self.places,
+            dropped.as_slice(),
+        );
+        self.dropped.append(&mut dropped).unwrap();
+        self.count += 1;
+        Ok(())
+    }
+
+    /// Keeps the line of a void update.
+    fn keep_void(&mut self, line: VoidLine) -> Result<(), AllocError>
+        requires few { self.old.count < 131072 }
+        ensures { MatchResult result (λ _. self.new ≡ record self.old { count = self.old.count + 1; voids = self.old.voids ++ line ∷ [] }) (λ _. self.new ≡ self.old) }
+    {
+        self.voids.push(line)?;
+        self.count += 1;
+        Ok(())
     }
 
     /// How many updates were applied.
@@ -128,4 +179,24 @@ impl Tables {
     {
         At::new(self, ancestors, position)
     }
+}
+
+/// Makes room for more rows and deleted names.
+fn make_room(
+    rows: &mut Vec<Inserted>,
+    shown: &mut Vec<bool>,
+    dropped: &mut Vec<Dropped>,
+    more_rows: usize,
+    more_names: usize,
+) -> Result<(), AllocError>
+    ensures rows { rows.new.items ≡ rows.old.items }
+    ensures shown { shown.new.items ≡ shown.old.items }
+    ensures dropped { dropped.new.items ≡ dropped.old.items }
+    ensures room_rows { OnOk result (vec_len rows.new + more_rows ≤ vec_capacity rows.new) }
+    ensures room_shown { OnOk result (vec_len shown.new + more_rows ≤ vec_capacity shown.new) }
+    ensures room_dropped { OnOk result (vec_len dropped.new + more_names ≤ vec_capacity dropped.new) }
+{
+    rows.reserve(more_rows)?;
+    shown.reserve(more_rows)?;
+    dropped.reserve(more_names)
 }

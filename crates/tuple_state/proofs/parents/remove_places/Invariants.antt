@@ -1,0 +1,10 @@
+use Rattle.std.proofs.Common.{◌≡◌, ◌++◌, ◌-◌, length, take}
+use Rattle.std.specs.BTreeMap.{get}
+use Rattle.update_model.specs.declared.row_name.RowName.{RowName}
+use Rattle.schema.specs.Tables.{name_cmp}
+use Rattle.tuple_state.specs.Kept.{place_of}
+use Rattle.tuple_state.proofs.parents.remove_places.Given as goal
+
+-- the places are those of the rows without the last ones
+abbrev pub invariant-loop-number : goal.invariant-loop-number
+invariant-loop-number l = (name : RowName) → get name_cmp l.places name ≡ place_of (l.rows ++ take (length l.taken - l.number) l.taken) name
