@@ -1,5 +1,5 @@
 -- What is asked is what the definition says of a verdict.
-use Rattle.std.proofs.Common.{◌≡◌, ℕ, ◌+◌, ◌==◌, Bool, true, false, cond, not, ◌&&◌, ◌||◌, nat_le, List, [], ◌∷◌, ◌++◌, length, refl, sym, ◌∙◌, ap, Option, Some, None, if◌then◌else◌}
+use Rattle.std.proofs.Common.{◌≡◌, ℕ, ◌+◌, ◌==◌, Bool, true, false, not, ◌&&◌, ◌||◌, nat_le, List, [], ◌∷◌, ◌++◌, length, refl, sym, ◌∙◌, ap, Option, Some, None, if◌then◌else◌}
 use Rattle.std.specs.List.{list_any, list_all}
 use Rattle.std.proofs.lemmas.List.Folds.{list_any-append}
 use Rattle.update_model.specs.declared.author_key.AuthorKey.{AuthorKey}
@@ -14,10 +14,10 @@ use Rattle.row_check.specs.Meaning.{value_at}
 use Rattle.schema.specs.declared.rules.MatchRule.{MatchRule}
 use Rattle.schema.specs.declared.verdict.Verdict.TheVariants as verdict
 use Rattle.schema.specs.Visible.{Effects, RowRef, Rules, TableRow, refs, same_row, table_of, visible_rows}
-use Rattle.schema.specs.Verdicts.{all_fit, checks_hold, delete_reason, first_reason, insert_reason, joined, limits_hold, matches_among, named, nothing, row_inserted, same_author, stands_among, verdict_after, verdict_on}
+use Rattle.schema.specs.Verdicts.{all_fit, checks_hold, delete_reason, first_reason, insert_reason, joined, limits_hold, matches_among, nothing, row_inserted, same_author, stands_among, verdict_after}
 use Rattle.validity.specs.declared.own_row.OwnRow.{OwnRow}
 use Rattle.validity.specs.Answers.{AreAnswers}
-use Rattle.validity.specs.Asked.{delete_asked, deleted_after, insert_asked, is_anothers, is_deletable, is_in, is_match, is_matched, match_asked, op_asked, own_after, own_row, row_of, stands_asked, verdict_asked}
+use Rattle.validity.specs.Asked.{delete_asked, insert_asked, is_anothers, is_deletable, is_in, is_match, is_matched, match_asked, own_row, row_of, stands_asked, verdict_asked}
 use Rattle.validity.proofs.Named.{Once, entry_any}
 
 -- the update's own rows are these, in whatever order

@@ -1,9 +1,8 @@
 -- Values that fit their columns.
-use Rattle.std.proofs.Common.{◌≡◌, ℕ, zero, suc, Bool, true, false, ◌&&◌, List, [], ◌∷◌, ◌++◌, length, map, refl, sym, ◌∙◌, subst, Option, Some, None, rules}
-use Rattle.std.specs.Prelude.{slice_get, IsTrue, ◌≤ℤ◌, ◌≤◌, nat_le, ℤ}
+use Rattle.std.proofs.Common.{◌≡◌, ℕ, zero, suc, Bool, true, List, [], ◌∷◌, ◌++◌, subst, Some}
+use Rattle.std.specs.Prelude.{slice_get}
 use Rattle.std.specs.List.{AllByRecursion}
-use Rattle.std.specs.Int.Signed.{le_z}
-use Rattle.std.proofs.lemmas.Bool.{and_parts, and_from}
+use Rattle.std.proofs.lemmas.Bool.{and_parts}
 use Rattle.update_model.specs.declared.value.Value.{Value}
 use Rattle.update_model.specs.declared.value.Value.TheVariants as value
 use Rattle.expression_text.specs.Kinds.{IsOfKind, FitsKinds}
@@ -11,9 +10,9 @@ use Rattle.schema.specs.declared.column.Column.{Column}
 use Rattle.schema.specs.declared.column.ColumnKind.{ColumnKind}
 use Rattle.schema.specs.declared.column.ColumnKind.TheVariants as kind
 use Rattle.schema.specs.declared.table_def.TableDef.{TableDef}
-use Rattle.schema.specs.Columns.{FitsColumn, FitsKind, kind_seen, kinds_of}
+use Rattle.schema.specs.Columns.{kind_seen, kinds_of}
 use Rattle.schema.specs.Sound.{AreTables, IsSoundCheck}
-use Rattle.schema.specs.Verdicts.{all_fit, fits, fits_kind}
+use Rattle.schema.specs.Verdicts.{all_fit, fits}
 
 of_kind : (name : List ℕ) (k : ColumnKind) (null : Bool) (line : ℕ) (v : Value) → fits (record { name = name; kind = k; null = null; line = line }) v ≡ true → IsOfKind (kind_seen k) v
 of_kind name (kind.Int lo hi) null line value.Null h = tt

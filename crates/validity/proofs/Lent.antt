@@ -1,5 +1,5 @@
 -- What is lent.
-use Rattle.std.proofs.Common.{◌≡◌, Bor, Option, Some, None, refl, sym, ◌∙◌, ap}
+use Rattle.std.proofs.Common.{◌≡◌, Bor, Option, Some, None, sym, ◌∙◌, ap}
 use Rattle.std.specs.Option.{option_copied}
 
 -- the entry that is lent is the one that is found

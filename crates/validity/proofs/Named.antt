@@ -1,12 +1,12 @@
 -- Where no two rows have one name, what is said of those with a name is said of the one that is found.
-use Rattle.std.proofs.Common.{◌≡◌, ℕ, zero, suc, ◌+◌, ◌<◌, Bool, true, false, cond, ◌&&◌, ◌||◌, List, [], ◌∷◌, length, refl, sym, ◌∙◌, ap, subst, arith, Option, Some, None}
+use Rattle.std.proofs.Common.{◌≡◌, suc, Bool, true, false, cond, ◌&&◌, ◌||◌, List, [], ◌∷◌, refl, sym, ◌∙◌, ap, subst, arith, Option, Some, None}
 use Rattle.std.specs.Prelude.{Contains, find, option_map}
 use Rattle.std.specs.List.{list_any}
-use Rattle.std.proofs.lemmas.Bool.{and_left, or_from}
+use Rattle.std.proofs.lemmas.Bool.{or_from}
 use Rattle.update_model.specs.declared.row_entry.RowEntry.{RowEntry}
 use Rattle.update_model.specs.declared.row_name.RowName.{RowName}
 use Rattle.schema.specs.Visible.{TableRow, same_row}
-use Rattle.schema.proofs.Standing.{row_from_same, same_row-refl}
+use Rattle.schema.proofs.Standing.{row_from_same}
 use Rattle.validity.specs.Answers.{entry_of_row, entry_in}
 
 -- rows with one name are one

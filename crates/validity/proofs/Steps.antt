@@ -1,5 +1,5 @@
 -- A verdict goes operation by operation.
-use Rattle.std.proofs.Common.{◌≡◌, ℕ, suc, ◌+◌, ◌<◌, Bool, List, [], ◌∷◌, length, drop, get_or, drop-cons, Option, Some, None, refl, sym, ap, subst, ◌∙◌, arith}
+use Rattle.std.proofs.Common.{◌≡◌, ℕ, suc, ◌+◌, ◌<◌, Bool, List, ◌∷◌, length, drop, get_or, drop-cons, Option, Some, None, sym, ap, ◌∙◌, arith}
 use Rattle.std.proofs.Math.Seq.{drop-length}
 use Rattle.update_model.specs.declared.op.Op.{Op}
 use Rattle.update_model.specs.declared.row_entry.RowEntry.{RowEntry}

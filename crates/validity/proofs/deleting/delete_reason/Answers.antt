@@ -1,8 +1,5 @@
-use Rattle.std.proofs.Common.{◌≡◌, Bool, Option, Some, sym, ap, ◌∙◌, true, false}
-use Rattle.std.specs.List.{list_any}
-use Rattle.update_model.specs.declared.row_entry.RowEntry.{RowEntry}
-use Rattle.schema.specs.Schemas.{Meaning}
-use Rattle.schema.specs.Visible.{Rules, same_row}
+use Rattle.std.proofs.Common.{◌≡◌, sym, ap, ◌∙◌}
+use Rattle.schema.specs.Visible.{Rules}
 use Rattle.validity.specs.Asked.{is_anothers, is_deletable}
 use Rattle.validity.proofs.Lent.{lent}
 use Rattle.validity.proofs.Reasons.{eight, no_reason, seven, six_gone, six_twice}

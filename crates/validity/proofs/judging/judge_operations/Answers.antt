@@ -1,5 +1,4 @@
-use Rattle.std.proofs.Common.{◌≡◌, ◌+◌, ◌<◌, [], length, refl, sym, ap, ◌∙◌, arith}
-use Rattle.update_model.specs.Node.{NodeData}
+use Rattle.std.proofs.Common.{◌≡◌, ◌+◌, [], length, refl, sym, ap, ◌∙◌, arith}
 use Rattle.schema.specs.Visible.{Rules}
 use Rattle.validity.specs.Asked.{verdict_asked}
 use Rattle.validity.proofs.Steps.{on_at, valid_at, void_at}

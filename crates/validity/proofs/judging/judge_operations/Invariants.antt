@@ -1,5 +1,4 @@
 use Rattle.std.proofs.Common.{◌≡◌, ◌≤◌, [], drop, length}
-use Rattle.schema.specs.Visible.{Rules}
 use Rattle.validity.specs.Asked.{verdict_asked}
 use Rattle.validity.proofs.judging.judge_operations.Given as goal
 
