@@ -1,6 +1,8 @@
 pub mod Answering
+pub mod Dropping
 pub mod Effects
 pub mod Emptiness
+pub mod Finding
 pub mod Growth
 pub mod Keeping
 pub mod Layers
@@ -8,5 +10,7 @@ pub mod Lookups
 pub mod Marking
 pub mod Marks
 pub mod Pasts
+pub mod Reaching
 pub mod Regrowth
 pub mod Stepping
+pub mod Walking

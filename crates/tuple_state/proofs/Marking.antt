@@ -1,8 +1,8 @@
 -- Marks of rows, one write at a time.
-use Rattle.std.proofs.Common.{◌≡◌, ◌≢◌, ◌==◌, ◌⊎◌, ℕ, zero, suc, ◌+◌, ◌<◌, ◌≤◌, Bool, true, false, cond, not, ◌&&◌, ◌||◌, List, [], ◌∷◌, ◌++◌, length, get_or, set, take, drop, map, reverse, refl, sym, ap, ◌∙◌, subst, Option, Some, None, get_or-set_other, get_or-set_same, arith, inl, inr}
+use Rattle.std.proofs.Common.{◌≡◌, ◌≢◌, ◌==◌, ◌⊎◌, ℕ, zero, suc, ◌+◌, ◌<◌, ◌≤◌, Bool, true, false, not, ◌&&◌, ◌||◌, List, [], ◌∷◌, length, get_or, set, take, drop, map, reverse, refl, sym, ap, ◌∙◌, subst, Option, Some, None, get_or-set_other, get_or-set_same, arith, inl, inr}
 use Rattle.std.specs.Prelude.{slice_get, min, unwrap_or}
 use Rattle.std.proofs.lemmas.Option.{slice_get_past}
-use Rattle.std.specs.List.{list_any, list_all}
+use Rattle.std.specs.List.{list_any}
 use Rattle.std.proofs.lemmas.Bool.{both_ways, false_from_ne_true, cases_Bool, eqb-true, eq-eqb}
 use Rattle.std.proofs.lemmas.List.{take_more, take_all}
 use Rattle.std.proofs.lemmas.List.Folds.{list_any-append}
@@ -18,7 +18,7 @@ use Rattle.tuple_state.specs.Parents.{Continues, all_parents, columns_at, mark_a
 use Rattle.tuple_state.specs.State.{row_of, rules_with}
 use Rattle.tuple_state.proofs.Lookups.{row_found}
 use Rattle.tuple_state.proofs.Marks.{mark_step}
-use Rattle.tuple_state.proofs.Stepping.{drop_next, drop_past}
+use Rattle.tuple_state.proofs.Stepping.{drop_next}
 
 pub slice_get_from : {X : Type 0} (xs : List X) (k : ℕ) (x : X) → k < length xs → x ≡ get_or xs k x → slice_get xs k ≡ Some x
 slice_get_from [] k x below is = absurd (omega (arith, below))
@@ -32,7 +32,7 @@ slice_get_below (y ∷ xs) (suc k) x h = let rest = slice_get_below xs k x h in 
 
 -- ---- column by column
 
-parents_next : (test : RowName → Bool) (columns : List Column) (values : List Value) (n : ℕ) (column : Column) (v : Value) → n < length columns → n < length values
+pub parents_next : (test : RowName → Bool) (columns : List Column) (values : List Value) (n : ℕ) (column : Column) (v : Value) → n < length columns → n < length values
     → column ≡ get_or columns n column → v ≡ get_or values n v
     → all_parents test (drop n columns) (drop n values) ≡ (passes test (parent_in column.kind v) && all_parents test (drop (n + 1) columns) (drop (n + 1) values))
 unfolding all_parents

@@ -1,11 +1,11 @@
 -- The marks after one more update, place by place.
-use Rattle.std.proofs.Common.{◌≡◌, ℕ, zero, suc, ◌+◌, ◌<◌, ◌≤◌, Bool, true, false, cond, not, ◌&&◌, ◌||◌, ◌⊎◌, List, [], ◌∷◌, ◌++◌, length, get_or, map, reverse, replicate, length-append, refl, sym, ap, ◌∙◌, subst, inl, inr, Some, arith}
+use Rattle.std.proofs.Common.{◌≡◌, ℕ, zero, suc, ◌+◌, ◌<◌, ◌≤◌, Bool, true, false, not, ◌&&◌, ◌⊎◌, List, [], ◌∷◌, ◌++◌, length, get_or, map, reverse, replicate, length-append, refl, sym, ap, ◌∙◌, subst, inl, inr, Some, arith}
 use Rattle.std.specs.Prelude.{slice_get}
 use Rattle.std.specs.List.{list_any, list_all, AllByRecursion}
 use Rattle.std.proofs.lemmas.List.{map-append, reverse-append, length-map}
 use Rattle.update_model.specs.declared.row_name.RowName.{RowName}
 use Rattle.schema.specs.declared.column.Column.{Column}
-use Rattle.schema.specs.Visible.{Rules, TableRow, Effects, same_row, cascade_refs, is_visible}
+use Rattle.schema.specs.Visible.{TableRow, Effects, same_row, cascade_refs, is_visible}
 use Rattle.schema.proofs.SameTables.{each-left, each-right}
 use Rattle.tuple_state.specs.declared.dropped.Dropped.{Dropped}
 use Rattle.tuple_state.specs.declared.inserted.Inserted.{Inserted}
@@ -16,7 +16,7 @@ use Rattle.tuple_state.proofs.Growth.{bool_same, all_carry, all_come, all_stay, 
 use Rattle.tuple_state.proofs.Lookups.{any_mapped, any_reversed, get_or_from, reverse_cons, slice_get_mapped}
 use Rattle.tuple_state.proofs.Marking.{slice_get_below}
 
-each_back : {X : Type 0} (P : X → Type 0) (xs : List X) → AllByRecursion P (reverse xs) → AllByRecursion P xs
+pub each_back : {X : Type 0} (P : X → Type 0) (xs : List X) → AllByRecursion P (reverse xs) → AllByRecursion P xs
 each_back P [] h = tt
 each_back P (x ∷ xs) h =
     let both = subst (λ l. AllByRecursion P l) (reverse_cons x xs) h in
@@ -51,7 +51,7 @@ padded_back [] m k over below = all_true m k (omega (arith, below))
 padded_back (x ∷ xs) m zero over below = absurd (omega (arith, over))
 padded_back (x ∷ xs) m (suc k) over below = padded_back xs m k (omega (arith, over)) (omega (arith, below))
 
-and_true : (b : Bool) → (b && true) ≡ b
+pub and_true : (b : Bool) → (b && true) ≡ b
 and_true true = refl
 and_true false = refl
 

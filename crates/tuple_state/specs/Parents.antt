@@ -1,5 +1,5 @@
 -- The rows that a row names by CASCADE, column by column.
-use Rattle.std.specs.Prelude.{◌≡◌, ℕ, ◌<◌, ◌≤◌, Bool, true, false, ◌&&◌, List, [], ◌∷◌, ◌++◌, slice_get, slice_index_or, unwrap_or, Option, None, Some, if◌then◌else◌}
+use Rattle.std.specs.Prelude.{◌≡◌, ℕ, suc, max, ◌<◌, ◌≤◌, Bool, true, false, ◌&&◌, List, [], ◌∷◌, ◌++◌, slice_get, slice_index_or, unwrap_or, Option, None, Some, if◌then◌else◌}
 use Rattle.std.specs.List.{list_all, list_any}
 use Rattle.update_model.specs.declared.row_name.RowName.{RowName}
 use Rattle.update_model.specs.declared.value.Value.{Value}
@@ -53,3 +53,18 @@ pub record Continues (rules : Rules) (rows : List Inserted) (from : ℕ) (shown 
   pub before : (k : ℕ) (it : Inserted) → slice_get rows k ≡ Some it → k < from → slice_index_or shown k false ≡ test it.name
   pub onward : (k : ℕ) (it : Inserted) → slice_get rows k ≡ Some it → from ≤ k
       → test it.name ≡ (slice_index_or shown k false && list_all (λ r. test r.name) (cascade_refs rules (row_of it)))
+
+-- whether a test is true of the place that is found, where one is
+abbrev pub passes_place : (ℕ → Bool) → Option ℕ → Bool
+passes_place test None = true
+passes_place test (Some place) = test place
+
+-- whether a test of names is true of a row, where there is one
+abbrev pub passes_row : (RowName → Bool) → Option Inserted → Bool
+passes_row test None = false
+passes_row test (Some it) = test it.name
+
+-- one more than the greatest of these, or 0
+unfoldable pub limit_of : List ℕ → ℕ
+limit_of [] = 0
+limit_of (place ∷ places) = max (suc place) (limit_of places)

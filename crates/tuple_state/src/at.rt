@@ -1,10 +1,13 @@
-ghost use Rattle.std.specs.Prelude.{◌≡◌, true};
+ghost use Rattle.std.specs.Prelude.{◌≡◌, ◌<◌, true, not, ◌&&◌, IfOk, Some, length, slice_get};
+ghost use Rattle.schema.specs.Visible.{is_deleted, is_visible, same_row};
+ghost use Rattle.tuple_state.specs.declared.inserted.Inserted.{Inserted as Row};
 ghost use Rattle.tuple_state.specs.Kept.{are_layered};
 ghost use Rattle.tuple_state.specs.Past.{StandsAt, child_then, count_then, done_then, equal_then, row_then};
-ghost use Rattle.tuple_state.specs.State.{rules_of};
+ghost use Rattle.tuple_state.specs.State.{done_in, rules_of};
 
-use crate::Tables;
+use crate::{Dropped, Tables};
 use std::alloc::{AllocError, Global};
+use std::collections::BTreeSet;
 use update_model::{Ancestors, RowEntry, RowName, RowsAt, Value};
 
 /// The rows that are visible after the ancestors of one update, which [`Tables::at`] lends.
@@ -12,6 +15,7 @@ pub struct At<'a, A: Ancestors> {
     tables: &'a Tables,
     ancestors: &'a A,
     position: u32,
+    ghost founded: { are_layered (rules_of tables.now) (done_in tables.now).inserted ≡ true },
     ghost layered: { are_layered (rules_of tables.now) (done_then tables.now (λ p. A.ancestor ancestors.now p position)).inserted ≡ true },
 }
 
@@ -29,6 +33,65 @@ impl<'a, A: Ancestors> At<'a, A> {
             position,
         }
     }
+
+    /// Whether an ancestor deletes this name.
+    fn is_dropped(&self, alloc: Global, name: &RowName) -> Result<bool, AllocError>
+        ensures { IfOk result (λ answer. answer ≡ is_deleted (done_then self.now.tables.now (λ p. A.ancestor self.now.ancestors.now p self.now.position)) name.now) }
+    {
+        for drop in self.tables.dropped() {
+            if self.drops(alloc, drop, name)? {
+                return Ok(true);
+            }
+        }
+        Ok(false)
+    }
+
+    /// Whether this is by an ancestor and deletes the name.
+    fn drops(&self, alloc: Global, drop: &Dropped, name: &RowName) -> Result<bool, AllocError>
+        ensures { IfOk result (λ answer. answer ≡ (A.ancestor self.now.ancestors.now drop.now.position self.now.position && same_row name.now drop.now.name)) }
+    {
+        if drop.name == *name {
+            self.ancestors
+                .is_ancestor(alloc, drop.position, self.position)
+        } else {
+            Ok(false)
+        }
+    }
+
+    /// Whether the update that inserted the row at a place is an ancestor, and no ancestor deletes the row.
+    fn is_kept(&self, alloc: Global, place: usize) -> Result<bool, AllocError>
+        requires { place < length self.now.tables.now.inserted }
+        ensures { IfOk result (λ answer. (it : Row) → slice_get self.now.tables.now.inserted place ≡ Some it
+            → answer ≡ (A.ancestor self.now.ancestors.now it.position self.now.position && not (is_deleted (done_then self.now.tables.now (λ p. A.ancestor self.now.ancestors.now p self.now.position)) it.name))) }
+    {
+        let row = self.tables.row(place);
+        if !self
+            .ancestors
+            .is_ancestor(alloc, row.position, self.position)?
+        {
+            return Ok(false);
+        }
+        let dropped = self.is_dropped(alloc, &row.name)?;
+        Ok(!dropped)
+    }
+
+    /// Whether the row at a place is visible then. It looks at the rows to which `CASCADE` references lead from it, each
+    /// once, the newest first: a row names only rows before it.
+    fn stands(&self, alloc: Global, place: usize) -> Result<bool, AllocError>
+        requires { place < length self.now.tables.now.inserted }
+        ensures { IfOk result (λ answer. (it : Row) → slice_get self.now.tables.now.inserted place ≡ Some it
+            → answer ≡ is_visible (rules_of self.now.tables.now) (done_then self.now.tables.now (λ p. A.ancestor self.now.ancestors.now p self.now.position)) it.name) }
+    {
+        let mut pending = BTreeSet::new(alloc);
+        pending.insert(place)?;
+        while let Some(next) = pending.pop_last() {
+            if !self.is_kept(alloc, next)? {
+                return Ok(false);
+            }
+            self.tables.add_parents(next, &mut pending)?;
+        }
+        Ok(true)
+    }
 }
 
 impl<'a, A: Ancestors> RowsAt for At<'a, A> {
@@ -43,7 +106,16 @@ impl<'a, A: Ancestors> RowsAt for At<'a, A> {
     /// The row with this name, where it is visible then. It takes the time of a walk over the rows to which `CASCADE`
     /// references lead from it, and over what deletes them.
     fn row_at(&self, alloc: Global, name: &RowName) -> Result<Option<&RowEntry>, AllocError> {
-        Err(AllocError)
+        match self.tables.place(name) {
+            Some(place) => {
+                if self.stands(alloc, place)? {
+                    Ok(Some(&self.tables.row(place).entry))
+                } else {
+                    Ok(None)
+                }
+            }
+            None => Ok(None),
+        }
     }
 
     /// Whether a row that is visible then names this one by `RESTRICT`. It goes over all rows, since no schema that is

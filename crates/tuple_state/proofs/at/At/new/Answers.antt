@@ -1,6 +1,10 @@
 use Rattle.tuple_state.proofs.Answering.{layered_then}
+use Rattle.tuple_state.proofs.Keeping.{layered_now}
 use Rattle.tuple_state.proofs.at.At.new.Goals as goal
 
 pub invariant_of-result : goal.invariant_of-result
 invariant_of-result g c =
-    let it = c.requires.past in record { layered = layered_then it.rules it.nodes it.node c.args.tables.now _ it.is it.past_of }
+    let it = c.requires.past in record {
+      founded = layered_now it.rules it.nodes c.args.tables.now it.is;
+      layered = layered_then it.rules it.nodes it.node c.args.tables.now _ it.is it.past_of;
+    }

@@ -1,0 +1,157 @@
+-- A row is visible after an update's ancestors exactly where no row to which CASCADE references lead from it is missing or deleted then.
+use Rattle.std.proofs.Common.{◌≡◌, ℕ, zero, suc, ◌<◌, ◌≤◌, Bool, true, false, cond, not, ◌&&◌, List, [], ◌∷◌, ◌++◌, length, map, reverse, refl, sym, ap, ◌∙◌, subst, Some, nat_lt, inl, inr, arith}
+use Rattle.std.specs.Prelude.{slice_get, filter, All}
+use Rattle.std.specs.declared.cmp.Ordering.TheVariants.{Less}
+use Rattle.std.specs.Ordering.{nat_cmp}
+use Rattle.std.specs.List.{list_all, list_any, AllByRecursion}
+use Rattle.std.proofs.lemmas.Bool.{and_parts, and_from, and_right, both_ways, or_cases, false_from_ne_true}
+use Rattle.std.proofs.lemmas.Bool.Decides.{nat_tests}
+use Rattle.std.proofs.lemmas.List.Elements.{recursion_from_All}
+use Rattle.std.proofs.lemmas.List.Folds.{list_all-append}
+use Rattle.update_model.specs.declared.row_name.RowName.{RowName}
+use Rattle.schema.specs.declared.column.Column.{Column}
+use Rattle.schema.specs.Visible.{Effects, TableRow, cascade_refs, is_deleted, is_visible, same_row}
+use Rattle.schema.proofs.Founded.{all_weaker}
+use Rattle.schema.proofs.Standing.{row_from_same}
+use Rattle.tuple_state.specs.declared.inserted.Inserted.{Inserted}
+use Rattle.tuple_state.specs.Kept.{are_layered, place_of}
+use Rattle.tuple_state.specs.Parents.{limit_of, passes_place, passes_row}
+use Rattle.tuple_state.specs.State.{row_of, rules_with}
+use Rattle.tuple_state.proofs.Layers.{Stands, each_stands, row_visible, unnamed_hidden, visible_is}
+use Rattle.tuple_state.proofs.Lookups.{named_reversed, row_found}
+use Rattle.tuple_state.proofs.Marks.{found_layered, named_before}
+use Rattle.tuple_state.proofs.Regrowth.{each_back}
+
+pub filtered_at : (P : TableRow → Type 0) (keep : Inserted → Bool) (rows : List Inserted) (k : ℕ) (it : Inserted) → AllByRecursion P (map row_of (filter keep rows)) → slice_get rows k ≡ Some it → keep it ≡ true → P (row_of it)
+filtered_at P keep [] k it h at kept = absurd (cc)
+filtered_at P keep (row ∷ rows) zero it h at kept =
+    let same : row ≡ it = cc in
+    let here : keep row ≡ true = ap keep same ∙ kept in
+    subst (λ (r : Inserted). P (row_of r)) same (subst (λ b. AllByRecursion P (map row_of (cond b (row ∷ filter keep rows) (filter keep rows)))) here h).0
+filtered_at P keep (row ∷ rows) (suc k) it h at kept =
+    let tail : (b : Bool) → AllByRecursion P (map row_of (cond b (row ∷ filter keep rows) (filter keep rows))) → AllByRecursion P (map row_of (filter keep rows)) = elim [ true ↦ λ g. g.1 | false ↦ λ g. g ] in
+    filtered_at P keep rows k it (tail (keep row) h) at kept
+
+record Passing (t keep : Inserted → Bool) (rows : List Inserted) : Type 0 where
+  place : ℕ
+  it : Inserted
+  at : slice_get rows place ≡ Some it
+  passes : t it ≡ true
+  kept : keep it ≡ true
+
+any_filtered_at : (t keep : Inserted → Bool) (rows : List Inserted) → list_any t (filter keep rows) ≡ true → Passing t keep rows
+any_filtered_at t keep [] h = absurd (cc)
+any_filtered_at t keep (row ∷ rows) h =
+    let later : Passing t keep rows → Passing t keep (row ∷ rows) = λ p. record { place = suc p.place; it = p.it; at = p.at; passes = p.passes; kept = p.kept } in
+    let step : (b : Bool) → keep row ≡ b → list_any t (cond b (row ∷ filter keep rows) (filter keep rows)) ≡ true → Passing t keep (row ∷ rows) =
+    elim [
+      | true ↦ λ e g. elim (or_cases (t row) _ g) [ inl here ↦ record { place = 0; it = row; at = refl; passes = here; kept = e } | inr there ↦ later (any_filtered_at t keep rows there) ]
+      | false ↦ λ e g. later (any_filtered_at t keep rows g)
+    ] in
+    step (keep row) refl h
+
+and_true : (b : Bool) → (b && true) ≡ b
+and_true true = refl
+and_true false = refl
+
+and_moved : (a b c : Bool) → ((a && b) && c) ≡ (a && (b && c))
+and_moved true b c = refl
+and_moved false b c = refl
+
+always : {X : Type 0} (xs : List X) → list_all (λ x. true) xs ≡ true
+always [] = refl
+always (x ∷ xs) = always xs
+
+below_limit : (keys : List ℕ) (b : ℕ) → list_all (λ k. nat_lt k b) keys ≡ true → limit_of keys ≤ b
+unfolding limit_of
+below_limit [] b h = omega arith
+below_limit (k ∷ keys) b h =
+    let parts = and_parts (nat_lt k b) _ h in
+    let rest = below_limit keys b parts.1 in
+    let here : k < b = (let e = parts.0 in grind (arith, nat_tests)) in
+    omega (arith, rest, here)
+
+above_limit : (keys : List ℕ) (k : ℕ) → suc k ≤ limit_of (keys ++ k ∷ [])
+unfolding limit_of
+above_limit [] k = omega arith
+above_limit (x ∷ keys) k = let rest = above_limit keys k in omega (arith, rest)
+
+less_tests : (keys : List ℕ) (k : ℕ) → AllByRecursion (λ q. nat_cmp q k ≡ Less) keys → list_all (λ q. nat_lt q k) keys ≡ true
+less_tests [] k h = refl
+less_tests (q ∷ keys) k h = and_from _ _ (let e = h.0 in grind (arith, nat_tests)) (less_tests keys k h.1)
+
+module _ (columns : List (List Column)) (rows : List Inserted) (past : ℕ → Bool) (gone : List RowName) where
+  abbrev then : Effects
+  then = record { inserted = reverse (map row_of (filter (λ (it : Inserted). past it.position) rows)); deleted = gone }
+
+  abbrev vis : RowName → Bool
+  vis = is_visible (rules_with columns) then
+
+  abbrev at_place : ℕ → Bool
+  at_place place = passes_row vis (slice_get rows place)
+
+  module _ (all : are_layered (rules_with columns) (reverse (map row_of rows)) ≡ true) (some : are_layered (rules_with columns) then.inserted ≡ true) (place : ℕ) (it : Inserted) (at : slice_get rows place ≡ Some it) where
+    pub hidden_row : (past it.position && not (is_deleted then it.name)) ≡ false → vis it.name ≡ false
+    hidden_row h =
+        let step : (b : Bool) → past it.position ≡ b → vis it.name ≡ false =
+        elim [
+          | true ↦ λ e.
+              let gone_is : not (is_deleted then it.name) ≡ false = ap (λ b. b && not (is_deleted then it.name)) (sym e) ∙ h in
+              visible_is (rules_with columns) then some it.name ∙ and_right _ _ gone_is
+          | false ↦ λ e.
+              unnamed_hidden (rules_with columns) then it.name
+              (named_reversed (filter (λ (x : Inserted). past x.position) rows) it.name
+              ∙ false_from_ne_true _ (λ found.
+              let p = any_filtered_at (λ (x : Inserted). same_row x.name it.name) (λ (x : Inserted). past x.position) rows found in
+              let one : Some p.place ≡ Some place = sym (found_layered (rules_with columns) rows all p.place p.it p.at) ∙ ap (place_of rows) (row_from_same p.it.name it.name p.passes) ∙ found_layered (rules_with columns) rows all place it at in
+              let here : p.place ≡ place = cc in
+              let same : Some p.it ≡ Some it = sym p.at ∙ ap (slice_get rows) here ∙ at in
+              let item : p.it ≡ it = cc in
+              both_ways _ e (ap (λ (x : Inserted). past x.position) (sym item) ∙ p.kept)))
+              (length then.inserted)
+        ] in
+        step (past it.position) refl
+
+    pub kept_row : (past it.position && not (is_deleted then it.name)) ≡ true → vis it.name ≡ list_all (λ r. passes_place at_place (place_of rows r.name)) (cascade_refs (rules_with columns) (row_of it))
+    kept_row h =
+        let parts = and_parts (past it.position) _ h in
+        let stands = filtered_at (Stands then.inserted) (λ (x : Inserted). past x.position) rows place it (each_back (Stands then.inserted) (map row_of (filter (λ (x : Inserted). past x.position) rows)) (each_stands (rules_with columns) then.inserted some)) at parts.0 in
+        row_visible (rules_with columns) then some (row_of it) stands
+        ∙ ap (λ b. list_all (λ r. vis r.name) (cascade_refs (rules_with columns) (row_of it)) && b) parts.1 ∙ and_true _
+        ∙ sym (named_before columns rows all (λ name. passes_place at_place (place_of rows name)) vis place it at
+        (λ j name found below. let row = row_found rows name j found in ap (passes_place at_place) found ∙ ap (passes_row vis) row.at ∙ ap vis row.name_is))
+
+    parents_below : list_all (λ r. passes_place (λ k. nat_lt k place) (place_of rows r.name)) (cascade_refs (rules_with columns) (row_of it)) ≡ true
+    parents_below =
+        named_before columns rows all (λ name. passes_place (λ k. nat_lt k place) (place_of rows name)) (λ name. true) place it at
+        (λ j name found below. ap (passes_place (λ k. nat_lt k place)) found ∙ (grind (arith, nat_tests)))
+        ∙ always (cascade_refs (rules_with columns) (row_of it))
+
+    -- what is known of the rows that are still to be looked at
+    module _ (start : Bool) (before keys next : List ℕ) (popped : before ≡ keys ++ place ∷ []) (so : start ≡ list_all at_place before) where
+      here_is : at_place place ≡ vis it.name
+      here_is = ap (passes_row vis) at
+
+      before_is : start ≡ (list_all at_place keys && vis it.name)
+      before_is = so ∙ ap (list_all at_place) popped ∙ list_all-append at_place keys (place ∷ []) ∙ ap (λ b. list_all at_place keys && b) (and_true (at_place place) ∙ here_is)
+
+      pub stop : (past it.position && not (is_deleted then it.name)) ≡ false → false ≡ start
+      stop h = sym (before_is ∙ and_right _ _ (hidden_row h))
+
+      module _ (added : (test : ℕ → Bool) → list_all test next ≡ (list_all test keys && list_all (λ r. passes_place test (place_of rows r.name)) (cascade_refs (rules_with columns) (row_of it)))) where
+        pub go_on : (past it.position && not (is_deleted then it.name)) ≡ true → start ≡ list_all at_place next
+        go_on h = before_is ∙ ap (λ b. list_all at_place keys && b) (kept_row h) ∙ sym (added at_place)
+
+        next_below : All (λ q. nat_cmp q place ≡ Less) keys → list_all (λ k. nat_lt k place) next ≡ true
+        next_below lower = added (λ k. nat_lt k place) ∙ and_from _ _ (less_tests keys place (recursion_from_All _ keys lower)) parents_below
+
+        pub shrinks : All (λ q. nat_cmp q place ≡ Less) keys → limit_of next < limit_of before
+        shrinks lower =
+            let a = below_limit next place (next_below lower) in
+            let b = above_limit keys place in
+            let c = ap limit_of popped in
+            omega (arith, a, b, c)
+
+        pub in_range : All (λ q. nat_cmp q place ≡ Less) keys → place < length rows → list_all (λ k. nat_lt k (length rows)) next ≡ true
+        in_range lower below =
+            all_weaker (λ k. nat_lt k place) (λ k. nat_lt k (length rows)) (λ k h. grind (arith, nat_tests)) next (next_below lower)
