@@ -1,0 +1,4 @@
+mod Ancestors
+mod Arriving
+mod Places
+mod Results

@@ -1,0 +1,128 @@
+ghost use Rattle.std.specs.Prelude.{◌≡◌, ◌+◌, ◌<◌, length, map, option_map, reverse, slice_get, Some, IsTrue, IfOk, OnOk};
+ghost use Rattle.std.specs.List.{filter_map, list_all};
+ghost use Rattle.update_check.specs.Signed.{node_of};
+ghost use Rattle.schema.specs.Verdicts.{is_unlimited, judge_next, judged};
+ghost use Rattle.tuple_state.specs.State.{IsStateOf};
+ghost use Rattle.replay.specs.Arrivals.{nodes_before, place_in, places_before};
+
+use ancestry::Ancestry;
+use hash_graph::Graph;
+use row_check::{Checks, Native, Relation};
+use schema::{Schema, Verdict, arrivals_are_closed, verdict_is_on_ancestors};
+use std::alloc::{AllocError, Global};
+use tuple_state::{Tables, applied_is_next};
+use update_check::Checked;
+use update_model::{Member, Node, UpdateId};
+use validity::judge;
+
+/// Judges each update of a graph in order of arrival on its ancestors, and keeps what the valid ones did.
+///
+/// The answer is the same for every graph with the same updates, in whatever order they arrived. It gives up where memory
+/// runs out.
+pub fn replay<L: Relation, C: Checks<L>>(
+    alloc: Global,
+    schema: &Schema,
+    native: &Native<L, C>,
+    graph: &Graph<Checked>,
+) -> Result<Tables, AllocError>
+    requires { IsTrue (list_all is_unlimited schema.now.tables) }
+    ensures { IfOk result (λ tables. IsStateOf (record { tables = schema.now.tables; ask = L.answer }) (reverse (map node_of graph.now)) tables) }
+{
+    let mut tables = Tables::new(alloc, schema)?;
+    let mut ancestry = Ancestry::new(alloc);
+    for position in 0..graph.len() {
+        take_next(
+            alloc,
+            schema,
+            native,
+            graph,
+            position,
+            &mut tables,
+            &mut ancestry,
+        )?;
+    }
+    Ok(tables)
+}
+
+/// Takes the member at this position, where those before it are taken.
+fn take_next<L: Relation, C: Checks<L>>(
+    alloc: Global,
+    schema: &Schema,
+    native: &Native<L, C>,
+    graph: &Graph<Checked>,
+    position: u32,
+    tables: &mut Tables,
+    ancestry: &mut Ancestry,
+) -> Result<(), AllocError>
+    requires unlimited { IsTrue (list_all is_unlimited schema.now.tables) }
+    requires low { position < length graph.now }
+    requires state { IsStateOf (record { tables = schema.now.tables; ask = L.answer }) (nodes_before graph.now position) tables.old }
+    requires places { ancestry.old ≡ places_before graph.now position }
+    ensures state { OnOk result (IsStateOf (record { tables = schema.now.tables; ask = L.answer }) (nodes_before graph.now (position + 1)) tables.new) }
+    ensures places { OnOk result (ancestry.new ≡ places_before graph.now (position + 1)) }
+{
+    take_places(alloc, graph, position, ancestry)?;
+    let node = graph.at(position).node(alloc)?;
+    let verdict = judge_next(
+        alloc, schema, native, graph, position, &node, tables, ancestry,
+    )?;
+    arrivals_are_closed();
+    applied_is_next();
+    graph.len();
+    tables.apply(&node, verdict)
+}
+
+/// Takes the positions of the predecessors of the member at this position.
+fn take_places(
+    alloc: Global,
+    graph: &Graph<Checked>,
+    position: u32,
+    ancestry: &mut Ancestry,
+) -> Result<(), AllocError>
+    requires low { position < length graph.now }
+    requires places { ancestry.old ≡ places_before graph.now position }
+    ensures { OnOk result (ancestry.new ≡ places_before graph.now (position + 1)) }
+{
+    arrivals_are_closed();
+    graph.len();
+    let places = places_of(alloc, graph, graph.at(position).preds())?;
+    ancestry.add(places.as_slice())?;
+    Ok(())
+}
+
+/// The positions of the members with these ids.
+fn places_of(
+    alloc: Global,
+    graph: &Graph<Checked>,
+    ids: &[UpdateId],
+) -> Result<Vec<u32>, AllocError>
+    ensures { IfOk result (λ places. places.items ≡ filter_map (place_in graph.now) ids.now) }
+{
+    ids.iter()
+        .filter_map(|id| graph.position(id))
+        .collect(alloc)
+}
+
+/// The verdict on the member at this position, where the tables hold what those before it do.
+fn judge_next<L: Relation, C: Checks<L>>(
+    alloc: Global,
+    schema: &Schema,
+    native: &Native<L, C>,
+    graph: &Graph<Checked>,
+    position: u32,
+    node: &Node,
+    tables: &Tables,
+    ancestry: &Ancestry,
+) -> Result<Verdict, AllocError>
+    requires unlimited { IsTrue (list_all is_unlimited schema.now.tables) }
+    requires here { option_map node_of (slice_get graph.now position) ≡ Some node.now }
+    requires state { IsStateOf (record { tables = schema.now.tables; ask = L.answer }) (nodes_before graph.now position) tables.now }
+    requires places { ancestry.now ≡ places_before graph.now (position + 1) }
+    ensures { IfOk result (λ verdict. verdict ≡ (judge_next (record { tables = schema.now.tables; ask = L.answer }) (judged (record { tables = schema.now.tables; ask = L.answer }) (nodes_before graph.now position)) node.now).verdict) }
+{
+    arrivals_are_closed();
+    verdict_is_on_ancestors();
+    graph.len();
+    ancestry.len();
+    judge(alloc, schema, native, node, &tables.at(ancestry, position))
+}
