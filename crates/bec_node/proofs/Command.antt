@@ -1,18 +1,21 @@
--- From what a stream holds to what the command `heads` answers.
-use Rattle.std.proofs.Common.{◌≡◌, ◌≢◌, ◌⊎◌, inl, inr, ℕ, Bool, true, false, drop, ◌<◌, ◌≤◌, List, [], ◌∷◌, length, codes, refl, sym, ap, subst, ◌∙◌, Option, Some, None, IfSome, String, Result, Ok, Err, slice_get, slice_index_or, arith}
+-- From what an input holds to what a command answers, writes and ends with.
+use Rattle.std.proofs.Common.{◌≡◌, ◌≢◌, ◌⊎◌, inl, inr, ℕ, Bool, true, false, drop, ◌<◌, ◌≤◌, List, [], ◌∷◌, length, codes, refl, sym, ap, subst, ◌∙◌, Option, Some, None, IfSome, IfOk, IfErr, String, Result, Ok, Err, slice_get, slice_index_or, arith}
 use Rattle.std.specs.declared.alloc.Global.{Global}
 use Rattle.std.specs.String.{string_bytes}
 use Rattle.std.specs.Io.KnownBytes.{Appends}
-use Rattle.bec_bytes.specs.Causes.{HasCause}
+use Rattle.bec_bytes.specs.Causes.{HasCause, Rose}
 use Rattle.bec_bytes.specs.Moved.{TakesAll}
 use Rattle.update_stream.specs.declared.record_fault.RecordFault.{RecordFault}
 use Rattle.update_stream.specs.declared.record_fault.RecordFault.TheVariants as faults
 use Rattle.update_stream.specs.declared.reading.Reading.{Reading}
 use Rattle.update_stream.specs.declared.reading.Reading.TheVariants.{Whole, Refused}
 use Rattle.update_stream.specs.Told.{Reads}
-use Rattle.schema.specs.Schemas.{SchemaData}
-use Rattle.bec_node.specs.Texts.{status_of, is_untested, verdict_status}
-use Rattle.bec_node.specs.Run.{Command, Heads, Check, word_of, IsCommand, IsNoCommand, HasFirstWord, Says, IsStatusOf, IsAnswer, IsReply, PutsFront, IsStreamFault, Puts, AnswersOnly, read_limit, Judges, ReadsText}
+use Rattle.update_stream.specs.declared.reading.ReadError.{ReadError}
+use Rattle.update_stream.specs.declared.reading.ReadError.TheVariants.{Failed, Memory}
+use Rattle.bec_node.specs.declared.reply.Reply.{Reply}
+use Rattle.bec_node.specs.Texts.{status_of}
+use Rattle.bec_node.specs.Verdict.{Judges}
+use Rattle.bec_node.specs.Run.{Command, Heads, Check, Dump, word_of, IsCommand, IsNoCommand, HasFirstWord, Says, IsStatusOf, IsAnswer, IsReply, PutsFront, IsStreamFault, Puts, Ends, AnswersOnly, LeavesInput, read_limit, ReadsText}
 use Rattle.bec_node.proofs.Answer.{OneAnswer}
 use Rattle.bec_node.proofs.Checking.{judged_whole}
 
@@ -39,15 +42,27 @@ first_is command other (word ∷ []) first is = let a : string_bytes word ≡ wo
 first_is command other (word ∷ more ∷ words) first is = absurd cc
 
 -- the words differ in their first letter
-apart : word_of Heads ≡ word_of Check → ⊥
-apart same = let first : 104 ≡ 99 = ap (λ (xs : List ℕ). slice_index_or xs 0 0) same in absurd (omega (arith, first))
+letter : Command → ℕ
+letter command = slice_index_or (word_of command) 0 0
+
+apart : (command other : Command) → word_of command ≡ word_of other → letter command ≡ letter other
+apart command other same = ap (λ (xs : List ℕ). slice_index_or xs 0 0) same
+
+-- commands with one word are one
+one_word_of : (command other : Command) → word_of command ≡ word_of other → other ≡ command
+one_word_of Heads Heads same = refl
+one_word_of Heads Check same = let no : 104 ≡ 99 = apart Heads Check same in absurd (omega arith)
+one_word_of Heads Dump same = let no : 104 ≡ 100 = apart Heads Dump same in absurd (omega arith)
+one_word_of Check Heads same = let no : 99 ≡ 104 = apart Check Heads same in absurd (omega arith)
+one_word_of Check Check same = refl
+one_word_of Check Dump same = let no : 99 ≡ 100 = apart Check Dump same in absurd (omega arith)
+one_word_of Dump Heads same = let no : 100 ≡ 104 = apart Dump Heads same in absurd (omega arith)
+one_word_of Dump Check same = let no : 100 ≡ 99 = apart Dump Check same in absurd (omega arith)
+one_word_of Dump Dump same = refl
 
 -- the words of two commands
 pub one_command : (command other : Command) (words : List (String Global)) → HasFirstWord command words → IsCommand other words → other ≡ command
-one_command Heads Heads words first is = refl
-one_command Heads Check words first is = absurd (apart (first_is Heads Check words first is))
-one_command Check Heads words first is = absurd (apart (sym (first_is Check Heads words first is)))
-one_command Check Check words first is = refl
+one_command command other words first is = one_word_of command other (first_is command other words first is)
 
 pub other_first : (words : List (String Global)) (word : String Global) → slice_get words 0 ≡ Some word → ((command : Command) → string_bytes word ≡ word_of command → ⊥) → IsNoCommand words
 other_first [] word at other command is = absurd cc
@@ -57,17 +72,23 @@ other_first (w ∷ words) word at other command is =
     other command (ap (λ (t : String Global). string_bytes t) (sym same) ∙ named)
 
 -- a word that is none of the commands' words
-pub other_words : (word : List ℕ) → (word ≡ codes "heads" → ⊥) → (word ≡ codes "check" → ⊥) → (command : Command) → word ≡ word_of command → ⊥
-other_words word heads check Heads is = heads is
-other_words word heads check Check is = check is
+pub other_words : (word : List ℕ) → (word ≡ codes "heads" → ⊥) → (word ≡ codes "check" → ⊥) → (word ≡ codes "dump" → ⊥) → (command : Command) → word ≡ word_of command → ⊥
+other_words word heads check dump Heads is = heads is
+other_words word heads check dump Check is = check is
+other_words word heads check dump Dump is = dump is
 
--- the first word, met twice, is neither command
-pub other_both : (words : List (String Global)) (a b : String Global) → slice_get words 0 ≡ Some a → slice_get words 0 ≡ Some b
-    → (string_bytes a ≡ codes "heads" → ⊥) → (string_bytes b ≡ codes "check" → ⊥) → IsNoCommand words
-other_both words a b at again heads check =
+-- the first word, met once more, is the same
+pub met_again : (words : List (String Global)) (a b : String Global) → slice_get words 0 ≡ Some a → slice_get words 0 ≡ Some b → string_bytes a ≡ string_bytes b
+met_again words a b at again =
     let both : Some a ≡ Some b = sym at ∙ again in
     let same : a ≡ b = cc in
-    other_first words a at (other_words (string_bytes a) heads (λ is. check (ap (λ (t : String Global). string_bytes t) (sym same) ∙ is)))
+    ap (λ (t : String Global). string_bytes t) same
+
+-- the first word, met three times, is no command
+pub none_of_three : (words : List (String Global)) (a b d : String Global) → slice_get words 0 ≡ Some a → slice_get words 0 ≡ Some b → slice_get words 0 ≡ Some d
+    → (string_bytes a ≡ codes "heads" → ⊥) → (string_bytes b ≡ codes "check" → ⊥) → (string_bytes d ≡ codes "dump" → ⊥) → IsNoCommand words
+none_of_three words a b d at again last heads check dump =
+    other_first words a at (other_words (string_bytes a) heads (λ is. check (met_again words b a again at ∙ is)) (λ is. dump (met_again words d a last at ∙ is)))
 
 pub no_first : (words : List (String Global)) → slice_get words 0 ≡ None → IsNoCommand words
 no_first [] none command is = cc
@@ -86,6 +107,24 @@ not_four Heads status (inr (inl a)) e = let no : 1 ≡ 4 = sym a ∙ e in absurd
 not_four Heads status (inr (inr a)) e = let no : 7 ≡ 4 = sym a ∙ e in absurd (omega arith)
 not_four Check status (inl a) e = let no : 0 ≡ 4 = sym a ∙ e in absurd (omega arith)
 not_four Check status (inr a) e = let no : 1 ≡ 4 = sym a ∙ e in absurd (omega arith)
+not_four Dump status (inl a) e = let no : 0 ≡ 4 = sym a ∙ e in absurd (omega arith)
+not_four Dump status (inr (inl a)) e = let no : 1 ≡ 4 = sym a ∙ e in absurd (omega arith)
+not_four Dump status (inr (inr a)) e = let no : 7 ≡ 4 = sym a ∙ e in absurd (omega arith)
+
+pub not_five : (command : Command) (status : ℕ) → IsStatusOf command status → status ≡ 5 → ⊥
+not_five Heads status (inl a) e = let no : 0 ≡ 5 = sym a ∙ e in absurd (omega arith)
+not_five Heads status (inr (inl a)) e = let no : 1 ≡ 5 = sym a ∙ e in absurd (omega arith)
+not_five Heads status (inr (inr a)) e = let no : 7 ≡ 5 = sym a ∙ e in absurd (omega arith)
+not_five Check status (inl a) e = let no : 0 ≡ 5 = sym a ∙ e in absurd (omega arith)
+not_five Check status (inr a) e = let no : 1 ≡ 5 = sym a ∙ e in absurd (omega arith)
+not_five Dump status (inl a) e = let no : 0 ≡ 5 = sym a ∙ e in absurd (omega arith)
+not_five Dump status (inr (inl a)) e = let no : 1 ≡ 5 = sym a ∙ e in absurd (omega arith)
+not_five Dump status (inr (inr a)) e = let no : 7 ≡ 5 = sym a ∙ e in absurd (omega arith)
+
+-- ---- the answer of `heads`
+
+abbrev pub Told : Command → Option (List ℕ) → Option (List ℕ) → ℕ → List ℕ → Type 0
+Told command before after status text = IsAnswer command before after status text × IsStatusOf command status
 
 whole_answer : (before after : Option (List ℕ)) (members : List (List ℕ)) (status : ℕ) (text : List ℕ) → Reads None before after (Whole members) → Says (Whole members) status text → IsAnswer Heads before after status text
 whole_answer None after members status text reads says = tt
@@ -96,38 +135,24 @@ refused_answer : (before after : Option (List ℕ)) (n : ℕ) (fault : RecordFau
 refused_answer None after n fault status text reads says = tt
 refused_answer (Some xs) after n fault status text reads says = (reads.0, reads.1, inr (n, (fault, reads.2, says.0, says.1)))
 
-pub status_said : (reading : Reading) (status : ℕ) (text : List ℕ) → Says reading status text → IsStatusOf Heads status
-status_said (Whole members) status text says = inl says.2
-status_said (Refused n fault) status text says = let P : ℕ → Type 0 = IsStatusOf Heads in subst P (sym says.0) (heads_status fault)
+pub heads_told : (before after : Option (List ℕ)) (reading : Reading) (status : ℕ) (text : List ℕ) → Reads None before after reading → Says reading status text → Told Heads before after status text
+heads_told before after (Whole members) status text reads says = (whole_answer before after members status text reads says, inl says.2)
+heads_told before after (Refused n fault) status text reads says =
+    (refused_answer before after n fault status text reads says, let P : ℕ → Type 0 = IsStatusOf Heads in subst P (sym says.0) (heads_status fault))
 
-pub answer_said : (before after : Option (List ℕ)) (reading : Reading) (status : ℕ) (text : List ℕ) → Reads None before after reading → Says reading status text → IsAnswer Heads before after status text
-answer_said before after (Whole members) status text reads says = whole_answer before after members status text reads says
-answer_said before after (Refused n fault) status text reads says = refused_answer before after n fault status text reads says
+-- ---- the answer of `check`
 
-pub reply_said : (words : List (String Global)) (before after : Option (List ℕ)) (reading : Reading) (status : ℕ) (text : List ℕ) → IsCommand Heads words
-    → Reads None before after reading → Says reading status text → IsReply words before after status text
-reply_said words before after reading status text is reads says = inl (Heads, is, status_said reading status text says, answer_said before after reading status text reads says)
+status_judged : (input : List ℕ) (status : ℕ) (text : List ℕ) → Judges input status text → IsStatusOf Check status
+status_judged input status text (inl a) = inl a.2
+status_judged input status text (inr a) = inr a.1
 
--- the reply to a text
-verdict_status_is : (schema : SchemaData) → IsStatusOf Check (verdict_status schema)
-verdict_status_is schema = by_case (is_untested schema) refl
-  where
-    by_case : (b : Bool) → is_untested schema ≡ b → IsStatusOf Check (verdict_status schema)
-    by_case true e = rw e (inr refl)
-    by_case false e = rw e (inl refl)
-
-pub status_judged : (input : List ℕ) (status : ℕ) (text : List ℕ) → Judges input status text → IsStatusOf Check status
-status_judged input status text (inl a) = let P : ℕ → Type 0 = IsStatusOf Check in subst P (sym a.2) (verdict_status_is a.0)
-status_judged input status text (inr a) = inr a.1.2
-
-pub answer_judged : (before after : Option (List ℕ)) (read : List ℕ) (status : ℕ) (text : List ℕ) → ReadsText before after read → Judges read status text → IsAnswer Check before after status text
+answer_judged : (before after : Option (List ℕ)) (read : List ℕ) (status : ℕ) (text : List ℕ) → ReadsText before after read → Judges read status text → IsAnswer Check before after status text
 answer_judged None after read status text reads judged = tt
 answer_judged (Some xs) after read status text reads judged =
     (drop read_limit xs, reads.1, (refl, judged_whole xs status text (let P : List ℕ → Type 0 = λ w. Judges w status text in subst P reads.0 judged)))
 
-pub reply_judged : (words : List (String Global)) (before after : Option (List ℕ)) (read : List ℕ) (status : ℕ) (text : List ℕ) → IsCommand Check words
-    → ReadsText before after read → Judges read status text → IsReply words before after status text
-reply_judged words before after read status text is reads judged = inl (Check, is, status_judged read status text judged, answer_judged before after read status text reads judged)
+pub check_told : (before after : Option (List ℕ)) (read : List ℕ) (status : ℕ) (text : List ℕ) → ReadsText before after read → Judges read status text → Told Check before after status text
+check_told before after read status text reads judged = (answer_judged before after read status text reads judged, status_judged read status text judged)
 
 -- ---- what is written
 
@@ -176,3 +201,59 @@ pub fault_words : (words : List (String Global)) (before : Option (List ℕ)) (i
     → IsStreamFault words before before in_old in_old old new held held_new
 fault_words words before in_old old new held held_new result other put four =
     fault_put words before before in_old in_old old new held held_new 2 result (codes "! words\n") (inr (other, refl, refl)) (λ two. absurd (omega arith)) put four
+
+-- ---- a command ends
+
+module _ (one : OneAnswer) (command : Command) (words : List (String Global)) (first : HasFirstWord command words) (few : length words ≤ 1)
+    (before after : Option (List ℕ)) (in_old in_new old new : ℕ) (held held_new : Option (List ℕ)) (result : ℕ) (outcome : Result Reply ReadError)
+    (told : IfOk outcome (λ reply. Told command before after reply.status reply.text.items)) (failed : IfErr outcome (λ e. e ≡ Failed → Rose in_old in_new))
+    (ok : IfOk outcome (λ reply. Puts old new held held_new reply.status reply.text.items result)) (err : IfErr outcome (λ e. Ends e old new held held_new result)) where
+
+  is_command : IsCommand command words
+  is_command = one_word command words first few
+
+  replied : (status : ℕ) (text : List ℕ) → Told command before after status text → IsReply words before after status text
+  replied status text t = inl (command, is_command, t.1, t.0)
+
+  pub reply_ends : result ≢ 4 → result ≢ 5 → (text : List ℕ) × IsReply words before after result text × Appends held held_new text
+  reply_ends four five = by outcome told err ok
+    where
+      by : (o : Result Reply ReadError) → IfOk o (λ reply. Told command before after reply.status reply.text.items) → IfErr o (λ e. Ends e old new held held_new result)
+          → IfOk o (λ reply. Puts old new held held_new reply.status reply.text.items result) → (text : List ℕ) × IsReply words before after result text × Appends held held_new text
+      by (Ok reply) t e p = reply_put words before after old new held held_new reply.status result reply.text.items (replied reply.status reply.text.items t) p four
+      by (Err Failed) t e p = absurd (four e.0)
+      by (Err Memory) t e p = absurd (five e.0)
+
+  pub fault_ends : result ≡ 4 → IsStreamFault words before after in_old in_new old new held held_new
+  fault_ends four = by outcome told failed err ok
+    where
+      by : (o : Result Reply ReadError) → IfOk o (λ reply. Told command before after reply.status reply.text.items) → IfErr o (λ e. e ≡ Failed → Rose in_old in_new)
+          → IfErr o (λ e. Ends e old new held held_new result) → IfOk o (λ reply. Puts old new held held_new reply.status reply.text.items result)
+          → IsStreamFault words before after in_old in_new old new held held_new
+      by (Ok reply) t f e p = fault_put words before after in_old in_new old new held held_new reply.status result reply.text.items (replied reply.status reply.text.items t)
+          (not_four command reply.status t.1) p four
+      by (Err Failed) t f e p = inl ((command, is_command), f refl, e.1)
+      by (Err Memory) t f e p = let no : 5 ≡ 4 = sym e.0 ∙ four in absurd (omega arith)
+
+  pub memory_ends : result ≡ 5 → ((c : Command) × IsCommand c words) × Appends held held_new []
+  memory_ends five = by outcome told err ok
+    where
+      by : (o : Result Reply ReadError) → IfOk o (λ reply. Told command before after reply.status reply.text.items) → IfErr o (λ e. Ends e old new held held_new result)
+          → IfOk o (λ reply. Puts old new held held_new reply.status reply.text.items result) → ((c : Command) × IsCommand c words) × Appends held held_new []
+      by (Ok reply) t e (inl p) = absurd (not_five command reply.status t.1 (sym p.0 ∙ five))
+      by (Ok reply) t e (inr p) = let no : 4 ≡ 5 = sym p.0 ∙ five in absurd (omega arith)
+      by (Err Failed) t e p = let no : 4 ≡ 5 = sym e.0 ∙ five in absurd (omega arith)
+      by (Err Memory) t e p = ((command, is_command), e.1)
+
+  pub only_ends : (other : Command) → IsCommand other words → AnswersOnly other before result
+  only_ends other named = by outcome told err ok
+    where
+      by : (o : Result Reply ReadError) → IfOk o (λ reply. Told command before after reply.status reply.text.items) → IfErr o (λ e. Ends e old new held held_new result)
+          → IfOk o (λ reply. Puts old new held held_new reply.status reply.text.items result) → AnswersOnly other before result
+      by (Ok reply) t e p = only_put one command words before after old new held held_new reply.status result reply.text.items first t.0 p other named
+      by (Err Failed) t e p = subst (λ (r : ℕ). AnswersOnly other before r) (sym e.0) (comes_as_four other before)
+      by (Err Memory) t e p = subst (λ (r : ℕ). AnswersOnly other before r) (sym e.0) (comes_as_five other before)
+
+-- words that are the command
+pub named_leaves : {S : Type 0} (command : Command) (words : List (String Global)) (a b : S) → HasFirstWord command words → length words ≤ 1 → LeavesInput words a b
+named_leaves command words a b first few = λ other. absurd (other command (one_word command words first few))

@@ -1,4 +1,9 @@
+pub mod Members
 pub mod HeadSteps
 pub mod Checking
+pub mod Refusals
+pub mod Tables
+pub mod Unlimited
 pub mod Answer
 pub mod Command
+pub mod Bundles

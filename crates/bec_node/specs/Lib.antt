@@ -1,2 +1,4 @@
 pub mod Texts
+pub mod Verdict
+pub mod Bundle
 pub mod Run

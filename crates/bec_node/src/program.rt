@@ -3,6 +3,7 @@ ghost use Rattle.std.specs.Io.KnownBytes.{Appends};
 ghost use Rattle.bec_node.specs.Run.{Command, IsCommand, IsReply, IsStreamFault, AnswersOnly, LeavesInput};
 
 use crate::check_command::command_check;
+use crate::dump_command::command_dump;
 use crate::heads_command::command_heads;
 use crate::reply::no_command;
 use bec_bytes::{Sink, Source};
@@ -10,7 +11,7 @@ use std::alloc::Global;
 
 /// Does what the words of a command line ask for, over a source and a sink, and answers the exit status.
 ///
-/// A command is one word, `heads` or `check`. Where no stream fails and memory suffices, the status and the text written
+/// A command is one word, `heads`, `check` or `dump`. Where no stream fails and memory suffices, the status and the text written
 /// are the reply to these words and this input.
 pub fn run<S: Source, K: Sink>(alloc: Global, words: &[String], input: &mut S, out: &mut K) -> u8
     // The status and what is written are the reply, unless a stream failed or memory ran out.
@@ -33,6 +34,7 @@ pub fn run<S: Source, K: Sink>(alloc: Global, words: &[String], input: &mut S, o
     match words.first() {
         Some(word) if word.as_str() == "heads" => command_heads(alloc, words, input, out),
         Some(word) if word.as_str() == "check" => command_check(alloc, words, input, out),
+        Some(word) if word.as_str() == "dump" => command_dump(alloc, words, input, out),
         _ => no_command(out),
     }
 }
