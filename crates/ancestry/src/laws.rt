@@ -1,0 +1,26 @@
+//! Laws of ancestors. Each function does nothing: its contract is a theorem for callers to cite.
+
+ghost use Rattle.std.specs.Prelude.{◌≡◌, ◌<◌, ◌↔◌, ◌||◌, ◌==◌, ◌++◌, ℕ, List, Some, IsTrue, length, slice_get};
+ghost use Rattle.std.specs.List.{list_any};
+ghost use Rattle.update_model.specs.Entry.{Entry};
+ghost use Rattle.update_model.specs.Graph.{IsClosed, IsAncestor};
+ghost use Rattle.ancestry.specs.Numbered.{AreNumbered};
+ghost use Rattle.ancestry.specs.Walks.{AreLower, is_ancestor, preds_at};
+
+/// A member is an ancestor of another exactly where that one names it, or names one whose ancestor it is.
+pub fn ancestors_go_by_predecessors()
+    ensures { (graph : List (List ℕ)) (a b : ℕ) → AreLower graph
+        → is_ancestor graph a b ≡ list_any (λ p. (p == a) || is_ancestor graph a p) (preds_at graph b) }
+{}
+
+/// Later members change nothing about the ancestors of earlier ones.
+pub fn ancestors_stay()
+    ensures { (graph more : List (List ℕ)) (a b : ℕ) → b < length graph → AreLower (graph ++ more)
+        → is_ancestor (graph ++ more) a b ≡ is_ancestor graph a b }
+{}
+
+/// Of a closed graph, ancestors by positions are the ancestors of its members.
+pub fn walks_are_ancestors()
+    ensures { (graph : List Entry) (positions : List (List ℕ)) (a b : ℕ) (x y : Entry) → IsClosed graph → AreNumbered graph positions
+        → slice_get graph a ≡ Some x → slice_get graph b ≡ Some y → IsTrue (is_ancestor positions a b) ↔ IsAncestor graph x y }
+{}

@@ -1,0 +1,48 @@
+//! The walk from a member down to its ancestors.
+
+ghost use Rattle.std.specs.Prelude.{◌≡◌, ◌<◌, ◌≤◌, ◌+◌, ◌||◌, ◌==◌, ℕ, All, length, slice_index_or, false, IfOk};
+ghost use Rattle.std.specs.List.{list_any};
+ghost use Rattle.ancestry.specs.Walks.{AreLower, is_ancestor};
+
+use std::alloc::{AllocError, Global};
+use update_model::PositionList;
+
+/// Whether predecessors lead from the member at `b` to the one at `a`, which stands below it.
+///
+/// Predecessors stand below the member that names them. So one sweep from `b` down, which marks what each marked
+/// member names, comes to every member only after all that name it, and none has to be looked at twice. Nothing
+/// below `a` leads to it, and the sweep does not look there.
+pub(crate) fn reaches(
+    alloc: Global,
+    members: &[PositionList],
+    a: usize,
+    b: usize,
+) -> Result<bool, AllocError>
+    requires lower { AreLower members.now }
+    requires below { a < b }
+    requires held { b < length members.now }
+    ensures { IfOk result (λ answer. answer ≡ is_ancestor members.now a b) }
+{
+    let mut marks = vec![in alloc; false; b - a + 1]?;
+    marks[b - a] = true;
+    for offset in (1..b - a + 1).rev() {
+        if marks[offset] {
+            mark_all(&mut marks, a, members[a + offset].as_slice());
+        }
+    }
+    Ok(marks[0])
+}
+
+/// Marks each of these positions that is not below the first, which has the first mark.
+fn mark_all(marks: &mut [bool], first: usize, positions: &[u32])
+    requires { All (λ p. p < first + length marks.old) positions.now }
+    ensures { (k : ℕ) → k < length marks.old
+        → slice_index_or marks.new k false ≡ (slice_index_or marks.old k false || list_any (λ p. p == first + k) positions.now) }
+{
+    for position in positions {
+        let position = *position as usize;
+        if first <= position {
+            marks[position - first] = true;
+        }
+    }
+}

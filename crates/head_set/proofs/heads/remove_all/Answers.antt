@@ -1,0 +1,18 @@
+use Rattle.std.proofs.Common.{take, slice_index_or, [], arith}
+use Rattle.update_model.specs.declared.update_id.UpdateId.{UpdateId}
+use Rattle.update_model.specs.Entry.{same_id}
+use Rattle.update_model.specs.Graph.{has}
+use Rattle.head_set.proofs.HeadSteps.{taken_out, has-take_more}
+use Rattle.head_set.proofs.heads.remove_all.Goals as goal
+
+pub loop-id-preserved : goal.loop-id-preserved
+loop-id-preserved c = record {
+  exact = λ q.
+      let none : UpdateId = record { 0 = [] } in
+      let id = slice_index_or c.args.ids.now c.loop-id.id-index none in
+      rw (has-take_more c.args.ids.now c.loop-id.id-index none q c.loop-id-test.true)
+      (taken_out (has c.loop-id.heads.keys q) (has c.remove.new.self.keys q) (has c.args.heads.now.keys q) (has (take c.loop-id.id-index c.args.ids.now) q) (same_id id q)
+      (c.remove.ensures.updates.0 q) (c.loop-id.invariant.exact q));
+  fewer = omega (arith, c.remove.ensures.len);
+  rising = c.remove.ensures.ordered;
+}

@@ -1,0 +1,20 @@
+//! The heads of a graph that grows: the ids of the members that no member names, kept up as members arrive.
+//!
+//! A new member is a head, since nothing names it yet, and what it names is a head no longer. So [`Heads::add`]
+//! needs neither the graph nor a walk over it, and takes logarithmic time for each predecessor.
+//!
+//! ```text
+//! let mut heads = Heads::new(alloc);
+//! heads.add(root, &[])?;                  // the root
+//! heads.add(child, &[root])?;             // the child
+//! let ids = heads.list(alloc)?;           // rising
+//! ```
+//!
+//! Heads tell two stores whether they hold the same: see [`equal_heads_mean_equal_sets`].
+#![tactic(auto)]
+
+mod heads;
+mod laws;
+
+pub use heads::{Heads, MAX_HEADS};
+pub use laws::{equal_heads_mean_equal_sets, heads_are_few, no_heads_no_members};
