@@ -1,0 +1,5 @@
+pub mod Examples
+pub mod Names
+pub mod Operations
+pub mod Tables
+pub mod Values

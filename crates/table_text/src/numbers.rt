@@ -1,0 +1,23 @@
+//! Numbers in decimal.
+
+ghost use Rattle.std.specs.Prelude.{◌≡◌, ◌++◌, OnOk};
+ghost use Rattle.std.specs.Fmt.{decimal, signed_decimal};
+
+use itoa::Buffer;
+use std::alloc::AllocError;
+
+/// Adds a number.
+pub(crate) fn push_number(out: &mut Vec<u8>, number: u32) -> Result<(), AllocError>
+    ensures { OnOk result (out.new.items ≡ out.old.items ++ decimal number) }
+{
+    let mut buffer = Buffer::new();
+    out.extend_from_slice(buffer.format(number).as_bytes())
+}
+
+/// Adds an integer, with a `-` before it where it is negative.
+pub(crate) fn push_integer(out: &mut Vec<u8>, integer: i64) -> Result<(), AllocError>
+    ensures { OnOk result (out.new.items ≡ out.old.items ++ signed_decimal integer) }
+{
+    let mut buffer = Buffer::new();
+    out.extend_from_slice(buffer.format(integer).as_bytes())
+}

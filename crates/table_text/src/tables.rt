@@ -1,0 +1,81 @@
+ghost use Rattle.std.specs.Prelude.{◌≡◌, ◌++◌, OnOk};
+ghost use Rattle.std.specs.List.{flat_map};
+ghost use Rattle.table_text.specs.Tables.{row_text, table_text, void_text, filled_text, tables_text};
+
+use crate::NameStyle;
+use crate::names::{push_id, push_row_name};
+use crate::numbers::push_number;
+use crate::values::push_values;
+use schema::{Schema, ShownRow, ShownRowList, TableDef, VoidLine};
+use std::alloc::AllocError;
+
+/// Adds the tables of a schema at the end, each with the rows of the list that has its number, and then the updates that
+/// do nothing. A table without a list is not printed, nor is a list without a table.
+pub fn push_tables(
+    out: &mut Vec<u8>,
+    schema: &Schema,
+    lists: &[ShownRowList],
+    voids: &[VoidLine],
+) -> Result<(), AllocError>
+    ensures { OnOk result (out.new.items ≡ out.old.items ++ tables_text schema.now.tables lists.now voids.now) }
+{
+    push_filled(out, schema, lists)?;
+    for line in voids {
+        push_void(out, line)?;
+    }
+    Ok(())
+}
+
+/// Adds a table at the end: a line `TABLE` and its name, then for each row a line of its name and its values.
+pub fn push_table(out: &mut Vec<u8>, table: &TableDef, rows: &[ShownRow]) -> Result<(), AllocError>
+    ensures { OnOk result (out.new.items ≡ out.old.items ++ table_text table.now rows.now) }
+{
+    out.extend_from_slice(b"TABLE ")?;
+    out.extend_from_slice(table.name.as_slice())?;
+    out.push(b'\n')?;
+    push_rows(out, rows)
+}
+
+/// Adds the line of an update that does nothing at the end: `VOID`, its id, the reason, and the operation's number.
+pub fn push_void(out: &mut Vec<u8>, line: &VoidLine) -> Result<(), AllocError>
+    ensures { OnOk result (out.new.items ≡ out.old.items ++ void_text line.now) }
+{
+    out.extend_from_slice(b"VOID ")?;
+    push_id(out, &line.id)?;
+    out.push(b' ')?;
+    push_number(out, u32::from(line.reason))?;
+    out.push(b' ')?;
+    push_number(out, u32::from(line.operation))?;
+    out.push(b'\n')?;
+    Ok(())
+}
+
+/// Adds each table with its rows.
+fn push_filled(out: &mut Vec<u8>, schema: &Schema, lists: &[ShownRowList]) -> Result<(), AllocError>
+    ensures { OnOk result (out.new.items ≡ out.old.items ++ filled_text schema.now.tables lists.now) }
+{
+    for (number, rows) in (0..schema.tables()).zip(lists) {
+        push_table(out, schema.table(number), rows.as_slice())?;
+    }
+    Ok(())
+}
+
+/// Adds the lines of rows.
+fn push_rows(out: &mut Vec<u8>, rows: &[ShownRow]) -> Result<(), AllocError>
+    ensures { OnOk result (out.new.items ≡ out.old.items ++ flat_map row_text rows.now) }
+{
+    for row in rows {
+        push_row(out, row)?;
+    }
+    Ok(())
+}
+
+/// Adds the line of a row.
+fn push_row(out: &mut Vec<u8>, row: &ShownRow) -> Result<(), AllocError>
+    ensures { OnOk result (out.new.items ≡ out.old.items ++ row_text row.now) }
+{
+    push_row_name(out, NameStyle::Full, &row.name)?;
+    push_values(out, NameStyle::Full, row.values.as_slice())?;
+    out.push(b'\n')?;
+    Ok(())
+}
