@@ -19,7 +19,9 @@ use Rattle.table_text.specs.Tables.{tables_text}
 use Rattle.bec_node.specs.Bundle.{DumpAnswer, cut, long, whole, IsCutSchema, in_length, in_text, IsLongSchema, HoldsText, RecordsAnswer, TextAnswer, nodes_of}
 use Rattle.bec_node.specs.Texts.{printed, refusal_text, status_of}
 use Rattle.bec_node.specs.Verdict.{rules_of}
-use Rattle.bec_node.specs.Run.{Command, Heads, Check, Dump, HeadsAnswer, AnswerTo}
+use Rattle.bec_node.specs.declared.command.Command.{Command}
+use Rattle.bec_node.specs.declared.command.Command.TheVariants.{Heads, Check, Dump}
+use Rattle.bec_node.specs.Run.{HeadsAnswer, AnswerTo}
 use Rattle.bec_node.proofs.Refusals.{SchemaLaws, judged_once, refuses_once, taken_or_refused}
 use Rattle.bec_node.proofs.Tables.{TableLaws, tables_once}
 

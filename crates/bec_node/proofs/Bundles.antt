@@ -18,7 +18,8 @@ use Rattle.schema.specs.declared.fault.SchemaKind.TheVariants as faults
 use Rattle.schema.specs.Schemas.{SchemaData}
 use Rattle.bec_node.specs.declared.bundle.BundleHead.TheVariants.{Cut, Long, Text}
 use Rattle.bec_node.specs.Bundle.{AreMembers, BeginsAs, DumpAnswer, cut, long, whole, Follows, HoldsText, RecordsAnswer, SaysRecords, TextAnswer}
-use Rattle.bec_node.specs.Run.{Dump, IsAnswer, IsStatusOf}
+use Rattle.bec_node.specs.declared.command.Command.TheVariants.{Dump}
+use Rattle.bec_node.specs.Run.{IsAnswer, IsStatusOf}
 use Rattle.bec_node.specs.Texts.{schema_text, status_of, refusal_text}
 use Rattle.bec_node.specs.Verdict.{RefusesSchema, TakesSchema}
 use Rattle.bec_node.proofs.Command.{Told}

@@ -15,7 +15,10 @@ use Rattle.update_stream.specs.declared.reading.ReadError.TheVariants.{Failed, M
 use Rattle.bec_node.specs.declared.reply.Reply.{Reply}
 use Rattle.bec_node.specs.Texts.{status_of}
 use Rattle.bec_node.specs.Verdict.{Judges}
-use Rattle.bec_node.specs.Run.{Command, Heads, Check, Dump, word_of, IsCommand, IsNoCommand, HasFirstWord, Says, IsStatusOf, IsAnswer, IsReply, PutsFront, IsStreamFault, Puts, Ends, AnswersOnly, LeavesInput, read_limit, ReadsText}
+use Rattle.bec_node.specs.declared.command.Command.{Command}
+use Rattle.bec_node.specs.declared.command.Command.TheVariants.{Heads, Check, Dump}
+use Rattle.bec_node.specs.Commands.{word_of}
+use Rattle.bec_node.specs.Run.{IsCommand, IsNoCommand, HasFirstWord, Says, IsStatusOf, IsAnswer, IsReply, PutsFront, IsStreamFault, Puts, Ends, AnswersOnly, LeavesInput, read_limit, ReadsText}
 use Rattle.bec_node.proofs.Answer.{OneAnswer}
 use Rattle.bec_node.proofs.Checking.{judged_whole}
 
@@ -70,25 +73,6 @@ other_first (w ∷ words) word at other command is =
     let same : w ≡ word = cc in
     let named : string_bytes w ≡ word_of command = cc in
     other command (ap (λ (t : String Global). string_bytes t) (sym same) ∙ named)
-
--- a word that is none of the commands' words
-pub other_words : (word : List ℕ) → (word ≡ codes "heads" → ⊥) → (word ≡ codes "check" → ⊥) → (word ≡ codes "dump" → ⊥) → (command : Command) → word ≡ word_of command → ⊥
-other_words word heads check dump Heads is = heads is
-other_words word heads check dump Check is = check is
-other_words word heads check dump Dump is = dump is
-
--- the first word, met once more, is the same
-pub met_again : (words : List (String Global)) (a b : String Global) → slice_get words 0 ≡ Some a → slice_get words 0 ≡ Some b → string_bytes a ≡ string_bytes b
-met_again words a b at again =
-    let both : Some a ≡ Some b = sym at ∙ again in
-    let same : a ≡ b = cc in
-    ap (λ (t : String Global). string_bytes t) same
-
--- the first word, met three times, is no command
-pub none_of_three : (words : List (String Global)) (a b d : String Global) → slice_get words 0 ≡ Some a → slice_get words 0 ≡ Some b → slice_get words 0 ≡ Some d
-    → (string_bytes a ≡ codes "heads" → ⊥) → (string_bytes b ≡ codes "check" → ⊥) → (string_bytes d ≡ codes "dump" → ⊥) → IsNoCommand words
-none_of_three words a b d at again last heads check dump =
-    other_first words a at (other_words (string_bytes a) heads (λ is. check (met_again words b a again at ∙ is)) (λ is. dump (met_again words d a last at ∙ is)))
 
 pub no_first : (words : List (String Global)) → slice_get words 0 ≡ None → IsNoCommand words
 no_first [] none command is = cc

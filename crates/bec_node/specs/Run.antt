@@ -14,21 +14,12 @@ use Rattle.update_stream.specs.declared.reading.ReadError.TheVariants.{Failed, M
 use Rattle.update_stream.specs.declared.reading.Reading.{Reading}
 use Rattle.update_stream.specs.declared.reading.Reading.TheVariants.{Whole, Refused}
 use Rattle.update_stream.specs.Stream.{IsWhole, IsRefused}
+use Rattle.bec_node.specs.declared.command.Command.{Command}
+use Rattle.bec_node.specs.declared.command.Command.TheVariants.{Heads, Check, Dump}
 use Rattle.bec_node.specs.Bundle.{DumpAnswer}
+use Rattle.bec_node.specs.Commands.{word_of}
 use Rattle.bec_node.specs.Texts.{printed, refusal_text, status_of}
 use Rattle.bec_node.specs.Verdict.{Judges}
-
--- what a user can ask for
-pub data Command : Type 0 where
-  Heads : Command
-  Check : Command
-  Dump : Command
-
--- its word
-abbrev pub word_of : Command → List ℕ
-word_of Heads = codes "heads"
-word_of Check = codes "check"
-word_of Dump = codes "dump"
 
 -- the one word is the command
 abbrev pub IsCommand : Command → List (String Global) → Type 0

@@ -1,8 +1,10 @@
-ghost use Rattle.std.specs.Prelude.{◌≡◌, ◌≢◌, ◌≤◌, ◌×◌, ℕ, List, [], IfOk, IfErr};
+ghost use Rattle.std.specs.Prelude.{◌≡◌, ◌≢◌, ◌≤◌, ℕ, List, [], IfOk, IfErr};
 ghost use Rattle.std.specs.Io.KnownBytes.{Appends};
 ghost use Rattle.bec_bytes.specs.Causes.{Rose};
 ghost use Rattle.update_stream.specs.declared.reading.ReadError.TheVariants.{Failed as StreamFailed};
-ghost use Rattle.bec_node.specs.Run.{Command, Check, IsCommand, HasFirstWord, IsReply, IsAnswer, IsStatusOf, IsStreamFault, AnswersOnly, LeavesInput, ReadsText};
+ghost use Rattle.bec_node.specs.declared.command.Command.{Command};
+ghost use Rattle.bec_node.specs.declared.command.Command.TheVariants.{Check};
+ghost use Rattle.bec_node.specs.Run.{IsCommand, HasFirstWord, IsReply, IsAnswer, IsStatusOf, IsStreamFault, AnswersOnly, LeavesInput, ReadsText};
 
 use crate::laws::one_answer;
 use crate::reply::{Reply, finish, no_command};

@@ -1,8 +1,10 @@
-ghost use Rattle.std.specs.Prelude.{◌≡◌, ◌≢◌, ◌≤◌, ◌×◌, ℕ, List, [], IfOk, IfErr};
+ghost use Rattle.std.specs.Prelude.{◌≡◌, ◌≢◌, ◌≤◌, ℕ, List, [], IfOk, IfErr};
 ghost use Rattle.std.specs.Io.KnownBytes.{Appends};
 ghost use Rattle.bec_bytes.specs.Causes.{Rose};
 ghost use Rattle.update_stream.specs.declared.reading.ReadError.TheVariants.{Failed as StreamFailed};
-ghost use Rattle.bec_node.specs.Run.{Command, Dump, IsCommand, HasFirstWord, IsReply, IsAnswer, IsStatusOf, IsStreamFault, AnswersOnly, LeavesInput};
+ghost use Rattle.bec_node.specs.declared.command.Command.{Command};
+ghost use Rattle.bec_node.specs.declared.command.Command.TheVariants.{Dump};
+ghost use Rattle.bec_node.specs.Run.{IsCommand, HasFirstWord, IsReply, IsAnswer, IsStatusOf, IsStreamFault, AnswersOnly, LeavesInput};
 ghost use Rattle.bec_node.specs.Bundle.{Follows};
 
 use crate::bundle::{BundleHead, bundle_head};

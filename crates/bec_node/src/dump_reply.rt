@@ -1,4 +1,4 @@
-ghost use Rattle.std.specs.Prelude.{◌≡◌, ◌×◌, ◌∷◌, [], ℕ, List, IfOk, IsTrue, length, map, slice_get, Some};
+ghost use Rattle.std.specs.Prelude.{◌≡◌, ◌∷◌, [], ℕ, List, IfOk, IsTrue, length, map, slice_get, Some};
 ghost use Rattle.schema.specs.declared.shown_row.ShownRow.{ShownRow as Row};
 ghost use Rattle.schema.specs.declared.void_line.VoidLine.{VoidLine};
 ghost use Rattle.schema.specs.Confluence.{are_accepted};

@@ -1,7 +1,8 @@
 //! Laws of the program. The function does nothing: its contract is a theorem for callers to cite.
 
 ghost use Rattle.std.specs.Prelude.{◌≡◌, ℕ, List};
-ghost use Rattle.bec_node.specs.Run.{Command, AnswerTo};
+ghost use Rattle.bec_node.specs.declared.command.Command.{Command};
+ghost use Rattle.bec_node.specs.Run.{AnswerTo};
 
 use schema::{
     arrivals_are_closed, declared_is_sound, no_fault, one_fault, one_schema, tables_are_of_the_set,

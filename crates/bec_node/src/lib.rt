@@ -24,6 +24,7 @@
 
 mod bundle;
 mod check_command;
+mod command;
 mod dump_command;
 mod dump_reply;
 mod heads;
@@ -34,6 +35,7 @@ mod reply;
 mod schema_reply;
 
 pub use check_command::command_check;
+pub use command::Command;
 pub use dump_command::command_dump;
 pub use heads::heads_of;
 pub use heads_command::command_heads;

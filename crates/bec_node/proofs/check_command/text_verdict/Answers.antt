@@ -1,0 +1,7 @@
+use Rattle.bec_node.proofs.Command.{check_told}
+use Rattle.bec_node.proofs.check_command.text_verdict.Goals as goal
+
+pub returns-clause-told : goal.returns-clause-told
+returns-clause-told g c =
+    check_told (g.S.Source.left c.args.input.now) (g.S.Source.left c.read_text.new.input) c.in_ok-text.text.items c.in_ok-reply.reply.status c.in_ok-reply.reply.text.items
+    c.in_ok-text.ensures.text c.in_ok-reply.ensures
