@@ -22,7 +22,7 @@ use Rattle.bec_node.specs.declared.command.Command.TheVariants.{Dump}
 use Rattle.bec_node.specs.Run.{IsAnswer, IsStatusOf}
 use Rattle.bec_node.specs.Texts.{schema_text, status_of, refusal_text}
 use Rattle.bec_node.specs.Verdict.{RefusesSchema, TakesSchema}
-use Rattle.bec_node.proofs.Command.{Told}
+use Rattle.bec_node.proofs.Ending.{Told}
 
 -- ---- the front of a bundle
 

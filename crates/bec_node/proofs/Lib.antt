@@ -5,5 +5,5 @@ pub mod Refusals
 pub mod Tables
 pub mod Unlimited
 pub mod Answer
-pub mod Command
+pub mod Ending
 pub mod Bundles

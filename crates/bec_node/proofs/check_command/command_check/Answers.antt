@@ -1,4 +1,4 @@
-use Rattle.bec_node.proofs.Command.{one_word, more_words, fault_words, reply_ends, fault_ends, memory_ends, only_ends, named_leaves}
+use Rattle.bec_node.proofs.Ending.{one_word, more_words, fault_words, reply_ends, fault_ends, memory_ends, only_ends, named_leaves}
 use Rattle.bec_node.specs.declared.command.Command.TheVariants.{Check}
 use Rattle.bec_node.proofs.check_command.command_check.Goals as goal
 

@@ -1,4 +1,4 @@
-use Rattle.bec_node.proofs.Command.{check_told}
+use Rattle.bec_node.proofs.Ending.{check_told}
 use Rattle.bec_node.proofs.check_command.text_verdict.Goals as goal
 
 pub returns-clause-told : goal.returns-clause-told

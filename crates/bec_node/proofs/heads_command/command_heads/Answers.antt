@@ -1,4 +1,4 @@
-use Rattle.bec_node.proofs.Command.{one_word, more_words, fault_words, reply_ends, fault_ends, memory_ends, only_ends, named_leaves}
+use Rattle.bec_node.proofs.Ending.{one_word, more_words, fault_words, reply_ends, fault_ends, memory_ends, only_ends, named_leaves}
 use Rattle.bec_node.specs.declared.command.Command.TheVariants.{Heads}
 use Rattle.bec_node.proofs.heads_command.command_heads.Goals as goal
 

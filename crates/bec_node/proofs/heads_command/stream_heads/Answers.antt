@@ -1,4 +1,4 @@
-use Rattle.bec_node.proofs.Command.{heads_told}
+use Rattle.bec_node.proofs.Ending.{heads_told}
 use Rattle.bec_node.proofs.heads_command.stream_heads.Goals as goal
 
 pub returns-clause-told : goal.returns-clause-told
