@@ -21,6 +21,7 @@ from typing import Callable, NamedTuple
 
 from signing import Own, Row
 
+sys.setrecursionlimit(1_000_000)  # a chain of references is followed by recursion
 NO_TABLE, SHAPE, CHECK, REFERENCE, MATCH, NOT_THERE, OWNER, CHILD = range(1, 9)  # why an update is void
 
 COMPARISONS = {"=": operator.eq, "!=": operator.ne, "<": operator.lt, "<=": operator.le, ">": operator.gt,
@@ -467,7 +468,6 @@ def dump(bundle):
 
 
 def main():
-    sys.setrecursionlimit(1_000_000)
     sys.stdout.buffer.write(dump(sys.stdin.buffer.read()))
 
 
