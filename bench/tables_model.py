@@ -263,8 +263,8 @@ def parts_of(bundle):
 # Rows and verdicts.
 
 class Entry(NamedTuple):
-    """A row that a valid update inserted: which update by arrival, its author, and the values, own references as names."""
-    position: int
+    """A row that a valid update inserted: the update's place and author, and the values, own references as names."""
+    place: int
     author: bytes
     table: int
     values: list
@@ -347,7 +347,7 @@ class State:
         """Whether a valid update of a set inserted the row with this name, and none there deletes it."""
         row = self.rows.get(name)
         is_deleted = any(members >> place & 1 for place in self.deleters.get(name, []))
-        return row is not None and members >> row.position & 1 == 1 and not is_deleted
+        return row is not None and members >> row.place & 1 == 1 and not is_deleted
 
     def parents(self, name):
         """The rows that a row names by CASCADE."""
