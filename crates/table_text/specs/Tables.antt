@@ -1,5 +1,5 @@
 -- Tables as they are printed. A blank is the byte 32, and an LF is 10.
-use Rattle.std.specs.Prelude.{ℕ, List, [], ◌∷◌, ◌++◌, codes}
+use Rattle.std.specs.Prelude.{ℕ, List, [], ◌∷◌, ◌++◌, Option, Some, None, codes}
 use Rattle.std.specs.Fmt.{decimal}
 use Rattle.std.specs.List.{flat_map}
 use Rattle.schema.specs.declared.shown_row.ShownRow.{ShownRow}
@@ -20,6 +20,12 @@ table_text table rows = codes "TABLE " ++ table.name ++ 10 ∷ flat_map row_text
 -- the line of an update that does nothing: its id, the reason, and the number of the operation
 abbrev pub void_text : VoidLine → List ℕ
 void_text line = codes "VOID " ++ id_text line.id ++ 32 ∷ decimal line.reason ++ 32 ∷ decimal line.operation ++ 10 ∷ []
+
+-- a table and its rows, where there are both
+abbrev pub pair_text : Option TableDef → Option (List ShownRow) → List ℕ
+pair_text None rows = []
+pair_text (Some table) None = []
+pair_text (Some table) (Some rows) = table_text table rows
 
 -- each table with its rows, as long as there are both
 abbrev pub filled_text : List TableDef → List (List ShownRow) → List ℕ

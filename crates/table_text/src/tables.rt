@@ -1,6 +1,6 @@
-ghost use Rattle.std.specs.Prelude.{◌≡◌, ◌++◌, OnOk};
+ghost use Rattle.std.specs.Prelude.{◌≡◌, ◌++◌, ◌<◌, OnOk, length, slice_get};
 ghost use Rattle.std.specs.List.{flat_map};
-ghost use Rattle.table_text.specs.Tables.{row_text, table_text, void_text, filled_text, tables_text};
+ghost use Rattle.table_text.specs.Tables.{row_text, table_text, void_text, pair_text, filled_text, tables_text};
 
 use crate::NameStyle;
 use crate::names::{push_id, push_row_name};
@@ -54,10 +54,26 @@ pub fn push_void(out: &mut Vec<u8>, line: &VoidLine) -> Result<(), AllocError>
 fn push_filled(out: &mut Vec<u8>, schema: &Schema, lists: &[ShownRowList]) -> Result<(), AllocError>
     ensures { OnOk result (out.new.items ≡ out.old.items ++ filled_text schema.now.tables lists.now) }
 {
-    for (number, rows) in (0..schema.tables()).zip(lists) {
-        push_table(out, schema.table(number), rows.as_slice())?;
+    for number in 0..schema.tables() {
+        push_numbered(out, schema, number, lists)?;
     }
     Ok(())
+}
+
+/// Adds the table with this number, where it has a list.
+fn push_numbered(
+    out: &mut Vec<u8>,
+    schema: &Schema,
+    number: u8,
+    lists: &[ShownRowList],
+) -> Result<(), AllocError>
+    requires { number < length schema.now.tables }
+    ensures { OnOk result (out.new.items ≡ out.old.items ++ pair_text (slice_get schema.now.tables number) (slice_get lists.now number)) }
+{
+    match lists.get(usize::from(number)) {
+        Some(rows) => push_table(out, schema.table(number), rows.as_slice()),
+        None => Ok(()),
+    }
 }
 
 /// Adds the lines of rows.
