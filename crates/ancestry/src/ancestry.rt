@@ -41,7 +41,7 @@ impl Ancestry {
     /// How many members there are, and what holds of every ancestry.
     pub fn len(&self) -> u32
         ensures value { result ≡ length self.now }
-        ensures few { length self.now ≤ 131072 }
+        ensures few { length self.now ≤ MAX_MEMBERS }
         ensures lower { AreLower self.now }
     {
         self.members.len() as u32
@@ -58,7 +58,7 @@ impl Ancestry {
     /// gives up where memory runs out, and then nothing has changed.
     pub fn add(&mut self, preds: &[u32]) -> Result<u32, AllocError>
         requires earlier { All (λ p. p < length self.old) preds.now }
-        requires room { length self.old < 131072 }
+        requires room { length self.old < MAX_MEMBERS }
         ensures position { IfOk result (λ position. position ≡ length self.old) }
         ensures value { OnOk result (self.new ≡ self.old ++ preds.now ∷ []) }
         ensures same { OnErr result (self.new ≡ self.old) }
@@ -94,7 +94,8 @@ impl Ancestors for Ancestry {
 
     /// Positions that no member has are nobody's ancestors, and have none.
     fn is_ancestor(&self, alloc: Global, a: u32, b: u32) -> Result<bool, AllocError> {
-        if b <= a || self.len() <= b {
+        let len = self.len();
+        if b <= a || len <= b {
             return Ok(false);
         }
         reaches(alloc, self.members.as_slice(), a as usize, b as usize)

@@ -14,7 +14,12 @@
 
 mod ancestry;
 mod laws;
+#[cfg(test)]
+mod tests;
 mod walk;
 
 pub use ancestry::{Ancestry, MAX_MEMBERS};
-pub use laws::{ancestors_go_by_predecessors, ancestors_stay, walks_are_ancestors};
+pub use laws::{
+    ancestors_go_by_predecessors, ancestors_stay, numbers_grow, numbers_of_a_front,
+    places_are_held, walks_are_ancestors,
+};

@@ -1,6 +1,5 @@
 -- Heads of one more member, and how many there are.
 use Rattle.std.proofs.Common.{◌≡◌, ℕ, ◌≤◌, Bool, true, false, cond, ◌||◌, ◌&&◌, not, ◌<◌, ◌+◌, List, [], ◌∷◌, ◌++◌, length, refl, sym, ap, ◌∙◌, take, get_or, map, arith}
-use Rattle.std.specs.List.{list_any}
 use Rattle.std.specs.List.Sorted.{IsStrictlySortedBy}
 use Rattle.std.proofs.lemmas.Cmp.{eq_by_cmp_equiv}
 use Rattle.std.proofs.lemmas.List.{take_more, length-map}
@@ -85,7 +84,7 @@ held_id : (graph : List Entry) (q : UpdateId) → has (map (λ (e : Entry). e.id
 held_id [] q = refl
 held_id (e ∷ es) q = ap (λ b. same_id q e.id || b) (held_id es q)
 
-both_true : (a b : Bool) → (a && b) ≡ true → a ≡ true
+pub both_true : (a b : Bool) → (a && b) ≡ true → a ≡ true
 both_true true b e = refl
 both_true false b e = absurd cc
 

@@ -1,11 +1,12 @@
 -- Graphs with the same heads.
-use Rattle.std.proofs.Common.{◌≡◌, ◌≢◌, inl, inr, Bool, true, false, ◌&&◌, not, List, [], ◌∷◌, refl, sym, ap, subst, ◌∙◌, Contains}
+use Rattle.std.proofs.Common.{◌≡◌, ◌≢◌, inl, inr, true, ◌&&◌, not, List, [], ◌∷◌, refl, sym, ap, subst, ◌∙◌, Contains}
 use Rattle.update_model.specs.declared.update_id.UpdateId.{UpdateId}
 use Rattle.update_model.specs.Entry.{Entry, same_id}
 use Rattle.update_model.specs.Graph.{has, holds, names, IsClosed, IsAncestor, named, through, IsHead, AreHeads, HaveSameMembers}
 use Rattle.update_model.proofs.Heads.{covered, has_head, holds-named, witness, any_from_member}
 use Rattle.update_model.proofs.Ids.{same_id-refl, same_id-symm}
 use Rattle.head_set.specs.Grown.{NoCollision}
+use Rattle.head_set.proofs.HeadSteps.{both_true}
 
 -- a member whose id the other graph holds is a member of the other graph
 shared : (graph other : List Entry) (e : Entry) → NoCollision graph other → Contains graph e → holds other e.id ≡ true → Contains other e
@@ -30,10 +31,6 @@ is_among graph heads head are held none =
     are.exact head.id
     ∙ ap (λ b. b && not (names graph head.id)) (any_from_member (λ m. same_id head.id m.id) graph head held (same_id-refl head.id))
     ∙ ap (λ b. not b) none
-
-both_true : (a b : Bool) → (a && b) ≡ true → a ≡ true
-both_true true b e = refl
-both_true false b e = absurd cc
 
 -- each member of the one is a member of the other
 member_of_other : (graph other : List Entry) (heads : List UpdateId) → IsClosed graph → IsClosed other → NoCollision graph other → AreHeads graph heads → AreHeads other heads

@@ -8,6 +8,7 @@ ghost use Rattle.head_set.specs.Grown.{KeepsHeads};
 
 use std::alloc::{AllocError, Global};
 use std::collections::BTreeSet;
+use std::collections::btree_set::Iter;
 use std::marker::Model;
 use update_model::UpdateId;
 
@@ -50,7 +51,7 @@ impl Heads {
     /// closed graph are now those of the graph with the update. It gives up where memory runs out, and then nothing
     /// has changed.
     pub fn add(&mut self, id: UpdateId, preds: &[UpdateId]) -> Result<(), AllocError>
-        requires { length self.old < 131072 }
+        requires { length self.old < MAX_HEADS }
         ensures exact { OnOk result ((x : Id) → has self.new x ≡ ((same_id x id || has self.old x) && not (has preds.now x))) }
         ensures graph { OnOk result (KeepsHeads self.old id preds.now self.new) }
         ensures same { OnErr result (self.new ≡ self.old) }
@@ -70,7 +71,7 @@ impl Heads {
     /// How many heads there are, and what holds of them all.
     pub fn len(&self) -> u32
         ensures value { result ≡ length self.now }
-        ensures few { length self.now ≤ 131072 }
+        ensures few { length self.now ≤ MAX_HEADS }
         ensures rising { IsStrictlySortedBy id_cmp self.now }
     {
         self.ids.len() as u32
@@ -81,6 +82,13 @@ impl Heads {
         ensures { IsTrue result ↔ (length self.now ≡ 0) }
     {
         self.ids.is_empty()
+    }
+
+    /// The ids of the heads, rising, one after another.
+    pub fn iter(&self) -> Iter<'_, UpdateId>
+        ensures { result ≡ self.now }
+    {
+        self.ids.iter()
     }
 
     /// The ids of the heads, rising.
@@ -99,7 +107,10 @@ impl Heads {
     pub fn copy(&self, alloc: Global) -> Result<Heads, AllocError>
         ensures { IfOk result (λ heads. heads ≡ self.now) }
     {
-        let ids = self.ids.clone()?;
+        let mut ids = BTreeSet::new(alloc);
+        for id in &self.ids {
+            ids.insert(*id)?;
+        }
         Ok(Heads { ids })
     }
 }

@@ -18,6 +18,11 @@ pub fn equal_heads_mean_equal_sets()
         → AreHeads graph heads → AreHeads other heads → HaveSameMembers graph other }
 {}
 
+/// A graph with no member has no head, as [`Heads::new`](crate::Heads::new) says.
+pub fn no_members_no_heads()
+    ensures { AreHeads [] [] }
+{}
+
 /// A closed graph with no head has no member.
 pub fn no_heads_no_members()
     ensures { (graph : List Entry) → IsClosed graph → AreHeads graph [] → graph ≡ [] }

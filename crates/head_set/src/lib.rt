@@ -15,6 +15,10 @@
 
 mod heads;
 mod laws;
+#[cfg(test)]
+mod tests;
 
 pub use heads::{Heads, MAX_HEADS};
-pub use laws::{equal_heads_mean_equal_sets, heads_are_few, no_heads_no_members};
+pub use laws::{
+    equal_heads_mean_equal_sets, heads_are_few, no_heads_no_members, no_members_no_heads,
+};

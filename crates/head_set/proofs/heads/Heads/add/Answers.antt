@@ -1,5 +1,3 @@
-use Rattle.std.proofs.Common.{◌≡◌, ◌||◌, ◌&&◌, not, ap, ◌∙◌}
-use Rattle.update_model.specs.declared.update_id.UpdateId.{UpdateId}
 use Rattle.update_model.specs.Entry.{same_id}
 use Rattle.update_model.specs.Graph.{has}
 use Rattle.update_model.proofs.Ids.{same_id-symm}

@@ -1,0 +1,4 @@
+pub mod Growth
+pub mod Numbers
+pub mod Steps
+pub mod Sweep
