@@ -65,11 +65,10 @@ records_answered : StreamLaws → TableLaws → (schema : SchemaData) (more rest
     → (status ≡ another) × (text ≡ line)
 records_answered streams laws schema more rest other status another text line (inl a) (inl b) =
     let same : a.0 ≡ b.0 = streams.one_graph (Some schema.rule) more a.0 b.0 a.1 b.1 in
-    let here = a.2.1.1.0 in
-    let moved : AreTablesOf (rules_of schema) (nodes_of b.0) a.2.0 a.2.1.0 = subst (λ (ms : List (List ℕ)). AreTablesOf (rules_of schema) (nodes_of ms) a.2.0 a.2.1.0) same here.are in
-    let one = tables_once laws schema b.0 a.2.0 b.2.0 a.2.1.0 b.2.1.0 b.2.1.1.0.taken.closed moved b.2.1.1.0.are in (
-      a.2.1.1.2 ∙ sym b.2.1.1.2,
-      a.2.1.1.3 ∙ ap (λ (ts : List (List ShownRow)). tables_text schema.tables ts a.2.1.0) one.0 ∙ ap (λ (vs : List VoidLine). tables_text schema.tables b.2.0 vs) one.1 ∙ sym b.2.1.1.3,
+    let moved : AreTablesOf (rules_of schema) (nodes_of b.0) a.2.0 a.2.1.0 = subst (λ (ms : List (List ℕ)). AreTablesOf (rules_of schema) (nodes_of ms) a.2.0 a.2.1.0) same a.2.1.1.are in
+    let one = tables_once laws schema b.0 a.2.0 b.2.0 a.2.1.0 b.2.1.0 b.2.1.1.taken.closed moved b.2.1.1.are in (
+      a.2.1.3 ∙ sym b.2.1.3,
+      a.2.1.4 ∙ ap (λ (ts : List (List ShownRow)). tables_text schema.tables ts a.2.1.0) one.0 ∙ ap (λ (vs : List VoidLine). tables_text schema.tables b.2.0 vs) one.1 ∙ sym b.2.1.4,
     )
 records_answered streams laws schema more rest other status another text line (inl a) (inr b) = absurd (streams.whole_or_refused (Some schema.rule) more other a.0 b.0 b.1.0 a.1 b.1.1)
 records_answered streams laws schema more rest other status another text line (inr a) (inl b) = absurd (streams.whole_or_refused (Some schema.rule) more rest b.0 a.0 a.1.0 b.1 a.1.1)

@@ -1,7 +1,10 @@
 -- From what an input holds to what a command answers, writes and ends with.
-use Rattle.std.proofs.Common.{◌≡◌, ◌≢◌, ◌⊎◌, inl, inr, ℕ, Bool, true, false, drop, ◌<◌, ◌≤◌, List, [], ◌∷◌, length, codes, refl, sym, ap, subst, ◌∙◌, Option, Some, None, IfSome, IfOk, IfErr, String, Result, Ok, Err, slice_get, slice_index_or, arith}
+use Rattle.std.proofs.Common.{◌≡◌, ◌≢◌, ◌⊎◌, inl, inr, ℕ, Bool, true, false, take, drop, get_or, append-nil, ◌<◌, ◌≤◌, ◌+◌, List, [], ◌∷◌, ◌++◌, length, codes, refl, sym, ap, subst, ◌∙◌, Option, Some, None, IfSome, IfOk, IfErr, String, Result, Ok, Err, slice_get, slice_index_or, arith}
 use Rattle.std.specs.declared.alloc.Global.{Global}
 use Rattle.std.specs.String.{string_bytes}
+use Rattle.std.proofs.lemmas.List.{take_more}
+use Rattle.std.proofs.lemmas.List.Concat.{flat_map-append}
+use Rattle.update_model.specs.declared.update_id.UpdateId.{UpdateId}
 use Rattle.std.specs.Io.KnownBytes.{Appends}
 use Rattle.bec_bytes.specs.Causes.{HasCause, Rose}
 use Rattle.bec_bytes.specs.Moved.{TakesAll}
@@ -13,7 +16,7 @@ use Rattle.update_stream.specs.Told.{Reads}
 use Rattle.update_stream.specs.declared.reading.ReadError.{ReadError}
 use Rattle.update_stream.specs.declared.reading.ReadError.TheVariants.{Failed, Memory}
 use Rattle.bec_node.specs.declared.reply.Reply.{Reply}
-use Rattle.bec_node.specs.Texts.{status_of}
+use Rattle.bec_node.specs.Texts.{line_of, printed, status_of}
 use Rattle.bec_node.specs.Verdict.{Judges}
 use Rattle.bec_node.specs.declared.command.Command.{Command}
 use Rattle.bec_node.specs.declared.command.Command.TheVariants.{Heads, Check, Dump}
@@ -45,7 +48,7 @@ first_is command other (word ∷ []) first is = let a : string_bytes word ≡ wo
 first_is command other (word ∷ more ∷ words) first is = absurd cc
 
 -- the words differ in their first letter
-letter : Command → ℕ
+abbrev letter : Command → ℕ
 letter command = slice_index_or (word_of command) 0 0
 
 apart : (command other : Command) → word_of command ≡ word_of other → letter command ≡ letter other
@@ -54,13 +57,13 @@ apart command other same = ap (λ (xs : List ℕ). slice_index_or xs 0 0) same
 -- commands with one word are one
 one_word_of : (command other : Command) → word_of command ≡ word_of other → other ≡ command
 one_word_of Heads Heads same = refl
-one_word_of Heads Check same = let no : 104 ≡ 99 = apart Heads Check same in absurd (omega arith)
-one_word_of Heads Dump same = let no : 104 ≡ 100 = apart Heads Dump same in absurd (omega arith)
-one_word_of Check Heads same = let no : 99 ≡ 104 = apart Check Heads same in absurd (omega arith)
+one_word_of Heads Check same = let no : 104 ≡ 99 = apart Heads Check same in absurd (omega (arith, no))
+one_word_of Heads Dump same = let no : 104 ≡ 100 = apart Heads Dump same in absurd (omega (arith, no))
+one_word_of Check Heads same = let no : 99 ≡ 104 = apart Check Heads same in absurd (omega (arith, no))
 one_word_of Check Check same = refl
-one_word_of Check Dump same = let no : 99 ≡ 100 = apart Check Dump same in absurd (omega arith)
-one_word_of Dump Heads same = let no : 100 ≡ 104 = apart Dump Heads same in absurd (omega arith)
-one_word_of Dump Check same = let no : 100 ≡ 99 = apart Dump Check same in absurd (omega arith)
+one_word_of Check Dump same = let no : 99 ≡ 100 = apart Check Dump same in absurd (omega (arith, no))
+one_word_of Dump Heads same = let no : 100 ≡ 104 = apart Dump Heads same in absurd (omega (arith, no))
+one_word_of Dump Check same = let no : 100 ≡ 99 = apart Dump Check same in absurd (omega (arith, no))
 one_word_of Dump Dump same = refl
 
 -- the words of two commands
@@ -86,24 +89,24 @@ heads_status (faults.Lacks id) = inr (inl refl)
 heads_status faults.Full = inr (inr refl)
 
 pub not_four : (command : Command) (status : ℕ) → IsStatusOf command status → status ≡ 4 → ⊥
-not_four Heads status (inl a) e = let no : 0 ≡ 4 = sym a ∙ e in absurd (omega arith)
-not_four Heads status (inr (inl a)) e = let no : 1 ≡ 4 = sym a ∙ e in absurd (omega arith)
-not_four Heads status (inr (inr a)) e = let no : 7 ≡ 4 = sym a ∙ e in absurd (omega arith)
-not_four Check status (inl a) e = let no : 0 ≡ 4 = sym a ∙ e in absurd (omega arith)
-not_four Check status (inr a) e = let no : 1 ≡ 4 = sym a ∙ e in absurd (omega arith)
-not_four Dump status (inl a) e = let no : 0 ≡ 4 = sym a ∙ e in absurd (omega arith)
-not_four Dump status (inr (inl a)) e = let no : 1 ≡ 4 = sym a ∙ e in absurd (omega arith)
-not_four Dump status (inr (inr a)) e = let no : 7 ≡ 4 = sym a ∙ e in absurd (omega arith)
+not_four Heads status (inl a) e = let no : 0 ≡ 4 = sym a ∙ e in absurd (omega (arith, no))
+not_four Heads status (inr (inl a)) e = let no : 1 ≡ 4 = sym a ∙ e in absurd (omega (arith, no))
+not_four Heads status (inr (inr a)) e = let no : 7 ≡ 4 = sym a ∙ e in absurd (omega (arith, no))
+not_four Check status (inl a) e = let no : 0 ≡ 4 = sym a ∙ e in absurd (omega (arith, no))
+not_four Check status (inr a) e = let no : 1 ≡ 4 = sym a ∙ e in absurd (omega (arith, no))
+not_four Dump status (inl a) e = let no : 0 ≡ 4 = sym a ∙ e in absurd (omega (arith, no))
+not_four Dump status (inr (inl a)) e = let no : 1 ≡ 4 = sym a ∙ e in absurd (omega (arith, no))
+not_four Dump status (inr (inr a)) e = let no : 7 ≡ 4 = sym a ∙ e in absurd (omega (arith, no))
 
 pub not_five : (command : Command) (status : ℕ) → IsStatusOf command status → status ≡ 5 → ⊥
-not_five Heads status (inl a) e = let no : 0 ≡ 5 = sym a ∙ e in absurd (omega arith)
-not_five Heads status (inr (inl a)) e = let no : 1 ≡ 5 = sym a ∙ e in absurd (omega arith)
-not_five Heads status (inr (inr a)) e = let no : 7 ≡ 5 = sym a ∙ e in absurd (omega arith)
-not_five Check status (inl a) e = let no : 0 ≡ 5 = sym a ∙ e in absurd (omega arith)
-not_five Check status (inr a) e = let no : 1 ≡ 5 = sym a ∙ e in absurd (omega arith)
-not_five Dump status (inl a) e = let no : 0 ≡ 5 = sym a ∙ e in absurd (omega arith)
-not_five Dump status (inr (inl a)) e = let no : 1 ≡ 5 = sym a ∙ e in absurd (omega arith)
-not_five Dump status (inr (inr a)) e = let no : 7 ≡ 5 = sym a ∙ e in absurd (omega arith)
+not_five Heads status (inl a) e = let no : 0 ≡ 5 = sym a ∙ e in absurd (omega (arith, no))
+not_five Heads status (inr (inl a)) e = let no : 1 ≡ 5 = sym a ∙ e in absurd (omega (arith, no))
+not_five Heads status (inr (inr a)) e = let no : 7 ≡ 5 = sym a ∙ e in absurd (omega (arith, no))
+not_five Check status (inl a) e = let no : 0 ≡ 5 = sym a ∙ e in absurd (omega (arith, no))
+not_five Check status (inr a) e = let no : 1 ≡ 5 = sym a ∙ e in absurd (omega (arith, no))
+not_five Dump status (inl a) e = let no : 0 ≡ 5 = sym a ∙ e in absurd (omega (arith, no))
+not_five Dump status (inr (inl a)) e = let no : 1 ≡ 5 = sym a ∙ e in absurd (omega (arith, no))
+not_five Dump status (inr (inr a)) e = let no : 7 ≡ 5 = sym a ∙ e in absurd (omega (arith, no))
 
 -- ---- the answer of `heads`
 
@@ -192,7 +195,6 @@ module _ (one : OneAnswer) (command : Command) (words : List (String Global)) (f
     (before after : Option (List ℕ)) (in_old in_new old new : ℕ) (held held_new : Option (List ℕ)) (result : ℕ) (outcome : Result Reply ReadError)
     (told : IfOk outcome (λ reply. Told command before after reply.status reply.text.items)) (failed : IfErr outcome (λ e. e ≡ Failed → Rose in_old in_new))
     (ok : IfOk outcome (λ reply. Puts old new held held_new reply.status reply.text.items result)) (err : IfErr outcome (λ e. Ends e old new held held_new result)) where
-
   is_command : IsCommand command words
   is_command = one_word command words first few
 
@@ -217,7 +219,7 @@ module _ (one : OneAnswer) (command : Command) (words : List (String Global)) (f
       by (Ok reply) t f e p = fault_put words before after in_old in_new old new held held_new reply.status result reply.text.items (replied reply.status reply.text.items t)
           (not_four command reply.status t.1) p four
       by (Err Failed) t f e p = inl ((command, is_command), f refl, e.1)
-      by (Err Memory) t f e p = let no : 5 ≡ 4 = sym e.0 ∙ four in absurd (omega arith)
+      by (Err Memory) t f e p = let no : 5 ≡ 4 = sym e.0 ∙ four in absurd (omega (arith, no))
 
   pub memory_ends : result ≡ 5 → ((c : Command) × IsCommand c words) × Appends held held_new []
   memory_ends five = by outcome told err ok
@@ -225,8 +227,8 @@ module _ (one : OneAnswer) (command : Command) (words : List (String Global)) (f
       by : (o : Result Reply ReadError) → IfOk o (λ reply. Told command before after reply.status reply.text.items) → IfErr o (λ e. Ends e old new held held_new result)
           → IfOk o (λ reply. Puts old new held held_new reply.status reply.text.items result) → ((c : Command) × IsCommand c words) × Appends held held_new []
       by (Ok reply) t e (inl p) = absurd (not_five command reply.status t.1 (sym p.0 ∙ five))
-      by (Ok reply) t e (inr p) = let no : 4 ≡ 5 = sym p.0 ∙ five in absurd (omega arith)
-      by (Err Failed) t e p = let no : 4 ≡ 5 = sym e.0 ∙ five in absurd (omega arith)
+      by (Ok reply) t e (inr p) = let no : 4 ≡ 5 = sym p.0 ∙ five in absurd (omega (arith, no))
+      by (Err Failed) t e p = let no : 4 ≡ 5 = sym e.0 ∙ five in absurd (omega (arith, no))
       by (Err Memory) t e p = ((command, is_command), e.1)
 
   pub only_ends : (other : Command) → IsCommand other words → AnswersOnly other before result
@@ -241,3 +243,9 @@ module _ (one : OneAnswer) (command : Command) (words : List (String Global)) (f
 -- words that are the command
 pub named_leaves : {S : Type 0} (command : Command) (words : List (String Global)) (a b : S) → HasFirstWord command words → length words ≤ 1 → LeavesInput words a b
 named_leaves command words a b first few = λ other. absurd (other command (one_word command words first few))
+
+-- ---- lines of ids
+
+-- one more id
+pub printed_more : (ids : List UpdateId) (i : ℕ) (d : UpdateId) → i < length ids → printed (take (i + 1) ids) ≡ printed (take i ids) ++ line_of (get_or ids i d)
+printed_more ids i d low = ap printed (take_more ids i d low) ∙ flat_map-append line_of (take i ids) (get_or ids i d ∷ []) ∙ ap (λ (t : List ℕ). printed (take i ids) ++ t) (append-nil (line_of (get_or ids i d)))

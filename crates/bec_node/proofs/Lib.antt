@@ -4,6 +4,7 @@ pub mod Checking
 pub mod Refusals
 pub mod Tables
 pub mod Unlimited
+pub mod Taking
 pub mod Answer
 pub mod Ending
 pub mod Bundles

@@ -1,5 +1,5 @@
 -- Members in a list, and in what is made of it.
-use Rattle.std.proofs.Common.{◌≡◌, ◌⊎◌, inl, inr, ℕ, zero, suc, ◌<◌, Bool, true, false, cond, List, [], ◌∷◌, ◌++◌, length, map, reverse, find, refl, sym, ap, subst, ◌∙◌, Contains, Option, Some, None, arith}
+use Rattle.std.proofs.Common.{◌≡◌, ◌⊎◌, inl, inr, ℕ, zero, suc, ◌<◌, ◌||◌, Bool, true, false, cond, List, [], ◌∷◌, ◌++◌, length, map, reverse, find, refl, sym, ap, subst, ◌∙◌, Contains, Option, Some, None, arith}
 use Rattle.std.specs.List.{list_any}
 use Rattle.std.proofs.lemmas.List.Elements.{Contains-append_right, Contains-append_cases}
 use Rattle.std.proofs.lemmas.List.Sorted.{Contains-permutation, IsPermutation-reverse, IsPermutation-sym}
@@ -59,5 +59,5 @@ pub any_of_contained : {X : Type 0} (p : X → Bool) (xs : List X) (x : X) → C
 any_of_contained p [] x c e = absurd (none_in x c)
 any_of_contained p (y ∷ ys) x c e = elim (contains_cases y x ys c) [
   | inl here ↦ rw (ap p here ∙ e) refl
-  | inr later ↦ let rest = any_of_contained p ys x later e in elim (p y) as (λ b. cond b true (list_any p ys) ≡ true) [ true ↦ refl | false ↦ rest ]
+  | inr later ↦ let rest = any_of_contained p ys x later e in elim (p y) as (λ b. (b || list_any p ys) ≡ true) [ true ↦ refl | false ↦ rest ]
 ]

@@ -35,16 +35,16 @@ not_both false t f = absurd cc
 -- the first that is refused, found twice in one list, is one
 first_once : (rules : Rules) (a b : List Declared) (x y : Declared) (xs ys : List Declared) → a ++ x ∷ xs ≡ b ++ y ∷ ys
     → are_accepted rules a ≡ true → are_accepted rules b ≡ true → accepts rules x.claim ≡ false → accepts rules y.claim ≡ false → x ≡ y
-first_once rules [] [] x y xs ys same all each no none = cc
-first_once rules [] (d ∷ ds) x y xs ys same all each no none =
+first_once rules [] [] x y xs ys same all each bad worse = cc
+first_once rules [] (d ∷ ds) x y xs ys same all each bad worse =
     let is : x ≡ d = cc in
-    absurd (not_both (accepts rules x.claim) (ap (λ (e : Declared). accepts rules e.claim) is ∙ (and_parts (accepts rules d.claim) (are_accepted rules ds) each).0) no)
-first_once rules (d ∷ ds) [] x y xs ys same all each no none =
+    absurd (not_both (accepts rules x.claim) (ap (λ (e : Declared). accepts rules e.claim) is ∙ (and_parts (accepts rules d.claim) (are_accepted rules ds) each).0) bad)
+first_once rules (d ∷ ds) [] x y xs ys same all each bad worse =
     let is : d ≡ y = cc in
-    absurd (not_both (accepts rules y.claim) (ap (λ (e : Declared). accepts rules e.claim) (sym is) ∙ (and_parts (accepts rules d.claim) (are_accepted rules ds) all).0) none)
-first_once rules (d ∷ ds) (e ∷ es) x y xs ys same all each no none =
+    absurd (not_both (accepts rules y.claim) (ap (λ (e : Declared). accepts rules e.claim) (sym is) ∙ (and_parts (accepts rules d.claim) (are_accepted rules ds) all).0) worse)
+first_once rules (d ∷ ds) (e ∷ es) x y xs ys same all each bad worse =
     let rest : ds ++ x ∷ xs ≡ es ++ y ∷ ys = cc in
-    first_once rules ds es x y xs ys rest (and_parts (accepts rules d.claim) (are_accepted rules ds) all).1 (and_parts (accepts rules e.claim) (are_accepted rules es) each).1 no none
+    first_once rules ds es x y xs ys rest (and_parts (accepts rules d.claim) (are_accepted rules ds) all).1 (and_parts (accepts rules e.claim) (are_accepted rules es) each).1 bad worse
 
 -- a schema's refusal is one
 refused_once : (rules : Rules) (which place : Invariant) (example other : Counterexample) → IsRefused rules which example → IsRefused rules place other → (which ≡ place) × (example ≡ other)
@@ -58,7 +58,7 @@ refused_once rules which place example other a b =
 accepted_or_refused : (rules : Rules) (which : Invariant) (example : Counterexample) → are_accepted rules (invariants_of rules) ≡ true → IsRefused rules which example → ⊥
 accepted_or_refused rules which example all r =
     not_both (accepts rules r.declared.claim)
-    (accepted_middle rules r.first.earlier r.first.later r.declared (ap (are_accepted rules) (sym r.first.split) ∙ all))
+    (accepted_middle rules r.earlier r.first.later r.declared (ap (are_accepted rules) (sym r.first.split) ∙ all))
     r.first.refused
 
 pub taken_or_refused : SchemaLaws → (text line : List ℕ) (schema : SchemaData) → TakesSchema text schema → RefusesSchema text line → ⊥

@@ -104,12 +104,12 @@ module _ (laws : TableLaws) where
       let same = equal_heads (map entry_of members) (map entry_of others) heads taken.closed theirs.closed apart a b in (
         same,
         λ lists lines they.
-        laws.same_tables (rules_of schema) (nodes_of members) (nodes_of others) tables lists voids lines (nodes_closed laws members taken.closed) (nodes_closed laws others theirs.closed)
-        (same_nodes members others taken.closed theirs.closed same) are they,
+            laws.same_tables (rules_of schema) (nodes_of members) (nodes_of others) tables lists voids lines (nodes_closed laws members taken.closed) (nodes_closed laws others theirs.closed)
+            (same_nodes members others taken.closed theirs.closed same) are they,
       )
 
 -- an invariant of those that are all accepted is accepted
-accepted_each : (rules : Rules) (declared : List Declared) (d : Declared) → are_accepted rules declared ≡ true → Contains declared d → accepts rules d.claim ≡ true
+pub accepted_each : (rules : Rules) (declared : List Declared) (d : Declared) → are_accepted rules declared ≡ true → Contains declared d → accepts rules d.claim ≡ true
 accepted_each rules [] d all c = let low = c.1 in absurd (omega arith)
 accepted_each rules (e ∷ es) d all c =
     let parts = and_parts (accepts rules e.claim) (are_accepted rules es) all in

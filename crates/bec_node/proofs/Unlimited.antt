@@ -34,7 +34,11 @@ unlimited_from rules number (t ∷ ts) all =
     let parts = accepted_parts rules (table_declared number t) (each_from table_declared (number + 1) ts) all in
     let uniques = each_from (unique_declared number) 0 t.uniques in
     let limits = at_most_declared number t in
-    let more = each_from (reference_declared number) 0 t.columns ++ each_from (check_declared number) 0 t.checks ++ each_from (match_declared number) 0 t.matches in
-    let first = accepted_parts rules uniques (limits ++ more) parts.0 in
-    let second = accepted_parts rules limits more first.1 in
-    rw (no_uniques rules number t.uniques first.0, no_limit rules number t second.0) (unlimited_from rules (number + 1) ts parts.1)
+    let references = each_from (reference_declared number) 0 t.columns in
+    let checks = each_from (check_declared number) 0 t.checks in
+    let matches = each_from (match_declared number) 0 t.matches in
+    let a = accepted_parts rules (((uniques ++ limits) ++ references) ++ checks) matches parts.0 in
+    let b = accepted_parts rules ((uniques ++ limits) ++ references) checks a.0 in
+    let d = accepted_parts rules (uniques ++ limits) references b.0 in
+    let e = accepted_parts rules uniques limits d.0 in
+    rw (no_uniques rules number t.uniques e.0, no_limit rules number t e.1) (unlimited_from rules (number + 1) ts parts.1)

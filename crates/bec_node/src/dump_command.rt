@@ -62,11 +62,7 @@ fn bundle_tables<S: Source>(alloc: Global, input: &mut S) -> Result<Reply, ReadE
 }
 
 /// The reply to a bundle whose schema has come whole, where the records are still to be read.
-fn text_tables<S: Source>(
-    alloc: Global,
-    text: &[u8],
-    input: &mut S,
-) -> Result<Reply, ReadError>
+fn text_tables<S: Source>(alloc: Global, text: &[u8], input: &mut S) -> Result<Reply, ReadError>
     ensures told { IfOk result (λ reply. Follows text.now (S.left input.old) (S.left input.new) reply.status reply.text.items × IsStatusOf Dump reply.status) }
     ensures later { S.faults input.old ≤ S.faults input.new }
     ensures failed { IfErr result (λ e. e ≡ StreamFailed → Rose (S.faults input.old) (S.faults input.new)) }

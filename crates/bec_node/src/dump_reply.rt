@@ -1,8 +1,9 @@
-ghost use Rattle.std.specs.Prelude.{◌≡◌, ◌∷◌, [], ℕ, List, IfOk, IsTrue, length, map, slice_get, Some};
+ghost use Rattle.std.specs.Prelude.{◌≡◌, [], List, IfOk, IsTrue, length};
 ghost use Rattle.schema.specs.declared.shown_row.ShownRow.{ShownRow as Row};
 ghost use Rattle.schema.specs.declared.void_line.VoidLine.{VoidLine};
 ghost use Rattle.schema.specs.Confluence.{are_accepted};
 ghost use Rattle.schema.specs.Invariants.{invariants_of};
+ghost use Rattle.schema.specs.Sound.{AreTables};
 ghost use Rattle.schema.specs.Tables.{AreTablesOf};
 ghost use Rattle.table_text.specs.Tables.{tables_text};
 ghost use Rattle.update_model.specs.Node.{NodeData};
@@ -32,7 +33,8 @@ pub fn records_reply(
     native: &Native<Luhn, Luhn>,
     reading: Reading,
 ) -> Result<Reply, AllocError>
-    requires { IsTrue (are_accepted (rules_of schema.now) (invariants_of (rules_of schema.now))) }
+    requires sound { AreTables [] schema.now.tables }
+    requires accepted { IsTrue (are_accepted (rules_of schema.now) (invariants_of (rules_of schema.now))) }
     ensures { IfOk result (λ reply. SaysRecords schema.now reading reply.status reply.text.items) }
 {
     accepted_holds();

@@ -7,9 +7,9 @@ mod schemas;
 
 use crate::run;
 use bec_bytes::{MemSink, MemSource, PlainSink, PlainSource};
+use confluence::VERDICTS;
 use lm_ots::OtsType;
 use lms_tree::{LmsType, Secret, make_secret};
-use confluence::VERDICTS;
 use schemas::{INVENTORY, SURVEY, TASKS};
 use std::alloc::{AllocError, Global};
 use std::process::Abort;
@@ -299,11 +299,7 @@ fn checks_schemas(rt: HostRuntime) -> Result<(), Fail> {
 fn tells_what_does_not_survive_merging(rt: HostRuntime) -> Result<(), Fail> {
     let alloc = rt.alloc();
     for (shows, schema, verdict) in VERDICTS {
-        let (status, written) = answer(
-            alloc,
-            "check",
-            Vec::from_slice(alloc, schema.as_bytes())?,
-        )?;
+        let (status, written) = answer(alloc, "check", Vec::from_slice(alloc, schema.as_bytes())?)?;
         let written = str::from_utf8(&written)?;
         assert_eq!(rt; written, verdict, "{shows}");
         assert_eq!(rt; status, u8::from(verdict != "confluent\n"), "{shows}");

@@ -2,7 +2,7 @@
 
 use crate::{
     NameStyle, names_are_read_again, push_counterexample, push_operation, push_row_name,
-    push_table, push_tables, push_value, push_void,
+    push_tables, push_value, push_void,
 };
 use row_check::{Luhn, Native};
 use schema::{
@@ -20,12 +20,7 @@ const CHAIN: &str =
     "DATABASE v\nTABLE g DELETABLE\nCOLUMN n INT 0 9\nSAMPLE 1\nTABLE t\nCOLUMN n INT 0 9\n\
 REF g g CASCADE\nSAMPLE 2\nTABLE c\nCOLUMN n INT 0 9\nREF t t RESTRICT\nSAMPLE 3\n";
 
-const EXAMPLE: &str =
-    "BASE 1 INSERT g 1\nBASE 2 INSERT t 2 1:0\nA 3 INSERT c 3 2:0\nB 4 DELETE 1:0\n";
-
-const ROWS: &str = "TABLE g\n\
-1f1f1f1f1f1f1f1f1f1f1f1f1f1f1f1f1f1f1f1f1f1f1f1f1f1f1f1f1f1f1f1f:0 1\n\
-1f1f1f1f1f1f1f1f1f1f1f1f1f1f1f1f1f1f1f1f1f1f1f1f1f1f1f1f1f1f1f1f:10 -1 NULL\n";
+const EXAMPLE: &str = "A 3 INSERT c 3 2:0\nB 4 DELETE 1:0\n";
 
 const TABLES: &str = "TABLE g\n\
 1f1f1f1f1f1f1f1f1f1f1f1f1f1f1f1f1f1f1f1f1f1f1f1f1f1f1f1f1f1f1f1f:0 1\n\
@@ -126,9 +121,7 @@ fn prints_values(rt: HostRuntime) -> Result<(), Fail> {
 fn prints_a_counterexample(rt: HostRuntime) -> Result<(), Fail> {
     let alloc = rt.alloc();
     let schema = chain(alloc)?;
-    let mut base = NodeList::from_vec(Vec::new(alloc));
-    base.push(node(alloc, 1, insert(alloc, 0, 1, None)?)?)?;
-    base.push(node(alloc, 2, insert(alloc, 1, 2, Some(short(1)))?)?)?;
+    let base = NodeList::from_vec(Vec::new(alloc));
     let mut left = NodeList::from_vec(Vec::new(alloc));
     left.push(node(alloc, 3, insert(alloc, 2, 3, Some(short(2)))?)?)?;
     let mut right = NodeList::from_vec(Vec::new(alloc));
@@ -137,28 +130,17 @@ fn prints_a_counterexample(rt: HostRuntime) -> Result<(), Fail> {
     let mut out = Vec::new(alloc);
     push_counterexample(&mut out, &schema, &example)?;
     assert_eq!(rt; out.as_slice(), EXAMPLE.as_bytes());
-    let mut out = Vec::new(alloc);
-    push_operation(
-        &mut out,
-        &schema,
-        NameStyle::Full,
-        &insert(alloc, 3, 4, None)?,
-    )?;
-    assert_eq!(rt; out.as_slice(), b"INSERT 3 4".as_slice());
     Ok(())
 }
 
 #[test]
-fn prints_tables(rt: HostRuntime) -> Result<(), Fail> {
+fn prints_an_operation(rt: HostRuntime) -> Result<(), Fail> {
     let alloc = rt.alloc();
     let schema = chain(alloc)?;
-    let first = Vec::from_array(alloc, [Value::Int(1)])?;
-    let second = Vec::from_array(alloc, [Value::Int(-1), Value::Null])?;
-    let rows = [shown(0, first), shown(10, second)];
-    assert!(rt; schema.tables() > 0);
+    let operation = Op::Delete { row: row(2) };
     let mut out = Vec::new(alloc);
-    push_table(&mut out, schema.table(0), &rows)?;
-    assert_eq!(rt; out.as_slice(), ROWS.as_bytes());
+    push_operation(&mut out, &schema, NameStyle::Short, &operation)?;
+    assert_eq!(rt; out.as_slice(), b"DELETE 31:2".as_slice());
     Ok(())
 }
 
