@@ -1,4 +1,10 @@
+pub mod Members
 pub mod HeadSteps
 pub mod Checking
+pub mod Refusals
+pub mod Tables
+pub mod Unlimited
+pub mod Taking
 pub mod Answer
-pub mod Command
+pub mod Ending
+pub mod Bundles

@@ -1,2 +1,5 @@
 pub mod Texts
+pub mod Verdict
+pub mod Bundle
+pub mod Commands
 pub mod Run

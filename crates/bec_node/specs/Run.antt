@@ -9,23 +9,17 @@ use Rattle.update_model.specs.declared.update_id.UpdateId.{UpdateId}
 use Rattle.update_model.specs.Graph.{AreHeads}
 use Rattle.update_codec.specs.Parts.{entry_of}
 use Rattle.update_stream.specs.declared.record_fault.RecordFault.{RecordFault}
+use Rattle.update_stream.specs.declared.reading.ReadError.{ReadError}
+use Rattle.update_stream.specs.declared.reading.ReadError.TheVariants.{Failed, Memory}
 use Rattle.update_stream.specs.declared.reading.Reading.{Reading}
 use Rattle.update_stream.specs.declared.reading.Reading.TheVariants.{Whole, Refused}
 use Rattle.update_stream.specs.Stream.{IsWhole, IsRefused}
-use Rattle.row_check.specs.Checksum.{is_luhn}
-use Rattle.schema.specs.declared.fault.SchemaKind.{SchemaKind}
-use Rattle.schema.specs.Schemas.{SchemaData, Declares, FirstFault}
-use Rattle.bec_node.specs.Texts.{printed, refusal_text, status_of, verdict_status, verdict_text, schema_text}
-
--- what a user can ask for
-pub data Command : Type 0 where
-  Heads : Command
-  Check : Command
-
--- its word
-abbrev pub word_of : Command → List ℕ
-word_of Heads = codes "heads"
-word_of Check = codes "check"
+use Rattle.bec_node.specs.declared.command.Command.{Command}
+use Rattle.bec_node.specs.declared.command.Command.TheVariants.{Heads, Check, Dump}
+use Rattle.bec_node.specs.Bundle.{DumpAnswer}
+use Rattle.bec_node.specs.Commands.{word_of}
+use Rattle.bec_node.specs.Texts.{printed, refusal_text, status_of}
+use Rattle.bec_node.specs.Verdict.{Judges}
 
 -- the one word is the command
 abbrev pub IsCommand : Command → List (String Global) → Type 0
@@ -59,12 +53,6 @@ Says (Refused n fault) status text = (status ≡ status_of fault) × (text ≡ r
 abbrev pub read_limit : ℕ
 read_limit = 65537
 
--- What a text is: it declares a schema, where native checks mean Luhn's, or it has this first fault.
-abbrev pub Judges : List ℕ → ℕ → List ℕ → Type 0
-Judges input status text =
-    ((schema : SchemaData) × Declares is_luhn input schema × (status ≡ verdict_status schema) × (text ≡ verdict_text schema))
-    ⊎ ((kind : SchemaKind) × ((line : ℕ) × FirstFault is_luhn input kind line × (status ≡ 1) × (text ≡ schema_text line kind)))
-
 -- The answer to a text. The rest is what was not read.
 abbrev pub CheckAnswer : List ℕ → List ℕ → ℕ → List ℕ → Type 0
 CheckAnswer input rest status text = (rest ≡ drop read_limit input) × Judges input status text
@@ -77,11 +65,13 @@ ReadsText before after text = IfSome before (λ input. (text ≡ take read_limit
 abbrev pub AnswerTo : Command → List ℕ → List ℕ → ℕ → List ℕ → Type 0
 AnswerTo Heads input rest status text = HeadsAnswer input rest status text
 AnswerTo Check input rest status text = CheckAnswer input rest status text
+AnswerTo Dump input rest status text = DumpAnswer input rest status text
 
 -- a status that a command has where nothing failed
 abbrev pub IsStatusOf : Command → ℕ → Type 0
 IsStatusOf Heads status = (status ≡ 0) ⊎ ((status ≡ 1) ⊎ (status ≡ 7))
 IsStatusOf Check status = (status ≡ 0) ⊎ (status ≡ 1)
+IsStatusOf Dump status = (status ≡ 0) ⊎ ((status ≡ 1) ⊎ (status ≡ 7))
 
 -- The answer, where the source tells its bytes, of which the second are left.
 abbrev pub IsAnswer : Command → Option (List ℕ) → Option (List ℕ) → ℕ → List ℕ → Type 0
@@ -121,3 +111,10 @@ LeavesInput words before after = IsNoCommand words → after ≡ before
 -- each answer that the input has comes with its status, unless a stream failed or memory ran out
 abbrev pub AnswersOnly : Command → Option (List ℕ) → ℕ → Type 0
 AnswersOnly command before result = IfSome before (λ input. (rest : List ℕ) (status : ℕ) (text : List ℕ) → AnswerTo command input rest status text → ComesAs result status)
+
+-- How a command ends whose source failed, or for which memory ran out: with its line or a front of it and status 4, or with
+-- nothing written and status 5.
+abbrev pub Ends : ReadError → ℕ → ℕ → Option (List ℕ) → Option (List ℕ) → ℕ → Type 0
+Ends Failed out_old out_new held held_new result =
+    (result ≡ 4) × (Appends held held_new (codes "! stream fault\n") ⊎ PutsFront out_old out_new held held_new (codes "! stream fault\n"))
+Ends Memory out_old out_new held held_new result = (result ≡ 5) × Appends held held_new []

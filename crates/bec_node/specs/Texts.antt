@@ -1,19 +1,18 @@
 -- What is printed, and with which status.
-use Rattle.std.specs.Prelude.{ℕ, List, [], ◌∷◌, ◌++◌, codes, length, Bool, true, false, ◌||◌, nat_lt, if◌then◌else◌}
-use Rattle.std.specs.List.{flat_map, list_any}
+use Rattle.std.specs.Prelude.{ℕ, List, [], ◌∷◌, ◌++◌, codes}
+use Rattle.std.specs.List.{flat_map}
 use Rattle.std.specs.Fmt.{decimal}
 use Rattle.hex.specs.Hex.{encode_lower}
 use Rattle.update_model.specs.declared.update_id.UpdateId.{UpdateId}
 use Rattle.update_codec.specs.Words.{fault_words}
 use Rattle.update_check.specs.declared.check_error.CheckFault.{CheckFault}
 use Rattle.update_check.specs.declared.check_error.CheckFault.TheVariants.{Codec, WrongDatabase, AuthorNotListed, BadSignature}
-use Rattle.schema.specs.declared.column.ColumnKind.{ColumnKind}
-use Rattle.schema.specs.declared.column.ColumnKind.TheVariants as kinds
+use Rattle.schema.specs.declared.counterexample.Counterexample.{Counterexample}
 use Rattle.schema.specs.declared.fault.SchemaKind.{SchemaKind}
 use Rattle.schema.specs.declared.fault.SchemaKind.TheVariants as faults
+use Rattle.schema.specs.declared.invariant.Invariant.{Invariant}
 use Rattle.schema.specs.declared.table_def.TableDef.{TableDef}
-use Rattle.schema.specs.Columns.{is_restrict}
-use Rattle.schema.specs.Schemas.{SchemaData}
+use Rattle.table_text.specs.Examples.{example_text}
 use Rattle.update_stream.specs.declared.record_fault.RecordFault.{RecordFault}
 use Rattle.update_stream.specs.declared.record_fault.RecordFault.TheVariants.{Check, Lacks, Full}
 
@@ -44,30 +43,6 @@ status_of (Check fault) = 1
 status_of (Lacks id) = 1
 status_of Full = 7
 
--- a reference that keeps the row that it names
-abbrev pub is_restricting : ColumnKind → Bool
-is_restricting (kinds.Int lo hi) = false
-is_restricting (kinds.Text lo hi) = false
-is_restricting kinds.Flag = false
-is_restricting (kinds.Reference target act) = is_restrict act
-
--- a table with a UNIQUE or an ATMOST line, or with a RESTRICT reference
-abbrev pub is_untested_table : TableDef → Bool
-is_untested_table table =
-    nat_lt 0 (length table.uniques) || nat_lt 0 table.at_most || list_any (λ column. is_restricting column.kind) table.columns
-
--- whether a schema has an invariant of which it is not tested yet whether it survives merging
-abbrev pub is_untested : SchemaData → Bool
-is_untested schema = list_any is_untested_table schema.tables
-
--- the line for a schema that is read
-abbrev pub verdict_text : SchemaData → List ℕ
-verdict_text schema = if is_untested schema then codes "! untested\n" else codes "confluent\n"
-
--- and its status
-abbrev pub verdict_status : SchemaData → ℕ
-verdict_status schema = if is_untested schema then 1 else 0
-
 -- the word for what is wrong with a schema
 abbrev pub word_of_kind : SchemaKind → List ℕ
 word_of_kind faults.Line = codes "line"
@@ -81,3 +56,7 @@ word_of_kind faults.Limit = codes "limit"
 -- the line for a text whose first fault stands in this line
 abbrev pub schema_text : ℕ → SchemaKind → List ℕ
 schema_text line kind = codes "! schema line " ++ decimal line ++ (codes ": " ++ (word_of_kind kind ++ 10 ∷ []))
+
+-- the lines for the first invariant that does not survive merging: where it stands, and the counterexample
+abbrev pub refused_text : List TableDef → Invariant → Counterexample → List ℕ
+refused_text tables which example = codes "! not confluent line " ++ decimal which.line ++ (10 ∷ example_text tables example)

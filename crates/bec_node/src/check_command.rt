@@ -2,21 +2,23 @@ ghost use Rattle.std.specs.Prelude.{◌≡◌, ◌≢◌, ◌≤◌, ℕ, List, 
 ghost use Rattle.std.specs.Io.KnownBytes.{Appends};
 ghost use Rattle.bec_bytes.specs.Causes.{Rose};
 ghost use Rattle.update_stream.specs.declared.reading.ReadError.TheVariants.{Failed as StreamFailed};
-ghost use Rattle.bec_node.specs.Run.{Command, Check, IsCommand, HasFirstWord, IsReply, IsStreamFault, AnswersOnly, LeavesInput, ReadsText};
+ghost use Rattle.bec_node.specs.declared.command.Command.{Command};
+ghost use Rattle.bec_node.specs.declared.command.Command.TheVariants.{Check};
+ghost use Rattle.bec_node.specs.Run.{IsCommand, HasFirstWord, IsReply, IsAnswer, IsStatusOf, IsStreamFault, AnswersOnly, LeavesInput, ReadsText};
 
 use crate::laws::one_answer;
-use crate::reply::{no_command, put_reply};
+use crate::reply::{Reply, finish, no_command};
 use crate::schema_reply::schema_reply;
-use bec_bytes::{Sink, Source, read_full, write_all_of};
+use bec_bytes::{Sink, Source, read_full};
 use std::alloc::Global;
 use update_stream::ReadError;
 
 /// How many bytes of a text are read at most: one more than a schema may have, which shows that it is too long.
 const READ_LIMIT: usize = 65_537;
 
-/// The command `check`: reads the text of a schema, and prints `confluent` where what it asks for survives merging, or
-/// the line for its first fault. A schema with a RESTRICT reference, a UNIQUE or an ATMOST line is not tested yet, which
-/// is said. `words` are all the words of the command line; a second one makes them no command.
+/// The command `check`: reads the text of a schema, and prints `confluent` where each invariant survives merging, or the
+/// line for its first fault, or the line for the first invariant that does not survive, with a history that breaks it.
+/// `words` are all the words of the command line; a second one makes them no command.
 ///
 /// Its clauses are those of [`run`](crate::run) for these words.
 pub fn command_check<S: Source, K: Sink>(
@@ -39,18 +41,17 @@ pub fn command_check<S: Source, K: Sink>(
     if words.len() > 1 {
         return no_command(out);
     }
-    let text = match read_text(alloc, input) {
-        Ok(text) => text,
-        Err(ReadError::Failed) => {
-            let _ = write_all_of(out, b"! stream fault\n");
-            return 4;
-        }
-        Err(ReadError::Memory) => return 5,
-    };
-    match schema_reply(alloc, &text) {
-        Ok(reply) => put_reply(out, &reply),
-        Err(_error) => 5,
-    }
+    finish(out, text_verdict(alloc, input))
+}
+
+/// The reply to a text.
+fn text_verdict<S: Source>(alloc: Global, input: &mut S) -> Result<Reply, ReadError>
+    ensures told { IfOk result (λ reply. IsAnswer Check (S.left input.old) (S.left input.new) reply.status reply.text.items × IsStatusOf Check reply.status) }
+    ensures failed { IfErr result (λ e. e ≡ StreamFailed → Rose (S.faults input.old) (S.faults input.new)) }
+{
+    let text = read_text(alloc, input)?;
+    let reply = schema_reply(alloc, &text)?;
+    Ok(reply)
 }
 
 /// Reads the text of a schema, and one byte more where it is too long.

@@ -1,34 +1,20 @@
-ghost use Rattle.std.specs.Prelude.{ℕ, map, length, IfOk, ◌&&◌, not, ◌≡◌};
-ghost use Rattle.std.specs.BTreeSet.{keys};
-ghost use Rattle.update_model.specs.declared.update_id.UpdateId.{UpdateId as Id};
-ghost use Rattle.update_model.specs.Graph.{AreHeads, has};
+ghost use Rattle.std.specs.Prelude.{map, IfOk};
+ghost use Rattle.update_model.specs.Graph.{AreHeads};
 
 use hash_graph::Graph;
+use head_set::{Heads, heads_are_few};
 use std::alloc::{AllocError, Global};
-use std::collections::BTreeSet;
-use update_model::{Member, UpdateId};
+use update_model::Member;
 
 /// The heads of a graph: the ids of the members that no member names.
-pub fn heads_of<M: Member>(
-    alloc: Global,
-    graph: &Graph<M>,
-) -> Result<BTreeSet<UpdateId>, AllocError>
-    ensures { IfOk result (λ heads. AreHeads (map M.entry graph.now) (keys heads)) }
+pub fn heads_of<M: Member>(alloc: Global, graph: &Graph<M>) -> Result<Heads, AllocError>
+    ensures { IfOk result (λ heads. AreHeads (map M.entry graph.now) heads) }
 {
-    let mut heads = BTreeSet::new(alloc);
+    heads_are_few();
+    let mut heads = Heads::new(alloc);
     for position in 0..graph.len() {
         let member = graph.at(position);
-        remove_all(&mut heads, member.preds());
-        heads.insert(member.id())?;
+        heads.add(member.id(), member.preds())?;
     }
     Ok(heads)
-}
-
-/// Takes these ids out of the set.
-fn remove_all(heads: &mut BTreeSet<UpdateId>, ids: &[UpdateId])
-    ensures { (id : Id) → has (keys heads.new) id ≡ (has (keys heads.old) id && not (has ids.now id)) }
-{
-    for id in ids {
-        heads.remove(id);
-    }
 }

@@ -1,10 +1,14 @@
-ghost use Rattle.std.specs.Prelude.{◌≡◌, ◌≢◌, ℕ, List, []};
+ghost use Rattle.std.specs.Prelude.{◌≡◌, ◌≢◌, ◌≤◌, ℕ, List, [], IfOk, IfErr};
 ghost use Rattle.std.specs.Io.KnownBytes.{Appends};
-ghost use Rattle.bec_node.specs.Run.{Command, Heads, IsCommand, HasFirstWord, IsReply, IsStreamFault, AnswersOnly, LeavesInput};
+ghost use Rattle.bec_bytes.specs.Causes.{Rose};
+ghost use Rattle.update_stream.specs.declared.reading.ReadError.TheVariants.{Failed as StreamFailed};
+ghost use Rattle.bec_node.specs.declared.command.Command.{Command};
+ghost use Rattle.bec_node.specs.declared.command.Command.TheVariants.{Heads};
+ghost use Rattle.bec_node.specs.Run.{IsCommand, HasFirstWord, IsReply, IsAnswer, IsStatusOf, IsStreamFault, AnswersOnly, LeavesInput};
 
 use crate::laws::one_answer;
-use crate::reply::{heads_reply, no_command, put_reply};
-use bec_bytes::{Sink, Source, write_all_of};
+use crate::reply::{Reply, finish, heads_reply, no_command};
+use bec_bytes::{Sink, Source};
 use std::alloc::Global;
 use update_stream::{ReadError, read_stream};
 
@@ -33,16 +37,15 @@ pub fn command_heads<S: Source, K: Sink>(
     if words.len() > 1 {
         return no_command(out);
     }
-    let reading = match read_stream(alloc, &None, input) {
-        Ok(reading) => reading,
-        Err(ReadError::Failed) => {
-            let _ = write_all_of(out, b"! stream fault\n");
-            return 4;
-        }
-        Err(ReadError::Memory) => return 5,
-    };
-    match heads_reply(alloc, reading) {
-        Ok(reply) => put_reply(out, &reply),
-        Err(_error) => 5,
-    }
+    finish(out, stream_heads(alloc, input))
+}
+
+/// The reply to a stream.
+fn stream_heads<S: Source>(alloc: Global, input: &mut S) -> Result<Reply, ReadError>
+    ensures told { IfOk result (λ reply. IsAnswer Heads (S.left input.old) (S.left input.new) reply.status reply.text.items × IsStatusOf Heads reply.status) }
+    ensures failed { IfErr result (λ e. e ≡ StreamFailed → Rose (S.faults input.old) (S.faults input.new)) }
+{
+    let reading = read_stream(alloc, &None, input)?;
+    let reply = heads_reply(alloc, reading)?;
+    Ok(reply)
 }

@@ -6,7 +6,8 @@
 //!
 //! ```text
 //! bec heads < stream        the ids of the heads of an update stream, rising, one per line
-//! bec check < schema        whether the text of a schema is right, and what is wrong first
+//! bec check < schema        whether what a schema declares survives merging, and what is wrong first
+//! bec dump < bundle         the tables of a schema and an update stream, and the updates that do nothing
 //! ```
 //!
 //! | Status | When |
@@ -21,7 +22,11 @@
 //! It waits for nobody but its source and its sink, and opens nothing by itself.
 #![tactic(auto)]
 
+mod bundle;
 mod check_command;
+mod command;
+mod dump_command;
+mod dump_reply;
 mod heads;
 mod heads_command;
 mod laws;
@@ -30,6 +35,8 @@ mod reply;
 mod schema_reply;
 
 pub use check_command::command_check;
+pub use command::Command;
+pub use dump_command::command_dump;
 pub use heads::heads_of;
 pub use heads_command::command_heads;
 pub use laws::one_answer;

@@ -1,20 +1,18 @@
-ghost use Rattle.std.specs.Prelude.{◌≡◌, ◌≢◌, ◌++◌, [], ◌≤◌, IfOk, OnOk, codes};
-ghost use Rattle.std.specs.BTreeSet.{keys};
+ghost use Rattle.std.specs.Prelude.{◌≡◌, ◌≢◌, ◌++◌, [], ◌≤◌, IfOk, IfErr, OnOk, codes};
 ghost use Rattle.std.specs.String.{string_bytes};
 ghost use Rattle.std.specs.Io.KnownBytes.{Appends};
 ghost use Rattle.update_model.specs.Graph.{AreHeads};
 ghost use Rattle.update_codec.specs.Parts.{entry_of};
 ghost use Rattle.bec_bytes.specs.Causes.{Rose};
 ghost use Rattle.bec_node.specs.Texts.{line_of, printed, check_text, refusal_text, status_of};
-ghost use Rattle.bec_node.specs.Run.{Says, Puts};
+ghost use Rattle.bec_node.specs.Run.{Says, Puts, Ends};
 
 use crate::heads::heads_of;
 use bec_bytes::{Sink, write_all_of};
 use std::alloc::{AllocError, Global};
-use std::collections::BTreeSet;
 use update_check::CheckFault;
 use update_model::UpdateId;
-use update_stream::{Reading, RecordFault};
+use update_stream::{ReadError, Reading, RecordFault};
 
 /// An exit status, and the text that is written with it.
 #[derive(Debug, Drop)]
@@ -31,7 +29,7 @@ pub fn heads_reply(alloc: Global, reading: Reading) -> Result<Reply, AllocError>
 {
     match reading {
         Reading::Whole(graph) => {
-            let heads = heads_of(alloc, &graph)?;
+            let heads = heads_of(alloc, &graph)?.list(alloc)?;
             let text = heads_text(alloc, &heads)?;
             Ok(Reply { status: 0, text })
         }
@@ -55,6 +53,22 @@ pub fn put_reply<K: Sink>(out: &mut K, reply: &Reply) -> u8
     }
 }
 
+/// Ends a command: writes its reply, or the line for a source that failed, and answers the status. Where memory ran out
+/// nothing is written.
+pub fn finish<K: Sink>(out: &mut K, outcome: Result<Reply, ReadError>) -> u8
+    ensures ok { IfOk outcome (λ reply. Puts (K.faults out.old) (K.faults out.new) (K.held out.old) (K.held out.new) reply.status reply.text.items result) }
+    ensures err { IfErr outcome (λ e. Ends e (K.faults out.old) (K.faults out.new) (K.held out.old) (K.held out.new) result) }
+{
+    match outcome {
+        Ok(reply) => put_reply(out, &reply),
+        Err(ReadError::Failed) => {
+            let _ = write_all_of(out, b"! stream fault\n");
+            4
+        }
+        Err(ReadError::Memory) => 5,
+    }
+}
+
 /// Writes the line for words that are no command.
 pub fn no_command<K: Sink>(out: &mut K) -> u8
     ensures { Puts (K.faults out.old) (K.faults out.new) (K.held out.old) (K.held out.new) 2 (codes "! words\n") result }
@@ -66,8 +80,8 @@ pub fn no_command<K: Sink>(out: &mut K) -> u8
 }
 
 /// The ids, rising, one per line in lower-case hexadecimal.
-fn heads_text(alloc: Global, heads: &BTreeSet<UpdateId>) -> Result<Vec<u8>, AllocError>
-    ensures { IfOk result (λ text. text.items ≡ printed (keys heads.now)) }
+fn heads_text(alloc: Global, heads: &[UpdateId]) -> Result<Vec<u8>, AllocError>
+    ensures { IfOk result (λ text. text.items ≡ printed heads.now) }
 {
     let mut text = Vec::new(alloc);
     for id in heads {
@@ -88,7 +102,7 @@ fn push_line(text: &mut Vec<u8>, id: &UpdateId) -> Result<(), AllocError>
 }
 
 /// The line for a refused record, which is counted from 1.
-fn refusal(alloc: Global, number: u32, fault: &RecordFault) -> Result<String, AllocError>
+pub fn refusal(alloc: Global, number: u32, fault: &RecordFault) -> Result<String, AllocError>
     ensures { IfOk result (λ line. string_bytes line ≡ refusal_text number fault.now) }
 {
     match fault {
@@ -119,7 +133,7 @@ fn check_text(alloc: Global, fault: &CheckFault) -> Result<String, AllocError>
 }
 
 /// The exit status for a refused record.
-fn status(fault: &RecordFault) -> u8
+pub fn status(fault: &RecordFault) -> u8
     ensures { result ≡ status_of fault.now }
 {
     match fault {

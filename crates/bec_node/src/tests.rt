@@ -1,10 +1,13 @@
 //! Worked examples of the command line: the bytes, the ids and the signatures come from a separate model of the format
 //! and another implementation of LMS.
 
+mod bundles;
+mod confluence;
 mod schemas;
 
 use crate::run;
 use bec_bytes::{MemSink, MemSource, PlainSink, PlainSource};
+use confluence::VERDICTS;
 use lm_ots::OtsType;
 use lms_tree::{LmsType, Secret, make_secret};
 use schemas::{INVENTORY, SURVEY, TASKS};
@@ -39,7 +42,7 @@ fn key(alloc: Global, ident_from: u8, seed_from: u8) -> Result<Secret, AllocErro
 fn message(
     alloc: Global,
     key: &Secret,
-    database: u8,
+    database: &[u8; 32],
     preds: &[&str],
     count: u8,
     operations: &[u8],
@@ -47,7 +50,7 @@ fn message(
     let author = key.public();
     let mut update = Vec::new(alloc);
     update.push(1)?;
-    update.extend_from_slice(&[database; 32])?;
+    update.extend_from_slice(database)?;
     update.extend_from_slice(&author.lms.to_be_bytes())?;
     update.extend_from_slice(&author.ots.to_be_bytes())?;
     update.extend_from_slice(&author.ident)?;
@@ -73,7 +76,7 @@ fn framed(alloc: Global, update: &[u8]) -> Result<Vec<u8>, AllocError> {
 fn signed(
     alloc: Global,
     key: &Secret,
-    database: u8,
+    database: &[u8; 32],
     preds: &[&str],
     count: u8,
     operations: &[u8],
@@ -90,7 +93,7 @@ fn signed(
 
 /// A signed record without operations, of the examples' database.
 fn record(alloc: Global, key: &Secret, preds: &[&str]) -> Result<Vec<u8>, Fail> {
-    signed(alloc, key, 0xdd, preds, 0, &[])
+    signed(alloc, key, &[0xdd; 32], preds, 0, &[])
 }
 
 /// The records one after the other.
@@ -159,7 +162,7 @@ fn names_the_first_refusal(rt: HostRuntime) -> Result<(), Fail> {
     let child = record(alloc, &author, &[ROOT])?;
     let other_root = record(alloc, &other, &[])?;
     let swapped = record(alloc, &author, &[OTHER_ROOT, ROOT])?;
-    let foreign = signed(alloc, &author, 0xee, &[], 0, &[])?;
+    let foreign = signed(alloc, &author, &[0xee; 32], &[], 0, &[])?;
     let lacks = format!(in alloc; "! update 1: lacks {ROOT}")?;
     let mut cut = root.clone()?;
     cut.truncate(704);
@@ -233,7 +236,7 @@ fn tells_what_is_wrong_and_where(rt: HostRuntime) -> Result<(), Fail> {
         let line = format!(in alloc; "! update 1: {text}")?;
         expect_heads(
             &rt,
-            &[&signed(alloc, &author, 0xdd, &[], 1, operation)?],
+            &[&signed(alloc, &author, &[0xdd; 32], &[], 1, operation)?],
             1,
             &line,
         )?;
@@ -280,12 +283,6 @@ fn checks_schemas(rt: HostRuntime) -> Result<(), Fail> {
         ),
         ("SAMPLE \"Buy\" 3 NULL\n", "", "! schema line 15: line"),
         ("list CASCADE", "list RESTRICT", "! schema line 14: match"),
-        ("INT 0 9\nSAMPLE", "INT 0 9\nATMOST 3\nSAMPLE", "! untested"),
-        (
-            "INT 0 9\nSAMPLE",
-            "INT 0 9\nUNIQUE cap\nSAMPLE",
-            "! untested",
-        ),
     ];
     for (that, this, line) in rows {
         expect_check(&rt, &with(alloc, TASKS, that, this)?, 1, line)?;
@@ -299,9 +296,27 @@ fn checks_schemas(rt: HostRuntime) -> Result<(), Fail> {
 }
 
 #[test]
+fn tells_what_does_not_survive_merging(rt: HostRuntime) -> Result<(), Fail> {
+    let alloc = rt.alloc();
+    for (shows, schema, verdict) in VERDICTS {
+        let (status, written) = answer(alloc, "check", Vec::from_slice(alloc, schema.as_bytes())?)?;
+        let written = str::from_utf8(&written)?;
+        assert_eq!(rt; written, verdict, "{shows}");
+        assert_eq!(rt; status, u8::from(verdict != "confluent\n"), "{shows}");
+    }
+    let many = "DATABASE x\nTABLE a\nCOLUMN n INT 0 9\nATMOST 64\nSAMPLE 1\n";
+    let mut wanted = String::from_str(alloc, "! not confluent line 4\n")?;
+    for update in 1..64 {
+        wanted.push_str(&format!(in alloc; "BASE {update} INSERT a 1\n")?)?;
+    }
+    wanted.push_str("A 64 INSERT a 1\nB 65 INSERT a 1")?;
+    expect_check(&rt, many, 1, &wanted)
+}
+
+#[test]
 fn tells_words_and_faults(rt: HostRuntime) -> Result<(), Fail> {
     let alloc = rt.alloc();
-    for line in ["", "dump", "heads heads", "Heads"] {
+    for line in ["", "check dump", "heads heads", "Heads"] {
         let mut out = MemSink::new(alloc, Vec::new(alloc));
         let status = run(
             alloc,

@@ -87,7 +87,7 @@ COLUMN north INT 0 100
 COLUMN certain FLAG
 COLUMN note TEXT 0 1024 NULL
 REF plot plot CASCADE
-REF species species CASCADE
+REF species species RESTRICT
 REF repeats sighting SETNULL NULL
 CHECK certain = TRUE OR note IS NULL OR NOT LEN note = 0
 CHECK ( count < 100 OR certain = TRUE ) AND count > 0

@@ -1,7 +1,6 @@
-use Rattle.std.proofs.Common.{◌≡◌, ◌++◌}
-use Rattle.std.specs.BTreeSet.{keys}
+use Rattle.std.proofs.Common.{◌≡◌, take}
 use Rattle.bec_node.specs.Texts.{printed}
 use Rattle.bec_node.proofs.reply.heads_text.Given as goal
 
 abbrev pub invariant-loop-id : goal.invariant-loop-id
-invariant-loop-id l = l.text.items ++ printed l.id-iterator ≡ printed (keys l.heads)
+invariant-loop-id l = l.text.items ≡ printed (take l.id-index l.heads)
