@@ -5,14 +5,8 @@ use Rattle.std.proofs.lemmas.List.Folds.{list_any-append, list_all-append}
 use Rattle.update_model.specs.declared.row_name.RowName.{RowName}
 use Rattle.update_model.specs.declared.value.Value.{Value}
 use Rattle.schema.specs.Visible.{TableRow, RowRef, same_row}
+use Rattle.confluence_checker.proofs.Lists.{filter_append}
 
-filter_append : {X : Type 0} (p : X → Bool) (xs ys : List X) → filter p (xs ++ ys) ≡ filter p xs ++ filter p ys
-filter_append p [] ys = refl
-filter_append p (x ∷ xs) ys = here (p x)
-  where
-    here : (b : Bool) → cond b (x ∷ filter p (xs ++ ys)) (filter p (xs ++ ys)) ≡ cond b (x ∷ filter p xs) (filter p xs) ++ filter p ys
-    here true = ap (λ l. x ∷ l) (filter_append p xs ys)
-    here false = filter_append p xs ys
 
 -- every reference that passes a first test passes a second one
 pub cascades_next : (q p : RowRef → Bool) (xs ys : List RowRef) → list_all q (filter p (xs ++ ys)) ≡ (list_all q (filter p xs) && list_all q (filter p ys))

@@ -1,3 +1,13 @@
-mod Lists
+mod Bounds
+mod Doing
 mod Either
 mod Fits
+mod Goings
+mod Lists
+mod Newest
+mod Rising
+mod Same
+mod Singles
+mod Sight
+mod Splits
+mod Wanted

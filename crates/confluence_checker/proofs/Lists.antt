@@ -1,8 +1,8 @@
 -- Steps along lists.
-use Rattle.std.proofs.Common.{◌≡◌, ℕ, suc, ◌+◌, ◌<◌, Bool, true, false, ◌||◌, List, [], ◌∷◌, ◌++◌, length, take, drop, get_or, reverse, refl, sym, ap, ◌∙◌, add-one, arith, drop-cons}
+use Rattle.std.proofs.Common.{◌≡◌, ℕ, zero, suc, ◌+◌, ◌<◌, ◌≤◌, Bool, true, false, ◌||◌, cond, List, [], ◌∷◌, ◌++◌, length, take, drop, get_or, reverse, map, filter, refl, sym, ap, ◌∙◌, add-one, arith, drop-cons, append_assoc}
 use Rattle.std.specs.List.{list_any}
 use Rattle.std.proofs.Math.Seq.{take-suc}
-use Rattle.std.proofs.lemmas.List.{reverse-append}
+use Rattle.std.proofs.lemmas.List.{reverse-append, map-append}
 use Rattle.std.proofs.lemmas.List.Folds.{list_any-append}
 
 -- a test of any element, either way
@@ -22,8 +22,31 @@ any_back p (x ∷ xs) =
 pub drop_next : {X : Type 0} (xs : List X) (i : ℕ) (x : X) → i < length xs → x ≡ get_or xs i x → drop i xs ≡ x ∷ drop (i + 1) xs
 drop_next xs i x h e = rw (add-one, drop-cons xs i x) (ap (λ y. y ∷ drop (suc i) xs) (sym e))
 
+-- past the end of a list nothing is left
+pub nothing_left : {X : Type 0} (xs : List X) (i : ℕ) → length xs ≤ i → drop i xs ≡ []
+nothing_left [] zero h = refl
+nothing_left [] (suc i) h = refl
+nothing_left (x ∷ xs) zero h = absurd (omega arith)
+nothing_left (x ∷ xs) (suc i) h = nothing_left xs i (omega arith)
+
+-- so many elements are the whole
+pub whole : {X : Type 0} (xs : List X) (i : ℕ) → length xs ≤ i → take i xs ≡ xs
+whole [] zero h = refl
+whole [] (suc i) h = refl
+whole (x ∷ xs) zero h = absurd (omega arith)
+whole (x ∷ xs) (suc i) h = ap (λ l. x ∷ l) (whole xs i (omega arith))
+
+pub take_next : {X : Type 0} (xs : List X) (i : ℕ) (x : X) → i < length xs → x ≡ get_or xs i x → take (i + 1) xs ≡ take i xs ++ x ∷ []
+take_next xs i x h e = rw add-one (take-suc xs i x h ∙ ap (λ y. take i xs ++ y ∷ []) (sym e))
+
 -- the beginning of a list, newest first
 pub reverse_next : {X : Type 0} (xs : List X) (i : ℕ) (x : X) → i < length xs → x ≡ get_or xs i x → reverse (take (i + 1) xs) ≡ x ∷ reverse (take i xs)
-reverse_next xs i x h e =
-    let split : take (i + 1) xs ≡ take i xs ++ x ∷ [] = rw add-one (take-suc xs i x h ∙ ap (λ y. take i xs ++ y ∷ []) (sym e)) in
-    ap reverse split ∙ reverse-append (take i xs) (x ∷ [])
+reverse_next xs i x h e = ap reverse (take_next xs i x h e) ∙ reverse-append (take i xs) (x ∷ [])
+
+cond_append : {X : Type 0} (b : Bool) (x : X) (all front ys : List X) → all ≡ front ++ ys → cond b (x ∷ all) all ≡ cond b (x ∷ front) front ++ ys
+cond_append true x all front ys h = ap (λ l. x ∷ l) h
+cond_append false x all front ys h = h
+
+pub filter_append : {X : Type 0} (p : X → Bool) (xs ys : List X) → filter p (xs ++ ys) ≡ filter p xs ++ filter p ys
+filter_append p [] ys = refl
+filter_append p (x ∷ xs) ys = cond_append (p x) x (filter p (xs ++ ys)) (filter p xs) (filter p ys) (filter_append p xs ys)

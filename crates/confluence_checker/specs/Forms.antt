@@ -11,7 +11,7 @@ use Rattle.schema.specs.declared.invariant.Invariant.{Invariant}
 use Rattle.schema.specs.declared.invariant.InvariantKind.{InvariantKind}
 use Rattle.schema.specs.declared.invariant.InvariantKind.TheVariants as kind
 use Rattle.schema.specs.declared.table_def.TableDef.{TableDef}
-use Rattle.schema.specs.Invariants.{Declared, claim_holds}
+use Rattle.schema.specs.Invariants.{Declared, claim_holds, invariants_of}
 use Rattle.schema.specs.Schemas.{Meaning}
 use Rattle.schema.specs.Verdicts.{Judged, insert_reason, delete_reason, row_inserted, all_fit}
 use Rattle.schema.specs.Visible.{Rules, TableRow, Effects, same_row, table_of}
@@ -51,6 +51,14 @@ as_judged j = record { node = j.node; is_ancestor = has j.ancestors.items; verdi
 -- nodes that stand in the order of arrival, newest first
 abbrev pub newest_first : List JudgedNode → List Judged
 newest_first js = map as_judged (reverse js)
+
+-- A schema declares an invariant of this name, after earlier ones.
+pub record IsInvariantOf (rules : Rules) (which : Invariant) : Type 0 where
+  pub earlier : List Declared
+  pub later : List Declared
+  pub declared : Declared
+  pub split : invariants_of rules ≡ earlier ++ declared ∷ later
+  pub same : declared.which ≡ which
 
 -- kinds of invariants by number
 abbrev pub kind_number : InvariantKind → ℕ

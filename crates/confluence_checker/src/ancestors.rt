@@ -2,6 +2,7 @@
 
 ghost use Rattle.std.specs.Prelude.{◌≡◌, ◌||◌, IfOk, OnOk, filter, if◌then◌else◌};
 ghost use Rattle.update_model.specs.declared.update_id.UpdateId.{UpdateId};
+ghost use Rattle.update_model.specs.Entry.{same_id};
 ghost use Rattle.update_model.specs.Graph.{has};
 ghost use Rattle.schema.specs.Verdicts.{ancestor_of, effects, effects_of, is_valid, joined};
 ghost use Rattle.confluence_checker.specs.Forms.{newest_first};
@@ -14,14 +15,23 @@ use schema::{Verdict, effects_one_by_one};
 use std::alloc::{AllocError, Global};
 use update_model::{Node, UpdateId};
 
+/// Puts an id at the end of a list, where it is missing.
+fn add_one(ids: &mut Vec<UpdateId>, id: &UpdateId) -> Result<(), AllocError>
+    ensures { OnOk result ((other : UpdateId) → has ids.new.items other ≡ (has ids.old.items other || same_id other id.now)) }
+{
+    if has(ids.as_slice(), id) {
+        return Ok(());
+    }
+    ids.push(*id)?;
+    Ok(())
+}
+
 /// Puts those of these ids that are missing at the end of a list.
 fn add_missing(ids: &mut Vec<UpdateId>, more: &[UpdateId]) -> Result<(), AllocError>
     ensures { OnOk result ((id : UpdateId) → has ids.new.items id ≡ (has ids.old.items id || has more.now id)) }
 {
     for id in more {
-        if !has(ids.as_slice(), id) {
-            ids.push(*id)?;
-        }
+        add_one(ids, id)?;
     }
     Ok(())
 }

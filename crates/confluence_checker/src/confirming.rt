@@ -1,10 +1,10 @@
 //! Whether a counterexample confirms.
 
-ghost use Rattle.std.specs.Prelude.{◌≡◌, ◌∷◌, ◌++◌, List, IfOk, OnOk, reverse};
-ghost use Rattle.schema.specs.Confluence.{confirms};
+ghost use Rattle.std.specs.Prelude.{◌≡◌, ◌∷◌, ◌++◌, ◌&&◌, List, IfOk, OnOk, reverse};
+ghost use Rattle.schema.specs.Confluence.{confirms, is_closed};
 ghost use Rattle.schema.specs.Invariants.{Declared, claims_of, invariants_of, shown_in};
 ghost use Rattle.schema.specs.Nodes.{IsClosed};
-ghost use Rattle.confluence_checker.specs.Forms.{found_among, is_broken, is_kept, rules_by, start};
+ghost use Rattle.confluence_checker.specs.Forms.{IsInvariantOf, found_among, is_broken, is_kept, rules_by, start};
 
 use crate::ancestors::effects;
 use crate::found::Found;
@@ -71,6 +71,20 @@ fn is_broken(found: &Found) -> bool
     found.here == Some(false)
 }
 
+/// Whether both sides and their union are closed.
+fn are_closed(left: &[Node], right: &[Node], both: &[Node]) -> bool
+    ensures { result ≡ (is_closed (reverse left.now) && is_closed (reverse right.now) && is_closed (reverse both.now)) }
+{
+    is_closed(left) && is_closed(right) && is_closed(both)
+}
+
+/// Whether the wanted invariant holds on both sides, with those before it, and not in their union.
+fn is_shown(left: &Found, right: &Found, both: &Found) -> bool
+    ensures { result ≡ (is_kept left.now && is_kept right.now && is_broken both.now) }
+{
+    is_kept(left) && is_kept(right) && is_broken(both)
+}
+
 /// Whether a counterexample confirms that merging breaks an invariant of a schema: both sides and their union are closed,
 /// each side satisfies this invariant and those before it, and the union breaks this one.
 ///
@@ -83,8 +97,7 @@ pub fn confirms<L: Relation, C: Checks<L>>(
     which: &Invariant,
     example: &Counterexample,
 ) -> Result<bool, AllocError>
-    requires { (earlier : List Declared) × ((later : List Declared) × ((declared : Declared)
-        × ((invariants_of (rules_by L.answer schema.now.tables) ≡ earlier ++ declared ∷ later) × (declared.which ≡ which.now)))) }
+    requires { IsInvariantOf (rules_by L.answer schema.now.tables) which.now }
     ensures { IfOk result (λ answer. let rules = rules_by L.answer schema.now.tables in
         (earlier later : List Declared) (declared : Declared) → invariants_of rules ≡ earlier ++ declared ∷ later → declared.which ≡ which.now
         → answer ≡ confirms rules (claims_of earlier) declared.claim example.now) }
@@ -93,11 +106,11 @@ pub fn confirms<L: Relation, C: Checks<L>>(
     let left = one_then(alloc, base, example.left.as_slice())?;
     let right = one_then(alloc, base, example.right.as_slice())?;
     let both = one_then(alloc, left.as_slice(), example.right.as_slice())?;
-    if !is_closed(left.as_slice()) || !is_closed(right.as_slice()) || !is_closed(both.as_slice()) {
+    if !are_closed(left.as_slice(), right.as_slice(), both.as_slice()) {
         return Ok(false);
     }
     let on_left = found_in(alloc, schema, native, left.as_slice(), which)?;
     let on_right = found_in(alloc, schema, native, right.as_slice(), which)?;
     let on_both = found_in(alloc, schema, native, both.as_slice(), which)?;
-    Ok(is_kept(&on_left) && is_kept(&on_right) && is_broken(&on_both))
+    Ok(is_shown(&on_left, &on_right, &on_both))
 }

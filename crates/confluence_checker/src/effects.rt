@@ -11,7 +11,7 @@ use update_model::{Node, Op, RowName, UpdateId, Value, ValueList};
 
 /// A value as it stands in a table: a reference to a row of the same update is that row's name.
 fn named(alloc: Global, id: UpdateId, value: &Value) -> Result<Value, AllocError>
-    ensures { IfOk result (λ named. named ≡ named id value.now) }
+    ensures { IfOk result (λ new. new ≡ named id value.now) }
 {
     match value {
         Value::Own(index) => Ok(Value::Row(RowName {
@@ -26,7 +26,7 @@ fn named(alloc: Global, id: UpdateId, value: &Value) -> Result<Value, AllocError
 
 /// The same of each value.
 fn all_named(alloc: Global, id: UpdateId, values: &[Value]) -> Result<ValueList, AllocError>
-    ensures { IfOk result (λ named. named ≡ map (named id) values.now) }
+    ensures { IfOk result (λ new. new ≡ map (named id) values.now) }
 {
     let mut named_values = Vec::with_capacity(alloc, values.len())?;
     for value in values {
@@ -93,8 +93,9 @@ pub(crate) fn effects_of(alloc: Global, node: &Node) -> Result<RowEffects, Alloc
     ensures { IfOk result (λ did. did ≡ effects_of node.now) }
 {
     let _count = op_count(node);
+    let ops = node.ops.as_slice();
     let mut did = RowEffects::nothing(alloc);
-    for (number, op) in node.ops.as_slice().iter().enumerate() {
+    for (number, op) in ops.iter().enumerate() {
         did = do_op(alloc, node, number, did, op)?;
     }
     Ok(did)

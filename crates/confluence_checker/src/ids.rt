@@ -39,19 +39,32 @@ pub(crate) fn is_among(names: &[RowName], name: &RowName) -> bool
     names.iter().any(|other| same_row(name, other))
 }
 
+/// Whether a node has this id.
+fn is_held(nodes: &[Node], id: &UpdateId) -> bool
+    ensures { result ≡ holds nodes.now id.now }
+{
+    nodes.iter().any(|node| same_id(id, &node.id))
+}
+
 /// Whether a node of a list in the order of arrival has this id.
-#[tactic(auto, using(crate::proofs::Lists::any_back))]
 fn holds(nodes: &[Node], id: &UpdateId) -> bool
     ensures { result ≡ holds (reverse nodes.now) id.now }
 {
-    nodes.iter().any(|node| same_id(id, &node.id))
+    is_held(nodes, id)
+}
+
+/// Whether a list in the order of arrival has a node of each id.
+fn all_held(nodes: &[Node], ids: &[UpdateId]) -> bool
+    ensures { result ≡ list_all (holds (reverse nodes.now)) ids.now }
+{
+    ids.iter().all(|id| holds(nodes, id))
 }
 
 /// Whether a node is new after others, and each of its predecessors is held.
 fn is_next(older: &[Node], node: &Node) -> bool
     ensures { result ≡ (not (holds (reverse older.now) node.now.id) && list_all (holds (reverse older.now)) node.now.preds) }
 {
-    !holds(older, &node.id) && node.preds.as_slice().iter().all(|id| holds(older, id))
+    !holds(older, &node.id) && all_held(older, node.preds.as_slice())
 }
 
 /// Whether a list in the order of arrival is closed.

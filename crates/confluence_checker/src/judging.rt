@@ -24,7 +24,7 @@ fn judge_next<L: Relation, C: Checks<L>>(
 {
     let ancestors = ancestors_of(alloc, js, node)?;
     let past = effects_among(alloc, js, ancestors.as_slice())?;
-    let verdict = verdict_on(alloc, schema, native, past, node)?;
+    let verdict = verdict_on(alloc, schema, native, &past, node)?;
     Ok(JudgedNode {
         node: node.copy(alloc)?,
         ancestors,

@@ -10,7 +10,7 @@ ghost use Rattle.schema.specs.Verdicts.{at_most_holds, in_table, limits_hold, un
 use crate::inserted_row::InsertedRow;
 use crate::values::compare_at;
 use row_check::Cmp;
-use schema::{Schema, UniqueRule};
+use schema::{Schema, TableDef, UniqueRule};
 
 /// How many rows of a table are equal to this one in a column.
 fn equal_count(rows: &[InsertedRow], table: u8, column: u8, row: &InsertedRow) -> usize
@@ -61,15 +61,20 @@ fn uniques_hold(rows: &[InsertedRow], table: u8, uniques: &[UniqueRule]) -> bool
         .all(|rule| unique_holds(rows, table, rule.column))
 }
 
+/// Whether every `UNIQUE` and the `ATMOST` of a table holds.
+fn limits_of(rows: &[InsertedRow], number: u8, table: &TableDef) -> bool
+    ensures { result ≡ (list_all (λ rule. unique_holds rows.now number rule.column) table.now.uniques && at_most_holds rows.now number table.now.at_most) }
+{
+    uniques_hold(rows, number, table.uniques.as_slice())
+        && at_most_holds(rows, number, table.at_most)
+}
+
 /// Whether every `UNIQUE` and `ATMOST` of a schema holds.
 pub(crate) fn limits_hold(schema: &Schema, rows: &[InsertedRow]) -> bool
     ensures { result ≡ limits_hold rows.now 0 schema.now.tables }
 {
     for number in 0..schema.tables() {
-        let table = schema.table(number);
-        if !uniques_hold(rows, number, table.uniques.as_slice())
-            || !at_most_holds(rows, number, table.at_most)
-        {
+        if !limits_of(rows, number, schema.table(number)) {
             return false;
         }
     }

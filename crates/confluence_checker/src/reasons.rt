@@ -17,7 +17,7 @@ use crate::references::{references_stand, restricts};
 use crate::values::{columns_of, compare_at, is_deletable, is_owned};
 use expression_text::{kinds_fit_rows, trees_hold};
 use row_check::{Checks, Native, Relation, eval};
-use schema::{CheckRule, Column, MatchRule, Schema, fits_column};
+use schema::{CheckRule, Column, MatchRule, Schema, TableDef, fits_column};
 use std::alloc::{AllocError, Global};
 use update_model::{AuthorKey, RowName, Value};
 
@@ -82,6 +82,26 @@ fn checks_hold<L: Relation, C: Checks<L>>(
     }
 }
 
+/// Whether every `CHECK` of a table is true of a row that fits.
+fn table_checks_hold<L: Relation, C: Checks<L>>(
+    alloc: Global,
+    native: &Native<L, C>,
+    table: &TableDef,
+    values: &[Value],
+) -> Result<bool, AllocError>
+    requires sound { AllByRecursion (IsSoundCheck table.now.columns) table.now.checks }
+    requires fits { IsTrue (all_fit table.now.columns values.now) }
+    ensures { IfOk result (λ answer. answer ≡ checks_hold L.answer values.now table.now.checks) }
+{
+    checks_hold(
+        alloc,
+        native,
+        table.columns.as_slice(),
+        table.checks.as_slice(),
+        values,
+    )
+}
+
 /// Whether a row with this name among these compares as a `MATCH` says.
 pub(crate) fn has_match(
     rows: &[InsertedRow],
@@ -103,8 +123,21 @@ pub(crate) fn has_match(
     })
 }
 
-/// Whether a `MATCH` is true of a row beside these, which are newer and older ones.
+/// The same among newer and older ones.
 #[tactic(auto, using(crate::proofs::Either::rows_either))]
+fn has_match_in(
+    newer: &[InsertedRow],
+    older: &[InsertedRow],
+    values: &[Value],
+    rule: &MatchRule,
+    name: &RowName,
+) -> bool
+    ensures { result ≡ list_any (λ target. same_row target.name name.now && compares rule.now.cmp (value_at values.now rule.now.column) (value_at target.values rule.now.target_column)) (newer.now ++ older.now) }
+{
+    has_match(newer, values, rule, name) || has_match(older, values, rule, name)
+}
+
+/// Whether a `MATCH` is true of a row beside these, which are newer and older ones.
 fn match_holds(
     newer: &[InsertedRow],
     older: &[InsertedRow],
@@ -114,9 +147,7 @@ fn match_holds(
     ensures { result ≡ matches_among (newer.now ++ older.now) values.now rule.now (value_at values.now rule.now.reference) }
 {
     match values.get(usize::from(rule.reference)) {
-        Some(Value::Row(name)) => {
-            has_match(newer, values, rule, name) || has_match(older, values, rule, name)
-        }
+        Some(Value::Row(name)) => has_match_in(newer, older, values, rule, name),
         _ => true,
     }
 }
@@ -156,7 +187,7 @@ pub(crate) fn insert_reason<L: Relation, C: Checks<L>>(
     if !all_fit(columns, values) {
         return Ok(Some(2));
     }
-    if !checks_hold(alloc, native, columns, table.checks.as_slice(), values)? {
+    if !table_checks_hold(alloc, native, table, values)? {
         return Ok(Some(3));
     }
     if !references_stand(columns, values, newer, older) {

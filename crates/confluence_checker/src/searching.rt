@@ -137,8 +137,9 @@ fn among_checks<L: Relation, C: Checks<L>>(
     ensures { IfOk result (λ found. found ≡ found_among (rules_by L.answer schema.now.tables) rows.now which.now (each_from (check_declared number) 0 table.now.checks) before) }
 {
     let columns = table.columns.as_slice();
+    let checks = table.checks.as_slice();
     let mut found = before;
-    for (place, check) in table.checks.as_slice().iter().enumerate() {
+    for (place, check) in checks.iter().enumerate() {
         let wanted = is_at(which, InvariantKind::Check, number, place, check.line);
         let holds = check_holds(alloc, schema, native, rows, number, columns, check)?;
         found = found.seen(wanted, holds);

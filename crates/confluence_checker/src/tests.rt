@@ -1,1 +1,44 @@
-//! Worked lists.
+//! Worked lists: what tables show, and which counterexamples confirm.
+
+ghost use Rattle.std.specs.Prelude.{IfSome};
+ghost use Rattle.confluence_checker.specs.Forms.{IsInvariantOf, rules_by};
+
+use crate::ids::is_closed;
+use crate::{TableList, confirms, tables_of};
+use row_check::{Luhn, Native};
+use schema::{
+    Counterexample, Invariant, InvariantKind, NodeList, Schema, SchemaError, read_schema,
+};
+use std::alloc::{AllocError, Global};
+use std::test::Fail;
+use update_model::{AuthorKey, IdList, Node, Op, OpList, RowName, UpdateId, Value, ValueList};
+
+/// A table whose rows may be deleted, and one with a reference that is shown as null then.
+const PAIR: &str =
+    "DATABASE d\nTABLE a DELETABLE\nCOLUMN n INT 0 9\nSAMPLE 5\nTABLE b\nCOLUMN n INT 0 9\n\
+REF a a SETNULL NULL\nSAMPLE 3\n";
+
+/// At most one row.
+const SINGLE: &str = "DATABASE d\nTABLE t\nCOLUMN n INT 0 9\nATMOST 1\nSAMPLE 5\n";
+
+/// The id of the update with this number.
+fn numbered(number: u8) -> UpdateId {
+    UpdateId([number; 32])
+}
+
+/// An update of these operations, after those with these numbers.
+fn node(alloc: Global, number: u8, preds: Vec<UpdateId>, ops: Vec<Op>) -> Node
+    requires { length ops.items ≤ 256 }
+{
+    Node {
+        id: numbered(number),
+        preds: IdList::from_vec(preds),
+        author: AuthorKey {
+            lms: 5,
+            ots: 4,
+            ident: [0; 16],
+            root: [0; 32],
+        },
+        ops: OpList::from_vec(ops),
+    }
+}

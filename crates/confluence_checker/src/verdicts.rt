@@ -52,14 +52,14 @@ fn reason_against<L: Relation, C: Checks<L>>(
 fn verdict_at_end(
     alloc: Global,
     schema: &Schema,
-    past: RowEffects,
+    past: &RowEffects,
     did: RowEffects,
     number: usize,
 ) -> Result<Verdict, AllocError>
     requires { number < 65536 }
-    ensures { IfOk result (λ verdict. (ask : Meaning) (node : NodeData) (rows : List TableRow) → verdict ≡ verdict_after (rules_by ask schema.now.tables) past rows node number did []) }
+    ensures { IfOk result (λ verdict. (ask : Meaning) (node : NodeData) (rows : List TableRow) → verdict ≡ verdict_after (rules_by ask schema.now.tables) past.now rows node number did []) }
 {
-    let both = did.joined(past)?;
+    let both = did.joined(past.copy(alloc)?)?;
     let rows = visible_rows(alloc, schema, &both)?;
     Ok(if limits_hold(schema, rows.as_slice()) {
         Verdict::Valid
@@ -76,16 +76,17 @@ pub(crate) fn verdict_on<L: Relation, C: Checks<L>>(
     alloc: Global,
     schema: &Schema,
     native: &Native<L, C>,
-    past: RowEffects,
+    past: &RowEffects,
     node: &Node,
 ) -> Result<Verdict, AllocError>
-    ensures { IfOk result (λ verdict. verdict ≡ verdict_on (rules_by L.answer schema.now.tables) past node.now) }
+    ensures { IfOk result (λ verdict. verdict ≡ verdict_on (rules_by L.answer schema.now.tables) past.now node.now) }
 {
     verdict_goes_by_operations();
     let count = op_count(node);
-    let rows = visible_rows(alloc, schema, &past)?;
+    let rows = visible_rows(alloc, schema, past)?;
+    let ops = node.ops.as_slice();
     let mut did = RowEffects::nothing(alloc);
-    for (number, op) in node.ops.as_slice().iter().enumerate() {
+    for (number, op) in ops.iter().enumerate() {
         if let Some(reason) = reason_against(
             alloc,
             schema,

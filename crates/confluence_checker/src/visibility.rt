@@ -1,13 +1,11 @@
 //! Which rows are visible, and what they show.
 
-ghost use Rattle.std.specs.Prelude.{◌≡◌, ℕ, IfOk, OnOk, length, map, filter, ◌++◌, ◌∷◌, []};
+ghost use Rattle.std.specs.Prelude.{◌≡◌, IfOk, OnOk, map, filter, ◌++◌, ◌&&◌};
 ghost use Rattle.std.specs.List.{list_all, list_any};
-ghost use Rattle.update_model.specs.declared.row_name.RowName.{RowName};
 ghost use Rattle.schema.specs.Schemas.{Meaning};
-ghost use Rattle.schema.specs.Visible.{cascade_refs, is_nulled, is_visible, same_row, shown, shown_rows, shown_value, shown_values, shows, visible_rows, visible_to};
-ghost use Rattle.schema.specs.Columns.{target_of};
+ghost use Rattle.schema.specs.Visible.{cascade_refs, same_row, shown_rows, shows, visible_rows};
 ghost use Rattle.confluence_checker.specs.Forms.{is_among, rules_by, rules_of};
-ghost use Rattle.confluence_checker.specs.Seeing.{SeesTo, SeesAll, shown_by, shown_values_by, shown_row_by};
+ghost use Rattle.confluence_checker.specs.Seeing.{SeesAll, is_hidden, shown_by, shown_values_by, shown_row_by};
 
 use crate::ids::{is_among, same_row};
 use crate::inserted_row::InsertedRow;
@@ -26,6 +24,13 @@ pub(crate) fn shows(schema: &Schema, did: &RowEffects, seen: &[RowName], name: &
     is_inserted(schema, did.inserted(), seen, name) && !did.is_deleted(name)
 }
 
+/// Whether each row that a row names by `CASCADE` is seen.
+fn needs_are_seen(schema: &Schema, row: &InsertedRow, seen: &[RowName]) -> bool
+    ensures { result ≡ list_all (λ r. is_among seen.now r.name) (cascade_refs (rules_of schema.now.tables) row.now) }
+{
+    cascades_seen(columns_of(schema, row.table), row.values.as_slice(), seen)
+}
+
 /// Whether a row was inserted, each row that it names by `CASCADE` being seen.
 fn is_inserted(
     schema: &Schema,
@@ -36,8 +41,7 @@ fn is_inserted(
     ensures { result ≡ list_any (λ row. same_row row.name name.now && list_all (λ r. is_among seen.now r.name) (cascade_refs (rules_of schema.now.tables) row)) rows.now }
 {
     rows.iter().any(|row| {
-        same_row(&row.name, name)
-            && cascades_seen(columns_of(schema, row.table), row.values.as_slice(), seen)
+        same_row(&row.name, name) && needs_are_seen(schema, row, seen)
     })
 }
 
@@ -48,15 +52,13 @@ fn shown_names(
     did: &RowEffects,
     seen: &[RowName],
 ) -> Result<Vec<RowName>, AllocError>
-    ensures { IfOk result (λ names. (name : RowName) → is_among names.items name ≡ shows (rules_of schema.now.tables) did.now (is_among seen.now) name) }
+    ensures { IfOk result (λ names. names.items ≡ map (λ row. row.name) (filter (λ row. shows (rules_of schema.now.tables) did.now (is_among seen.now) row.name) did.now.inserted)) }
 {
-    let mut names = Vec::new(alloc);
-    for row in did.inserted() {
-        if shows(schema, did, seen, &row.name) {
-            names.push(row.name)?;
-        }
-    }
-    Ok(names)
+    did.inserted()
+        .iter()
+        .filter(|row| shows(schema, did, seen, &row.name))
+        .map(|row| row.name)
+        .collect(alloc)
 }
 
 /// The names of the rows that are visible. References are followed as deep as the rows are many.
@@ -67,8 +69,9 @@ pub(crate) fn visible_names(
 ) -> Result<Vec<RowName>, AllocError>
     ensures { IfOk result (λ names. SeesAll schema.now.tables did.now names.items) }
 {
+    let count = did.inserted().len();
     let mut seen = Vec::new(alloc);
-    for _ in did.inserted() {
+    for _depth in 0..count {
         seen = shown_names(alloc, schema, did, seen.as_slice())?;
     }
     Ok(seen)
@@ -131,6 +134,42 @@ fn is_hidden(seen: &[RowName], kind: &ColumnKind, value: &Value) -> bool
     }
 }
 
+/// Puts what values show, each in its column, at the end of a list.
+fn push_shown(
+    alloc: Global,
+    shown: &mut Vec<Value>,
+    seen: &[RowName],
+    columns: &[Column],
+    values: &[Value],
+) -> Result<(), AllocError>
+    ensures { OnOk result (shown.new.items ≡ shown.old.items ++ shown_values_by seen.now columns.now values.now) }
+{
+    match columns {
+        [] => push_values(alloc, shown, values),
+        [column, columns @ ..] => match values {
+            [] => Ok(()),
+            [value, values @ ..] => {
+                shown.push(shown_value(alloc, seen, &column.kind, value)?)?;
+                push_shown(alloc, shown, seen, columns, values)
+            }
+        },
+    }
+}
+
+/// Puts equal values at the end of a list.
+fn push_values(
+    alloc: Global,
+    list: &mut Vec<Value>,
+    values: &[Value],
+) -> Result<(), AllocError>
+    ensures { OnOk result (list.new.items ≡ list.old.items ++ values.now) }
+{
+    for value in values {
+        list.push(value.copy(alloc)?)?;
+    }
+    Ok(())
+}
+
 /// What values show, each in its column.
 fn shown_values(
     alloc: Global,
@@ -141,13 +180,7 @@ fn shown_values(
     ensures { IfOk result (λ shown. shown ≡ shown_values_by seen.now columns.now values.now) }
 {
     let mut shown = Vec::with_capacity(alloc, values.len())?;
-    for (number, value) in values.iter().enumerate() {
-        let next = match columns.get(number) {
-            Some(column) => shown_value(alloc, seen, &column.kind, value)?,
-            None => value.copy(alloc)?,
-        };
-        shown.push(next)?;
-    }
+    push_shown(alloc, &mut shown, seen, columns, values)?;
     Ok(ValueList::from_vec(shown))
 }
 
