@@ -71,9 +71,9 @@ sees_deeper tables did depth seen names sees is ask name =
     ∙ ap (λ (k : ℕ). visible_to (rules_by ask tables) did k name) (sym (add-one depth))
 
 -- nothing is seen where no reference is followed
-pub sees_nothing : (tables : List TableDef) (did : Effects) → SeesTo tables did 0 []
+pub sees_nothing : (tables : List TableDef) (did : Effects) (names : List RowName) → names ≡ [] → SeesTo tables did 0 names
 unfolding visible_to
-sees_nothing tables did ask name = refl
+sees_nothing tables did names none ask name = ap (λ (l : List RowName). is_among l name) none
 
 -- the rows that are seen
 pub visible_seen : (tables : List TableDef) (did : Effects) (seen : List RowName) (rows : List TableRow) → SeesAll tables did seen

@@ -54,7 +54,8 @@ fn found_in<L: Relation, C: Checks<L>>(
     let js = judged(alloc, schema, native, nodes)?;
     let did = effects(alloc, js.as_slice())?;
     let rows = shown_rows(alloc, schema, &did)?;
-    found(alloc, schema, native, rows.as_slice(), which)
+    let answer = found(alloc, schema, native, rows.as_slice(), which)?;
+    Ok(answer)
 }
 
 /// Whether the wanted invariant was found to hold, and those before it.

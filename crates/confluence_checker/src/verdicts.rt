@@ -3,9 +3,9 @@
 ghost use Rattle.std.specs.Prelude.{◌≡◌, ◌<◌, IfOk, List, []};
 ghost use Rattle.update_model.specs.Node.{NodeData};
 ghost use Rattle.schema.specs.Schemas.{Meaning};
-ghost use Rattle.schema.specs.Verdicts.{limits_hold, joined, nothing, verdict_after, verdict_on};
-ghost use Rattle.schema.specs.Visible.{TableRow, visible_rows};
-ghost use Rattle.confluence_checker.specs.Forms.{reason_against, rules_by};
+ghost use Rattle.schema.specs.Verdicts.{delete_reason, verdict_after, verdict_on};
+ghost use Rattle.schema.specs.Visible.{TableRow};
+ghost use Rattle.confluence_checker.specs.Forms.{reason_against, rules_by, rules_of};
 
 use crate::effects::{do_op, op_count, row_inserted};
 use crate::inserted_row::InsertedRow;
@@ -16,7 +16,20 @@ use crate::visibility::visible_rows;
 use row_check::{Checks, Native, Relation};
 use schema::{Schema, Verdict, verdict_goes_by_operations};
 use std::alloc::{AllocError, Global};
-use update_model::{Node, Op};
+use update_model::{Node, Op, RowName};
+
+/// Why a row may not be deleted, where these rows are visible on the ancestors and earlier operations did this.
+fn reason_against_deletion(
+    schema: &Schema,
+    rows: &[InsertedRow],
+    node: &Node,
+    did: &RowEffects,
+    name: &RowName,
+) -> Option<u8>
+    ensures { result ≡ delete_reason (rules_of schema.now.tables) rows.now did.now.deleted node.now.author name.now }
+{
+    delete_reason(schema, rows, did.deleted(), &node.author, name)
+}
 
 /// Why an operation with this number may not be done, where these rows are visible on the ancestors and earlier operations
 /// did this.
@@ -38,13 +51,7 @@ fn reason_against<L: Relation, C: Checks<L>>(
             let row = row_inserted(alloc, node, number, *table, values)?;
             insert_reason(alloc, schema, native, did.inserted(), rows, &row)
         }
-        Op::Delete { row } => Ok(delete_reason(
-            schema,
-            rows,
-            did.deleted(),
-            &node.author,
-            row,
-        )),
+        Op::Delete { row } => Ok(reason_against_deletion(schema, rows, node, did, row)),
     }
 }
 
@@ -104,5 +111,6 @@ pub(crate) fn verdict_on<L: Relation, C: Checks<L>>(
         }
         did = do_op(alloc, node, number, did, op)?;
     }
-    verdict_at_end(alloc, schema, past, did, count)
+    let verdict = verdict_at_end(alloc, schema, past, did, count)?;
+    Ok(verdict)
 }

@@ -86,7 +86,8 @@ pub(crate) fn visible_rows(
     ensures { IfOk result (λ rows. (ask : Meaning) → rows.items ≡ visible_rows (rules_by ask schema.now.tables) did.now) }
 {
     let seen = visible_names(alloc, schema, did)?;
-    rows_among(alloc, did.inserted(), seen.as_slice())
+    let rows = rows_among(alloc, did.inserted(), seen.as_slice())?;
+    Ok(rows)
 }
 
 /// Those of these rows whose names are seen.
@@ -194,7 +195,8 @@ pub(crate) fn shown_rows(
 {
     let seen = visible_names(alloc, schema, did)?;
     let visible = rows_among(alloc, did.inserted(), seen.as_slice())?;
-    shown_among(alloc, schema, visible.as_slice(), seen.as_slice())
+    let shown = shown_among(alloc, schema, visible.as_slice(), seen.as_slice())?;
+    Ok(shown)
 }
 
 /// These rows, with what their values show.
