@@ -1,6 +1,7 @@
 -- What is found of the wanted invariant, and whether a counterexample confirms.
 use Rattle.std.proofs.Common.{◌≡◌, Bool, true, false, not, ◌&&◌, cond, List, [], ◌∷◌, ◌++◌, map, reverse, refl, sym, ap, ◌∙◌, subst, Option, Some, None}
 use Rattle.std.specs.List.{list_all, AllByRecursion}
+use Rattle.std.proofs.lemmas.Bool.{and_parts}
 use Rattle.std.proofs.lemmas.List.{reverse-append}
 use Rattle.std.proofs.lemmas.List.Folds.{list_all-append, list_all-map}
 use Rattle.update_model.specs.Node.{NodeData}
@@ -8,9 +9,11 @@ use Rattle.schema.specs.declared.counterexample.Counterexample.{Counterexample}
 use Rattle.schema.specs.declared.invariant.Invariant.{Invariant}
 use Rattle.schema.specs.Confluence.{breaks, confirms, is_closed}
 use Rattle.schema.specs.Invariants.{Claim, Declared, claim_holds, claims_of, invariants_of, satisfies, shown_in}
+use Rattle.schema.specs.Nodes.{IsClosed}
 use Rattle.schema.specs.Visible.{Rules, TableRow}
+use Rattle.schema.proofs.Confirmed.{closed_from_test}
 use Rattle.confluence_checker.specs.declared.found.Found.{Found}
-use Rattle.confluence_checker.specs.Forms.{found_among, is_broken, is_kept, is_same, seen, start}
+use Rattle.confluence_checker.specs.Forms.{breaks_by, found_among, is_broken, is_kept, is_same, seen, start}
 use Rattle.confluence_checker.proofs.Goings.{found_append}
 use Rattle.confluence_checker.proofs.Splits.{Apart, Differ, earlier_differ, invariants_apart, same_itself}
 
@@ -75,11 +78,32 @@ union_of base left right one nodes first is = ap reverse is ∙ reverse-append o
 -- what confirms, by the lists that are looked at
 pub confirms_by : (rules : Rules) (earlier : List Claim) (claim : Claim) (example : Counterexample) (left right both : List NodeData)
     → left ≡ example.base ++ example.left → right ≡ example.base ++ example.right → both ≡ left ++ example.right
-    → (is_closed (reverse left) && is_closed (reverse right) && is_closed (reverse both) && satisfies rules (reverse left) (earlier ++ claim ∷ []) && satisfies rules (reverse right) (earlier ++ claim ∷ [])
-        && not (claim_holds rules (shown_in rules (reverse both)) claim)) ≡ confirms rules earlier claim example
+    → breaks_by rules earlier claim left right both ≡ confirms rules earlier claim example
 confirms_by rules earlier claim example left right both l r b =
     let x = sides example.base example.left left l in
     let y = sides example.base example.right right r in
     let z = union_of example.base example.left example.right left both l b in
     λ i. is_closed (x i) && is_closed (y i) && is_closed (z i) && satisfies rules (x i) (earlier ++ claim ∷ []) && satisfies rules (y i) (earlier ++ claim ∷ [])
       && not (claim_holds rules (shown_in rules (z i)) claim)
+
+pub closed_sides : (left right both : List NodeData) → (is_closed (reverse left) && is_closed (reverse right) && is_closed (reverse both)) ≡ true
+    → IsClosed (reverse left) × IsClosed (reverse right) × IsClosed (reverse both)
+closed_sides left right both h =
+    let two = and_parts (is_closed (reverse left) && is_closed (reverse right)) (is_closed (reverse both)) h in
+    let one = and_parts (is_closed (reverse left)) (is_closed (reverse right)) two.0 in
+    (closed_from_test (reverse left) one.0, closed_from_test (reverse right) one.1, closed_from_test (reverse both) two.1)
+
+-- what is found in closed lists
+pub breaks_found : (rules : Rules) (which : Invariant) (earlier later : List Declared) (d : Declared) (left right both : List NodeData) (x y z : Found)
+    → invariants_of rules ≡ earlier ++ d ∷ later → d.which ≡ which
+    → (is_closed (reverse left) && is_closed (reverse right) && is_closed (reverse both)) ≡ true
+    → x ≡ found_among rules (shown_in rules (reverse left)) which (invariants_of rules) start → y ≡ found_among rules (shown_in rules (reverse right)) which (invariants_of rules) start
+    → z ≡ found_among rules (shown_in rules (reverse both)) which (invariants_of rules) start
+    → (is_kept x && is_kept y && is_broken z) ≡ breaks_by rules (claims_of earlier) d.claim left right both
+breaks_found rules which earlier later d left right both x y z split same closed hx hy hz =
+    let kx = kept_is rules (shown_in rules (reverse left)) which earlier later d x split same hx in
+    let ky = kept_is rules (shown_in rules (reverse right)) which earlier later d y split same hy in
+    let kz = broken_is rules (shown_in rules (reverse both)) which earlier later d z split same hz in
+    (λ i. kx i && ky i && kz i)
+    ∙ sym (ap (λ (b : Bool). b && satisfies rules (reverse left) (claims_of earlier ++ d.claim ∷ []) && satisfies rules (reverse right) (claims_of earlier ++ d.claim ∷ [])
+      && not (claim_holds rules (shown_in rules (reverse both)) d.claim)) closed)

@@ -8,10 +8,11 @@ use Rattle.update_model.specs.declared.update_id.UpdateId.{UpdateId}
 use Rattle.update_model.specs.Graph.{has}
 use Rattle.update_model.specs.Node.{NodeData}
 use Rattle.schema.specs.declared.invariant.Invariant.{Invariant}
+use Rattle.schema.specs.Confluence.{is_closed}
 use Rattle.schema.specs.declared.invariant.InvariantKind.{InvariantKind}
 use Rattle.schema.specs.declared.invariant.InvariantKind.TheVariants as kind
 use Rattle.schema.specs.declared.table_def.TableDef.{TableDef}
-use Rattle.schema.specs.Invariants.{Declared, claim_holds, invariants_of}
+use Rattle.schema.specs.Invariants.{Claim, Declared, claim_holds, invariants_of, satisfies, shown_in}
 use Rattle.schema.specs.Schemas.{Meaning}
 use Rattle.schema.specs.Verdicts.{Judged, insert_reason, delete_reason, row_inserted, all_fit}
 use Rattle.schema.specs.Visible.{Rules, TableRow, Effects, same_row, table_of}
@@ -104,3 +105,11 @@ is_kept found = found.earlier && holds_there found.here
 -- whether the wanted invariant was found not to hold
 abbrev pub is_broken : Found → Bool
 is_broken found = fails_there found.here
+
+-- whether two sides and their union, each in the order of arrival, are closed, both sides satisfy the earlier invariants and
+-- this one, and the union breaks this one
+abbrev pub breaks_by : Rules → List Claim → Claim → (left right both : List NodeData) → Bool
+breaks_by rules earlier claim left right both =
+    is_closed (reverse left) && is_closed (reverse right) && is_closed (reverse both)
+    && satisfies rules (reverse left) (earlier ++ claim ∷ []) && satisfies rules (reverse right) (earlier ++ claim ∷ [])
+    && not (claim_holds rules (shown_in rules (reverse both)) claim)

@@ -4,7 +4,7 @@ ghost use Rattle.std.specs.Prelude.{◌≡◌, ◌∷◌, ◌++◌, ◌&&◌, Li
 ghost use Rattle.schema.specs.Confluence.{confirms, is_closed};
 ghost use Rattle.schema.specs.Invariants.{Declared, claims_of, invariants_of, shown_in};
 ghost use Rattle.schema.specs.Nodes.{IsClosed};
-ghost use Rattle.confluence_checker.specs.Forms.{IsInvariantOf, found_among, is_broken, is_kept, rules_by, start};
+ghost use Rattle.confluence_checker.specs.Forms.{IsInvariantOf, breaks_by, found_among, is_broken, is_kept, rules_by, start};
 
 use crate::ancestors::effects;
 use crate::found::Found;
@@ -86,6 +86,29 @@ fn is_shown(left: &Found, right: &Found, both: &Found) -> bool
     is_kept(left) && is_kept(right) && is_broken(both)
 }
 
+/// Whether both sides and their union, each in the order of arrival, confirm that merging breaks an invariant.
+fn confirm<L: Relation, C: Checks<L>>(
+    alloc: Global,
+    schema: &Schema,
+    native: &Native<L, C>,
+    which: &Invariant,
+    left: &[Node],
+    right: &[Node],
+    both: &[Node],
+) -> Result<bool, AllocError>
+    ensures { IfOk result (λ answer. let rules = rules_by L.answer schema.now.tables in
+        (earlier later : List Declared) (declared : Declared) → invariants_of rules ≡ earlier ++ declared ∷ later → declared.which ≡ which.now
+        → answer ≡ breaks_by rules (claims_of earlier) declared.claim left.now right.now both.now) }
+{
+    if !are_closed(left, right, both) {
+        return Ok(false);
+    }
+    let on_left = found_in(alloc, schema, native, left, which)?;
+    let on_right = found_in(alloc, schema, native, right, which)?;
+    let on_both = found_in(alloc, schema, native, both, which)?;
+    Ok(is_shown(&on_left, &on_right, &on_both))
+}
+
 /// Whether a counterexample confirms that merging breaks an invariant of a schema: both sides and their union are closed,
 /// each side satisfies this invariant and those before it, and the union breaks this one.
 ///
@@ -107,11 +130,14 @@ pub fn confirms<L: Relation, C: Checks<L>>(
     let left = one_then(alloc, base, example.left.as_slice())?;
     let right = one_then(alloc, base, example.right.as_slice())?;
     let both = one_then(alloc, left.as_slice(), example.right.as_slice())?;
-    if !are_closed(left.as_slice(), right.as_slice(), both.as_slice()) {
-        return Ok(false);
-    }
-    let on_left = found_in(alloc, schema, native, left.as_slice(), which)?;
-    let on_right = found_in(alloc, schema, native, right.as_slice(), which)?;
-    let on_both = found_in(alloc, schema, native, both.as_slice(), which)?;
-    Ok(is_shown(&on_left, &on_right, &on_both))
+    let answer = confirm(
+        alloc,
+        schema,
+        native,
+        which,
+        left.as_slice(),
+        right.as_slice(),
+        both.as_slice(),
+    )?;
+    Ok(answer)
 }

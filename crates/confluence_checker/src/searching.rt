@@ -120,6 +120,29 @@ fn among_references(
     found
 }
 
+/// Looks at a `CHECK` of a table.
+fn at_check<L: Relation, C: Checks<L>>(
+    alloc: Global,
+    schema: &Schema,
+    native: &Native<L, C>,
+    rows: &[InsertedRow],
+    which: &Invariant,
+    number: u8,
+    place: usize,
+    columns: &[Column],
+    check: &CheckRule,
+    before: Found,
+) -> Result<Found, AllocError>
+    requires fits { AllFit schema.now.tables rows.now }
+    requires columns { columns.now ≡ (table_of (rules_of schema.now.tables) number).columns }
+    requires sound { IsSoundCheck columns.now check.now }
+    ensures { IfOk result (λ found. found ≡ found_among (rules_by L.answer schema.now.tables) rows.now which.now (check_declared number place check.now) before) }
+{
+    let holds = check_holds(alloc, schema, native, rows, number, columns, check)?;
+    let wanted = is_at(which, InvariantKind::Check, number, place, check.line);
+    Ok(before.seen(wanted, holds))
+}
+
 /// Goes through the `CHECK` lines of a table.
 fn among_checks<L: Relation, C: Checks<L>>(
     alloc: Global,
@@ -140,14 +163,30 @@ fn among_checks<L: Relation, C: Checks<L>>(
     let checks = table.checks.as_slice();
     let mut found = before;
     for (place, check) in checks.iter().enumerate() {
-        let wanted = is_at(which, InvariantKind::Check, number, place, check.line);
-        let holds = check_holds(alloc, schema, native, rows, number, columns, check)?;
-        found = found.seen(wanted, holds);
+        found = at_check(
+            alloc, schema, native, rows, which, number, place, columns, check, found,
+        )?;
     }
     Ok(found)
 }
 
+/// Looks at a `MATCH` of a table.
+fn at_match(
+    rows: &[InsertedRow],
+    which: &Invariant,
+    number: u8,
+    place: usize,
+    rule: &MatchRule,
+    before: Found,
+) -> Found
+    ensures { (rules : Rules) → result ≡ found_among rules rows.now which.now (match_declared number place rule.now) before }
+{
+    let wanted = is_at(which, InvariantKind::Match, number, place, rule.line);
+    before.seen(wanted, matches_hold(rows, number, rule))
+}
+
 /// Goes through the `MATCH` lines of a table.
+#[tactic(auto, using(crate::proofs::Goings::found_next))]
 fn among_matches(
     rows: &[InsertedRow],
     which: &Invariant,
@@ -159,8 +198,7 @@ fn among_matches(
 {
     let mut found = before;
     for (place, rule) in matches.iter().enumerate() {
-        let wanted = is_at(which, InvariantKind::Match, number, place, rule.line);
-        found = found.seen(wanted, matches_hold(rows, number, rule));
+        found = at_match(rows, which, number, place, rule, found);
     }
     found
 }
@@ -185,7 +223,8 @@ fn in_table<L: Relation, C: Checks<L>>(
     let most = among_at_most(rows, which, number, table, uniques);
     let columns = among_references(rows, which, number, table.columns.as_slice(), most);
     let checks = among_checks(alloc, schema, native, rows, which, number, table, columns)?;
-    Ok(among_matches(rows, which, number, table.matches.as_slice(), checks))
+    let matches = among_matches(rows, which, number, table.matches.as_slice(), checks);
+    Ok(matches)
 }
 
 /// Whether the invariants of a schema before a wanted one hold of shown rows, and whether that one does. All rows fit.

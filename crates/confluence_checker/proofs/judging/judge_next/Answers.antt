@@ -1,8 +1,7 @@
-use Rattle.std.proofs.Common.{List, filter, ap, sym, ◌∙◌}
+use Rattle.std.proofs.Common.{List, filter, ap, ◌∙◌}
 use Rattle.update_model.specs.declared.update_id.UpdateId.{UpdateId}
 use Rattle.update_model.specs.Graph.{has}
-use Rattle.schema.specs.Verdicts.{effects, verdict_on}
-use Rattle.schema.specs.Visible.{Effects}
+use Rattle.schema.specs.Verdicts.{effects}
 use Rattle.confluence_checker.specs.Forms.{newest_first, rules_by}
 use Rattle.confluence_checker.proofs.Newest.{judged_is}
 use Rattle.confluence_checker.proofs.judging.judge_next.Goals as goal
@@ -15,4 +14,4 @@ returns g c =
     judged_is rules js node (record { node = c.in_ok-copy.field-0; ancestors = c.in_ok-ancestors.ancestors; verdict = c.in_ok-verdict.verdict }) c.in_ok-past.past
     c.in_ok-copy.ensures c.in_ok-ancestors.ensures
     (c.in_ok-past.ensures ∙ ap (λ (l : List UpdateId). effects (filter (λ k. has l k.node.id) (newest_first js))) c.as_slice.ensures.value)
-    (c.in_ok-verdict.ensures ∙ ap (λ (did : Effects). verdict_on rules did node) (sym c.past.view_is))
+    c.in_ok-verdict.ensures
