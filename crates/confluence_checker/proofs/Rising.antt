@@ -22,7 +22,7 @@ use Rattle.schema.specs.declared.verdict.Verdict.TheVariants as verdict
 use Rattle.schema.specs.declared.void_line.VoidLine.{VoidLine}
 use Rattle.schema.specs.Invariants.{shown_in}
 use Rattle.schema.specs.Nodes.{holds, IsClosed}
-use Rattle.schema.specs.Tables.{listed, name_cmp, void_line, void_lines}
+use Rattle.schema.specs.Tables.{AreTablesOf, listed, name_cmp, void_line, void_lines}
 use Rattle.schema.specs.Verdicts.{Judged, effects, effects_in, in_table, judge_next, judged}
 use Rattle.schema.specs.Visible.{Rules, TableRow, Effects, same_row, is_visible, shown, shown_rows, visible_rows}
 use Rattle.schema.proofs.Founded.{Founded, founded_closed}
@@ -187,3 +187,18 @@ arrived_distinct lines all is h =
 
 pub arrived_exact : (sorted lines all : List VoidLine) → IsPermutation sorted lines → reverse lines ≡ all → IsPermutation sorted all
 arrived_exact sorted lines all moved is = subst (λ (l : List VoidLine). IsPermutation sorted l) is (IsPermutation-trans sorted lines (reverse lines) moved (IsPermutation-reverse lines))
+
+-- the tables of a closed list, and its lines
+pub tables_are : (rules : Rules) (nodes : List NodeData) (tables : List (List ShownRow)) (lines sorted : List VoidLine) (rows : List TableRow) → rows ≡ shown_in rules nodes
+    → AreLists (length rules.tables) rows tables → reverse lines ≡ void_lines (judged rules nodes) → IsStrictlySortedBy id_cmp (map (λ line. line.id) sorted) → IsPermutation sorted lines
+    → AreTablesOf rules nodes tables sorted
+tables_are rules nodes tables lines sorted rows is all arrived rising moved = record {
+  number = all.number;
+  rows = λ number shown h.
+    let one = all.rows_of number shown h in
+    record {
+      rising = one.rising;
+      exact = subst (λ (l : List TableRow). IsPermutation shown (map listed (filter (in_table number) l))) is one.exact;
+    };
+  voids = record { rising = rising; exact = arrived_exact sorted lines (void_lines (judged rules nodes)) moved arrived };
+}

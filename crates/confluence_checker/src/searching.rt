@@ -186,7 +186,6 @@ fn at_match(
 }
 
 /// Goes through the `MATCH` lines of a table.
-#[tactic(auto, using(crate::proofs::Goings::found_next))]
 fn among_matches(
     rows: &[InsertedRow],
     which: &Invariant,

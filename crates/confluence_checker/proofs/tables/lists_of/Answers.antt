@@ -1,4 +1,4 @@
-use Rattle.std.proofs.Common.{List, subst, map, filter}
+use Rattle.std.proofs.Common.{List, [], ◌∷◌, ◌++◌, subst, ap, ◌∙◌, map, filter}
 use Rattle.std.specs.List.Sorted.{IsPermutation}
 use Rattle.schema.specs.declared.shown_row.ShownRow.{ShownRow}
 use Rattle.confluence_checker.proofs.Rising.{listed_distinct, lists_next}
@@ -14,4 +14,4 @@ loop-number-preserved c =
       rising = c.sort_rows.ensures.rising;
       exact = subst (λ (l : List ShownRow). IsPermutation c.sort_rows.result.items l) c.in_ok-shown.ensures c.sort_rows.ensures.exact;
     })
-    ?
+    (c.in_ok-push.ensures.items ∙ ap (λ (s : List ShownRow). c.loop-number.lists.items ++ s ∷ []) c.from_vec.ensures)
