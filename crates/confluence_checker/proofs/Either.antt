@@ -7,7 +7,6 @@ use Rattle.update_model.specs.declared.value.Value.{Value}
 use Rattle.schema.specs.Visible.{TableRow, RowRef, same_row}
 use Rattle.confluence_checker.proofs.Lists.{filter_append}
 
-
 -- every reference that passes a first test passes a second one
 pub cascades_next : (q p : RowRef → Bool) (xs ys : List RowRef) → list_all q (filter p (xs ++ ys)) ≡ (list_all q (filter p xs) && list_all q (filter p ys))
 cascades_next q p xs ys = ap (list_all q) (filter_append p xs ys) ∙ list_all-append q (filter p xs) (filter p ys)

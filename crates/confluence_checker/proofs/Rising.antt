@@ -45,14 +45,14 @@ rising_from_sort key R total xs (y ∷ ys) moved apart sorted =
     let distinct : IsDistinct (eq_by_cmp R) ks = IsDistinct-IsPermutation (eq_by_cmp R) ((eq_by_cmp_equiv total).symm) (map key xs) ks (IsPermutation-map key xs (y ∷ ys) moved) apart in
     sorted_from_all_adjacent total ks d
     (λ k h.
-      let n : length ks ≡ length (y ∷ ys) = length-map (y ∷ ys) key in
-      let low : k + 1 < length (y ∷ ys) = omega arith in
-      let a = get_or-map key (y ∷ ys) k y d (omega arith) in
-      let b = get_or-map key (y ∷ ys) (k + 1) y d low in
-      let not_less : is_lt (R (get_or ks (k + 1) d) (get_or ks k d)) ≡ false = (λ i. is_lt (R (b i) (a i))) ∙ sorted k y (omega arith) low in
-      let not_equal : is_eq (R (get_or ks k d) (get_or ks (k + 1) d)) ≡ false = apart_from_distinct (eq_by_cmp R) ks k (k + 1) d distinct (omega arith) h in
-      let back = total.antisymm (get_or ks k d) (get_or ks (k + 1) d) in
-      back ∙ above (R (get_or ks (k + 1) d) (get_or ks k d)) not_less (sym (ap is_eq back) ∙ not_equal))
+    let n : length ks ≡ length (y ∷ ys) = length-map (y ∷ ys) key in
+    let low : k + 1 < length (y ∷ ys) = omega arith in
+    let a = get_or-map key (y ∷ ys) k y d (omega arith) in
+    let b = get_or-map key (y ∷ ys) (k + 1) y d low in
+    let not_less : is_lt (R (get_or ks (k + 1) d) (get_or ks k d)) ≡ false = (λ i. is_lt (R (b i) (a i))) ∙ sorted k y (omega arith) low in
+    let not_equal : is_eq (R (get_or ks k d) (get_or ks (k + 1) d)) ≡ false = apart_from_distinct (eq_by_cmp R) ks k (k + 1) d distinct (omega arith) h in
+    let back = total.antisymm (get_or ks k d) (get_or ks (k + 1) d) in
+    back ∙ above (R (get_or ks (k + 1) d) (get_or ks k d)) not_less (sym (ap is_eq back) ∙ not_equal))
 
 pub name_cmp_total : IsTotalOrder name_cmp
 name_cmp_total = then_total (on_total (λ (name : RowName). name.update) id_cmp_total) (on_total (λ (name : RowName). name.index) nat_cmp_total)
@@ -70,6 +70,7 @@ number_equal m n = step (nat_lt m n) refl
     inner : (c : Bool) → is_eq (cond c Equal Greater) ≡ c
     inner true = refl
     inner false = refl
+
     step : (b : Bool) → nat_lt m n ≡ b → is_eq (cond b Less (cond (m == n) Equal Greater)) ≡ (m == n)
     step true e = sym (ne_eqb m n (λ same. let low = ltb-true m n e in omega arith))
     step false e = inner (m == n)
@@ -195,10 +196,10 @@ pub tables_are : (rules : Rules) (nodes : List NodeData) (tables : List (List Sh
 tables_are rules nodes tables lines sorted rows is all arrived rising moved = record {
   number = all.number;
   rows = λ number shown h.
-    let one = all.rows_of number shown h in
-    record {
-      rising = one.rising;
-      exact = subst (λ (l : List TableRow). IsPermutation shown (map listed (filter (in_table number) l))) is one.exact;
-    };
+      let one = all.rows_of number shown h in
+      record {
+        rising = one.rising;
+        exact = subst (λ (l : List TableRow). IsPermutation shown (map listed (filter (in_table number) l))) is one.exact;
+      };
   voids = record { rising = rising; exact = arrived_exact sorted lines (void_lines (judged rules nodes)) moved arrived };
 }

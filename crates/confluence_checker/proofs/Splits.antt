@@ -98,7 +98,6 @@ refers_apart : (table place line : ℕ) (o : Option (ℕ × Action)) → Apart (
 refers_apart table place line None = tt
 refers_apart table place line (Some t) = (tt, tt)
 
-
 table_all : (number : ℕ) (table : TableDef) → AllByRecursion (λ d. d.which.table ≡ number) (table_declared number table)
 table_all number table =
     let P : Declared → Type 0 = λ d. d.which.table ≡ number in

@@ -84,7 +84,7 @@ confirms_by rules earlier claim example left right both l r b =
     let y = sides example.base example.right right r in
     let z = union_of example.base example.left example.right left both l b in
     λ i. is_closed (x i) && is_closed (y i) && is_closed (z i) && satisfies rules (x i) (earlier ++ claim ∷ []) && satisfies rules (y i) (earlier ++ claim ∷ [])
-      && not (claim_holds rules (shown_in rules (z i)) claim)
+    && not (claim_holds rules (shown_in rules (z i)) claim)
 
 pub closed_sides : (left right both : List NodeData) → (is_closed (reverse left) && is_closed (reverse right) && is_closed (reverse both)) ≡ true
     → IsClosed (reverse left) × IsClosed (reverse right) × IsClosed (reverse both)
@@ -106,4 +106,4 @@ breaks_found rules which earlier later d left right both x y z split same closed
     let kz = broken_is rules (shown_in rules (reverse both)) which earlier later d z split same hz in
     (λ i. kx i && ky i && kz i)
     ∙ sym (ap (λ (b : Bool). b && satisfies rules (reverse left) (claims_of earlier ++ d.claim ∷ []) && satisfies rules (reverse right) (claims_of earlier ++ d.claim ∷ [])
-      && not (claim_holds rules (shown_in rules (reverse both)) d.claim)) closed)
+    && not (claim_holds rules (shown_in rules (reverse both)) d.claim)) closed)

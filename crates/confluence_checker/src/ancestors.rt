@@ -65,11 +65,7 @@ fn is_valid(verdict: &Verdict) -> bool
 }
 
 /// What older nodes did, and what this one did, where it is valid.
-fn with_node(
-    alloc: Global,
-    j: &JudgedNode,
-    older: RowEffects,
-) -> Result<RowEffects, AllocError>
+fn with_node(alloc: Global, j: &JudgedNode, older: RowEffects) -> Result<RowEffects, AllocError>
     ensures { IfOk result (λ did. did ≡ (if is_valid j.now.verdict then joined (effects_of j.now.node) older else older)) }
 {
     if is_valid(&j.verdict) {

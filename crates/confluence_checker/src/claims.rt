@@ -1,7 +1,6 @@
 //! Whether what an invariant says is true of shown rows.
 
 ghost use Rattle.std.specs.Prelude.{◌≡◌, ◌==◌, ◌||◌, not, IfOk, IsTrue};
-
 ghost use Rattle.row_check.specs.Meaning.{value_at};
 ghost use Rattle.expression_text.specs.Trees.{holds_tree};
 ghost use Rattle.schema.specs.Invariants.{each_row, names_shown};
@@ -32,8 +31,8 @@ fn names_shown(rows: &[InsertedRow], target: u8, values: &[Value], column: usize
 pub(crate) fn refers_holds(rows: &[InsertedRow], table: u8, column: usize, target: u8) -> bool
     ensures { result ≡ each_row rows.now table (λ row. names_shown rows.now target (value_at row.values column)) }
 {
-    rows.iter()
-        .all(|row| row.table != table || names_shown(rows, target, row.values.as_slice(), column))
+    rows.iter().all(|row| row.table != table
+        || names_shown(rows, target, row.values.as_slice(), column))
 }
 
 /// Whether a `MATCH` is true of a row beside these.
@@ -50,8 +49,7 @@ fn match_holds(rows: &[InsertedRow], values: &[Value], rule: &MatchRule) -> bool
 pub(crate) fn matches_hold(rows: &[InsertedRow], table: u8, rule: &MatchRule) -> bool
     ensures { result ≡ each_row rows.now table (λ row. matches_among rows.now row.values rule.now (value_at row.values rule.now.reference)) }
 {
-    rows.iter()
-        .all(|row| row.table != table || match_holds(rows, row.values.as_slice(), rule))
+    rows.iter().all(|row| row.table != table || match_holds(rows, row.values.as_slice(), rule))
 }
 
 /// Whether a `CHECK` is true of a row, which fits, where it is of the table with this number.

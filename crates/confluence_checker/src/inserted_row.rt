@@ -40,10 +40,7 @@ impl InsertedRow {
 }
 
 /// Equal rows in the same order.
-pub(crate) fn copy_rows(
-    alloc: Global,
-    rows: &[InsertedRow],
-) -> Result<Vec<InsertedRow>, AllocError>
+pub(crate) fn copy_rows(alloc: Global, rows: &[InsertedRow]) -> Result<Vec<InsertedRow>, AllocError>
     ensures { IfOk result (λ copies. copies.items ≡ rows.now) }
 {
     let mut copies = Vec::with_capacity(alloc, rows.len())?;

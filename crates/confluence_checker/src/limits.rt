@@ -34,8 +34,7 @@ fn equal_count(rows: &[InsertedRow], table: u8, column: u8, row: &InsertedRow) -
 pub(crate) fn unique_holds(rows: &[InsertedRow], table: u8, column: u8) -> bool
     ensures { result ≡ unique_holds rows.now table column }
 {
-    rows.iter()
-        .all(|row| row.table != table || equal_count(rows, table, column, row) <= 1)
+    rows.iter().all(|row| row.table != table || equal_count(rows, table, column, row) <= 1)
 }
 
 /// Whether a table has at most so many rows, where 0 is no limit.

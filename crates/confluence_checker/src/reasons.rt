@@ -213,17 +213,11 @@ fn same_author(a: &AuthorKey, b: &AuthorKey) -> bool
 fn may_go(schema: &Schema, rows: &[InsertedRow], name: &RowName) -> bool
     ensures { result ≡ list_any (λ row. same_row row.name name.now && (table_of (rules_of schema.now.tables) row.table).deletable) rows.now }
 {
-    rows.iter()
-        .any(|row| same_row(&row.name, name) && is_deletable(schema, row.table))
+    rows.iter().any(|row| same_row(&row.name, name) && is_deletable(schema, row.table))
 }
 
 /// Whether a row with this name is another author's, in a table whose rows only their authors may delete.
-fn is_anothers(
-    schema: &Schema,
-    rows: &[InsertedRow],
-    author: &AuthorKey,
-    name: &RowName,
-) -> bool
+fn is_anothers(schema: &Schema, rows: &[InsertedRow], author: &AuthorKey, name: &RowName) -> bool
     ensures { result ≡ list_any (λ row. same_row row.name name.now && (table_of (rules_of schema.now.tables) row.table).owned && not (same_author row.author author.now)) rows.now }
 {
     rows.iter().any(|row| {
@@ -237,13 +231,7 @@ fn is_anothers(
 fn is_restricted(schema: &Schema, rows: &[InsertedRow], name: &RowName) -> bool
     ensures { result ≡ list_any (λ row. list_any (λ r. is_restrict r.action && same_row r.name name.now) (refs (rules_of schema.now.tables) row)) rows.now }
 {
-    rows.iter().any(|row| {
-        restricts(
-            columns_of(schema, row.table),
-            row.values.as_slice(),
-            name,
-        )
-    })
+    rows.iter().any(|row| { restricts(columns_of(schema, row.table), row.values.as_slice(), name) })
 }
 
 /// Why this author may not delete a name, where these rows are visible on the ancestors and the update has deleted these

@@ -2,8 +2,8 @@ ghost use Rattle.std.specs.Prelude.{◌≡◌, ◌∷◌, IfOk, OnOk};
 ghost use Rattle.schema.specs.Verdicts.{nothing, joined};
 ghost use Rattle.schema.specs.Visible.{is_deleted};
 
-use crate::inserted_row::{InsertedRow, copy_rows};
 use crate::ids::is_among;
+use crate::inserted_row::{InsertedRow, copy_rows};
 use std::alloc::{AllocError, Global};
 use std::marker::Model;
 use update_model::RowName;

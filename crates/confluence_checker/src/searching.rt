@@ -33,13 +33,7 @@ fn kind_number(kind: InvariantKind) -> u8
 }
 
 /// Whether a wanted invariant is the one at this place.
-fn is_at(
-    which: &Invariant,
-    kind: InvariantKind,
-    table: u8,
-    place: usize,
-    line: u32,
-) -> bool
+fn is_at(which: &Invariant, kind: InvariantKind, table: u8, place: usize, line: u32) -> bool
     ensures { result ≡ is_same (record { kind = kind; table = table; place = place; line = line }) which.now }
 {
     kind_number(kind) == kind_number(which.kind)

@@ -70,11 +70,7 @@ fn void_lines(alloc: Global, js: &[JudgedNode]) -> Result<Vec<VoidLine>, AllocEr
 }
 
 /// The rows of each table.
-fn lists_of(
-    alloc: Global,
-    schema: &Schema,
-    rows: &[InsertedRow],
-) -> Result<RowLists, AllocError>
+fn lists_of(alloc: Global, schema: &Schema, rows: &[InsertedRow]) -> Result<RowLists, AllocError>
     requires { HasDistinctRows rows.now }
     ensures { IfOk result (λ lists. AreLists (length schema.now.tables) rows.now lists) }
 {

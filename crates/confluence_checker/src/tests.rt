@@ -1,6 +1,7 @@
 //! Worked lists: what tables show, and which counterexamples confirm.
 
-ghost use Rattle.std.specs.Prelude.{IfSome};
+ghost use Rattle.std.specs.Prelude.{◌≤◌, length, IfSome};
+ghost use Rattle.schema.specs.Schemas.{Meaning};
 ghost use Rattle.confluence_checker.specs.Forms.{IsInvariantOf, rules_by};
 
 use crate::ids::is_closed;
@@ -26,11 +27,15 @@ fn numbered(number: u8) -> UpdateId {
     UpdateId([number; 32])
 }
 
-/// An update of these operations, after those with these numbers.
-fn node(alloc: Global, number: u8, preds: Vec<UpdateId>, ops: Vec<Op>) -> Node
-    requires { length ops.items ≤ 256 }
-{
-    Node {
+/// An update of one operation, after another one, if any.
+fn node(alloc: Global, number: u8, pred: Option<u8>, op: Op) -> Result<Node, AllocError> {
+    let mut preds = Vec::new(alloc);
+    if let Some(pred) = pred {
+        preds.push(numbered(pred))?;
+    }
+    let mut ops = Vec::new(alloc);
+    ops.push(op)?;
+    Ok(Node {
         id: numbered(number),
         preds: IdList::from_vec(preds),
         author: AuthorKey {
@@ -40,5 +45,5 @@ fn node(alloc: Global, number: u8, preds: Vec<UpdateId>, ops: Vec<Op>) -> Node
             root: [0; 32],
         },
         ops: OpList::from_vec(ops),
-    }
+    })
 }

@@ -32,17 +32,10 @@ fn needs_are_seen(schema: &Schema, row: &InsertedRow, seen: &[RowName]) -> bool
 }
 
 /// Whether a row was inserted, each row that it names by `CASCADE` being seen.
-fn is_inserted(
-    schema: &Schema,
-    rows: &[InsertedRow],
-    seen: &[RowName],
-    name: &RowName,
-) -> bool
+fn is_inserted(schema: &Schema, rows: &[InsertedRow], seen: &[RowName], name: &RowName) -> bool
     ensures { result ≡ list_any (λ row. same_row row.name name.now && list_all (λ r. is_among seen.now r.name) (cascade_refs (rules_of schema.now.tables) row)) rows.now }
 {
-    rows.iter().any(|row| {
-        same_row(&row.name, name) && needs_are_seen(schema, row, seen)
-    })
+    rows.iter().any(|row| { same_row(&row.name, name) && needs_are_seen(schema, row, seen) })
 }
 
 /// The names of the rows that are visible where these are seen.
@@ -158,11 +151,7 @@ fn push_shown(
 }
 
 /// Puts equal values at the end of a list.
-fn push_values(
-    alloc: Global,
-    list: &mut Vec<Value>,
-    values: &[Value],
-) -> Result<(), AllocError>
+fn push_values(alloc: Global, list: &mut Vec<Value>, values: &[Value]) -> Result<(), AllocError>
     ensures { OnOk result (list.new.items ≡ list.old.items ++ values.now) }
 {
     for value in values {

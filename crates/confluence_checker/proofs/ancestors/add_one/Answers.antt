@@ -6,4 +6,4 @@ use Rattle.confluence_checker.proofs.ancestors.add_one.Goals as goal
 
 pub returns-then-has : goal.returns-then-has
 returns-then-has c = λ other.
-  there_one c.args.ids.now.items c.args.id.now (ap (λ (l : List UpdateId). has l c.args.id.now) (sym c.as_slice.ensures.value) ∙ sym c.has.ensures ∙ c.if-has.true) other
+    there_one c.args.ids.now.items c.args.id.now (ap (λ (l : List UpdateId). has l c.args.id.now) (sym c.as_slice.ensures.value) ∙ sym c.has.ensures ∙ c.if-has.true) other
