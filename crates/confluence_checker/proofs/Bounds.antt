@@ -23,9 +23,6 @@ pub sound_checks : (tables : List TableDef) → AreTables [] tables → (number 
 sound_checks tables all number table at =
     subst (λ (t : TableDef). AllByRecursion (IsSoundCheck t.columns) t.checks) (ap (λ (o : Option TableDef). unwrap_or o missing_table) at) (sound_tables (rules_of tables) all number).checks
 
-pub table_is : (tables : List TableDef) (number : ℕ) (table : TableDef) → slice_get tables number ≡ Some table → table ≡ table_of (rules_of tables) number
-table_is tables number table at = sym (ap (λ (o : Option TableDef). unwrap_or o missing_table) at)
-
 -- whether the limits of a table hold
 abbrev pub limits_of : List TableRow → ℕ → TableDef → Bool
 limits_of rows number table = list_all (λ rule. unique_holds rows number rule.column) table.uniques && at_most_holds rows number table.at_most

@@ -15,44 +15,6 @@ use Rattle.schema.specs.Verdicts.{all_fit, fits, fits_kind}
 use Rattle.schema.proofs.Sampled.{fits_from}
 use Rattle.confluence_checker.proofs.Same.{one_truth}
 
-kind_says : (k : ColumnKind) (v : Value) → fits_kind k v ≡ true → FitsKind k v
-kind_says (kind.Int lo hi) value.Null h = absurd cc
-kind_says (kind.Int lo hi) (value.Int n) h = let parts = and_parts (le_z lo n) (le_z n hi) h in (le_z_yes (T_from_true (le_z lo n) parts.0), le_z_yes (T_from_true (le_z n hi) parts.1))
-kind_says (kind.Int lo hi) (value.Text bytes) h = absurd cc
-kind_says (kind.Int lo hi) (value.Flag flag) h = absurd cc
-kind_says (kind.Int lo hi) (value.Row name) h = absurd cc
-kind_says (kind.Int lo hi) (value.Own index) h = absurd cc
-kind_says (kind.Text lo hi) value.Null h = absurd cc
-kind_says (kind.Text lo hi) (value.Int n) h = absurd cc
-kind_says (kind.Text lo hi) (value.Text bytes) h = let parts = and_parts (nat_le lo (length bytes)) (nat_le (length bytes) hi) h in (leb-true lo (length bytes) parts.0, leb-true (length bytes) hi parts.1)
-kind_says (kind.Text lo hi) (value.Flag flag) h = absurd cc
-kind_says (kind.Text lo hi) (value.Row name) h = absurd cc
-kind_says (kind.Text lo hi) (value.Own index) h = absurd cc
-kind_says kind.Flag value.Null h = absurd cc
-kind_says kind.Flag (value.Int n) h = absurd cc
-kind_says kind.Flag (value.Text bytes) h = absurd cc
-kind_says kind.Flag (value.Flag flag) h = tt
-kind_says kind.Flag (value.Row name) h = absurd cc
-kind_says kind.Flag (value.Own index) h = absurd cc
-kind_says (kind.Reference target act) value.Null h = absurd cc
-kind_says (kind.Reference target act) (value.Int n) h = absurd cc
-kind_says (kind.Reference target act) (value.Text bytes) h = absurd cc
-kind_says (kind.Reference target act) (value.Flag flag) h = absurd cc
-kind_says (kind.Reference target act) (value.Row name) h = tt
-kind_says (kind.Reference target act) (value.Own index) h = tt
-
-says : (c : Column) (v : Value) → fits c v ≡ true → FitsColumn c v
-says c value.Null h = h
-says c (value.Int n) h = kind_says c.kind (value.Int n) h
-says c (value.Text bytes) h = kind_says c.kind (value.Text bytes) h
-says c (value.Flag flag) h = kind_says c.kind (value.Flag flag) h
-says c (value.Row name) h = kind_says c.kind (value.Row name) h
-says c (value.Own index) h = kind_says c.kind (value.Own index) h
-
--- an answer that says whether a value may stand in a column is the test
-pub fits_is : (c : Column) (v : Value) (answer : Bool) → IsTrue answer ↔ FitsColumn c v → answer ≡ fits c v
-fits_is c v answer both = one_truth answer (fits c v) (λ h. h ∙ sym (fits_from c v (both.0 h))) (λ h. h ∙ sym (both.1 (says c v h)))
-
 of_kind : (k : ColumnKind) (null : Bool) (v : Value) → fits (record { name = []; kind = k; null = null; line = 0 }) v ≡ true → IsOfKind (kind_seen k) v
 of_kind (kind.Int lo hi) null value.Null h = tt
 of_kind (kind.Int lo hi) null (value.Int n) h = tt

@@ -23,10 +23,6 @@ found_next rules rows which declares xs i x found next all h e made told =
     ap (found_among rules rows which rest) made ∙ sym (found_append rules rows which (declares i x) rest found)
     ∙ sym (ap (λ l. found_among rules rows which (each_from declares i l) found) (drop_next xs i x h e)) ∙ told
 
-pub found_end : {X : Type 0} (rules : Rules) (rows : List TableRow) (which : Invariant) (declares : ℕ → X → List Declared) (xs : List X) (i : ℕ) (found all : Found) → length xs ≤ i
-    → found_among rules rows which (each_from declares i (drop i xs)) found ≡ all → found ≡ all
-found_end rules rows which declares xs i found all h told = sym (ap (λ l. found_among rules rows which (each_from declares i l) found) (nothing_left xs i h)) ∙ told
-
 pub found_at : {X : Type 0} (rules : Rules) (rows : List TableRow) (which : Invariant) (declares : ℕ → X → List Declared) (xs : List X) (i : ℕ) (x : X) (found next all : Found) → slice_get xs i ≡ Some x
     → next ≡ found_among rules rows which (declares i x) found → found_among rules rows which (each_from declares i (drop i xs)) found ≡ all
     → found_among rules rows which (each_from declares (i + 1) (drop (i + 1) xs)) next ≡ all

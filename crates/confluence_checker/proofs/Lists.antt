@@ -29,20 +29,6 @@ nothing_left [] (suc i) h = refl
 nothing_left (x ∷ xs) zero h = absurd (omega arith)
 nothing_left (x ∷ xs) (suc i) h = nothing_left xs i (omega arith)
 
--- so many elements are the whole
-pub whole : {X : Type 0} (xs : List X) (i : ℕ) → length xs ≤ i → take i xs ≡ xs
-whole [] zero h = refl
-whole [] (suc i) h = refl
-whole (x ∷ xs) zero h = absurd (omega arith)
-whole (x ∷ xs) (suc i) h = ap (λ l. x ∷ l) (whole xs i (omega arith))
-
-pub take_next : {X : Type 0} (xs : List X) (i : ℕ) (x : X) → i < length xs → x ≡ get_or xs i x → take (i + 1) xs ≡ take i xs ++ x ∷ []
-take_next xs i x h e = rw add-one (take-suc xs i x h ∙ ap (λ y. take i xs ++ y ∷ []) (sym e))
-
--- the beginning of a list, newest first
-pub reverse_next : {X : Type 0} (xs : List X) (i : ℕ) (x : X) → i < length xs → x ≡ get_or xs i x → reverse (take (i + 1) xs) ≡ x ∷ reverse (take i xs)
-reverse_next xs i x h e = ap reverse (take_next xs i x h e) ∙ reverse-append (take i xs) (x ∷ [])
-
 cond_append : {X : Type 0} (b : Bool) (x : X) (all front ys : List X) → all ≡ front ++ ys → cond b (x ∷ all) all ≡ cond b (x ∷ front) front ++ ys
 cond_append true x all front ys h = ap (λ l. x ∷ l) h
 cond_append false x all front ys h = h

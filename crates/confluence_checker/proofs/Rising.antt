@@ -142,9 +142,6 @@ get_pushed [] y s (suc k) h = absurd cc
 get_pushed (x ∷ xs) y s zero h = inl h
 get_pushed (x ∷ xs) y s (suc k) h = elim (get_pushed xs y s k h) [ inl e ↦ inl e | inr e ↦ inr (ap suc e.0, e.1) ]
 
-pub lists_none : (rows : List TableRow) → AreLists 0 rows []
-lists_none rows = record { number = refl; rows_of = λ number shown h. absurd cc }
-
 pub lists_next : (count : ℕ) (rows : List TableRow) (lists new : List (List ShownRow)) (shown : List ShownRow) → AreLists count rows lists → AreRowsAmong rows count shown → new ≡ lists ++ shown ∷ [] → AreLists (count + 1) rows new
 lists_next count rows lists new shown all one pushed = subst (AreLists (count + 1) rows) (sym pushed) (record {
   number = length-append lists (shown ∷ []) ∙ ap (λ n. n + 1) all.number;

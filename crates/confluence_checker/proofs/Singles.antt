@@ -1,5 +1,6 @@
 -- The ATMOST of a first table is an invariant of the schema.
 use Rattle.std.proofs.Common.{◌≡◌, ℕ, ◌+◌, ◌==◌, Bool, true, false, cond, List, [], ◌∷◌, ◌++◌, refl, sym, ap, ◌∙◌, append_assoc, Option, Some, None, slice_get}
+use Rattle.std.proofs.lemmas.Bool.{ne_eqb}
 use Rattle.schema.specs.declared.invariant.InvariantKind.TheVariants as kind
 use Rattle.schema.specs.declared.table_def.TableDef.{TableDef}
 use Rattle.schema.specs.Invariants.{AtMost, Declared, each_from, unique_declared, at_most_declared, reference_declared, check_declared, match_declared, table_declared, invariants_of}
@@ -14,7 +15,7 @@ regroup A C D E R d =
     ap (λ l. l ++ D ++ E ++ R) (append_assoc A (d ∷ []) C) ∙ ap (λ l. l ++ E ++ R) (append_assoc A (d ∷ C) D)
     ∙ ap (λ l. l ++ R) (append_assoc A (d ∷ (C ++ D)) E) ∙ append_assoc A (d ∷ (C ++ D ++ E)) R
 
-pub at_most_first : (tables : List TableDef) (table : TableDef) → slice_get tables 0 ≡ Some table → (table.at_most == 0) ≡ false → (ask : Meaning)
+pub at_most_first : (tables : List TableDef) (table : TableDef) → slice_get tables 0 ≡ Some table → (table.at_most ≡ 0 → ⊥) → (ask : Meaning)
     → IsInvariantOf (rules_by ask tables) (record { kind = kind.AtMost; table = 0; place = 0; line = table.at_most_line })
 at_most_first [] table at some ask = absurd cc
 at_most_first (t ∷ tables) table at some ask =
@@ -28,6 +29,6 @@ at_most_first (t ∷ tables) table at some ask =
       earlier = A;
       later = C ++ D ++ E ++ R;
       declared = first_at_most table;
-      split = ap (λ (u : TableDef). table_declared 0 u ++ R) same ∙ ap (λ (b : Bool). A ++ cond b [] (first_at_most table ∷ []) ++ C ++ D ++ E ++ R) some ∙ regroup A C D E R (first_at_most table);
+      split = ap (λ (u : TableDef). table_declared 0 u ++ R) same ∙ ap (λ (b : Bool). A ++ cond b [] (first_at_most table ∷ []) ++ C ++ D ++ E ++ R) (ne_eqb table.at_most 0 some) ∙ regroup A C D E R (first_at_most table);
       same = refl;
     }

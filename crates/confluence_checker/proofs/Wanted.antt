@@ -15,7 +15,7 @@ use Rattle.schema.proofs.Confirmed.{closed_from_test}
 use Rattle.confluence_checker.specs.declared.found.Found.{Found}
 use Rattle.confluence_checker.specs.Forms.{breaks_by, found_among, is_broken, is_kept, is_same, seen, start}
 use Rattle.confluence_checker.proofs.Goings.{found_append}
-use Rattle.confluence_checker.proofs.Splits.{Apart, Differ, earlier_differ, invariants_apart, same_itself}
+use Rattle.confluence_checker.proofs.Splits.{Apart, earlier_differ, invariants_apart, same_itself}
 
 module _ (rules : Rules) (rows : List TableRow) (which : Invariant) where
   abbrev holds : Declared → Bool

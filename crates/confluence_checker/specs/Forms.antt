@@ -82,6 +82,7 @@ abbrev pub seen_by : Option Bool → Found → Bool → Bool → Found
 seen_by (Some answer) found wanted holds = found
 seen_by None found wanted holds = if wanted then record { earlier = found.earlier; here = Some holds } else record { earlier = found.earlier && holds; here = None }
 
+-- the same, by what has been found so far
 abbrev pub seen : Found → Bool → Bool → Found
 seen found wanted holds = seen_by found.here found wanted holds
 
@@ -90,10 +91,12 @@ abbrev pub found_among : Rules → List TableRow → Invariant → List Declared
 found_among rules rows which [] found = found
 found_among rules rows which (d ∷ ds) found = found_among rules rows which ds (seen found (is_same d.which which) (claim_holds rules rows d.claim))
 
+-- whether there is an answer, and it is yes
 abbrev pub holds_there : Option Bool → Bool
 holds_there None = false
 holds_there (Some holds) = holds
 
+-- whether there is an answer, and it is no
 abbrev pub fails_there : Option Bool → Bool
 fails_there None = false
 fails_there (Some holds) = not holds
