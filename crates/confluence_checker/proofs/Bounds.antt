@@ -1,0 +1,38 @@
+-- Limits table by table.
+use Rattle.std.proofs.Common.{◌≡◌, ℕ, zero, suc, ◌+◌, ◌<◌, Bool, true, false, ◌&&◌, List, [], ◌∷◌, length, drop, refl, sym, ap, ◌∙◌, arith, add-one, subst, Option, Some, None, slice_get}
+use Rattle.std.specs.Prelude.{unwrap_or}
+use Rattle.std.specs.List.{list_all, AllByRecursion}
+use Rattle.schema.specs.declared.table_def.TableDef.{TableDef}
+use Rattle.schema.specs.Verdicts.{at_most_holds, limits_hold, unique_holds}
+use Rattle.schema.specs.Sound.{AreTables, IsSoundCheck}
+use Rattle.schema.specs.Visible.{TableRow, missing_table, table_of}
+use Rattle.schema.proofs.Soundness.{sound_tables}
+use Rattle.confluence_checker.specs.Forms.{rules_of}
+
+-- what is left of a list begins with what stands there
+left : {X : Type 0} (xs : List X) (i : ℕ) (x : X) → slice_get xs i ≡ Some x → drop i xs ≡ x ∷ drop (suc i) xs
+left [] i x h = absurd cc
+left (y ∷ ys) zero x h = let same : y ≡ x = cc in ap (λ z. z ∷ ys) same
+left (y ∷ ys) (suc i) x h = left ys i x h
+
+pub left_at : {X : Type 0} (xs : List X) (i : ℕ) (x : X) → slice_get xs i ≡ Some x → drop i xs ≡ x ∷ drop (i + 1) xs
+left_at xs i x h = left xs i x h ∙ ap (λ n. x ∷ drop n xs) (sym (add-one i))
+
+-- the CHECK lines of a table are sound
+pub sound_checks : (tables : List TableDef) → AreTables [] tables → (number : ℕ) (table : TableDef) → slice_get tables number ≡ Some table → AllByRecursion (IsSoundCheck table.columns) table.checks
+sound_checks tables all number table at =
+    subst (λ (t : TableDef). AllByRecursion (IsSoundCheck t.columns) t.checks) (ap (λ (o : Option TableDef). unwrap_or o missing_table) at) (sound_tables (rules_of tables) all number).checks
+
+-- whether the limits of a table hold
+abbrev pub limits_of : List TableRow → ℕ → TableDef → Bool
+limits_of rows number table = list_all (λ rule. unique_holds rows number rule.column) table.uniques && at_most_holds rows number table.at_most
+
+pub limits_broken : (rows : List TableRow) (tables : List TableDef) (number : ℕ) (table : TableDef) (all : Bool) → slice_get tables number ≡ Some table → limits_of rows number table ≡ false
+    → limits_hold rows number (drop number tables) ≡ all → false ≡ all
+limits_broken rows tables number table all at broken told =
+    sym (ap (limits_hold rows number) (left_at tables number table at) ∙ ap (λ (b : Bool). b && limits_hold rows (number + 1) (drop (number + 1) tables)) broken) ∙ told
+
+pub limits_next : (rows : List TableRow) (tables : List TableDef) (number : ℕ) (table : TableDef) (all : Bool) → slice_get tables number ≡ Some table → limits_of rows number table ≡ true
+    → limits_hold rows number (drop number tables) ≡ all → limits_hold rows (number + 1) (drop (number + 1) tables) ≡ all
+limits_next rows tables number table all at kept told =
+    sym (ap (limits_hold rows number) (left_at tables number table at) ∙ ap (λ (b : Bool). b && limits_hold rows (number + 1) (drop (number + 1) tables)) kept) ∙ told

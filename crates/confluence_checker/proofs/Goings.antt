@@ -1,0 +1,42 @@
+-- Going through the invariants of a schema.
+use Rattle.std.proofs.Common.{◌≡◌, ℕ, ◌+◌, ◌<◌, ◌≤◌, List, [], ◌∷◌, ◌++◌, length, drop, get_or, refl, sym, ap, ◌∙◌, Some, slice_get}
+use Rattle.schema.specs.declared.invariant.Invariant.{Invariant}
+use Rattle.schema.specs.Invariants.{Declared, claim_holds, each_from}
+use Rattle.schema.specs.Visible.{Rules, TableRow}
+use Rattle.confluence_checker.specs.declared.found.Found.{Found}
+use Rattle.confluence_checker.specs.Forms.{found_among, is_same, seen}
+use Rattle.confluence_checker.proofs.Lists.{drop_next, nothing_left}
+use Rattle.confluence_checker.proofs.Bounds.{left_at}
+
+-- first these, then those
+pub found_append : (rules : Rules) (rows : List TableRow) (which : Invariant) (xs ys : List Declared) (found : Found)
+    → found_among rules rows which (xs ++ ys) found ≡ found_among rules rows which ys (found_among rules rows which xs found)
+found_append rules rows which [] ys found = refl
+found_append rules rows which (d ∷ ds) ys found = found_append rules rows which ds ys (seen found (is_same d.which which) (claim_holds rules rows d.claim))
+
+-- what one item more declares
+pub found_next : {X : Type 0} (rules : Rules) (rows : List TableRow) (which : Invariant) (declares : ℕ → X → List Declared) (xs : List X) (i : ℕ) (x : X) (found next all : Found) → i < length xs → x ≡ get_or xs i x
+    → next ≡ found_among rules rows which (declares i x) found → found_among rules rows which (each_from declares i (drop i xs)) found ≡ all
+    → found_among rules rows which (each_from declares (i + 1) (drop (i + 1) xs)) next ≡ all
+found_next rules rows which declares xs i x found next all h e made told =
+    let rest = each_from declares (i + 1) (drop (i + 1) xs) in
+    ap (found_among rules rows which rest) made ∙ sym (found_append rules rows which (declares i x) rest found)
+    ∙ sym (ap (λ l. found_among rules rows which (each_from declares i l) found) (drop_next xs i x h e)) ∙ told
+
+pub found_at : {X : Type 0} (rules : Rules) (rows : List TableRow) (which : Invariant) (declares : ℕ → X → List Declared) (xs : List X) (i : ℕ) (x : X) (found next all : Found) → slice_get xs i ≡ Some x
+    → next ≡ found_among rules rows which (declares i x) found → found_among rules rows which (each_from declares i (drop i xs)) found ≡ all
+    → found_among rules rows which (each_from declares (i + 1) (drop (i + 1) xs)) next ≡ all
+found_at rules rows which declares xs i x found next all at made told =
+    let rest = each_from declares (i + 1) (drop (i + 1) xs) in
+    ap (found_among rules rows which rest) made ∙ sym (found_append rules rows which (declares i x) rest found)
+    ∙ sym (ap (λ l. found_among rules rows which (each_from declares i l) found) (left_at xs i x at)) ∙ told
+
+-- the five kinds of invariants of a table
+pub found_table : (rules : Rules) (rows : List TableRow) (which : Invariant) (A B C D E : List Declared) (before a b c d e : Found)
+    → a ≡ found_among rules rows which A before → b ≡ found_among rules rows which B a → c ≡ found_among rules rows which C b → d ≡ found_among rules rows which D c → e ≡ found_among rules rows which E d
+    → e ≡ found_among rules rows which (A ++ B ++ C ++ D ++ E) before
+found_table rules rows which A B C D E before a b c d e ha hb hc hd he =
+    let ab : b ≡ found_among rules rows which (A ++ B) before = hb ∙ ap (found_among rules rows which B) ha ∙ sym (found_append rules rows which A B before) in
+    let abc : c ≡ found_among rules rows which (A ++ B ++ C) before = hc ∙ ap (found_among rules rows which C) ab ∙ sym (found_append rules rows which (A ++ B) C before) in
+    let abcd : d ≡ found_among rules rows which (A ++ B ++ C ++ D) before = hd ∙ ap (found_among rules rows which D) abc ∙ sym (found_append rules rows which (A ++ B ++ C) D before) in
+    he ∙ ap (found_among rules rows which E) abcd ∙ sym (found_append rules rows which (A ++ B ++ C ++ D) E before)

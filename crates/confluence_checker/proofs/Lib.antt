@@ -1,0 +1,13 @@
+mod Bounds
+mod Doing
+mod Either
+mod Fits
+mod Goings
+mod Lists
+mod Newest
+mod Rising
+mod Same
+mod Singles
+mod Sight
+mod Splits
+mod Wanted

@@ -1,0 +1,38 @@
+-- Steps along lists.
+use Rattle.std.proofs.Common.{◌≡◌, ℕ, zero, suc, ◌+◌, ◌<◌, ◌≤◌, Bool, true, false, ◌||◌, cond, List, [], ◌∷◌, ◌++◌, length, take, drop, get_or, reverse, map, filter, refl, sym, ap, ◌∙◌, add-one, arith, drop-cons, append_assoc}
+use Rattle.std.specs.List.{list_any}
+use Rattle.std.proofs.Math.Seq.{take-suc}
+use Rattle.std.proofs.lemmas.List.{reverse-append, map-append}
+use Rattle.std.proofs.lemmas.List.Folds.{list_any-append}
+
+-- a test of any element, either way
+pub any_back : {X : Type 0} (p : X → Bool) (xs : List X) → list_any p (reverse xs) ≡ list_any p xs
+any_back p [] = refl
+any_back p (x ∷ xs) =
+    ap (list_any p) (reverse-append (x ∷ []) xs) ∙ list_any-append p (reverse xs) (x ∷ [])
+    ∙ ap (λ (b : Bool). b || (p x || false)) (any_back p xs) ∙ ends (list_any p xs) (p x)
+  where
+    ends : (a b : Bool) → (a || (b || false)) ≡ (b || a)
+    ends true true = refl
+    ends true false = refl
+    ends false true = refl
+    ends false false = refl
+
+-- what is left of a list
+pub drop_next : {X : Type 0} (xs : List X) (i : ℕ) (x : X) → i < length xs → x ≡ get_or xs i x → drop i xs ≡ x ∷ drop (i + 1) xs
+drop_next xs i x h e = rw (add-one, drop-cons xs i x) (ap (λ y. y ∷ drop (suc i) xs) (sym e))
+
+-- past the end of a list nothing is left
+pub nothing_left : {X : Type 0} (xs : List X) (i : ℕ) → length xs ≤ i → drop i xs ≡ []
+nothing_left [] zero h = refl
+nothing_left [] (suc i) h = refl
+nothing_left (x ∷ xs) zero h = absurd (omega arith)
+nothing_left (x ∷ xs) (suc i) h = nothing_left xs i (omega arith)
+
+cond_append : {X : Type 0} (b : Bool) (x : X) (all front ys : List X) → all ≡ front ++ ys → cond b (x ∷ all) all ≡ cond b (x ∷ front) front ++ ys
+cond_append true x all front ys h = ap (λ l. x ∷ l) h
+cond_append false x all front ys h = h
+
+pub filter_append : {X : Type 0} (p : X → Bool) (xs ys : List X) → filter p (xs ++ ys) ≡ filter p xs ++ filter p ys
+filter_append p [] ys = refl
+filter_append p (x ∷ xs) ys = cond_append (p x) x (filter p (xs ++ ys)) (filter p xs) (filter p ys) (filter_append p xs ys)

@@ -1,0 +1,7 @@
+use Rattle.std.proofs.Common.{◌≡◌, take, map, filter}
+use Rattle.schema.specs.Tables.{listed}
+use Rattle.schema.specs.Verdicts.{in_table}
+use Rattle.confluence_checker.proofs.tables.listed_in.Given as goal
+
+abbrev pub invariant-loop-row : goal.invariant-loop-row
+invariant-loop-row l = l.shown.items ≡ map listed (filter (in_table l.table) (take l.row-index l.rows))

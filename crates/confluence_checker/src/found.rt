@@ -1,0 +1,43 @@
+ghost use Rattle.std.specs.Prelude.{◌≡◌};
+ghost use Rattle.confluence_checker.specs.Forms.{seen, start};
+
+/// What is found where the invariants of a schema are gone through in order, until a wanted one.
+#[derive(Clone, Copy, Debug)]
+pub(crate) struct Found {
+    /// Whether those before the wanted one hold.
+    pub(crate) earlier: bool,
+    /// Whether the wanted one holds, once it has been found.
+    pub(crate) here: Option<bool>,
+}
+
+impl Found {
+    /// Before one is looked at.
+    pub(crate) fn start() -> Found
+        ensures { result ≡ start }
+    {
+        Found {
+            earlier: true,
+            here: None,
+        }
+    }
+
+    /// With one invariant more: whether it is the wanted one, and whether it holds.
+    pub(crate) fn seen(self, wanted: bool, holds: bool) -> Found
+        ensures { result ≡ seen self wanted holds }
+    {
+        if self.here.is_some() {
+            return self;
+        }
+        if wanted {
+            Found {
+                earlier: self.earlier,
+                here: Some(holds),
+            }
+        } else {
+            Found {
+                earlier: self.earlier && holds,
+                here: None,
+            }
+        }
+    }
+}

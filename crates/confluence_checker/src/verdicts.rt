@@ -1,0 +1,116 @@
+//! The verdict on a node.
+
+ghost use Rattle.std.specs.Prelude.{◌≡◌, ◌<◌, IfOk, List, []};
+ghost use Rattle.update_model.specs.Node.{NodeData};
+ghost use Rattle.schema.specs.Schemas.{Meaning};
+ghost use Rattle.schema.specs.Verdicts.{delete_reason, verdict_after, verdict_on};
+ghost use Rattle.schema.specs.Visible.{TableRow};
+ghost use Rattle.confluence_checker.specs.Forms.{reason_against, rules_by, rules_of};
+
+use crate::effects::{do_op, op_count, row_inserted};
+use crate::inserted_row::InsertedRow;
+use crate::limits::limits_hold;
+use crate::reasons::{delete_reason, insert_reason};
+use crate::row_effects::RowEffects;
+use crate::visibility::visible_rows;
+use row_check::{Checks, Native, Relation};
+use schema::{Schema, Verdict, verdict_goes_by_operations};
+use std::alloc::{AllocError, Global};
+use update_model::{Node, Op, RowName};
+
+/// Why a row may not be deleted, where these rows are visible on the ancestors and earlier operations did this.
+fn reason_against_deletion(
+    schema: &Schema,
+    rows: &[InsertedRow],
+    node: &Node,
+    did: &RowEffects,
+    name: &RowName,
+) -> Option<u8>
+    ensures { result ≡ delete_reason (rules_of schema.now.tables) rows.now did.now.deleted node.now.author name.now }
+{
+    delete_reason(schema, rows, did.deleted(), &node.author, name)
+}
+
+/// Why an operation with this number may not be done, where these rows are visible on the ancestors and earlier operations
+/// did this.
+fn reason_against<L: Relation, C: Checks<L>>(
+    alloc: Global,
+    schema: &Schema,
+    native: &Native<L, C>,
+    rows: &[InsertedRow],
+    node: &Node,
+    number: usize,
+    did: &RowEffects,
+    op: &Op,
+) -> Result<Option<u8>, AllocError>
+    requires { number < 65536 }
+    ensures { IfOk result (λ reason. reason ≡ reason_against (rules_by L.answer schema.now.tables) rows.now node.now number did.now op.now) }
+{
+    match op {
+        Op::Insert { table, values } => {
+            let row = row_inserted(alloc, node, number, *table, values)?;
+            insert_reason(alloc, schema, native, did.inserted(), rows, &row)
+        }
+        Op::Delete { row } => Ok(reason_against_deletion(schema, rows, node, did, row)),
+    }
+}
+
+/// The verdict at the end of an update's operations.
+fn verdict_at_end(
+    alloc: Global,
+    schema: &Schema,
+    past: &RowEffects,
+    did: RowEffects,
+    number: usize,
+) -> Result<Verdict, AllocError>
+    requires { number < 65536 }
+    ensures { IfOk result (λ verdict. (ask : Meaning) (node : NodeData) (rows : List TableRow) → verdict ≡ verdict_after (rules_by ask schema.now.tables) past.now rows node number did []) }
+{
+    let both = did.joined(past.copy(alloc)?)?;
+    let rows = visible_rows(alloc, schema, &both)?;
+    Ok(if limits_hold(schema, rows.as_slice()) {
+        Verdict::Valid
+    } else {
+        Verdict::Void {
+            reason: 9,
+            operation: number as u16,
+        }
+    })
+}
+
+/// The verdict on a node after what its ancestors did.
+pub(crate) fn verdict_on<L: Relation, C: Checks<L>>(
+    alloc: Global,
+    schema: &Schema,
+    native: &Native<L, C>,
+    past: &RowEffects,
+    node: &Node,
+) -> Result<Verdict, AllocError>
+    ensures { IfOk result (λ verdict. verdict ≡ verdict_on (rules_by L.answer schema.now.tables) past.now node.now) }
+{
+    verdict_goes_by_operations();
+    let count = op_count(node);
+    let rows = visible_rows(alloc, schema, past)?;
+    let ops = node.ops.as_slice();
+    let mut did = RowEffects::nothing(alloc);
+    for (number, op) in ops.iter().enumerate() {
+        if let Some(reason) = reason_against(
+            alloc,
+            schema,
+            native,
+            rows.as_slice(),
+            node,
+            number,
+            &did,
+            op,
+        )? {
+            return Ok(Verdict::Void {
+                reason,
+                operation: number as u16,
+            });
+        }
+        did = do_op(alloc, node, number, did, op)?;
+    }
+    let verdict = verdict_at_end(alloc, schema, past, did, count)?;
+    Ok(verdict)
+}
