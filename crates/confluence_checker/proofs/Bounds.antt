@@ -1,11 +1,11 @@
 -- Limits table by table.
-use Rattle.std.proofs.Common.{◌≡◌, ℕ, zero, suc, ◌+◌, ◌<◌, Bool, true, false, ◌&&◌, List, [], ◌∷◌, length, drop, refl, sym, ap, ◌∙◌, arith, add-one, subst, Option, Some, None, slice_get}
+use Rattle.std.proofs.Common.{◌≡◌, ℕ, zero, suc, ◌+◌, Bool, true, false, ◌&&◌, List, [], ◌∷◌, drop, sym, ap, ◌∙◌, add-one, subst, Option, Some, slice_get}
 use Rattle.std.specs.Prelude.{unwrap_or}
 use Rattle.std.specs.List.{list_all, AllByRecursion}
 use Rattle.schema.specs.declared.table_def.TableDef.{TableDef}
 use Rattle.schema.specs.Verdicts.{at_most_holds, limits_hold, unique_holds}
 use Rattle.schema.specs.Sound.{AreTables, IsSoundCheck}
-use Rattle.schema.specs.Visible.{TableRow, missing_table, table_of}
+use Rattle.schema.specs.Visible.{TableRow, missing_table}
 use Rattle.schema.proofs.Soundness.{sound_tables}
 use Rattle.confluence_checker.specs.Forms.{rules_of}
 

@@ -1,10 +1,8 @@
 -- References one column at a time, and rows that are newer or older.
-use Rattle.std.proofs.Common.{◌≡◌, ℕ, ◌==◌, Bool, true, false, ◌&&◌, ◌||◌, cond, List, [], ◌∷◌, ◌++◌, filter, refl, sym, ap, ◌∙◌}
+use Rattle.std.proofs.Common.{◌≡◌, Bool, ◌&&◌, ◌||◌, List, ◌++◌, filter, ap, ◌∙◌}
 use Rattle.std.specs.List.{list_any, list_all}
 use Rattle.std.proofs.lemmas.List.Folds.{list_any-append, list_all-append}
-use Rattle.update_model.specs.declared.row_name.RowName.{RowName}
-use Rattle.update_model.specs.declared.value.Value.{Value}
-use Rattle.schema.specs.Visible.{TableRow, RowRef, same_row}
+use Rattle.schema.specs.Visible.{TableRow, RowRef}
 use Rattle.confluence_checker.proofs.Lists.{filter_append}
 
 -- every reference that passes a first test passes a second one

@@ -1,19 +1,14 @@
 -- The test whether a value fits, and what follows of a row that fits.
-use Rattle.std.proofs.Common.{◌≡◌, ℕ, ◌+◌, ◌<◌, Bool, true, false, nat_le, List, [], ◌∷◌, length, get_or, refl, sym, ◌∙◌, subst, arith, zero, suc, IsTrue, ◌↔◌}
-use Rattle.std.specs.Int.Signed.{le_z, le_z_yes}
-use Rattle.std.specs.List.{AllByRecursion}
-use Rattle.std.proofs.lemmas.Bool.{and_parts, leb-true}
-use Rattle.std.proofs.lemmas.Float.{T_from_true}
+use Rattle.std.proofs.Common.{◌≡◌, Bool, true, List, [], ◌∷◌}
+use Rattle.std.proofs.lemmas.Bool.{and_parts}
 use Rattle.update_model.specs.declared.value.Value.{Value}
 use Rattle.update_model.specs.declared.value.Value.TheVariants as value
 use Rattle.expression_text.specs.Kinds.{IsOfKind, FitsKinds}
 use Rattle.schema.specs.declared.column.Column.{Column}
 use Rattle.schema.specs.declared.column.ColumnKind.{ColumnKind}
 use Rattle.schema.specs.declared.column.ColumnKind.TheVariants as kind
-use Rattle.schema.specs.Columns.{FitsColumn, FitsKind, kind_seen, kinds_of}
-use Rattle.schema.specs.Verdicts.{all_fit, fits, fits_kind}
-use Rattle.schema.proofs.Sampled.{fits_from}
-use Rattle.confluence_checker.proofs.Same.{one_truth}
+use Rattle.schema.specs.Columns.{kind_seen, kinds_of}
+use Rattle.schema.specs.Verdicts.{all_fit, fits}
 
 of_kind : (k : ColumnKind) (null : Bool) (v : Value) → fits (record { name = []; kind = k; null = null; line = 0 }) v ≡ true → IsOfKind (kind_seen k) v
 of_kind (kind.Int lo hi) null value.Null h = tt

@@ -1,16 +1,11 @@
 -- Judged nodes, newest first, one by one.
-use Rattle.std.proofs.Common.{◌≡◌, ℕ, ◌+◌, ◌<◌, ◌≤◌, Bool, true, false, ◌&&◌, ◌||◌, cond, List, [], ◌∷◌, ◌++◌, length, take, get_or, reverse, map, filter, refl, sym, ap, ◌∙◌}
-use Rattle.std.specs.List.{list_any}
-use Rattle.std.proofs.lemmas.List.{reverse-append}
-use Rattle.std.proofs.lemmas.List.Folds.{list_any-append}
-use Rattle.std.proofs.lemmas.Bool.{both_ways}
+use Rattle.std.proofs.Common.{◌≡◌, Bool, true, false, ◌||◌, List, [], filter, refl, sym, ap, ◌∙◌}
 use Rattle.update_model.specs.declared.update_id.UpdateId.{UpdateId}
 use Rattle.update_model.specs.Entry.{same_id}
 use Rattle.update_model.specs.Graph.{has}
 use Rattle.update_model.specs.Node.{NodeData}
-use Rattle.schema.specs.declared.verdict.Verdict.{Verdict}
 use Rattle.schema.specs.Visible.{Rules, Effects}
-use Rattle.schema.specs.Verdicts.{Judged, ancestor_of, effects, effects_of, is_valid, joined, judge_next, judged, nothing, verdict_on}
+use Rattle.schema.specs.Verdicts.{ancestor_of, effects, judge_next, judged, nothing, verdict_on}
 use Rattle.schema.proofs.Order.{ids_equal}
 use Rattle.confluence_checker.specs.declared.judged_node.JudgedNode.{JudgedNode}
 use Rattle.confluence_checker.specs.Forms.{as_judged, newest_first}

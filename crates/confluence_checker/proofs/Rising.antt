@@ -1,5 +1,5 @@
 -- Sorted lists whose keys differ rise, and the keys of tables differ.
-use Rattle.std.proofs.Common.{◌≡◌, ℕ, zero, suc, ◌+◌, ◌==◌, ◌<◌, ◌≤◌, ◌⊎◌, inl, inr, Bool, true, false, not, ◌&&◌, ◌||◌, cond, nat_lt, List, [], ◌∷◌, ◌++◌, length, take, get_or, map, filter, reverse, refl, sym, ap, ◌∙◌, subst, arith, length-append, Option, Some, None, slice_get}
+use Rattle.std.proofs.Common.{◌≡◌, ℕ, zero, suc, ◌+◌, ◌==◌, ◌<◌, ◌⊎◌, inl, inr, Bool, true, false, ◌&&◌, cond, nat_lt, List, [], ◌∷◌, ◌++◌, length, get_or, map, filter, reverse, refl, sym, ap, ◌∙◌, subst, arith, length-append, Some, slice_get}
 use Rattle.std.specs.List.{list_any, AllByRecursion, IsDistinct}
 use Rattle.std.specs.Cmp.{IsTotalOrder}
 use Rattle.std.specs.declared.cmp.Ordering.{Ordering}
@@ -8,9 +8,9 @@ use Rattle.std.specs.Ordering.{eq_by_cmp, is_eq, is_lt, nat_cmp, ordering_revers
 use Rattle.std.specs.List.Sorted.{IsPermutation, IsSortedBy, IsStrictlySortedBy}
 use Rattle.std.proofs.lemmas.Bool.{ltb-true, ne_eqb, or_parts}
 use Rattle.std.proofs.lemmas.Cmp.{eq_by_cmp_equiv, nat_cmp_total, then_total, on_total}
-use Rattle.std.proofs.lemmas.List.{get_or-map, length-map, reverse-append}
+use Rattle.std.proofs.lemmas.List.{get_or-map, length-map}
 use Rattle.std.proofs.lemmas.List.Sorted.{IsPermutation-map, IsPermutation-reverse, IsPermutation-sym, IsPermutation-trans}
-use Rattle.std.proofs.lemmas.Map.Keys.{IsDistinct-IsPermutation, IsDistinct-cons, IsDistinct-head, IsDistinct-tail, apart_from_distinct, sorted_from_all_adjacent}
+use Rattle.std.proofs.lemmas.Map.Keys.{IsDistinct-IsPermutation, apart_from_distinct, sorted_from_all_adjacent}
 use Rattle.update_model.specs.declared.row_name.RowName.{RowName}
 use Rattle.update_model.specs.declared.update_id.UpdateId.{UpdateId}
 use Rattle.update_model.specs.Entry.{id_cmp, same_id}
@@ -23,10 +23,10 @@ use Rattle.schema.specs.declared.void_line.VoidLine.{VoidLine}
 use Rattle.schema.specs.Invariants.{shown_in}
 use Rattle.schema.specs.Nodes.{holds, IsClosed}
 use Rattle.schema.specs.Tables.{AreTablesOf, listed, name_cmp, void_line, void_lines}
-use Rattle.schema.specs.Verdicts.{Judged, effects, effects_in, in_table, judge_next, judged}
-use Rattle.schema.specs.Visible.{Rules, TableRow, Effects, same_row, is_visible, shown, shown_rows, visible_rows}
+use Rattle.schema.specs.Verdicts.{effects_in, in_table, judge_next, judged}
+use Rattle.schema.specs.Visible.{Rules, TableRow, Effects, same_row, is_visible, shown}
 use Rattle.schema.proofs.Founded.{Founded, founded_closed}
-use Rattle.confluence_checker.specs.Sorting.{AreLists, AreRowsAmong, HasDistinctNames, HasDistinctRows, HasDistinctIds, line_of}
+use Rattle.confluence_checker.specs.Sorting.{AreLists, AreRowsAmong, HasDistinctNames, HasDistinctRows, HasDistinctIds}
 
 -- ---- a sort
 

@@ -1,7 +1,7 @@
 -- Which names are seen, level by level.
-use Rattle.std.proofs.Common.{◌≡◌, ℕ, zero, suc, ◌+◌, Bool, true, false, not, ◌&&◌, ◌||◌, cond, List, [], ◌∷◌, ◌++◌, length, map, filter, refl, sym, ap, ◌∙◌, subst, add-one}
+use Rattle.std.proofs.Common.{◌≡◌, ℕ, ◌+◌, Bool, true, false, not, ◌&&◌, ◌||◌, cond, List, [], ◌∷◌, map, filter, refl, sym, ap, ◌∙◌, add-one}
 use Rattle.std.specs.List.{list_any, list_all}
-use Rattle.std.proofs.lemmas.Bool.{and_parts, both_ways}
+use Rattle.std.proofs.lemmas.Bool.{and_parts}
 use Rattle.update_model.specs.declared.row_name.RowName.{RowName}
 use Rattle.update_model.specs.declared.value.Value.{Value}
 use Rattle.update_model.specs.declared.value.Value.TheVariants as value
@@ -10,7 +10,7 @@ use Rattle.schema.specs.declared.column.ColumnKind.{ColumnKind}
 use Rattle.schema.specs.declared.table_def.TableDef.{TableDef}
 use Rattle.schema.specs.Columns.{target_of}
 use Rattle.schema.specs.Schemas.{Meaning}
-use Rattle.schema.specs.Visible.{TableRow, Effects, same_row, shows, cascade_refs, is_nulled, is_visible, visible_to, visible_rows, shown, shown_rows, shown_value, shown_values, table_of}
+use Rattle.schema.specs.Visible.{TableRow, Effects, same_row, shows, cascade_refs, is_nulled, visible_to, visible_rows, shown, shown_rows, shown_value, shown_values, table_of}
 use Rattle.schema.proofs.Order.{any_weaker}
 use Rattle.schema.proofs.Standing.{row_from_same}
 use Rattle.confluence_checker.specs.Forms.{is_among, rules_by, rules_of}

@@ -1,5 +1,5 @@
 -- What is found of the wanted invariant, and whether a counterexample confirms.
-use Rattle.std.proofs.Common.{◌≡◌, Bool, true, false, not, ◌&&◌, cond, List, [], ◌∷◌, ◌++◌, map, reverse, refl, sym, ap, ◌∙◌, subst, Option, Some, None}
+use Rattle.std.proofs.Common.{◌≡◌, Bool, true, false, not, ◌&&◌, List, [], ◌∷◌, ◌++◌, reverse, refl, sym, ap, ◌∙◌, subst, Some, None}
 use Rattle.std.specs.List.{list_all, AllByRecursion}
 use Rattle.std.proofs.lemmas.Bool.{and_parts}
 use Rattle.std.proofs.lemmas.List.{reverse-append}
@@ -7,7 +7,7 @@ use Rattle.std.proofs.lemmas.List.Folds.{list_all-append, list_all-map}
 use Rattle.update_model.specs.Node.{NodeData}
 use Rattle.schema.specs.declared.counterexample.Counterexample.{Counterexample}
 use Rattle.schema.specs.declared.invariant.Invariant.{Invariant}
-use Rattle.schema.specs.Confluence.{breaks, confirms, is_closed}
+use Rattle.schema.specs.Confluence.{confirms, is_closed}
 use Rattle.schema.specs.Invariants.{Claim, Declared, claim_holds, claims_of, invariants_of, satisfies, shown_in}
 use Rattle.schema.specs.Nodes.{IsClosed}
 use Rattle.schema.specs.Visible.{Rules, TableRow}

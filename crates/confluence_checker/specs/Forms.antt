@@ -1,10 +1,9 @@
 -- The forms in which the plain code keeps what the definitions speak of.
-use Rattle.std.specs.Prelude.{◌≡◌, ℕ, ◌+◌, ◌==◌, Bool, true, false, not, ◌&&◌, ◌||◌, List, [], ◌∷◌, ◌++◌, length, map, filter, reverse, Option, Some, None, IsTrue, if◌then◌else◌}
+use Rattle.std.specs.Prelude.{◌≡◌, ℕ, ◌==◌, Bool, true, false, not, ◌&&◌, List, [], ◌∷◌, ◌++◌, map, reverse, Option, Some, None, IsTrue, if◌then◌else◌}
 use Rattle.std.specs.List.{list_any, list_all}
 use Rattle.update_model.specs.declared.op.Op.{Op}
 use Rattle.update_model.specs.declared.op.Op.TheVariants as op
 use Rattle.update_model.specs.declared.row_name.RowName.{RowName}
-use Rattle.update_model.specs.declared.update_id.UpdateId.{UpdateId}
 use Rattle.update_model.specs.Graph.{has}
 use Rattle.update_model.specs.Node.{NodeData}
 use Rattle.schema.specs.declared.invariant.Invariant.{Invariant}

@@ -1,4 +1,4 @@
-use Rattle.std.proofs.Common.{◌<◌, length, arith, ap, sym, ◌∙◌}
+use Rattle.std.proofs.Common.{sym, ◌∙◌}
 use Rattle.confluence_checker.proofs.Bounds.{limits_broken, limits_next}
 use Rattle.confluence_checker.proofs.limits.limits_hold.Goals as goal
 

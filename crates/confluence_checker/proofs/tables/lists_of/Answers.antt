@@ -1,4 +1,4 @@
-use Rattle.std.proofs.Common.{List, [], ◌∷◌, ◌++◌, subst, ap, ◌∙◌, map, filter}
+use Rattle.std.proofs.Common.{List, [], ◌∷◌, ◌++◌, subst, ap, ◌∙◌}
 use Rattle.std.specs.List.Sorted.{IsPermutation}
 use Rattle.schema.specs.declared.shown_row.ShownRow.{ShownRow}
 use Rattle.confluence_checker.proofs.Rising.{listed_distinct, lists_next}
