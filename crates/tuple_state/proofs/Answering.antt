@@ -1,7 +1,7 @@
 -- What is answered of the rows visible after an update's ancestors.
-use Rattle.std.proofs.Common.{◌≡◌, ℕ, Bool, true, false, cond, List, [], ◌∷◌, refl, sym, ap, ◌∙◌, subst}
+use Rattle.std.proofs.Common.{◌≡◌, ℕ, Bool, true, false, cond, List, [], ◌∷◌, refl, ap, ◌∙◌, subst}
 use Rattle.std.specs.Prelude.{filter, Contains}
-use Rattle.std.specs.List.{list_any, AllByRecursion}
+use Rattle.std.specs.List.{AllByRecursion}
 use Rattle.std.proofs.lemmas.Bool.{both_ways, or_parts}
 use Rattle.std.proofs.lemmas.List.Elements.{All-contains, All-from_recursion}
 use Rattle.update_model.specs.declared.row_name.RowName.{RowName}
@@ -11,7 +11,7 @@ use Rattle.schema.specs.Visible.{Effects, Rules, TableRow, is_visible, same_row,
 use Rattle.schema.proofs.Standing.{row_from_same, same_row-refl, each-map}
 use Rattle.validity.specs.Answers.{AreAnswers, entry_in, has_child_in}
 use Rattle.tuple_state.specs.Kept.{are_layered, is_named}
-use Rattle.tuple_state.specs.Past.{IsPastOf, StandsAt, child_then, done_then, row_then, visible_then}
+use Rattle.tuple_state.specs.Past.{IsPastOf, child_then, done_then, row_then, visible_then}
 use Rattle.tuple_state.specs.State.{IsStateOf, State, rules_of}
 use Rattle.tuple_state.proofs.Layers.{layer_parts, same_child, same_layered, same_rows}
 use Rattle.tuple_state.proofs.Lookups.{columns_same}
@@ -21,7 +21,7 @@ none_named : (older : List TableRow) (name : RowName) → is_named older name �
 none_named [] name h = tt
 none_named (row ∷ older) name h = let parts = or_parts (same_row row.name name) _ h in (parts.0, none_named older name parts.1)
 
-same_turned : (a b : RowName) → same_row a b ≡ true → same_row b a ≡ true
+pub same_turned : (a b : RowName) → same_row a b ≡ true → same_row b a ≡ true
 same_turned a b h = subst (λ (n : RowName). same_row n a ≡ true) (row_from_same a b h) (same_row-refl a)
 
 joined_with : (row : TableRow) (older xs : List TableRow) → AllByRecursion (λ b. same_row b.name row.name ≡ false) xs → AllByRecursion (λ a. AllByRecursion (λ b. same_row a.name b.name ≡ true → a ≡ b) older) xs
@@ -30,7 +30,7 @@ joined_with row older [] n s = tt
 joined_with row older (x ∷ xs) n s = (((λ same. absurd (both_ways _ n.0 same)), s.0), joined_with row older xs n.1 s.1)
 
 -- two layered rows of one name are one
-once_each : (rules : Rules) (rows : List TableRow) → are_layered rules rows ≡ true → AllByRecursion (λ a. AllByRecursion (λ b. same_row a.name b.name ≡ true → a ≡ b) rows) rows
+pub once_each : (rules : Rules) (rows : List TableRow) → are_layered rules rows ≡ true → AllByRecursion (λ a. AllByRecursion (λ b. same_row a.name b.name ≡ true → a ≡ b) rows) rows
 once_each rules [] h = tt
 once_each rules (row ∷ older) h =
     let it = layer_parts rules older row h in

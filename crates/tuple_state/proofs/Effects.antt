@@ -1,21 +1,17 @@
 -- What a state holds is what its nodes do.
-use Rattle.std.proofs.Common.{◌≡◌, ℕ, ◌+◌, Bool, true, false, cond, List, [], ◌∷◌, ◌++◌, length, map, reverse, refl, sym, ap, ◌∙◌, arith}
-use Rattle.std.specs.Prelude.{filter}
+use Rattle.std.proofs.Common.{◌≡◌, ℕ, cond, List, [], ◌∷◌, ◌++◌, length, map, reverse, refl, ap, ◌∙◌, arith}
 use Rattle.std.proofs.lemmas.List.{map-append, reverse-append, reverse-reverse}
-use Rattle.std.proofs.lemmas.List.Elements.{filter-append}
 use Rattle.update_model.specs.declared.row_name.RowName.{RowName}
 use Rattle.update_model.specs.Node.{NodeData}
-use Rattle.schema.specs.declared.column.Column.{Column}
 use Rattle.schema.specs.declared.table_def.TableDef.{TableDef}
 use Rattle.schema.specs.declared.verdict.Verdict.{Verdict}
 use Rattle.schema.specs.declared.verdict.Verdict.TheVariants as verdict
-use Rattle.schema.specs.declared.void_line.VoidLine.{VoidLine}
 use Rattle.schema.specs.Tables.{void_line, void_lines}
-use Rattle.schema.specs.Verdicts.{Judged, effects, effects_in, effects_of, is_valid, joined, judge_next, judged}
+use Rattle.schema.specs.Verdicts.{effects, effects_of, is_valid, joined, judge_next, judged}
 use Rattle.schema.specs.Visible.{Effects, Rules, TableRow}
 use Rattle.tuple_state.specs.declared.inserted.Inserted.{Inserted}
 use Rattle.tuple_state.specs.declared.dropped.Dropped.{Dropped}
-use Rattle.tuple_state.specs.State.{State, after, done_in, dropped_at, inserted_at, row_of, state_of}
+use Rattle.tuple_state.specs.State.{after, done_in, dropped_at, inserted_at, row_of, state_of}
 
 rows_back : (position : ℕ) (rows : List TableRow) → map row_of (map (inserted_at position) rows) ≡ rows
 rows_back position [] = refl
@@ -51,9 +47,9 @@ did_is rules (node ∷ older) =
     let step : (v : Verdict) → done_in (after state node v) ≡ cond (is_valid v) (joined (effects_of node) (effects (judged rules older))) (effects (judged rules older)) =
     elim [
       | verdict.Valid ↦ λ i. record {
-          inserted = (newest_rows state.inserted state.count (effects_of node).inserted ∙ ap (λ (e : Effects). (effects_of node).inserted ++ e.inserted) rest) i;
-          deleted = (newest_names state.dropped state.count (effects_of node).deleted ∙ ap (λ (e : Effects). (effects_of node).deleted ++ e.deleted) rest) i;
-        }
+        inserted = (newest_rows state.inserted state.count (effects_of node).inserted ∙ ap (λ (e : Effects). (effects_of node).inserted ++ e.inserted) rest) i;
+        deleted = (newest_names state.dropped state.count (effects_of node).deleted ∙ ap (λ (e : Effects). (effects_of node).deleted ++ e.deleted) rest) i;
+      }
       | verdict.Void reason operation ↦ rest
     ] in
     step (judge_next rules (judged rules older) node).verdict

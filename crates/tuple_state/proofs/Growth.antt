@@ -1,11 +1,11 @@
 -- Which rows are visible after one more update, by those that were visible before it.
-use Rattle.std.proofs.Common.{◌≡◌, ℕ, ◌+◌, ◌<◌, ◌≤◌, Bool, true, false, cond, not, ◌&&◌, ◌||◌, List, [], ◌∷◌, ◌++◌, length, map, reverse, refl, sym, ap, ◌∙◌, subst, inl, inr, arith}
+use Rattle.std.proofs.Common.{◌≡◌, Bool, true, false, not, ◌&&◌, ◌||◌, List, [], ◌∷◌, ◌++◌, refl, sym, ap, ◌∙◌, subst}
 use Rattle.std.specs.List.{list_any, list_all, AllByRecursion}
-use Rattle.std.proofs.lemmas.Bool.{and_parts, and_from, both_ways, not-false, not-true, not_from_false, or_parts, or_from, false_from_ne_true, or_left, or_right, and_right}
+use Rattle.std.proofs.lemmas.Bool.{and_parts, and_from, both_ways, not-true, not_from_false, or_parts, or_from, false_from_ne_true, and_right}
 use Rattle.std.proofs.lemmas.List.Folds.{list_any-append}
 use Rattle.update_model.specs.declared.row_name.RowName.{RowName}
 use Rattle.schema.specs.Visible.{Rules, TableRow, Effects, same_row, cascade_refs, is_visible, is_deleted}
-use Rattle.schema.proofs.Standing.{row_from_same, same_row-refl, any_each, all_both, each-map}
+use Rattle.schema.proofs.Standing.{row_from_same, same_row-refl, any_each, all_both}
 use Rattle.schema.proofs.SameTables.{each-left, each-right}
 use Rattle.tuple_state.specs.Kept.{are_layered, is_named}
 use Rattle.tuple_state.proofs.Layers.{Stands, each_stands, layer_parts, row_visible}
@@ -51,25 +51,25 @@ module _ (rules : Rules) (new old : List TableRow) (gone before : List RowName) 
         let there = row_visible rules h layered x t.0 in (
           (
             (λ v.
-            let parts = and_parts (list_all (λ r. is_visible rules h r.name) (cascade_refs rules x)) _ (sym there ∙ v) in
-            let undeleted = or_parts (list_any (same_row x.name) gone) _ (sym (deleted_is x.name) ∙ not-true _ parts.1) in
-            here ∙ and_from _ _
-            (all_both (λ r. is_named older r.name) (λ r. is_visible rules h r.name) (λ r. is_visible rules g r.name)
-            (λ r named seen. any_each Carries (λ y. same_row y.name r.name) _
-            (λ y c same. let e = row_from_same y.name r.name same in
-            subst (λ (n : RowName). is_visible rules g n ≡ true) e (c.0 (subst (λ (n : RowName). is_visible rules h n ≡ true) (sym e) seen))) older rest named)
-            (cascade_refs rules x) layer.refers parts.0)
-            (not_from_false _ undeleted.1)),
+                let parts = and_parts (list_all (λ r. is_visible rules h r.name) (cascade_refs rules x)) _ (sym there ∙ v) in
+                let undeleted = or_parts (list_any (same_row x.name) gone) _ (sym (deleted_is x.name) ∙ not-true _ parts.1) in
+                here ∙ and_from _ _
+                (all_both (λ r. is_named older r.name) (λ r. is_visible rules h r.name) (λ r. is_visible rules g r.name)
+                (λ r named seen. any_each Carries (λ y. same_row y.name r.name) _
+                (λ y c same. let e = row_from_same y.name r.name same in
+                subst (λ (n : RowName). is_visible rules g n ≡ true) e (c.0 (subst (λ (n : RowName). is_visible rules h n ≡ true) (sym e) seen))) older rest named)
+                (cascade_refs rules x) layer.refers parts.0)
+                (not_from_false _ undeleted.1)),
             (λ none v.
-            let parts = and_parts (list_all (λ r. is_visible rules g r.name) (cascade_refs rules x)) _ (sym here ∙ v) in
-            let free : is_deleted h x.name ≡ false = deleted_is x.name ∙ or_from _ _ (ap (list_any (same_row x.name)) none) (not-true _ parts.1) in
-            there ∙ and_from _ _
-            (all_both (λ r. is_named older r.name) (λ r. is_visible rules g r.name) (λ r. is_visible rules h r.name)
-            (λ r named seen. any_each Carries (λ y. same_row y.name r.name) _
-            (λ y c same. let e = row_from_same y.name r.name same in
-            subst (λ (n : RowName). is_visible rules h n ≡ true) e (c.1 none (subst (λ (n : RowName). is_visible rules g n ≡ true) (sym e) seen))) older rest named)
-            (cascade_refs rules x) layer.refers parts.0)
-            (not_from_false _ free)),
+                let parts = and_parts (list_all (λ r. is_visible rules g r.name) (cascade_refs rules x)) _ (sym here ∙ v) in
+                let free : is_deleted h x.name ≡ false = deleted_is x.name ∙ or_from _ _ (ap (list_any (same_row x.name)) none) (not-true _ parts.1) in
+                there ∙ and_from _ _
+                (all_both (λ r. is_named older r.name) (λ r. is_visible rules g r.name) (λ r. is_visible rules h r.name)
+                (λ r named seen. any_each Carries (λ y. same_row y.name r.name) _
+                (λ y c same. let e = row_from_same y.name r.name same in
+                subst (λ (n : RowName). is_visible rules h n ≡ true) e (c.1 none (subst (λ (n : RowName). is_visible rules g n ≡ true) (sym e) seen))) older rest named)
+                (cascade_refs rules x) layer.refers parts.0)
+                (not_from_false _ free)),
           ),
           rest,
         )
@@ -97,13 +97,13 @@ module _ (rules : Rules) (new old : List TableRow) (gone before : List RowName) 
         let there = row_visible rules h layered x t.0 in
         let all_old : list_all (λ r. is_visible rules h r.name) (cascade_refs rules x) ≡ true → list_all (λ r. is_visible rules g r.name) (cascade_refs rules x) ≡ true =
         λ seen. all_both (λ r. is_named older r.name) (λ r. is_visible rules h r.name) (λ r. is_visible rules g r.name)
-            (λ r named v. any_each Carries (λ y. same_row y.name r.name) _
-            (λ y k same. let e = row_from_same y.name r.name same in
-            subst (λ (n : RowName). is_visible rules g n ≡ true) e (k.0 (subst (λ (n : RowName). is_visible rules h n ≡ true) (sym e) v))) older c.1
-            named) (cascade_refs rules x) layer.refers seen in (
+        (λ r named v. any_each Carries (λ y. same_row y.name r.name) _
+        (λ y k same. let e = row_from_same y.name r.name same in
+        subst (λ (n : RowName). is_visible rules g n ≡ true) e (k.0 (subst (λ (n : RowName). is_visible rules h n ≡ true) (sym e) v))) older c.1
+        named) (cascade_refs rules x) layer.refers seen in (
           there ∙ (λ i. list_all (λ r. is_visible rules h r.name) (cascade_refs rules x) && not (deleted_is x.name i))
-          ∙ sides (list_all (λ r. is_visible rules h r.name) (cascade_refs rules x)) (list_all (λ r. is_visible rules g r.name) (cascade_refs rules x)) (list_any (same_row x.name) gone) (is_deleted g x.name) all_old
-          ∙ ap (λ b. (b && not (list_any (same_row x.name) gone)) && list_all (λ r. is_visible rules h r.name) (cascade_refs rules x)) (sym here),
+              ∙ sides (list_all (λ r. is_visible rules h r.name) (cascade_refs rules x)) (list_all (λ r. is_visible rules g r.name) (cascade_refs rules x)) (list_any (same_row x.name) gone) (is_deleted g x.name) all_old
+              ∙ ap (λ b. (b && not (list_any (same_row x.name) gone)) && list_all (λ r. is_visible rules h r.name) (cascade_refs rules x)) (sym here),
           each_kept older layer.rest c.1 s.1 t.1,
         )
 
@@ -133,7 +133,7 @@ module _ (rules : Rules) (new old : List TableRow) (gone before : List RowName) 
         let none = (or_parts (is_named rows x.name) _ (sym (list_any-append (λ (row : TableRow). same_row row.name x.name) rows old) ∙ layer.new)).1 in
         let there = row_visible rules h layered x t.0 in (
           there ∙ (λ i. list_all (λ r. is_visible rules h r.name) (cascade_refs rules x) && not ((deleted_is x.name ∙ ap (λ b. list_any (same_row x.name) gone || b) (undeleted x.name before none homed)) i))
-          ∙ swapped (list_all (λ r. is_visible rules h r.name) (cascade_refs rules x)) (list_any (same_row x.name) gone),
+              ∙ swapped (list_all (λ r. is_visible rules h r.name) (cascade_refs rules x)) (list_any (same_row x.name) gone),
           each_new homed rows layer.rest t.1,
         )
 

@@ -1,5 +1,5 @@
 -- What tables keep after one more update.
-use Rattle.std.proofs.Common.{◌≡◌, ℕ, zero, suc, ◌+◌, ◌*◌, ◌<◌, ◌≤◌, Bool, true, false, not, ◌&&◌, ◌⊎◌, List, [], ◌∷◌, ◌++◌, length, get_or, map, reverse, replicate, length-append, refl, sym, ap, ◌∙◌, subst, Option, Some, arith}
+use Rattle.std.proofs.Common.{◌≡◌, ℕ, suc, ◌+◌, ◌<◌, ◌≤◌, Bool, true, false, not, ◌&&◌, ◌⊎◌, List, [], ◌∷◌, ◌++◌, length, get_or, map, reverse, replicate, length-append, refl, ap, ◌∙◌, Some, arith}
 use Rattle.std.specs.Prelude.{slice_get}
 use Rattle.std.specs.List.{list_any, list_all}
 use Rattle.std.specs.BTreeMap.{get, BTreeMap}
@@ -11,18 +11,17 @@ use Rattle.update_model.specs.declared.row_name.RowName.{RowName}
 use Rattle.update_model.specs.Node.{IsNode, NodeData}
 use Rattle.schema.specs.declared.verdict.Verdict.{Verdict}
 use Rattle.schema.specs.declared.verdict.Verdict.TheVariants as verdict
-use Rattle.schema.specs.Nodes.{IsClosed, IsNext}
 use Rattle.schema.specs.Tables.{name_cmp}
-use Rattle.schema.specs.Verdicts.{effects, effects_after, effects_in, effects_of, judge_next, judged, nothing, row_inserted}
-use Rattle.schema.specs.Visible.{Effects, Rules, TableRow, is_visible, same_row, table_of}
+use Rattle.schema.specs.Verdicts.{effects_after, effects_in, effects_of, nothing, row_inserted}
+use Rattle.schema.specs.Visible.{Effects, Rules, is_visible, same_row, table_of}
 use Rattle.schema.proofs.Order.{any_weaker}
-use Rattle.schema.proofs.Founded.{all_weaker, erasable, founded_closed, IsWellFounded}
+use Rattle.schema.proofs.Founded.{all_weaker, erasable, founded_closed}
 use Rattle.tuple_state.specs.declared.dropped.Dropped.{Dropped}
 use Rattle.tuple_state.specs.declared.inserted.Inserted.{Inserted}
 use Rattle.tuple_state.specs.Kept.{IsKept, are_layered, is_named, place_of}
 use Rattle.tuple_state.specs.Parents.{Continues}
 use Rattle.tuple_state.specs.Past.{IsNextVerdict}
-use Rattle.tuple_state.specs.State.{IsStateOf, State, after, done_in, dropped_at, inserted_at, rules_of, rules_with, state_of}
+use Rattle.tuple_state.specs.State.{IsStateOf, State, after, done_in, dropped_at, inserted_at, rules_of, state_of}
 use Rattle.tuple_state.proofs.Effects.{count_is}
 use Rattle.tuple_state.proofs.Layers.{layered_founded, same_layered}
 use Rattle.tuple_state.proofs.Lookups.{columns_same, did_same}
@@ -86,8 +85,8 @@ module _ (state : State) (node : NodeData) (places : BTreeMap RowName ℕ) (show
       → ((name : RowName) → get name_cmp after_places name ≡ place_of (state.inserted ++ news) name)
       → m ≡ length news
       → ((test : RowName → Bool) → ((from : ℕ) (hidden : List Bool) → ((from ≡ 0) ⊎ ((from ≡ length state.inserted) × (drops ≡ [])))
-          → ((k : ℕ) (it : Inserted) → slice_get (state.inserted ++ news) k ≡ Some it → get_or hidden k false ≡ (get_or (shown ++ replicate m true) k false && not (list_any (λ (d : Dropped). same_row d.name it.name) drops)))
-          → Continues (rules_of state) (state.inserted ++ news) from hidden test) → (k : ℕ) (it : Inserted) → slice_get (state.inserted ++ news) k ≡ Some it → get_or marked k false ≡ test it.name)
+      → ((k : ℕ) (it : Inserted) → slice_get (state.inserted ++ news) k ≡ Some it → get_or hidden k false ≡ (get_or (shown ++ replicate m true) k false && not (list_any (λ (d : Dropped). same_row d.name it.name) drops)))
+      → Continues (rules_of state) (state.inserted ++ news) from hidden test) → (k : ℕ) (it : Inserted) → slice_get (state.inserted ++ news) k ≡ Some it → get_or marked k false ≡ test it.name)
       → length marked ≡ length (state.inserted ++ news)
       → IsKept (after state node verdict.Valid) after_places marked
   kept_next small after_places m marked placed enough marks len = record {

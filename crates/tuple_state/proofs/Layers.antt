@@ -1,8 +1,8 @@
 -- Rows that name by CASCADE only rows before them: which of them are visible.
-use Rattle.std.proofs.Common.{◌≡◌, ℕ, zero, suc, ◌==◌, Bool, true, false, cond, not, ◌&&◌, List, [], ◌∷◌, ◌++◌, length, map, reverse, refl, sym, ap, ◌∙◌, subst, inl, inr, arith}
-use Rattle.std.specs.Prelude.{filter, slice_get, unwrap_or, Contains}
+use Rattle.std.proofs.Common.{◌≡◌, ℕ, zero, suc, ◌==◌, Bool, true, false, not, ◌&&◌, List, [], ◌∷◌, length, map, refl, sym, ap, ◌∙◌, subst, inl, inr}
+use Rattle.std.specs.Prelude.{filter, slice_get, unwrap_or}
 use Rattle.std.specs.List.{list_any, list_all, AllByRecursion}
-use Rattle.std.proofs.lemmas.Bool.{and_parts, or_cases, or_right, or_left, or_parts, and_from, both_ways, not_from_false, and_left, false_from_ne_true}
+use Rattle.std.proofs.lemmas.Bool.{and_parts, or_cases, or_right, or_left, and_from, both_ways, not_from_false, and_left, false_from_ne_true}
 use Rattle.update_model.specs.declared.row_name.RowName.{RowName}
 use Rattle.update_model.specs.declared.value.Value.{Value}
 use Rattle.schema.specs.declared.column.Column.{Column}

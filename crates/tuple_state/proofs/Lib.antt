@@ -2,6 +2,7 @@ pub mod Answering
 pub mod Dropping
 pub mod Effects
 pub mod Emptiness
+pub mod Finding
 pub mod Growth
 pub mod Keeping
 pub mod Layers
@@ -12,6 +13,7 @@ pub mod Marks
 pub mod Pasts
 pub mod Reaching
 pub mod Regrowth
+pub mod Restricting
 pub mod Rising
 pub mod Stepping
 pub mod Voiding

@@ -112,11 +112,11 @@ listed_visible number f g v same [] = refl
 listed_visible number f g v same (row ∷ rows) =
     let rest = listed_visible number f g v same rows in
     elim (v row) as (λ b. map g (filter (in_table number) (map f (cond b (row ∷ filter v rows) (filter v rows))))
-        ≡ map (λ x. g (f x)) (cond (in_table number row && b) (row ∷ filter (λ x. in_table number x && v x) rows) (filter (λ x. in_table number x && v x) rows))) [
+    ≡ map (λ x. g (f x)) (cond (in_table number row && b) (row ∷ filter (λ x. in_table number x && v x) rows) (filter (λ x. in_table number x && v x) rows))) [
       | true ↦
           ap (λ b. map g (cond b (f row ∷ filter (in_table number) (map f (filter v rows))) (filter (in_table number) (map f (filter v rows))))) (same row)
           ∙ elim (in_table number row) as (λ b. map g (cond b (f row ∷ filter (in_table number) (map f (filter v rows))) (filter (in_table number) (map f (filter v rows))))
-              ≡ map (λ x. g (f x)) (cond (b && true) (row ∷ filter (λ x. in_table number x && v x) rows) (filter (λ x. in_table number x && v x) rows))) [
+          ≡ map (λ x. g (f x)) (cond (b && true) (row ∷ filter (λ x. in_table number x && v x) rows) (filter (λ x. in_table number x && v x) rows))) [
             | true ↦ ap (λ l. g (f row) ∷ l) rest
             | false ↦ rest
           ]

@@ -1,8 +1,8 @@
 -- Rows found by their names.
-use Rattle.std.proofs.Common.{◌≡◌, ℕ, zero, suc, ◌+◌, ◌<◌, Bool, true, false, cond, not, ◌||◌, List, [], ◌∷◌, ◌++◌, length, get_or, map, reverse, refl, sym, ap, ◌∙◌, subst, Option, Some, None, arith}
-use Rattle.std.specs.Prelude.{slice_get, is_some, filter}
-use Rattle.std.specs.List.{list_any, list_all, position_from}
-use Rattle.std.proofs.lemmas.List.{reverse-append, map-append}
+use Rattle.std.proofs.Common.{◌≡◌, ℕ, zero, suc, ◌+◌, ◌<◌, Bool, true, false, cond, ◌||◌, List, [], ◌∷◌, ◌++◌, length, get_or, map, reverse, refl, sym, ap, ◌∙◌, Option, Some, None, arith}
+use Rattle.std.specs.Prelude.{slice_get, is_some}
+use Rattle.std.specs.List.{list_any, position_from}
+use Rattle.std.proofs.lemmas.List.{reverse-append}
 use Rattle.std.proofs.lemmas.List.Folds.{list_any-append}
 use Rattle.update_model.specs.declared.row_name.RowName.{RowName}
 use Rattle.update_model.specs.Node.{NodeData}
@@ -11,7 +11,7 @@ use Rattle.schema.specs.Visible.{Rules, TableRow, Effects, same_row, is_visible}
 use Rattle.schema.specs.Verdicts.{effects_in}
 use Rattle.schema.proofs.Standing.{row_from_same}
 use Rattle.tuple_state.specs.declared.inserted.Inserted.{Inserted}
-use Rattle.tuple_state.specs.State.{IsStateOf, State, done_in, row_of, rules_of, state_of}
+use Rattle.tuple_state.specs.State.{IsStateOf, State, done_in, row_of, rules_of}
 use Rattle.tuple_state.specs.Kept.{is_named, place_of}
 use Rattle.tuple_state.proofs.Effects.{did_is, columns_are}
 use Rattle.tuple_state.proofs.Layers.{SameColumns, same_columns, same_visible, unnamed_hidden}

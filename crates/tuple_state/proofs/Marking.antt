@@ -1,8 +1,8 @@
 -- Marks of rows, one write at a time.
-use Rattle.std.proofs.Common.{◌≡◌, ◌≢◌, ◌==◌, ◌⊎◌, ℕ, zero, suc, ◌+◌, ◌<◌, ◌≤◌, Bool, true, false, cond, not, ◌&&◌, ◌||◌, List, [], ◌∷◌, ◌++◌, length, get_or, set, take, drop, map, reverse, refl, sym, ap, ◌∙◌, subst, Option, Some, None, get_or-set_other, get_or-set_same, arith, inl, inr}
+use Rattle.std.proofs.Common.{◌≡◌, ◌≢◌, ◌==◌, ◌⊎◌, ℕ, zero, suc, ◌+◌, ◌<◌, ◌≤◌, Bool, true, false, not, ◌&&◌, ◌||◌, List, [], ◌∷◌, length, get_or, set, take, drop, map, reverse, refl, sym, ap, ◌∙◌, subst, Option, Some, None, get_or-set_other, get_or-set_same, arith, inl, inr}
 use Rattle.std.specs.Prelude.{slice_get, min, unwrap_or}
 use Rattle.std.proofs.lemmas.Option.{slice_get_past}
-use Rattle.std.specs.List.{list_any, list_all}
+use Rattle.std.specs.List.{list_any}
 use Rattle.std.proofs.lemmas.Bool.{both_ways, false_from_ne_true, cases_Bool, eqb-true, eq-eqb}
 use Rattle.std.proofs.lemmas.List.{take_more, take_all}
 use Rattle.std.proofs.lemmas.List.Folds.{list_any-append}
@@ -18,7 +18,7 @@ use Rattle.tuple_state.specs.Parents.{Continues, all_parents, columns_at, mark_a
 use Rattle.tuple_state.specs.State.{row_of, rules_with}
 use Rattle.tuple_state.proofs.Lookups.{row_found}
 use Rattle.tuple_state.proofs.Marks.{mark_step}
-use Rattle.tuple_state.proofs.Stepping.{drop_next, drop_past}
+use Rattle.tuple_state.proofs.Stepping.{drop_next}
 
 pub slice_get_from : {X : Type 0} (xs : List X) (k : ℕ) (x : X) → k < length xs → x ≡ get_or xs k x → slice_get xs k ≡ Some x
 slice_get_from [] k x below is = absurd (omega (arith, below))
@@ -57,7 +57,7 @@ short_parents test [] values h = refl
 short_parents test (column ∷ columns) [] h = refl
 short_parents test (column ∷ columns) (v ∷ values) h = absurd (omega (arith, h))
 
-length_drop : {X : Type 0} (n : ℕ) (xs : List X) → (length (drop n xs) + n ≡ length xs) ⊎ (drop n xs ≡ [])
+pub length_drop : {X : Type 0} (n : ℕ) (xs : List X) → (length (drop n xs) + n ≡ length xs) ⊎ (drop n xs ≡ [])
 length_drop zero xs = inl (omega arith)
 length_drop (suc n) [] = inr refl
 length_drop (suc n) (x ∷ xs) = elim (length_drop n xs) [ inl e ↦ inl (omega (arith, e)) | inr e ↦ inr e ]

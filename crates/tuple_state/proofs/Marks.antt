@@ -1,33 +1,33 @@
 -- Places and marks of layered rows.
-use Rattle.std.proofs.Common.{◌≡◌, ℕ, zero, suc, ◌+◌, ◌-◌, ◌<◌, ◌≤◌, ◌==◌, Bool, true, false, cond, not, ◌&&◌, ◌||◌, List, [], ◌∷◌, ◌++◌, length, get_or, take, drop, map, reverse, refl, sym, ap, ◌∙◌, subst, append_assoc, Option, Some, None, zero-add, length-append, arith}
+use Rattle.std.proofs.Common.{◌≡◌, ℕ, zero, suc, ◌+◌, ◌<◌, ◌≤◌, ◌==◌, Bool, true, false, cond, ◌&&◌, ◌||◌, List, [], ◌∷◌, ◌++◌, length, get_or, take, map, reverse, refl, sym, ap, ◌∙◌, subst, append_assoc, Option, Some, None, zero-add, length-append, arith}
 use Rattle.std.specs.Prelude.{slice_get, is_some, filter, unwrap_or, Result, Ok, Err, is_err, OnOk}
 use Rattle.std.specs.declared.cmp.Ordering.{Ordering}
 use Rattle.std.specs.declared.cmp.Ordering.TheVariants.{Less, Equal, Greater}
 use Rattle.std.specs.Ordering.{is_eq, nat_cmp, ordering_then}
 use Rattle.std.specs.List.{list_any, list_all, position_from}
-use Rattle.std.proofs.lemmas.Bool.{and_parts, and_from, both_ways, or_parts, or_cases}
+use Rattle.std.proofs.lemmas.Bool.{and_parts, or_parts}
 use Rattle.std.proofs.lemmas.Bool.Decides.{nat_tests}
 use Rattle.std.proofs.lemmas.List.{reverse-append, map-append, append-nil, take_more, length-take-le}
 use Rattle.std.proofs.lemmas.List.Elements.{filter-append}
-use Rattle.std.proofs.lemmas.List.Folds.{list_any-append, list_all-append}
+use Rattle.std.proofs.lemmas.List.Folds.{list_all-append}
 use Rattle.update_model.specs.declared.row_name.RowName.{RowName}
 use Rattle.update_model.specs.declared.value.Value.{Value}
 use Rattle.update_model.specs.declared.value.Value.TheVariants as value
-use Rattle.update_model.specs.Entry.{id_cmp, same_id}
+use Rattle.update_model.specs.Entry.{id_cmp}
 use Rattle.update_model.proofs.Closed.{is_some-position, position_from-push}
 use Rattle.schema.specs.declared.action.Action.{Action}
 use Rattle.schema.specs.declared.column.Column.{Column}
 use Rattle.schema.specs.declared.column.ColumnKind.{ColumnKind}
 use Rattle.schema.specs.Columns.{target_of}
 use Rattle.schema.specs.Tables.{name_cmp}
-use Rattle.schema.specs.Visible.{Rules, TableRow, RowRef, same_row, refs_in, ref_in, ref_to, is_cascade, cascade_refs, table_of, missing_table}
+use Rattle.schema.specs.Visible.{Rules, TableRow, RowRef, same_row, refs_in, ref_in, ref_to, is_cascade, cascade_refs, missing_table}
 use Rattle.schema.proofs.Standing.{row_from_same, same_row-refl}
 use Rattle.tuple_state.specs.declared.inserted.Inserted.{Inserted}
 use Rattle.tuple_state.specs.Kept.{are_layered, is_named, place_of}
 use Rattle.tuple_state.specs.Parents.{AreFresh, Continues, all_parents, columns_at, mark_at, name_by_cascade, parent_in, passes}
 use Rattle.tuple_state.specs.State.{row_of, rules_with}
 use Rattle.tuple_state.proofs.Layers.{layer_parts}
-use Rattle.tuple_state.proofs.Lookups.{reverse_cons, named_reversed, RowAt, row_found, get_or_from}
+use Rattle.tuple_state.proofs.Lookups.{reverse_cons, named_reversed, row_found}
 
 -- ---- names and their order
 
@@ -189,7 +189,7 @@ parents_are test (column ∷ columns) (v ∷ values) =
     ∙ list_all-append (λ (r : RowRef). test r.name) (filter (λ (r : RowRef). is_cascade r.action) (ref_in column.kind v)) (filter (λ (r : RowRef). is_cascade r.action) (refs_in columns values))
     ∙ (λ i. one_parent test column.kind v i && parents_are test columns values i)
 
-columns_there : (columns : List (List Column)) (number : ℕ) → (unwrap_or (slice_get (map (λ (list : List Column). record missing_table { columns = list }) columns) number) missing_table).columns ≡ columns_at columns number
+pub columns_there : (columns : List (List Column)) (number : ℕ) → (unwrap_or (slice_get (map (λ (list : List Column). record missing_table { columns = list }) columns) number) missing_table).columns ≡ columns_at columns number
 columns_there [] number = refl
 columns_there (list ∷ columns) zero = refl
 columns_there (list ∷ columns) (suc number) = columns_there columns number
@@ -223,7 +223,7 @@ pub named_before : (columns : List (List Column)) (rows : List Inserted) → are
 named_before columns rows h p q k it at agree =
     let s = split_at rows k it at in
     let layer = layer_parts (rules_with columns) (reverse (map row_of s.before)) (row_of it)
-        (layered_split (rules_with columns) s.before s.after it (subst (λ l. are_layered (rules_with columns) (reverse (map row_of l)) ≡ true) s.is h)) in
+    (layered_split (rules_with columns) s.before s.after it (subst (λ l. are_layered (rules_with columns) (reverse (map row_of l)) ≡ true) s.is h)) in
     all_agree (λ r. p r.name) (λ r. q r.name) (λ r. is_named (reverse (map row_of s.before)) r.name)
     (λ r there.
     let f = found_before (λ (row : Inserted). same_row row.name r.name) 0 s.before (it ∷ s.after) (sym (named_reversed s.before r.name) ∙ there) in

@@ -1,5 +1,5 @@
 -- What the ancestors of an update did: they are a closed list of their own.
-use Rattle.std.proofs.Common.{◌≡◌, ℕ, suc, Bool, true, false, cond, not, ◌&&◌, ◌||◌, List, [], ◌∷◌, ◌++◌, length, map, reverse, refl, sym, ap, ◌∙◌, subst, inl, inr, append_assoc}
+use Rattle.std.proofs.Common.{◌≡◌, ℕ, Bool, true, false, cond, ◌&&◌, ◌||◌, List, [], ◌∷◌, ◌++◌, length, map, reverse, refl, sym, ap, ◌∙◌, subst, inl, inr, append_assoc}
 use Rattle.std.specs.Prelude.{filter}
 use Rattle.std.specs.List.{list_any, list_all, AllByRecursion}
 use Rattle.std.proofs.lemmas.Bool.{and_parts, or_cases, or_right, or_left, or_parts, and_from, both_ways, false_from_ne_true}
@@ -13,7 +13,7 @@ use Rattle.update_model.specs.Node.{NodeData}
 use Rattle.update_model.proofs.Ids.{id_from_same, same_id-refl}
 use Rattle.schema.specs.declared.verdict.Verdict.{Verdict}
 use Rattle.schema.specs.declared.verdict.Verdict.TheVariants as verdict
-use Rattle.schema.specs.Nodes.{holds, IsNext, IsClosed}
+use Rattle.schema.specs.Nodes.{holds, IsClosed}
 use Rattle.schema.specs.Verdicts.{Judged, ancestor_of, effects, effects_of, is_valid, joined, judge_next, judged, verdict_on}
 use Rattle.schema.specs.Visible.{Effects, Rules, TableRow}
 use Rattle.schema.proofs.Order.{any_weaker, ancestors_held, at_id}
@@ -23,7 +23,7 @@ use Rattle.tuple_state.specs.declared.inserted.Inserted.{Inserted}
 use Rattle.tuple_state.specs.declared.dropped.Dropped.{Dropped}
 use Rattle.tuple_state.specs.Kept.{are_layered}
 use Rattle.tuple_state.specs.Past.{IsPastOf, done_then}
-use Rattle.tuple_state.specs.State.{State, after, dropped_at, inserted_at, row_of, state_of}
+use Rattle.tuple_state.specs.State.{after, dropped_at, inserted_at, row_of, state_of}
 use Rattle.tuple_state.proofs.Effects.{newest_rows, newest_names, count_is}
 use Rattle.tuple_state.proofs.Layers.{layered_founded}
 
@@ -49,6 +49,14 @@ filter_filtered p k h (x ∷ xs) =
       | false ↦ λ e. let none : p x ≡ false = false_from_ne_true (p x) (λ y. both_ways _ e (h x y)) in rest ∙ ap (λ b. cond b (x ∷ filter p xs) (filter p xs)) (sym none)
     ] in
     step (k x) refl
+
+-- what passes nowhere passes nowhere among fewer
+pub fewer_any : {X : Type 0} (p k : X → Bool) (xs : List X) → list_any p xs ≡ false → list_any p (filter k xs) ≡ false
+fewer_any p k [] h = refl
+fewer_any p k (x ∷ xs) h =
+    let parts = or_parts (p x) _ h in
+    let rest = fewer_any p k xs parts.1 in
+    elim (k x) as (λ b. list_any p (cond b (x ∷ filter k xs) (filter k xs)) ≡ false) [ true ↦ ap (λ b. b || list_any p (filter k xs)) parts.0 ∙ rest | false ↦ rest ]
 
 -- The ids that are kept have their predecessors among them.
 abbrev pub KeepsPreds : (UpdateId → Bool) → List Judged → Type 0
@@ -112,8 +120,9 @@ module _ (rules : Rules) where
       let js = judged rules older in (
         ((λ h id named. absurd (not_own node older c h)), through node js js (λ p h. h) rest (names_own older)),
         each_later (λ j k. j.is_ancestor k.node.id ≡ true → (id : UpdateId) → has k.node.preds id ≡ true → j.is_ancestor id ≡ true) (judge_next rules js node) js js
-        (late node js (λ h. both_ways _ c.0.new (ancestors_held rules older c.1 node.id h))) rest,
+            (late node js (λ h. both_ways _ c.0.new (ancestors_held rules older c.1 node.id h))) rest,
       )
+
   -- the ancestors of the next node have their predecessors among them
   pub past_keeps : (node : NodeData) (older : List NodeData) → IsClosed older → KeepsPreds (ancestor_of (judged rules older) node) (judged rules older)
   past_keeps node older c =
@@ -144,13 +153,6 @@ module _ (rules : Rules) where
     held_kept older id k h =
         any_filtered (λ (n : NodeData). same_id id n.id) (λ (n : NodeData). keep n.id) (λ n e. subst (λ (i : UpdateId). keep i ≡ true) (id_from_same id n.id e) k) older ∙ h
 
-    fewer : {X : Type 0} (p k : X → Bool) (xs : List X) → list_any p xs ≡ false → list_any p (filter k xs) ≡ false
-    fewer p k [] h = refl
-    fewer p k (x ∷ xs) h =
-        let parts = or_parts (p x) _ h in
-        let rest = fewer p k xs parts.1 in
-        elim (k x) as (λ b. list_any p (cond b (x ∷ filter k xs) (filter k xs)) ≡ false) [ true ↦ ap (λ b. b || list_any p (filter k xs)) parts.0 ∙ rest | false ↦ rest ]
-
     all_held : (ids : List UpdateId) (older : List NodeData) → ((id : UpdateId) → has ids id ≡ true → keep id ≡ true) → list_all (holds older) ids ≡ true → list_all (holds (chosen older)) ids ≡ true
     all_held [] older k h = refl
     all_held (id ∷ ids) older k h =
@@ -179,7 +181,7 @@ module _ (rules : Rules) where
               (λ i. filter (λ j. same j.node.id i) (kept js)) ∙ filter_filtered (λ j. ancestor_of js node j.node.id) (λ j. keep j.node.id) (λ j h. far.0 e j.node.id h) js in
               let one : judge_next rules (kept js) node ≡ judge_next rules js node =
               λ i. record { node = node; is_ancestor = λ id. same id i; verdict = verdict_on rules (effects (past i)) node } in (
-                (record { new = fewer (λ (n : NodeData). same_id node.id n.id) (λ (n : NodeData). keep n.id) older c.0.new; preds = all_held node.preds older names c.0.preds }, rest.closed),
+                (record { new = fewer_any (λ (n : NodeData). same_id node.id n.id) (λ (n : NodeData). keep n.id) older c.0.new; preds = all_held node.preds older names c.0.preds }, rest.closed),
                 ap (λ l. judge_next rules l node ∷ l) rest.is ∙ ap (λ (j : Judged). j ∷ kept js) one,
               )
           | false ↦ λ e. (rest.closed, rest.is)
@@ -243,19 +245,19 @@ did_then rules past keep (node ∷ older) a =
     let valid : (b : Bool) → past state.count ≡ b → done_then (after state node verdict.Valid) past ≡ cond b (joined (effects_of node) (effects (filter (λ j. keep j.node.id) js))) (effects (filter (λ j. keep j.node.id) js)) =
     elim [
       | true ↦ λ e. λ i. record {
-          inserted = (ap (λ l. reverse (map row_of l)) (filter-append (λ (it : Inserted). past it.position) state.inserted (map (inserted_at state.count) (reverse rows))
-              ∙ ap (λ l. old_rows ++ l) (kept_rows past state.count (reverse rows) ∙ ap (λ b. cond b (map (inserted_at state.count) (reverse rows)) []) e))
-              ∙ newest_rows old_rows state.count rows ∙ ap (λ (g : Effects). rows ++ g.inserted) rest) i;
-          deleted = (ap (λ l. reverse (map (λ (it : Dropped). it.name) l)) (filter-append (λ (it : Dropped). past it.position) state.dropped (map (dropped_at state.count) (reverse names))
-              ∙ ap (λ l. old_names ++ l) (kept_names past state.count (reverse names) ∙ ap (λ b. cond b (map (dropped_at state.count) (reverse names)) []) e))
-              ∙ newest_names old_names state.count names ∙ ap (λ (g : Effects). names ++ g.deleted) rest) i;
-        }
+        inserted = (ap (λ l. reverse (map row_of l)) (filter-append (λ (it : Inserted). past it.position) state.inserted (map (inserted_at state.count) (reverse rows))
+            ∙ ap (λ l. old_rows ++ l) (kept_rows past state.count (reverse rows) ∙ ap (λ b. cond b (map (inserted_at state.count) (reverse rows)) []) e))
+            ∙ newest_rows old_rows state.count rows ∙ ap (λ (g : Effects). rows ++ g.inserted) rest) i;
+        deleted = (ap (λ l. reverse (map (λ (it : Dropped). it.name) l)) (filter-append (λ (it : Dropped). past it.position) state.dropped (map (dropped_at state.count) (reverse names))
+            ∙ ap (λ l. old_names ++ l) (kept_names past state.count (reverse names) ∙ ap (λ b. cond b (map (dropped_at state.count) (reverse names)) []) e))
+            ∙ newest_names old_names state.count names ∙ ap (λ (g : Effects). names ++ g.deleted) rest) i;
+      }
       | false ↦ λ e. (λ i. record {
-          inserted = ap (λ l. reverse (map row_of l)) (filter-append (λ (it : Inserted). past it.position) state.inserted (map (inserted_at state.count) (reverse rows))
-              ∙ ap (λ l. old_rows ++ l) (kept_rows past state.count (reverse rows) ∙ ap (λ b. cond b (map (inserted_at state.count) (reverse rows)) []) e) ∙ append-nil old_rows) i;
-          deleted = ap (λ l. reverse (map (λ (it : Dropped). it.name) l)) (filter-append (λ (it : Dropped). past it.position) state.dropped (map (dropped_at state.count) (reverse names))
-              ∙ ap (λ l. old_names ++ l) (kept_names past state.count (reverse names) ∙ ap (λ b. cond b (map (dropped_at state.count) (reverse names)) []) e) ∙ append-nil old_names) i;
-        }) ∙ rest
+        inserted = ap (λ l. reverse (map row_of l)) (filter-append (λ (it : Inserted). past it.position) state.inserted (map (inserted_at state.count) (reverse rows))
+            ∙ ap (λ l. old_rows ++ l) (kept_rows past state.count (reverse rows) ∙ ap (λ b. cond b (map (inserted_at state.count) (reverse rows)) []) e) ∙ append-nil old_rows) i;
+        deleted = ap (λ l. reverse (map (λ (it : Dropped). it.name) l)) (filter-append (λ (it : Dropped). past it.position) state.dropped (map (dropped_at state.count) (reverse names))
+            ∙ ap (λ l. old_names ++ l) (kept_names past state.count (reverse names) ∙ ap (λ b. cond b (map (dropped_at state.count) (reverse names)) []) e) ∙ append-nil old_names) i;
+      }) ∙ rest
     ] in
     let j = judge_next rules js node in
     let step : (v : Verdict) → done_then (after state node v) past

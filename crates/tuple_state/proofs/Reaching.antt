@@ -1,5 +1,5 @@
 -- A row is visible after an update's ancestors exactly where no row to which CASCADE references lead from it is missing or deleted then.
-use Rattle.std.proofs.Common.{◌≡◌, ℕ, zero, suc, ◌+◌, ◌<◌, ◌≤◌, Bool, true, false, cond, not, ◌&&◌, List, [], ◌∷◌, ◌++◌, length, max, map, reverse, refl, sym, ap, ◌∙◌, subst, Option, Some, None, nat_lt, inl, inr, arith}
+use Rattle.std.proofs.Common.{◌≡◌, ℕ, zero, suc, ◌<◌, ◌≤◌, Bool, true, false, cond, not, ◌&&◌, List, [], ◌∷◌, ◌++◌, length, map, reverse, refl, sym, ap, ◌∙◌, subst, Some, nat_lt, inl, inr, arith}
 use Rattle.std.specs.Prelude.{slice_get, filter, All}
 use Rattle.std.specs.declared.cmp.Ordering.TheVariants.{Less}
 use Rattle.std.specs.Ordering.{nat_cmp}
@@ -10,11 +10,11 @@ use Rattle.std.proofs.lemmas.List.Elements.{recursion_from_All}
 use Rattle.std.proofs.lemmas.List.Folds.{list_all-append}
 use Rattle.update_model.specs.declared.row_name.RowName.{RowName}
 use Rattle.schema.specs.declared.column.Column.{Column}
-use Rattle.schema.specs.Visible.{Effects, Rules, TableRow, cascade_refs, is_deleted, is_visible, same_row}
+use Rattle.schema.specs.Visible.{Effects, TableRow, cascade_refs, is_deleted, is_visible, same_row}
 use Rattle.schema.proofs.Founded.{all_weaker}
 use Rattle.schema.proofs.Standing.{row_from_same}
 use Rattle.tuple_state.specs.declared.inserted.Inserted.{Inserted}
-use Rattle.tuple_state.specs.Kept.{are_layered, is_named, place_of}
+use Rattle.tuple_state.specs.Kept.{are_layered, place_of}
 use Rattle.tuple_state.specs.Parents.{limit_of, passes_place, passes_row}
 use Rattle.tuple_state.specs.State.{row_of, rules_with}
 use Rattle.tuple_state.proofs.Layers.{Stands, each_stands, row_visible, unnamed_hidden, visible_is}
@@ -22,7 +22,7 @@ use Rattle.tuple_state.proofs.Lookups.{named_reversed, row_found}
 use Rattle.tuple_state.proofs.Marks.{found_layered, named_before}
 use Rattle.tuple_state.proofs.Regrowth.{each_back}
 
-filtered_at : (P : TableRow → Type 0) (keep : Inserted → Bool) (rows : List Inserted) (k : ℕ) (it : Inserted) → AllByRecursion P (map row_of (filter keep rows)) → slice_get rows k ≡ Some it → keep it ≡ true → P (row_of it)
+pub filtered_at : (P : TableRow → Type 0) (keep : Inserted → Bool) (rows : List Inserted) (k : ℕ) (it : Inserted) → AllByRecursion P (map row_of (filter keep rows)) → slice_get rows k ≡ Some it → keep it ≡ true → P (row_of it)
 filtered_at P keep [] k it h at kept = absurd (cc)
 filtered_at P keep (row ∷ rows) zero it h at kept =
     let same : row ≡ it = cc in

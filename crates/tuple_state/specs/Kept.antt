@@ -1,13 +1,12 @@
 -- What tables keep beside their state, so that look-ups are quick.
-use Rattle.std.specs.Prelude.{◌≡◌, ℕ, suc, ◌+◌, ◌*◌, ◌≤◌, Bool, true, not, ◌&&◌, List, [], ◌∷◌, ◌++◌, length, map, Option, if◌then◌else◌}
+use Rattle.std.specs.Prelude.{◌≡◌, ℕ, ◌*◌, ◌≤◌, Bool, true, not, ◌&&◌, List, [], ◌∷◌, length, map, Option}
 use Rattle.std.specs.List.{list_any, list_all, position_from}
 use Rattle.std.specs.BTreeMap.{get, BTreeMap}
 use Rattle.update_model.specs.declared.row_name.RowName.{RowName}
 use Rattle.schema.specs.Tables.{name_cmp}
 use Rattle.schema.specs.Visible.{Rules, TableRow, cascade_refs, is_visible, same_row}
 use Rattle.tuple_state.specs.declared.inserted.Inserted.{Inserted}
-use Rattle.tuple_state.specs.declared.dropped.Dropped.{Dropped}
-use Rattle.tuple_state.specs.State.{State, done_in, rules_of, row_of}
+use Rattle.tuple_state.specs.State.{State, done_in, rules_of}
 
 -- whether one of these rows has this name
 abbrev pub is_named : List TableRow → RowName → Bool

@@ -1,5 +1,5 @@
 -- The rows that a row names by CASCADE, column by column.
-use Rattle.std.specs.Prelude.{◌≡◌, ℕ, suc, max, ◌<◌, ◌≤◌, Bool, true, false, ◌&&◌, List, [], ◌∷◌, ◌++◌, slice_get, slice_index_or, unwrap_or, Option, None, Some, if◌then◌else◌}
+use Rattle.std.specs.Prelude.{◌≡◌, ℕ, suc, max, ◌<◌, ◌≤◌, Bool, true, false, ◌&&◌, ◌||◌, List, [], ◌∷◌, ◌++◌, slice_get, slice_index_or, unwrap_or, Option, None, Some, if◌then◌else◌}
 use Rattle.std.specs.List.{list_all, list_any}
 use Rattle.update_model.specs.declared.row_name.RowName.{RowName}
 use Rattle.update_model.specs.declared.value.Value.{Value}
@@ -7,7 +7,7 @@ use Rattle.update_model.specs.declared.value.Value.TheVariants as value
 use Rattle.schema.specs.declared.action.Action.{Action}
 use Rattle.schema.specs.declared.column.Column.{Column}
 use Rattle.schema.specs.declared.column.ColumnKind.{ColumnKind}
-use Rattle.schema.specs.Columns.{target_of}
+use Rattle.schema.specs.Columns.{is_restrict, target_of}
 use Rattle.schema.specs.Visible.{Rules, cascade_refs, is_cascade, same_row}
 use Rattle.tuple_state.specs.declared.inserted.Inserted.{Inserted}
 use Rattle.tuple_state.specs.State.{row_of}
@@ -68,3 +68,28 @@ passes_row test (Some it) = test it.name
 unfoldable pub limit_of : List ℕ → ℕ
 limit_of [] = 0
 limit_of (place ∷ places) = max (suc place) (limit_of places)
+
+-- a row's name, where the column is a reference by RESTRICT
+abbrev pub name_by_restrict : RowName → Option (ℕ × Action) → Option RowName
+name_by_restrict name None = None
+name_by_restrict name (Some target) = if is_restrict target.1 then Some name else None
+
+-- the row that a value names by RESTRICT in a column of this kind
+abbrev pub held_in : ColumnKind → Value → Option RowName
+held_in kind (value.Row name) = name_by_restrict name (target_of kind)
+held_in kind other = None
+
+-- whether it is this row
+abbrev pub is_row : RowName → Option RowName → Bool
+is_row name None = false
+is_row name (Some named) = same_row named name
+
+-- whether a value names this row by RESTRICT in a column of this kind
+abbrev pub restricts_in : RowName → ColumnKind → Value → Bool
+restricts_in name kind v = is_row name (held_in kind v)
+
+-- whether one of these values does
+unfoldable pub any_restricts : RowName → List Column → List Value → Bool
+any_restricts name [] values = false
+any_restricts name (column ∷ columns) [] = false
+any_restricts name (column ∷ columns) (value ∷ values) = restricts_in name column.kind value || any_restricts name columns values

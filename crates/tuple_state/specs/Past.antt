@@ -1,5 +1,5 @@
 -- The rows that are visible after the ancestors of one update, and what they answer.
-use Rattle.std.specs.Prelude.{◌≡◌, ℕ, ◌<◌, ◌+◌, Bool, ◌&&◌, List, ◌∷◌, ◌++◌, count_by, filter, length, map, reverse, Option}
+use Rattle.std.specs.Prelude.{◌≡◌, ℕ, ◌<◌, Bool, ◌&&◌, List, ◌∷◌, ◌++◌, count_by, filter, length, map, reverse, Option}
 use Rattle.update_model.specs.declared.row_entry.RowEntry.{RowEntry}
 use Rattle.update_model.specs.declared.row_name.RowName.{RowName}
 use Rattle.update_model.specs.declared.value.Value.{Value}
@@ -7,7 +7,7 @@ use Rattle.update_model.specs.Node.{NodeData}
 use Rattle.row_check.specs.Meaning.{value_at}
 use Rattle.schema.specs.declared.verdict.Verdict.{Verdict}
 use Rattle.schema.specs.Nodes.{IsNext}
-use Rattle.schema.specs.Verdicts.{ancestor_of, effects, in_table, judge_next, judged}
+use Rattle.schema.specs.Verdicts.{ancestor_of, in_table, judge_next, judged}
 use Rattle.schema.specs.Visible.{Effects, Rules, TableRow, visible_rows}
 use Rattle.row_check.specs.declared.cmp.Cmp.TheVariants as cmp
 use Rattle.row_check.specs.Comparisons.{compares}

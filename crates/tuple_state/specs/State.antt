@@ -1,7 +1,6 @@
 -- What tables hold: what the valid updates did, in the order in which they were applied, and the updates that do nothing.
 use Rattle.std.specs.Prelude.{◌≡◌, ℕ, ◌+◌, false, List, [], ◌∷◌, ◌++◌, map, reverse}
 use Rattle.update_model.specs.declared.row_name.RowName.{RowName}
-use Rattle.update_model.specs.declared.value.Value.{Value}
 use Rattle.update_model.specs.Node.{NodeData}
 use Rattle.schema.specs.declared.column.Column.{Column}
 use Rattle.schema.specs.declared.table_def.TableDef.{TableDef}

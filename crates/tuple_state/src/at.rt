@@ -1,9 +1,11 @@
 ghost use Rattle.std.specs.Prelude.{◌≡◌, ◌<◌, true, not, ◌&&◌, IfOk, Some, length, slice_get};
-ghost use Rattle.schema.specs.Visible.{is_deleted, is_visible, same_row};
+ghost use Rattle.schema.specs.Visible.{is_deleted, is_visible, refs, same_row};
+ghost use Rattle.schema.specs.Columns.{is_restrict};
+ghost use Rattle.std.specs.List.{list_any};
 ghost use Rattle.tuple_state.specs.declared.inserted.Inserted.{Inserted as Row};
 ghost use Rattle.tuple_state.specs.Kept.{are_layered};
 ghost use Rattle.tuple_state.specs.Past.{StandsAt, child_then, count_then, done_then, equal_then, row_then};
-ghost use Rattle.tuple_state.specs.State.{done_in, rules_of};
+ghost use Rattle.tuple_state.specs.State.{done_in, row_of, rules_of};
 
 use crate::{Dropped, Tables};
 use std::alloc::{AllocError, Global};
@@ -53,6 +55,20 @@ impl<'a, A: Ancestors> At<'a, A> {
         if drop.name == *name {
             self.ancestors
                 .is_ancestor(alloc, drop.position, self.position)
+        } else {
+            Ok(false)
+        }
+    }
+
+    /// Whether the row at a place is visible then and names this one by `RESTRICT`.
+    fn restricts(&self, alloc: Global, place: usize, name: &RowName) -> Result<bool, AllocError>
+        requires { place < length self.now.tables.now.inserted }
+        ensures { IfOk result (λ answer. (it : Row) → slice_get self.now.tables.now.inserted place ≡ Some it
+            → answer ≡ (is_visible (rules_of self.now.tables.now) (done_then self.now.tables.now (λ p. A.ancestor self.now.ancestors.now p self.now.position)) it.name
+            && list_any (λ r. is_restrict r.action && same_row r.name name.now) (refs (rules_of self.now.tables.now) (row_of it)))) }
+    {
+        if self.tables.restricts(place, name) {
+            self.stands(alloc, place)
         } else {
             Ok(false)
         }
@@ -121,7 +137,12 @@ impl<'a, A: Ancestors> RowsAt for At<'a, A> {
     /// Whether a row that is visible then names this one by `RESTRICT`. It goes over all rows, since no schema that is
     /// accepted has such a reference.
     fn restrict_child(&self, alloc: Global, name: &RowName) -> Result<bool, AllocError> {
-        Err(AllocError)
+        for place in 0..self.tables.row_len() {
+            if self.restricts(alloc, place, name)? {
+                return Ok(true);
+            }
+        }
+        Ok(false)
     }
 
     /// How many rows of the table that are visible then have this value in this column, as `UNIQUE` compares them. It

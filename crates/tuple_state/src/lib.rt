@@ -14,6 +14,7 @@ mod dropped;
 mod inserted;
 mod laws;
 mod parents;
+mod restricts;
 mod showing;
 mod sorting;
 mod steps;

@@ -130,12 +130,7 @@ fn hide(
 }
 
 /// Takes the mark of the row with this name away.
-fn unmark(
-    shown: &mut [bool],
-    rows: &[Inserted],
-    places: &BTreeMap<RowName, usize>,
-    name: &RowName,
-)
+fn unmark(shown: &mut [bool], rows: &[Inserted], places: &BTreeMap<RowName, usize>, name: &RowName)
     requires placed { (name : Name) → get name_cmp places.now name ≡ place_of rows.now name }
     requires found { (k : ℕ) (it : Row) → slice_get rows.now k ≡ Some it → place_of rows.now it.name ≡ Some k }
     requires each { length shown.old ≡ length rows.now }

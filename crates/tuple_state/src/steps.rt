@@ -18,7 +18,14 @@ pub(crate) fn inserted_by(
     let mut rows = Vec::new(alloc);
     let ops = node.ops.as_slice();
     for number in 0..ops.len() {
-        add_row(alloc, &mut rows, position, node, number as u16, &ops[number])?;
+        add_row(
+            alloc,
+            &mut rows,
+            position,
+            node,
+            number as u16,
+            &ops[number],
+        )?;
     }
     Ok(rows)
 }

@@ -1,12 +1,13 @@
 ghost use Rattle.std.specs.Prelude.{◌≡◌, ℕ, ◌+◌, ◌<◌, ◌≤◌, Bool, List, [], ◌∷◌, ◌++◌, IfOk, OnOk, MatchResult, filter, length, slice_get, vec_len, Some, true, ◌&&◌};
-ghost use Rattle.std.specs.List.{list_all};
+ghost use Rattle.std.specs.List.{list_all, list_any};
 ghost use Rattle.std.specs.Vec.{vec_capacity};
 ghost use Rattle.schema.specs.declared.verdict.Verdict.TheVariants.{Valid};
 ghost use Rattle.update_model.specs.declared.value.Value.{Value};
 ghost use Rattle.update_model.specs.Node.{NodeData};
 ghost use Rattle.schema.specs.Tables.{AreRowsIn, AreVoidsIn};
 ghost use Rattle.schema.specs.Verdicts.{ancestor_of, effects, effects_in, judged};
-ghost use Rattle.schema.specs.Visible.{Rules, cascade_refs, is_visible};
+ghost use Rattle.schema.specs.Visible.{Rules, cascade_refs, is_visible, refs, same_row};
+ghost use Rattle.schema.specs.Columns.{is_restrict};
 ghost use Rattle.validity.specs.Answers.{AreAnswers};
 ghost use Rattle.tuple_state.specs.Past.{IsNextVerdict, IsPastOf, StandsAt};
 ghost use Rattle.tuple_state.specs.Kept.{are_layered, place_of};
@@ -16,6 +17,7 @@ ghost use Rattle.tuple_state.specs.declared.inserted.Inserted.{Inserted as Row};
 
 use crate::columns::{columns_of, copy_lists};
 use crate::parents::{add_parents, add_places, remark};
+use crate::restricts::restricts;
 use crate::showing::{copy_rows, listed_among};
 use crate::sorting::{sort_lines, sort_rows};
 use crate::steps::{dropped_by, inserted_by};
@@ -137,6 +139,26 @@ impl Tables {
         }
     }
 
+    /// How many rows were inserted.
+    pub(crate) fn row_len(&self) -> usize
+        ensures { result ≡ length self.now.inserted }
+    {
+        self.rows.as_slice().len()
+    }
+
+    /// Whether the row at a place names this one by `RESTRICT`.
+    pub(crate) fn restricts(&self, place: usize, name: &RowName) -> bool
+        requires { place < length self.now.inserted }
+        ensures { (it : Row) → slice_get self.now.inserted place ≡ Some it
+            → result ≡ list_any (λ r. is_restrict r.action && same_row r.name name.now) (refs (rules_of self.now) (row_of it)) }
+    {
+        let entry = &self.rows[place].entry;
+        match self.columns.get(usize::from(entry.table)) {
+            Some(columns) => restricts(columns.as_slice(), entry.values.as_slice(), name),
+            None => false,
+        }
+    }
+
     /// Keeps what a valid update does. Memory is taken before anything changes.
     fn keep_valid(&mut self, node: &Node) -> Result<(), AllocError>
         requires next { IsNextVerdict self.old node.now Valid }
@@ -153,11 +175,7 @@ impl Tables {
             inserted.len(),
             dropped.len(),
         )?;
-        add_places(
-            &mut self.places,
-            self.rows.as_slice(),
-            inserted.as_slice(),
-        )?;
+        add_places(&mut self.places, self.rows.as_slice(), inserted.as_slice())?;
         self.shown.resize(first + inserted.len(), true).unwrap();
         self.rows.append(&mut inserted).unwrap();
         remark(
@@ -197,7 +215,7 @@ impl Tables {
         self.is_shown(row)
     }
 
-    /// Whether a row with this name is visible.
+    /// The same answer, told of what the tables hold.
     pub(crate) fn is_shown(&self, row: &RowName) -> bool
         ensures { result ≡ is_visible (rules_of self.now) (done_in self.now) row.now }
     {

@@ -1,4 +1,3 @@
-use Rattle.schema.specs.Verdicts.{judge_next, judged}
 use Rattle.tuple_state.specs.State.{after, state_of}
 use Rattle.tuple_state.proofs.laws.applied_is_next.Goals as goal
 

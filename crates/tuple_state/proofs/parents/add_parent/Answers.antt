@@ -1,4 +1,4 @@
-use Rattle.std.proofs.Common.{◌≡◌, ℕ, Bool, ◌&&◌, Option, ap, ◌∙◌}
+use Rattle.std.proofs.Common.{ℕ, ◌&&◌, Option, ap, ◌∙◌}
 use Rattle.std.specs.BTreeMap.{get}
 use Rattle.std.specs.List.{list_all}
 use Rattle.update_model.specs.declared.row_name.RowName.{RowName}

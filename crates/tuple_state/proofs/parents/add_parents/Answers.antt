@@ -1,4 +1,4 @@
-use Rattle.std.proofs.Common.{◌≡◌, ◌<◌, ◌≤◌, true, subst}
+use Rattle.std.proofs.Common.{◌<◌, ◌≤◌, true, subst}
 use Rattle.tuple_state.proofs.Walking.{parents_added, parents_done}
 use Rattle.tuple_state.proofs.parents.add_parents.Goals as goal
 

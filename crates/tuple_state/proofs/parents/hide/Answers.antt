@@ -1,4 +1,3 @@
-use Rattle.std.proofs.Common.{◌≡◌}
 use Rattle.tuple_state.proofs.Marking.{hide_end, hide_step}
 use Rattle.tuple_state.proofs.parents.hide.Goals as goal
 

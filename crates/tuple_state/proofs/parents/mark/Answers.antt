@@ -1,4 +1,4 @@
-use Rattle.std.proofs.Common.{◌≡◌, refl, arith}
+use Rattle.std.proofs.Common.{refl, arith}
 use Rattle.tuple_state.proofs.Marking.{marked_step, slice_get_below}
 use Rattle.tuple_state.proofs.parents.mark.Goals as goal
 

@@ -1,4 +1,4 @@
-use Rattle.std.proofs.Common.{◌≡◌, ◌≤◌, Bool, ◌&&◌, List, length, sym, ◌∙◌, subst}
+use Rattle.std.proofs.Common.{◌≤◌, ◌&&◌, length, sym, subst}
 use Rattle.std.specs.BTreeMap.{get}
 use Rattle.schema.specs.Tables.{name_cmp}
 use Rattle.tuple_state.specs.Parents.{all_parents, mark_at}

@@ -1,4 +1,4 @@
-use Rattle.std.proofs.Common.{◌≡◌, ◌<◌, ◌≤◌, sym, ◌∙◌, subst}
+use Rattle.std.proofs.Common.{◌<◌, ◌≤◌, sym, ◌∙◌, subst}
 use Rattle.tuple_state.proofs.Marking.{parents_end, parents_false, parents_true}
 use Rattle.tuple_state.proofs.parents.parents_marked.Goals as goal
 

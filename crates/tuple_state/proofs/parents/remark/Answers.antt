@@ -1,4 +1,3 @@
-use Rattle.std.proofs.Common.{◌≡◌}
 use Rattle.tuple_state.proofs.parents.remark.Goals as goal
 
 pub returns : goal.returns

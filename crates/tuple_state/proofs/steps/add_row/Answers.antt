@@ -1,6 +1,5 @@
-use Rattle.std.proofs.Common.{◌≡◌, ◌++◌, [], ◌∷◌, List, map, ap, sym, ◌∙◌}
+use Rattle.std.proofs.Common.{◌++◌, [], ◌∷◌, List, map, ap, sym, ◌∙◌}
 use Rattle.update_model.specs.declared.op.Op.{Op}
-use Rattle.update_model.specs.declared.value.Value.{Value}
 use Rattle.update_model.specs.Node.{NodeData}
 use Rattle.schema.specs.Verdicts.{named}
 use Rattle.tuple_state.specs.declared.inserted.Inserted.{Inserted}
@@ -11,7 +10,7 @@ pub returns-in_ok-push-in-Insert : goal.returns-in_ok-push-in-Insert
 returns-in_ok-push-in-Insert c =
     let old = c.args.rows.now.items in
     let values = c.in_ok-all_named-in-Insert.ensures ∙ ap (map (named c.node.inside.id)) c.as_slice.ensures
-        ∙ ap (λ (n : NodeData). map (named n.id) c.in-Insert.values) c.node.view_is in
+    ∙ ap (λ (n : NodeData). map (named n.id) c.in-Insert.values) c.node.view_is in
     let row : List Inserted = old ++ row_by c.args.position c.args.node.now c.args.number c.args.op.now in
     c.in_ok-push-in-Insert.ensures.items
     ∙ (λ i. old ++ record {

@@ -1,4 +1,4 @@
-use Rattle.std.proofs.Common.{◌≡◌, ◌<◌, ◌≤◌, ap, ◌∙◌, List, length, get_or, subst}
+use Rattle.std.proofs.Common.{◌<◌, ◌≤◌, ap, ◌∙◌, List, length, get_or, subst}
 use Rattle.update_model.specs.declared.op.Op.{Op}
 use Rattle.update_model.specs.Node.{NodeData}
 use Rattle.tuple_state.proofs.Stepping.{names_all, names_end, names_step}

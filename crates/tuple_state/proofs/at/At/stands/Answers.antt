@@ -1,4 +1,4 @@
-use Rattle.std.proofs.Common.{◌≡◌, ℕ, Bool, [], refl, sym, ◌∙◌}
+use Rattle.std.proofs.Common.{ℕ, Bool, [], refl, sym, ◌∙◌}
 use Rattle.tuple_state.proofs.Dropping.{popped_below, row_there}
 use Rattle.tuple_state.proofs.Reaching.{go_on, in_range, shrinks, stop}
 use Rattle.tuple_state.specs.Past.{done_then}

@@ -1,4 +1,4 @@
-use Rattle.std.proofs.Common.{◌≡◌, ℕ, true, nat_lt, length, Some}
+use Rattle.std.proofs.Common.{◌≡◌, true, nat_lt, length, Some}
 use Rattle.std.specs.Prelude.{slice_get}
 use Rattle.std.specs.List.{list_all}
 use Rattle.schema.specs.Visible.{is_visible}
@@ -13,8 +13,8 @@ abbrev pub invariant-loop-next : goal.invariant-loop-next
 invariant-loop-next g l = record {
   there : list_all (λ k. nat_lt k (length l.self.tables.now.inserted)) l.pending.keys ≡ true;
   same : (it : Inserted) → slice_get l.self.tables.now.inserted l.place ≡ Some it
-  → is_visible (rules_of l.self.tables.now) (done_then l.self.tables.now (λ p. g.A.Ancestors.ancestor l.self.ancestors.now p l.self.position)) it.name
-  ≡ list_all (λ k. passes_row (is_visible (rules_of l.self.tables.now) (done_then l.self.tables.now (λ p. g.A.Ancestors.ancestor l.self.ancestors.now p l.self.position))) (slice_get l.self.tables.now.inserted k)) l.pending.keys;
+      → is_visible (rules_of l.self.tables.now) (done_then l.self.tables.now (λ p. g.A.Ancestors.ancestor l.self.ancestors.now p l.self.position)) it.name
+      ≡ list_all (λ k. passes_row (is_visible (rules_of l.self.tables.now) (done_then l.self.tables.now (λ p. g.A.Ancestors.ancestor l.self.ancestors.now p l.self.position))) (slice_get l.self.tables.now.inserted k)) l.pending.keys;
 }
 
 abbrev pub decreases-loop-next : goal.decreases-loop-next

@@ -1,10 +1,9 @@
-use Rattle.std.proofs.Common.{◌≡◌, ℕ, ◌<◌, ◌≤◌, ◌&&◌, List, [], length, get_or, Some, refl, ap, ap₂, sym, ◌∙◌, subst}
-use Rattle.std.specs.Prelude.{slice_get, unwrap_or}
+use Rattle.std.proofs.Common.{◌≤◌, ◌&&◌, List, [], length, ap, sym, ◌∙◌, subst}
+use Rattle.std.specs.Prelude.{slice_get}
 use Rattle.std.specs.List.{list_all}
 use Rattle.std.specs.BTreeMap.{get}
 use Rattle.schema.specs.declared.column.Column.{Column}
 use Rattle.schema.specs.Tables.{name_cmp}
-use Rattle.tuple_state.specs.declared.inserted.Inserted.{Inserted}
 use Rattle.schema.specs.Visible.{cascade_refs}
 use Rattle.tuple_state.specs.Kept.{place_of}
 use Rattle.tuple_state.specs.Parents.{all_parents, passes_place}

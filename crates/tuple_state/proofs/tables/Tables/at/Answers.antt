@@ -1,4 +1,4 @@
-use Rattle.std.proofs.Common.{◌≡◌, ℕ, Bool, sym, subst}
+use Rattle.std.proofs.Common.{ℕ, Bool, sym, subst}
 use Rattle.tuple_state.specs.Past.{IsPastOf}
 use Rattle.tuple_state.specs.State.{IsStateOf, State}
 use Rattle.tuple_state.proofs.Answering.{answers_then}
