@@ -1,4 +1,4 @@
-use Rattle.std.proofs.Common.{◌≡◌, List, [], sym, subst, ◌∙◌}
+use Rattle.std.proofs.Common.{List, [], sym, subst, ◌∙◌}
 use Rattle.tuple_state.specs.declared.inserted.Inserted.{Inserted}
 use Rattle.tuple_state.specs.Parents.{AreFresh}
 use Rattle.tuple_state.proofs.Marks.{fresh_layered}
