@@ -238,7 +238,7 @@ impl Tables {
         self.is_shown(row)
     }
 
-    /// Whether a row with this name is visible.
+    /// The same answer, told of what the tables hold.
     pub(crate) fn is_shown(&self, row: &RowName) -> bool
         ensures { result ≡ is_visible (rules_of self.now) (done_in self.now) row.now }
     {
