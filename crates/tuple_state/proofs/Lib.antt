@@ -1,4 +1,5 @@
 pub mod Answering
+pub mod Counting
 pub mod Dropping
 pub mod Effects
 pub mod Emptiness

@@ -1,7 +1,7 @@
 -- The rows that a table lists, by what a state holds.
-use Rattle.std.proofs.Common.{◌≡◌, ℕ, zero, suc, Bool, true, false, cond, not, ◌&&◌, List, [], ◌∷◌, ◌++◌, length, get_or, map, reverse, refl, sym, ap, ◌∙◌, subst, Some, None}
-use Rattle.std.specs.Prelude.{filter, slice_get, unwrap_or}
-use Rattle.std.specs.List.{AllByRecursion, IsDistinct, list_any}
+use Rattle.std.proofs.Common.{◌≡◌, ℕ, zero, suc, Bool, true, false, cond, ◌&&◌, List, [], ◌∷◌, ◌++◌, length, get_or, map, reverse, refl, sym, ap, ◌∙◌, subst, Some, None}
+use Rattle.std.specs.Prelude.{filter}
+use Rattle.std.specs.List.{AllByRecursion, IsDistinct}
 use Rattle.std.specs.Ordering.{eq_by_cmp}
 use Rattle.std.specs.List.Sorted.{IsPermutation, IsStrictlySortedBy}
 use Rattle.std.proofs.lemmas.Bool.{or_parts}
@@ -17,15 +17,13 @@ use Rattle.update_model.specs.Node.{NodeData}
 use Rattle.schema.specs.declared.column.Column.{Column}
 use Rattle.schema.specs.declared.column.ColumnKind.{ColumnKind}
 use Rattle.schema.specs.declared.shown_row.ShownRow.{ShownRow}
-use Rattle.schema.specs.Columns.{target_of}
-use Rattle.schema.specs.Invariants.{shown_in}
 use Rattle.schema.specs.Tables.{AreRowsIn, listed, listed_in, name_cmp}
-use Rattle.schema.specs.Verdicts.{effects_in, in_table}
-use Rattle.schema.specs.Visible.{Effects, Rules, TableRow, is_nulled, is_visible, missing_table, same_row, shown, shown_rows, shown_value, shown_values, table_of, visible_rows}
+use Rattle.schema.specs.Verdicts.{in_table}
+use Rattle.schema.specs.Visible.{Effects, Rules, TableRow, is_visible, same_row, shown, shown_rows, shown_value, shown_values, table_of}
 use Rattle.tuple_state.specs.declared.inserted.Inserted.{Inserted}
 use Rattle.tuple_state.specs.Kept.{are_layered, is_named, place_of}
 use Rattle.tuple_state.specs.Parents.{columns_at}
-use Rattle.tuple_state.specs.Showing.{is_shown_null, shown_by, shown_values_by}
+use Rattle.tuple_state.specs.Showing.{shown_by, shown_values_by}
 use Rattle.tuple_state.specs.Sorting.{HasDistinctNames}
 use Rattle.tuple_state.specs.State.{IsStateOf, State, done_in, row_of, rules_of, rules_with}
 use Rattle.tuple_state.proofs.Keeping.{layered_now}
@@ -112,11 +110,11 @@ listed_visible number f g v same [] = refl
 listed_visible number f g v same (row ∷ rows) =
     let rest = listed_visible number f g v same rows in
     elim (v row) as (λ b. map g (filter (in_table number) (map f (cond b (row ∷ filter v rows) (filter v rows))))
-        ≡ map (λ x. g (f x)) (cond (in_table number row && b) (row ∷ filter (λ x. in_table number x && v x) rows) (filter (λ x. in_table number x && v x) rows))) [
+    ≡ map (λ x. g (f x)) (cond (in_table number row && b) (row ∷ filter (λ x. in_table number x && v x) rows) (filter (λ x. in_table number x && v x) rows))) [
       | true ↦
           ap (λ b. map g (cond b (f row ∷ filter (in_table number) (map f (filter v rows))) (filter (in_table number) (map f (filter v rows))))) (same row)
           ∙ elim (in_table number row) as (λ b. map g (cond b (f row ∷ filter (in_table number) (map f (filter v rows))) (filter (in_table number) (map f (filter v rows))))
-              ≡ map (λ x. g (f x)) (cond (b && true) (row ∷ filter (λ x. in_table number x && v x) rows) (filter (λ x. in_table number x && v x) rows))) [
+          ≡ map (λ x. g (f x)) (cond (b && true) (row ∷ filter (λ x. in_table number x && v x) rows) (filter (λ x. in_table number x && v x) rows))) [
             | true ↦ ap (λ l. g (f row) ∷ l) rest
             | false ↦ rest
           ]

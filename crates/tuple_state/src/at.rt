@@ -1,6 +1,10 @@
 ghost use Rattle.std.specs.Prelude.{◌≡◌, ◌<◌, true, not, ◌&&◌, IfOk, Some, length, slice_get};
 ghost use Rattle.schema.specs.Visible.{is_deleted, is_visible, refs, same_row};
+ghost use Rattle.row_check.specs.declared.cmp.Cmp.TheVariants.{Eq};
+ghost use Rattle.row_check.specs.Comparisons.{compares};
+ghost use Rattle.row_check.specs.Meaning.{value_at};
 ghost use Rattle.schema.specs.Columns.{is_restrict};
+ghost use Rattle.schema.specs.Verdicts.{in_table};
 ghost use Rattle.std.specs.List.{list_any};
 ghost use Rattle.tuple_state.specs.declared.inserted.Inserted.{Inserted as Row};
 ghost use Rattle.tuple_state.specs.Kept.{are_layered};
@@ -13,6 +17,7 @@ use std::collections::BTreeSet;
 use update_model::{Ancestors, RowEntry, RowName, RowsAt, Value};
 
 /// The rows that are visible after the ancestors of one update, which [`Tables::at`] lends.
+#[derive(Drop)]
 pub struct At<'a, A: Ancestors> {
     tables: &'a Tables,
     ancestors: &'a A,
@@ -68,6 +73,41 @@ impl<'a, A: Ancestors> At<'a, A> {
             && list_any (λ r. is_restrict r.action && same_row r.name name.now) (refs (rules_of self.now.tables.now) (row_of it)))) }
     {
         if self.tables.restricts(place, name) {
+            self.stands(alloc, place)
+        } else {
+            Ok(false)
+        }
+    }
+
+    /// Whether the row at a place is visible then and of this table.
+    fn stands_in(&self, alloc: Global, place: usize, table: u8) -> Result<bool, AllocError>
+        requires { place < length self.now.tables.now.inserted }
+        ensures { IfOk result (λ answer. (it : Row) → slice_get self.now.tables.now.inserted place ≡ Some it
+            → answer ≡ (is_visible (rules_of self.now.tables.now) (done_then self.now.tables.now (λ p. A.ancestor self.now.ancestors.now p self.now.position)) it.name
+            && in_table table (row_of it))) }
+    {
+        if self.tables.is_in(place, table) {
+            self.stands(alloc, place)
+        } else {
+            Ok(false)
+        }
+    }
+
+    /// Whether the row at a place is visible then, of this table, and has this value in this column.
+    fn equals_in(
+        &self,
+        alloc: Global,
+        place: usize,
+        table: u8,
+        column: u8,
+        value: &Value,
+    ) -> Result<bool, AllocError>
+        requires { place < length self.now.tables.now.inserted }
+        ensures { IfOk result (λ answer. (it : Row) → slice_get self.now.tables.now.inserted place ≡ Some it
+            → answer ≡ (is_visible (rules_of self.now.tables.now) (done_then self.now.tables.now (λ p. A.ancestor self.now.ancestors.now p self.now.position)) it.name
+            && (in_table table (row_of it) && compares Eq (value_at it.entry.values column) value.now))) }
+    {
+        if self.tables.equals_at(place, table, column, value) {
             self.stands(alloc, place)
         } else {
             Ok(false)
@@ -154,12 +194,24 @@ impl<'a, A: Ancestors> RowsAt for At<'a, A> {
         column: u8,
         value: &Value,
     ) -> Result<u32, AllocError> {
-        Err(AllocError)
+        let mut count = 0;
+        for place in 0..self.tables.row_len() {
+            if self.equals_in(alloc, place, table, column, value)? {
+                count += 1;
+            }
+        }
+        Ok(count)
     }
 
     /// How many rows of the table are visible then. It goes over all rows, since no schema that is accepted has an
     /// `ATMOST`.
     fn row_count(&self, alloc: Global, table: u8) -> Result<u32, AllocError> {
-        Err(AllocError)
+        let mut count = 0;
+        for place in 0..self.tables.row_len() {
+            if self.stands_in(alloc, place, table)? {
+                count += 1;
+            }
+        }
+        Ok(count)
     }
 }

@@ -19,6 +19,8 @@ mod showing;
 mod sorting;
 mod steps;
 mod tables;
+#[cfg(test)]
+mod tests;
 
 pub use at::At;
 pub use dropped::Dropped;

@@ -1,11 +1,14 @@
-ghost use Rattle.std.specs.Prelude.{◌≡◌, ℕ, ◌+◌, ◌<◌, ◌≤◌, Bool, List, [], ◌∷◌, ◌++◌, IfOk, OnOk, MatchResult, filter, length, slice_get, vec_len, Some, true, ◌&&◌};
+ghost use Rattle.std.specs.Prelude.{◌≡◌, ℕ, ◌+◌, ◌*◌, ◌<◌, ◌≤◌, Bool, List, [], ◌∷◌, ◌++◌, IfOk, OnOk, MatchResult, filter, length, slice_get, vec_len, Some, true, ◌&&◌};
 ghost use Rattle.std.specs.List.{list_all, list_any};
 ghost use Rattle.std.specs.Vec.{vec_capacity};
 ghost use Rattle.schema.specs.declared.verdict.Verdict.TheVariants.{Valid};
-ghost use Rattle.update_model.specs.declared.value.Value.{Value};
+ghost use Rattle.update_model.specs.declared.value.Value.{Value as Cell};
+ghost use Rattle.row_check.specs.declared.cmp.Cmp.TheVariants.{Eq};
+ghost use Rattle.row_check.specs.Comparisons.{compares};
+ghost use Rattle.row_check.specs.Meaning.{value_at};
 ghost use Rattle.update_model.specs.Node.{NodeData};
 ghost use Rattle.schema.specs.Tables.{AreRowsIn, AreVoidsIn};
-ghost use Rattle.schema.specs.Verdicts.{ancestor_of, effects, effects_in, judged};
+ghost use Rattle.schema.specs.Verdicts.{ancestor_of, effects, effects_in, in_table, judged};
 ghost use Rattle.schema.specs.Visible.{Rules, cascade_refs, is_visible, refs, same_row};
 ghost use Rattle.schema.specs.Columns.{is_restrict};
 ghost use Rattle.validity.specs.Answers.{AreAnswers};
@@ -22,11 +25,12 @@ use crate::showing::{copy_rows, listed_among};
 use crate::sorting::{sort_lines, sort_rows};
 use crate::steps::{dropped_by, inserted_by};
 use crate::{At, Dropped, Inserted};
+use row_check::{Cmp, compare};
 use schema::{Column, ColumnList, Schema, ShownRowList, Verdict, VoidLine, VoidList};
 use std::alloc::{AllocError, Global};
 use std::collections::{BTreeMap, BTreeSet};
 use std::marker::Model;
-use update_model::{Ancestors, Node, RowName, RowsAt};
+use update_model::{Ancestors, Node, RowName, RowsAt, Value};
 
 /// What valid updates did, and which rows are visible for it. A contract sees the [state](mod@crate) of the definitions.
 #[derive(Debug, Drop)]
@@ -64,7 +68,7 @@ impl Model for Tables {
 impl Tables {
     /// Tables of this schema with no row. It gives up where memory runs out.
     pub fn new(alloc: Global, schema: &Schema) -> Result<Tables, AllocError>
-        ensures { IfOk result (λ tables. (ask : ℕ → List Value → Bool) → IsStateOf (record { tables = schema.now.tables; ask = ask }) [] tables) }
+        ensures { IfOk result (λ tables. (ask : ℕ → List Cell → Bool) → IsStateOf (record { tables = schema.now.tables; ask = ask }) [] tables) }
     {
         Ok(Tables {
             alloc,
@@ -139,9 +143,10 @@ impl Tables {
         }
     }
 
-    /// How many rows were inserted.
+    /// How many rows were inserted. No update has more than 256 operations, and no more than 131,072 updates are applied.
     pub(crate) fn row_len(&self) -> usize
-        ensures { result ≡ length self.now.inserted }
+        ensures len { result ≡ length self.now.inserted }
+        ensures few { result ≤ 256 * 131072 }
     {
         self.rows.as_slice().len()
     }
@@ -157,6 +162,24 @@ impl Tables {
             Some(columns) => restricts(columns.as_slice(), entry.values.as_slice(), name),
             None => false,
         }
+    }
+
+    /// Whether the row at a place is of this table.
+    pub(crate) fn is_in(&self, place: usize, table: u8) -> bool
+        requires { place < length self.now.inserted }
+        ensures { (it : Row) → slice_get self.now.inserted place ≡ Some it → result ≡ in_table table (row_of it) }
+    {
+        self.rows[place].entry.table == table
+    }
+
+    /// Whether the row at a place is of this table and has this value in this column.
+    pub(crate) fn equals_at(&self, place: usize, table: u8, column: u8, value: &Value) -> bool
+        requires { place < length self.now.inserted }
+        ensures { (it : Row) → slice_get self.now.inserted place ≡ Some it
+            → result ≡ (in_table table (row_of it) && compares Eq (value_at it.entry.values column) value.now) }
+    {
+        self.is_in(place, table)
+            && equals_column(self.rows[place].entry.values.as_slice(), column, value)
     }
 
     /// Keeps what a valid update does. Memory is taken before anything changes.
@@ -215,7 +238,7 @@ impl Tables {
         self.is_shown(row)
     }
 
-    /// Whether a row with this name is visible.
+    /// The same answer, told of what the tables hold.
     pub(crate) fn is_shown(&self, row: &RowName) -> bool
         ensures { result ≡ is_visible (rules_of self.now) (done_in self.now) row.now }
     {
@@ -279,6 +302,16 @@ impl Tables {
             → AreAnswers rules (effects (filter (λ j. ancestor_of (judged rules nodes) node j.node.id) (judged rules nodes))) (⟦<At<'a, A> as RowsAt>⟧.row result) (⟦<At<'a, A> as RowsAt>⟧.has_child result) }
     {
         At::new(self, ancestors, position)
+    }
+}
+
+/// Whether the value in a column, where there is one, equals this value.
+fn equals_column(values: &[Value], column: u8, value: &Value) -> bool
+    ensures { result ≡ compares Eq (value_at values.now column) value.now }
+{
+    match values.get(usize::from(column)) {
+        Some(found) => compare(Cmp::Eq, found, value),
+        None => false,
     }
 }
 

@@ -1,6 +1,3 @@
-use Rattle.std.proofs.Common.{◌≡◌, List}
-use Rattle.schema.specs.declared.column.Column.{Column}
-use Rattle.update_model.specs.declared.value.Value.{Value}
 use Rattle.tuple_state.proofs.Listing.{values_lined}
 use Rattle.tuple_state.proofs.showing.shown_row.Goals as goal
 

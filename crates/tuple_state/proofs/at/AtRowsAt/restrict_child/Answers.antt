@@ -7,7 +7,7 @@ pub returns-then-branch : goal.returns-then-branch
 returns-then-branch g c =
     let s = c.args.self.now.tables.now in
     let past : ℕ → Bool = λ p. g.A.Ancestors.ancestor c.args.self.now.ancestors.now p c.args.self.now.position in
-    let row = row_there s.inserted c.loop-place.place (subst (λ n. c.loop-place.place < n) c.row_len-place-end.ensures c.loop-place-test.true) in
+    let row = row_there s.inserted c.loop-place.place (subst (λ n. c.loop-place.place < n) c.row_len-place-end.ensures.len c.loop-place-test.true) in
     sym (child_is s past c.args.name.now ∙ some_here _ s.inserted c.loop-place.place row.0 row.1
     (holds_at s past c.args.name.now c.args.self.now.founded c.args.self.now.layered c.loop-place.place row.0 _ row.1 (c.in_ok-restricts.ensures row.0 row.1) ∙ c.if-branch.true))
 
@@ -15,7 +15,7 @@ pub loop-place-preserved : goal.loop-place-preserved
 loop-place-preserved g c =
     let s = c.args.self.now.tables.now in
     let past : ℕ → Bool = λ p. g.A.Ancestors.ancestor c.args.self.now.ancestors.now p c.args.self.now.position in
-    let below = subst (λ n. c.loop-place.place < n) c.row_len-place-end.ensures c.loop-place-test.true in
+    let below = subst (λ n. c.loop-place.place < n) c.row_len-place-end.ensures.len c.loop-place-test.true in
     let row = row_there s.inserted c.loop-place.place below in
     none_yet _ s.inserted c.loop-place.place row.0 row.1 below c.loop-place.invariant
     (holds_at s past c.args.name.now c.args.self.now.founded c.args.self.now.layered c.loop-place.place row.0 _ row.1 (c.in_ok-restricts.ensures row.0 row.1) ∙ c.if-branch.false)
@@ -24,4 +24,4 @@ pub returns : goal.returns
 returns g c =
     let s = c.args.self.now.tables.now in
     let past : ℕ → Bool = λ p. g.A.Ancestors.ancestor c.args.self.now.ancestors.now p c.args.self.now.position in
-    sym (child_is s past c.args.name.now ∙ none_at_end _ s.inserted c.loop-place.place (subst (λ n. n ≤ c.loop-place.place) c.row_len-place-end.ensures c.loop-place-test.false) c.loop-place.invariant)
+    sym (child_is s past c.args.name.now ∙ none_at_end _ s.inserted c.loop-place.place (subst (λ n. n ≤ c.loop-place.place) c.row_len-place-end.ensures.len c.loop-place-test.false) c.loop-place.invariant)

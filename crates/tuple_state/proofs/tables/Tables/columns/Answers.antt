@@ -1,4 +1,4 @@
-use Rattle.std.proofs.Common.{◌≡◌, ℕ, ◌≤◌, List, length, ap, sym, ◌∙◌, subst}
+use Rattle.std.proofs.Common.{◌≤◌, List, length, ap, sym, ◌∙◌, subst}
 use Rattle.schema.specs.declared.column.Column.{Column}
 use Rattle.tuple_state.specs.Parents.{columns_at}
 use Rattle.tuple_state.specs.State.{State}

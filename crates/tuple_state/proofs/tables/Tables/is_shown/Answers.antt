@@ -1,4 +1,4 @@
-use Rattle.std.proofs.Common.{◌≡◌, ◌<◌, length, ap, sym, ◌∙◌, arith}
+use Rattle.std.proofs.Common.{length, ap, sym, ◌∙◌, arith}
 use Rattle.std.proofs.lemmas.List.{length-map}
 use Rattle.schema.specs.Visible.{is_visible}
 use Rattle.tuple_state.specs.State.{State, done_in, rules_of}

@@ -1,4 +1,4 @@
-use Rattle.std.proofs.Common.{◌≡◌, List, ap, sym, subst, ◌∙◌}
+use Rattle.std.proofs.Common.{List, ap, sym, subst, ◌∙◌}
 use Rattle.schema.specs.declared.void_line.VoidLine.{VoidLine}
 use Rattle.schema.specs.Tables.{AreVoidsIn}
 use Rattle.tuple_state.specs.State.{State}

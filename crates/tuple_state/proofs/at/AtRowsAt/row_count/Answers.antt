@@ -1,0 +1,25 @@
+use Rattle.std.proofs.Common.{ℕ, ◌<◌, ◌≤◌, Bool, sym, subst, ◌∙◌}
+use Rattle.schema.specs.Verdicts.{in_table}
+use Rattle.tuple_state.proofs.Counting.{all_counted, no_more, one_more}
+use Rattle.tuple_state.proofs.Dropping.{row_there}
+use Rattle.tuple_state.proofs.at.AtRowsAt.row_count.Goals as goal
+use Rattle.tuple_state.proofs.at.AtRowsAt.row_count.Goals.{then-branch, else-branch}
+
+pub loop-place-preserved : goal.loop-place-preserved
+loop-place-preserved g c =
+    let s = c.args.self.now.tables.now in
+    let past : ℕ → Bool = λ p. g.A.Ancestors.ancestor c.args.self.now.ancestors.now p c.args.self.now.position in
+    let below = subst (λ n. c.loop-place.place < n) c.row_len-place-end.ensures.len c.loop-place-test.true in
+    let row = row_there s.inserted c.loop-place.place below in
+    elim c.if-branch.branch [
+      | then-branch w ↦ w.count-is
+          ∙ one_more s past (in_table c.args.table) c.args.self.now.founded c.args.self.now.layered c.loop-place.place row.0 _ c.loop-place.count row.1 below (c.in_ok-stands_in.ensures row.0 row.1) w.if-branch.true c.loop-place.invariant
+      | else-branch w ↦ w.count-is
+          ∙ no_more s past (in_table c.args.table) c.args.self.now.founded c.args.self.now.layered c.loop-place.place row.0 _ c.loop-place.count row.1 below (c.in_ok-stands_in.ensures row.0 row.1) w.if-branch.false c.loop-place.invariant
+    ]
+
+pub returns : goal.returns
+returns g c =
+    let s = c.args.self.now.tables.now in
+    let past : ℕ → Bool = λ p. g.A.Ancestors.ancestor c.args.self.now.ancestors.now p c.args.self.now.position in
+    all_counted s past (in_table c.args.table) c.loop-place.place c.loop-place.count (subst (λ n. n ≤ c.loop-place.place) c.row_len-place-end.ensures.len c.loop-place-test.false) c.loop-place.invariant

@@ -1,0 +1,10 @@
+use Rattle.std.proofs.Common.{◌≡◌, take}
+use Rattle.std.specs.Prelude.{count_by}
+use Rattle.schema.specs.Verdicts.{in_table}
+use Rattle.tuple_state.proofs.Counting.{seen_on}
+use Rattle.tuple_state.proofs.at.AtRowsAt.row_count.Given as goal
+
+-- the rows so far are counted
+abbrev pub invariant-loop-place : goal.invariant-loop-place
+invariant-loop-place g l =
+    l.count ≡ count_by (seen_on l.self.tables.now (λ p. g.A.Ancestors.ancestor l.self.ancestors.now p l.self.position) (in_table l.table)) (take l.place l.self.tables.now.inserted)
