@@ -13,6 +13,7 @@ use std::collections::BTreeSet;
 use update_model::{Ancestors, RowEntry, RowName, RowsAt, Value};
 
 /// The rows that are visible after the ancestors of one update, which [`Tables::at`] lends.
+#[derive(Drop)]
 pub struct At<'a, A: Ancestors> {
     tables: &'a Tables,
     ancestors: &'a A,
