@@ -16,6 +16,7 @@ pub mod Reaching
 pub mod Regrowth
 pub mod Restricting
 pub mod Rising
+pub mod Starting
 pub mod Stepping
 pub mod Voiding
 pub mod Walking

@@ -1,7 +1,7 @@
 //! Tables of no update, and after an update that does nothing.
 
-ghost use Rattle.std.specs.Prelude.{false, IfOk};
-ghost use Rattle.tuple_state.specs.Past.{IsNextVerdict};
+ghost use Rattle.std.specs.Prelude.{◌≡◌, false, [], ◌∷◌, IfOk};
+ghost use Rattle.update_model.specs.declared.op.Op.TheVariants.{Delete};
 
 use crate::Tables;
 use row_check::{Luhn, Native};
@@ -36,33 +36,44 @@ fn schema(alloc: Global) -> Result<Schema, SchemaError> {
     read_schema(alloc, SCHEMA.as_bytes(), &native)
 }
 
-/// An update that deletes the row that no update inserts.
-fn deletion(alloc: Global) -> Result<Node, AllocError> {
+/// An update that deletes a row.
+fn deletion(alloc: Global, row: RowName) -> Result<Node, AllocError>
+    ensures { IfOk result (λ node. (node.preds ≡ []) × (node.ops ≡ Delete row ∷ [])) }
+{
     let author = AuthorKey {
         lms: 5,
         ots: 4,
         ident: [1; 16],
         root: [2; 32],
     };
-    let ops = vec![in alloc; Op::Delete { row: UNKNOWN }]?;
     Ok(Node {
         id: UpdateId([2; 32]),
         preds: IdList::from_vec(Vec::new(alloc)),
         author,
-        ops: OpList::from_vec(ops),
+        ops: OpList::from_vec(Vec::from_array(alloc, [Op::Delete { row }])?),
     })
 }
 
-/// Tables after that update, which is void.
+/// Tables after the deletion of a row that is not there, which is void.
 fn after_deletion(alloc: Global, schema: &Schema) -> Result<Tables, AllocError> {
     let mut tables = Tables::new(alloc, schema)?;
-    let node = deletion(alloc)?;
+    let node = deletion(alloc, UNKNOWN)?;
     let verdict = Verdict::Void {
         reason: 6,
         operation: 0,
     };
     tables.apply(&node, verdict)?;
     Ok(tables)
+}
+
+/// Whether no row is there before any update.
+fn has_nothing(alloc: Global, schema: &Schema) -> Result<bool, AllocError> {
+    let tables = Tables::new(alloc, schema)?;
+    let then = tables.at(&Unrelated, 0);
+    let held = then.restrict_child(alloc, &UNKNOWN)?;
+    let equal = then.equal_rows(alloc, 0, 0, &Value::Int(5))?;
+    let count = then.row_count(alloc, 0)?;
+    Ok(then.row_at(alloc, &UNKNOWN)?.is_none() && !held && equal == 0 && count == 0)
 }
 
 #[test]
@@ -91,11 +102,6 @@ fn void_update(rt: HostRuntime) -> Result<(), Fail> {
 #[test]
 fn before_any_update(rt: HostRuntime) -> Result<(), Fail> {
     let alloc = rt.alloc();
-    let tables = Tables::new(alloc, &schema(alloc)?)?;
-    let then = tables.at(&Unrelated, 0);
-    assert!(rt; then.row_at(alloc, &UNKNOWN)?.is_none());
-    assert!(rt; !then.restrict_child(alloc, &UNKNOWN)?);
-    assert_eq!(rt; then.equal_rows(alloc, 0, 0, &Value::Int(5))?, 0);
-    assert_eq!(rt; then.row_count(alloc, 0)?, 0);
+    assert!(rt; has_nothing(alloc, &schema(alloc)?)?);
     Ok(())
 }
