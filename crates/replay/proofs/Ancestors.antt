@@ -1,9 +1,8 @@
 -- Positions have the ancestors that the definition of verdicts has.
-use Rattle.std.proofs.Common.{◌≡◌, ℕ, zero, suc, ◌+◌, ◌<◌, ◌≤◌, ◌==◌, Bool, true, false, cond, ◌&&◌, ◌||◌, List, [], ◌∷◌, ◌++◌, length, map, reverse, refl, sym, ◌∙◌, ap, subst, arith, inl, inr, ◌⊎◌, Option, Some, None, All}
+use Rattle.std.proofs.Common.{◌≡◌, ℕ, zero, suc, ◌<◌, ◌≤◌, ◌==◌, Bool, true, false, ◌&&◌, ◌||◌, List, [], ◌∷◌, ◌++◌, length, refl, sym, ◌∙◌, ap, subst, arith, inl, inr, ◌⊎◌, Option, Some, All}
 use Rattle.std.specs.List.{list_any, list_all, filter_map, cons_option, AllByRecursion}
-use Rattle.std.proofs.lemmas.Bool.{and_parts, both_ways, or_cases, or_from, or_left, or_right, false_from_ne_true}
+use Rattle.std.proofs.lemmas.Bool.{and_parts, both_ways, or_from, or_left, or_right, false_from_ne_true}
 use Rattle.std.proofs.lemmas.List.{length-append}
-use Rattle.std.proofs.lemmas.List.Elements.{All-from_recursion}
 use Rattle.update_model.specs.declared.update_id.UpdateId.{UpdateId}
 use Rattle.update_model.specs.Entry.{same_id}
 use Rattle.update_model.specs.Graph.{has}
@@ -16,7 +15,7 @@ use Rattle.schema.specs.Visible.{Rules}
 use Rattle.schema.specs.Verdicts.{Judged, ancestor_of, judge_next, judged}
 use Rattle.schema.proofs.Order.{ancestors_held, any_weaker, at_id}
 use Rattle.replay.specs.Arrivals.{places_of}
-use Rattle.replay.proofs.Places.{IsAt, at_below, at_held, other_back, other_id, same_place}
+use Rattle.replay.proofs.Places.{IsAt, at_below, at_held, other_id, same_place}
 
 -- each id that is held has its position
 pub record IsPlaced (place : UpdateId → Option ℕ) (ns : List NodeData) : Type 0 where

@@ -1,6 +1,6 @@
 -- A graph in the order of arrival, and its nodes newest first.
-use Rattle.std.proofs.Common.{◌≡◌, ℕ, zero, suc, ◌+◌, ◌<◌, ◌≤◌, Bool, true, false, cond, ◌||◌, List, [], ◌∷◌, ◌++◌, length, map, reverse, take, drop, refl, sym, ◌∙◌, ap, subst, arith, inl, inr, ◌⊎◌, Option, Some, None, All, append_assoc, slice_get, option_map}
-use Rattle.std.specs.List.{list_any, list_all, filter_map, position_from}
+use Rattle.std.proofs.Common.{◌≡◌, ℕ, zero, suc, ◌+◌, ◌<◌, ◌≤◌, Bool, true, false, cond, ◌||◌, List, [], ◌∷◌, ◌++◌, length, map, reverse, take, drop, refl, sym, ◌∙◌, ap, subst, arith, inl, inr, ◌⊎◌, Option, Some, None, All, slice_get, option_map}
+use Rattle.std.specs.List.{filter_map, position_from}
 use Rattle.std.proofs.lemmas.Bool.{or_cases}
 use Rattle.std.proofs.lemmas.List.{length-map, length-reverse, map-append, reverse-append, take-append-drop}
 use Rattle.std.proofs.lemmas.List.Elements.{All-from_recursion}
@@ -16,7 +16,6 @@ use Rattle.update_check.specs.Signed.{node_of}
 use Rattle.ancestry.specs.Walks.{AreLower, is_ancestor}
 use Rattle.schema.specs.Nodes.{AreNodesOf, holds, IsClosed, IsNext}
 use Rattle.schema.specs.Visible.{Rules}
-use Rattle.schema.specs.Verdicts.{ancestor_of, judged}
 use Rattle.tuple_state.specs.Past.{IsPastOf}
 use Rattle.replay.specs.Arrivals.{nodes_before, place_in, places_before, places_of}
 use Rattle.replay.proofs.Places.{IsAt, at_last, at_shift}

@@ -1,4 +1,4 @@
-use Rattle.std.proofs.Common.{◌≡◌, ℕ, ◌+◌, List, Some, filter, map, take, sym, ap, subst, ◌∙◌}
+use Rattle.std.proofs.Common.{◌+◌, filter, map, take, sym, ◌∙◌}
 use Rattle.std.proofs.lemmas.Result.{IfOk-weaker}
 use Rattle.update_codec.specs.Parts.{entry_of}
 use Rattle.ancestry.specs.Walks.{is_ancestor}

@@ -1,5 +1,3 @@
-use Rattle.std.proofs.Common.{◌≡◌, sym, ap, ◌∙◌}
-use Rattle.schema.specs.Visible.{Rules}
 use Rattle.replay.specs.Arrivals.{places_of}
 use Rattle.replay.proofs.replaying.replay.Goals as goal
 

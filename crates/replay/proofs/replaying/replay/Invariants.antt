@@ -1,5 +1,4 @@
 use Rattle.std.proofs.Common.{◌≡◌}
-use Rattle.schema.specs.Visible.{Rules}
 use Rattle.tuple_state.specs.State.{IsStateOf}
 use Rattle.replay.specs.Arrivals.{nodes_before, places_before}
 use Rattle.replay.proofs.replaying.replay.Given as goal

@@ -1,11 +1,10 @@
-use Rattle.std.proofs.Common.{◌≡◌, ℕ, ◌+◌, ◌<◌, ◌≤◌, List, ◌∷◌, Some, length, map, take, sym, ap, subst, ◌∙◌, arith, slice_get}
+use Rattle.std.proofs.Common.{◌≡◌, ◌+◌, ◌<◌, ◌≤◌, List, ◌∷◌, Some, length, map, take, sym, ap, subst, ◌∙◌, arith, slice_get}
 use Rattle.std.specs.Prelude.{option_map}
 use Rattle.update_model.specs.Node.{NodeData}
 use Rattle.update_codec.specs.Parts.{entry_of}
 use Rattle.update_check.specs.Signed.{node_of}
 use Rattle.schema.specs.Nodes.{IsNext}
 use Rattle.schema.specs.Visible.{Rules}
-use Rattle.schema.specs.Verdicts.{judge_next, judged}
 use Rattle.tuple_state.specs.State.{IsStateOf, State, after}
 use Rattle.replay.specs.Arrivals.{nodes_before}
 use Rattle.replay.proofs.Arriving.{front_closed, is_next_from, length-nodes, next_from}
