@@ -1,7 +1,7 @@
 //! The tables of a whole graph of updates.
 //!
 //! [`replay`] goes once over a graph in the order of arrival. It judges each update on its ancestors, and keeps what the
-//! valid ones did. A store that is opened finds its tables so again, and whoever has the same updates has the same tables.
+//! valid ones did. A store that is opened finds its tables so again.
 #![tactic(auto)]
 
 mod replaying;

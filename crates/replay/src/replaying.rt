@@ -17,8 +17,8 @@ use validity::judge;
 
 /// Judges each update of a graph in order of arrival on its ancestors, and keeps what the valid ones did.
 ///
-/// The answer is the same for every graph with the same updates, in whatever order they arrived. It gives up where memory
-/// runs out.
+/// What these tables show is a function of the set of updates, whatever the order of arrival (the law
+/// `tables_are_of_the_set` of `schema`). It gives up where memory runs out.
 pub fn replay<L: Relation, C: Checks<L>>(
     alloc: Global,
     schema: &Schema,
