@@ -4,7 +4,6 @@ import os
 import subprocess
 import sys
 import tempfile
-import time
 
 TOP = os.path.dirname(os.path.dirname(os.path.abspath(__file__)))
 PROGRAM = os.path.join(TOP, "crates", "bec", "out", "bec")
@@ -16,15 +15,22 @@ def built():
     return PROGRAM
 
 
+# Runs a command in a process that holds nothing: a child's peak memory begins with that of the process it is forked from.
+RUNNER = """
+import os, subprocess, sys, time
+begun = time.perf_counter()
+child = subprocess.Popen(sys.argv[1:])
+_, status, usage = os.wait4(child.pid, 0)
+print(time.perf_counter() - begun, usage.ru_maxrss, os.waitstatus_to_exitcode(status), file=sys.stderr)
+"""
+
+
 def measured(words, source):
     """Seconds and peak kilobytes of a command that reads this file, and what it printed."""
     with open(source, "rb") as file, tempfile.TemporaryFile() as out:
-        begun = time.perf_counter()
-        child = subprocess.Popen(words, stdin=file, stdout=out)
-        _, status, usage = os.wait4(child.pid, 0)
-        seconds = time.perf_counter() - begun
-        child.returncode = os.waitstatus_to_exitcode(status)
+        runner = subprocess.run([sys.executable, "-S", "-c", RUNNER, *words], stdin=file, stdout=out, stderr=subprocess.PIPE, check=True)
+        seconds, peak, status = runner.stderr.split()[-3:]
         out.seek(0)
-        if child.returncode:
-            sys.exit(f"{words[0]} ended with status {child.returncode}")
-        return seconds, usage.ru_maxrss, out.read()
+        if int(status):
+            sys.exit(f"{words[0]} ended with status {int(status)}")
+        return float(seconds), int(peak), out.read()
