@@ -1,5 +1,5 @@
 -- What can be shown of tables before any update.
-use Rattle.std.proofs.Common.{◌≡◌, ℕ, Bool, false, List, [], ◌∷◌, ◌++◌, length, refl, sym, ap, ◌∙◌, arith}
+use Rattle.std.proofs.Common.{◌≡◌, ℕ, Bool, false, List, [], ◌∷◌, ◌++◌, length, refl, sym, ap, arith}
 use Rattle.std.specs.List.{list_all}
 use Rattle.update_model.specs.declared.op.Op.TheVariants.{Delete}
 use Rattle.update_model.specs.declared.author_key.AuthorKey.{AuthorKey}
