@@ -205,7 +205,8 @@ fn void_updates_do_nothing(rt: HostRuntime) -> Result<(), Fail> {
     story.bob(alloc, &[], &delete(alloc, &home)?)?;
     for (number, why) in [(1, 4), (2, 1), (3, 2), (4, 3), (5, 6)] {
         let wanted = format!(in alloc;
-            "TABLE list\n#0:0 \"Home\" 9\nTABLE task\nVOID #{number} {why} 0\n")?;
+            "TABLE list\n#0:0 \"Home\" 9\nTABLE task\nVOID #{number} {why} 0\n"
+        )?;
         story.dumps(&rt, &[0, number], wanted.as_str())?;
     }
     story.dumps(

@@ -4,6 +4,86 @@
 /// What a schema shows, its text, and what is printed.
 pub const VERDICTS: [(&str, &str, &str); 35] = [
     (
+        "names of users",
+        r#"DATABASE u
+TABLE user
+COLUMN name TEXT 1 8
+UNIQUE name
+SAMPLE "ann"
+"#,
+        r#"! not confluent line 4
+A 1 INSERT user "ann"
+B 2 INSERT user "ann"
+"#,
+    ),
+    (
+        "at most one user",
+        r#"DATABASE u
+TABLE user
+COLUMN name TEXT 1 8
+ATMOST 1
+SAMPLE "ann"
+"#,
+        r#"! not confluent line 4
+A 1 INSERT user "ann"
+B 2 INSERT user "ann"
+"#,
+    ),
+    (
+        "at most two users",
+        r#"DATABASE u
+TABLE user
+COLUMN name TEXT 1 8
+ATMOST 2
+SAMPLE "ann"
+"#,
+        r#"! not confluent line 4
+BASE 1 INSERT user "ann"
+A 2 INSERT user "ann"
+B 3 INSERT user "ann"
+"#,
+    ),
+    (
+        "a row that goes with another one",
+        r#"DATABASE v
+TABLE g DELETABLE
+COLUMN n INT 0 9
+SAMPLE 1
+TABLE t
+COLUMN n INT 0 9
+REF g g CASCADE
+SAMPLE 2
+TABLE c
+COLUMN n INT 0 9
+REF t t RESTRICT
+SAMPLE 3
+"#,
+        r#"! not confluent line 11
+BASE 1 INSERT g 1
+BASE 2 INSERT t 2 1:0
+A 3 INSERT c 3 2:0
+B 4 DELETE 1:0
+"#,
+    ),
+    (
+        "a row that cannot go",
+        r#"DATABASE v
+TABLE g
+COLUMN n INT 0 9
+SAMPLE 1
+TABLE t
+COLUMN n INT 0 9
+REF g g CASCADE
+SAMPLE 2
+TABLE c
+COLUMN n INT 0 9
+REF t t RESTRICT
+SAMPLE 3
+"#,
+        r#"confluent
+"#,
+    ),
+    (
         "plain table",
         r#"DATABASE x
 TABLE a
@@ -28,19 +108,6 @@ MATCH n <= a.n
 SAMPLE 1
 "#,
         r#"confluent
-"#,
-    ),
-    (
-        "UNIQUE",
-        r#"DATABASE x
-TABLE a
-COLUMN n INT 0 9
-UNIQUE n
-SAMPLE 1
-"#,
-        r#"! not confluent line 4
-A 1 INSERT a 1
-B 2 INSERT a 1
 "#,
     ),
     (
@@ -134,33 +201,6 @@ SAMPLE 2
 BASE 1 INSERT a 1
 A 2 INSERT b 2 1:0 1:0
 B 3 INSERT b 2 1:0 1:0
-"#,
-    ),
-    (
-        "ATMOST 1",
-        r#"DATABASE x
-TABLE a
-COLUMN n INT 0 9
-ATMOST 1
-SAMPLE 1
-"#,
-        r#"! not confluent line 4
-A 1 INSERT a 1
-B 2 INSERT a 1
-"#,
-    ),
-    (
-        "ATMOST 2",
-        r#"DATABASE x
-TABLE a
-COLUMN n INT 0 9
-ATMOST 2
-SAMPLE 1
-"#,
-        r#"! not confluent line 4
-BASE 1 INSERT a 1
-A 2 INSERT a 1
-B 3 INSERT a 1
 "#,
     ),
     (
@@ -360,24 +400,6 @@ B 3 DELETE 1:0
 "#,
     ),
     (
-        "permanent since its CASCADE targets are",
-        r#"DATABASE x
-TABLE a
-COLUMN n INT 0 9
-SAMPLE 1
-TABLE b
-COLUMN n INT 0 9
-REF a a CASCADE
-SAMPLE 2
-TABLE c
-COLUMN n INT 0 9
-REF b b RESTRICT
-SAMPLE 3
-"#,
-        r#"confluent
-"#,
-    ),
-    (
         "permanent though it names itself by CASCADE",
         r#"DATABASE x
 TABLE a
@@ -390,28 +412,6 @@ REF a a RESTRICT
 SAMPLE 2
 "#,
         r#"confluent
-"#,
-    ),
-    (
-        "a path of two",
-        r#"DATABASE x
-TABLE a DELETABLE
-COLUMN n INT 0 9
-SAMPLE 1
-TABLE b
-COLUMN n INT 0 9
-REF a a CASCADE
-SAMPLE 2
-TABLE c
-COLUMN n INT 0 9
-REF b b RESTRICT
-SAMPLE 3
-"#,
-        r#"! not confluent line 11
-BASE 1 INSERT a 1
-BASE 2 INSERT b 2 1:0
-A 3 INSERT c 3 2:0
-B 4 DELETE 1:0
 "#,
     ),
     (
