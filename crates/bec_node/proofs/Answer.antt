@@ -11,10 +11,10 @@ use Rattle.update_codec.specs.Stream.{framed}
 use Rattle.update_codec.proofs.StreamLemmas.{length-framed}
 use Rattle.update_stream.proofs.Frames.{length_at-framed}
 use Rattle.row_check.specs.Checksum.{is_luhn}
-use Rattle.schema.specs.declared.shown_row.ShownRow.{ShownRow}
-use Rattle.schema.specs.declared.void_line.VoidLine.{VoidLine}
+use Rattle.table_model.specs.declared.shown_row.ShownRow.{ShownRow}
+use Rattle.table_model.specs.declared.void_line.VoidLine.{VoidLine}
 use Rattle.schema.specs.Schemas.{SchemaData}
-use Rattle.schema.specs.Tables.{AreTablesOf}
+use Rattle.table_model.specs.Tables.{AreTablesOf}
 use Rattle.table_text.specs.Tables.{tables_text}
 use Rattle.bec_node.specs.Bundle.{DumpAnswer, cut, long, whole, IsCutSchema, in_length, in_text, IsLongSchema, HoldsText, RecordsAnswer, TextAnswer, nodes_of}
 use Rattle.bec_node.specs.Texts.{printed, refusal_text, status_of}

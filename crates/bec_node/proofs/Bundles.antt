@@ -19,11 +19,11 @@ use Rattle.update_stream.specs.declared.reading.Reading.TheVariants.{Whole, Refu
 use Rattle.update_stream.specs.Stream.{IsWhole, IsRefused, firsts, firsts_after, has_id, length_at}
 use Rattle.update_stream.specs.Told.{Reads}
 use Rattle.schema.specs.declared.fault.SchemaKind.TheVariants as faults
-use Rattle.schema.specs.declared.shown_row.ShownRow.{ShownRow}
+use Rattle.table_model.specs.declared.shown_row.ShownRow.{ShownRow}
 use Rattle.schema.specs.Schemas.{SchemaData}
-use Rattle.schema.specs.declared.void_line.VoidLine.{VoidLine}
-use Rattle.schema.specs.Tables.{AreRowsIn, AreTablesOf, AreVoidsIn}
-use Rattle.schema.specs.Visible.{Rules}
+use Rattle.table_model.specs.declared.void_line.VoidLine.{VoidLine}
+use Rattle.table_model.specs.Tables.{AreRowsIn, AreTablesOf, AreVoidsIn}
+use Rattle.table_model.specs.Visible.{Rules}
 use Rattle.bec_node.specs.declared.bundle.BundleHead.TheVariants.{Cut, Long, Text}
 use Rattle.bec_node.specs.declared.reply.Reply.{Reply}
 use Rattle.bec_node.specs.Bundle.{AreMembers, AreShown, BeginsAs, in_length, in_text, DumpAnswer, cut, long, whole, Follows, HoldsText, RecordsAnswer, SaysRecords, TextAnswer}

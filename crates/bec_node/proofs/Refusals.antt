@@ -3,14 +3,14 @@ use Rattle.std.proofs.Common.{◌≡◌, ◌≢◌, inl, inr, ℕ, Bool, true, f
 use Rattle.std.specs.List.{list_all}
 use Rattle.std.proofs.lemmas.Bool.{and_parts}
 use Rattle.row_check.specs.Checksum.{is_luhn}
-use Rattle.schema.specs.declared.counterexample.Counterexample.{Counterexample}
+use Rattle.table_model.specs.declared.counterexample.Counterexample.{Counterexample}
 use Rattle.schema.specs.declared.fault.SchemaKind.{SchemaKind}
-use Rattle.schema.specs.declared.invariant.Invariant.{Invariant}
-use Rattle.schema.specs.Confluence.{accepts, are_accepted}
-use Rattle.schema.specs.Examples.{example_of}
-use Rattle.schema.specs.Invariants.{Declared, invariants_of}
+use Rattle.table_model.specs.declared.invariant.Invariant.{Invariant}
+use Rattle.table_model.specs.Confluence.{accepts, are_accepted}
+use Rattle.table_model.specs.Examples.{example_of}
+use Rattle.table_model.specs.Invariants.{Declared, invariants_of}
 use Rattle.schema.specs.Schemas.{Meaning, SchemaData, Declares, FirstFault}
-use Rattle.schema.specs.Visible.{Rules}
+use Rattle.table_model.specs.Visible.{Rules}
 use Rattle.confluence_test.specs.Tests.{IsRefused}
 use Rattle.bec_node.specs.Texts.{refused_text, schema_text}
 use Rattle.bec_node.specs.Verdict.{rules_of, IsRefuted, TakesSchema, RefusesSchema, Judges}

@@ -10,16 +10,16 @@ use Rattle.update_model.specs.Node.{NodeData}
 use Rattle.update_codec.specs.Parts.{entry_of}
 use Rattle.update_check.specs.Signed.{node_of}
 use Rattle.head_set.specs.Grown.{NoCollision}
-use Rattle.schema.specs.declared.shown_row.ShownRow.{ShownRow}
-use Rattle.schema.specs.declared.void_line.VoidLine.{VoidLine}
-use Rattle.schema.specs.Confluence.{accepts, are_accepted}
-use Rattle.schema.specs.Invariants.{Declared, claim_holds, invariants_of, shown_in}
-use Rattle.schema.specs.Nodes.{AreNodesOf, IsClosed, IsSameSet, holds, node_of as node_with}
+use Rattle.table_model.specs.declared.shown_row.ShownRow.{ShownRow}
+use Rattle.table_model.specs.declared.void_line.VoidLine.{VoidLine}
+use Rattle.table_model.specs.Confluence.{accepts, are_accepted}
+use Rattle.table_model.specs.Invariants.{Declared, claim_holds, invariants_of, shown_in}
+use Rattle.table_model.specs.Nodes.{AreNodesOf, IsClosed, IsSameSet, holds, node_of as node_with}
 use Rattle.schema.specs.Schemas.{SchemaData}
 use Rattle.schema.specs.Sound.{AreTables}
-use Rattle.schema.specs.Tables.{AreTablesOf}
-use Rattle.schema.specs.Verdicts.{all_fit}
-use Rattle.schema.specs.Visible.{Rules, table_of}
+use Rattle.table_model.specs.Tables.{AreTablesOf}
+use Rattle.table_model.specs.Verdicts.{all_fit}
+use Rattle.table_model.specs.Visible.{Rules, table_of}
 use Rattle.bec_node.specs.Bundle.{AreMembers, AreOfHeads, HasTables, nodes_of}
 use Rattle.bec_node.specs.Verdict.{rules_of}
 use Rattle.bec_node.proofs.Members.{contains_cases, contains_mapped, mapped_contains, contains_turned, turned_contains, find_finds, any_of_contained}

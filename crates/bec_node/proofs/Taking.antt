@@ -1,13 +1,13 @@
 -- From what the test of a schema's invariants tells to what is told of its text.
 use Rattle.std.proofs.Common.{◌≡◌, inl, inr, ℕ, List, [], sym, subst, Contains, IsTrue, IfOk, Result, Ok, Err}
 use Rattle.row_check.specs.Checksum.{is_luhn}
-use Rattle.schema.specs.declared.counterexample.Counterexample.{Counterexample}
-use Rattle.schema.specs.declared.invariant.Invariant.{Invariant}
-use Rattle.schema.specs.Confluence.{IsConfluent, accepts, confirms}
-use Rattle.schema.specs.Invariants.{Claim, Declared, claims_of, invariants_of}
+use Rattle.table_model.specs.declared.counterexample.Counterexample.{Counterexample}
+use Rattle.table_model.specs.declared.invariant.Invariant.{Invariant}
+use Rattle.table_model.specs.Confluence.{IsConfluent, accepts, confirms}
+use Rattle.table_model.specs.Invariants.{Claim, Declared, claims_of, invariants_of}
 use Rattle.schema.specs.Schemas.{Meaning, SchemaData, Declares}
 use Rattle.schema.specs.Sound.{AreTables}
-use Rattle.schema.specs.Visible.{Rules}
+use Rattle.table_model.specs.Visible.{Rules}
 use Rattle.confluence_test.specs.Tests.{IsRefused}
 use Rattle.bec_node.specs.declared.schema_reply.SchemaReading.{SchemaReading}
 use Rattle.bec_node.specs.declared.schema_reply.SchemaReading.TheVariants.{Taken, Refused}

@@ -17,13 +17,13 @@ use Rattle.update_stream.specs.declared.reading.Reading.TheVariants.{Whole, Refu
 use Rattle.update_stream.specs.declared.record_fault.RecordFault.{RecordFault}
 use Rattle.update_stream.specs.Stream.{IsWhole, IsRefused, length_at}
 use Rattle.schema.specs.declared.fault.SchemaKind.TheVariants as faults
-use Rattle.schema.specs.declared.shown_row.ShownRow.{ShownRow}
-use Rattle.schema.specs.declared.void_line.VoidLine.{VoidLine}
-use Rattle.schema.specs.Invariants.{Declared, claim_holds, invariants_of, shown_in}
+use Rattle.table_model.specs.declared.shown_row.ShownRow.{ShownRow}
+use Rattle.table_model.specs.declared.void_line.VoidLine.{VoidLine}
+use Rattle.table_model.specs.Invariants.{Declared, claim_holds, invariants_of, shown_in}
 use Rattle.schema.specs.Schemas.{SchemaData}
-use Rattle.schema.specs.Tables.{AreRowsIn, AreTablesOf}
-use Rattle.schema.specs.Verdicts.{all_fit}
-use Rattle.schema.specs.Visible.{Rules, table_of}
+use Rattle.table_model.specs.Tables.{AreRowsIn, AreTablesOf}
+use Rattle.table_model.specs.Verdicts.{all_fit}
+use Rattle.table_model.specs.Visible.{Rules, table_of}
 use Rattle.table_text.specs.Tables.{tables_text}
 use Rattle.bec_node.specs.declared.bundle.BundleHead.{BundleHead}
 use Rattle.bec_node.specs.declared.bundle.BundleHead.TheVariants.{Cut, Long, Text}

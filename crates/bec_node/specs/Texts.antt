@@ -7,10 +7,10 @@ use Rattle.update_model.specs.declared.update_id.UpdateId.{UpdateId}
 use Rattle.update_codec.specs.Words.{fault_words}
 use Rattle.update_check.specs.declared.check_error.CheckFault.{CheckFault}
 use Rattle.update_check.specs.declared.check_error.CheckFault.TheVariants.{Codec, WrongDatabase, AuthorNotListed, BadSignature}
-use Rattle.schema.specs.declared.counterexample.Counterexample.{Counterexample}
+use Rattle.table_model.specs.declared.counterexample.Counterexample.{Counterexample}
 use Rattle.schema.specs.declared.fault.SchemaKind.{SchemaKind}
 use Rattle.schema.specs.declared.fault.SchemaKind.TheVariants as faults
-use Rattle.schema.specs.declared.invariant.Invariant.{Invariant}
+use Rattle.table_model.specs.declared.invariant.Invariant.{Invariant}
 use Rattle.schema.specs.declared.table_def.TableDef.{TableDef}
 use Rattle.table_text.specs.Examples.{example_text}
 use Rattle.update_stream.specs.declared.record_fault.RecordFault.{RecordFault}

@@ -1,13 +1,13 @@
 -- What is said of the text of a schema.
 use Rattle.std.specs.Prelude.{◌≡◌, ◌⊎◌, ℕ, List, codes, Contains, IsTrue}
 use Rattle.row_check.specs.Checksum.{is_luhn}
-use Rattle.schema.specs.declared.counterexample.Counterexample.{Counterexample}
+use Rattle.table_model.specs.declared.counterexample.Counterexample.{Counterexample}
 use Rattle.schema.specs.declared.fault.SchemaKind.{SchemaKind}
-use Rattle.schema.specs.declared.invariant.Invariant.{Invariant}
-use Rattle.schema.specs.Confluence.{IsConfluent, are_accepted, confirms}
-use Rattle.schema.specs.Invariants.{Claim, Declared, claims_of, invariants_of}
+use Rattle.table_model.specs.declared.invariant.Invariant.{Invariant}
+use Rattle.table_model.specs.Confluence.{IsConfluent, are_accepted, confirms}
+use Rattle.table_model.specs.Invariants.{Claim, Declared, claims_of, invariants_of}
 use Rattle.schema.specs.Schemas.{Meaning, SchemaData, Declares, FirstFault}
-use Rattle.schema.specs.Visible.{Rules}
+use Rattle.table_model.specs.Visible.{Rules}
 use Rattle.confluence_test.specs.declared.tested.Tested.TheVariants.{Accepted, Refused as TestRefused}
 use Rattle.confluence_test.specs.Tests.{IsRefused, IsTested}
 use Rattle.bec_node.specs.declared.schema_reply.SchemaReading.{SchemaReading}

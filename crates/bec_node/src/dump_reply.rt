@@ -1,10 +1,10 @@
 ghost use Rattle.std.specs.Prelude.{◌≡◌, [], List, IfOk, IsTrue, length};
-ghost use Rattle.schema.specs.declared.shown_row.ShownRow.{ShownRow as Row};
-ghost use Rattle.schema.specs.declared.void_line.VoidLine.{VoidLine};
-ghost use Rattle.schema.specs.Confluence.{are_accepted};
-ghost use Rattle.schema.specs.Invariants.{invariants_of};
+ghost use Rattle.table_model.specs.declared.shown_row.ShownRow.{ShownRow as Row};
+ghost use Rattle.table_model.specs.declared.void_line.VoidLine.{VoidLine};
+ghost use Rattle.table_model.specs.Confluence.{are_accepted};
+ghost use Rattle.table_model.specs.Invariants.{invariants_of};
 ghost use Rattle.schema.specs.Sound.{AreTables};
-ghost use Rattle.schema.specs.Tables.{AreTablesOf};
+ghost use Rattle.table_model.specs.Tables.{AreTablesOf};
 ghost use Rattle.table_text.specs.Tables.{tables_text};
 ghost use Rattle.update_model.specs.Node.{NodeData};
 ghost use Rattle.tuple_state.specs.State.{IsStateOf};
@@ -16,11 +16,11 @@ use hash_graph::Graph;
 use head_set::equal_heads_mean_equal_sets;
 use replay::replay;
 use row_check::{Luhn, Native};
-use schema::{
-    Schema, ShownRowList, accepted_holds, arrivals_are_closed, shown_rows_fit,
-    tables_are_of_the_set,
-};
+use schema::Schema;
 use std::alloc::{AllocError, Global};
+use table_model::{
+    ShownRowList, accepted_holds, arrivals_are_closed, shown_rows_fit, tables_are_of_the_set,
+};
 use table_text::push_tables;
 use tuple_state::Tables;
 use update_check::Checked;

@@ -4,9 +4,8 @@ ghost use Rattle.std.specs.Prelude.{◌≡◌, ℕ, List};
 ghost use Rattle.bec_node.specs.declared.command.Command.{Command};
 ghost use Rattle.bec_node.specs.Run.{AnswerTo};
 
-use schema::{
-    arrivals_are_closed, declared_is_sound, no_fault, one_fault, one_schema, tables_are_of_the_set,
-};
+use schema::{declared_is_sound, no_fault, one_fault, one_schema};
+use table_model::{arrivals_are_closed, tables_are_of_the_set};
 use update_codec::one_frame;
 use update_stream::{one_graph, one_refusal, whole_or_refused};
 

@@ -7,11 +7,9 @@ ghost use Rattle.bec_node.specs.Verdict.{Judges, TellsSchema, TellsTested};
 use crate::reply::Reply;
 use confluence_test::{Tested, declared_refusal_is_confirmed, test};
 use row_check::{Luhn, Native};
-use schema::{
-    Counterexample, Invariant, Schema, SchemaError, SchemaFault, SchemaKind, accepted_is_confluent,
-    declared_is_sound, read_schema,
-};
+use schema::{Schema, SchemaError, SchemaFault, SchemaKind, declared_is_sound, read_schema};
 use std::alloc::{AllocError, Global};
+use table_model::{Counterexample, Invariant, accepted_is_confluent};
 use table_text::push_counterexample;
 
 /// What the text of a schema is.

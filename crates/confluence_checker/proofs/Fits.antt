@@ -8,7 +8,7 @@ use Rattle.schema.specs.declared.column.Column.{Column}
 use Rattle.schema.specs.declared.column.ColumnKind.{ColumnKind}
 use Rattle.schema.specs.declared.column.ColumnKind.TheVariants as kind
 use Rattle.schema.specs.Columns.{kind_seen, kinds_of}
-use Rattle.schema.specs.Verdicts.{all_fit, fits}
+use Rattle.table_model.specs.Verdicts.{all_fit, fits}
 
 of_kind : (k : ColumnKind) (null : Bool) (v : Value) → fits (record { name = []; kind = k; null = null; line = 0 }) v ≡ true → IsOfKind (kind_seen k) v
 of_kind (kind.Int lo hi) null value.Null h = tt

@@ -16,16 +16,16 @@ use Rattle.update_model.specs.declared.update_id.UpdateId.{UpdateId}
 use Rattle.update_model.specs.Entry.{id_cmp, same_id}
 use Rattle.update_model.specs.Node.{NodeData}
 use Rattle.update_model.proofs.Ids.{id_cmp_total}
-use Rattle.schema.specs.declared.shown_row.ShownRow.{ShownRow}
-use Rattle.schema.specs.declared.verdict.Verdict.{Verdict}
-use Rattle.schema.specs.declared.verdict.Verdict.TheVariants as verdict
-use Rattle.schema.specs.declared.void_line.VoidLine.{VoidLine}
-use Rattle.schema.specs.Invariants.{shown_in}
-use Rattle.schema.specs.Nodes.{holds, IsClosed}
-use Rattle.schema.specs.Tables.{AreTablesOf, listed, name_cmp, void_line, void_lines}
-use Rattle.schema.specs.Verdicts.{effects_in, in_table, judge_next, judged}
-use Rattle.schema.specs.Visible.{Rules, TableRow, Effects, same_row, is_visible, shown}
-use Rattle.schema.proofs.Founded.{Founded, founded_closed}
+use Rattle.table_model.specs.declared.shown_row.ShownRow.{ShownRow}
+use Rattle.table_model.specs.declared.verdict.Verdict.{Verdict}
+use Rattle.table_model.specs.declared.verdict.Verdict.TheVariants as verdict
+use Rattle.table_model.specs.declared.void_line.VoidLine.{VoidLine}
+use Rattle.table_model.specs.Invariants.{shown_in}
+use Rattle.table_model.specs.Nodes.{holds, IsClosed}
+use Rattle.table_model.specs.Tables.{AreTablesOf, listed, name_cmp, void_line, void_lines}
+use Rattle.table_model.specs.Verdicts.{effects_in, in_table, judge_next, judged}
+use Rattle.table_model.specs.Visible.{Rules, TableRow, Effects, same_row, is_visible, shown}
+use Rattle.table_model.proofs.Founded.{Founded, founded_closed}
 use Rattle.confluence_checker.specs.Sorting.{AreLists, AreRowsAmong, HasDistinctNames, HasDistinctRows, HasDistinctIds}
 
 -- ---- a sort

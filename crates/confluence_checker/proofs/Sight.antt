@@ -10,9 +10,9 @@ use Rattle.schema.specs.declared.column.ColumnKind.{ColumnKind}
 use Rattle.schema.specs.declared.table_def.TableDef.{TableDef}
 use Rattle.schema.specs.Columns.{target_of}
 use Rattle.schema.specs.Schemas.{Meaning}
-use Rattle.schema.specs.Visible.{TableRow, Effects, same_row, shows, cascade_refs, is_nulled, visible_to, visible_rows, shown, shown_rows, shown_value, shown_values, table_of}
-use Rattle.schema.proofs.Order.{any_weaker}
-use Rattle.schema.proofs.Standing.{row_from_same}
+use Rattle.table_model.specs.Visible.{TableRow, Effects, same_row, shows, cascade_refs, is_nulled, visible_to, visible_rows, shown, shown_rows, shown_value, shown_values, table_of}
+use Rattle.table_model.proofs.Order.{any_weaker}
+use Rattle.table_model.proofs.Standing.{row_from_same}
 use Rattle.confluence_checker.specs.Forms.{is_among, rules_by, rules_of}
 use Rattle.confluence_checker.specs.Seeing.{SeesTo, SeesAll, shown_by, shown_values_by, shown_row_by}
 use Rattle.confluence_checker.proofs.Same.{same_turned}

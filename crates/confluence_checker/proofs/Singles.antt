@@ -1,9 +1,9 @@
 -- The ATMOST of a first table is an invariant of the schema.
 use Rattle.std.proofs.Common.{◌≡◌, ◌+◌, Bool, cond, List, [], ◌∷◌, ◌++◌, refl, ap, ◌∙◌, append_assoc, Some, slice_get}
 use Rattle.std.proofs.lemmas.Bool.{ne_eqb}
-use Rattle.schema.specs.declared.invariant.InvariantKind.TheVariants as kind
+use Rattle.table_model.specs.declared.invariant.InvariantKind.TheVariants as kind
 use Rattle.schema.specs.declared.table_def.TableDef.{TableDef}
-use Rattle.schema.specs.Invariants.{AtMost, Declared, each_from, unique_declared, reference_declared, check_declared, match_declared, table_declared}
+use Rattle.table_model.specs.Invariants.{AtMost, Declared, each_from, unique_declared, reference_declared, check_declared, match_declared, table_declared}
 use Rattle.schema.specs.Schemas.{Meaning}
 use Rattle.confluence_checker.specs.Forms.{IsInvariantOf, rules_by}
 

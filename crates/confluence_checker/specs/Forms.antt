@@ -6,15 +6,15 @@ use Rattle.update_model.specs.declared.op.Op.TheVariants as op
 use Rattle.update_model.specs.declared.row_name.RowName.{RowName}
 use Rattle.update_model.specs.Graph.{has}
 use Rattle.update_model.specs.Node.{NodeData}
-use Rattle.schema.specs.declared.invariant.Invariant.{Invariant}
-use Rattle.schema.specs.Confluence.{is_closed}
-use Rattle.schema.specs.declared.invariant.InvariantKind.{InvariantKind}
-use Rattle.schema.specs.declared.invariant.InvariantKind.TheVariants as kind
+use Rattle.table_model.specs.declared.invariant.Invariant.{Invariant}
+use Rattle.table_model.specs.Confluence.{is_closed}
+use Rattle.table_model.specs.declared.invariant.InvariantKind.{InvariantKind}
+use Rattle.table_model.specs.declared.invariant.InvariantKind.TheVariants as kind
 use Rattle.schema.specs.declared.table_def.TableDef.{TableDef}
-use Rattle.schema.specs.Invariants.{Claim, Declared, claim_holds, invariants_of, satisfies, shown_in}
+use Rattle.table_model.specs.Invariants.{Claim, Declared, claim_holds, invariants_of, satisfies, shown_in}
 use Rattle.schema.specs.Schemas.{Meaning}
-use Rattle.schema.specs.Verdicts.{Judged, insert_reason, delete_reason, row_inserted, all_fit}
-use Rattle.schema.specs.Visible.{Rules, TableRow, Effects, same_row, table_of}
+use Rattle.table_model.specs.Verdicts.{Judged, insert_reason, delete_reason, row_inserted, all_fit}
+use Rattle.table_model.specs.Visible.{Rules, TableRow, Effects, same_row, table_of}
 use Rattle.confluence_checker.specs.declared.found.Found.{Found}
 use Rattle.confluence_checker.specs.declared.judged_node.JudgedNode.{JudgedNode}
 

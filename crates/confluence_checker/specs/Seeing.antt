@@ -8,7 +8,7 @@ use Rattle.schema.specs.declared.column.ColumnKind.{ColumnKind}
 use Rattle.schema.specs.declared.table_def.TableDef.{TableDef}
 use Rattle.schema.specs.Columns.{target_of}
 use Rattle.schema.specs.Schemas.{Meaning}
-use Rattle.schema.specs.Visible.{TableRow, Effects, is_nulled, table_of, visible_to}
+use Rattle.table_model.specs.Visible.{TableRow, Effects, is_nulled, table_of, visible_to}
 use Rattle.confluence_checker.specs.Forms.{is_among, rules_by, rules_of}
 
 -- A list has exactly the names that are visible where references are followed this deep.

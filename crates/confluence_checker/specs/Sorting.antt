@@ -4,11 +4,11 @@ use Rattle.std.specs.List.{IsDistinct}
 use Rattle.std.specs.List.Sorted.{IsPermutation, IsStrictlySortedBy}
 use Rattle.std.specs.Ordering.{eq_by_cmp}
 use Rattle.update_model.specs.Entry.{id_cmp}
-use Rattle.schema.specs.declared.shown_row.ShownRow.{ShownRow}
-use Rattle.schema.specs.declared.void_line.VoidLine.{VoidLine}
-use Rattle.schema.specs.Tables.{listed, name_cmp}
-use Rattle.schema.specs.Verdicts.{in_table}
-use Rattle.schema.specs.Visible.{TableRow}
+use Rattle.table_model.specs.declared.shown_row.ShownRow.{ShownRow}
+use Rattle.table_model.specs.declared.void_line.VoidLine.{VoidLine}
+use Rattle.table_model.specs.Tables.{listed, name_cmp}
+use Rattle.table_model.specs.Verdicts.{in_table}
+use Rattle.table_model.specs.Visible.{TableRow}
 
 -- No two rows have one name.
 abbrev pub HasDistinctNames : List ShownRow → Type 0

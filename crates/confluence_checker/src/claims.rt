@@ -3,10 +3,10 @@
 ghost use Rattle.std.specs.Prelude.{◌≡◌, ◌==◌, ◌||◌, not, IfOk, IsTrue};
 ghost use Rattle.row_check.specs.Meaning.{value_at};
 ghost use Rattle.expression_text.specs.Trees.{holds_tree};
-ghost use Rattle.schema.specs.Invariants.{each_row, names_shown};
+ghost use Rattle.table_model.specs.Invariants.{each_row, names_shown};
 ghost use Rattle.schema.specs.Sound.{IsSoundCheck};
-ghost use Rattle.schema.specs.Verdicts.{all_fit, in_table, matches_among};
-ghost use Rattle.schema.specs.Visible.{table_of};
+ghost use Rattle.table_model.specs.Verdicts.{all_fit, in_table, matches_among};
+ghost use Rattle.table_model.specs.Visible.{table_of};
 ghost use Rattle.confluence_checker.specs.Forms.{AllFit, rules_of};
 
 use crate::inserted_row::InsertedRow;

@@ -1,9 +1,9 @@
 //! Whether a counterexample confirms.
 
 ghost use Rattle.std.specs.Prelude.{◌≡◌, ◌∷◌, ◌++◌, ◌&&◌, List, IfOk, OnOk, reverse};
-ghost use Rattle.schema.specs.Confluence.{confirms, is_closed};
-ghost use Rattle.schema.specs.Invariants.{Declared, claims_of, invariants_of, shown_in};
-ghost use Rattle.schema.specs.Nodes.{IsClosed};
+ghost use Rattle.table_model.specs.Confluence.{confirms, is_closed};
+ghost use Rattle.table_model.specs.Invariants.{Declared, claims_of, invariants_of, shown_in};
+ghost use Rattle.table_model.specs.Nodes.{IsClosed};
 ghost use Rattle.confluence_checker.specs.Forms.{IsInvariantOf, breaks_by, found_among, is_broken, is_kept, rules_by, start};
 
 use crate::ancestors::effects;
@@ -13,8 +13,9 @@ use crate::judging::judged;
 use crate::searching::found;
 use crate::visibility::shown_rows;
 use row_check::{Checks, Native, Relation};
-use schema::{Counterexample, Invariant, Schema, shown_rows_fit};
+use schema::Schema;
 use std::alloc::{AllocError, Global};
+use table_model::{Counterexample, Invariant, shown_rows_fit};
 use update_model::Node;
 
 /// Equal nodes, those of one list and then those of another.

@@ -4,9 +4,9 @@ ghost use Rattle.std.specs.Prelude.{◌≡◌, reverse, not, ◌&&◌};
 ghost use Rattle.std.specs.List.{list_all};
 ghost use Rattle.update_model.specs.Entry.{same_id};
 ghost use Rattle.update_model.specs.Graph.{has};
-ghost use Rattle.schema.specs.Confluence.{is_closed};
-ghost use Rattle.schema.specs.Nodes.{holds};
-ghost use Rattle.schema.specs.Visible.{same_row};
+ghost use Rattle.table_model.specs.Confluence.{is_closed};
+ghost use Rattle.table_model.specs.Nodes.{holds};
+ghost use Rattle.table_model.specs.Visible.{same_row};
 ghost use Rattle.confluence_checker.specs.Forms.{is_among};
 
 use update_model::{Node, RowName, UpdateId};

@@ -1,15 +1,16 @@
 //! The verdicts on the nodes of a closed list.
 
 ghost use Rattle.std.specs.Prelude.{◌≡◌, IfOk, reverse};
-ghost use Rattle.schema.specs.Verdicts.{judge_next, judged};
+ghost use Rattle.table_model.specs.Verdicts.{judge_next, judged};
 ghost use Rattle.confluence_checker.specs.Forms.{as_judged, newest_first, rules_by};
 
 use crate::ancestors::{ancestors_of, effects_among};
 use crate::judged_node::JudgedNode;
 use crate::verdicts::verdict_on;
 use row_check::{Checks, Native, Relation};
-use schema::{Schema, judged_one_by_one, verdict_is_on_ancestors};
+use schema::Schema;
 use std::alloc::{AllocError, Global};
+use table_model::{judged_one_by_one, verdict_is_on_ancestors};
 use update_model::Node;
 
 /// Judges a node on its ancestors, which are among these nodes in the order of arrival.

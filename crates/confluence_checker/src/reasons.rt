@@ -6,8 +6,8 @@ ghost use Rattle.row_check.specs.Comparisons.{compares};
 ghost use Rattle.row_check.specs.Meaning.{value_at};
 ghost use Rattle.expression_text.specs.Trees.{holds_tree};
 ghost use Rattle.schema.specs.Sound.{IsSoundCheck};
-ghost use Rattle.schema.specs.Verdicts.{all_fit, checks_hold, delete_reason, fits, insert_reason, matches_among, matches_hold, same_author};
-ghost use Rattle.schema.specs.Visible.{refs, same_row, table_of};
+ghost use Rattle.table_model.specs.Verdicts.{all_fit, checks_hold, delete_reason, fits, insert_reason, matches_among, matches_hold, same_author};
+ghost use Rattle.table_model.specs.Visible.{refs, same_row, table_of};
 ghost use Rattle.schema.specs.Columns.{is_restrict};
 ghost use Rattle.confluence_checker.specs.Forms.{rules_by, rules_of};
 

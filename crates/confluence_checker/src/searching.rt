@@ -3,9 +3,9 @@
 ghost use Rattle.std.specs.Prelude.{◌≡◌, IfOk};
 ghost use Rattle.std.specs.List.{AllByRecursion};
 ghost use Rattle.schema.specs.Columns.{target_of};
-ghost use Rattle.schema.specs.Invariants.{at_most_declared, check_declared, each_from, invariants_of, match_declared, reference_declared, refers_declared, table_declared, unique_declared};
+ghost use Rattle.table_model.specs.Invariants.{at_most_declared, check_declared, each_from, invariants_of, match_declared, reference_declared, refers_declared, table_declared, unique_declared};
 ghost use Rattle.schema.specs.Sound.{IsSoundCheck};
-ghost use Rattle.schema.specs.Visible.{Rules, table_of};
+ghost use Rattle.table_model.specs.Visible.{Rules, table_of};
 ghost use Rattle.confluence_checker.specs.Forms.{AllFit, found_among, is_same, kind_number, rules_by, rules_of, start};
 
 use crate::claims::{check_holds, matches_hold, refers_holds};
@@ -14,10 +14,9 @@ use crate::inserted_row::InsertedRow;
 use crate::limits::{at_most_holds, unique_holds};
 use crate::values::target_of;
 use row_check::{Checks, Native, Relation};
-use schema::{
-    CheckRule, Column, Invariant, InvariantKind, MatchRule, Schema, TableDef, UniqueRule,
-};
+use schema::{CheckRule, Column, MatchRule, Schema, TableDef, UniqueRule};
 use std::alloc::{AllocError, Global};
+use table_model::{Invariant, InvariantKind};
 
 /// The number of a kind.
 fn kind_number(kind: InvariantKind) -> u8

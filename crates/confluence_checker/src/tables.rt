@@ -1,9 +1,9 @@
 //! The tables of a set of updates.
 
 ghost use Rattle.std.specs.Prelude.{◌≡◌, IfOk, length, reverse, map, filter};
-ghost use Rattle.schema.specs.Nodes.{IsClosed};
-ghost use Rattle.schema.specs.Tables.{AreTablesOf, AreVoidsIn, listed, void_line, void_lines};
-ghost use Rattle.schema.specs.Verdicts.{in_table};
+ghost use Rattle.table_model.specs.Nodes.{IsClosed};
+ghost use Rattle.table_model.specs.Tables.{AreTablesOf, AreVoidsIn, listed, void_line, void_lines};
+ghost use Rattle.table_model.specs.Verdicts.{in_table};
 ghost use Rattle.confluence_checker.specs.Forms.{newest_first, rules_by};
 ghost use Rattle.confluence_checker.specs.Sorting.{AreLists, HasDistinctRows, line_of};
 
@@ -15,8 +15,9 @@ use crate::sorting::{sort_lines, sort_rows};
 use crate::visibility::shown_rows;
 use crate::{RowLists, TableList};
 use row_check::{Checks, Native, Relation};
-use schema::{Schema, ShownRow, ShownRowList, Verdict, VoidLine, VoidList};
+use schema::Schema;
 use std::alloc::{AllocError, Global};
+use table_model::{ShownRow, ShownRowList, Verdict, VoidLine, VoidList};
 use update_model::Node;
 
 /// A row as a table lists it.

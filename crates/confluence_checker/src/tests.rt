@@ -7,11 +7,10 @@ ghost use Rattle.confluence_checker.specs.Forms.{IsInvariantOf, rules_by};
 use crate::ids::is_closed;
 use crate::{TableList, confirms, tables_of};
 use row_check::{Luhn, Native};
-use schema::{
-    Counterexample, Invariant, InvariantKind, NodeList, Schema, SchemaError, read_schema,
-};
+use schema::{Schema, SchemaError, read_schema};
 use std::alloc::{AllocError, Global};
 use std::test::Fail;
+use table_model::{Counterexample, Invariant, InvariantKind, NodeList};
 use update_model::{AuthorKey, IdList, Node, Op, OpList, RowName, UpdateId, Value, ValueList};
 
 /// A table whose rows may be deleted, and one with a reference that is shown as null then.

@@ -4,7 +4,7 @@ ghost use Rattle.std.specs.Prelude.{◌≡◌};
 ghost use Rattle.row_check.specs.Comparisons.{compares};
 ghost use Rattle.row_check.specs.Meaning.{value_at};
 ghost use Rattle.schema.specs.Columns.{target_of};
-ghost use Rattle.schema.specs.Visible.{table_of};
+ghost use Rattle.table_model.specs.Visible.{table_of};
 ghost use Rattle.confluence_checker.specs.Forms.{rules_of};
 
 use row_check::{Cmp, compare};

@@ -3,8 +3,8 @@
 ghost use Rattle.std.specs.Prelude.{◌≡◌, ◌<◌, IfOk, List, []};
 ghost use Rattle.update_model.specs.Node.{NodeData};
 ghost use Rattle.schema.specs.Schemas.{Meaning};
-ghost use Rattle.schema.specs.Verdicts.{delete_reason, verdict_after, verdict_on};
-ghost use Rattle.schema.specs.Visible.{TableRow};
+ghost use Rattle.table_model.specs.Verdicts.{delete_reason, verdict_after, verdict_on};
+ghost use Rattle.table_model.specs.Visible.{TableRow};
 ghost use Rattle.confluence_checker.specs.Forms.{reason_against, rules_by, rules_of};
 
 use crate::effects::{do_op, op_count, row_inserted};
@@ -14,8 +14,9 @@ use crate::reasons::{delete_reason, insert_reason};
 use crate::row_effects::RowEffects;
 use crate::visibility::visible_rows;
 use row_check::{Checks, Native, Relation};
-use schema::{Schema, Verdict, verdict_goes_by_operations};
+use schema::Schema;
 use std::alloc::{AllocError, Global};
+use table_model::{Verdict, verdict_goes_by_operations};
 use update_model::{Node, Op, RowName};
 
 /// Why a row may not be deleted, where these rows are visible on the ancestors and earlier operations did this.

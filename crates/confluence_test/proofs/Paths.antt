@@ -7,9 +7,9 @@ use Rattle.schema.specs.declared.column.Column.{Column}
 use Rattle.schema.specs.declared.table_def.TableDef.{TableDef}
 use Rattle.schema.specs.Columns.{target_of}
 use Rattle.schema.specs.Sound.{IsSoundColumn, AreTables}
-use Rattle.schema.specs.Visible.{Rules, table_of, is_cascade}
-use Rattle.schema.specs.Confluence.{is_permanent}
-use Rattle.schema.specs.Examples.{Item, Step, needed_but, for_each, need, step_by, next_step, path_by, path_from, path_items, item_naming, shared_of}
+use Rattle.table_model.specs.Visible.{Rules, table_of, is_cascade}
+use Rattle.table_model.specs.Confluence.{is_permanent}
+use Rattle.table_model.specs.Examples.{Item, Step, needed_but, for_each, need, step_by, next_step, path_by, path_from, path_items, item_naming, shared_of}
 use Rattle.confluence_test.specs.Plans.{rules_of, permanent_at, SaysPermanent, AreBelow, step_to, or_later, next_step_by}
 use Rattle.confluence_test.proofs.Listing.{drop_next, drop_all, take_all, reverse_next}
 use Rattle.confluence_test.proofs.Needing.{each_of_both}

@@ -8,8 +8,8 @@ use Rattle.schema.specs.declared.column.Column.{Column}
 use Rattle.schema.specs.declared.table_def.TableDef.{TableDef}
 use Rattle.schema.specs.Columns.{target_of}
 use Rattle.schema.specs.Sound.{IsSoundColumn, AreTables}
-use Rattle.schema.specs.Visible.{table_of, is_cascade}
-use Rattle.schema.specs.Confluence.{cascade_target, cascade_targets, permanent_to, is_permanent}
+use Rattle.table_model.specs.Visible.{table_of, is_cascade}
+use Rattle.table_model.specs.Confluence.{cascade_target, cascade_targets, permanent_to, is_permanent}
 use Rattle.confluence_test.specs.Plans.{rules_of, permanent_at, keeps, all_keep, is_permanent_by}
 use Rattle.confluence_test.proofs.Sounds.{sound_columns, low_target}
 

@@ -7,14 +7,15 @@ use Rattle.std.proofs.lemmas.Option.{slice_get-get_or}
 use Rattle.schema.specs.declared.action.Action.{Action}
 use Rattle.schema.specs.declared.action.Action.TheVariants as action
 use Rattle.schema.specs.declared.column.Column.{Column}
-use Rattle.schema.specs.declared.invariant.InvariantKind.TheVariants as kind
+use Rattle.table_model.specs.declared.invariant.InvariantKind.TheVariants as kind
 use Rattle.schema.specs.declared.rules.UniqueRule.{UniqueRule}
 use Rattle.schema.specs.declared.table_def.TableDef.{TableDef}
 use Rattle.schema.specs.Columns.{target_of}
 use Rattle.schema.specs.Sound.{IsSoundColumn, AreTables}
-use Rattle.schema.specs.Visible.{Rules, missing_table, table_of}
-use Rattle.schema.specs.Invariants.{Refers, Declared, each_from, unique_declared, at_most_declared, refers_declared, reference_declared, check_declared, match_declared, table_declared}
-use Rattle.schema.specs.Confluence.{accepts}
+use Rattle.schema.specs.Numbers.{no_table}
+use Rattle.table_model.specs.Visible.{Rules, table_of}
+use Rattle.table_model.specs.Invariants.{Refers, Declared, each_from, unique_declared, at_most_declared, refers_declared, reference_declared, check_declared, match_declared, table_declared}
+use Rattle.table_model.specs.Confluence.{accepts}
 use Rattle.confluence_test.specs.declared.finding.Finding.{Finding}
 use Rattle.confluence_test.specs.Plans.{rules_of, permanent_at, SaysPermanent}
 use Rattle.confluence_test.specs.Findings.{declared_of, is_refused, first_refused, accepts_to, accepts_by, refused_by, dangling}
@@ -178,9 +179,9 @@ same_refused rules permanence says number known table sound =
 
 tables_at : (tables : List TableDef) (number : ℕ) → number < length tables → drop number tables ≡ table_of (rules_of tables) number ∷ drop (number + 1) tables
 tables_at tables number known =
-    let read : slice_get tables number ≡ Some (get_or tables number missing_table) = slice_get-get_or tables number missing_table known in
-    let is : table_of (rules_of tables) number ≡ get_or tables number missing_table = ap (λ (o : Option TableDef). unwrap_or o missing_table) read in
-    rw (add-one, drop-cons tables number missing_table) (ap (λ (t : TableDef). t ∷ drop (suc number) tables) (sym is))
+    let read : slice_get tables number ≡ Some (get_or tables number no_table) = slice_get-get_or tables number no_table known in
+    let is : table_of (rules_of tables) number ≡ get_or tables number no_table = ap (λ (o : Option TableDef). unwrap_or o no_table) read in
+    rw (add-one, drop-cons tables number no_table) (ap (λ (t : TableDef). t ∷ drop (suc number) tables) (sym is))
 
 scan_at : (tables : List TableDef) → AreTables [] tables → (permanence : List Bool) → SaysPermanent (rules_of tables) permanence → (number : ℕ) → number < length tables
     → first_refused (rules_of tables) (each_from table_declared number (drop number tables))

@@ -3,9 +3,9 @@
 ghost use Rattle.std.specs.Prelude.{◌≡◌, ◌<◌, ◌≤◌, [], length};
 ghost use Rattle.std.specs.List.{AllByRecursion};
 ghost use Rattle.schema.specs.Columns.{target_of};
-ghost use Rattle.schema.specs.Examples.{is_skipped};
+ghost use Rattle.table_model.specs.Examples.{is_skipped};
 ghost use Rattle.schema.specs.Sound.{AreTables, IsSoundColumn};
-ghost use Rattle.schema.specs.Visible.{table_of};
+ghost use Rattle.table_model.specs.Visible.{table_of};
 ghost use Rattle.confluence_test.specs.Plans.{rules_of, needed_at, all_of};
 
 use schema::{Action, Column, ColumnKind, Schema, TableDef};

@@ -1,7 +1,7 @@
 //! The counterexamples.
 
 ghost use Rattle.std.specs.Prelude.{◌≡◌, ◌<◌, ◌≤◌, ◌+◌, ◌-◌, [], ◌∷◌, ◌++◌, IfOk, OnOk, length, reverse};
-ghost use Rattle.schema.specs.Examples.{example_of, unique_example, at_most_example, restrict_example, twice_after, split_after, copies};
+ghost use Rattle.table_model.specs.Examples.{example_of, unique_example, at_most_example, restrict_example, twice_after, split_after, copies};
 ghost use Rattle.confluence_test.specs.Findings.{claim_of, IsFlaw};
 ghost use Rattle.confluence_test.specs.Plans.{rules_of, SaysPermanent};
 
@@ -11,8 +11,9 @@ use crate::finding::Flaw;
 use crate::needs::base_of;
 use crate::nodes::{after, one_after, row_numbered};
 use crate::path::{path_back, path_rows, shared_of};
-use schema::{Counterexample, NodeList, Schema};
+use schema::Schema;
 use std::alloc::{AllocError, Global};
+use table_model::{Counterexample, NodeList};
 use update_model::{Node, Op};
 
 /// The counterexample of an invariant that is refused.

@@ -3,7 +3,7 @@
 ghost use Rattle.std.specs.Prelude.{◌≡◌, ◌<◌, IfOk, length, cond};
 ghost use Rattle.update_model.specs.declared.value.Value.TheVariants.{Row};
 ghost use Rattle.schema.specs.Columns.{target_of};
-ghost use Rattle.schema.specs.Examples.{fill, filled_but, item_naming, item_of};
+ghost use Rattle.table_model.specs.Examples.{fill, filled_but, item_naming, item_of};
 ghost use Rattle.confluence_test.specs.Plans.{rules_of};
 
 use crate::chain::{Chain, PlannedRow};

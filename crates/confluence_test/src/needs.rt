@@ -1,8 +1,8 @@
 //! The rows that other rows need.
 
 ghost use Rattle.std.specs.Prelude.{◌≡◌, ℕ, ◌<◌, ◌≤◌, IfOk, OnOk, length};
-ghost use Rattle.schema.specs.Examples.{has_table, need, needed_but, for_each, base_of};
-ghost use Rattle.schema.specs.Visible.{table_of};
+ghost use Rattle.table_model.specs.Examples.{has_table, need, needed_but, for_each, base_of};
+ghost use Rattle.table_model.specs.Visible.{table_of};
 ghost use Rattle.confluence_test.specs.Plans.{rules_of, AreOnce};
 
 use crate::chain::Chain;

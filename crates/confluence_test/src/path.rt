@@ -3,9 +3,9 @@
 ghost use Rattle.std.specs.Prelude.{◌≡◌, ◌<◌, ◌≤◌, ◌+◌, [], ◌++◌, All, IfOk, OnOk, IfSome, Some, length, reverse};
 ghost use Rattle.std.specs.List.{AllByRecursion};
 ghost use Rattle.schema.specs.Columns.{target_of};
-ghost use Rattle.schema.specs.Examples.{path_from, path_items, shared_of};
+ghost use Rattle.table_model.specs.Examples.{path_from, path_items, shared_of};
 ghost use Rattle.schema.specs.Sound.{IsSoundColumn};
-ghost use Rattle.schema.specs.Visible.{table_of};
+ghost use Rattle.table_model.specs.Visible.{table_of};
 ghost use Rattle.confluence_test.specs.Plans.{rules_of, AreOnce, SaysPermanent, AreBelow, next_step_by, step_to};
 
 use crate::chain::{Chain, PlannedRow};
@@ -27,7 +27,7 @@ pub(crate) struct PathStep {
 }
 
 impl Model for PathStep {
-    ghost use Rattle.schema.specs.Examples.{Step};
+    ghost use Rattle.table_model.specs.Examples.{Step};
 
     ghost Value = { Step };
 

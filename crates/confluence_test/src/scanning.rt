@@ -3,7 +3,7 @@
 ghost use Rattle.std.specs.Prelude.{◌≡◌, ◌<◌, ◌≤◌, length, option_map, slice_get, IfSome};
 ghost use Rattle.std.specs.List.{AllByRecursion};
 ghost use Rattle.schema.specs.Columns.{target_of};
-ghost use Rattle.schema.specs.Invariants.{invariants_of, each_from, unique_declared, at_most_declared, reference_declared, table_declared};
+ghost use Rattle.table_model.specs.Invariants.{invariants_of, each_from, unique_declared, at_most_declared, reference_declared, table_declared};
 ghost use Rattle.schema.specs.Sound.{IsSoundColumn};
 ghost use Rattle.confluence_test.specs.Findings.{declared_of, first_refused, refused_by, dangling, IsFlawOf, IsFlaw};
 ghost use Rattle.confluence_test.specs.Plans.{rules_of, SaysPermanent};
@@ -11,7 +11,8 @@ ghost use Rattle.confluence_test.specs.Plans.{rules_of, SaysPermanent};
 use crate::columns::{table_of, target_of};
 use crate::finding::{Finding, Flaw};
 use crate::permanence::permanent_at;
-use schema::{Action, Column, Invariant, InvariantKind, Schema, TableDef, UniqueRule};
+use schema::{Action, Column, Schema, TableDef, UniqueRule};
+use table_model::{Invariant, InvariantKind};
 
 /// The first invariant of a schema that is refused.
 pub(crate) fn first_refused(schema: &Schema, permanence: &[bool]) -> Option<Finding>

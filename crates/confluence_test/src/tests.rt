@@ -2,10 +2,11 @@
 
 use crate::{Tested, test};
 use row_check::{Luhn, Native};
-use schema::InvariantKind::{AtMost, Reference, Unique};
-use schema::{Invariant, InvariantKind, SchemaError, read_schema};
+use schema::{SchemaError, read_schema};
 use std::alloc::Global;
 use std::test::Fail;
+use table_model::InvariantKind::{AtMost, Reference, Unique};
+use table_model::{Invariant, InvariantKind};
 
 /// A CHECK, a MATCH, a CASCADE and a SETNULL.
 const MILD: &str =

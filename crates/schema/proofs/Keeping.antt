@@ -18,7 +18,8 @@ use Rattle.schema.specs.declared.form.PlainKind.{PlainKind}
 use Rattle.schema.specs.declared.form.PlainKind.TheVariants as plain
 use Rattle.schema.specs.declared.table_def.TableDef.{TableDef}
 use Rattle.schema.specs.Columns.{is_reference, kinds_of, names_of, number_named, column_named, target_of, reference_at, reference_named, is_restrict, are_comparable}
-use Rattle.schema.specs.Drafts.{no_table, start, table_at, table_named, first_some, kind_declared, with_column, with_rules, is_columns, is_in_table, is_turn}
+use Rattle.schema.specs.Numbers.{no_table}
+use Rattle.schema.specs.Drafts.{start, table_at, table_named, first_some, kind_declared, with_column, with_rules, is_columns, is_in_table, is_turn}
 use Rattle.schema.specs.Faults.{AreBounds, IsTypedMatch, IsTypedUnique, MayMatch, HasGoodTarget}
 use Rattle.schema.specs.Steps.{IsAfter, number_of, target_columns, match_rule}
 use Rattle.schema.specs.Schemas.{Meaning, SchemaData, IsGood, Leads, LeadOn, IsComplete, Declares}

@@ -11,11 +11,7 @@ use Rattle.schema.specs.declared.table_def.TableDef.{TableDef}
 use Rattle.schema.specs.Columns.{target_of, reference_at, is_restrict, are_comparable}
 use Rattle.schema.specs.Rows.{FitsSample}
 use Rattle.schema.specs.Sound.{IsSoundKind, IsSoundColumn, columns_or, IsSoundMatch, IsSoundCheck, IsSoundUnique, IsTable, AreTables}
-use Rattle.schema.specs.Visible.{Rules, missing_table, table_of}
-
--- the table with this number
-abbrev pub table_number : List TableDef → ℕ → TableDef
-table_number tables number = unwrap_or (slice_get tables number) missing_table
+use Rattle.schema.specs.Numbers.{table_number}
 
 -- A MATCH compares two plain columns of one kind, along a reference that is not RESTRICT.
 abbrev pub ComparesPlain : List TableDef → TableDef → MatchRule → Type 0
@@ -29,8 +25,8 @@ pub record IsSoundAt (tables : List TableDef) (number : ℕ) (table : TableDef) 
   pub uniques : AllByRecursion (IsSoundUnique table.columns) table.uniques
   pub sample : FitsSample table.columns table.sample
 
-abbrev pub IsSound : Rules → Type 0
-IsSound rules = (number : ℕ) → IsSoundAt rules.tables number (table_of rules number)
+abbrev pub IsSound : List TableDef → Type 0
+IsSound tables = (number : ℕ) → IsSoundAt tables number (table_number tables number)
 
 -- what holds of each element holds of the one at this place
 pub each_at : {X : Type 0} (P : X → Type 0) (xs : List X) (i : ℕ) (x : X) → AllByRecursion P xs → slice_get xs i ≡ Some x → P x
@@ -90,6 +86,6 @@ sound_each before (table ∷ tables) h (suc place) =
     (subst (λ (number : ℕ). IsSoundAt ((before ++ table ∷ []) ++ tables) number (table_number tables place)) n rest)
 
 -- the tables of every schema are sound
-pub sound_tables : (rules : Rules) → AreTables [] rules.tables → IsSound rules
-sound_tables rules h number =
-    let n : 0 + number ≡ number = omega arith in subst (λ (k : ℕ). IsSoundAt rules.tables k (table_of rules number)) n (sound_each [] rules.tables h number)
+pub sound_tables : (tables : List TableDef) → AreTables [] tables → IsSound tables
+sound_tables tables h number =
+    let n : 0 + number ≡ number = omega arith in subst (λ (k : ℕ). IsSoundAt tables k (table_number tables number)) n (sound_each [] tables h number)

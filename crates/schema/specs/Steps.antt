@@ -14,7 +14,8 @@ use Rattle.schema.specs.declared.form.Form.TheVariants as form
 use Rattle.schema.specs.declared.rules.MatchRule.{MatchRule}
 use Rattle.schema.specs.Columns.{names_of, number_named, reference_named}
 use Rattle.schema.specs.Faults.{Means}
-use Rattle.schema.specs.Drafts.{no_table, table_at, table_named, kind_declared, with_column, with_rules}
+use Rattle.schema.specs.Drafts.{table_at, table_named, kind_declared, with_column, with_rules}
+use Rattle.schema.specs.Numbers.{no_table}
 use Rattle.schema.specs.Rows.{sample_row}
 
 -- the number of the column with this name, which is there

@@ -5,11 +5,10 @@ use crate::{
     push_tables, push_value, push_void,
 };
 use row_check::{Luhn, Native};
-use schema::{
-    Counterexample, NodeList, Schema, SchemaError, ShownRow, ShownRowList, VoidLine, read_schema,
-};
+use schema::{Schema, SchemaError, read_schema};
 use std::alloc::{AllocError, Global};
 use std::test::Fail;
+use table_model::{Counterexample, NodeList, ShownRow, ShownRowList, VoidLine};
 use update_model::{
     AuthorKey, IdList, Node, Op, OpList, RowName, TextValue, UpdateId, Value, ValueList,
     check_value_text,

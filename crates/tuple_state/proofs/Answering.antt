@@ -6,9 +6,9 @@ use Rattle.std.proofs.lemmas.Bool.{both_ways, or_parts}
 use Rattle.std.proofs.lemmas.List.Elements.{All-contains, All-from_recursion}
 use Rattle.update_model.specs.declared.row_name.RowName.{RowName}
 use Rattle.update_model.specs.Node.{NodeData}
-use Rattle.schema.specs.Verdicts.{ancestor_of, effects, judged}
-use Rattle.schema.specs.Visible.{Effects, Rules, TableRow, is_visible, same_row, visible_rows}
-use Rattle.schema.proofs.Standing.{row_from_same, same_row-refl, each-map}
+use Rattle.table_model.specs.Verdicts.{ancestor_of, effects, judged}
+use Rattle.table_model.specs.Visible.{Effects, Rules, TableRow, is_visible, same_row, visible_rows}
+use Rattle.table_model.proofs.Standing.{row_from_same, same_row-refl, each-map}
 use Rattle.validity.specs.Answers.{AreAnswers, entry_in, has_child_in}
 use Rattle.tuple_state.specs.Kept.{are_layered, is_named}
 use Rattle.tuple_state.specs.Past.{IsPastOf, child_then, done_then, row_then, visible_then}

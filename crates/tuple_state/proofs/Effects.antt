@@ -4,11 +4,11 @@ use Rattle.std.proofs.lemmas.List.{map-append, reverse-append, reverse-reverse}
 use Rattle.update_model.specs.declared.row_name.RowName.{RowName}
 use Rattle.update_model.specs.Node.{NodeData}
 use Rattle.schema.specs.declared.table_def.TableDef.{TableDef}
-use Rattle.schema.specs.declared.verdict.Verdict.{Verdict}
-use Rattle.schema.specs.declared.verdict.Verdict.TheVariants as verdict
-use Rattle.schema.specs.Tables.{void_line, void_lines}
-use Rattle.schema.specs.Verdicts.{effects, effects_of, is_valid, joined, judge_next, judged}
-use Rattle.schema.specs.Visible.{Effects, Rules, TableRow}
+use Rattle.table_model.specs.declared.verdict.Verdict.{Verdict}
+use Rattle.table_model.specs.declared.verdict.Verdict.TheVariants as verdict
+use Rattle.table_model.specs.Tables.{void_line, void_lines}
+use Rattle.table_model.specs.Verdicts.{effects, effects_of, is_valid, joined, judge_next, judged}
+use Rattle.table_model.specs.Visible.{Effects, Rules, TableRow}
 use Rattle.tuple_state.specs.declared.inserted.Inserted.{Inserted}
 use Rattle.tuple_state.specs.declared.dropped.Dropped.{Dropped}
 use Rattle.tuple_state.specs.State.{after, done_in, dropped_at, inserted_at, row_of, state_of}

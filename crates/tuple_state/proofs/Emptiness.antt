@@ -4,7 +4,7 @@ use Rattle.std.specs.BTreeMap.{BTreeMap, is_at}
 use Rattle.std.specs.Map.{lookup}
 use Rattle.update_model.specs.declared.row_name.RowName.{RowName}
 use Rattle.schema.specs.declared.column.Column.{Column}
-use Rattle.schema.specs.Tables.{name_cmp}
+use Rattle.table_model.specs.Tables.{name_cmp}
 use Rattle.tuple_state.specs.Kept.{IsKept, are_layered}
 
 pub kept_new : (columns : List (List Column)) (places : BTreeMap RowName ℕ) → places.entries ≡ []

@@ -9,13 +9,13 @@ use Rattle.update_model.specs.declared.op.Op.{Op}
 use Rattle.update_model.specs.declared.op.Op.TheVariants.{Insert, Delete}
 use Rattle.update_model.specs.declared.row_name.RowName.{RowName}
 use Rattle.update_model.specs.Node.{IsNode, NodeData}
-use Rattle.schema.specs.declared.verdict.Verdict.{Verdict}
-use Rattle.schema.specs.declared.verdict.Verdict.TheVariants as verdict
-use Rattle.schema.specs.Tables.{name_cmp}
-use Rattle.schema.specs.Verdicts.{effects_after, effects_in, effects_of, nothing, row_inserted}
-use Rattle.schema.specs.Visible.{Effects, Rules, is_visible, same_row, table_of}
-use Rattle.schema.proofs.Order.{any_weaker}
-use Rattle.schema.proofs.Founded.{all_weaker, erasable, founded_closed}
+use Rattle.table_model.specs.declared.verdict.Verdict.{Verdict}
+use Rattle.table_model.specs.declared.verdict.Verdict.TheVariants as verdict
+use Rattle.table_model.specs.Tables.{name_cmp}
+use Rattle.table_model.specs.Verdicts.{effects_after, effects_in, effects_of, nothing, row_inserted}
+use Rattle.table_model.specs.Visible.{Effects, Rules, is_visible, same_row, table_of}
+use Rattle.table_model.proofs.Order.{any_weaker}
+use Rattle.table_model.proofs.Founded.{all_weaker, erasable, founded_closed}
 use Rattle.tuple_state.specs.declared.dropped.Dropped.{Dropped}
 use Rattle.tuple_state.specs.declared.inserted.Inserted.{Inserted}
 use Rattle.tuple_state.specs.Kept.{IsKept, are_layered, is_named, place_of}

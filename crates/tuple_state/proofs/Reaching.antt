@@ -10,9 +10,9 @@ use Rattle.std.proofs.lemmas.List.Elements.{recursion_from_All}
 use Rattle.std.proofs.lemmas.List.Folds.{list_all-append}
 use Rattle.update_model.specs.declared.row_name.RowName.{RowName}
 use Rattle.schema.specs.declared.column.Column.{Column}
-use Rattle.schema.specs.Visible.{Effects, TableRow, cascade_refs, is_deleted, is_visible, same_row}
-use Rattle.schema.proofs.Founded.{all_weaker}
-use Rattle.schema.proofs.Standing.{row_from_same}
+use Rattle.table_model.specs.Visible.{Effects, TableRow, cascade_refs, is_deleted, is_visible, same_row}
+use Rattle.table_model.proofs.Founded.{all_weaker}
+use Rattle.table_model.proofs.Standing.{row_from_same}
 use Rattle.tuple_state.specs.declared.inserted.Inserted.{Inserted}
 use Rattle.tuple_state.specs.Kept.{are_layered, place_of}
 use Rattle.tuple_state.specs.Parents.{limit_of, passes_place, passes_row}

@@ -5,8 +5,8 @@ use Rattle.std.specs.List.{list_any, list_all, AllByRecursion}
 use Rattle.std.proofs.lemmas.List.{map-append, reverse-append, length-map}
 use Rattle.update_model.specs.declared.row_name.RowName.{RowName}
 use Rattle.schema.specs.declared.column.Column.{Column}
-use Rattle.schema.specs.Visible.{TableRow, Effects, same_row, cascade_refs, is_visible}
-use Rattle.schema.proofs.SameTables.{each-left, each-right}
+use Rattle.table_model.specs.Visible.{TableRow, Effects, same_row, cascade_refs, is_visible}
+use Rattle.table_model.proofs.SameTables.{each-left, each-right}
 use Rattle.tuple_state.specs.declared.dropped.Dropped.{Dropped}
 use Rattle.tuple_state.specs.declared.inserted.Inserted.{Inserted}
 use Rattle.tuple_state.specs.Kept.{are_layered, is_named}

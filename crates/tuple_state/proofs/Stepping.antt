@@ -4,8 +4,8 @@ use Rattle.std.proofs.lemmas.List.{append-nil, map-append}
 use Rattle.update_model.specs.declared.op.Op.{Op}
 use Rattle.update_model.specs.declared.op.Op.TheVariants.{Insert, Delete}
 use Rattle.update_model.specs.Node.{NodeData}
-use Rattle.schema.specs.Verdicts.{effects_after, effects_of, nothing, row_inserted}
-use Rattle.schema.specs.Visible.{Effects}
+use Rattle.table_model.specs.Verdicts.{effects_after, effects_of, nothing, row_inserted}
+use Rattle.table_model.specs.Visible.{Effects}
 use Rattle.tuple_state.specs.declared.inserted.Inserted.{Inserted}
 use Rattle.tuple_state.specs.declared.dropped.Dropped.{Dropped}
 use Rattle.tuple_state.specs.State.{dropped_at, inserted_at}

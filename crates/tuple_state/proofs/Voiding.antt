@@ -11,13 +11,13 @@ use Rattle.update_model.specs.declared.update_id.UpdateId.{UpdateId}
 use Rattle.update_model.specs.Entry.{id_cmp, same_id}
 use Rattle.update_model.specs.Node.{NodeData}
 use Rattle.update_model.proofs.Ids.{id_cmp_total}
-use Rattle.schema.specs.declared.verdict.Verdict.{Verdict}
-use Rattle.schema.specs.declared.verdict.Verdict.TheVariants as verdict
-use Rattle.schema.specs.declared.void_line.VoidLine.{VoidLine}
-use Rattle.schema.specs.Nodes.{holds, IsClosed}
-use Rattle.schema.specs.Tables.{AreVoidsIn, void_line, void_lines}
-use Rattle.schema.specs.Verdicts.{judge_next, judged}
-use Rattle.schema.specs.Visible.{Rules}
+use Rattle.table_model.specs.declared.verdict.Verdict.{Verdict}
+use Rattle.table_model.specs.declared.verdict.Verdict.TheVariants as verdict
+use Rattle.table_model.specs.declared.void_line.VoidLine.{VoidLine}
+use Rattle.table_model.specs.Nodes.{holds, IsClosed}
+use Rattle.table_model.specs.Tables.{AreVoidsIn, void_line, void_lines}
+use Rattle.table_model.specs.Verdicts.{judge_next, judged}
+use Rattle.table_model.specs.Visible.{Rules}
 use Rattle.tuple_state.specs.Sorting.{HasDistinctIds}
 use Rattle.tuple_state.specs.State.{IsStateOf, State}
 use Rattle.tuple_state.proofs.Effects.{voids_are}

@@ -3,8 +3,8 @@ use Rattle.std.specs.Prelude.{◌≡◌, ℕ, ◌*◌, ◌≤◌, Bool, true, no
 use Rattle.std.specs.List.{list_any, list_all, position_from}
 use Rattle.std.specs.BTreeMap.{get, BTreeMap}
 use Rattle.update_model.specs.declared.row_name.RowName.{RowName}
-use Rattle.schema.specs.Tables.{name_cmp}
-use Rattle.schema.specs.Visible.{Rules, TableRow, cascade_refs, is_visible, same_row}
+use Rattle.table_model.specs.Tables.{name_cmp}
+use Rattle.table_model.specs.Visible.{Rules, TableRow, cascade_refs, is_visible, same_row}
 use Rattle.tuple_state.specs.declared.inserted.Inserted.{Inserted}
 use Rattle.tuple_state.specs.State.{State, done_in, rules_of}
 

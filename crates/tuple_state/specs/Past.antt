@@ -5,10 +5,10 @@ use Rattle.update_model.specs.declared.row_name.RowName.{RowName}
 use Rattle.update_model.specs.declared.value.Value.{Value}
 use Rattle.update_model.specs.Node.{NodeData}
 use Rattle.row_check.specs.Meaning.{value_at}
-use Rattle.schema.specs.declared.verdict.Verdict.{Verdict}
-use Rattle.schema.specs.Nodes.{IsNext}
-use Rattle.schema.specs.Verdicts.{ancestor_of, in_table, judge_next, judged}
-use Rattle.schema.specs.Visible.{Effects, Rules, TableRow, visible_rows}
+use Rattle.table_model.specs.declared.verdict.Verdict.{Verdict}
+use Rattle.table_model.specs.Nodes.{IsNext}
+use Rattle.table_model.specs.Verdicts.{ancestor_of, in_table, judge_next, judged}
+use Rattle.table_model.specs.Visible.{Effects, Rules, TableRow, visible_rows}
 use Rattle.row_check.specs.declared.cmp.Cmp.TheVariants as cmp
 use Rattle.row_check.specs.Comparisons.{compares}
 use Rattle.validity.specs.Answers.{entry_in, has_child_in}

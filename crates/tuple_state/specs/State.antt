@@ -4,13 +4,14 @@ use Rattle.update_model.specs.declared.row_name.RowName.{RowName}
 use Rattle.update_model.specs.Node.{NodeData}
 use Rattle.schema.specs.declared.column.Column.{Column}
 use Rattle.schema.specs.declared.table_def.TableDef.{TableDef}
-use Rattle.schema.specs.declared.verdict.Verdict.{Verdict}
-use Rattle.schema.specs.declared.verdict.Verdict.TheVariants as verdict
-use Rattle.schema.specs.declared.void_line.VoidLine.{VoidLine}
-use Rattle.schema.specs.Nodes.{IsClosed}
-use Rattle.schema.specs.Tables.{void_line}
-use Rattle.schema.specs.Verdicts.{effects_of, judge_next, judged}
-use Rattle.schema.specs.Visible.{Effects, Rules, TableRow, missing_table}
+use Rattle.table_model.specs.declared.verdict.Verdict.{Verdict}
+use Rattle.table_model.specs.declared.verdict.Verdict.TheVariants as verdict
+use Rattle.table_model.specs.declared.void_line.VoidLine.{VoidLine}
+use Rattle.table_model.specs.Nodes.{IsClosed}
+use Rattle.table_model.specs.Tables.{void_line}
+use Rattle.table_model.specs.Verdicts.{effects_of, judge_next, judged}
+use Rattle.schema.specs.Numbers.{no_table}
+use Rattle.table_model.specs.Visible.{Effects, Rules, TableRow}
 use Rattle.tuple_state.specs.declared.inserted.Inserted.{Inserted}
 use Rattle.tuple_state.specs.declared.dropped.Dropped.{Dropped}
 
@@ -67,7 +68,7 @@ done_in state = record { inserted = reverse (map row_of state.inserted); deleted
 
 -- rules with these columns and nothing else. Which rows are visible goes by columns alone
 abbrev pub rules_with : List (List Column) → Rules
-rules_with columns = record { tables = map (λ list. record missing_table { columns = list }) columns; ask = λ number values. false }
+rules_with columns = record { tables = map (λ list. record no_table { columns = list }) columns; ask = λ number values. false }
 
 -- those of a state
 abbrev pub rules_of : State → Rules

@@ -3,7 +3,7 @@ use Rattle.std.specs.Prelude.{ℕ, ◌+◌, List, [], ◌∷◌, ◌++◌}
 use Rattle.update_model.specs.declared.op.Op.{Op}
 use Rattle.update_model.specs.declared.op.Op.TheVariants as op
 use Rattle.update_model.specs.Node.{NodeData}
-use Rattle.schema.specs.Verdicts.{row_inserted}
+use Rattle.table_model.specs.Verdicts.{row_inserted}
 use Rattle.tuple_state.specs.declared.inserted.Inserted.{Inserted}
 use Rattle.tuple_state.specs.declared.dropped.Dropped.{Dropped}
 use Rattle.tuple_state.specs.State.{dropped_at, inserted_at}

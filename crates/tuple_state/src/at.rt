@@ -1,10 +1,10 @@
 ghost use Rattle.std.specs.Prelude.{◌≡◌, ◌<◌, true, not, ◌&&◌, IfOk, Some, length, slice_get};
-ghost use Rattle.schema.specs.Visible.{is_deleted, is_visible, refs, same_row};
+ghost use Rattle.table_model.specs.Visible.{is_deleted, is_visible, refs, same_row};
 ghost use Rattle.row_check.specs.declared.cmp.Cmp.TheVariants.{Eq};
 ghost use Rattle.row_check.specs.Comparisons.{compares};
 ghost use Rattle.row_check.specs.Meaning.{value_at};
 ghost use Rattle.schema.specs.Columns.{is_restrict};
-ghost use Rattle.schema.specs.Verdicts.{in_table};
+ghost use Rattle.table_model.specs.Verdicts.{in_table};
 ghost use Rattle.std.specs.List.{list_any};
 ghost use Rattle.tuple_state.specs.declared.inserted.Inserted.{Inserted as Row};
 ghost use Rattle.tuple_state.specs.Kept.{are_layered};

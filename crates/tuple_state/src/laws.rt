@@ -3,11 +3,11 @@
 
 ghost use Rattle.std.specs.Prelude.{◌≡◌, ℕ, List, ◌∷◌, reverse};
 ghost use Rattle.update_model.specs.Node.{NodeData};
-ghost use Rattle.schema.specs.declared.verdict.Verdict.{Verdict};
-ghost use Rattle.schema.specs.Nodes.{IsNext};
-ghost use Rattle.schema.specs.Tables.{void_lines};
-ghost use Rattle.schema.specs.Verdicts.{effects_in, judge_next, judged};
-ghost use Rattle.schema.specs.Visible.{Rules};
+ghost use Rattle.table_model.specs.declared.verdict.Verdict.{Verdict};
+ghost use Rattle.table_model.specs.Nodes.{IsNext};
+ghost use Rattle.table_model.specs.Tables.{void_lines};
+ghost use Rattle.table_model.specs.Verdicts.{effects_in, judge_next, judged};
+ghost use Rattle.table_model.specs.Visible.{Rules};
 ghost use Rattle.tuple_state.specs.State.{IsStateOf, State, after, done_in};
 
 /// Tables that hold what nodes do hold, after one more node is applied with its verdict, what all of them do.

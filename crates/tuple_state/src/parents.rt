@@ -4,8 +4,8 @@ ghost use Rattle.std.specs.Prelude.{◌≡◌, ◌+◌, ◌<◌, ◌^◌, ◌⊎
 ghost use Rattle.std.specs.List.{list_all, list_any};
 ghost use Rattle.std.specs.BTreeMap.{get};
 ghost use Rattle.update_model.specs.declared.row_name.RowName.{RowName as Name};
-ghost use Rattle.schema.specs.Tables.{name_cmp};
-ghost use Rattle.schema.specs.Visible.{same_row};
+ghost use Rattle.table_model.specs.Tables.{name_cmp};
+ghost use Rattle.table_model.specs.Visible.{same_row};
 ghost use Rattle.tuple_state.specs.declared.dropped.Dropped.{Dropped as Drop};
 ghost use Rattle.tuple_state.specs.declared.inserted.Inserted.{Inserted as Row};
 ghost use Rattle.tuple_state.specs.Kept.{are_layered, place_of};

@@ -1,5 +1,5 @@
 ghost use Rattle.std.specs.Prelude.{◌≡◌, ℕ, ◌<◌, ◌^◌, ◌++◌, IfOk, OnOk, map, reverse};
-ghost use Rattle.schema.specs.Verdicts.{effects_of, named};
+ghost use Rattle.table_model.specs.Verdicts.{effects_of, named};
 ghost use Rattle.tuple_state.specs.State.{dropped_at, inserted_at};
 ghost use Rattle.tuple_state.specs.Steps.{name_by, row_by};
 

@@ -1,15 +1,15 @@
 ghost use Rattle.std.specs.Prelude.{◌≡◌, ℕ, ◌+◌, ◌*◌, ◌<◌, ◌≤◌, Bool, List, [], ◌∷◌, ◌++◌, IfOk, OnOk, MatchResult, filter, length, slice_get, vec_len, Some, true, ◌&&◌};
 ghost use Rattle.std.specs.List.{list_all, list_any};
 ghost use Rattle.std.specs.Vec.{vec_capacity};
-ghost use Rattle.schema.specs.declared.verdict.Verdict.TheVariants.{Valid};
+ghost use Rattle.table_model.specs.declared.verdict.Verdict.TheVariants.{Valid};
 ghost use Rattle.update_model.specs.declared.value.Value.{Value as Cell};
 ghost use Rattle.row_check.specs.declared.cmp.Cmp.TheVariants.{Eq};
 ghost use Rattle.row_check.specs.Comparisons.{compares};
 ghost use Rattle.row_check.specs.Meaning.{value_at};
 ghost use Rattle.update_model.specs.Node.{NodeData};
-ghost use Rattle.schema.specs.Tables.{AreRowsIn, AreVoidsIn};
-ghost use Rattle.schema.specs.Verdicts.{ancestor_of, effects, effects_in, in_table, judged};
-ghost use Rattle.schema.specs.Visible.{Rules, cascade_refs, is_visible, refs, same_row};
+ghost use Rattle.table_model.specs.Tables.{AreRowsIn, AreVoidsIn};
+ghost use Rattle.table_model.specs.Verdicts.{ancestor_of, effects, effects_in, in_table, judged};
+ghost use Rattle.table_model.specs.Visible.{Rules, cascade_refs, is_visible, refs, same_row};
 ghost use Rattle.schema.specs.Columns.{is_restrict};
 ghost use Rattle.validity.specs.Answers.{AreAnswers};
 ghost use Rattle.tuple_state.specs.Past.{IsNextVerdict, IsPastOf, StandsAt};
@@ -26,10 +26,11 @@ use crate::sorting::{sort_lines, sort_rows};
 use crate::steps::{dropped_by, inserted_by};
 use crate::{At, Dropped, Inserted};
 use row_check::{Cmp, compare};
-use schema::{Column, ColumnList, Schema, ShownRowList, Verdict, VoidLine, VoidList};
+use schema::{Column, ColumnList, Schema};
 use std::alloc::{AllocError, Global};
 use std::collections::{BTreeMap, BTreeSet};
 use std::marker::Model;
+use table_model::{ShownRowList, Verdict, VoidLine, VoidList};
 use update_model::{Ancestors, Node, RowName, RowsAt, Value};
 
 /// What valid updates did, and which rows are visible for it. A contract sees the [state](mod@crate) of the definitions.

@@ -5,9 +5,10 @@ ghost use Rattle.update_model.specs.declared.op.Op.TheVariants.{Delete};
 
 use crate::Tables;
 use row_check::{Luhn, Native};
-use schema::{Schema, SchemaError, Verdict, read_schema};
+use schema::{Schema, SchemaError, read_schema};
 use std::alloc::{AllocError, Global};
 use std::test::Fail;
+use table_model::Verdict;
 use update_model::{
     Ancestors, AuthorKey, IdList, Node, Op, OpList, RowName, RowsAt, UpdateId, Value,
 };

@@ -12,7 +12,7 @@ use Rattle.schema.specs.declared.column.ColumnKind.TheVariants as kind
 use Rattle.schema.specs.declared.table_def.TableDef.{TableDef}
 use Rattle.schema.specs.Columns.{kind_seen, kinds_of}
 use Rattle.schema.specs.Sound.{AreTables, IsSoundCheck}
-use Rattle.schema.specs.Verdicts.{all_fit, fits}
+use Rattle.table_model.specs.Verdicts.{all_fit, fits}
 
 of_kind : (name : List ℕ) (k : ColumnKind) (null : Bool) (line : ℕ) (v : Value) → fits (record { name = name; kind = k; null = null; line = line }) v ≡ true → IsOfKind (kind_seen k) v
 of_kind name (kind.Int lo hi) null line value.Null h = tt

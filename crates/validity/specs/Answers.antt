@@ -4,7 +4,7 @@ use Rattle.std.specs.List.{list_any}
 use Rattle.update_model.specs.declared.row_entry.RowEntry.{RowEntry}
 use Rattle.update_model.specs.declared.row_name.RowName.{RowName}
 use Rattle.schema.specs.Columns.{is_restrict}
-use Rattle.schema.specs.Visible.{Effects, Rules, TableRow, refs, same_row, visible_rows}
+use Rattle.table_model.specs.Visible.{Effects, Rules, TableRow, refs, same_row, visible_rows}
 
 -- a row as it is lent, without its name
 abbrev pub entry_of_row : TableRow → RowEntry

@@ -4,7 +4,7 @@ ghost use Rattle.std.specs.Prelude.{◌≡◌, true, IsTrue, IfOk};
 ghost use Rattle.std.specs.List.{AllByRecursion};
 ghost use Rattle.expression_text.specs.Trees.{holds_tree};
 ghost use Rattle.schema.specs.Sound.{IsSoundCheck};
-ghost use Rattle.schema.specs.Verdicts.{all_fit, checks_hold, fits};
+ghost use Rattle.table_model.specs.Verdicts.{all_fit, checks_hold, fits};
 ghost use Rattle.validity.specs.Asked.{insert_asked};
 
 use crate::own_row::OwnRow;

@@ -1,8 +1,8 @@
 ghost use Rattle.std.specs.Prelude.{◌≡◌, ◌+◌, ◌<◌, [], ◌∷◌, ◌++◌, IsTrue, IfOk};
 ghost use Rattle.std.specs.List.{list_all};
 ghost use Rattle.schema.specs.Schemas.{Meaning};
-ghost use Rattle.schema.specs.Verdicts.{is_unlimited, verdict_on};
-ghost use Rattle.schema.specs.Visible.{Effects};
+ghost use Rattle.table_model.specs.Verdicts.{is_unlimited, verdict_on};
+ghost use Rattle.table_model.specs.Visible.{Effects};
 ghost use Rattle.validity.specs.Answers.{AreAnswers};
 ghost use Rattle.validity.specs.Asked.{delete_asked, deleted_after, insert_asked, op_asked, own_after, verdict_asked};
 
@@ -10,8 +10,9 @@ use crate::deleting::delete_reason;
 use crate::inserting::insert_reason;
 use crate::own_row::{OwnRow, own_row};
 use row_check::{Checks, Native, Relation};
-use schema::{Schema, Verdict, unlimited_tables_hold, verdict_goes_by_operations};
+use schema::Schema;
 use std::alloc::{AllocError, Global};
+use table_model::{Verdict, unlimited_tables_hold, verdict_goes_by_operations};
 use update_model::{AuthorKey, Node, Op, RowName, RowsAt};
 
 /// What the operations so far did.

@@ -1,14 +1,15 @@
 //! Each reason once, beside one visible row.
 
 ghost use Rattle.std.specs.Prelude.{None, Some, if◌then◌else◌};
-ghost use Rattle.schema.specs.Visible.{same_row};
+ghost use Rattle.table_model.specs.Visible.{same_row};
 
 use crate::referring::is_row;
 use crate::{is_unlimited, judge};
 use row_check::{Luhn, Native};
-use schema::{SchemaError, Verdict, read_schema};
+use schema::{SchemaError, read_schema};
 use std::alloc::{AllocError, Global};
 use std::test::Fail;
+use table_model::Verdict;
 use update_model::{
     AuthorKey, IdList, Node, Op, OpList, RowEntry, RowName, RowsAt, UpdateId, Value, ValueList,
 };

@@ -1,6 +1,6 @@
 use Rattle.std.proofs.Common.{◌≡◌, ◌∙◌, ◌++◌, ℕ, List, ap}
-use Rattle.schema.specs.declared.shown_row.ShownRow.{ShownRow}
-use Rattle.schema.specs.declared.void_line.VoidLine.{VoidLine}
+use Rattle.table_model.specs.declared.shown_row.ShownRow.{ShownRow}
+use Rattle.table_model.specs.declared.void_line.VoidLine.{VoidLine}
 use Rattle.table_text.specs.Tables.{tables_text}
 use Rattle.bec_node.specs.Bundle.{nodes_of}
 use Rattle.bec_node.specs.Verdict.{rules_of}

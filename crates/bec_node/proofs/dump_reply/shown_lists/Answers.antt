@@ -1,5 +1,5 @@
 use Rattle.std.proofs.Common.{List, ◌++◌, ◌∷◌, [], ◌+◌, sym, subst}
-use Rattle.schema.specs.declared.shown_row.ShownRow.{ShownRow}
+use Rattle.table_model.specs.declared.shown_row.ShownRow.{ShownRow}
 use Rattle.bec_node.specs.Bundle.{AreShown}
 use Rattle.bec_node.specs.Verdict.{rules_of}
 use Rattle.bec_node.proofs.Bundles.{shown_none, shown_more}

@@ -1,6 +1,6 @@
 use Rattle.std.proofs.Common.{List, ap, sym, ◌++◌, ◌∙◌}
 use Rattle.update_model.specs.Node.{NodeData}
-use Rattle.schema.specs.Invariants.{claims_of}
+use Rattle.table_model.specs.Invariants.{claims_of}
 use Rattle.confluence_checker.specs.Forms.{rules_by}
 use Rattle.confluence_checker.proofs.Wanted.{confirms_by}
 use Rattle.confluence_checker.proofs.confirming.confirms.Goals as goal

@@ -1,7 +1,7 @@
 use Rattle.std.proofs.Common.{◌≡◌, List, reverse, ap, sym, subst, ◌∙◌}
-use Rattle.schema.specs.Invariants.{invariants_of, shown_in}
-use Rattle.schema.specs.Verdicts.{Judged, effects}
-use Rattle.schema.specs.Visible.{TableRow, Effects, shown_rows}
+use Rattle.table_model.specs.Invariants.{invariants_of, shown_in}
+use Rattle.table_model.specs.Verdicts.{Judged, effects}
+use Rattle.table_model.specs.Visible.{TableRow, Effects, shown_rows}
 use Rattle.confluence_checker.specs.Forms.{AllFit, found_among, newest_first, rules_by, start}
 use Rattle.confluence_checker.specs.declared.judged_node.JudgedNode.{JudgedNode}
 use Rattle.confluence_checker.proofs.confirming.found_in.Goals as goal

@@ -1,5 +1,5 @@
 use Rattle.std.proofs.Common.{◌≡◌, take, reverse}
-use Rattle.schema.specs.Confluence.{is_closed}
+use Rattle.table_model.specs.Confluence.{is_closed}
 use Rattle.confluence_checker.proofs.ids.is_closed.Given as goal
 
 abbrev pub invariant-loop-older : goal.invariant-loop-older

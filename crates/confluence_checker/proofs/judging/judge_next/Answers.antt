@@ -1,7 +1,7 @@
 use Rattle.std.proofs.Common.{List, filter, ap, ◌∙◌}
 use Rattle.update_model.specs.declared.update_id.UpdateId.{UpdateId}
 use Rattle.update_model.specs.Graph.{has}
-use Rattle.schema.specs.Verdicts.{effects}
+use Rattle.table_model.specs.Verdicts.{effects}
 use Rattle.confluence_checker.specs.Forms.{newest_first, rules_by}
 use Rattle.confluence_checker.proofs.Newest.{judged_is}
 use Rattle.confluence_checker.proofs.judging.judge_next.Goals as goal

@@ -1,5 +1,5 @@
 use Rattle.std.proofs.Common.{◌≡◌, take, reverse}
-use Rattle.schema.specs.Verdicts.{judged}
+use Rattle.table_model.specs.Verdicts.{judged}
 use Rattle.confluence_checker.specs.Forms.{newest_first, rules_by}
 use Rattle.confluence_checker.proofs.judging.judged.Given as goal
 

@@ -1,4 +1,4 @@
-use Rattle.schema.specs.Invariants.{each_from, table_declared}
+use Rattle.table_model.specs.Invariants.{each_from, table_declared}
 use Rattle.confluence_checker.specs.Forms.{found_among, rules_by, start}
 use Rattle.confluence_checker.proofs.Bounds.{sound_checks}
 use Rattle.confluence_checker.proofs.Goings.{found_at}

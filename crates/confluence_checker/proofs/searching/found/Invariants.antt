@@ -1,5 +1,5 @@
 use Rattle.std.proofs.Common.{◌≡◌, drop}
-use Rattle.schema.specs.Invariants.{each_from, table_declared}
+use Rattle.table_model.specs.Invariants.{each_from, table_declared}
 use Rattle.confluence_checker.specs.Forms.{found_among, rules_by, start}
 use Rattle.confluence_checker.proofs.searching.found.Given as goal
 

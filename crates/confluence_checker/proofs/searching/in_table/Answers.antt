@@ -2,7 +2,7 @@ use Rattle.std.proofs.Common.{List, ap, ◌∙◌}
 use Rattle.schema.specs.declared.column.Column.{Column}
 use Rattle.schema.specs.declared.rules.MatchRule.{MatchRule}
 use Rattle.schema.specs.declared.rules.UniqueRule.{UniqueRule}
-use Rattle.schema.specs.Invariants.{each_from, unique_declared, at_most_declared, reference_declared, check_declared, match_declared}
+use Rattle.table_model.specs.Invariants.{each_from, unique_declared, at_most_declared, reference_declared, check_declared, match_declared}
 use Rattle.confluence_checker.specs.Forms.{found_among, rules_by}
 use Rattle.confluence_checker.proofs.Goings.{found_table}
 use Rattle.confluence_checker.proofs.searching.in_table.Goals as goal

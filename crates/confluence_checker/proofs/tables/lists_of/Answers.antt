@@ -1,6 +1,6 @@
 use Rattle.std.proofs.Common.{List, [], ◌∷◌, ◌++◌, subst, ap, ◌∙◌}
 use Rattle.std.specs.List.Sorted.{IsPermutation}
-use Rattle.schema.specs.declared.shown_row.ShownRow.{ShownRow}
+use Rattle.table_model.specs.declared.shown_row.ShownRow.{ShownRow}
 use Rattle.confluence_checker.proofs.Rising.{listed_distinct, lists_next}
 use Rattle.confluence_checker.proofs.tables.lists_of.Goals as goal
 

@@ -1,9 +1,9 @@
 use Rattle.std.proofs.Common.{◌≡◌, List, reverse, ap, sym, subst, ◌∙◌}
-use Rattle.schema.specs.declared.void_line.VoidLine.{VoidLine}
-use Rattle.schema.specs.Invariants.{shown_in}
-use Rattle.schema.specs.Tables.{AreTablesOf, void_lines}
-use Rattle.schema.specs.Verdicts.{Judged, effects, judged}
-use Rattle.schema.specs.Visible.{TableRow, Effects, shown_rows}
+use Rattle.table_model.specs.declared.void_line.VoidLine.{VoidLine}
+use Rattle.table_model.specs.Invariants.{shown_in}
+use Rattle.table_model.specs.Tables.{AreTablesOf, void_lines}
+use Rattle.table_model.specs.Verdicts.{Judged, effects, judged}
+use Rattle.table_model.specs.Visible.{TableRow, Effects, shown_rows}
 use Rattle.confluence_checker.specs.Forms.{newest_first, rules_by}
 use Rattle.confluence_checker.specs.Sorting.{HasDistinctRows}
 use Rattle.confluence_checker.specs.declared.judged_node.JudgedNode.{JudgedNode}

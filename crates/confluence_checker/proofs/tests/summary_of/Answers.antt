@@ -1,5 +1,5 @@
 use Rattle.std.proofs.Common.{reverse, sym, ◌∙◌}
-use Rattle.schema.proofs.Confirmed.{closed_from_test}
+use Rattle.table_model.proofs.Confirmed.{closed_from_test}
 use Rattle.confluence_checker.proofs.tests.summary_of.Goals as goal
 
 pub tables_of-requires-after_bounds : goal.tables_of-requires-after_bounds

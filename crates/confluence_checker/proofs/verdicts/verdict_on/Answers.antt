@@ -1,6 +1,6 @@
 use Rattle.std.proofs.Common.{◌≡◌, ◌≤◌, length, ap, arith, ◌∙◌}
 use Rattle.update_model.specs.Node.{NodeData}
-use Rattle.schema.specs.Verdicts.{verdict_on}
+use Rattle.table_model.specs.Verdicts.{verdict_on}
 use Rattle.confluence_checker.specs.Forms.{rules_by}
 use Rattle.confluence_checker.proofs.Doing.{verdict_end}
 use Rattle.confluence_checker.proofs.verdicts.verdict_on.Goals as goal

@@ -1,5 +1,5 @@
 use Rattle.std.proofs.Common.{◌≡◌, drop}
-use Rattle.schema.specs.Verdicts.{verdict_after, verdict_on}
+use Rattle.table_model.specs.Verdicts.{verdict_after, verdict_on}
 use Rattle.confluence_checker.specs.Forms.{rules_by}
 use Rattle.confluence_checker.proofs.verdicts.verdict_on.Given as goal
 

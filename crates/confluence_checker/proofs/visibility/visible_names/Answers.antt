@@ -1,6 +1,6 @@
 use Rattle.std.proofs.Common.{List, ap, ◌∙◌, map, filter}
 use Rattle.update_model.specs.declared.row_name.RowName.{RowName}
-use Rattle.schema.specs.Visible.{TableRow, shows}
+use Rattle.table_model.specs.Visible.{TableRow, shows}
 use Rattle.confluence_checker.specs.Forms.{is_among, rules_of}
 use Rattle.confluence_checker.proofs.Sight.{sees_deeper, sees_nothing}
 use Rattle.confluence_checker.proofs.visibility.visible_names.Goals as goal

@@ -1,7 +1,7 @@
 use Rattle.std.proofs.Common.{◌≡◌, ◌<◌, ◌≤◌, ◌∙◌, sym, subst, arith, List, ◌∷◌, length}
 use Rattle.schema.specs.declared.column.Column.{Column}
-use Rattle.schema.specs.Examples.{Item, need, needed_but, for_each}
-use Rattle.schema.specs.Visible.{table_of}
+use Rattle.table_model.specs.Examples.{Item, need, needed_but, for_each}
+use Rattle.table_model.specs.Visible.{table_of}
 use Rattle.confluence_test.specs.Plans.{rules_of, AreOnce}
 use Rattle.confluence_test.proofs.Needing.{need_none, need_kept, need_new, need_end}
 use Rattle.confluence_test.proofs.Once.{once_few, once_all}

@@ -1,5 +1,5 @@
 use Rattle.std.proofs.Common.{◌≡◌, ◌+◌, ◌*◌, drop, length}
-use Rattle.schema.specs.Examples.{need, needed_but, for_each}
+use Rattle.table_model.specs.Examples.{need, needed_but, for_each}
 use Rattle.confluence_test.specs.Plans.{rules_of, AreOnce}
 use Rattle.confluence_test.proofs.needs.+needs.Given as goal
 

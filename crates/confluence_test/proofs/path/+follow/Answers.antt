@@ -1,7 +1,7 @@
 use Rattle.std.proofs.Common.{◌≡◌, ◌-◌, ◌<◌, ◌∙◌, false, ap, sym, arith, Some}
 use Rattle.schema.specs.declared.table_def.TableDef.{TableDef}
-use Rattle.schema.specs.Visible.{table_of}
-use Rattle.schema.specs.Examples.{Step, path_from}
+use Rattle.table_model.specs.Visible.{table_of}
+use Rattle.table_model.specs.Examples.{Step, path_from}
 use Rattle.confluence_test.specs.Plans.{rules_of}
 use Rattle.confluence_test.proofs.Paths.{next_of, next_low, path_stop, path_on, path_more}
 use Rattle.confluence_test.proofs.Sounds.{sound_columns}

@@ -1,6 +1,6 @@
 use Rattle.std.proofs.Common.{◌≡◌, ◌+◌, ◌<◌, ◌≤◌, ◌++◌, ◌∙◌, List, length, ap, sym, subst, arith}
 use Rattle.std.proofs.lemmas.List.{length-reverse}
-use Rattle.schema.specs.Examples.{Step, path_from}
+use Rattle.table_model.specs.Examples.{Step, path_from}
 use Rattle.confluence_test.specs.Plans.{rules_of, AreBelow}
 use Rattle.confluence_test.proofs.Listing.{each_back}
 use Rattle.confluence_test.proofs.Paths.{path_few, path_below}

@@ -1,5 +1,5 @@
 use Rattle.std.proofs.Common.{◌≡◌, ◌++◌, take, length, reverse}
-use Rattle.schema.specs.Examples.{path_items}
+use Rattle.table_model.specs.Examples.{path_items}
 use Rattle.confluence_test.specs.Plans.{rules_of}
 use Rattle.confluence_test.proofs.path.path_rows.Given as goal
 

@@ -1,6 +1,6 @@
 use Rattle.std.proofs.Common.{◌≡◌, [], drop, length}
 use Rattle.std.specs.List.{flat_map}
-use Rattle.schema.specs.Examples.{need, for_each}
+use Rattle.table_model.specs.Examples.{need, for_each}
 use Rattle.confluence_test.specs.Plans.{rules_of, AreOnce}
 use Rattle.confluence_test.proofs.Paths.{needed_of}
 use Rattle.confluence_test.proofs.path.shared_of.Given as goal

@@ -1,5 +1,5 @@
 use Rattle.std.proofs.Common.{◌≡◌, ◌+◌, ◌<◌, Bool, List, length, sym, subst, arith}
-use Rattle.schema.specs.Visible.{table_of}
+use Rattle.table_model.specs.Visible.{table_of}
 use Rattle.confluence_test.specs.Plans.{rules_of, is_permanent_by}
 use Rattle.confluence_test.proofs.Permanents.{SaysUpTo, says_next}
 use Rattle.confluence_test.proofs.permanence.permanent_tables.Goals as goal

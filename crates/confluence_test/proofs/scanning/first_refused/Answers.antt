@@ -1,7 +1,7 @@
 use Rattle.std.proofs.Common.{◌≡◌, ◌<◌, ◌∙◌, length, ap, arith, Some, None}
 use Rattle.schema.specs.declared.table_def.TableDef.{TableDef}
-use Rattle.schema.specs.Invariants.{table_declared, invariants_of}
-use Rattle.schema.specs.Visible.{table_of}
+use Rattle.table_model.specs.Invariants.{table_declared, invariants_of}
+use Rattle.table_model.specs.Visible.{table_of}
 use Rattle.confluence_test.specs.Plans.{rules_of}
 use Rattle.confluence_test.specs.Findings.{declared_of, first_refused, refused_by}
 use Rattle.confluence_test.proofs.Scans.{scan_found, scan_past, none_of}

@@ -1,5 +1,5 @@
 use Rattle.std.proofs.Common.{◌≡◌, drop}
-use Rattle.schema.specs.Invariants.{each_from, table_declared}
+use Rattle.table_model.specs.Invariants.{each_from, table_declared}
 use Rattle.confluence_test.specs.Findings.{first_refused}
 use Rattle.confluence_test.specs.Plans.{rules_of}
 use Rattle.confluence_test.proofs.scanning.first_refused.Given as goal

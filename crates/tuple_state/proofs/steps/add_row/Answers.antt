@@ -1,7 +1,7 @@
 use Rattle.std.proofs.Common.{◌++◌, [], ◌∷◌, List, map, ap, sym, ◌∙◌}
 use Rattle.update_model.specs.declared.op.Op.{Op}
 use Rattle.update_model.specs.Node.{NodeData}
-use Rattle.schema.specs.Verdicts.{named}
+use Rattle.table_model.specs.Verdicts.{named}
 use Rattle.tuple_state.specs.declared.inserted.Inserted.{Inserted}
 use Rattle.tuple_state.specs.Steps.{row_by}
 use Rattle.tuple_state.proofs.steps.add_row.Goals as goal

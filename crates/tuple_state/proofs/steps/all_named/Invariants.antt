@@ -1,5 +1,5 @@
 use Rattle.std.proofs.Common.{◌≡◌, take, map}
-use Rattle.schema.specs.Verdicts.{named}
+use Rattle.table_model.specs.Verdicts.{named}
 use Rattle.tuple_state.proofs.steps.all_named.Given as goal
 
 -- the values so far are named

@@ -1,5 +1,5 @@
 use Rattle.std.proofs.Common.{◌≡◌, drop}
-use Rattle.schema.specs.Verdicts.{checks_hold}
+use Rattle.table_model.specs.Verdicts.{checks_hold}
 use Rattle.validity.proofs.inserting.checks_hold.Given as goal
 
 -- the checks that are left decide

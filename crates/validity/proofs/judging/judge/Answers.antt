@@ -1,7 +1,7 @@
 use Rattle.std.proofs.Common.{sym, ◌∙◌}
 use Rattle.std.proofs.lemmas.Result.{IfOk-weaker}
-use Rattle.schema.specs.Visible.{Rules, visible_rows}
-use Rattle.schema.specs.Verdicts.{joined}
+use Rattle.table_model.specs.Visible.{Rules, visible_rows}
+use Rattle.table_model.specs.Verdicts.{joined}
 use Rattle.validity.proofs.Asked.{verdict_is_asked}
 use Rattle.validity.proofs.judging.judge.Goals as goal
 

@@ -1,6 +1,6 @@
 use Rattle.std.proofs.Common.{◌≡◌, false, ◌&&◌, take}
 use Rattle.std.specs.List.{list_any}
-use Rattle.schema.specs.Visible.{same_row}
+use Rattle.table_model.specs.Visible.{same_row}
 use Rattle.tuple_state.specs.declared.dropped.Dropped.{Dropped}
 use Rattle.tuple_state.proofs.at.At.is_dropped.Given as goal
 

@@ -1,9 +1,9 @@
 use Rattle.std.proofs.Common.{◌≡◌, ℕ, ◌+◌, ◌-◌, ◌++◌, length, get_or, take, drop, map, reverse, replicate, true, false, not, ◌&&◌, vec_len, length-append, refl, ap, sym, subst, ◌∙◌, inl, inr, arith}
 use Rattle.std.specs.List.{list_any}
 use Rattle.std.proofs.lemmas.List.{length-map, length-replicate, take_all, take_at}
-use Rattle.schema.specs.Verdicts.{effects_of}
-use Rattle.schema.specs.Visible.{same_row}
-use Rattle.schema.specs.declared.verdict.Verdict.TheVariants as verdict
+use Rattle.table_model.specs.Verdicts.{effects_of}
+use Rattle.table_model.specs.Visible.{same_row}
+use Rattle.table_model.specs.declared.verdict.Verdict.TheVariants as verdict
 use Rattle.update_model.specs.Node.{IsNode, NodeData}
 use Rattle.tuple_state.specs.Past.{IsNextVerdict}
 use Rattle.tuple_state.specs.declared.dropped.Dropped.{Dropped}

@@ -1,6 +1,6 @@
 use Rattle.std.proofs.Common.{List, ap, sym, subst, ◌∙◌}
-use Rattle.schema.specs.declared.void_line.VoidLine.{VoidLine}
-use Rattle.schema.specs.Tables.{AreVoidsIn}
+use Rattle.table_model.specs.declared.void_line.VoidLine.{VoidLine}
+use Rattle.table_model.specs.Tables.{AreVoidsIn}
 use Rattle.tuple_state.specs.State.{State}
 use Rattle.tuple_state.proofs.Voiding.{voids_now}
 use Rattle.tuple_state.proofs.tables.Tables.voids.Goals as goal
