@@ -15,8 +15,6 @@
 
 mod heads;
 mod laws;
-#[cfg(test)]
-mod tests;
 
 pub use heads::{Heads, MAX_HEADS};
 pub use laws::{

@@ -1,6 +1,7 @@
-//! A small graph, and one of as many members as may be.
+//! Heads: a small graph, and one of as many members as may be.
 
-use crate::{Heads, MAX_HEADS};
+use head_set::{Heads, MAX_HEADS};
+use std::alloc::{AllocError, Global};
 use std::test::Fail;
 use update_model::UpdateId;
 
@@ -9,6 +10,15 @@ fn id(number: u32) -> UpdateId {
     let mut bytes = [0; 32];
     bytes[28..].copy_from_slice(&number.to_be_bytes());
     UpdateId(bytes)
+}
+
+// the ids that end in these numbers
+fn ids(alloc: Global, numbers: &[u32]) -> Result<Vec<UpdateId>, AllocError> {
+    let mut ids = Vec::new(alloc);
+    for number in numbers {
+        ids.push(id(*number))?;
+    }
+    Ok(ids)
 }
 
 #[test]
@@ -24,17 +34,9 @@ fn follows_a_small_graph(rt: HostRuntime) -> Result<(), Fail> {
         (9, &[3, 5], &[9]),
         (1, &[5], &[1, 9]),
     ] {
-        let mut named = Vec::new(alloc);
-        for pred in preds {
-            named.push(id(*pred))?;
-        }
         assert!(rt; heads.len() < MAX_HEADS);
-        heads.add(id(new), &named)?;
-        let list = heads.list(alloc)?;
-        assert_eq!(rt; list.len(), want.len(), "after {new}");
-        for (head, number) in list.iter().zip(want) {
-            assert_eq!(rt; *head, id(*number), "after {new}");
-        }
+        heads.add(id(new), &ids(alloc, preds)?)?;
+        assert!(rt; heads.list(alloc)? == ids(alloc, want)?, "after {new}");
     }
     let copy = heads.copy(alloc)?;
     assert!(rt; copy.contains(&id(9)) && !copy.contains(&id(5)));

@@ -1,6 +1,6 @@
-//! A diamond, and each call once.
+//! Ancestors: a small graph, more roots than chains, and graphs of as many members as may be.
 
-use crate::{Ancestry, MAX_MEMBERS};
+use ancestry::{Ancestry, MAX_MEMBERS};
 use std::alloc::{AllocError, Global};
 use std::test::Fail;
 use update_model::Ancestors;
@@ -55,8 +55,34 @@ fn cuts_and_copies(rt: HostRuntime) -> Result<(), Fail> {
     Ok(())
 }
 
+// 66 roots, of which two are in no chain, and one member that names them all
 #[test]
-fn walks_far(rt: HostRuntime) -> Result<(), Fail> {
+fn counts_roots(rt: HostRuntime) -> Result<(), Fail> {
+    let alloc = rt.alloc();
+    let mut ancestry = Ancestry::new(alloc);
+    let mut roots = Vec::new(alloc);
+    for position in 0..66 {
+        assert!(rt; ancestry.len() == position);
+        ancestry.add(&[])?;
+        roots.push(position)?;
+    }
+    assert!(rt; ancestry.len() == 66 && roots.as_slice().iter().all(|p| *p < 66));
+    ancestry.add(&roots)?;
+    assert!(rt; ancestry.len() == 67);
+    for position in 0..66 {
+        assert!(rt; ancestry.is_ancestor(alloc, position, 66)?, "{position}");
+    }
+    assert!(rt; !ancestry.is_ancestor(alloc, 66, 0)? && !ancestry.is_ancestor(alloc, 65, 64)?);
+    assert!(rt; ancestry.clock(66).iter().all(|count| *count == 1));
+    let since = ancestry.since(alloc, 67, &[64])?;
+    assert_eq!(rt; since.len(), 66);
+    assert!(rt; !since.as_slice().contains(&64));
+    Ok(())
+}
+
+// two chains side by side, as long as may be; walks would take some 270,000,000,000 steps
+#[test]
+fn compares_quickly(rt: HostRuntime) -> Result<(), Fail> {
     let alloc = rt.alloc();
     let mut ancestry = Ancestry::new(alloc);
     ancestry.add(&[])?;
@@ -65,7 +91,10 @@ fn walks_far(rt: HostRuntime) -> Result<(), Fail> {
         assert!(rt; ancestry.len() == position);
         ancestry.add(&[position - 2])?;
     }
-    assert!(rt; ancestry.is_ancestor(alloc, 1, MAX_MEMBERS - 1)?);
-    assert!(rt; !ancestry.is_ancestor(alloc, 0, MAX_MEMBERS - 1)?);
+    for a in 0..64 {
+        for b in 0..MAX_MEMBERS {
+            assert!(rt; ancestry.is_ancestor(alloc, a, b)? == (a < b && (b - a) % 2 == 0));
+        }
+    }
     Ok(())
 }
