@@ -1,12 +1,15 @@
 pub mod Answering
 pub mod Counting
+pub mod Deleting
 pub mod Dropping
 pub mod Effects
 pub mod Emptiness
 pub mod Finding
 pub mod Growth
 pub mod Keeping
+pub mod Lasting
 pub mod Layers
+pub mod Linking
 pub mod Listing
 pub mod Lookups
 pub mod Marking

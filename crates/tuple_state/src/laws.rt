@@ -1,19 +1,30 @@
 //! Laws of tables. Each function does nothing: its contract is a theorem for callers to cite. Lists of nodes stand newest
 //! first.
 
-ghost use Rattle.std.specs.Prelude.{◌≡◌, ℕ, List, ◌∷◌, reverse};
+ghost use Rattle.std.specs.Prelude.{◌≡◌, true, List, ◌∷◌, reverse};
 ghost use Rattle.update_model.specs.Node.{NodeData};
 ghost use Rattle.table_model.specs.declared.verdict.Verdict.{Verdict};
-ghost use Rattle.table_model.specs.Nodes.{IsNext};
+ghost use Rattle.table_model.specs.Nodes.{IsClosed, IsNext};
 ghost use Rattle.table_model.specs.Tables.{void_lines};
 ghost use Rattle.table_model.specs.Verdicts.{effects_in, judge_next, judged};
-ghost use Rattle.table_model.specs.Visible.{Rules};
+ghost use Rattle.table_model.specs.Visible.{Rules, is_visible};
+ghost use Rattle.tuple_state.specs.Kept.{is_named};
+ghost use Rattle.tuple_state.specs.Past.{effects_before};
+ghost use Rattle.update_model.specs.declared.row_name.RowName.{RowName};
 ghost use Rattle.tuple_state.specs.State.{IsStateOf, State, after, done_in};
 
 /// Tables that hold what nodes do hold, after one more node is applied with its verdict, what all of them do.
 pub fn applied_is_next()
     ensures { (rules : Rules) (nodes : List NodeData) (state : State) (node : NodeData) (verdict : Verdict) → IsStateOf rules nodes state → IsNext nodes node
         → verdict ≡ (judge_next rules (judged rules nodes) node).verdict → IsStateOf rules (node ∷ nodes) (after state node verdict) }
+{}
+
+/// What is visible now was visible before. A row that is visible after the updates of a closed list is visible after the
+/// ancestors of any update, where one of them inserted it: nobody has hidden it by then.
+pub fn visible_rows_were_visible()
+    ensures { (rules : Rules) (nodes : List NodeData) (node : NodeData) → IsClosed nodes → (name : RowName)
+        → is_visible rules (effects_in rules nodes) name ≡ true → is_named (effects_before rules nodes node).inserted name ≡ true
+        → is_visible rules (effects_before rules nodes node) name ≡ true }
 {}
 
 /// Tables that hold what nodes do have their effects and their void lines.

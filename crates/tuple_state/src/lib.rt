@@ -10,9 +10,11 @@
 
 mod at;
 mod columns;
+mod deleters;
 mod dropped;
 mod inserted;
 mod laws;
+mod links;
 mod parents;
 mod restricts;
 mod showing;
@@ -25,5 +27,5 @@ mod tests;
 pub use at::At;
 pub use dropped::Dropped;
 pub use inserted::Inserted;
-pub use laws::{applied_is_next, states_are_effects};
+pub use laws::{applied_is_next, states_are_effects, visible_rows_were_visible};
 pub use tables::Tables;

@@ -1,4 +1,4 @@
-ghost use Rattle.std.specs.Prelude.{◌≡◌, ℕ, ◌+◌, ◌*◌, ◌<◌, ◌≤◌, Bool, List, [], ◌∷◌, ◌++◌, IfOk, OnOk, MatchResult, filter, length, slice_get, vec_len, Some, true, ◌&&◌};
+ghost use Rattle.std.specs.Prelude.{◌≡◌, ℕ, ◌+◌, ◌*◌, ◌<◌, ◌≤◌, Bool, List, [], ◌∷◌, ◌++◌, IfOk, OnOk, MatchResult, length, slice_get, vec_len, Some, true, ◌&&◌};
 ghost use Rattle.std.specs.List.{list_all, list_any};
 ghost use Rattle.std.specs.Vec.{vec_capacity};
 ghost use Rattle.table_model.specs.declared.verdict.Verdict.TheVariants.{Valid};
@@ -8,18 +8,20 @@ ghost use Rattle.row_check.specs.Comparisons.{compares};
 ghost use Rattle.row_check.specs.Meaning.{value_at};
 ghost use Rattle.update_model.specs.Node.{NodeData};
 ghost use Rattle.table_model.specs.Tables.{AreRowsIn, AreVoidsIn};
-ghost use Rattle.table_model.specs.Verdicts.{ancestor_of, effects, effects_in, in_table, judged};
-ghost use Rattle.table_model.specs.Visible.{Rules, cascade_refs, is_visible, refs, same_row};
+ghost use Rattle.table_model.specs.Verdicts.{effects_in, in_table};
+ghost use Rattle.table_model.specs.Visible.{Rules, cascade_refs, is_deleted, is_visible, refs, same_row};
 ghost use Rattle.schema.specs.Columns.{is_restrict};
 ghost use Rattle.validity.specs.Answers.{AreAnswers};
-ghost use Rattle.tuple_state.specs.Past.{IsNextVerdict, IsPastOf, StandsAt};
+ghost use Rattle.tuple_state.specs.Past.{IsNextVerdict, IsPastOf, StandsAt, done_then, effects_before};
 ghost use Rattle.tuple_state.specs.Kept.{are_layered, place_of};
 ghost use Rattle.tuple_state.specs.Parents.{columns_at, passes_place};
 ghost use Rattle.tuple_state.specs.State.{IsStateOf, after, done_in, row_of, rules_of};
 ghost use Rattle.tuple_state.specs.declared.inserted.Inserted.{Inserted as Row};
 
 use crate::columns::{columns_of, copy_lists};
-use crate::parents::{add_parents, add_places, remark};
+use crate::deleters::add_deleters;
+use crate::links::Links;
+use crate::parents::{add_parents, add_places, remark, remove_places};
 use crate::restricts::restricts;
 use crate::showing::{copy_rows, listed_among};
 use crate::sorting::{sort_lines, sort_rows};
@@ -50,6 +52,8 @@ pub struct Tables {
     shown: Vec<bool>,
     /// The deleted names in order of arrival.
     dropped: Vec<Dropped>,
+    /// To the place of each row the positions of the updates that delete it.
+    deleters: Links,
     /// The updates that do nothing, in order of arrival.
     voids: Vec<VoidLine>,
 }
@@ -63,7 +67,7 @@ impl Model for Tables {
     ghost view = { λ t. record { columns = t.columns.items; count = t.count; inserted = t.rows.items; dropped = t.dropped.items; voids = t.voids.items } };
 
     ghost invariant = { λ t. IsKept (record { columns = t.columns.items; count = t.count; inserted = t.rows.items; dropped = t.dropped.items; voids = t.voids.items })
-        t.places t.shown.items };
+        t.places t.shown.items t.deleters };
 }
 
 impl Tables {
@@ -79,6 +83,7 @@ impl Tables {
             places: BTreeMap::new(alloc),
             shown: Vec::new(alloc),
             dropped: Vec::new(alloc),
+            deleters: Links::new(alloc),
             voids: Vec::new(alloc),
         })
     }
@@ -115,11 +120,28 @@ impl Tables {
         &self.rows[place]
     }
 
-    /// The deleted names in order of arrival.
-    pub(crate) fn dropped(&self) -> &[Dropped]
-        ensures { result.now ≡ self.now.dropped }
+    /// Whether the row at a place is visible now.
+    pub(crate) fn is_marked(&self, place: usize) -> bool
+        requires { place < length self.now.inserted }
+        ensures { (it : Row) → slice_get self.now.inserted place ≡ Some it → result ≡ is_visible (rules_of self.now) (done_in self.now) it.name }
     {
-        self.dropped.as_slice()
+        self.shown[place]
+    }
+
+    /// Whether an ancestor of the update at a position deletes the row at a place.
+    pub(crate) fn is_deleted_at<A: Ancestors>(
+        &self,
+        alloc: Global,
+        place: usize,
+        ancestors: &A,
+        position: u32,
+    ) -> Result<bool, AllocError>
+        requires { place < length self.now.inserted }
+        ensures { IfOk result (λ answer. (it : Row) → slice_get self.now.inserted place ≡ Some it
+            → answer ≡ is_deleted (done_then self.now (λ p. A.ancestor ancestors.now p position)) it.name) }
+    {
+        self.deleters
+            .any_ancestor(alloc, place, ancestors, position)
     }
 
     /// Adds the places of the rows that the row at a place names by `CASCADE`.
@@ -200,6 +222,17 @@ impl Tables {
             dropped.len(),
         )?;
         add_places(&mut self.places, self.rows.as_slice(), inserted.as_slice())?;
+        let grown = add_deleters(
+            self.alloc,
+            &mut self.deleters,
+            inserted.len(),
+            dropped.as_slice(),
+            &self.places,
+        );
+        if grown.is_err() {
+            remove_places(&mut self.places, self.rows.as_slice(), inserted.as_slice());
+            return Err(AllocError);
+        }
         self.shown.resize(first + inserted.len(), true).unwrap();
         self.rows.append(&mut inserted).unwrap();
         remark(
@@ -291,6 +324,7 @@ impl Tables {
             places,
             shown: Vec::from_slice(alloc, self.shown.as_slice())?,
             dropped: Vec::from_slice(alloc, self.dropped.as_slice())?,
+            deleters: self.deleters.copy(alloc)?,
             voids: Vec::from_slice(alloc, self.voids.as_slice())?,
         })
     }
@@ -300,7 +334,8 @@ impl Tables {
     pub fn at<'a, A: Ancestors>(&'a self, ancestors: &'a A, position: u32) -> At<'a, A>
         requires past { StandsAt self.now (λ p. A.ancestor ancestors.now p position) }
         ensures answers { (rules : Rules) (nodes : List NodeData) (node : NodeData) → IsStateOf rules nodes self.now → IsPastOf rules nodes node (λ p. A.ancestor ancestors.now p position)
-            → AreAnswers rules (effects (filter (λ j. ancestor_of (judged rules nodes) node j.node.id) (judged rules nodes))) (⟦<At<'a, A> as RowsAt>⟧.row result) (⟦<At<'a, A> as RowsAt>⟧.has_child result) }
+            → AreAnswers rules (effects_before rules nodes node) (⟦<At<'a, A> as RowsAt>⟧.row result) (⟦<At<'a, A> as RowsAt>⟧.has_child result)
+            (⟦<At<'a, A> as RowsAt>⟧.equal_count result) (⟦<At<'a, A> as RowsAt>⟧.count result) }
     {
         At::new(self, ancestors, position)
     }

@@ -54,7 +54,7 @@ more_names names others name s = record {
   any = λ p. list_any-append p names (name ∷ []) ∙ or_none (list_any p names) (p name) ∙ ap (λ b. p name || b) (s.any p);
 }
 
-module _ (rules : Rules) (past : Effects) (row : RowName → Option RowEntry) (child : RowName → Bool) (answers : AreAnswers rules past row child) where
+module _ (rules : Rules) (past : Effects) (row : RowName → Option RowEntry) (child : RowName → Bool) (equal : ℕ → ℕ → Value → ℕ) (number : ℕ → ℕ) (answers : AreAnswers rules past row child equal number) where
   once : Once (visible_rows rules past)
   once = record { once = answers.once }
 

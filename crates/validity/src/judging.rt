@@ -43,7 +43,7 @@ pub fn judge<L: Relation, C: Checks<L>, Q: RowsAt>(
 ) -> Result<Verdict, AllocError>
     requires { IsTrue (list_all is_unlimited schema.now.tables) }
     ensures { IfOk result (λ verdict. (past : Effects)
-        → AreAnswers (record { tables = schema.now.tables; ask = L.answer }) past (Q.RowsAt.row rows.now) (Q.RowsAt.has_child rows.now)
+        → AreAnswers (record { tables = schema.now.tables; ask = L.answer }) past (Q.RowsAt.row rows.now) (Q.RowsAt.has_child rows.now) (Q.RowsAt.equal_count rows.now) (Q.RowsAt.count rows.now)
         → verdict ≡ verdict_on (record { tables = schema.now.tables; ask = L.answer }) past node.now) }
 {
     unlimited_tables_hold();
