@@ -18,7 +18,7 @@ use Rattle.table_model.specs.Nodes.{AreNodesOf, IsClosed, IsSameSet, holds, node
 use Rattle.schema.specs.Schemas.{SchemaData}
 use Rattle.schema.specs.Sound.{AreTables}
 use Rattle.table_model.specs.Tables.{AreTablesOf}
-use Rattle.table_model.specs.Verdicts.{all_fit}
+use Rattle.schema.specs.Columns.{all_fit}
 use Rattle.table_model.specs.Visible.{Rules, table_of}
 use Rattle.bec_node.specs.Bundle.{AreMembers, AreOfHeads, HasTables, nodes_of}
 use Rattle.bec_node.specs.Verdict.{rules_of}

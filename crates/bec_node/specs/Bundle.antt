@@ -22,7 +22,7 @@ use Rattle.table_model.specs.declared.void_line.VoidLine.{VoidLine}
 use Rattle.table_model.specs.Invariants.{Declared, claim_holds, invariants_of, shown_in}
 use Rattle.schema.specs.Schemas.{SchemaData}
 use Rattle.table_model.specs.Tables.{AreRowsIn, AreTablesOf}
-use Rattle.table_model.specs.Verdicts.{all_fit}
+use Rattle.schema.specs.Columns.{all_fit}
 use Rattle.table_model.specs.Visible.{Rules, table_of}
 use Rattle.table_text.specs.Tables.{tables_text}
 use Rattle.bec_node.specs.declared.bundle.BundleHead.{BundleHead}

@@ -9,10 +9,6 @@ use Rattle.table_model.specs.Visible.{Rules, is_cascade}
 use Rattle.table_model.specs.Confluence.{is_permanent}
 use Rattle.table_model.specs.Examples.{Item, Step, has_table, is_skipped, needed_by}
 
--- the rules of tables alone. Nothing that the test computes asks a native check, so none is ever true here
-abbrev pub rules_of : List TableDef → Rules
-rules_of tables = record { tables = tables; ask = λ number values. false }
-
 -- Each row is of one of so many tables, and no two are of one table.
 abbrev pub AreOnce : ℕ → List Item → Type 0
 AreOnce count [] = Unit {0}

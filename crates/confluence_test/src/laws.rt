@@ -8,7 +8,7 @@ ghost use Rattle.schema.specs.Samples.{SamplesPass};
 ghost use Rattle.table_model.specs.Invariants.{claims_of};
 ghost use Rattle.schema.specs.Schemas.{Declares, Meaning, SchemaData};
 ghost use Rattle.schema.specs.Sound.{AreTables};
-ghost use Rattle.table_model.specs.Visible.{Rules};
+ghost use Rattle.table_model.specs.Visible.{Rules, rules_with};
 ghost use Rattle.confluence_test.specs.Tests.{IsRefused};
 
 use schema::{declared_is_sound, declared_samples_pass};
@@ -28,8 +28,8 @@ pub fn refused_is_confirmed()
 /// meaning: the samples pass under it, so nothing is left to suppose.
 pub fn declared_refusal_is_confirmed()
     ensures { (relation : Meaning) (text : List ℕ) (schema : SchemaData) (which : Invariant) (example : Counterexample)
-        → Declares relation text schema → (refused : IsRefused (record { tables = schema.tables; ask = relation }) which example)
-        → IsTrue (confirms (record { tables = schema.tables; ask = relation }) (claims_of refused.earlier) refused.declared.claim example) }
+        → Declares relation text schema → (refused : IsRefused (rules_with relation schema.tables) which example)
+        → IsTrue (confirms (rules_with relation schema.tables) (claims_of refused.earlier) refused.declared.claim example) }
 {
     declared_is_sound();
     declared_samples_pass();

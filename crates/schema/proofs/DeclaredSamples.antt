@@ -9,14 +9,17 @@ use Rattle.text_words.specs.Lines.{lines_of}
 use Rattle.schema.specs.declared.action.Action.{Action}
 use Rattle.schema.specs.declared.column.Column.{Column}
 use Rattle.schema.specs.declared.draft.Draft.{Draft}
+use Rattle.schema.specs.declared.form.SampleValue.{SampleValue}
 use Rattle.schema.specs.declared.form.Form.{Form}
 use Rattle.schema.specs.declared.form.Form.TheVariants as form
 use Rattle.schema.specs.declared.rules.MatchRule.{MatchRule}
 use Rattle.schema.specs.declared.table_def.TableDef.{TableDef}
+use Rattle.schema.specs.Checks.{checks_hold}
 use Rattle.schema.specs.Columns.{reference_at}
+use Rattle.schema.specs.Faults.{matches_target}
 use Rattle.schema.specs.Drafts.{start}
 use Rattle.schema.specs.Numbers.{no_table, table_number}
-use Rattle.schema.specs.Rows.{sample_row, matches_target, passes_checks}
+use Rattle.schema.specs.Rows.{sample_row}
 use Rattle.schema.specs.Samples.{sample_matches, SamplesPass}
 use Rattle.schema.specs.Steps.{IsAfter}
 use Rattle.schema.specs.Schemas.{Meaning, SchemaData, IsGood, Leads, LeadOn, Declares}
@@ -37,7 +40,7 @@ placed_matches tables number sample rule (Some target) =
 
 -- the sample of the table with this number among these passes
 pub record PassesAt (relation : Meaning) (tables : List TableDef) (number : ℕ) (table : TableDef) : Type 0 where
-  pub checks : passes_checks relation table.checks table.sample ≡ true
+  pub checks : checks_hold relation table.sample table.checks ≡ true
   pub matches : list_all (λ rule. placed_matches tables number table.sample rule (reference_at table.columns rule.reference)) table.matches ≡ true
 
 -- the samples of tables pass, each behind those before it
@@ -101,7 +104,7 @@ more_behind relation before more table sound is = record {
 }
 
 -- the sample line of a table
-sample_passes : (relation : Meaning) (d : Draft) (values : List Rattle.text_words.specs.declared.literal.Literal.Literal) → IsDraft d → IsGood relation d (form.Sample values)
+sample_passes : (relation : Meaning) (d : Draft) (values : List SampleValue) → IsDraft d → IsGood relation d (form.Sample values)
     → PassesAt relation d.tables (length d.tables) (record d.table { sample = sample_row d.table.columns values })
 sample_passes relation d values s g =
     let row = sample_row d.table.columns values in record {

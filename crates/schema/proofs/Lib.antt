@@ -6,4 +6,5 @@ mod NameTexts
 mod Needs
 mod SampleRows
 mod Unique
+pub mod RowKinds
 pub mod Soundness

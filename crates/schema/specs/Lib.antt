@@ -10,3 +10,4 @@ pub mod Samples
 pub mod Schemas
 pub mod Sound
 pub mod Steps
+pub mod Words

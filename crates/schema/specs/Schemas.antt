@@ -9,6 +9,7 @@ use Rattle.schema.specs.declared.draft.Draft.{Draft}
 use Rattle.schema.specs.declared.fault.SchemaKind.{SchemaKind}
 use Rattle.schema.specs.declared.fault.SchemaKind.TheVariants as fault
 use Rattle.schema.specs.declared.form.Form.{Form}
+use Rattle.schema.specs.declared.limits.TheConstants.{MAX_SCHEMA_BYTES}
 use Rattle.schema.specs.declared.table_def.TableDef.{TableDef}
 use Rattle.schema.specs.Forms.{HasForm}
 use Rattle.schema.specs.Drafts.{start, is_turn, is_between}
@@ -89,13 +90,13 @@ pub record SchemaData : Type 0 where
 abbrev pub schema_of : Draft → List ℕ → SchemaData
 schema_of draft text = record { tables = draft.tables; rule = record { database = sha256 text; authors = draft.authors }; text = text }
 
--- A text of at most 65,536 bytes, whose lines are good each after those before it and end with a table, declares what
+-- A text that is not too long, whose lines are good each after those before it and end with a table, declares what
 -- they say.
 abbrev pub Declares : Meaning → List ℕ → SchemaData → Type 0
 Declares relation text schema =
-    (length text ≤ 65536) × ((end : Draft) × LeadOn relation 1 start (lines_of text) end × IsComplete end × (schema ≡ schema_of end text))
+    (length text ≤ MAX_SCHEMA_BYTES) × ((end : Draft) × LeadOn relation 1 start (lines_of text) end × IsComplete end × (schema ≡ schema_of end text))
 
 -- The first fault of a text: a text of more bytes is over the limit, at line 0.
 abbrev pub FirstFault : Meaning → List ℕ → SchemaKind → ℕ → Type 0
 FirstFault relation text kind place =
-    ((65536 < length text) × (kind ≡ fault.Limit) × (place ≡ 0)) ⊎ ((length text ≤ 65536) × FaultIn relation 1 start (lines_of text) kind place)
+    ((MAX_SCHEMA_BYTES < length text) × (kind ≡ fault.Limit) × (place ≡ 0)) ⊎ ((length text ≤ MAX_SCHEMA_BYTES) × FaultIn relation 1 start (lines_of text) kind place)

@@ -24,6 +24,7 @@
 
 mod action;
 mod adding;
+mod checks;
 mod column;
 mod draft;
 mod draft_lists;
@@ -43,16 +44,19 @@ mod rules;
 mod samples;
 mod schema;
 mod table_def;
-#[cfg(test)]
-mod tests;
 mod word_lists;
 mod words;
 
 pub use action::Action;
 pub use column::{Column, ColumnKind};
 pub use fault::{SchemaError, SchemaFault, SchemaKind};
-pub use fitting::fits_column;
+pub use checks::{check_holds, checks_hold};
+pub use fitting::{all_fit, fits_column};
 pub use laws::{declared_is_sound, declared_samples_pass, no_fault, one_fault, one_schema};
+pub use limits::{
+    MAX_AUTHORS, MAX_CHECKS, MAX_COLUMNS, MAX_MATCHES, MAX_ROWS, MAX_SCHEMA_BYTES, MAX_TABLES,
+    MAX_TOKENS,
+};
 pub use lists::{CheckList, ColumnList, MatchList, UniqueList};
 pub use reading::read_schema;
 pub use rules::{CheckRule, MatchRule, UniqueRule};

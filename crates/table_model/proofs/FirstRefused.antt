@@ -22,11 +22,10 @@ use Rattle.schema.specs.declared.column.ColumnKind.TheVariants as kind
 use Rattle.table_model.specs.declared.invariant.InvariantKind.TheVariants as invariant
 use Rattle.schema.specs.declared.rules.UniqueRule.{UniqueRule}
 use Rattle.schema.specs.declared.table_def.TableDef.{TableDef}
-use Rattle.schema.specs.Columns.{is_reference, target_of, reference_at}
+use Rattle.schema.specs.Columns.{is_reference, target_of, reference_at, fits_kind, fits}
 use Rattle.schema.specs.Sound.{IsSoundUnique}
 use Rattle.schema.specs.Numbers.{no_table}
 use Rattle.table_model.specs.Visible.{Rules, table_of}
-use Rattle.table_model.specs.Verdicts.{fits_kind, fits}
 use Rattle.table_model.specs.Invariants.{Claim, Unique, AtMost, Refers, Check, Match, Declared, each_from, declared_at, unique_declared, at_most_declared, refers_declared, reference_declared, check_declared, match_declared, table_declared, invariants_of, claims_of}
 use Rattle.table_model.specs.Confluence.{accepts, are_accepted, breaks, confirms}
 use Rattle.table_model.specs.Examples.{after, chain, copies, item_of, base_of, twice_after, unique_example, at_most_example, need}

@@ -17,7 +17,9 @@ use Rattle.schema.specs.declared.rules.MatchRule.{MatchRule}
 use Rattle.table_model.specs.declared.verdict.Verdict.TheVariants as verdict
 use Rattle.table_model.specs.Nodes.{holds, IsNext, IsClosed}
 use Rattle.table_model.specs.Visible.{Rules, TableRow, Effects, same_row, table_of, refs, visible_rows, is_visible}
-use Rattle.table_model.specs.Verdicts.{is_valid, verdict_after, effects, effects_of, effects_after, row_inserted, joined, nothing, Judged, ancestor_of, judge_next, judged, all_fit, checks_hold, stands_among, matches_among, matches_hold, first_reason, insert_reason, delete_reason, verdict_on}
+use Rattle.table_model.specs.Verdicts.{is_valid, verdict_after, effects, effects_of, effects_after, row_inserted, joined, nothing, Judged, ancestor_of, judge_next, judged, stands_among, matches_among, matches_hold, first_reason, insert_reason, delete_reason, verdict_on}
+use Rattle.schema.specs.Checks.{checks_hold}
+use Rattle.schema.specs.Columns.{all_fit}
 use Rattle.table_model.proofs.Order.{any_weaker}
 
 -- whatever is among the first is among the second

@@ -1,11 +1,13 @@
 pub mod Accepted
 pub mod Alike
+pub mod Ancestors
 pub mod Arrivals
 pub mod AtMostRefused
 pub mod Confirmed
 pub mod DeclaredClaims
 pub mod FirstRefused
 pub mod Founded
+pub mod Members
 pub mod Naming
 pub mod Needed
 pub mod Order
@@ -13,6 +15,7 @@ pub mod Permuted
 pub mod Plain
 pub mod Plans
 pub mod Refused
+pub mod Rising
 pub mod RestrictRefused
 pub mod SameClaims
 pub mod SameEffects

@@ -11,12 +11,12 @@ use Rattle.row_check.specs.Meaning.{value_at}
 use Rattle.expression_text.specs.Trees.{holds_tree}
 use Rattle.schema.specs.declared.action.Action.{Action}
 use Rattle.schema.specs.declared.column.Column.{Column}
-use Rattle.schema.specs.Checks.{CheckData}
+use Rattle.schema.specs.Checks.{CheckData, checks_hold}
 use Rattle.schema.specs.declared.rules.MatchRule.{MatchRule}
-use Rattle.schema.specs.Columns.{target_of, reference_at, is_restrict}
+use Rattle.schema.specs.Columns.{target_of, reference_at, is_restrict, fits, all_fit}
 use Rattle.schema.specs.Sound.{IsSoundCheck, IsSoundColumn}
 use Rattle.table_model.specs.Visible.{Rules, TableRow, RowRef, same_row, table_of, ref_to, ref_in, refs_in}
-use Rattle.table_model.specs.Verdicts.{fits, all_fit, checks_hold, named, stands_among, matches_among, matches_hold, first_reason, insert_reason}
+use Rattle.table_model.specs.Verdicts.{named, stands_among, matches_among, matches_hold, first_reason, insert_reason}
 use Rattle.table_model.specs.Examples.{Item, numbered, row_numbered, has_table, name_in, fill, needed_by, is_skipped, needed_but, filled_but, item_naming, need}
 use Rattle.table_model.proofs.Founded.{Sub, match_more, all-append}
 use Rattle.table_model.proofs.Plain.{is_plain, plain_target, same_holds}

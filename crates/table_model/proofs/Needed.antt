@@ -14,14 +14,14 @@ use Rattle.schema.specs.declared.action.Action.{Action}
 use Rattle.schema.specs.declared.column.Column.{Column}
 use Rattle.schema.specs.declared.column.ColumnKind.{ColumnKind}
 use Rattle.schema.specs.declared.column.ColumnKind.TheVariants as kind
-use Rattle.schema.specs.Checks.{CheckData}
+use Rattle.schema.specs.Checks.{CheckData, checks_hold}
 use Rattle.schema.specs.declared.rules.MatchRule.{MatchRule}
 use Rattle.schema.specs.declared.rules.UniqueRule.{UniqueRule}
 use Rattle.schema.specs.declared.table_def.TableDef.{TableDef}
-use Rattle.schema.specs.Columns.{is_reference, target_of, is_restrict}
+use Rattle.schema.specs.Columns.{is_reference, target_of, is_restrict, fits_kind, fits, all_fit}
 use Rattle.schema.specs.Sound.{IsSoundCheck}
 use Rattle.table_model.specs.Visible.{Rules, TableRow, RowRef, same_row, table_of, ref_to, ref_in, refs_in}
-use Rattle.table_model.specs.Verdicts.{fits_kind, fits, all_fit, checks_hold, named, stands_among, matches_among, matches_hold, first_reason, in_table, unique_holds, at_most_holds, limits_hold}
+use Rattle.table_model.specs.Verdicts.{named, stands_among, matches_among, matches_hold, first_reason, in_table, unique_holds, at_most_holds, limits_hold}
 use Rattle.table_model.specs.Examples.{Item, numbered, row_numbered, has_table, name_in, fill, filled, item_of, needed_by, needed_tables, for_each, need, base_of}
 use Rattle.table_model.proofs.Alike.{weight, one_if, count-weight}
 use Rattle.table_model.proofs.Standing.{same_row-refl}

@@ -18,9 +18,10 @@ use Rattle.schema.specs.declared.column.ColumnKind.{ColumnKind}
 use Rattle.schema.specs.declared.rules.MatchRule.{MatchRule}
 use Rattle.schema.specs.declared.table_def.TableDef.{TableDef}
 use Rattle.table_model.specs.declared.verdict.Verdict.TheVariants as verdict
-use Rattle.schema.specs.Columns.{target_of, is_restrict}
+use Rattle.schema.specs.Columns.{target_of, is_restrict, all_fit}
 use Rattle.table_model.specs.Visible.{Rules, TableRow, same_row, table_of, Effects, refs, cascade_refs, visible_to, is_visible, visible_rows, is_nulled, shown, shown_rows, shown_value, shown_values}
-use Rattle.table_model.specs.Verdicts.{is_valid, verdict_after, verdict_on, insert_reason, delete_reason, matches_among, checks_hold, limits_hold, unique_holds, in_table, joined, nothing, effects_of, effects, Judged, ancestor_of, judge_next, row_inserted, first_reason, all_fit, same_author, judged}
+use Rattle.table_model.specs.Verdicts.{is_valid, verdict_after, verdict_on, insert_reason, delete_reason, matches_among, limits_hold, unique_holds, in_table, joined, nothing, effects_of, effects, Judged, ancestor_of, judge_next, row_inserted, first_reason, same_author, judged}
+use Rattle.schema.specs.Checks.{checks_hold}
 use Rattle.table_model.proofs.Alike.{weight, weight-append, Alike, Alike-refl, Alike-append, Alike-filter, Alike-map, Alike-same, Alike-trans, same_any, same_all, same_count, same_length, filter-each}
 
 pub record AlikeEffects (g h : Effects) : Type 0 where

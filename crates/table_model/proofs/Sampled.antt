@@ -1,23 +1,20 @@
 -- The samples of a schema are rows that its tables may have.
 use Rattle.std.proofs.Common.{◌≡◌, ℕ, ◌<◌, ◌≤◌, Bool, true, false, not, ◌||◌, List, [], ◌∷◌, ◌++◌, length, refl, sym, ap, ◌∙◌, subst, Option, Some, None, is_some, arith, nat_le, nat_lt, slice_get, option_and_then}
-use Rattle.std.specs.Prelude.{IsTrue, MatchOption, T}
+use Rattle.std.specs.Prelude.{IsTrue, MatchOption, if◌then◌else◌}
 use Rattle.std.specs.List.{list_all, AllByRecursion}
-use Rattle.std.specs.Int.Signed.{le_z}
-use Rattle.std.proofs.lemmas.Bool.{and_parts, and_from, ltb-true, leb-false, lt-leb, le-leb, ne_eqb}
+use Rattle.std.proofs.lemmas.Bool.{and_parts, and_from, ltb-true, leb-false, lt-leb, ne_eqb}
 use Rattle.update_model.specs.declared.value.Value.{Value}
-use Rattle.update_model.specs.declared.value.Value.TheVariants as value
 use Rattle.row_check.specs.Comparisons.{compares}
-use Rattle.row_check.specs.Meaning.{value_at}
+use Rattle.row_check.specs.Meaning.{is_null, value_at}
 use Rattle.schema.specs.declared.action.Action.{Action}
 use Rattle.schema.specs.declared.column.Column.{Column}
 use Rattle.schema.specs.declared.column.ColumnKind.{ColumnKind}
 use Rattle.schema.specs.declared.column.ColumnKind.TheVariants as kind
 use Rattle.schema.specs.declared.rules.MatchRule.{MatchRule}
-use Rattle.schema.specs.Columns.{target_of, reference_at, is_restrict, are_comparable, FitsKind, FitsColumn, FitsSampleAt}
-use Rattle.schema.specs.Rows.{FitsSample}
+use Rattle.schema.specs.Columns.{is_reference, target_of, reference_at, is_restrict, are_comparable, fits}
+use Rattle.schema.specs.Rows.{fits_sample_at, fits_sample}
 use Rattle.schema.specs.Sound.{IsSoundKind, IsSoundColumn}
 use Rattle.table_model.specs.Visible.{Rules, table_of}
-use Rattle.table_model.specs.Verdicts.{fits_kind, fits}
 use Rattle.schema.specs.Numbers.{table_number}
 use Rattle.schema.specs.Samples.{sample_matches, SamplesPass}
 use Rattle.table_model.specs.Examples.{needed_by, needed_tables}
@@ -25,59 +22,18 @@ use Rattle.table_model.proofs.Plain.{compared_left, compared_right}
 use Rattle.schema.proofs.Soundness.{IsSound, ComparesPlain, each_at, kind_of_target, target_below}
 use Rattle.table_model.proofs.Needed.{sample_fits, IsMatched, IsSampled, AreSampled}
 
-told : (b : Bool) → T b → b ≡ true
-told true h = refl
-told false h = absurd h
-
-fits_kind_from : (k : ColumnKind) (v : Value) → FitsKind k v → fits_kind k v ≡ true
-fits_kind_from (kind.Int lo hi) (value.Int n) h = and_from _ _ (told (le_z lo n) h.0.le) (told (le_z n hi) h.1.le)
-fits_kind_from (kind.Int lo hi) value.Null h = absurd h
-fits_kind_from (kind.Int lo hi) (value.Text bytes) h = absurd h
-fits_kind_from (kind.Int lo hi) (value.Flag flag) h = absurd h
-fits_kind_from (kind.Int lo hi) (value.Row name) h = absurd h
-fits_kind_from (kind.Int lo hi) (value.Own index) h = absurd h
-fits_kind_from (kind.Text lo hi) (value.Text bytes) h = and_from _ _ (le-leb lo (length bytes) h.0) (le-leb (length bytes) hi h.1)
-fits_kind_from (kind.Text lo hi) value.Null h = absurd h
-fits_kind_from (kind.Text lo hi) (value.Int n) h = absurd h
-fits_kind_from (kind.Text lo hi) (value.Flag flag) h = absurd h
-fits_kind_from (kind.Text lo hi) (value.Row name) h = absurd h
-fits_kind_from (kind.Text lo hi) (value.Own index) h = absurd h
-fits_kind_from kind.Flag (value.Flag flag) h = refl
-fits_kind_from kind.Flag value.Null h = absurd h
-fits_kind_from kind.Flag (value.Int n) h = absurd h
-fits_kind_from kind.Flag (value.Text bytes) h = absurd h
-fits_kind_from kind.Flag (value.Row name) h = absurd h
-fits_kind_from kind.Flag (value.Own index) h = absurd h
-fits_kind_from (kind.Reference target act) (value.Row name) h = refl
-fits_kind_from (kind.Reference target act) (value.Own index) h = refl
-fits_kind_from (kind.Reference target act) value.Null h = absurd h
-fits_kind_from (kind.Reference target act) (value.Int n) h = absurd h
-fits_kind_from (kind.Reference target act) (value.Text bytes) h = absurd h
-fits_kind_from (kind.Reference target act) (value.Flag flag) h = absurd h
-
--- a value that may stand in a column passes the test
-pub fits_from : (c : Column) (v : Value) → FitsColumn c v → fits c v ≡ true
-fits_from c value.Null h = h
-fits_from c (value.Int n) h = fits_kind_from c.kind (value.Int n) h
-fits_from c (value.Text bytes) h = fits_kind_from c.kind (value.Text bytes) h
-fits_from c (value.Flag flag) h = fits_kind_from c.kind (value.Flag flag) h
-fits_from c (value.Row name) h = fits_kind_from c.kind (value.Row name) h
-fits_from c (value.Own index) h = fits_kind_from c.kind (value.Own index) h
-
-by_kind : (c : Column) (v : Value) (k : ColumnKind) → FitsSampleAt (record c { kind = k }) v → (is_some (target_of k) || fits (record c { kind = k }) v) ≡ true
-by_kind c v (kind.Int lo hi) h = fits_from (record c { kind = kind.Int lo hi }) v h
-by_kind c v (kind.Text lo hi) h = fits_from (record c { kind = kind.Text lo hi }) v h
-by_kind c v kind.Flag h = fits_from (record c { kind = kind.Flag }) v h
+by_kind : (c : Column) (v : Value) (k : ColumnKind) → (if is_reference k then is_null v else fits c v) ≡ true → (is_some (target_of k) || fits c v) ≡ true
+by_kind c v (kind.Int lo hi) h = h
+by_kind c v (kind.Text lo hi) h = h
+by_kind c v kind.Flag h = h
 by_kind c v (kind.Reference target act) h = refl
 
-sample_at : (c : Column) (v : Value) → FitsSampleAt c v → (is_some (target_of c.kind) || fits c v) ≡ true
-sample_at c v h = by_kind c v c.kind h
-
-sample_fits_from : (cs : List Column) (vs : List Value) → FitsSample cs vs → sample_fits cs vs ≡ true
+sample_fits_from : (cs : List Column) (vs : List Value) → fits_sample cs vs ≡ true → sample_fits cs vs ≡ true
 sample_fits_from [] [] h = refl
-sample_fits_from [] (v ∷ vs) h = absurd h
-sample_fits_from (c ∷ cs) [] h = absurd h
-sample_fits_from (c ∷ cs) (v ∷ vs) h = and_from _ _ (sample_at c v h.0) (sample_fits_from cs vs h.1)
+sample_fits_from [] (v ∷ vs) h = absurd (cc)
+sample_fits_from (c ∷ cs) [] h = absurd (cc)
+sample_fits_from (c ∷ cs) (v ∷ vs) h =
+    let parts = and_parts (fits_sample_at c v) (fits_sample cs vs) h in and_from _ _ (by_kind c v c.kind parts.0) (sample_fits_from cs vs parts.1)
 
 -- a reference that may not be null is to an earlier table
 pub lower_at : (number : ℕ) (c : Column) → IsSoundColumn number c → (r : ℕ × Action) → target_of c.kind ≡ Some r → c.null ≡ false → nat_lt r.0 number ≡ true

@@ -10,11 +10,11 @@ use Rattle.schema.specs.declared.column.Column.{Column}
 use Rattle.schema.specs.declared.column.ColumnKind.{ColumnKind}
 use Rattle.schema.specs.declared.rules.UniqueRule.{UniqueRule}
 use Rattle.schema.specs.declared.table_def.TableDef.{TableDef}
-use Rattle.schema.specs.Columns.{target_of, is_set_null}
+use Rattle.schema.specs.Columns.{target_of, is_set_null, fits, all_fit}
 use Rattle.schema.specs.Sound.{IsSoundKind, IsSoundColumn}
 use Rattle.table_model.specs.Nodes.{IsClosed}
 use Rattle.table_model.specs.Visible.{Rules, TableRow, Effects, table_of, is_visible, is_nulled, shown_value, shown_values}
-use Rattle.table_model.specs.Verdicts.{fits, all_fit, effects_in, unique_holds, limits_hold, is_unlimited, effects, judge_next, judged, verdict_on}
+use Rattle.table_model.specs.Verdicts.{effects_in, unique_holds, limits_hold, is_unlimited, effects, judge_next, judged, verdict_on}
 use Rattle.table_model.specs.Invariants.{shown_in}
 use Rattle.table_model.proofs.Founded.{IsWellFounded, founded_closed}
 use Rattle.table_model.proofs.Standing.{each_stands}

@@ -7,7 +7,9 @@ use Rattle.update_model.specs.Entry.{same_id}
 use Rattle.update_model.proofs.Ids.{id_from_same, same_id-refl}
 use Rattle.row_check.specs.Meaning.{value_at}
 use Rattle.table_model.specs.Visible.{Rules, TableRow, Effects, same_row, table_of, refs, is_cascade, cascade_refs, shows, visible_to, is_visible, is_deleted}
-use Rattle.table_model.specs.Verdicts.{all_fit, checks_hold, stands_among, matches_among, matches_hold}
+use Rattle.table_model.specs.Verdicts.{stands_among, matches_among, matches_hold}
+use Rattle.schema.specs.Checks.{checks_hold}
+use Rattle.schema.specs.Columns.{all_fit}
 use Rattle.table_model.proofs.Order.{any_weaker}
 use Rattle.table_model.proofs.Founded.{match_more, all_weaker, IsFounded, Founded, IsWellFounded}
 

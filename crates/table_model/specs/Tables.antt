@@ -1,7 +1,8 @@
 -- The tables of a set of updates, and its updates that do nothing.
 use Rattle.std.specs.Prelude.{◌≡◌, ℕ, List, [], ◌∷◌, ◌++◌, length, map, filter, Some, slice_get}
 use Rattle.std.specs.declared.cmp.Ordering.{Ordering}
-use Rattle.std.specs.Ordering.{nat_cmp, ordering_then}
+use Rattle.std.specs.List.{IsDistinct}
+use Rattle.std.specs.Ordering.{eq_by_cmp, nat_cmp, ordering_then}
 use Rattle.std.specs.List.Sorted.{IsStrictlySortedBy, IsPermutation}
 use Rattle.update_model.specs.declared.row_name.RowName.{RowName}
 use Rattle.update_model.specs.declared.update_id.UpdateId.{UpdateId}
@@ -18,6 +19,18 @@ use Rattle.table_model.specs.Invariants.{shown_in}
 -- names order by the bytes of the id, then by the number
 abbrev pub name_cmp : RowName → RowName → Ordering
 name_cmp a b = ordering_then (id_cmp a.update b.update) (nat_cmp a.index b.index)
+
+-- No two rows have one name.
+abbrev pub HasDistinctNames : List ShownRow → Type 0
+HasDistinctNames rows = IsDistinct (eq_by_cmp name_cmp) (map (λ row. row.name) rows)
+
+-- No two inserted rows have one name.
+abbrev pub HasDistinctRows : List TableRow → Type 0
+HasDistinctRows rows = IsDistinct (eq_by_cmp name_cmp) (map (λ row. row.name) rows)
+
+-- No two lines have one id.
+abbrev pub HasDistinctIds : List VoidLine → Type 0
+HasDistinctIds lines = IsDistinct (eq_by_cmp id_cmp) (map (λ line. line.id) lines)
 
 -- a row as a table lists it
 abbrev pub listed : TableRow → ShownRow

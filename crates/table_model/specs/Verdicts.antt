@@ -1,7 +1,6 @@
 -- Which updates are valid, judged on their ancestors alone.
 use Rattle.std.specs.Prelude.{ℕ, ◌+◌, ◌==◌, Bool, true, false, not, ◌&&◌, ◌||◌, nat_le, List, [], ◌∷◌, ◌++◌, length, map, filter, count_by, Option, None, Some, if◌then◌else◌, bytes_eq}
 use Rattle.std.specs.List.{list_any, list_all}
-use Rattle.std.specs.Int.Signed.{le_z}
 use Rattle.update_model.specs.declared.author_key.AuthorKey.{AuthorKey}
 use Rattle.update_model.specs.declared.op.Op.{Op}
 use Rattle.update_model.specs.declared.op.Op.TheVariants as op
@@ -14,42 +13,15 @@ use Rattle.update_model.specs.Node.{NodeData}
 use Rattle.row_check.specs.declared.cmp.Cmp.TheVariants as cmp
 use Rattle.row_check.specs.Comparisons.{compares}
 use Rattle.row_check.specs.Meaning.{value_at}
-use Rattle.expression_text.specs.Trees.{holds_tree}
 use Rattle.schema.specs.declared.column.Column.{Column}
-use Rattle.schema.specs.declared.column.ColumnKind.{ColumnKind}
-use Rattle.schema.specs.declared.column.ColumnKind.TheVariants as kind
 use Rattle.schema.specs.declared.rules.MatchRule.{MatchRule}
 use Rattle.schema.specs.declared.table_def.TableDef.{TableDef}
+use Rattle.table_model.specs.declared.reason.TheConstants.{NO_TABLE, MISFIT, CHECK_FALSE, NO_TARGET, MATCH_FALSE, NOT_DELETABLE, NOT_OWNER, RESTRICTED, LIMIT_BROKEN}
 use Rattle.table_model.specs.declared.verdict.Verdict.{Verdict}
 use Rattle.table_model.specs.declared.verdict.Verdict.TheVariants as verdict
-use Rattle.schema.specs.Checks.{CheckData}
-use Rattle.schema.specs.Columns.{is_restrict}
+use Rattle.schema.specs.Checks.{checks_hold}
+use Rattle.schema.specs.Columns.{all_fit, is_restrict}
 use Rattle.table_model.specs.Visible.{Rules, TableRow, RowRef, refs, Effects, visible_rows, same_row, table_of}
-
--- whether a value of a kind lies within its bounds
-abbrev pub fits_kind : ColumnKind → Value → Bool
-fits_kind (kind.Int lo hi) (value.Int n) = le_z lo n && le_z n hi
-fits_kind (kind.Text lo hi) (value.Text bytes) = nat_le lo (length bytes) && nat_le (length bytes) hi
-fits_kind kind.Flag (value.Flag flag) = true
-fits_kind (kind.Reference target act) (value.Row name) = true
-fits_kind (kind.Reference target act) (value.Own index) = true
-fits_kind kind other = false
-
--- whether a value may stand in a column
-abbrev pub fits : Column → Value → Bool
-fits column value.Null = column.null
-fits column other = fits_kind column.kind other
-
--- whether there is a value for each column, and each fits
-abbrev pub all_fit : List Column → List Value → Bool
-all_fit [] [] = true
-all_fit [] (value ∷ values) = false
-all_fit (column ∷ columns) [] = false
-all_fit (column ∷ columns) (value ∷ values) = fits column value && all_fit columns values
-
--- whether every CHECK is true of a row
-abbrev pub checks_hold : (ℕ → List Value → Bool) → List Value → List CheckData → Bool
-checks_hold ask values checks = list_all (λ check. holds_tree ask values check.tree) checks
 
 -- whether the row that a reference names stands among these, in the table that the reference is to
 abbrev pub stands_among : List TableRow → RowRef → Bool
@@ -71,15 +43,14 @@ first_reason [] = None
 first_reason (reason ∷ reasons) = if reason.1 then Some reason.0 else first_reason reasons
 
 -- Why a row may not be inserted beside these, which are the rows visible on the ancestors and those that earlier
--- operations of the update inserted: 1 there is no such table, 2 the values do not fit the columns, 3 a CHECK is false,
--- 4 a row that it names is not there, 5 a MATCH is false.
+-- operations of the update inserted.
 abbrev pub insert_reason : Rules → List TableRow → TableRow → Option ℕ
 insert_reason rules beside row = first_reason (
-    (1, nat_le (length rules.tables) row.table)
-    ∷ (2, not (all_fit (table_of rules row.table).columns row.values))
-    ∷ (3, not (checks_hold rules.ask row.values (table_of rules row.table).checks))
-    ∷ (4, not (list_all (stands_among beside) (refs rules row)))
-    ∷ (5, not (matches_hold beside row.values (table_of rules row.table).matches))
+    (NO_TABLE, nat_le (length rules.tables) row.table)
+    ∷ (MISFIT, not (all_fit (table_of rules row.table).columns row.values))
+    ∷ (CHECK_FALSE, not (checks_hold rules.ask row.values (table_of rules row.table).checks))
+    ∷ (NO_TARGET, not (list_all (stands_among beside) (refs rules row)))
+    ∷ (MATCH_FALSE, not (matches_hold beside row.values (table_of rules row.table).matches))
     ∷ [])
 
 -- whether two keys are one
@@ -87,13 +58,12 @@ abbrev pub same_author : AuthorKey → AuthorKey → Bool
 same_author a b = (a.lms == b.lms) && (a.ots == b.ots) && bytes_eq a.ident b.ident && bytes_eq a.root b.root
 
 -- Why this author may not delete a name, where these rows are visible on the ancestors and the update has deleted these
--- names already: 6 no such row is there, or its table is not DELETABLE, or it is deleted already, 7 the table is OWNED
--- and the row another author's, 8 a row names it by RESTRICT.
+-- names already.
 abbrev pub delete_reason : Rules → List TableRow → List RowName → AuthorKey → RowName → Option ℕ
 delete_reason rules rows dropped author name = first_reason (
-    (6, not (list_any (λ row. same_row row.name name && (table_of rules row.table).deletable) rows) || list_any (same_row name) dropped)
-    ∷ (7, list_any (λ row. same_row row.name name && (table_of rules row.table).owned && not (same_author row.author author)) rows)
-    ∷ (8, list_any (λ row. list_any (λ r. is_restrict r.action && same_row r.name name) (refs rules row)) rows)
+    (NOT_DELETABLE, not (list_any (λ row. same_row row.name name && (table_of rules row.table).deletable) rows) || list_any (same_row name) dropped)
+    ∷ (NOT_OWNER, list_any (λ row. same_row row.name name && (table_of rules row.table).owned && not (same_author row.author author)) rows)
+    ∷ (RESTRICTED, list_any (λ row. list_any (λ r. is_restrict r.action && same_row r.name name) (refs rules row)) rows)
     ∷ [])
 
 -- a value as it stands in a table: a reference to a row of the same update is that row's name
@@ -146,11 +116,11 @@ abbrev pub is_unlimited : TableDef → Bool
 is_unlimited table = (length table.uniques == 0) && (table.at_most == 0)
 
 -- The first reason that applies, operation by operation from this number on, after what the ancestors did, of which these
--- rows are visible, and what earlier operations did. At the end 9: a UNIQUE or an AT MOST is broken in the tables of the
+-- rows are visible, and what earlier operations did. At the end a UNIQUE or an AT MOST may be broken in the tables of the
 -- ancestors and the update together.
 abbrev pub verdict_after : Rules → Effects → List TableRow → NodeData → ℕ → Effects → List Op → Verdict
 verdict_after rules past rows node number did [] =
-    if limits_hold (visible_rows rules (joined did past)) 0 rules.tables then verdict.Valid else verdict.Void 9 number
+    if limits_hold (visible_rows rules (joined did past)) 0 rules.tables then verdict.Valid else verdict.Void LIMIT_BROKEN number
 verdict_after rules past rows node number did (op.Insert table values ∷ ops) =
     elim (insert_reason rules (did.inserted ++ rows) (row_inserted node number table values)) [
       | Some reason ↦ verdict.Void reason number

@@ -1,12 +1,12 @@
 //! Laws of tables. Each function does nothing: its contract is a theorem for callers to cite. Lists of nodes stand newest
 //! first, and `ask` is whatever native checks mean.
 
-ghost use Rattle.std.specs.Prelude.{◌≡◌, ℕ, List, [], ◌∷◌, ◌++◌, Contains, reverse, IsTrue, false, filter, if◌then◌else◌};
+ghost use Rattle.std.specs.Prelude.{◌≡◌, ◌↔◌, ℕ, List, [], ◌∷◌, ◌++◌, Contains, reverse, IsTrue, false, filter, if◌then◌else◌};
 ghost use Rattle.std.specs.List.{list_all};
 ghost use Rattle.std.specs.List.Sorted.{IsPermutation};
 ghost use Rattle.update_model.specs.declared.row_name.RowName.{RowName};
 ghost use Rattle.update_model.specs.Entry.{Entry};
-ghost use Rattle.update_model.specs.Graph.{Follows};
+ghost use Rattle.update_model.specs.Graph.{Follows, IsAncestor};
 ghost use Rattle.update_model.specs.Node.{NodeData};
 ghost use Rattle.table_model.specs.declared.counterexample.Counterexample.{Counterexample};
 ghost use Rattle.table_model.specs.declared.shown_row.ShownRow.{ShownRow};
@@ -18,7 +18,8 @@ ghost use Rattle.table_model.specs.Invariants.{Claim, Declared, claim_holds, cla
 ghost use Rattle.table_model.specs.Nodes.{Agree, AreNodesOf, IsClosed, IsSameSet, union};
 ghost use Rattle.schema.specs.Sound.{AreTables};
 ghost use Rattle.table_model.specs.Tables.{AreTablesOf};
-ghost use Rattle.table_model.specs.Verdicts.{Judged, all_fit, ancestor_of, effects, effects_in, effects_of, is_unlimited, is_valid, joined, judge_next, judged, limits_hold, nothing, verdict_after, verdict_on};
+ghost use Rattle.table_model.specs.Verdicts.{Judged, ancestor_of, effects, effects_in, effects_of, is_unlimited, is_valid, joined, judge_next, judged, limits_hold, nothing, verdict_after, verdict_on};
+ghost use Rattle.schema.specs.Columns.{all_fit};
 ghost use Rattle.table_model.specs.Visible.{Effects, Rules, TableRow, is_visible, shows, table_of, visible_rows};
 
 /// A list that is closed in the order of arrival is closed newest first.
@@ -127,4 +128,11 @@ pub fn effects_one_by_one()
 pub fn verdict_goes_by_operations()
     ensures { (rules : Rules) (past : Effects) (node : NodeData)
         → verdict_on rules past node ≡ verdict_after rules past (visible_rows rules past) node 0 nothing node.ops }
+{}
+
+/// In a closed list the ancestors on which an update is judged are its ancestors in the graph.
+pub fn judged_ancestors_are_ancestors()
+    ensures { (rules : Rules) (graph : List Entry) (nodes : List NodeData) (a e : Entry) (j : Judged) → AreNodesOf graph nodes → Follows [] graph
+        → Contains graph a → Contains graph e → Contains (judged rules (reverse nodes)) j → e.id ≡ j.node.id
+        → IsTrue (j.is_ancestor a.id) ↔ IsAncestor graph a e }
 {}

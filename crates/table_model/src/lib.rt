@@ -13,10 +13,10 @@ mod counterexample;
 mod invariant;
 mod laws;
 mod node_list;
+pub mod reason;
 mod shown_row;
 mod shown_row_list;
-#[cfg(test)]
-mod table_tests;
+mod sorting;
 mod verdict;
 mod void_line;
 mod void_list;
@@ -25,7 +25,8 @@ pub use counterexample::Counterexample;
 pub use invariant::{Invariant, InvariantKind};
 pub use laws::{
     accepted_holds, accepted_is_confluent, arrivals_are_closed, confirmed_refutes,
-    effects_one_by_one, first_refused_is_confirmed, invariants_are_of_the_set, judged_one_by_one,
+    effects_one_by_one, first_refused_is_confirmed, invariants_are_of_the_set,
+    judged_ancestors_are_ancestors, judged_one_by_one,
     shown_rows_fit, tables_are_of_the_set, union_is_closed, union_is_of_both,
     unlimited_tables_hold, verdict_goes_by_operations, verdict_is_on_ancestors,
     verdicts_are_of_the_set, visible_is_shown, visible_rows_are_of_the_set,
@@ -33,6 +34,7 @@ pub use laws::{
 pub use node_list::NodeList;
 pub use shown_row::ShownRow;
 pub use shown_row_list::ShownRowList;
+pub use sorting::{sort_lines, sort_rows};
 pub use verdict::Verdict;
 pub use void_line::VoidLine;
 pub use void_list::VoidList;

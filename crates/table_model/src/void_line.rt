@@ -5,7 +5,7 @@ use update_model::UpdateId;
 pub struct VoidLine {
     /// The update's id.
     pub id: UpdateId,
-    /// The reason, from 1 to 9, as in [`crate::Verdict`].
+    /// The reason, as in [`crate::reason`].
     pub reason: u8,
     /// The number of the operation.
     pub operation: u16,

@@ -14,7 +14,9 @@ use Rattle.row_check.specs.Meaning.{value_at}
 use Rattle.schema.specs.declared.rules.MatchRule.{MatchRule}
 use Rattle.table_model.specs.declared.verdict.Verdict.TheVariants as verdict
 use Rattle.table_model.specs.Visible.{Effects, RowRef, Rules, TableRow, refs, same_row, table_of, visible_rows}
-use Rattle.table_model.specs.Verdicts.{all_fit, checks_hold, delete_reason, first_reason, insert_reason, joined, limits_hold, matches_among, nothing, row_inserted, same_author, stands_among, verdict_after}
+use Rattle.table_model.specs.Verdicts.{delete_reason, first_reason, insert_reason, joined, limits_hold, matches_among, nothing, row_inserted, same_author, stands_among, verdict_after}
+use Rattle.schema.specs.Checks.{checks_hold}
+use Rattle.schema.specs.Columns.{all_fit}
 use Rattle.validity.specs.declared.own_row.OwnRow.{OwnRow}
 use Rattle.validity.specs.Answers.{AreAnswers}
 use Rattle.validity.specs.Asked.{delete_asked, insert_asked, is_anothers, is_deletable, is_in, is_match, is_matched, match_asked, own_row, row_of, stands_asked, verdict_asked}

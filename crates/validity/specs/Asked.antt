@@ -16,7 +16,9 @@ use Rattle.schema.specs.declared.rules.MatchRule.{MatchRule}
 use Rattle.table_model.specs.declared.verdict.Verdict.{Verdict}
 use Rattle.table_model.specs.declared.verdict.Verdict.TheVariants as verdict
 use Rattle.table_model.specs.Visible.{Rules, TableRow, refs_in, same_row, table_of}
-use Rattle.table_model.specs.Verdicts.{all_fit, checks_hold, first_reason, named, same_author}
+use Rattle.table_model.specs.Verdicts.{first_reason, named, same_author}
+use Rattle.schema.specs.Checks.{checks_hold}
+use Rattle.schema.specs.Columns.{all_fit}
 use Rattle.validity.specs.declared.own_row.OwnRow.{OwnRow}
 
 -- a row of the update, as a row of a table
