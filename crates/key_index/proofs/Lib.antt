@@ -1,0 +1,2 @@
+mod PayloadLaws
+mod IndexLaws

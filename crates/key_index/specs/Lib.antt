@@ -1,0 +1,3 @@
+pub mod Used
+pub mod Kept
+pub mod Payload
