@@ -1,2 +1,4 @@
 mod PayloadLaws
 mod IndexLaws
+mod UsedLaws
+mod ReserveLaws

@@ -1,3 +1,5 @@
 pub mod Used
-pub mod Kept
 pub mod Payload
+pub mod KeyState
+pub mod Kept
+pub mod Reserving

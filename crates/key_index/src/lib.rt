@@ -3,6 +3,10 @@
 
 mod indices;
 mod material;
+mod reserve;
+mod store;
 
 pub use indices::Indices;
 pub use material::KeyMaterial;
+pub use reserve::Reserve;
+pub use store::KeyStore;

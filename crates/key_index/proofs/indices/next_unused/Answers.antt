@@ -1,4 +1,4 @@
-use Rattle.std.proofs.Common.{arith, ◌∙◌}
+use Rattle.std.proofs.Common.{arith, ◌∙◌, true, false}
 use Rattle.std.proofs.lemmas.List.{get_or_default}
 use Rattle.key_index.proofs.IndexLaws.{least_is}
 use Rattle.key_index.proofs.indices.next_unused.Goals as goal
