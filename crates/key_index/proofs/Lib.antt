@@ -2,3 +2,4 @@ mod PayloadLaws
 mod IndexLaws
 mod UsedLaws
 mod ReserveLaws
+mod OpenLaws

@@ -24,3 +24,26 @@ pub record KeyState : Type 0 where
 -- A store over two disks.
 abbrev pub store_of : {D : Type 0} → (D → DiskState) → (D → ℕ) → D → D → SecretData → List Bool → KeyState
 store_of state faults key used secret taken = record { parts = parts_of state faults key used; secret = secret; taken = taken }
+
+-- Both disks tell what they have.
+abbrev pub AreTold : KeyParts → Type 0
+AreTold parts = IsTrue parts.key.tells × IsTrue parts.used.tells
+
+-- Nothing was written or cut on either disk since its last sync, or its handing out.
+pub record AreSettled (parts : KeyParts) : Type 0 where
+  pub key_settled : IsTrue parts.key.tells → IsSettled parts.key
+  pub used_settled : IsTrue parts.used.tells → IsSettled parts.used
+
+-- Neither count of faults has fallen.
+pub record AreLater (old new : KeyParts) : Type 0 where
+  pub key_later : old.key_faults ≤ new.key_faults
+  pub used_later : old.used_faults ≤ new.used_faults
+
+-- One of the counts of faults rose.
+abbrev pub OneRose : KeyParts → KeyParts → Type 0
+OneRose old new = Rose old.key_faults new.key_faults ⊎ Rose old.used_faults new.used_faults
+
+-- Nothing was written or cut.
+pub record AreSame (old new : KeyParts) : Type 0 where
+  pub key_same : new.key ≡ old.key
+  pub used_same : new.used ≡ old.used

@@ -3,3 +3,6 @@ pub mod Payload
 pub mod KeyState
 pub mod Kept
 pub mod Reserving
+pub mod Opening
+pub mod Creating
+pub mod Faults

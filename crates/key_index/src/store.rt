@@ -1,11 +1,13 @@
-ghost use Rattle.std.specs.Prelude.{◌≡◌, not, count_by, length, MatchResult};
+ghost use Rattle.std.specs.Prelude.{◌≡◌, not, count_by, length, IfOk, OnOk, OnErr};
 ghost use Rattle.update_model.specs.Form.{IsKnownKey, signature_length};
 ghost use Rattle.lms_tree.specs.Signature.{Signed};
 ghost use Rattle.lms_tree.specs.SecretKey.{public_key, signature_by};
-ghost use Rattle.key_index.specs.KeyState.{parts_of};
+ghost use Rattle.key_index.specs.KeyState.{parts_of, store_of};
+ghost use Rattle.key_index.specs.Kept.{IsStore};
 ghost use Rattle.key_index.specs.Reserving.{Reserves};
 
 use crate::indices::Indices;
+use crate::opened::Opened;
 use crate::reserve::Reserve;
 use bec_disk::{Disk, write_synced};
 use lms_tree::Secret;
@@ -38,6 +40,19 @@ impl<D: Disk> Model for KeyStore<D> {
 }
 
 impl<D: Disk> KeyStore<D> {
+    /// The store of a key over its two disks.
+    pub(crate) fn over(key: D, used: D, opened: Opened) -> KeyStore<D>
+        requires { IsStore (D.state used) opened.secret opened.indices }
+        ensures { result ≡ store_of D.state D.faults key used opened.secret opened.indices }
+    {
+        KeyStore {
+            key,
+            used,
+            secret: opened.secret,
+            indices: opened.indices,
+        }
+    }
+
     /// The public key.
     pub fn public(&self) -> AuthorKey
         ensures value { result ≡ public_key self.now.secret }
@@ -76,6 +91,22 @@ impl<D: Disk> KeyStore<D> {
             return Err(Reserve::Spent);
         };
         write_synced(&mut self.used, u64::from(index), &[1])?;
+        Ok(index)
+    }
+
+    /// Reserves an index, writes its leaf's signature of `msg` over `out`, and answers the index. `out`
+    /// has the length that `update_model::signature_len` gives for the public key, and `c` are the 32
+    /// random bytes that the message is digested behind. After a refusal `out` is as it was. It takes no
+    /// memory.
+    pub fn sign(&mut self, c: &[u8; 32], msg: &[u8], out: &mut [u8]) -> Result<u32, Reserve>
+        requires { length out.old ≡ signature_length (public_key self.old.secret) }
+        ensures reserves { Reserves self.old result self.new }
+        ensures made { IfOk result (λ index. out.new ≡ signature_by self.old.secret index c.now msg.now) }
+        ensures signed { OnOk result (Signed (public_key self.old.secret) msg.now out.new) }
+        ensures untouched { OnErr result (out.new ≡ out.old) }
+    {
+        let index = self.reserve()?;
+        self.secret.sign_at(index, c, msg, out);
         Ok(index)
     }
 }
