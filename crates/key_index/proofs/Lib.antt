@@ -3,3 +3,4 @@ mod IndexLaws
 mod UsedLaws
 mod ReserveLaws
 mod OpenLaws
+mod CreateLaws

@@ -1,5 +1,5 @@
 -- What creating a key answers and leaves.
-use Rattle.std.specs.Prelude.{◌≡◌, ◌≢◌, ◌⊎◌, ℕ, false, IsTrue, List, replicate}
+use Rattle.std.specs.Prelude.{◌≡◌, ◌≢◌, ◌⊎◌, ℕ, false, IsTrue, List, Result, OnOk, OnErr, replicate}
 use Rattle.rand_core.specs.Stream.{Stream, fill_bytes}
 use Rattle.bec_disk.specs.Disk.{DiskState, IsSameDisk, IsSettled, LeavesOnly}
 use Rattle.bec_disk.specs.Gated.{IsOldOrNew, gated_of, whole_of}
@@ -26,6 +26,16 @@ after_draw random = (fill_bytes 32 (fill_bytes 16 random).1).1
 pub record IsOnDisk (bytes : List ℕ) (disk : DiskState) : Type 0 where
   pub seen : disk.seen ≡ bytes
   pub settled : IsSettled disk
+
+-- Writing this payload as the part Key, after n bytes that are 0 as the part Used.
+pub record WritesParts {T E : Type 0} (payload : List ℕ) (n : ℕ) (old : KeyParts) (result : Result T E) (new : KeyParts) : Type 0 where
+  pub any_moment : LeavesOnly old.key new.key (IsOldOrNew old.key.seen payload)
+  pub order : IsTrue old.used.tells → (new.key ≡ old.key) ⊎ IsOnDisk (none_used n) new.used
+  pub used_disk : IsSameDisk old.used new.used
+  pub key : IsTrue old.key.tells → OnOk result (IsOnDisk (whole_of payload) new.key)
+  pub used : IsTrue old.used.tells → OnOk result (IsOnDisk (none_used n) new.used)
+  pub later : AreLater old new
+  pub failed : OnErr result (OneRose old new)
 
 -- Creating this key, whatever it answers. Where the part Key is there, nothing is written. A crash at any moment leaves Key standing for
 -- what it stood for, or absent, or with this key. Key is left alone until each byte of the part Used is 0 on the disk.

@@ -81,3 +81,14 @@ impl From<DiskError> for CreateKeyKind {
         }
     }
 }
+
+impl From<bec_disk::DiskFault> for CreateKeyKind {
+    ghost use Rattle.std.specs.Prelude.{◌≡◌};
+    ghost use Rattle.key_index.specs.declared.faults.CreateKeyKind.TheVariants.{DiskFault};
+
+    ghost from_gives = { λ _ kind. kind ≡ DiskFault };
+
+    fn from(_fault: bec_disk::DiskFault) -> CreateKeyKind {
+        CreateKeyKind::DiskFault
+    }
+}

@@ -1,6 +1,7 @@
 //! One-time keys whose use outlives the program.
 #![tactic(auto)]
 
+mod create;
 mod faults;
 mod indices;
 mod material;

@@ -1,10 +1,12 @@
 ghost use Rattle.std.specs.Prelude.{◌≡◌, IfOk, MatchOption};
 ghost use Rattle.lms_tree.specs.SecretKey.{SecretData};
+ghost use Rattle.key_index.specs.Creating.{drawn_key, after_draw};
 ghost use Rattle.key_index.specs.Payload.{IsPayload, payload_of};
 
 use bec_bytes::Cursor;
 use lm_ots::OtsType;
 use lms_tree::{LmsType, Secret, make_secret};
+use rand_core::Rng;
 use std::alloc::{AllocError, Global};
 use std::marker::Model;
 
@@ -29,6 +31,23 @@ impl Model for KeyMaterial {
 }
 
 impl KeyMaterial {
+    /// Of these types, with the next 16 bytes of `random` for I and the 32 bytes after them for SEED.
+    pub fn draw<R: Rng>(lms: LmsType, ots: OtsType, random: &mut R) -> KeyMaterial
+        ensures value { result ≡ drawn_key lms ots (R.stream random.old) }
+        ensures left { R.stream random.new ≡ after_draw (R.stream random.old) }
+    {
+        let mut ident = [0; 16];
+        random.fill_bytes(&mut ident);
+        let mut start = [0; 32];
+        random.fill_bytes(&mut start);
+        KeyMaterial {
+            lms,
+            ots,
+            ident,
+            start,
+        }
+    }
+
     /// The payload that keeps it in the part Key.
     pub fn payload(&self, alloc: Global) -> Result<Vec<u8>, AllocError>
         ensures { IfOk result (λ payload. IsPayload payload.items self.now) }
