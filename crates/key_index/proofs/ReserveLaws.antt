@@ -82,6 +82,7 @@ reserve_answers old new index tried seen settled = record {
       used old.parts.used.seen (tried.reads tells)
       (ap (λ (k : ℕ). get_or old.parts.used.seen k 0) (sym same) ∙ (free_then old new index tried tells old.parts.used.seen (tried.reads tells)).zero_byte);
   kept = others_kept old new index tried;
+  disk = tried.tries.only.disk;
   later = tried.later;
   failed = λ is. absurd cc;
 }
@@ -94,6 +95,7 @@ reserve_fails old new index tried rose = record {
   reserved = λ tells. tt;
   not_again = λ tells q used is. cc;
   kept = others_kept old new index tried;
+  disk = tried.tries.only.disk;
   later = tried.later;
   failed = λ is. rose;
 }

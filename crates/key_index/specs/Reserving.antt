@@ -1,7 +1,7 @@
 -- What a reservation of an index answers and leaves.
 use Rattle.std.specs.Prelude.{◌≡◌, ◌≢◌, ℕ, ◌+◌, ◌≤◌, true, IsTrue, IsNone, IfOk, IsErrOf, MatchOption, Result, Ok, Err, Some, ◌↔◌, slice_set}
 use Rattle.bec_bytes.specs.Causes.{Rose}
-use Rattle.bec_disk.specs.Disk.{DiskState, EveryImage, IsSettled, LeavesOnly}
+use Rattle.bec_disk.specs.Disk.{DiskState, EveryImage, IsSameDisk, IsSettled, LeavesOnly}
 use Rattle.bec_disk.specs.Images.{IsTornFrom}
 use Rattle.key_index.specs.Used.{IsUsed, IsUnused, least_unused}
 use Rattle.key_index.specs.KeyState.{KeyState}
@@ -32,5 +32,6 @@ pub record Reserves (old : KeyState) (result : Result ℕ Reserve) (new : KeySta
   pub reserved : IsTrue old.parts.used.tells → IfOk result (λ index. IsReserved old.parts.used index new.parts.used)
   pub not_again : IsTrue old.parts.used.tells → (index : ℕ) → EveryImage old.parts.used.now (IsUsed index) → result ≢ Ok index
   pub kept : (index : ℕ) → (IsTrue old.parts.used.tells → EveryImage old.parts.used.now (IsUsed index)) → LeavesOnly old.parts.used new.parts.used (IsUsed index)
+  pub disk : IsSameDisk old.parts.used new.parts.used
   pub later : old.parts.used_faults ≤ new.parts.used_faults
   pub failed : IsErrOf result DiskFault → Rose old.parts.used_faults new.parts.used_faults
