@@ -1,0 +1,2 @@
+pub mod Logset
+pub mod Members
