@@ -8,10 +8,10 @@ use Rattle.update_model.specs.Graph.{IsClosed, is_within}
 use Rattle.update_model.specs.Rule.{RuleData}
 use Rattle.update_model.proofs.Closed.{Follows-front}
 use Rattle.update_codec.specs.Parts.{entry_of}
-use Rattle.update_codec.specs.Stream.{framed, stream_of}
+use Rattle.bec_bytes.specs.Framed.{framed, stream_of}
 use Rattle.update_check.specs.Signed.{IsChecked}
-use Rattle.update_stream.proofs.Frames.{framed_some, stream_of-nil}
-use Rattle.update_stream.proofs.Once.{Short, GoesOn, lines_up}
+use Rattle.bec_bytes.proofs.Frames.{framed_some}
+use Rattle.update_log.proofs.Fronts.{Short, GoesOn, lines_up}
 use Rattle.update_log.specs.Members.{AreMembers}
 use Rattle.update_log.specs.Logset.{BeginsWith, IsLogset}
 

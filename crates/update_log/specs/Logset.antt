@@ -1,7 +1,7 @@
 -- The list that bytes stand for.
 use Rattle.std.specs.Prelude.{◌≡◌, ℕ, ◌≤◌, List, ◌++◌, length}
 use Rattle.update_model.specs.Rule.{RuleData}
-use Rattle.update_codec.specs.Stream.{stream_of}
+use Rattle.bec_bytes.specs.Framed.{stream_of}
 use Rattle.update_log.specs.Members.{AreMembers}
 
 -- The bytes are these, and then others.

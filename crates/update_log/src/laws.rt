@@ -2,7 +2,7 @@
 
 ghost use Rattle.std.specs.Prelude.{◌≡◌, ℕ, ◌++◌, List};
 ghost use Rattle.update_model.specs.Rule.{RuleData};
-ghost use Rattle.update_codec.specs.Stream.{stream_of};
+ghost use Rattle.bec_bytes.specs.Framed.{stream_of};
 ghost use Rattle.update_log.specs.Logset.{BeginsWith, IsLogset};
 ghost use Rattle.update_log.specs.Members.{AreMembers};
 
