@@ -1,2 +1,4 @@
+pub mod Log
 pub mod Logset
 pub mod Members
+pub mod Reading
