@@ -1,2 +1,3 @@
 mod Fronts
 pub mod Logsets
+mod Pieces

@@ -8,7 +8,6 @@ ghost use Rattle.update_log.specs.Reading.{FindsRecord, IsOver, count_left, left
 use bec_disk::{Disk, DiskError, DiskFault};
 use byteorder::{BigEndian, ByteOrder};
 use std::alloc::{AllocError, Global};
-use std::cmp::min;
 use std::marker::Model;
 use update_codec::UPDATE_LIMIT;
 
@@ -112,7 +111,7 @@ impl PieceReader {
         self.piece.copy_within(self.from..self.to, 0);
         self.to -= self.from;
         self.from = 0;
-        let more = min((self.piece.len() - self.to) as u64, self.unread);
+        let more = self.unread.min((self.piece.len() - self.to) as u64);
         let end = self.to + more as usize;
         disk.read(self.at, &mut self.piece[self.to..end])?;
         self.to = end;
@@ -129,7 +128,7 @@ impl PieceReader {
     {
         let mut prefix = [0; 4];
         prefix.copy_from_slice(&self.piece[self.from..self.from + 4]);
-        BigEndian::read_u32(&prefix) as usize
+        length_of(&prefix) as usize
     }
 
     /// Takes the bytes of a record of this length, behind which four bytes are passed over.
@@ -144,4 +143,11 @@ impl PieceReader {
         self.from = start + size;
         Ok(bytes)
     }
+}
+
+/// The number that four bytes spell, the high byte first.
+fn length_of(prefix: &[u8; 4]) -> u32
+    ensures { to_be_bytes w32 result ≡ prefix.now }
+{
+    BigEndian::read_u32(prefix)
 }
