@@ -1,5 +1,6 @@
 -- Pieces behind their lengths, at the front of bytes.
-use Rattle.std.proofs.Common.{◌≡◌, ℕ, ◌<◌, ◌+◌, ◌^◌, List, [], ◌∷◌, ◌++◌, length, refl, ap, sym, ◌∙◌, append-nil, length-append, arith}
+use Rattle.std.proofs.Common.{◌≡◌, ℕ, ◌<◌, ◌+◌, ◌^◌, List, [], ◌∷◌, ◌++◌, length, refl, ap, sym, ◌∙◌, append-nil, append_assoc, length-append, ◌⊎◌, inl, inr, subst, All, arith}
+use Rattle.std.proofs.lemmas.List.Elements.{All-head, All-tail}
 use Rattle.std.specs.List.{flat_map}
 use Rattle.std.specs.Int.{w32, to_be_bytes}
 use Rattle.std.proofs.lemmas.List.Concat.{flat_map-append}
@@ -73,6 +74,11 @@ cut_or_held limit bytes piece rest fits (in_length some few) h = let all = lengt
 cut_or_held limit bytes piece rest fits (in_piece four short less) h =
     let all = length-held limit bytes piece rest h in let at = length_at-held limit bytes piece rest fits h in absurd (omega (arith, all, at, less))
 
+-- no bytes are cut where there are none
+pub no_cut : {limit : ℕ} → IsCut limit [] → ⊥
+no_cut (in_length some few) = absurd (omega (arith, some))
+no_cut (in_piece four short less) = absurd (omega (arith, four))
+
 pub long_or_held : (limit : ℕ) (bytes piece rest : List ℕ) → limit < 2 ^ 32 → IsTooLong limit bytes → HoldsPiece limit bytes piece rest → ⊥
 long_or_held limit bytes piece rest fits long h =
     let at = length_at-held limit bytes piece rest fits h in let short = h.short in let over = long.over in absurd (omega (arith, at, short, over))
@@ -80,3 +86,43 @@ long_or_held limit bytes piece rest fits long h =
 pub cut_or_long : (limit : ℕ) (bytes : List ℕ) → IsCut limit bytes → IsTooLong limit bytes → ⊥
 cut_or_long limit bytes (in_length some few) long = let four = long.whole in absurd (omega (arith, few, four))
 cut_or_long limit bytes (in_piece four short less) long = let over = long.over in absurd (omega (arith, short, over))
+
+-- ---- two lists of pieces at the front of the same bytes
+
+abbrev pub Fit : List (List ℕ) → Type 0
+Fit pieces = All (λ piece. length piece < 2 ^ 32) pieces
+
+-- After these pieces the others go on with one that stands at the front of the rest.
+pub record GoesOn (pieces others : List (List ℕ)) (rest : List ℕ) : Type 0 where
+  pub next : List ℕ
+  pub more : List (List ℕ)
+  pub tail : List ℕ
+  pub parts : others ≡ pieces ++ next ∷ more
+  pub begins : rest ≡ framed next ++ tail
+
+one_more : (x : List ℕ) (xs ys : List (List ℕ)) (rest : List ℕ) → GoesOn xs ys rest → GoesOn (x ∷ xs) (x ∷ ys) rest
+one_more x xs ys rest g = record { next = g.next; more = g.more; tail = g.tail; parts = ap (λ (t : List (List ℕ)). x ∷ t) g.parts; begins = g.begins }
+
+-- one of the lists goes on where the other ends, or they are equal
+pub lines_up : (xs ys : List (List ℕ)) (rest other : List ℕ) → Fit xs → Fit ys → stream_of xs ++ rest ≡ stream_of ys ++ other
+    → GoesOn xs ys rest ⊎ (GoesOn ys xs other ⊎ ((xs ≡ ys) × (rest ≡ other)))
+lines_up [] [] rest other s t e = inr (inr (refl, rw stream_of-nil at e))
+lines_up [] (y ∷ ys) rest other s t e =
+    let begins : rest ≡ framed y ++ (stream_of ys ++ other) = rw stream_of-nil at (e ∙ ap (λ (w : List ℕ). w ++ other) (stream_of-cons y ys) ∙ append_assoc (framed y) (stream_of ys) other) in
+    inl (record { next = y; more = ys; tail = stream_of ys ++ other; parts = refl; begins = begins })
+lines_up (x ∷ xs) [] rest other s t e =
+    let begins : other ≡ framed x ++ (stream_of xs ++ rest) = rw stream_of-nil at (sym e ∙ ap (λ (w : List ℕ). w ++ rest) (stream_of-cons x xs) ∙ append_assoc (framed x) (stream_of xs) rest) in
+    inr (inl (record { next = x; more = xs; tail = stream_of xs ++ rest; parts = refl; begins = begins }))
+lines_up (x ∷ xs) (y ∷ ys) rest other s t e =
+    let begins : framed x ++ (stream_of xs ++ rest) ≡ framed y ++ (stream_of ys ++ other) =
+    sym (append_assoc (framed x) (stream_of xs) rest) ∙ ap (λ (w : List ℕ). w ++ rest) (sym (stream_of-cons x xs)) ∙ e
+    ∙ ap (λ (w : List ℕ). w ++ other) (stream_of-cons y ys) ∙ append_assoc (framed y) (stream_of ys) other in
+    let P : List ℕ → Type 0 = λ piece. length piece < 2 ^ 32 in
+    let first = one_front x y (stream_of xs ++ rest) (stream_of ys ++ other) (All-head P x xs s) (All-head P y ys t) begins in
+    elim (lines_up xs ys rest other (All-tail P x xs s) (All-tail P y ys t) first.1) [
+      | inl g ↦ inl (let Q : List ℕ → Type 0 = λ w. GoesOn (x ∷ xs) (w ∷ ys) rest in subst Q first.0 (one_more x xs ys rest g))
+      | inr more ↦ elim more [
+        | inl g ↦ inr (inl (let Q : List ℕ → Type 0 = λ w. GoesOn (w ∷ ys) (x ∷ xs) other in subst Q first.0 (one_more x ys xs other g)))
+        | inr same ↦ inr (inr (let heads = first.0 in let tails = same.0 in cc, same.1))
+      ]
+    ]

@@ -46,8 +46,19 @@ StandsFirst limit bytes rest (Whole piece) = HoldsPiece limit bytes piece.items 
 abbrev pub span_of : ℕ → List ℕ → ℕ
 span_of limit bytes = if nat_le (length_at bytes) limit then 4 + length_at bytes else 4
 
+-- no more was read than the piece that stands at the front, and this is left
+abbrev pub StaysWithin : ℕ → List ℕ → List ℕ → Type 0
+StaysWithin limit bytes rest = (n : ℕ) × (n ≤ span_of limit bytes) × (rest ≡ drop n bytes)
+
 -- What is left where the reading failed: after a fault of the source, what stands behind a front of the piece; for want of
 -- memory, what stands behind its length.
 abbrev pub IsLeft : ℕ → List ℕ → List ℕ → ReadError → Type 0
-IsLeft limit bytes rest Failed = (n : ℕ) × (n ≤ span_of limit bytes) × (rest ≡ drop n bytes)
+IsLeft limit bytes rest Failed = StaysWithin limit bytes rest
 IsLeft limit bytes rest Memory = (4 ≤ length bytes) × (rest ≡ drop 4 bytes)
+
+-- what came of a piece is within the limit
+abbrev pub IsShort : ℕ → Framed → Type 0
+IsShort limit End = Unit {0}
+IsShort limit (Cut came) = came ≤ limit
+IsShort limit TooLong = Unit {0}
+IsShort limit (Whole piece) = length piece.items ≤ limit

@@ -1,7 +1,7 @@
 ghost use Rattle.std.specs.Prelude.{◌≡◌, ◌≤◌, IfOk, IfErr};
 ghost use Rattle.std.specs.Int.{w32, to_be_bytes};
 ghost use Rattle.bec_bytes.specs.Causes.{Rose};
-ghost use Rattle.bec_bytes.specs.Framed.{IsLeft, StandsFirst};
+ghost use Rattle.bec_bytes.specs.Framed.{IsLeft, IsShort, StandsFirst};
 ghost use Rattle.bec_bytes.specs.Moved.{IfTold};
 
 use crate::moving::read_full;
@@ -33,6 +33,7 @@ pub fn read_framed<S: Source>(
     limit: usize,
 ) -> Result<Framed, ReadError>
     ensures found { IfOk result (λ found. IfTold (S.left source.old) (S.left source.new) (λ bytes rest. StandsFirst limit bytes rest found)) }
+    ensures short { IfOk result (λ found. IsShort limit found) }
     ensures left { IfErr result (λ error. IfTold (S.left source.old) (S.left source.new) (λ bytes rest. IsLeft limit bytes rest error)) }
     ensures later { S.faults source.old ≤ S.faults source.new }
     ensures failed { IfErr result (λ error. error ≡ ReadError.Failed → Rose (S.faults source.old) (S.faults source.new)) }
