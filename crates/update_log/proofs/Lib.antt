@@ -1,3 +1,3 @@
-mod Fronts
 pub mod Logsets
 mod Pieces
+mod Scanning

@@ -1,45 +1,21 @@
 -- What bytes stand for, and what begins with it.
-use Rattle.std.proofs.Common.{◌≡◌, ◌⊎◌, inl, inr, ℕ, true, ◌≤◌, ◌<◌, ◌+◌, List, [], ◌∷◌, ◌++◌, length, map, refl, sym, ap, subst, ◌∙◌, append-nil, append_assoc, length-append, All, arith}
-use Rattle.std.proofs.lemmas.List.{map-append, get_or_append_left}
-use Rattle.std.proofs.lemmas.List.Sums.{sum_by-append}
-use Rattle.std.proofs.lemmas.Bool.Decides.{nat_tests}
-use Rattle.update_model.specs.Entry.{Entry}
-use Rattle.update_model.specs.Graph.{IsClosed, is_within}
-use Rattle.update_model.specs.Rule.{RuleData}
-use Rattle.update_model.proofs.Closed.{Follows-front}
-use Rattle.update_codec.specs.Parts.{entry_of}
+use Rattle.std.proofs.Common.{◌≡◌, ◌⊎◌, inl, inr, ℕ, ◌≤◌, ◌+◌, List, [], ◌∷◌, ◌++◌, length, refl, sym, ap, subst, ◌∙◌, append-nil, append_assoc, length-append, arith}
 use Rattle.bec_bytes.specs.Framed.{framed, stream_of}
-use Rattle.update_check.specs.Signed.{IsChecked}
-use Rattle.bec_bytes.proofs.Frames.{framed_some}
-use Rattle.update_log.proofs.Fronts.{Short, GoesOn, lines_up}
-use Rattle.update_log.specs.Members.{AreMembers}
+use Rattle.bec_bytes.proofs.Frames.{framed_some, Fit, GoesOn, lines_up}
+use Rattle.update_model.specs.Rule.{RuleData}
+use Rattle.update_check.specs.Members.{AreMembers}
+use Rattle.update_check.proofs.Fronts.{members_front}
 use Rattle.update_log.specs.Logset.{BeginsWith, IsLogset}
 
-members_short : (rule : RuleData) (members : List (List ℕ)) → AreMembers rule members → Short members
-members_short rule members are = λ k e low. (are.checked k e low).1.spells.short
-
-is_within-front : (front back : List Entry) → is_within (front ++ back) ≡ true → is_within front ≡ true
-is_within-front front back e = let lengths = length-append front back in let bytes = sum_by-append (λ m. length m.bytes) front back in grind (arith, nat_tests)
-
-All-front : {X : Type 0} (P : X → Type 0) (xs ys : List X) → All P (xs ++ ys) → All P xs
-All-front P xs ys all k d low = subst P (get_or_append_left xs ys d k low) (all k d (omega (arith, length-append xs ys)))
-
--- a front of members
-pub members_front : (rule : RuleData) (xs ys : List (List ℕ)) → AreMembers rule (xs ++ ys) → AreMembers rule xs
-members_front rule xs ys are =
-    let parts = map-append entry_of xs ys in
-    record {
-      checked = All-front (IsChecked rule) xs ys are.checked;
-      closed = Follows-front [] (map entry_of xs) (map entry_of ys) (subst IsClosed parts are.closed);
-      within = is_within-front (map entry_of xs) (map entry_of ys) (ap is_within (sym parts) ∙ are.within);
-    }
+members_fit : (rule : RuleData) (members : List (List ℕ)) → AreMembers rule members → Fit members
+members_fit rule members are = λ k e low. let short = (are.checked k e low).1.spells.short in omega (arith, short)
 
 -- the one list stands in front of the other, or goes on behind it
 begins_longer : (rule : RuleData) (before members : List (List ℕ)) (rest other : List ℕ) → AreMembers rule before → AreMembers rule members
     → stream_of before ++ rest ≡ stream_of members ++ other
     → ((added : List (List ℕ)) × (members ≡ before ++ added)) ⊎ GoesOn members before other
 begins_longer rule before members rest other are taken e =
-    elim (lines_up before members rest other (members_short rule before are) (members_short rule members taken) e) [
+    elim (lines_up before members rest other (members_fit rule before are) (members_fit rule members taken) e) [
       | inl g ↦ inl (g.next ∷ g.more, g.parts)
       | inr others ↦ elim others [
         | inl g ↦ inr g
@@ -75,7 +51,7 @@ stop_is_longest rule bytes members rest are parts stop = record { taken = are; b
   where
     longest : (others : List (List ℕ)) → AreMembers rule others → BeginsWith (stream_of others) bytes → length others ≤ length members
     longest others taken begins =
-        elim (lines_up members others rest begins.0 (members_short rule members are) (members_short rule others taken) (sym parts ∙ begins.1)) [
+        elim (lines_up members others rest begins.0 (members_fit rule members are) (members_fit rule others taken) (sym parts ∙ begins.1)) [
           | inl g ↦ absurd (stop g.next g.tail g.begins (members_front rule (members ++ g.next ∷ []) g.more (subst (AreMembers rule) (g.parts ∙ sym (append_assoc members (g.next ∷ []) g.more)) taken)))
           | inr other ↦ elim other [
             | inl g ↦ let size = ap length g.parts in omega (arith, length-append others (g.next ∷ g.more))

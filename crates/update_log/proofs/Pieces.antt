@@ -7,6 +7,7 @@ use Rattle.std.proofs.lemmas.Nat.{from_be_bytes-to_be_bytes_4}
 use Rattle.std.proofs.Math.Seq.{paste}
 use Rattle.std.specs.Int.{w32, to_be_bytes, from_be_bytes}
 use borrow.Rule.Slice.PartMut.{put_mid}
+use Rattle.update_codec.specs.declared.limits.TheConstants.{UPDATE_LIMIT}
 use Rattle.bec_bytes.specs.Framed.{framed, length_at, HoldsPiece}
 use Rattle.bec_bytes.proofs.Frames.{length-held, length_at-held}
 use Rattle.update_log.specs.Reading.{ReaderState, left_of, count_left}
@@ -53,19 +54,19 @@ pub length-left : (reader : ReaderState) (seen : List ℕ) → reader.at + reade
 length-left reader seen over = omega (arith, length-append reader.ahead (drop reader.at seen), length-drop reader.at seen, over)
 
 -- fewer than four bytes begin with no record
-pub too_few : (reader : ReaderState) (seen r rest : List ℕ) → reader.at + reader.unread ≡ length seen → count_left reader < 4 → HoldsPiece 262144 (left_of reader seen) r rest → ⊥
-too_few reader seen r rest over few h = omega (arith, few, length-left reader seen over, length-held 262144 (left_of reader seen) r rest h)
+pub too_few : (reader : ReaderState) (seen r rest : List ℕ) → reader.at + reader.unread ≡ length seen → count_left reader < 4 → HoldsPiece UPDATE_LIMIT (left_of reader seen) r rest → ⊥
+too_few reader seen r rest over few h = omega (arith, few, length-left reader seen over, length-held UPDATE_LIMIT (left_of reader seen) r rest h)
 
 first_four : (reader : ReaderState) (seen : List ℕ) → 4 ≤ length reader.ahead → take 4 (left_of reader seen) ≡ take 4 reader.ahead
 first_four reader seen ready = take-append-le 4 reader.ahead (drop reader.at seen) ready
 
 -- a record that is too long, or longer than what is left
 pub too_long : (old reader : ReaderState) (seen r rest : List ℕ) (n : ℕ) → n < 2 ^ 32 → reader.at + reader.unread ≡ length seen → left_of reader seen ≡ left_of old seen → 4 ≤ length reader.ahead
-    → to_be_bytes w32 n ≡ take 4 reader.ahead → (262144 < n) ⊎ (count_left reader < 4 + n) → HoldsPiece 262144 (left_of old seen) r rest → ⊥
+    → to_be_bytes w32 n ≡ take 4 reader.ahead → (UPDATE_LIMIT < n) ⊎ (count_left reader < 4 + n) → HoldsPiece UPDATE_LIMIT (left_of old seen) r rest → ⊥
 too_long old reader seen r rest n fits over same ready prefix out h =
     let size : n ≡ length r = sym (from_be_bytes-to_be_bytes_4 n fits) ∙ ap (λ (w : List ℕ). from_be_bytes w32 w) (prefix ∙ sym (first_four reader seen ready) ∙ ap (take 4) same)
-    ∙ length_at-held 262144 (left_of old seen) r rest (omega arith) h in
-    let all = length-held 262144 (left_of old seen) r rest h in
+    ∙ length_at-held UPDATE_LIMIT (left_of old seen) r rest (omega arith) h in
+    let all = length-held UPDATE_LIMIT (left_of old seen) r rest h in
     let left = sym (ap length same) ∙ length-left reader seen over in
     let short = h.short in
     elim out [
@@ -84,9 +85,9 @@ whole_record s body n head is size =
     ∙ sym (append_assoc (to_be_bytes w32 (length body)) body (drop (4 + n) s))
 
 -- the record that is taken
-pub whole : (old first ready new : ReaderState) (seen body : List ℕ) (n : ℕ) → n ≤ 262144 → left_of first seen ≡ left_of old seen → left_of ready seen ≡ left_of first seen
+pub whole : (old first ready new : ReaderState) (seen body : List ℕ) (n : ℕ) → n ≤ UPDATE_LIMIT → left_of first seen ≡ left_of old seen → left_of ready seen ≡ left_of first seen
     → 4 ≤ length first.ahead → 4 + n ≤ length ready.ahead → to_be_bytes w32 n ≡ take 4 first.ahead → body ≡ take n (drop 4 ready.ahead)
-    → new ≡ record { ahead = drop (4 + n) ready.ahead; at = ready.at; unread = ready.unread } → HoldsPiece 262144 (left_of old seen) body (left_of new seen)
+    → new ≡ record { ahead = drop (4 + n) ready.ahead; at = ready.at; unread = ready.unread } → HoldsPiece UPDATE_LIMIT (left_of old seen) body (left_of new seen)
 whole old first ready new seen body n short same again four all prefix is is_new =
     let size : length body ≡ n = ap length is ∙ omega (arith, length-take n (drop 4 ready.ahead), length-drop 4 ready.ahead) in
     let four_too : 4 ≤ length ready.ahead = omega arith in

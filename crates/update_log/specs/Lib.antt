@@ -1,4 +1,3 @@
 pub mod Log
 pub mod Logset
-pub mod Members
 pub mod Reading

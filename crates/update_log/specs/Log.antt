@@ -4,7 +4,7 @@ use Rattle.bec_bytes.specs.Framed.{stream_of}
 use Rattle.bec_disk.specs.Disk.{DiskState, EveryImage, IsSameDisk, IsSettled, LeavesOnly}
 use Rattle.update_model.specs.Rule.{RuleData}
 use Rattle.update_log.specs.Logset.{BeginsWith, IsLogset}
-use Rattle.update_log.specs.Members.{AreMembers}
+use Rattle.update_check.specs.Members.{AreMembers}
 
 -- A log: its disk and the disk's faults, how many bytes are acknowledged, how many were cut when it was opened, and whether
 -- other bytes may stand behind the acknowledged ones.

@@ -2,7 +2,7 @@
 use Rattle.std.specs.Prelude.{◌≡◌, ℕ, ◌≤◌, List, ◌++◌, length}
 use Rattle.update_model.specs.Rule.{RuleData}
 use Rattle.bec_bytes.specs.Framed.{stream_of}
-use Rattle.update_log.specs.Members.{AreMembers}
+use Rattle.update_check.specs.Members.{AreMembers}
 
 -- The bytes are these, and then others.
 abbrev pub BeginsWith : List ℕ → List ℕ → Type 0

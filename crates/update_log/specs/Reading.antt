@@ -5,7 +5,9 @@ use Rattle.std.specs.declared.alloc.Global.{Global}
 use Rattle.bec_bytes.specs.Framed.{HoldsPiece, framed, stream_of}
 use Rattle.bec_disk.specs.Disk.{DiskState}
 use Rattle.update_model.specs.Rule.{RuleData}
-use Rattle.update_log.specs.Members.{AreMembers}
+use Rattle.update_codec.specs.declared.limits.TheConstants.{UPDATE_LIMIT}
+use Rattle.update_check.specs.Members.{AreMembers}
+use Rattle.update_log.specs.declared.piece_reader.TheConstants.{PIECE}
 
 -- What was read of a disk and not yet taken, up to where it was read, and how many bytes stand behind that.
 pub record ReaderState : Type 0 where
@@ -27,7 +29,7 @@ IsOver reader disk = IsTrue disk.tells → reader.at + reader.unread ≡ length 
 
 -- The room for what is read, and what stands in it.
 pub record HasRoom (size from to at unread : ℕ) : Type 0 where
-  pub room : size ≡ 262148
+  pub room : size ≡ PIECE
   pub order : from ≤ to
   pub within : to ≤ size
   pub behind : to ≤ from + at
@@ -35,13 +37,13 @@ pub record HasRoom (size from to at unread : ℕ) : Type 0 where
 
 -- The record that stands at the front, which is taken; or none can be.
 abbrev pub FindsRecord : List ℕ → List ℕ → Option (Vec ℕ Global) → Type 0
-FindsRecord before after (Some r) = HoldsPiece 262144 before r.items after
-FindsRecord before after None = (r rest : List ℕ) → HoldsPiece 262144 before r rest → ⊥
+FindsRecord before after (Some r) = HoldsPiece UPDATE_LIMIT before r.items after
+FindsRecord before after None = (r rest : List ℕ) → HoldsPiece UPDATE_LIMIT before r rest → ⊥
 
 -- The member stands last, or it can't be taken.
 abbrev pub TakesOne : RuleData → List (List ℕ) → List ℕ → Bool → List (List ℕ) → Type 0
 TakesOne rule old r true new = (new ≡ old ++ r ∷ []) × AreMembers rule new
-TakesOne rule old r false new = AreMembers rule (old ++ r ∷ []) → ⊥
+TakesOne rule old r false new = (new ≡ old) × (AreMembers rule (old ++ r ∷ []) → ⊥)
 
 -- No record that stands here can be taken after these members.
 abbrev pub IsStop : RuleData → List (List ℕ) → List ℕ → Type 0

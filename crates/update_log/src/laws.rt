@@ -4,7 +4,7 @@ ghost use Rattle.std.specs.Prelude.{◌≡◌, ℕ, ◌++◌, List};
 ghost use Rattle.update_model.specs.Rule.{RuleData};
 ghost use Rattle.bec_bytes.specs.Framed.{stream_of};
 ghost use Rattle.update_log.specs.Logset.{BeginsWith, IsLogset};
-ghost use Rattle.update_log.specs.Members.{AreMembers};
+ghost use Rattle.update_check.specs.Members.{AreMembers};
 
 /// Bytes stand for one list.
 pub fn one_logset()

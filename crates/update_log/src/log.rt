@@ -1,4 +1,5 @@
 use crate::opening::{Opened, open_at};
+use crate::piece_reader::PIECE;
 use crate::writing::write_records;
 use bec_disk::{Disk, DiskError, DiskFault, cut_synced};
 use hash_graph::Graph;
@@ -23,12 +24,13 @@ pub struct Log<D: Disk> {
 impl<D: Disk> Model for Log<D> {
     ghost use Rattle.std.specs.Prelude.{◌≡◌, IsTrue, length};
     ghost use Rattle.update_log.specs.Log.{LogState, IsKept};
+    ghost use Rattle.update_log.specs.declared.piece_reader.TheConstants.{PIECE};
 
     ghost Value = { LogState };
 
     ghost view = { λ l. record { disk = D.state l.disk; faults = D.faults l.disk; end = l.end; dropped = l.dropped; is_unsure = l.is_unsure } };
 
-    ghost invariant = { λ l. (IsTrue (D.state l.disk).tells → IsKept l.end l.is_unsure (D.state l.disk)) × (length l.piece.items ≡ 262148) };
+    ghost invariant = { λ l. (IsTrue (D.state l.disk).tells → IsKept l.end l.is_unsure (D.state l.disk)) × (length l.piece.items ≡ PIECE) };
 }
 
 impl<D: Disk> Log<D> {
@@ -38,7 +40,7 @@ impl<D: Disk> Log<D> {
     ghost use Rattle.bec_disk.specs.Disk.{EveryImage, IsSettled, LeavesOnly};
     ghost use Rattle.update_log.specs.Log.{IsClean, IsLogOf, IsNextBatch, KeepsLogset, acknowledged};
     ghost use Rattle.update_log.specs.Logset.{BeginsWith, IsLogset};
-    ghost use Rattle.update_log.specs.Members.{AreMembers};
+    ghost use Rattle.update_check.specs.Members.{AreMembers};
 
     /// Opens a log on a disk that is settled, and answers it with the graph of its updates: those of the longest front of
     /// whole records that are a closed list under the rule. What stands behind them is cut.

@@ -1,15 +1,15 @@
 //! Which records of a disk are a closed list under a rule, and cutting what stands behind them.
 
-ghost use Rattle.std.specs.Prelude.{◌≡◌, ◌≤◌, ◌+◌, IsTrue, IfOk, IsErrOf, length};
+ghost use Rattle.std.specs.Prelude.{◌≡◌, ◌≤◌, ◌<◌, ◌+◌, ◌^◌, IsTrue, IfOk, IsErrOf, length};
 ghost use Rattle.bec_bytes.specs.Causes.{Rose};
 ghost use Rattle.bec_bytes.specs.Framed.{stream_of};
 ghost use Rattle.bec_disk.specs.Disk.{IsSettled};
 ghost use Rattle.update_log.specs.Log.{IsClean, KeepsLogset};
 ghost use Rattle.update_log.specs.Logset.{IsLogset};
-ghost use Rattle.update_log.specs.Members.{AreMembers};
+ghost use Rattle.update_check.specs.Members.{AreMembers};
 ghost use Rattle.update_log.specs.Reading.{IsOver, StopsAt, TakesOne, count_left, left_of};
 
-use crate::piece_reader::PieceReader;
+use crate::piece_reader::{PIECE, PieceReader};
 use bec_disk::{Disk, DiskError, cut_synced};
 use hash_graph::{Added, Graph, Refusal};
 use std::alloc::{AllocError, Global};
@@ -37,7 +37,7 @@ pub fn open_at<D: Disk>(
     requires { IsTrue (D.state disk.old).tells → IsSettled (D.state disk.old) }
     ensures members { IfOk result (λ opened. AreMembers rule.now opened.graph) }
     ensures end { IfOk result (λ opened. opened.end ≡ length (stream_of opened.graph)) }
-    ensures room { IfOk result (λ opened. length opened.piece.items ≡ 262148) }
+    ensures room { IfOk result (λ opened. length opened.piece.items ≡ PIECE) }
     ensures list { IsTrue (D.state disk.old).tells → IfOk result (λ opened. IsLogset rule.now (D.state disk.old).seen opened.graph) }
     ensures seen { IsTrue (D.state disk.old).tells → IfOk result (λ opened. (D.state disk.new).seen ≡ stream_of opened.graph) }
     ensures settled { IsTrue (D.state disk.old).tells → IfOk result (λ opened. IsSettled (D.state disk.new)) }
@@ -69,7 +69,8 @@ fn scan<D: Disk>(
     rule: &DbRule,
     reader: &mut PieceReader,
 ) -> Result<(Graph<Checked>, u64), DiskError>
-    requires { IsOver reader.old (D.state disk.old) }
+    requires over { IsOver reader.old (D.state disk.old) }
+    requires fits { count_left reader.old < 2 ^ 64 }
     ensures members { IfOk result (λ found. AreMembers rule.now found.0) }
     ensures end { IfOk result (λ found. found.1 ≡ length (stream_of found.0)) }
     ensures within { IfOk result (λ found. found.1 ≤ count_left reader.old) }

@@ -54,7 +54,7 @@ impl PieceReader {
 
     /// Gives the room for a piece back.
     pub fn into_piece(self) -> Vec<u8>
-        ensures { length result.items ≡ 262148 }
+        ensures { length result.items ≡ PIECE }
     {
         let PieceReader { piece, .. } = self;
         piece
@@ -95,7 +95,7 @@ impl PieceReader {
 
     /// Reads on until this many bytes stand ready.
     fn read_ahead<D: Disk>(&mut self, disk: &mut D, count: usize) -> Result<(), DiskFault>
-        requires room { count ≤ 262148 }
+        requires room { count ≤ PIECE }
         requires there { count ≤ count_left self.old }
         requires over { IsOver self.old (D.state disk.old) }
         ensures ready { OnOk result (count ≤ length self.new.ahead) }

@@ -7,8 +7,10 @@ ghost use Rattle.bec_disk.specs.Disk.{LeavesOnly};
 ghost use Rattle.update_log.specs.Log.{IsClean};
 ghost use Rattle.update_log.specs.Logset.{BeginsWith};
 
+use crate::piece_reader::PIECE;
 use bec_disk::{Disk, DiskFault};
 use update_check::Checked;
+use update_codec::UPDATE_LIMIT;
 use update_model::Member;
 
 /// Writes the records of a batch from the end of the disk on, and answers where they end. They are gathered in `piece`.
@@ -18,8 +20,8 @@ pub fn write_records<D: Disk>(
     start: u64,
     batch: &[Checked],
 ) -> Result<u64, DiskFault>
-    requires room { length piece.old ≡ 262148 }
-    requires short { All (λ r. length r ≤ 262144) batch.now }
+    requires room { length piece.old ≡ PIECE }
+    requires short { All (λ r. length r ≤ UPDATE_LIMIT) batch.now }
     requires fits { start + length (stream_of batch.now) < 2 ^ 64 }
     requires clean { IsTrue (D.state disk.old).tells → IsClean start (D.state disk.old) }
     ensures end { IfOk result (λ end. end ≡ start + length (stream_of batch.now)) }
@@ -46,7 +48,7 @@ pub fn write_records<D: Disk>(
 
 /// Puts a record behind the part of `piece` that is filled, and answers up to where it is filled then.
 fn put_framed(piece: &mut [u8], filled: usize, bytes: &[u8]) -> usize
-    requires short { length bytes.now ≤ 262144 }
+    requires short { length bytes.now ≤ UPDATE_LIMIT }
     requires room { filled + (4 + length bytes.now) ≤ length piece.old }
     ensures end { result ≡ filled + (4 + length bytes.now) }
     ensures put { take result piece.new ≡ take filled piece.old ++ framed bytes.now }

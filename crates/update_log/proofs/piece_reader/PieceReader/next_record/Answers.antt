@@ -1,5 +1,6 @@
 use Rattle.std.proofs.Common.{◌≡◌, ◌⊎◌, inl, inr, ◌<◌, ◌+◌, length, sym, subst, arith, IsTrue, ap, ◌∙◌}
 use Rattle.bec_disk.specs.Disk.{DiskState}
+use Rattle.update_codec.specs.declared.limits.TheConstants.{UPDATE_LIMIT}
 use Rattle.update_log.specs.Reading.{left_of, count_left}
 use Rattle.update_log.proofs.Pieces.{too_few, too_long, whole}
 use Rattle.update_log.proofs.piece_reader.PieceReader.next_record.Goals.{then-size-gt-UPDATE_LIMIT-via-then-size-gt-UPDATE_LIMIT, then-size-gt-UPDATE_LIMIT-via-else-size-gt-UPDATE_LIMIT+then-size-count_left}
@@ -18,7 +19,7 @@ returns-then-size-gt-UPDATE_LIMIT-clause-found g c tells r rest h =
     let told = subst (λ (s : DiskState). IsTrue s.tells) (sym same) tells in
     let over = c.in_ok-read_ahead.ensures.over told ∙ ap (λ (s : DiskState). length s.seen) same in
     let size = c.next_size-size.result in
-    let out : (262144 < size) ⊎ (count_left reader < 4 + size) = elim c.then-size-gt-UPDATE_LIMIT.branch [
+    let out : (UPDATE_LIMIT < size) ⊎ (count_left reader < 4 + size) = elim c.then-size-gt-UPDATE_LIMIT.branch [
       | then-size-gt-UPDATE_LIMIT-via-then-size-gt-UPDATE_LIMIT w ↦ inl w.if-size-gt-UPDATE_LIMIT.true
       | then-size-gt-UPDATE_LIMIT-via-else-size-gt-UPDATE_LIMIT+then-size-count_left w ↦ inr (omega (arith, w.if-size-count_left.true, w.count_left-else-size-gt-UPDATE_LIMIT.ensures))
     ] in
