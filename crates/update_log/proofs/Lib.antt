@@ -1,0 +1,4 @@
+mod Keeping
+pub mod Logsets
+mod Pieces
+mod Scanning
