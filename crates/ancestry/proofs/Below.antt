@@ -66,13 +66,13 @@ pub first_is : (t : ℕ → Bool) (n k : ℕ) → k ≤ n → (k < n → t k ≡
 first_is t n k most passes skips = elim (cases_lt k (first_below t n)) [
   | inl low ↦ absurd (let all = first_low t n in let is = passes (omega arith) in let not_so = first_skips t n k low in cc)
   | inr high ↦ elim (cases_eq k (first_below t n)) [
-      | inl same ↦ same
-      | inr apart ↦ absurd (
-          let less : first_below t n < k = omega arith in
-          let is = first_passes t n (omega arith) in
-          let not_so = skips (first_below t n) less in
-          cc)
-    ]
+    | inl same ↦ same
+    | inr apart ↦ absurd (
+        let less : first_below t n < k = omega arith in
+        let is = first_passes t n (omega arith) in
+        let not_so = skips (first_below t n) less in
+        cc)
+  ]
 ]
 
 -- ---- counts

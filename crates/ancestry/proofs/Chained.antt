@@ -39,12 +39,11 @@ follows graph b low =
     let size : length before ≡ b = long graph b in
     let under : p < b = omega arith in
     let passes = and_parts (list_any (λ q. q == p) (preds_at graph b)) (ends_chain before p)
-        (first_passes (λ p. list_any (λ q. q == p) (preds_at graph b) && ends_chain before p) (length before) low) in
+    (first_passes (λ p. list_any (λ q. q == p) (preds_at graph b) && ends_chain before p) (length before) low) in
     let w = witness (λ q. q == p) (preds_at graph b) passes.0 in
     let ends = and_parts (ltb (chain_at before p) 64) (not (any_below (λ q. ltb p q && (chain_at before q == chain_at before p)) (length before))) passes.1 in
     let none = not-true (any_below (λ q. ltb p q && (chain_at before q == chain_at before p)) (length before)) ends.1 in
-    let here : chain_at before p ≡ chain_of graph p = chain_there graph b p under in
-    (
+    let here : chain_at before p ≡ chain_of graph p = chain_there graph b p under in (
       p,
       under,
       subst (Contains (preds_at graph b)) (eqb-true w.0 p w.2) w.1,
@@ -64,8 +63,8 @@ fresh_there graph b high in_one q low =
     let size : length before ≡ b = long graph b in
     let none_of = λ (c : ℕ). not (any_below (λ p. chain_at before p == c) (length before)) in
     let own : chain_of graph b ≡ fresh before =
-        cond-false (ltb (joined before (preds_at graph b)) (length before)) (chain_at before (joined before (preds_at graph b))) (fresh before)
-        (le-ltb (joined before (preds_at graph b)) (length before) high) in
+    cond-false (ltb (joined before (preds_at graph b)) (length before)) (chain_at before (joined before (preds_at graph b))) (fresh before)
+    (le-ltb (joined before (preds_at graph b)) (length before) high) in
     let passes : not (any_below (λ p. chain_at before p == fresh before) (length before)) ≡ true = first_passes none_of 64 (omega (arith, own, in_one)) in
     let apart = any_none (λ p. chain_at before p == fresh before) (length before) q (not-true (any_below (λ p. chain_at before p == fresh before) (length before)) passes) (omega arith) in
     rw (own, ← chain_there graph b q low) apart
@@ -87,10 +86,10 @@ chained graph lower (suc n) a b high low in_one same = elim (cases_lt (joined (c
     by_place p before called is apart = elim (cases_lt p a) [
       | inl above ↦ absurd (let other = apart above low in let one = eq-eqb (chain_of graph a) (chain_of graph p) (same ∙ is) in cc)
       | inr below ↦ named graph a p b lower called (elim (cases_eq p a) [
-          | inl here ↦ or_left (p == a) (is_ancestor graph a p) (eq-eqb p a here)
-          | inr further ↦ or_right (p == a) (is_ancestor graph a p)
-              (before (omega arith) (subst (λ c. c < 64) is in_one) (same ∙ is))
-        ])
+        | inl here ↦ or_left (p == a) (is_ancestor graph a p) (eq-eqb p a here)
+        | inr further ↦ or_right (p == a) (is_ancestor graph a p)
+            (before (omega arith) (subst (λ c. c < 64) is in_one) (same ∙ is))
+      ])
     ]
 
 -- Of two members of one chain the earlier one is an ancestor of the later one.

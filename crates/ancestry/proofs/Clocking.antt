@@ -127,8 +127,8 @@ module _ (graph : List (List ℕ)) (lower : AreLower graph) (b c : ℕ) (in_one 
       let t = λ (x : ℕ). (chain_of graph x == c) && is_ancestor graph x p in
       let u = λ (x : ℕ). (chain_of graph x == c) && is_ancestor graph x b in
       let wide : count_below t p ≤ count_below u p = count_wider t u p (λ k under e.
-          let parts = and_parts (chain_of graph k == c) (is_ancestor graph k p) e in
-          and_from (chain_of graph k == c) (is_ancestor graph k b) parts.0 (named graph k p b lower named_here (or_right (p == k) (is_ancestor graph k p) parts.1))) in
+      let parts = and_parts (chain_of graph k == c) (is_ancestor graph k p) e in
+      and_from (chain_of graph k == c) (is_ancestor graph k b) parts.0 (named graph k p b lower named_here (or_right (p == k) (is_ancestor graph k p) parts.1))) in
       let far : count_below u p ≤ count_below u b = count_longer u p b (omega arith) in
       by_case wide far (chain_of graph p == c) refl
       (λ e. count_one u p (and_from (chain_of graph p == c) (is_ancestor graph p b) e (named graph p p b lower named_here (or_left (p == p) (is_ancestor graph p p) (eq-eqb p p refl)))))

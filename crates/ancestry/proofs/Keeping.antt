@@ -162,7 +162,7 @@ chain_front : (members : List (List ℕ)) (k : ℕ) → k < length members → c
 chain_front members k low =
     let size : length (take k members) ≡ k = length-take-le k members (omega arith) in
     let same : chains members k ≡ chains (take k members) k =
-        ap (λ (g : List (List ℕ)). chains g k) (sym (take-append-drop k members)) ∙ chains_stay (take k members) (drop k members) k (omega (arith, size)) in
+    ap (λ (g : List (List ℕ)). chains g k) (sym (take-append-drop k members)) ∙ chains_stay (take k members) (drop k members) k (omega (arith, size)) in
     let named : preds_at members k ≡ slice_index_or members k [] = unwrap_or-slice_get members k [] in
     rw (same, named, size) refl
 
@@ -172,7 +172,7 @@ module _ (members : List (List ℕ)) (clocks : List Clock) (sizes : List ℕ) (p
   before_last =
       let next : position ≡ position - 1 + 1 = omega arith in
       let split : take position members ≡ take (position - 1) members ++ slice_index_or members (position - 1) [] ∷ [] =
-          ap (λ n. take n members) next ∙ take_more members (position - 1) [] (omega arith) in
+      ap (λ n. take n members) next ∙ take_more members (position - 1) [] (omega arith) in
       subst (λ (g : List (List ℕ)). AreSizes g sizes) split sized
 
   last_chain : (slice_index_or clocks (position - 1) other).chain ≡ next_chain (chains (take (position - 1) members) (length (take (position - 1) members))) (slice_index_or members (position - 1) [])

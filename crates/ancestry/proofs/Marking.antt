@@ -124,9 +124,9 @@ marked_more graph old n marks new lower held here are marked = record {
   complete = λ k low behind. elim (marked.complete k low behind) [
     | inl there ↦ inl (are k low ∙ or_left (slice_index_or marks k false) (calls graph n k) there)
     | inr found ↦ elim (cases_eq found.0 n) [
-        | inl same ↦ inl (are k low ∙ or_right (slice_index_or marks k false) (calls graph n k) (subst (λ q. calls graph q k ≡ true) same found.3))
-        | inr apart ↦ inr (found.0, (let under = found.1 in omega arith), found.2, found.3)
-      ]
+      | inl same ↦ inl (are k low ∙ or_right (slice_index_or marks k false) (calls graph n k) (subst (λ q. calls graph q k ≡ true) same found.3))
+      | inr apart ↦ inr (found.0, (let under = found.1 in omega arith), found.2, found.3)
+    ]
   ];
 }
 
@@ -150,8 +150,8 @@ next_step graph old k last marks new preds mark lower held is_last size reads ma
     let next : last ≡ suc k = omega arith in
     marked_more graph old k marks new lower held (sym (get_or_read marks k mark (omega arith) reads false) ∙ marked)
     (λ j low. let z : 0 + j ≡ j = omega arith in
-        are j (omega arith) ∙ ap (λ i. slice_index_or marks j false || list_any (λ p. p == i) preds) z
-        ∙ ap (λ (ps : List ℕ). slice_index_or marks j false || list_any (λ p. p == j) ps) (sym (preds_read graph k preds held are_preds)))
+    are j (omega arith) ∙ ap (λ i. slice_index_or marks j false || list_any (λ p. p == i) preds) z
+    ∙ ap (λ (ps : List ℕ). slice_index_or marks j false || list_any (λ p. p == j) ps) (sym (preds_read graph k preds held are_preds)))
     (subst (λ n. IsMarked graph old n marks) next before)
 
 pub pass_step : (graph : List (List ℕ)) (old : List ℕ) (k last : ℕ) (marks : List Bool) (mark : Bool) → AreLower graph → k < length graph → last ≡ k + 1 → length marks ≡ length graph

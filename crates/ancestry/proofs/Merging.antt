@@ -25,10 +25,10 @@ pub lower_push : (graph : List (List ℕ)) (preds : List ℕ) → AreLower graph
 lower_push graph preds lower own b = elim (cases_lt b (length graph)) [
   | inl low ↦ subst (All (λ p. p < b)) (sym (preds_stay graph (preds ∷ []) b low)) (lower b)
   | inr high ↦ elim (cases_eq b (length graph)) [
-      | inl same ↦ rw (same, preds_last graph preds) own
-      | inr apart ↦ let none : preds_at (graph ++ preds ∷ []) b ≡ [] = ap (λ (o : Option (List ℕ)). unwrap_or o []) (slice_get_past (graph ++ preds ∷ []) b (let e = length-append graph (preds ∷ []) in omega arith)) in
-          rw none (λ k d low. absurd (omega arith))
-    ]
+    | inl same ↦ rw (same, preds_last graph preds) own
+    | inr apart ↦ let none : preds_at (graph ++ preds ∷ []) b ≡ [] = ap (λ (o : Option (List ℕ)). unwrap_or o []) (slice_get_past (graph ++ preds ∷ []) b (let e = length-append graph (preds ∷ []) in omega arith)) in
+        rw none (λ k d low. absurd (omega arith))
+  ]
 ]
 
 pub counts_few : (graph : List (List ℕ)) (clocks : List Clock) (preds : List ℕ) (i c : ℕ) (d : Clock) → AreClocked graph clocks → length graph ≤ 131072 → All (λ p. p < length graph) preds → i < length preds → c < 64
@@ -60,9 +60,9 @@ merged_all graph preds i c count lower own high in_one is =
     let grown = graph ++ preds ∷ [] in
     let lower_grown = lower_push graph preds lower own in
     let kept : greatest (brought graph c) 0 preds ≡ greatest (brought grown c) 0 preds = greatest_same (brought graph c) (brought grown c) 0 0 preds (λ p called.
-        let w = witness (λ q. q == p) preds called in
-        let low : p < length graph = subst (λ q. q < length graph) (eqb-true w.0 p w.2) (All-contains (λ p. p < length graph) preds w.0 own w.1) in
-        rw (chain_stays graph (preds ∷ []) p low, clock_stays graph (preds ∷ []) p c lower_grown low) refl) in
+    let w = witness (λ q. q == p) preds called in
+    let low : p < length graph = subst (λ q. q < length graph) (eqb-true w.0 p w.2) (All-contains (λ p. p < length graph) preds w.0 own w.1) in
+    rw (chain_stays graph (preds ∷ []) p low, clock_stays graph (preds ∷ []) p c lower_grown low) refl) in
     is ∙ ap (greatest (brought graph c) 0) (take_all i preds high) ∙ kept ∙ ap (greatest (brought grown c) 0) (sym (preds_last graph preds)) ∙ clock_merges grown lower_grown (length graph) c in_one
 
 -- ---- the last of a chain
@@ -96,7 +96,7 @@ ends_in graph p lower held in_one =
         → (j : ℕ) → suc p ≤ j → j < length graph → (chain_of graph j == chain_of graph p) ≡ false
     none_later none j high low =
         elim (and_cases (ltb p j) (chain_at (chains graph (length graph)) j == chain_at (chains graph (length graph)) p)
-            (any_none (λ q. ltb p q && (chain_at (chains graph (length graph)) q == chain_at (chains graph (length graph)) p)) (length (chains graph (length graph))) j none (omega (arith, size)))) [
+        (any_none (λ q. ltb p q && (chain_at (chains graph (length graph)) q == chain_at (chains graph (length graph)) p)) (length (chains graph (length graph))) j none (omega (arith, size)))) [
           | inl not_above ↦ absurd (let is = lt-ltb p j (omega arith) in cc)
           | inr differs ↦ rw (← chain_there graph (length graph) j low, ← here) differs
         ]
@@ -106,7 +106,7 @@ ends_in graph p lower held in_one =
         → ends_chain (chains graph (length graph)) p ≡ (clock_of graph p (chain_of graph p) + 1 == members_below graph (length graph) (chain_of graph p))
     by_case (inr none) =
         let cut : members_below graph (length graph) (chain_of graph p) ≡ members_below graph (suc p) (chain_of graph p) =
-            count_cut (λ x. chain_of graph x == chain_of graph p) (suc p) (length graph) (omega arith) (none_later none) in
+        count_cut (λ x. chain_of graph x == chain_of graph p) (suc p) (length graph) (omega arith) (none_later none) in
         and_from (ltb (chain_at (chains graph (length graph)) p) 64) _ (lt-ltb (chain_at (chains graph (length graph)) p) 64 (omega (arith, here))) (not_from_false _ none)
         ∙ sym (eq-eqb (clock_of graph p (chain_of graph p) + 1) (members_below graph (length graph) (chain_of graph p)) (omega (arith, cut, one, own)))
     by_case (inl some) =
@@ -133,7 +133,7 @@ any_push xs y p = list_any-append (λ q. q == p) xs (y ∷ [])
 joined_here : (before xs : List ℕ) (y : ℕ) → y < length before → y < joined before xs → ends_chain before y ≡ true → y ≡ joined before (xs ++ y ∷ [])
 joined_here before xs y held low ends = first_is (λ p. list_any (λ q. q == p) (xs ++ y ∷ []) && ends_chain before p) (length before) y (omega arith)
     (λ under. and_from (list_any (λ q. q == y) (xs ++ y ∷ [])) (ends_chain before y)
-        (any_push xs y y ∙ or_right (list_any (λ q. q == y) xs) ((y == y) || false) (or_left (y == y) false (eq-eqb y y refl))) ends)
+    (any_push xs y y ∙ or_right (list_any (λ q. q == y) xs) ((y == y) || false) (or_left (y == y) false (eq-eqb y y refl))) ends)
     (λ j under. elim (and_cases (list_any (λ q. q == j) xs) (ends_chain before j) (first_skips (λ p. list_any (λ q. q == p) xs && ends_chain before p) (length before) j (omega arith))) [
       | inl none ↦ and_left (list_any (λ q. q == j) (xs ++ y ∷ [])) (ends_chain before j)
           (any_push xs y j ∙ or_from (list_any (λ q. q == j) xs) ((y == j) || false) none (or_from (y == j) false (ne_eqb y j (λ e. absurd (omega arith))) refl))
@@ -144,18 +144,18 @@ joined_kept : (before xs : List ℕ) (y : ℕ) → ((joined before xs ≤ y) ⊎
 joined_kept before xs y not_better = first_is (λ p. list_any (λ q. q == p) (xs ++ y ∷ []) && ends_chain before p) (length before) (joined before xs)
     (first_low (λ p. list_any (λ q. q == p) xs && ends_chain before p) (length before))
     (λ under.
-        let parts = and_parts (list_any (λ q. q == joined before xs) xs) (ends_chain before (joined before xs)) (first_passes (λ p. list_any (λ q. q == p) xs && ends_chain before p) (length before) under) in
-        and_from (list_any (λ q. q == joined before xs) (xs ++ y ∷ [])) (ends_chain before (joined before xs))
-        (any_push xs y (joined before xs) ∙ or_left (list_any (λ q. q == joined before xs) xs) ((y == joined before xs) || false) parts.0) parts.1)
+    let parts = and_parts (list_any (λ q. q == joined before xs) xs) (ends_chain before (joined before xs)) (first_passes (λ p. list_any (λ q. q == p) xs && ends_chain before p) (length before) under) in
+    and_from (list_any (λ q. q == joined before xs) (xs ++ y ∷ [])) (ends_chain before (joined before xs))
+    (any_push xs y (joined before xs) ∙ or_left (list_any (λ q. q == joined before xs) xs) ((y == joined before xs) || false) parts.0) parts.1)
     (λ j under. elim (and_cases (list_any (λ q. q == j) xs) (ends_chain before j) (first_skips (λ p. list_any (λ q. q == p) xs && ends_chain before p) (length before) j under)) [
       | inl none ↦ elim (cases_eq y j) [
-          | inr apart ↦ and_left (list_any (λ q. q == j) (xs ++ y ∷ [])) (ends_chain before j)
-              (any_push xs y j ∙ or_from (list_any (λ q. q == j) xs) ((y == j) || false) none (or_from (y == j) false (ne_eqb y j apart) refl))
-          | inl same ↦ and_right (list_any (λ q. q == j) (xs ++ y ∷ [])) (ends_chain before j) (elim not_better [
-              | inl high ↦ absurd (omega arith)
-              | inr open_end ↦ subst (λ k. ends_chain before k ≡ false) same open_end
-            ])
-        ]
+        | inr apart ↦ and_left (list_any (λ q. q == j) (xs ++ y ∷ [])) (ends_chain before j)
+            (any_push xs y j ∙ or_from (list_any (λ q. q == j) xs) ((y == j) || false) none (or_from (y == j) false (ne_eqb y j apart) refl))
+        | inl same ↦ and_right (list_any (λ q. q == j) (xs ++ y ∷ [])) (ends_chain before j) (elim not_better [
+          | inl high ↦ absurd (omega arith)
+          | inr open_end ↦ subst (λ k. ends_chain before k ≡ false) same open_end
+        ])
+      ]
       | inr open_end ↦ and_right (list_any (λ q. q == j) (xs ++ y ∷ [])) (ends_chain before j) open_end
     ])
 
@@ -168,7 +168,7 @@ joined_better before preds i y least low is held was less ends =
 pub joined_as_before : (before preds : List ℕ) (i y least : ℕ) → i < length preds → y ≡ slice_index_or preds i 0 → least ≡ joined before (take i preds)
     → ((least ≤ y) ⊎ (ends_chain before y ≡ false)) → least ≡ joined before (take (i + 1) preds)
 joined_as_before before preds i y least low is was not_better =
-    was ∙ joined_kept before (take i preds) y (elim not_better [ | inl high ↦ inl (subst (λ n. n ≤ y) was high) | inr open_end ↦ inr open_end ])
+    was ∙ joined_kept before (take i preds) y (elim not_better [ inl high ↦ inl (subst (λ n. n ≤ y) was high) | inr open_end ↦ inr open_end ])
     ∙ ap (λ (z : ℕ). joined before (take i preds ++ z ∷ [])) is ∙ ap (joined before) (sym (take_more preds i 0 low))
 
 pub joins_there : (graph : List (List ℕ)) (preds : List ℕ) (i least : ℕ) → length preds ≤ i → least ≡ joined (chains graph (length graph)) (take i preds) → least < length graph

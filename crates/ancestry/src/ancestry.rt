@@ -3,7 +3,7 @@ ghost use Rattle.ancestry.specs.Chains.{chain_of, clock_of};
 ghost use Rattle.ancestry.specs.Since.{is_behind, since};
 ghost use Rattle.ancestry.specs.Walks.{AreLower, is_ancestor};
 
-use crate::clock::{join, merged, uncount, Clock, CHAINS};
+use crate::clock::{CHAINS, Clock, join, merged, uncount};
 use crate::walk::{behind, reaches};
 use std::alloc::{AllocError, Global};
 use std::marker::Model;
@@ -74,7 +74,12 @@ impl Ancestry {
     {
         let position = self.len();
         let counts = merged(self.members.as_slice(), self.clocks.as_slice(), preds);
-        let chain = join(self.members.as_slice(), self.clocks.as_slice(), &self.sizes, preds);
+        let chain = join(
+            self.members.as_slice(),
+            self.clocks.as_slice(),
+            &self.sizes,
+            preds,
+        );
         let preds = Vec::from_slice(*self.members.allocator(), preds)?;
         self.clocks.push(Clock { chain, counts })?;
         if let Err(_full) = self.members.push(PositionList::from_vec(preds)) {
@@ -141,7 +146,12 @@ impl Ancestry {
 
     /// Marks the members that are in `old` or ancestors of one of them. Where each member below `below` is in a chain,
     /// nobody asks, and there are no marks.
-    fn marks_of_unchained(&self, alloc: Global, below: u32, old: &[u32]) -> Result<Vec<bool>, AllocError>
+    fn marks_of_unchained(
+        &self,
+        alloc: Global,
+        below: u32,
+        old: &[u32],
+    ) -> Result<Vec<bool>, AllocError>
         requires held { below ≤ length self.now }
         requires earlier { All (λ q. q < length self.now) old.now }
         ensures { IfOk result (λ marks. (p : ℕ) → p < below → 64 ≤ chain_of self.now p

@@ -69,7 +69,12 @@ fn ends(members: &[PositionList], clocks: &[Clock], sizes: &[u32; CHAINS], p: us
 }
 
 /// The chain that the next member joins, which names these predecessors.
-pub(crate) fn join(members: &[PositionList], clocks: &[Clock], sizes: &[u32; CHAINS], preds: &[u32]) -> u32
+pub(crate) fn join(
+    members: &[PositionList],
+    clocks: &[Clock],
+    sizes: &[u32; CHAINS],
+    preds: &[u32],
+) -> u32
     requires lower { AreLower members.now }
     requires few { length members.now ≤ 131072 }
     requires clocked { AreClocked members.now clocks.now }
@@ -96,7 +101,12 @@ pub(crate) fn join(members: &[PositionList], clocks: &[Clock], sizes: &[u32; CHA
 }
 
 /// Takes the members from `len` on out of the sizes of their chains.
-pub(crate) fn uncount(members: &[PositionList], clocks: &[Clock], sizes: &mut [u32; CHAINS], len: usize)
+pub(crate) fn uncount(
+    members: &[PositionList],
+    clocks: &[Clock],
+    sizes: &mut [u32; CHAINS],
+    len: usize,
+)
     requires lower { AreLower members.now }
     requires clocked { AreClocked members.now clocks.now }
     requires sized { AreSizes members.now sizes.old }

@@ -35,7 +35,11 @@ pub(crate) fn reaches(
 }
 
 /// Marks the members that are among these positions or ancestors of one of them, in one sweep.
-pub(crate) fn behind(alloc: Global, members: &[PositionList], old: &[u32]) -> Result<Vec<bool>, AllocError>
+pub(crate) fn behind(
+    alloc: Global,
+    members: &[PositionList],
+    old: &[u32],
+) -> Result<Vec<bool>, AllocError>
     requires lower { AreLower members.now }
     requires held { All (λ q. q < length members.now) old.now }
     ensures long { IfOk result (λ marks. length marks.items ≡ length members.now) }

@@ -1,7 +1,6 @@
 use Rattle.std.proofs.Common.{◌≡◌, ◌<◌, ◌≤◌, ◌++◌, ◌∷◌, [], ◌∙◌, ℕ, List, All, length, sym, ap, subst, arith, false}
 use Rattle.std.proofs.lemmas.List.{get_or_read}
 use Rattle.ancestry.specs.Chains.{chain_of}
-use Rattle.ancestry.specs.Clocked.{AreCounts}
 use Rattle.ancestry.specs.Since.{is_behind}
 use Rattle.ancestry.proofs.Passed.{top_tells, chain_read, since_none, since_passed, since_more}
 use Rattle.ancestry.proofs.ancestry.Ancestry.since.Goals.{then-chain-lt-CHAINS, else-chain-lt-CHAINS, then-not-is_behind+in_ok-push, else-not-is_behind}
