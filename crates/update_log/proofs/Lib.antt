@@ -1,3 +1,4 @@
+mod Gathering
 mod Keeping
 pub mod Logsets
 mod Pieces
