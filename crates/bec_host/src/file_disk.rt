@@ -1,6 +1,6 @@
 ghost use Rattle.std.specs.Prelude.{◌≡◌};
 ghost use Rattle.bec_bytes.specs.Causes.{HasCause, faults_after};
-ghost use Rattle.bec_host.specs.Untold.{untold_disk};
+ghost use Rattle.bec_host.specs.Untold.{untold_disk, untold_reads};
 
 use bec_bytes::Counted;
 use bec_disk::{Disk, DiskFault};
@@ -67,6 +67,8 @@ impl<F: FileExt + OpenFile> Counted for FileDisk<F> {
 
 impl<F: FileExt + OpenFile> Disk for FileDisk<F> {
     ghost state = { λ _. untold_disk };
+
+    ghost reads = { λ _ tells. untold_reads tells };
 
     fn len(&mut self) -> Result<u64, DiskFault> {
         let length = self.file.metadata().map(|metadata| metadata.len());

@@ -16,11 +16,13 @@
 //! that it passes on, unchanged and in order, the bytes that the reader gave or the writer took.
 #![tactic(auto)]
 
+mod file_disk;
 mod hash_rng;
 mod host_sink;
 mod host_source;
 mod laws;
 
+pub use file_disk::FileDisk;
 pub use hash_rng::HashRng;
 pub use host_sink::HostSink;
 pub use host_source::HostSource;
