@@ -22,7 +22,7 @@ front s (suc k) below start =
     let block = block_bytes s.key s.number in
     let fits : k < length block = rw (length-sha256 _) (omega arith) in
     let more = word_bytes_more one_byte next_byte k s (record s { used = k }) (record s { used = k + 1 }) (take k block) (slice_index block k)
-        (front s k (omega arith) start) (one_more s k (omega arith)) in
+    (front s k (omega arith) start) (one_more s k (omega arith)) in
     let whole = rw (← take_more block k 0 fits) at more in
     subst (λ (n : ℕ). (take n block, record s { used = n }) ≡ word_bytes one_byte next_byte n s) (add-one k) whole
 
@@ -33,7 +33,7 @@ next_block s start =
     let block = block_bytes s.key s.number in
     let fits : 31 < length block = rw (length-sha256 _) (omega arith) in
     let more = word_bytes_more one_byte next_byte 31 s (record s { used = 31 }) (record s { number = (s.number + 1) % 2 ^ 64; used = 0 }) (take 31 block) (slice_index block 31)
-        (front s 31 (omega arith) start) refl in
+    (front s 31 (omega arith) start) refl in
     let all = rw (← take_more block 31 0 fits) at more in
     let exact = rw (take_all 32 block (rw (length-sha256 _) (omega arith))) at all in
     fill_bytes-stream_of hash_steps 32 s ∙ ap (λ (p : List ℕ × HashState). (p.0, stream_of hash_steps p.1)) (sym exact)

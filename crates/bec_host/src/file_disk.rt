@@ -1,4 +1,4 @@
-ghost use Rattle.std.specs.Prelude.{◌≡◌};
+ghost use Rattle.std.specs.Prelude.{◌≡◌, ◌<◌, ◌↔◌, IsTrue};
 ghost use Rattle.bec_bytes.specs.Causes.{HasCause, faults_after};
 ghost use Rattle.bec_host.specs.Untold.{untold_disk, untold_reads};
 
@@ -17,6 +17,8 @@ use std::os::unix::fs::FileExt;
 pub struct FileDisk<F: FileExt + OpenFile> {
     /// The open file.
     file: F,
+    /// Its path, for messages.
+    path: String,
     /// How many calls failed.
     faults: u64,
     /// Whether a sync failed.
@@ -26,21 +28,34 @@ pub struct FileDisk<F: FileExt + OpenFile> {
 }
 
 impl<F: FileExt + OpenFile> FileDisk<F> {
-    /// A disk over an open file.
-    pub fn new(file: F) -> FileDisk<F>
+    /// A disk over an open file, whose path is for messages alone.
+    pub fn new(file: F, path: String) -> FileDisk<F>
         ensures { result.faults ≡ 0 }
     {
         FileDisk {
             file,
+            path,
             faults: 0,
             lost: false,
             error: None,
         }
     }
 
-    /// The first error that the file gave, where a call failed.
-    pub fn error(&self) -> Option<&io::Error> {
+    /// The path of the file.
+    pub(crate) fn path(&self) -> &str {
+        self.path.as_str()
+    }
+
+    /// The first error, where a call failed.
+    pub(crate) fn error(&self) -> Option<&io::Error> {
         self.error.as_ref()
+    }
+
+    /// Whether a call failed.
+    pub(crate) fn is_faulty(&self) -> bool
+        ensures { IsTrue result ↔ (0 < self.now.faults) }
+    {
+        self.faults > 0
     }
 
     /// Counts a fault where `outcome` is one, or where the disk is lost.

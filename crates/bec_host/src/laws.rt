@@ -10,4 +10,3 @@ pub fn blocks_follow_one_another()
     ensures { (s : HashState) → s.used ≡ 0 → fill_bytes 32 (stream_of hash_steps s)
         ≡ (block_bytes s.key s.number, stream_of hash_steps (record s { number = (s.number + 1) % 2 ^ 64; used = 0 })) }
 {}
-

@@ -17,12 +17,14 @@
 #![tactic(auto)]
 
 mod file_disk;
+mod file_shelf;
 mod hash_rng;
 mod host_sink;
 mod host_source;
 mod laws;
 
 pub use file_disk::FileDisk;
+pub use file_shelf::FileShelf;
 pub use hash_rng::HashRng;
 pub use host_sink::HostSink;
 pub use host_source::HostSource;
