@@ -1,5 +1,5 @@
 -- What one call does to the plan of a disk in memory.
-use Rattle.std.proofs.Common.{◌≡◌, Bool, true, false, refl, sym, ◌∙◌, ap, subst, Result, Ok, Err}
+use Rattle.std.proofs.Common.{◌≡◌, true, false, refl, sym, ◌∙◌, ap, subst, Ok, Err}
 use Rattle.std.proofs.lemmas.Bool.{false≢true}
 use Rattle.bec_bytes.specs.Causes.{one_more}
 use Rattle.bec_disk.specs.Plan.{PlanState, IsToFail, Counts}

@@ -1,9 +1,9 @@
 -- What one more call in the record of a disk in memory does.
-use Rattle.std.proofs.Common.{◌≡◌, ◌≢◌, ◌⊎◌, inl, inr, ⊎_elim, ℕ, ◌+◌, ◌-◌, ◌<◌, ◌≤◌, Bool, true, false, List, [], ◌∷◌, ◌++◌, length, take, get_or, refl, sym, ◌∙◌, ap, subst, arith, Result, Ok, Err}
+use Rattle.std.proofs.Common.{◌≡◌, ◌≢◌, ◌⊎◌, inl, inr, ⊎_elim, ℕ, ◌+◌, ◌-◌, ◌<◌, ◌≤◌, Bool, true, false, List, [], ◌∷◌, ◌++◌, length, take, get_or, refl, sym, ◌∙◌, ap, subst, arith, Ok, Err}
 use Rattle.std.proofs.lemmas.List.{take_more}
 use Rattle.std.specs.Prelude.{nat_le, if◌then◌else◌, Option}
 use Rattle.std.proofs.lemmas.Bool.Decides.{nat_tests}
-use Rattle.bec_disk.specs.Disk.{DiskState, IsImage, Writes, Cuts, Syncs, overwritten, written_at, cut_at, synced_at}
+use Rattle.bec_disk.specs.Disk.{IsImage, Writes, Cuts, Syncs, overwritten, written_at}
 use Rattle.bec_disk.specs.Slot.{Slot}
 use Rattle.bec_disk.specs.Replay.{History, IsMixed, begun_with, goes_to, wrote_if, after_call, replayed, seen_after, shown}
 use Rattle.bec_disk.specs.Sound.{replayed-reads, replayed-kept, image-mixed}

@@ -1,5 +1,5 @@
 -- Which calls of a disk in memory fail.
-use Rattle.std.specs.Prelude.{◌≡◌, ◌⊎◌, ℕ, ◌<◌, ◌≤◌, Bool, true, List, Result, IsErr, OnOk, OnErr, Contains}
+use Rattle.std.specs.Prelude.{◌≡◌, ◌⊎◌, ℕ, ◌<◌, Bool, true, List, Result, IsErr, OnOk, OnErr, Contains}
 use Rattle.bec_bytes.specs.Causes.{one_more, faults_after}
 
 -- The numbers of the calls that are to fail, counted from 1; the number of the last call before the stop; how many calls

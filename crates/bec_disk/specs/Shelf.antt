@@ -1,5 +1,5 @@
 -- What a shelf has, and what handing out and putting back does to it.
-use Rattle.std.specs.Prelude.{◌≡◌, ◌⊎◌, ℕ, Bool, false, List, [], Result, Ok, Err, Option, Some, None, IsTrue}
+use Rattle.std.specs.Prelude.{◌≡◌, ◌⊎◌, Bool, false, List, [], Result, Ok, Err, Option, Some, None, IsTrue}
 use Rattle.bec_disk.specs.Slot.{Slot, same_slot}
 use Rattle.bec_disk.specs.Disk.{Moment, DiskState, moments, handed_out, made_part}
 use Rattle.bec_disk.specs.declared.disk_fault.DiskFault.{DiskFault}

@@ -1,6 +1,6 @@
 -- As a disk in memory reads, a crash may leave it; and so it may what was synced, and a mixture of the two.
-use Rattle.std.specs.Prelude.{◌≡◌, ◌⊎◌, ℕ, ◌+◌, ◌-◌, ◌<◌, ◌≤◌, List, [], ◌∷◌, ◌++◌, length, take, drop, nat_le, refl, true, false, max, min, Bool}
-use Rattle.std.proofs.Common.{zero, suc, get_or, arith, sym, ◌∙◌, ap, subst, inl, inr, ⊎_elim, length-append, length-drop}
+use Rattle.std.specs.Prelude.{◌≡◌, ◌⊎◌, ℕ, ◌+◌, ◌-◌, ◌<◌, ◌≤◌, List, [], ◌∷◌, ◌++◌, length, take, drop, nat_le, refl, true, false, max, Bool}
+use Rattle.std.proofs.Common.{zero, suc, get_or, arith, ◌∙◌, ap, inl, inr, ⊎_elim, length-append, length-drop}
 use Rattle.std.proofs.lemmas.List.{get_or-take, get_or-drop, get_or-append_right, length-take, length-take-le}
 use Rattle.std.proofs.lemmas.Bool.{leb-true}
 use Rattle.bec_disk.specs.Disk.{Moment, IsImage, synced_at, written_at, cut_at, overwritten}

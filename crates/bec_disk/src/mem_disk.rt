@@ -154,7 +154,10 @@ impl Disk for MemDisk {
         ensures counts { Counts self.old.plan result self.new.plan }
     {
         if let Err(fault) = self.plan.count_call() {
-            note(&mut self.calls, DiskCall::WriteFailed(at, bytes.len() as u64));
+            note(
+                &mut self.calls,
+                DiskCall::WriteFailed(at, bytes.len() as u64),
+            );
             return Err(fault);
         }
         let Ok(()) = write(self.alloc, &mut self.bytes, &mut self.calls, at, bytes) else {

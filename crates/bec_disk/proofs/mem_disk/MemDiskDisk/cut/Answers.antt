@@ -1,9 +1,9 @@
-use Rattle.std.proofs.Common.{◌≡◌, List, ℕ, Ok, Err, refl, sym, ◌∙◌, ap, subst, take}
-use Rattle.bec_disk.specs.Disk.{DiskState, Cuts}
+use Rattle.std.proofs.Common.{◌≡◌, Ok, Err, refl, sym, ◌∙◌, ap, subst, take}
+use Rattle.bec_disk.specs.Disk.{Cuts}
 use Rattle.bec_disk.specs.Replay.{History, MemDiskState, state_of, shown, begun_with, replayed}
 use Rattle.bec_disk.proofs.Plans.{counts_failed, counts_passed, counts_starved}
 use Rattle.bec_disk.proofs.Records.{added, noted, unseen, was_cut, cut_failed}
-use Rattle.bec_disk.specs.declared.disk_call.DiskCall.TheVariants.{WriteFailed, CutFailed}
+use Rattle.bec_disk.specs.declared.disk_call.DiskCall.TheVariants.{CutFailed}
 use Rattle.bec_disk.proofs.mem_disk.MemDiskDisk.cut.Goals as goal
 
 pub invariant_of-self : goal.invariant_of-self

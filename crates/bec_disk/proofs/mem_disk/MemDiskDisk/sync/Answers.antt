@@ -1,9 +1,8 @@
-use Rattle.std.proofs.Common.{◌≡◌, List, ℕ, Ok, Err, refl, sym, ◌∙◌, ap, subst}
+use Rattle.std.proofs.Common.{Ok, sym, ◌∙◌, ap, subst}
 use Rattle.bec_disk.specs.Disk.{Syncs}
 use Rattle.bec_disk.specs.Replay.{History, MemDiskState, state_of, shown, begun_with, replayed}
 use Rattle.bec_disk.proofs.Plans.{counts_passed, counts_starved}
 use Rattle.bec_disk.proofs.Records.{added, was_synced}
-use Rattle.bec_disk.specs.declared.disk_call.DiskCall.TheVariants.{WriteFailed, CutFailed}
 use Rattle.bec_disk.proofs.mem_disk.MemDiskDisk.sync.Goals as goal
 
 pub returns-then-not-note-clause-counts : goal.returns-then-not-note-clause-counts

@@ -1,9 +1,9 @@
 use Rattle.std.proofs.Common.{◌≡◌, List, ℕ, Ok, Err, refl, sym, ◌∙◌, ap, subst, length, ◌≤◌}
-use Rattle.bec_disk.specs.Disk.{DiskState, Writes, overwritten}
+use Rattle.bec_disk.specs.Disk.{Writes, overwritten}
 use Rattle.bec_disk.specs.Replay.{History, MemDiskState, state_of, shown, begun_with, replayed}
 use Rattle.bec_disk.proofs.Plans.{counts_failed, counts_passed, counts_starved}
 use Rattle.bec_disk.proofs.Records.{added, after_write, noted, unseen, wrote, write_failed}
-use Rattle.bec_disk.specs.declared.disk_call.DiskCall.TheVariants.{WriteFailed, CutFailed}
+use Rattle.bec_disk.specs.declared.disk_call.DiskCall.TheVariants.{WriteFailed}
 use Rattle.bec_disk.proofs.mem_disk.MemDiskDisk.write_at.Goals as goal
 
 pub invariant_of-self : goal.invariant_of-self
