@@ -1,5 +1,5 @@
 -- The samples of a schema that is declared under a meaning of native checks pass under it.
-use Rattle.std.proofs.Common.{◌≡◌, ℕ, zero, suc, ◌+◌, ◌<◌, ◌≤◌, ◌==◌, ltb, Bool, true, false, ◌&&◌, ◌||◌, List, [], ◌∷◌, ◌++◌, length, refl, sym, ◌∙◌, ap, subst, arith, inl, inr, append_assoc, append-nil, length-append, Option, Some, None, unwrap_or, slice_get}
+use Rattle.std.proofs.Common.{◌≡◌, ℕ, zero, suc, ◌+◌, ◌<◌, ◌≤◌, ◌==◌, ltb, Bool, true, false, ◌||◌, List, [], ◌∷◌, ◌++◌, length, refl, sym, ap, subst, arith, inl, inr, append_assoc, append-nil, length-append, Option, Some, None, unwrap_or, slice_get}
 use Rattle.std.specs.List.{list_all, AllByRecursion}
 use Rattle.std.proofs.lemmas.Bool.{both_ways, and_parts, and_from, ltb-true, ltb-false, eq-eqb}
 use Rattle.update_model.specs.declared.value.Value.{Value}
@@ -23,7 +23,8 @@ use Rattle.schema.specs.Rows.{sample_row}
 use Rattle.schema.specs.Samples.{sample_matches, SamplesPass}
 use Rattle.schema.specs.Steps.{IsAfter}
 use Rattle.schema.specs.Schemas.{Meaning, SchemaData, IsGood, Leads, LeadOn, Declares}
-use Rattle.schema.specs.Sound.{IsSoundColumn, IsTable, AreTables, IsDraft}
+use Rattle.schema.specs.Sound.{IsSoundColumn, AreTables}
+use Rattle.schema.specs.Kept.{IsDraft}
 use Rattle.schema.proofs.Keeping.{leads_kept, start_sound}
 use Rattle.schema.proofs.Soundness.{target_below}
 use Rattle.schema.proofs.Unique.{OneExpression}

@@ -1,5 +1,5 @@
 -- Good lines keep a draft sound.
-use Rattle.std.proofs.Common.{◌≡◌, ℕ, zero, suc, ◌+◌, ◌<◌, ◌≤◌, ltb, Bool, true, false, not, ◌&&◌, ◌||◌, cond, List, [], ◌∷◌, ◌++◌, length, refl, sym, ◌∙◌, ap, subst, arith, inl, inr, append_assoc, append-nil, length-append, IsTrue, ℤ, pos, negsuc, ◌≤ℤ◌}
+use Rattle.std.proofs.Common.{◌≡◌, ℕ, zero, suc, ◌+◌, ◌<◌, ◌≤◌, ltb, Bool, true, false, not, ◌&&◌, ◌||◌, cond, List, [], ◌∷◌, ◌++◌, length, refl, sym, ◌∙◌, ap, subst, arith, inl, inr, append_assoc, append-nil, length-append, ℤ, pos, negsuc, ◌≤ℤ◌}
 use Rattle.std.specs.Prelude.{Option, Some, None, IsSome, MatchOption, slice_get, unwrap_or, bytes_eq, position, option_and_then, nat_abs}
 use Rattle.std.specs.List.{AllByRecursion, position_or_len}
 use Rattle.std.proofs.lemmas.Bool.{and_parts, lt-ltb, ltb-true}
@@ -23,7 +23,8 @@ use Rattle.schema.specs.Drafts.{start, table_at, table_named, first_some, kind_d
 use Rattle.schema.specs.Faults.{AreBounds, IsTypedMatch, IsTypedUnique, MayMatch, HasGoodTarget}
 use Rattle.schema.specs.Steps.{IsAfter, number_of, target_columns, match_rule}
 use Rattle.schema.specs.Schemas.{Meaning, SchemaData, IsGood, Leads, LeadOn, IsComplete, Declares}
-use Rattle.schema.specs.Sound.{IsSoundKind, IsSoundColumn, columns_or, IsSoundMatch, IsSoundUnique, IsSoundCheck, IsSoundTable, IsTable, AreTables, IsDraft, IsSchema}
+use Rattle.schema.specs.Sound.{IsSoundKind, IsSoundColumn, columns_or, IsSoundMatch, IsSoundUnique, IsSoundCheck, IsSoundTable, IsTable, AreTables, IsSchema}
+use Rattle.schema.specs.Kept.{IsDraft}
 use Rattle.schema.proofs.Unique.{OneExpression}
 
 all_push : {X : Type 0} (P : X → Type 0) (xs : List X) (x : X) → AllByRecursion P xs → P x → AllByRecursion P (xs ++ x ∷ [])

@@ -1,5 +1,5 @@
 -- A good line has what is needed to take it.
-use Rattle.std.proofs.Common.{◌≡◌, ℕ, List, length, get_or}
+use Rattle.std.proofs.Common.{get_or}
 use Rattle.text_words.specs.declared.literal.Literal.TheVariants as literal
 use Rattle.expression_text.specs.declared.token.Token.{Token}
 use Rattle.expression_text.specs.declared.token.Token.TheVariants as token
@@ -12,7 +12,7 @@ use Rattle.schema.specs.declared.form.Form.TheVariants as form
 use Rattle.schema.specs.Faults.{IsWithinLimits, IsNamed, HasShortValue}
 use Rattle.schema.specs.Forms.{HasUtf8, HasUtf8Text, IsWhole}
 use Rattle.schema.specs.Schemas.{Meaning, IsGood}
-use Rattle.schema.specs.Sound.{IsDraft, CanBuild, CanAdd, HasRowValues, IsRowValue}
+use Rattle.schema.specs.Kept.{IsDraft, CanBuild, CanAdd, HasRowValues, IsRowValue}
 
 row_text : (t : Token) → HasShortText t → HasUtf8Text t → HasRowText t
 row_text (token.Text bytes) h u = (h, u)

@@ -4,8 +4,6 @@ use Rattle.std.specs.List.{list_all}
 use Rattle.std.specs.Coded.{Coded, code_by, coded×, coded_ℕ, coded_list}
 use base.Stored.{Gv, gnum, gcons}
 use Rattle.update_model.specs.declared.value.Value.{Value}
-use Rattle.row_check.specs.declared.cmp.Cmp.{Cmp}
-use Rattle.row_check.specs.declared.term.Term.{Term}
 use Rattle.row_check.specs.contracts.cmp.Cmp as cmp
 use Rattle.row_check.specs.contracts.term.Term as term
 use Rattle.expression_text.specs.Trees.{Tree, Both, Either, Negation, Comparison, Absence, Check, holds_tree}

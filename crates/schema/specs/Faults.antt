@@ -1,6 +1,6 @@
 -- What each kind of fault asks of a line, by its form. A line is judged by these in turn: its form and turn, limits,
 -- names, targets, kinds, the references of a MATCH, and the sample.
-use Rattle.std.specs.Prelude.{◌≡◌, ℕ, pos, ◌<◌, ◌≤◌, ◌≤ℤ◌, Bool, true, false, not, ◌&&◌, ◌||◌, ◌==◌, nat_lt, List, length, All, Contains, Option, Some, None, IsTrue, IsSome, MatchOption, bytes_eq}
+use Rattle.std.specs.Prelude.{◌≡◌, ℕ, pos, ◌<◌, ◌≤◌, ◌≤ℤ◌, Bool, false, not, ◌&&◌, ◌||◌, ◌==◌, nat_lt, List, length, All, Contains, Option, Some, None, IsTrue, IsSome, MatchOption, bytes_eq}
 use Rattle.std.specs.List.{list_any, list_all}
 use Rattle.update_model.specs.declared.value.Value.{Value}
 use Rattle.update_model.specs.Form.{IsKnownKey}

@@ -9,7 +9,7 @@ use Rattle.text_words.specs.declared.literal.Literal.TheVariants as literal
 use Rattle.text_words.specs.declared.style.Style.TheVariants.{Spaced, Punctuated}
 use Rattle.text_words.specs.declared.word.Word.{Word}
 use Rattle.text_words.specs.declared.word.Word.TheVariants as word
-use Rattle.text_words.specs.Words.{Read, skip_blanks, first_word, words_of}
+use Rattle.text_words.specs.Words.{skip_blanks, first_word, words_of}
 use Rattle.text_words.specs.Literals.{value_of}
 use Rattle.text_words.specs.Integers.{int_of}
 use Rattle.text_words.specs.Hexadecimal.{block_of_hex, row_of}

@@ -1,8 +1,10 @@
 pub mod Checks
 pub mod Columns
+pub mod Data
 pub mod Drafts
 pub mod Faults
 pub mod Forms
+pub mod Kept
 pub mod Numbers
 pub mod Outcome
 pub mod Rows

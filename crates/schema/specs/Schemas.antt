@@ -1,7 +1,5 @@
 -- Which texts declare a schema, and the first fault of those that declare none.
-use Rattle.std.specs.Prelude.{◌≡◌, ℕ, ◌+◌, ◌<◌, ◌≤◌, List, [], ◌∷◌, length, Bool, true, IsUtf8, ◌⊎◌, IsTrue}
-use Rattle.update_model.specs.declared.value.Value.{Value}
-use Rattle.update_model.specs.Rule.{RuleData}
+use Rattle.std.specs.Prelude.{◌≡◌, ℕ, ◌+◌, ◌<◌, ◌≤◌, List, [], ◌∷◌, length, IsUtf8, ◌⊎◌, IsTrue}
 use Rattle.sha2.specs.Sha256.{sha256}
 use Rattle.text_words.specs.Lines.{lines_of}
 use Rattle.text_words.specs.Words.{passed_over}
@@ -10,15 +8,11 @@ use Rattle.schema.specs.declared.fault.SchemaKind.{SchemaKind}
 use Rattle.schema.specs.declared.fault.SchemaKind.TheVariants as fault
 use Rattle.schema.specs.declared.form.Form.{Form}
 use Rattle.schema.specs.declared.limits.TheConstants.{MAX_SCHEMA_BYTES}
-use Rattle.schema.specs.declared.table_def.TableDef.{TableDef}
+pub use Rattle.schema.specs.Data.{Meaning, SchemaData}
 use Rattle.schema.specs.Forms.{HasForm}
 use Rattle.schema.specs.Drafts.{start, is_turn, is_between}
 use Rattle.schema.specs.Steps.{IsAfter}
 use Rattle.schema.specs.Faults.{IsWithinLimits, IsNamed, HasTarget, IsTyped, IsMatchable, HasSample}
-
--- what native checks mean
-abbrev pub Meaning : Type 0
-Meaning = ℕ → List Value → Bool
 
 -- a blank line or a comment
 pub record IsPassedOver (line : List ℕ) : Type 0 where
@@ -79,12 +73,6 @@ FaultIn relation number draft [] kind place = (¬ IsComplete draft) × (kind ≡
 FaultIn relation number draft (line ∷ lines) kind place =
     (LineFault relation draft line kind × (place ≡ number))
     ⊎ ((next : Draft) × Leads relation number draft line next × FaultIn relation (number + 1) next lines kind place)
-
--- a schema: its tables, which updates its database takes, and its text
-pub record SchemaData : Type 0 where
-  pub tables : List TableDef
-  pub rule : RuleData
-  pub text : List ℕ
 
 -- the schema of a draft and the text that it is read from, whose digest names the database
 abbrev pub schema_of : Draft → List ℕ → SchemaData

@@ -1,30 +1,18 @@
 -- What every schema keeps, so that its expressions may be asked of rows that fit and its numbers name what is there.
-use Rattle.std.specs.Prelude.{◌≡◌, ℕ, pos, ◌<◌, ◌≤◌, ◌≤ℤ◌, Bool, not, ◌&&◌, ◌||◌, nat_lt, List, [], ◌∷◌, ◌++◌, length, slice_get, Option, Some, None, IsTrue, All, MatchOption}
+use Rattle.std.specs.Prelude.{ℕ, ◌≤◌, ◌≤ℤ◌, Bool, not, ◌&&◌, ◌||◌, nat_lt, List, [], ◌∷◌, ◌++◌, length, slice_get, Option, Some, None, IsTrue, MatchOption}
 use Rattle.std.specs.List.{AllByRecursion}
-use Rattle.update_model.specs.Text.{IsText}
-use Rattle.text_words.specs.declared.literal.Literal.TheVariants as literal
-use Rattle.expression_text.specs.Columns.{IsKnown, HasRowText}
-use Rattle.expression_text.specs.Grammar.{IsExpression}
 use Rattle.expression_text.specs.Kinds.{HasKinds}
 use Rattle.schema.specs.declared.column.Column.{Column}
 use Rattle.schema.specs.declared.column.ColumnKind.{ColumnKind}
 use Rattle.schema.specs.declared.column.ColumnKind.TheVariants as kind
-use Rattle.schema.specs.declared.draft.Draft.{Draft}
-use Rattle.schema.specs.declared.form.Form.{Form}
-use Rattle.schema.specs.declared.form.Form.TheVariants as form
-use Rattle.schema.specs.declared.form.SampleValue.{SampleValue}
-use Rattle.schema.specs.declared.form.SampleValue.TheVariants as sample
-use Rattle.schema.specs.Checks.{CheckData}
-use Rattle.schema.specs.declared.limits.TheConstants.{MAX_CHECKS, MAX_COLUMNS, MAX_MATCHES, MAX_ROWS, MAX_TABLES, MAX_TOKENS}
+use Rattle.schema.specs.declared.limits.TheConstants.{MAX_CHECKS, MAX_COLUMNS, MAX_MATCHES, MAX_TABLES}
 use Rattle.schema.specs.declared.rules.MatchRule.{MatchRule}
 use Rattle.schema.specs.declared.rules.UniqueRule.{UniqueRule}
 use Rattle.schema.specs.declared.table_def.TableDef.{TableDef}
-use Rattle.schema.specs.Columns.{is_reference, kinds_of, names_of, reference_at, is_restrict, is_set_null, are_comparable}
-use Rattle.schema.specs.Drafts.{is_columns, is_in_table, is_between}
-use Rattle.text_words.specs.Names.{is_a_name}
-use Rattle.schema.specs.Faults.{AreBounds}
+use Rattle.schema.specs.Checks.{CheckData}
+use Rattle.schema.specs.Columns.{is_reference, kinds_of, reference_at, is_restrict, is_set_null, are_comparable}
+use Rattle.schema.specs.Data.{SchemaData}
 use Rattle.schema.specs.Rows.{fits_sample}
-use Rattle.schema.specs.Schemas.{SchemaData}
 
 -- In the table with this number: bounds rise, lengths are at most 1,024, a reference is to an earlier table or to its own
 -- with NULL, and SETNULL has NULL.
@@ -83,44 +71,3 @@ pub record IsSchema (schema : SchemaData) : Type 0 where
   pub some_tables : 1 ≤ length schema.tables
   pub few_tables : length schema.tables ≤ MAX_TABLES
   pub tables : AreTables [] schema.tables
-
--- What the lines so far keep: tables that have ended are whole, the one that has begun is sound and has room among them,
--- and it has no rules while columns come.
-pub record IsDraft (draft : Draft) : Type 0 where
-  pub few_tables : length draft.tables ≤ MAX_TABLES
-  pub tables : AreTables [] draft.tables
-  pub table : IsSoundTable draft.tables draft.table
-  pub some_tables : IsTrue (is_between draft.phase) → 1 ≤ length draft.tables
-  pub room : IsTrue (is_in_table draft.phase) → length draft.tables < MAX_TABLES
-  pub no_checks : IsTrue (is_columns draft.phase) → draft.table.checks ≡ []
-  pub no_matches : IsTrue (is_columns draft.phase) → draft.table.matches ≡ []
-  pub no_uniques : IsTrue (is_columns draft.phase) → draft.table.uniques ≡ []
-
--- What an expression needs to be built over the columns of a table.
-abbrev pub CanBuild : Draft → Form → Type 0
-CanBuild draft (form.Check tokens) =
-    (length draft.table.columns ≤ MAX_COLUMNS) × (length tokens ≤ MAX_TOKENS) × IsExpression tokens × All (IsKnown (names_of draft.table.columns)) tokens × All HasRowText tokens
-CanBuild draft other = Unit {0}
-
--- what a sample writes is a value that a row may have
-abbrev pub IsRowValue : SampleValue → Type 0
-IsRowValue (sample.Literal (literal.Text bytes)) = IsText bytes
-IsRowValue other = Unit {0}
-
--- all that a sample writes are such values
-abbrev pub HasRowValues : Form → Type 0
-HasRowValues (form.Sample values) = All IsRowValue values
-HasRowValues other = Unit {0}
-
--- What a line has to be for a draft to take it.
-abbrev pub CanAdd : Draft → Form → Type 0
-CanAdd draft (form.Database name) = Unit {0}
-CanAdd draft (form.Author key) = Unit {0}
-CanAdd draft (form.Table name deletable owned) = IsTrue (is_a_name name)
-CanAdd draft (form.Column name kind null) = IsTrue (is_a_name name) × AreBounds kind
-CanAdd draft (form.Ref name table act null) = IsTrue (is_a_name name)
-CanAdd draft (form.Check tokens) = CanBuild draft (form.Check tokens)
-CanAdd draft (form.Match column cmp reference target) = Unit {0}
-CanAdd draft (form.Unique column) = Unit {0}
-CanAdd draft (form.AtMost count) = (pos 1 ≤ℤ count) × (count ≤ℤ MAX_ROWS)
-CanAdd draft (form.Sample values) = All IsRowValue values

@@ -1,5 +1,5 @@
 -- What a line of each form adds to a draft.
-use Rattle.std.specs.Prelude.{◌≡◌, ℕ, nat_abs, Bool, List, [], ◌∷◌, ◌++◌, length, Option, Some, None, unwrap_or}
+use Rattle.std.specs.Prelude.{◌≡◌, ℕ, nat_abs, Bool, List, [], ◌∷◌, ◌++◌, Option, Some, None, unwrap_or}
 use Rattle.row_check.specs.declared.cmp.Cmp.{Cmp}
 use Rattle.expression_text.specs.declared.token.Token.{Token}
 use Rattle.expression_text.specs.Trees.{Tree}

@@ -7,7 +7,7 @@ ghost use Rattle.schema.specs.Columns.{names_of};
 ghost use Rattle.text_words.specs.Names.{is_a_name};
 ghost use Rattle.schema.specs.Drafts.{kind_declared, with_column};
 ghost use Rattle.schema.specs.Faults.{AreBounds};
-ghost use Rattle.schema.specs.Sound.{IsDraft, CanAdd, IsRowValue};
+ghost use Rattle.schema.specs.Kept.{IsDraft, CanAdd, IsRowValue};
 ghost use Rattle.schema.specs.Steps.{IsAfter, IsCheckAdded, number_of, target_number, match_rule, with_match, with_unique, with_sample, with_table};
 
 use crate::draft::{Draft, Phase, no_table};

@@ -6,7 +6,7 @@ ghost use Rattle.expression_text.specs.Columns.{IsKnown, HasRowText};
 ghost use Rattle.expression_text.specs.Grammar.{IsExpression};
 ghost use Rattle.schema.specs.Columns.{is_set_null, is_restrict, is_reference, is_comparable, are_comparable, kind_seen, kinds_of, names_of};
 ghost use Rattle.schema.specs.Faults.{HasTarget, HasGoodTarget, IsTyped, AreBounds, IsTypedCheck, IsTypedMatch, IsTypedUnique, IsMatchable, MayMatch};
-ghost use Rattle.schema.specs.Sound.{CanBuild};
+ghost use Rattle.schema.specs.Kept.{CanBuild};
 
 use crate::draft::Draft;
 use crate::form::{Form, PlainKind};

@@ -48,9 +48,9 @@ mod word_lists;
 mod words;
 
 pub use action::Action;
+pub use checks::{check_holds, checks_hold};
 pub use column::{Column, ColumnKind};
 pub use fault::{SchemaError, SchemaFault, SchemaKind};
-pub use checks::{check_holds, checks_hold};
 pub use fitting::{all_fit, fits_column};
 pub use laws::{declared_is_sound, declared_samples_pass, no_fault, one_fault, one_schema};
 pub use limits::{

@@ -8,7 +8,7 @@ ghost use Rattle.schema.specs.Schemas.{Declares, FirstFault, SchemaData, Leads, 
 ghost use Rattle.text_words.specs.Words.{passed_over};
 ghost use Rattle.schema.specs.Forms.{HasForm, IsWhole};
 ghost use Rattle.schema.specs.declared.fault.SchemaError.TheVariants.{Fault, Memory};
-ghost use Rattle.schema.specs.Sound.{IsDraft};
+ghost use Rattle.schema.specs.Kept.{IsDraft};
 
 use crate::draft::Draft;
 use crate::form::Form;

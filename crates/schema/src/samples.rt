@@ -3,7 +3,7 @@
 ghost use Rattle.std.specs.Prelude.{◌≡◌, ◌↔◌, ◌≤◌, length, IsTrue, IfOk, All};
 ghost use Rattle.schema.specs.Faults.{HasSample, IsSample, matches_target, passes_matches};
 ghost use Rattle.schema.specs.Rows.{sample_row, value_written, value_at_column, values_after, plain_count, fits_sample, fits_sample_at};
-ghost use Rattle.schema.specs.Sound.{IsDraft, IsRowValue, HasRowValues};
+ghost use Rattle.schema.specs.Kept.{IsDraft, IsRowValue, HasRowValues};
 
 use crate::checks::checks_hold;
 use crate::draft::Draft;

@@ -225,7 +225,8 @@ fn first_wrong<'a>(
         };
         let mut text = text_of(alloc, front)?;
         text.extend_from_slice(text_of(alloc, body)?.as_slice())?;
-        if read(alloc, reading, text.as_slice())?.as_slice() != want.trim_start().as_bytes() {
+        let want = text_of(alloc, want.trim_start())?;
+        if read(alloc, reading, text.as_slice())? != want {
             return Ok(Some(case));
         }
     }

@@ -1,6 +1,6 @@
 use Rattle.std.proofs.Common.{◌≡◌, ◌++◌, drop, All}
 use Rattle.schema.specs.Rows.{sample_row}
-use Rattle.schema.specs.Sound.{IsRowValue}
+use Rattle.schema.specs.Kept.{IsRowValue}
 use Rattle.schema.proofs.samples.sample_row.Given as goal
 
 -- the row so far and that of the columns and values that are left are the whole row
