@@ -34,18 +34,20 @@ fn follows_a_small_graph(rt: HostRuntime) -> Result<(), Fail> {
         (9, &[3, 5], &[9]),
         (1, &[5], &[1, 9]),
     ];
-    for (new, preds, want) in steps {
-        assert!(rt; heads.added() < MAX_HEADS && !heads.was_head(&id(new)));
-        heads.add(id(new), &ids(alloc, preds)?)?;
-        assert!(rt; heads.list(alloc)? == ids(alloc, want)?, "after {new}");
+    for (number, preds, want) in steps {
+        let new = id(number);
+        assert!(rt; heads.added() < MAX_HEADS && !heads.was_head(&new));
+        heads.add(new, &ids(alloc, preds)?)?;
+        assert!(rt; heads.list(alloc)? == ids(alloc, want)?, "after {number}");
     }
     assert!(rt; heads.contains(&id(9)) && !heads.contains(&id(5)) && heads.was_head(&id(5)));
     // back to each number of adds
-    for (new, _, want) in steps.iter().rev() {
-        assert!(rt; heads.list(alloc)? == ids(alloc, want)?, "up to {new}");
-        assert!(rt; 0 < heads.added());
-        heads.cut(heads.added() - 1);
-        assert!(rt; !heads.was_head(&id(*new)));
+    for (number, _, want) in steps.iter().rev() {
+        assert!(rt; heads.list(alloc)? == ids(alloc, want)?, "up to {number}");
+        let added = heads.added();
+        assert!(rt; 0 < added);
+        heads.cut(added - 1);
+        assert!(rt; !heads.was_head(&id(*number)));
     }
     assert!(rt; heads.is_empty());
     Ok(())
