@@ -27,32 +27,43 @@ fn follows_a_small_graph(rt: HostRuntime) -> Result<(), Fail> {
     let mut heads = Heads::new(alloc);
     assert!(rt; heads.is_empty());
     // who arrives, whom it names, and the heads then
-    for (new, preds, want) in [
+    let steps = [
         (7, [].as_slice(), [7].as_slice()),
         (3, &[], &[3, 7]),
         (5, &[7], &[3, 5]),
         (9, &[3, 5], &[9]),
         (1, &[5], &[1, 9]),
-    ] {
-        assert!(rt; heads.len() < MAX_HEADS);
-        heads.add(id(new), &ids(alloc, preds)?)?;
-        assert!(rt; heads.list(alloc)? == ids(alloc, want)?, "after {new}");
+    ];
+    for (number, preds, want) in steps {
+        let new = id(number);
+        assert!(rt; heads.added() < MAX_HEADS && !heads.was_head(&new));
+        heads.add(new, &ids(alloc, preds)?)?;
+        assert!(rt; heads.list(alloc)? == ids(alloc, want)?, "after {number}");
     }
-    let copy = heads.copy(alloc)?;
-    assert!(rt; copy.contains(&id(9)) && !copy.contains(&id(5)));
-    assert!(rt; copy.iter().next() == Some(&id(1)));
+    assert!(rt; heads.contains(&id(9)) && !heads.contains(&id(5)) && heads.was_head(&id(5)));
+    // back to each number of adds
+    for (number, _, want) in steps.iter().rev() {
+        assert!(rt; heads.list(alloc)? == ids(alloc, want)?, "up to {number}");
+        let added = heads.added();
+        assert!(rt; 0 < added);
+        heads.cut(added - 1);
+        assert!(rt; !heads.was_head(&id(*number)));
+    }
+    assert!(rt; heads.is_empty());
     Ok(())
 }
 
+// two chains side by side, as long as may be, and the number of heads asked after each add
 #[test]
-fn follows_two_long_chains(rt: HostRuntime) -> Result<(), Fail> {
+fn counts_quickly(rt: HostRuntime) -> Result<(), Fail> {
     let mut heads = Heads::new(rt.alloc());
     for number in 0..MAX_HEADS {
-        assert!(rt; heads.len() < MAX_HEADS);
+        let new = id(number);
+        assert!(rt; heads.added() < MAX_HEADS && !heads.was_head(&new));
         if number < 2 {
-            heads.add(id(number), &[])?;
+            heads.add(new, &[])?;
         } else {
-            heads.add(id(number), &[id(number - 2)])?;
+            heads.add(new, &[id(number - 2)])?;
         }
         assert_eq!(rt; heads.len(), if number == 0 { 1 } else { 2 });
     }
