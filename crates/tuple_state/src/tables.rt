@@ -87,11 +87,11 @@ impl Tables {
         })
     }
 
-    /// Takes the next update with its verdict: a valid one's rows and deletions, or a void one's line. The verdict has to
+    /// Takes the next update over with its verdict: a valid one's rows and deletions, or a void one's line. The verdict has to
     /// be the right one, on the update's ancestors among those that were applied. After an error nothing has changed.
-    pub fn apply(&mut self, node: &Node, verdict: Verdict) -> Result<(), AllocError>
-        requires next { IsNextVerdict self.old node.now verdict }
-        ensures { MatchResult result (λ _. self.new ≡ after self.old node.now verdict) (λ _. self.new ≡ self.old) }
+    pub fn apply(&mut self, node: Node, verdict: Verdict) -> Result<(), AllocError>
+        requires next { IsNextVerdict self.old node verdict }
+        ensures { MatchResult result (λ _. self.new ≡ after self.old node verdict) (λ _. self.new ≡ self.old) }
     {
         match verdict {
             Verdict::Valid => self.keep_valid(node),
@@ -205,13 +205,13 @@ impl Tables {
     }
 
     /// Keeps what a valid update does. Memory is taken before anything changes.
-    fn keep_valid(&mut self, node: &Node) -> Result<(), AllocError>
-        requires next { IsNextVerdict self.old node.now Valid }
-        ensures { MatchResult result (λ _. self.new ≡ after self.old node.now Valid) (λ _. self.new ≡ self.old) }
+    fn keep_valid(&mut self, node: Node) -> Result<(), AllocError>
+        requires next { IsNextVerdict self.old node Valid }
+        ensures { MatchResult result (λ _. self.new ≡ after self.old node Valid) (λ _. self.new ≡ self.old) }
     {
         let _ops = &node.ops;
+        let mut dropped = dropped_by(self.alloc, self.count, &node)?;
         let mut inserted = inserted_by(self.alloc, self.count, node)?;
-        let mut dropped = dropped_by(self.alloc, self.count, node)?;
         let first = self.rows.len();
         make_room(
             &mut self.rows,

@@ -62,7 +62,7 @@ fn after_deletion(alloc: Global, schema: &Schema) -> Result<Tables, AllocError> 
         reason: 6,
         operation: 0,
     };
-    tables.apply(&node, verdict)?;
+    tables.apply(node, verdict)?;
     Ok(tables)
 }
 
