@@ -11,7 +11,8 @@ use Rattle.tuple_state.specs.State.{State, dropped_at, inserted_at}
 use Rattle.std.specs.BTreeMap.{get}
 use Rattle.schema.specs.Tables.{name_cmp}
 use Rattle.tuple_state.specs.Kept.{deletes_at, pairs_of}
-use Rattle.tuple_state.proofs.Deleting.{all_same, match_ok, pairs_same}
+use Rattle.tuple_state.proofs.Deleting.{all_same, match_err, match_ok, pairs_same}
+use Rattle.tuple_state.proofs.Shortening.{kept_places}
 use Rattle.tuple_state.proofs.Keeping.{drops_there, kept_next, layered_next}
 use Rattle.tuple_state.proofs.Lookups.{row_found}
 use Rattle.tuple_state.proofs.Marks.{found_layered, fresh_layered}
@@ -97,3 +98,19 @@ remove_places-requires c =
       fresh = rw (c.as_slice-then-is_err.ensures.value, c.make_room.ensures.rows, c.as_slice-then-is_err-2.ensures.value, c.in_ok-inserted.ensures)
           (fresh_layered _ c.self.inside.rows.items _ (layered_next _ c.args.node c.self.inside.places c.self.inside.shown.items c.self.inside.deleters c.self.invariant next));
     }
+
+pub invariant_of-self-in_err-add_places : goal.invariant_of-self-in_err-add_places
+invariant_of-self-in_err-add_places c =
+    let inside = c.self.inside in
+    let state : State = record { columns = inside.columns.items; count = inside.count; inserted = inside.rows.items; dropped = inside.dropped.items; voids = inside.voids.items } in
+    rw (c.make_room.ensures.rows, c.make_room.ensures.shown, c.make_room.ensures.dropped)
+    (kept_places state inside.places c.add_places.new.places inside.shown.items inside.deleters inside.deleters c.self.invariant
+    (rw (c.as_slice.ensures.value, c.make_room.ensures.rows) at c.in_err-add_places.ensures.err) refl)
+
+pub invariant_of-self-then-is_err : goal.invariant_of-self-then-is_err
+invariant_of-self-then-is_err c =
+    let inside = c.self.inside in
+    let state : State = record { columns = inside.columns.items; count = inside.count; inserted = inside.rows.items; dropped = inside.dropped.items; voids = inside.voids.items } in
+    rw (c.make_room.ensures.rows, c.make_room.ensures.shown, c.make_room.ensures.dropped)
+    (kept_places state inside.places c.remove_places.new.places inside.shown.items inside.deleters c.add_deleters-grown.new.deleters c.self.invariant
+    (rw (c.as_slice-then-is_err.ensures.value, c.make_room.ensures.rows) at c.remove_places.ensures) (match_err _ c.add_deleters-grown.result (sym c.is_err.ensures.value ∙ c.if-is_err.true) c.add_deleters-grown.ensures))

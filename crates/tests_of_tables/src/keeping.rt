@@ -3,7 +3,7 @@
 ghost use Rattle.std.specs.Prelude.{◌≡◌, false, [], ◌∷◌, IfOk};
 ghost use Rattle.update_model.specs.declared.op.Op.TheVariants.{Delete};
 
-use crate::Tables;
+use tuple_state::Tables;
 use row_check::{Luhn, Native};
 use schema::{Schema, SchemaError, Verdict, read_schema};
 use std::alloc::{AllocError, Global};
