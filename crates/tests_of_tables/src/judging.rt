@@ -3,7 +3,6 @@
 ghost use Rattle.std.specs.Prelude.{◌≡◌, None, Some, if◌then◌else◌};
 ghost use Rattle.schema.specs.Visible.{same_row};
 
-
 use row_check::{Luhn, Native};
 use schema::{SchemaError, Verdict, read_schema};
 use std::alloc::{AllocError, Global};

@@ -3,11 +3,11 @@
 ghost use Rattle.std.specs.Prelude.{◌≡◌, false, [], ◌∷◌, IfOk};
 ghost use Rattle.update_model.specs.declared.op.Op.TheVariants.{Delete};
 
-use tuple_state::Tables;
 use row_check::{Luhn, Native};
 use schema::{Schema, SchemaError, Verdict, read_schema};
 use std::alloc::{AllocError, Global};
 use std::test::Fail;
+use tuple_state::Tables;
 use update_model::{
     Ancestors, AuthorKey, IdList, Node, Op, OpList, RowName, RowsAt, UpdateId, Value,
 };

@@ -19,8 +19,10 @@ const SCHEMA: &str =
 /// No predecessor, and one operation, which inserts a row of the first table.
 const FIRST: [u8; 16] = [0, 0, 0, 1, 1, 0, 1, 1, 0, 0, 0, 0, 0, 0, 0, 1];
 
-/// One operation, up to the name of the row: it inserts a row of the second table, or deletes.
+/// One operation, up to the name of the row: it inserts a row of the second table that names it.
 const INSERT_OF: [u8; 15] = [0, 1, 1, 1, 2, 1, 0, 0, 0, 0, 0, 0, 0, 2, 4];
+
+/// One operation, up to the name of the row, which it deletes.
 const DELETE: [u8; 3] = [0, 1, 2];
 
 /// The orders in which the last three updates can arrive.

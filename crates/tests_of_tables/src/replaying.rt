@@ -1,6 +1,5 @@
 //! A graph of one update, which its author signed and which deletes a row that is not there.
 
-
 use hash_graph::Graph;
 use lm_ots::OtsType;
 use lms_tree::{LmsType, make_secret};

@@ -105,7 +105,7 @@ impl<'a, A: Ancestors> At<'a, A> {
         ensures decides { IfOk result (λ may. may ≡ true → (it : Row) → slice_get self.now.tables.now.inserted place ≡ Some it
             → list_all (row_visible_at (A.ancestor self.now.ancestors.now) self.now.tables.now self.now.position) pending.new.keys
             ≡ (list_all (row_visible_at (A.ancestor self.now.ancestors.now) self.now.tables.now self.now.position) pending.old.keys
-                && visible_at (A.ancestor self.now.ancestors.now) self.now.tables.now self.now.position it.name)) }
+            && visible_at (A.ancestor self.now.ancestors.now) self.now.tables.now self.now.position it.name)) }
         ensures below { IfOk result (λ may. may ≡ true → list_all (λ k. nat_lt k place) pending.old.keys ≡ true → list_all (λ k. nat_lt k place) pending.new.keys ≡ true) }
     {
         let row = self.tables.row(place);

@@ -158,12 +158,7 @@ fn forget(newest: &mut [Option<usize>])
 
 /// Finds the last link of each place, and of each link from one on the last one before it, where they are known for the
 /// links before that one.
-fn thread(
-    newest: &mut [Option<usize>],
-    older: &mut [Option<usize>],
-    links: &[Link],
-    from: usize,
-)
+fn thread(newest: &mut [Option<usize>], older: &mut [Option<usize>], links: &[Link], from: usize)
     requires each { length older.old ≡ length links.now }
     requires inside { are_inside (length newest.old) links.now ≡ true }
     requires few { from ≤ length links.now }

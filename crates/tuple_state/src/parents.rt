@@ -101,7 +101,11 @@ pub(crate) fn add_places(
 }
 
 /// Takes the places of the later rows away.
-pub(crate) fn remove_places(places: &mut BTreeMap<RowName, usize>, rows: &[Inserted], taken: &[Inserted])
+pub(crate) fn remove_places(
+    places: &mut BTreeMap<RowName, usize>,
+    rows: &[Inserted],
+    taken: &[Inserted],
+)
     requires placed { (name : Name) → get name_cmp places.old name ≡ place_of (rows.now ++ taken.now) name }
     requires fresh { AreFresh rows.now taken.now }
     ensures { (name : Name) → get name_cmp places.new name ≡ place_of rows.now name }

@@ -369,7 +369,7 @@ impl Tables {
         requires past { StandsAt self.now (λ p. A.ancestor ancestors.now p position) }
         ensures answers { (rules : Rules) (nodes : List NodeData) (node : NodeData) → IsStateOf rules nodes self.now → IsPastOf rules nodes node (λ p. A.ancestor ancestors.now p position)
             → AreAnswers rules (effects_before rules nodes node) (⟦<At<'a, A> as RowsAt>⟧.row result) (⟦<At<'a, A> as RowsAt>⟧.has_child result)
-                (⟦<At<'a, A> as RowsAt>⟧.equal_count result) (⟦<At<'a, A> as RowsAt>⟧.count result) }
+            (⟦<At<'a, A> as RowsAt>⟧.equal_count result) (⟦<At<'a, A> as RowsAt>⟧.count result) }
     {
         At::new(self, ancestors, position)
     }
