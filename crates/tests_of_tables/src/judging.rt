@@ -1,18 +1,17 @@
-//! Each reason once, beside one visible row.
+//! Verdicts: each reason once, beside one visible row.
 
-ghost use Rattle.std.specs.Prelude.{None, Some, if◌then◌else◌};
+ghost use Rattle.std.specs.Prelude.{◌≡◌, None, Some, if◌then◌else◌};
 ghost use Rattle.table_model.specs.Visible.{same_row};
 
-use crate::referring::is_row;
-use crate::{is_unlimited, judge};
 use row_check::{Luhn, Native};
 use schema::{SchemaError, read_schema};
+use table_model::Verdict;
 use std::alloc::{AllocError, Global};
 use std::test::Fail;
-use table_model::Verdict;
 use update_model::{
     AuthorKey, IdList, Node, Op, OpList, RowEntry, RowName, RowsAt, UpdateId, Value, ValueList,
 };
+use validity::{is_unlimited, judge};
 
 const SCHEMA: &str =
     "DATABASE d\nTABLE list DELETABLE\nCOLUMN size INT 0 9\nSAMPLE 5\nTABLE task DELETABLE OWNED\nCOLUMN n INT 0 9\n\
@@ -77,6 +76,13 @@ impl RowsAt for Shown {
     fn row_count(&self, _alloc: Global, _table: u8) -> Result<u32, AllocError> {
         Ok(0)
     }
+}
+
+/// Whether two names are one.
+fn is_row(a: &RowName, b: &RowName) -> bool
+    ensures { result ≡ same_row a.now b.now }
+{
+    a == b
 }
 
 /// An author whose key has this leaf type.

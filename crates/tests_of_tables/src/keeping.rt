@@ -3,12 +3,12 @@
 ghost use Rattle.std.specs.Prelude.{◌≡◌, false, [], ◌∷◌, IfOk};
 ghost use Rattle.update_model.specs.declared.op.Op.TheVariants.{Delete};
 
-use crate::Tables;
 use row_check::{Luhn, Native};
 use schema::{Schema, SchemaError, read_schema};
+use table_model::Verdict;
 use std::alloc::{AllocError, Global};
 use std::test::Fail;
-use table_model::Verdict;
+use tuple_state::Tables;
 use update_model::{
     Ancestors, AuthorKey, IdList, Node, Op, OpList, RowName, RowsAt, UpdateId, Value,
 };
@@ -63,7 +63,7 @@ fn after_deletion(alloc: Global, schema: &Schema) -> Result<Tables, AllocError> 
         reason: 6,
         operation: 0,
     };
-    tables.apply(&node, verdict)?;
+    tables.apply(node, verdict)?;
     Ok(tables)
 }
 

@@ -1,9 +1,9 @@
 //! A graph of one update, which its author signed and which deletes a row that is not there.
 
-use crate::replay;
 use hash_graph::Graph;
 use lm_ots::OtsType;
 use lms_tree::{LmsType, make_secret};
+use replay::replay;
 use row_check::{Luhn, Native};
 use schema::read_schema;
 use std::alloc::{AllocError, Global};

@@ -1,6 +1,6 @@
 use Rattle.std.proofs.Common.{false}
 use Rattle.tuple_state.proofs.Starting.{first_deletion}
-use Rattle.tuple_state.proofs.tests.after_deletion.Goals as goal
+use Rattle.tests_of_tables.proofs.keeping.after_deletion.Goals as goal
 
 pub apply-requires : goal.apply-requires
 apply-requires c =
