@@ -21,6 +21,3 @@ mod host_source;
 
 pub use host_sink::HostSink;
 pub use host_source::HostSource;
-
-#[cfg(test)]
-mod tests;
