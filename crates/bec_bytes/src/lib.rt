@@ -48,6 +48,3 @@ pub use plain_source::PlainSource;
 pub use read_error::ReadError;
 pub use sink::Sink;
 pub use source::Source;
-
-#[cfg(test)]
-mod tests;

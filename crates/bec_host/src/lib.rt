@@ -29,6 +29,3 @@ pub use hash_rng::HashRng;
 pub use host_sink::HostSink;
 pub use host_source::HostSource;
 pub use laws::blocks_follow_one_another;
-
-#[cfg(test)]
-mod tests;

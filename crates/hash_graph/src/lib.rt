@@ -19,8 +19,6 @@ mod added;
 mod graph;
 mod refusal;
 mod refused;
-#[cfg(test)]
-mod tests;
 
 pub use added::Added;
 pub use graph::Graph;

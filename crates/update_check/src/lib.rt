@@ -22,8 +22,6 @@ mod check_error;
 mod checked_update;
 mod checking;
 mod laws;
-#[cfg(test)]
-mod tests;
 
 pub use check_error::{CheckError, CheckFault};
 pub use checked_update::Checked;

@@ -29,8 +29,6 @@ mod operations;
 mod predecessors;
 mod spelled_update;
 mod taking;
-#[cfg(test)]
-mod tests;
 mod values;
 mod writing_ops;
 

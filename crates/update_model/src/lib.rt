@@ -32,8 +32,6 @@ mod op_list;
 mod row_entry;
 mod row_name;
 mod rows_at;
-#[cfg(test)]
-mod tests;
 mod text_value;
 mod update;
 mod update_id;

@@ -1,5 +1,7 @@
-use crate::{HostSink, HostSource};
+//! Adapters over readers and writers that stop short and fail.
+
 use bec_bytes::{Failed, Sink, Source, read_full, write_all_of};
+use bec_host::{HostSink, HostSource};
 use std::io;
 use std::io::{ErrorKind, Read, Write};
 use std::test::Fail;

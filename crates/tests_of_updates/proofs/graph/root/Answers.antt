@@ -1,6 +1,6 @@
 use Rattle.std.proofs.Common.{rules}
 use Rattle.std.specs.List.Sorted.{IsStrictlySortedBy}
-use Rattle.hash_graph.proofs.tests.child.Goals as goal
+use Rattle.tests_of_updates.proofs.graph.root.Goals as goal
 
 pub invariant_of-result : goal.invariant_of-result
 unfolding IsStrictlySortedBy

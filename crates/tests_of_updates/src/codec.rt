@@ -1,7 +1,9 @@
-use crate::{DecodeError, UPDATE_LIMIT, decode, encode, encode_body, id_of, spelled};
+//! Spellings read and written, and each kind of fault.
+
 use std::alloc::{AllocError, Global};
 use std::test::Fail;
-use update_model::{Member, Op, RowName, TextValue, UpdateId, Value};
+use update_codec::{UPDATE_LIMIT, decode, encode, encode_body, id_of, spelled};
+use update_model::{Member, UpdateId};
 
 /// No operations: their number.
 const NONE: &[u8] = b"\x00\x00";
@@ -103,63 +105,15 @@ fn reads_and_writes_spellings(rt: HostRuntime) -> Result<(), Fail> {
     Ok(())
 }
 
-/// Whether a value that is spelled so, in an insert behind one that deletes a row, is read as this one.
-fn is_read_as(alloc: Global, spelling: &[u8], value: &Value) -> Result<bool, Fail> {
-    let mut ops = Vec::from_slice(alloc, b"\x00\x02\x02")?;
-    ops.extend_from_slice(&[7; 34])?;
-    ops.extend_from_slice(b"\x01\x00\x01")?;
-    ops.extend_from_slice(spelling)?;
-    let bytes = written(alloc, &[], ops.as_slice())?;
-    let update = decode(alloc, bytes.as_slice())?;
-    Ok(match update.body.ops.as_slice() {
-        [Op::Delete { .. }, Op::Insert { values, .. }] => match values.as_slice() {
-            [read] => read.equals(value),
-            _ => false,
-        },
-        _ => false,
-    })
-}
-
-#[test]
-fn reads_each_kind_of_value(rt: HostRuntime) -> Result<(), Fail> {
-    let row = RowName {
-        update: UpdateId([7; 32]),
-        index: 1800,
-    };
-    let mut named = Vec::from_slice(rt.alloc(), &[4; 1])?;
-    named.extend_from_slice(&[7; 32])?;
-    named.extend_from_slice(&[7, 8])?;
-    let text = TextValue::from_vec(Vec::from_slice(rt.alloc(), b"ann")?);
-    for (spelling, value) in [
-        (b"\x00".as_slice(), &Value::Null),
-        (
-            b"\x01\x7f\xff\xff\xff\xff\xff\xff\xff".as_slice(),
-            &Value::Int(i64::MAX),
-        ),
-        (
-            b"\x01\x80\x00\x00\x00\x00\x00\x00\x00".as_slice(),
-            &Value::Int(i64::MIN),
-        ),
-        (b"\x02\x00\x03ann".as_slice(), &Value::Text(text)),
-        (b"\x03\x00".as_slice(), &Value::Flag(false)),
-        (b"\x03\x01".as_slice(), &Value::Flag(true)),
-        (named.as_slice(), &Value::Row(row)),
-        (b"\x05\x00\x00".as_slice(), &Value::Own(0)),
-    ] {
-        assert!(rt; is_read_as(rt.alloc(), spelling, value)?, "{spelling:?}");
-    }
-    Ok(())
-}
-
-/// What `decode` and `spelled` answer of an update with these predecessors and operations, once some bytes are set
-/// and it is cut to a length, or has zeros more.
-fn refusal(
+/// Whether `decode` and `spelled` refuse, with these words, an update with these predecessors and operations, once some bytes
+/// are set and it is cut to a length, or has zeros more.
+fn is_refused(
     alloc: Global,
     (preds, ops): (&[u8], &[u8]),
-    place: usize,
-    values: &[u8],
+    (place, values): (usize, &[u8]),
     len: usize,
-) -> Result<Option<DecodeError>, AllocError> {
+    words: &str,
+) -> Result<bool, AllocError> {
     let mut bytes = written(alloc, preds, ops)?;
     for (i, value) in values.iter().enumerate() {
         if let Some(byte) = bytes.get_mut(place.saturating_add(i)) {
@@ -168,79 +122,47 @@ fn refusal(
     }
     bytes.resize(len, 0)?;
     let decoded = decode(alloc, bytes.as_slice()).err();
-    Ok(
-        spelled(alloc, bytes)
-            .err()
-            .filter(|refused| decoded == Some(*refused)),
-    )
+    Ok(match spelled(alloc, bytes) {
+        Ok(_update) => false,
+        Err(refused) => decoded == Some(refused) && refused.to_string(alloc)?.as_str() == words,
+    })
 }
 
+/// Each kind of fault once.
 #[test]
 fn tells_the_first_fault(rt: HostRuntime) -> Result<(), Fail> {
-    let root: (&[u8], &[u8]) = (&[], NONE);
-    for (kind, place, values, len, fault) in [
-        (root, 0, b"\x02".as_slice(), 1389, "version at 0"),
-        (root, 36, b"\x08", 1389, "key type at 33"),
-        (root, 36, b"\x08", 40, "key type at 33"),
-        (root, 40, b"\x05", 1389, "key type at 37"),
-        (root, 89, b"\x04\x01", 1389, "count at 89"),
-        (root, 91, b"\x00\x41", 1389, "count at 91"),
+    let one = b"\x00\x01\x01\x00\x01".as_slice();
+    for (preds, ops, place, values, len, words) in [
         (
-            root,
+            b"".as_slice(),
+            NONE,
+            0,
+            b"\x02".as_slice(),
+            1389,
+            "version at 0",
+        ),
+        (b"", NONE, 36, b"\x08", 40, "key type at 33"),
+        (b"", NONE, 89, b"\x04\x01", 1389, "count at 89"),
+        (
+            b"",
+            NONE,
             93,
             b"\x00\x00\x00\x00",
             1389,
             "signature length at 93",
         ),
-        (root, 0, b"", 1390, "trailing at 1389"),
-        (root, 0, b"", 700, "short at 700"),
-        (root, 0, b"", 0, "short at 0"),
-        (root, 0, b"\x02", UPDATE_LIMIT + 1, "too long at 262144"),
-        ((&[2, 1], NONE), 0, b"", 1453, "order at 123"),
-        ((&[1, 1], NONE), 0, b"", 1453, "order at 123"),
-        ((&[], b"\x00\x01\x03"), 0, b"", 1390, "tag at 93"),
-        ((&[], b"\x00\x01\x01\x00\x00"), 0, b"", 1392, "count at 95"),
-        ((&[], b"\x00\x01\x01\x00\x11"), 0, b"", 1392, "count at 95"),
-        (
-            (&[], b"\x00\x01\x01\x00\x01\x06"),
-            0,
-            b"",
-            1393,
-            "tag at 96",
-        ),
-        (
-            (&[], b"\x00\x01\x01\x00\x01\x03\x02"),
-            0,
-            b"",
-            1394,
-            "tag at 97",
-        ),
-        (
-            (&[], b"\x00\x01\x01\x00\x01\x05\x00\x00"),
-            0,
-            b"",
-            1395,
-            "own index at 97",
-        ),
-        (
-            (&[], b"\x00\x01\x01\x00\x01\x02\x04\x01"),
-            0,
-            b"",
-            1395,
-            "text at 97",
-        ),
-        (
-            (&[], b"\x00\x01\x01\x00\x01\x02\x00\x01\xff"),
-            0,
-            b"",
-            1396,
-            "text at 99",
-        ),
+        (b"", NONE, 0, b"", 1390, "trailing at 1389"),
+        (b"", NONE, 0, b"", 0, "short at 0"),
+        (b"", NONE, 0, b"", UPDATE_LIMIT + 1, "too long at 262144"),
+        (b"\x02\x01", NONE, 0, b"", 1453, "order at 123"),
+        (b"", one, 96, b"\x06", 1393, "tag at 96"),
+        (b"", one, 96, b"\x05\x00\x00", 1395, "own index at 97"),
+        (b"", one, 96, b"\x02\x00\x01\xff", 1396, "text at 99"),
     ] {
-        match refusal(rt.alloc(), kind, place, values, len)? {
-            Some(error) => assert_eq!(rt; error.to_string(rt.alloc())?.as_str(), fault),
-            None => return Err(Fail::from(fault)),
-        }
+        assert!(rt;
+            is_refused(rt.alloc(), (preds, ops), (place, values), len, words)?,
+            "{words}"
+        );
     }
     Ok(())
 }

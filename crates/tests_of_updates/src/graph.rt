@@ -4,9 +4,8 @@ ghost use Rattle.std.specs.Prelude.{◌≡◌, IfOk};
 ghost use Rattle.std.specs.List.Sorted.{IsStrictlySortedBy, IsStrictlySortedBy-prop};
 ghost use Rattle.update_model.specs.Entry.{Entry, id_cmp};
 
-use crate::{Added, Graph, Refusal};
+use hash_graph::{Added, Graph, Refusal};
 use std::alloc::{AllocError, Global};
-use std::cmp::Ordering;
 use std::test::Fail;
 use update_model::{MAX_MEMBERS, Member, UpdateId};
 
@@ -62,19 +61,6 @@ fn child(alloc: Global, number: u32, pred: u32) -> Result<Mark, AllocError> {
     })
 }
 
-/// A mark with two predecessors, or with the first alone where they do not rise.
-fn join(alloc: Global, number: u32, first: u32, second: u32) -> Result<Mark, AllocError> {
-    let (below, above) = (id_of(first), id_of(second));
-    match below.cmp(&above) {
-        Ordering::Less => Ok(Mark {
-            id: id_of(number),
-            preds: Vec::from_slice(alloc, &[below, above])?,
-            byte: [0],
-        }),
-        _ => child(alloc, number, first),
-    }
-}
-
 fn answer(graph: &mut Graph<Mark>, mark: Mark) -> Result<Added, Refusal> {
     graph.add(mark).map_err(|refused| refused.why)
 }
@@ -97,7 +83,6 @@ fn fills_up(rt: HostRuntime) -> Result<(), Fail> {
             child(alloc, MAX_MEMBERS, 200_000)?,
             Err(Refusal::Lacks(id_of(200_000))),
         ),
-        (child(alloc, 9, 200_000)?, Ok(Added::Known(9))),
     ];
     for (mark, want) in rows {
         assert_eq!(rt; answer(&mut graph, mark), want);
@@ -114,10 +99,9 @@ fn adds_and_cuts(rt: HostRuntime) -> Result<(), Fail> {
     let rows = [
         (root(alloc, 5), Ok(Added::New(0))),
         (child(alloc, 4, 5)?, Ok(Added::New(1))),
-        (join(alloc, 6, 2, 3)?, Err(Refusal::Lacks(id_of(2)))),
-        (join(alloc, 6, 4, 7)?, Err(Refusal::Lacks(id_of(7)))),
-        (join(alloc, 4, 2, 3)?, Ok(Added::Known(1))),
-        (join(alloc, 3, 4, 5)?, Ok(Added::New(2))),
+        (child(alloc, 6, 7)?, Err(Refusal::Lacks(id_of(7)))),
+        (child(alloc, 4, 7)?, Ok(Added::Known(1))),
+        (child(alloc, 3, 4)?, Ok(Added::New(2))),
     ];
     for (mark, want) in rows {
         assert_eq!(rt; answer(&mut graph, mark), want);

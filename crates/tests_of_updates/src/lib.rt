@@ -1,0 +1,19 @@
+//! Tests of the public calls of the crates that read, check and keep updates, a module a crate.
+#![tactic(auto)]
+
+#[cfg(test)]
+mod bytes;
+#[cfg(test)]
+mod checks;
+#[cfg(test)]
+mod codec;
+#[cfg(test)]
+mod graph;
+#[cfg(test)]
+mod host;
+#[cfg(test)]
+mod model;
+#[cfg(test)]
+mod signed;
+#[cfg(test)]
+mod streams;
