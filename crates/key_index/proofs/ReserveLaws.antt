@@ -53,7 +53,7 @@ still_store old new index tried =
     record {
       long = ap length tried.tries.taken ∙ length-set old.taken index true ∙ tried.store.long ∙ ap (λ (s : SecretData). leaf_count s.lms) (sym tried.tries.secret);
       free = subst (λ (taken : List Bool). IsTrue new.parts.used.tells → AreFree taken new.parts.used.now) (sym tried.tries.taken)
-      (others_free old.taken old.parts.used new.parts.used index tried.store.free tried.tries.only within);
+          (others_free old.taken old.parts.used new.parts.used index tried.store.free tried.tries.only within);
     }
 
 free_then : (old new : KeyState) (index : ℕ) → HasTried old index new → IsTrue old.parts.used.tells → EveryImage old.parts.used.now (IsUnused index)

@@ -27,9 +27,9 @@ pub stays_used : (old new : DiskState) (p q : ℕ) → (IsTrue old.tells → IsI
 stays_used old new p q reads unused used run =
     weakened old new (IsTornFrom old.now p (p + 1)) (IsUsed q) run
     (λ tells image torn is_zero.
-        let was = used tells torn.0 torn.1 in
-        let within : q < length torn.0 = omega (arith, used_within q torn.0 was) in
-        was (sym (other_byte p q torn.0 image (other tells) within torn.2) ∙ is_zero))
+    let was = used tells torn.0 torn.1 in
+    let within : q < length torn.0 = omega (arith, used_within q torn.0 was) in
+    was (sym (other_byte p q torn.0 image (other tells) within torn.2) ∙ is_zero))
   where
     other : IsTrue old.tells → q ≡ p → ⊥
     other tells same = used tells old.seen (reads tells) (ap (λ (k : ℕ). get_or old.seen k 0) same ∙ (unused tells old.seen (reads tells)).zero_byte)

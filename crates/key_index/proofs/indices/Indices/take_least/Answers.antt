@@ -9,7 +9,7 @@ index_mut-requires c =
     let least = is_least _ _ _ c.self.invariant (λ e. absurd (omega (arith, c.self.inside.used.ok.0))) in omega (arith, least.within, c.self.inside.used.ok.0)
 
 pub overflow_add-index : goal.overflow_add-index
-overflow_add-index c = 
+overflow_add-index c =
     let least = is_least _ _ _ c.self.invariant (λ e. absurd (omega (arith, c.self.inside.used.ok.0))) in omega (arith, least.within)
 
 pub next_unused-self-inside-requires-clause-within :
