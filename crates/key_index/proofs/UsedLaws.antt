@@ -1,8 +1,8 @@
 -- What marking an index as used leaves of it and of the others.
-use Rattle.std.proofs.Common.{◌≡◌, ◌≢◌, ◌⊎◌, inl, inr, ℕ, ◌+◌, ◌<◌, ◌≤◌, List, [], ◌∷◌, ◌++◌, length, take, drop, get_or, set, refl, sym, ◌∙◌, ap, subst, arith, Bool, true, false, IsTrue, get_or-set_other, get_or-set_same, length-set}
+use Rattle.std.proofs.Common.{◌≡◌, ◌⊎◌, ℕ, ◌+◌, ◌<◌, ◌≤◌, List, [], ◌∷◌, ◌++◌, length, take, drop, get_or, set, sym, ◌∙◌, ap, arith, Bool, true, false, IsTrue, get_or-set_other, get_or-set_same, length-set}
 use Rattle.std.proofs.lemmas.List.{drop-set-lt, get_or_past, take-append-drop, take_more_set}
 use Rattle.std.proofs.lemmas.Bool.{true≢false}
-use Rattle.bec_disk.specs.Disk.{DiskState, Moment, IsImage, EveryImage, LeavesOnly, IsSettled, overwritten}
+use Rattle.bec_disk.specs.Disk.{DiskState, IsImage, EveryImage, LeavesOnly, IsSettled, overwritten}
 use Rattle.bec_disk.specs.Images.{IsTorn, IsTornFrom}
 use Rattle.bec_disk.proofs.Images.{settled_image}
 use Rattle.bec_disk.proofs.Moments.{leaves_now, told_before, weakened}

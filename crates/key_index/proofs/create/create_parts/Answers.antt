@@ -1,4 +1,4 @@
-use Rattle.std.proofs.Common.{ap, ◌∙◌, ◌≡◌, Result, Err, sym, subst, refl, arith, inl, IsTrue}
+use Rattle.std.proofs.Common.{ap, ◌∙◌, Result, Err, sym, subst, refl, arith, inl}
 use Rattle.std.specs.Prelude.{MatchResult}
 use Rattle.bec_disk.specs.declared.disk_error.DiskError.{DiskError}
 use Rattle.key_index.specs.Creating.{CreatesKey, RefusesToCreate, drawn_key}
