@@ -1,26 +1,23 @@
 -- What is left of the parts of a key when it is created, or not.
-use Rattle.std.proofs.Common.{◌≡◌, ◌≢◌, ◌⊎◌, inl, inr, ℕ, zero, suc, ◌≤◌, List, [], ◌∷◌, ◌++◌, length, take, drop, refl, sym, ◌∙◌, ap, subst, arith, Bool, IsTrue, Result, Ok, Err}
-use Rattle.std.specs.Prelude.{not, ◌==◌, false, replicate, IsErr}
+use Rattle.std.proofs.Common.{◌≡◌, inl, inr, ℕ, zero, suc, List, ◌∷◌, length, refl, sym, ◌∙◌, ap, Bool, IsTrue, Result, Ok, Err}
+use Rattle.std.specs.Prelude.{false, replicate, IsErr}
 use Rattle.std.proofs.lemmas.Bool.{true≢false}
 use Rattle.std.proofs.lemmas.List.{length-replicate}
-use Rattle.bec_disk.specs.Disk.{DiskState, IsSameDisk, IsSettled, LeavesOnly, overwritten}
-use Rattle.bec_disk.specs.Gated.{IsOldOrNew, gated_of}
+use Rattle.bec_disk.specs.Disk.{DiskState, IsSameDisk, IsSettled, LeavesOnly}
+use Rattle.bec_disk.specs.Gated.{IsOldOrNew}
 use Rattle.bec_disk.proofs.Images.{settled_image}
 use Rattle.bec_disk.proofs.Moments.{same_disk, stays, told_before}
 use Rattle.bec_disk.specs.declared.disk_error.DiskError.{DiskError}
 use Rattle.bec_disk.specs.declared.disk_error.DiskError.TheVariants as disk
-use Rattle.bec_disk.specs.declared.gated.Gated.TheVariants.{Absent}
 use Rattle.lms_tree.specs.LmsKind.{leaf_count}
 use Rattle.lms_tree.specs.SecretKey.{SecretData}
 use Rattle.key_index.specs.Creating.{Creating, CreatesKey, RefusesToCreate, WritesParts}
 use Rattle.key_index.specs.Faults.{creating_kind}
 use Rattle.key_index.specs.KeyState.{KeyParts, KeyState, AreLater, AreSame, AreSettled, OneRose}
-use Rattle.key_index.specs.Kept.{AreFree, IsStore}
+use Rattle.key_index.specs.Kept.{IsStore}
 use Rattle.key_index.specs.Payload.{payload_of}
 use Rattle.key_index.specs.Used.{none_used, used_in}
 use Rattle.key_index.proofs.OpenLaws.{settled_free}
-use Rattle.key_index.specs.declared.faults.CreateKeyKind.{CreateKeyKind}
-use Rattle.key_index.specs.declared.faults.CreateKeyKind.TheVariants.{DiskFault, KeyThere, Memory}
 
 -- a settled part that was left alone stands for what it stood for
 pub left_alone : (old new : DiskState) (payload : List ℕ) → new ≡ old → (IsTrue old.tells → IsSettled old) → LeavesOnly old new (IsOldOrNew old.seen payload)

@@ -1,6 +1,6 @@
 -- What is read of the parts of a key.
-use Rattle.std.proofs.Common.{◌≡◌, ◌≢◌, ℕ, ◌<◌, ◌≤◌, List, ◌++◌, length, take, drop, get_or, map, refl, sym, ◌∙◌, ap, subst, arith, Bool, true, false, Result, Ok, Err}
-use Rattle.std.specs.Prelude.{not, ◌==◌, IsErr, IsErrAnd, MatchResult}
+use Rattle.std.proofs.Common.{◌≡◌, ℕ, ◌<◌, List, ◌++◌, length, take, drop, get_or, sym, ◌∙◌, ap, arith, Bool, true, false, Result, Ok, Err}
+use Rattle.std.specs.Prelude.{not, ◌==◌, IsErr, IsErrAnd}
 use Rattle.std.proofs.Math.Seq.{take-append_seam}
 use Rattle.std.proofs.lemmas.List.{take_all, length-map, get_or-map}
 use Rattle.std.proofs.lemmas.Bool.{true≢false}

@@ -1,5 +1,5 @@
 -- What a reservation answers and leaves, once its index was tried.
-use Rattle.std.proofs.Common.{◌≡◌, ◌≢◌, ℕ, ◌<◌, ◌≤◌, List, [], ◌∷◌, length, get_or, set, length-set, ◌+◌, refl, sym, ◌∙◌, ap, subst, arith, Bool, true, false, IsTrue, Some, Option, Ok, Err, Result}
+use Rattle.std.proofs.Common.{◌≡◌, ℕ, ◌<◌, ◌≤◌, List, [], ◌∷◌, length, get_or, set, length-set, ◌+◌, sym, ◌∙◌, ap, subst, Bool, true, false, IsTrue, Some, Option, Ok, Err, Result}
 use Rattle.std.specs.Prelude.{not, is_some, IsNone, IsErr, IsErrAnd, MatchOption}
 use Rattle.std.proofs.lemmas.List.Quantifiers.{position-Some}
 use Rattle.std.proofs.lemmas.Bool.{not-true, true≢false}
@@ -11,9 +11,9 @@ use Rattle.lms_tree.specs.SecretKey.{SecretData}
 use Rattle.key_index.specs.Used.{IsUsed, IsUnused, least_unused}
 use Rattle.key_index.specs.KeyState.{KeyState}
 use Rattle.key_index.specs.Kept.{AreFree, IsStore}
-use Rattle.key_index.specs.Reserving.{IsReserved, Reserves, Tries}
+use Rattle.key_index.specs.Reserving.{Reserves, Tries}
 use Rattle.key_index.specs.declared.reserve.Reserve.{Reserve}
-use Rattle.key_index.specs.declared.reserve.Reserve.TheVariants.{Spent, DiskFault}
+use Rattle.key_index.specs.declared.reserve.Reserve.TheVariants.{DiskFault}
 use Rattle.key_index.proofs.UsedLaws.{is_reserved, others_free, stays_used}
 
 -- the least index that is not used is one that is not used
@@ -53,7 +53,7 @@ still_store old new index tried =
     record {
       long = ap length tried.tries.taken ∙ length-set old.taken index true ∙ tried.store.long ∙ ap (λ (s : SecretData). leaf_count s.lms) (sym tried.tries.secret);
       free = subst (λ (taken : List Bool). IsTrue new.parts.used.tells → AreFree taken new.parts.used.now) (sym tried.tries.taken)
-      (others_free old.taken old.parts.used new.parts.used index tried.store.free tried.tries.only within);
+          (others_free old.taken old.parts.used new.parts.used index tried.store.free tried.tries.only within);
     }
 
 free_then : (old new : KeyState) (index : ℕ) → HasTried old index new → IsTrue old.parts.used.tells → EveryImage old.parts.used.now (IsUnused index)

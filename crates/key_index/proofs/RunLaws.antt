@@ -1,10 +1,10 @@
 -- Over a run, an index that each crash leaves used stays used and is not answered.
-use Rattle.std.proofs.Common.{◌≡◌, ◌≢◌, ◌⊎◌, inl, inr, ℕ, List, [], ◌∷◌, ◌++◌, refl, sym, ◌∙◌, ap, subst, arith, Bool, true, false, IsTrue, Result, Ok, Err}
+use Rattle.std.proofs.Common.{◌≡◌, inl, inr, ℕ, List, [], ◌∷◌, ◌++◌, sym, ◌∙◌, ap, subst, arith, false, IsTrue, Result, Ok, Err}
 use Rattle.std.specs.Prelude.{nat_eq}
 use Rattle.std.specs.List.{AllByRecursion, IsDistinct}
 use Rattle.std.proofs.lemmas.Bool.Decides.{nat_tests}
 use Rattle.std.proofs.lemmas.List.{append_cancel_right}
-use Rattle.bec_disk.specs.Disk.{Moment, DiskState, IsImage, EveryImage, AllImages, LeavesOnly, moments}
+use Rattle.bec_disk.specs.Disk.{Moment, DiskState, EveryImage, AllImages, LeavesOnly, moments}
 use Rattle.bec_disk.proofs.Images.{settled_image}
 use Rattle.bec_disk.proofs.Moments.{leaves_now, stays, told}
 use Rattle.key_index.specs.KeyState.{KeyState}

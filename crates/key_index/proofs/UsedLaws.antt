@@ -1,8 +1,8 @@
 -- What marking an index as used leaves of it and of the others.
-use Rattle.std.proofs.Common.{◌≡◌, ◌≢◌, ◌⊎◌, inl, inr, ℕ, ◌+◌, ◌<◌, ◌≤◌, List, [], ◌∷◌, ◌++◌, length, take, drop, get_or, set, refl, sym, ◌∙◌, ap, subst, arith, Bool, true, false, IsTrue, get_or-set_other, get_or-set_same, length-set}
+use Rattle.std.proofs.Common.{◌≡◌, ◌⊎◌, ℕ, ◌+◌, ◌<◌, ◌≤◌, List, [], ◌∷◌, ◌++◌, length, take, drop, get_or, set, sym, ◌∙◌, ap, arith, Bool, true, false, IsTrue, get_or-set_other, get_or-set_same, length-set}
 use Rattle.std.proofs.lemmas.List.{drop-set-lt, get_or_past, take-append-drop, take_more_set}
 use Rattle.std.proofs.lemmas.Bool.{true≢false}
-use Rattle.bec_disk.specs.Disk.{DiskState, Moment, IsImage, EveryImage, LeavesOnly, IsSettled, overwritten}
+use Rattle.bec_disk.specs.Disk.{DiskState, IsImage, EveryImage, LeavesOnly, IsSettled, overwritten}
 use Rattle.bec_disk.specs.Images.{IsTorn, IsTornFrom}
 use Rattle.bec_disk.proofs.Images.{settled_image}
 use Rattle.bec_disk.proofs.Moments.{leaves_now, told_before, weakened}
@@ -27,9 +27,9 @@ pub stays_used : (old new : DiskState) (p q : ℕ) → (IsTrue old.tells → IsI
 stays_used old new p q reads unused used run =
     weakened old new (IsTornFrom old.now p (p + 1)) (IsUsed q) run
     (λ tells image torn is_zero.
-        let was = used tells torn.0 torn.1 in
-        let within : q < length torn.0 = omega (arith, used_within q torn.0 was) in
-        was (sym (other_byte p q torn.0 image (other tells) within torn.2) ∙ is_zero))
+    let was = used tells torn.0 torn.1 in
+    let within : q < length torn.0 = omega (arith, used_within q torn.0 was) in
+    was (sym (other_byte p q torn.0 image (other tells) within torn.2) ∙ is_zero))
   where
     other : IsTrue old.tells → q ≡ p → ⊥
     other tells same = used tells old.seen (reads tells) (ap (λ (k : ℕ). get_or old.seen k 0) same ∙ (unused tells old.seen (reads tells)).zero_byte)

@@ -105,7 +105,12 @@ impl Fresh {
 }
 
 /// Makes the part Used these bytes, and then writes the part Key.
-fn write_parts<D: Disk>(key: &mut D, used: &mut D, payload: &[u8], unused: &[u8]) -> Result<(), DiskFault>
+fn write_parts<D: Disk>(
+    key: &mut D,
+    used: &mut D,
+    payload: &[u8],
+    unused: &[u8],
+) -> Result<(), DiskFault>
     requires settled { AreSettled (parts_of D.state D.faults key.old used.old) }
     requires few { length payload.now < 2 ^ 32 }
     requires zeros { unused.now ≡ none_used (length unused.now) }

@@ -67,7 +67,11 @@ fn read_material<D: Disk>(alloc: Global, key: &mut D) -> Result<KeyMaterial, Key
 }
 
 /// Which indices the part Used has used, or `None` where it has not this many bytes.
-fn read_taken<D: Disk>(alloc: Global, used: &mut D, count: u32) -> Result<Option<Vec<bool>>, DiskError>
+fn read_taken<D: Disk>(
+    alloc: Global,
+    used: &mut D,
+    count: u32,
+) -> Result<Option<Vec<bool>>, DiskError>
     ensures size { IfOk result (λ found. IfSome found (λ taken. vec_len taken ≡ count)) }
     ensures value { IsTrue (D.state used.old).tells → IfOk result (λ found.
         MatchOption found (length (D.state used.old).seen ≢ count) (λ taken. taken.items ≡ used_in (D.state used.old).seen)) }

@@ -1,9 +1,9 @@
-use Rattle.std.proofs.Common.{ap, ◌∙◌, ◌≡◌, Result, Err, sym, subst, refl, arith, inl, IsTrue}
+use Rattle.std.proofs.Common.{ap, ◌∙◌, Result, Err, sym, subst, refl, arith, inl}
 use Rattle.std.specs.Prelude.{MatchResult}
 use Rattle.bec_disk.specs.declared.disk_error.DiskError.{DiskError}
 use Rattle.key_index.specs.Creating.{CreatesKey, RefusesToCreate, drawn_key}
 use Rattle.key_index.specs.Faults.{creating_kind}
-use Rattle.key_index.specs.KeyState.{AreSame, parts_of, store_of}
+use Rattle.key_index.specs.KeyState.{AreSame, OneRose, parts_of, store_of}
 use Rattle.key_index.specs.declared.faults.CreateKeyKind.{CreateKeyKind}
 use Rattle.key_index.specs.declared.opened.Opened.{Opened}
 use Rattle.key_index.proofs.CreateLaws.{nothing_written, refused_early}
@@ -21,7 +21,7 @@ returns-in_err-read_gated-clause-creates g c =
     subst (λ (r : Result Opened CreateKeyKind). MatchResult r (λ opened. CreatesKey secret old (store_of g.D.Disk.state g.D.Counted.faults c.read_gated.new.disk c.args.used.now opened.secret opened.indices)) (λ why. RefusesToCreate secret old why new))
     (sym is)
     (refused_early secret old new error c.requires (record { key_same = failed.same; used_same = refl }) (record { key_later = failed.later; used_later = omega arith })
-        (λ why. inl (failed.failed (ap (λ (e : DiskError). Err e) why))))
+    (λ why. inl (failed.failed (ap (λ (e : DiskError). Err e) why))))
 
 pub returns-in_default : goal.returns-in_default
 returns-in_default g c =
@@ -35,7 +35,7 @@ returns-in_default g c =
         creating = nothing_written secret old new c.requires same (record { key_later = there.later; used_later = omega arith });
         key_there = λ tells why absent. c.in_default.not-Absent (there.value tells ∙ absent);
         same = λ why. same;
-        disk_fault = λ why. absurd cc;
+        disk_fault = λ why. absurd {A = OneRose old new} cc;
       };
       drawn = tt;
       may_draw = inl refl;

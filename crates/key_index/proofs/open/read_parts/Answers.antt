@@ -1,4 +1,4 @@
-use Rattle.std.proofs.Common.{ap, ◌∙◌, ◌≡◌, Result, Err, sym, subst, refl, arith, inl, length, List, Bool, IsTrue}
+use Rattle.std.proofs.Common.{ap, ◌∙◌, ◌≡◌, Result, Err, sym, subst, refl, arith, inl, length}
 use Rattle.std.specs.Prelude.{MatchResult}
 use Rattle.lms_tree.specs.LmsKind.{leaf_count}
 use Rattle.lms_tree.specs.SecretKey.{SecretData}

@@ -1,4 +1,4 @@
-use Rattle.std.proofs.Common.{◌≡◌, ℕ, ap, subst, ◌∙◌, sym, length, arith, IsTrue}
+use Rattle.std.proofs.Common.{◌≡◌, ap, subst, ◌∙◌, sym, length, IsTrue}
 use Rattle.bec_disk.specs.Disk.{DiskState}
 use Rattle.key_index.specs.Used.{used_in}
 use Rattle.key_index.proofs.OpenLaws.{all_read}

@@ -1,7 +1,6 @@
-use Rattle.std.proofs.Common.{◌≡◌, ◌<◌, ◌≤◌, ◌+◌, ◌-◌, true, ap, sym, subst, ◌∙◌, refl, get_or, set, length, List, Bool, arith, length-set}
-use Rattle.std.specs.Prelude.{not, count_by}
-use Rattle.key_index.specs.Kept.{AreIndices}
-use Rattle.key_index.proofs.IndexLaws.{IsLeast, is_least, used_up_to, one_less}
+use Rattle.std.proofs.Common.{true, ap, ◌∙◌, get_or, List, Bool, arith, length-set}
+use Rattle.std.specs.Prelude.{not}
+use Rattle.key_index.proofs.IndexLaws.{is_least, used_up_to, one_less}
 use Rattle.key_index.proofs.indices.Indices.take_least.Goals as goal
 
 pub index_mut-requires : goal.index_mut-requires
@@ -9,7 +8,7 @@ index_mut-requires c =
     let least = is_least _ _ _ c.self.invariant (λ e. absurd (omega (arith, c.self.inside.used.ok.0))) in omega (arith, least.within, c.self.inside.used.ok.0)
 
 pub overflow_add-index : goal.overflow_add-index
-overflow_add-index c = 
+overflow_add-index c =
     let least = is_least _ _ _ c.self.invariant (λ e. absurd (omega (arith, c.self.inside.used.ok.0))) in omega (arith, least.within)
 
 pub next_unused-self-inside-requires-clause-within :

@@ -1,4 +1,4 @@
-use Rattle.std.proofs.Common.{◌≡◌, List, ℕ, sym, ◌∙◌, refl, arith, ap, length, length-drop}
+use Rattle.std.proofs.Common.{sym, ◌∙◌, refl, arith, ap, length}
 use Rattle.std.proofs.lemmas.List.{length-take-le}
 use Rattle.bec_bytes.specs.Reading.{Reading}
 use Rattle.key_index.proofs.PayloadLaws.{read_payload}

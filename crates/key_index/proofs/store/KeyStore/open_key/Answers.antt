@@ -1,4 +1,4 @@
-use Rattle.std.proofs.Common.{subst, sym, IsTrue, Bool}
+use Rattle.std.proofs.Common.{subst, sym, IsTrue}
 use Rattle.bec_disk.specs.Disk.{DiskState}
 use Rattle.key_index.specs.Kept.{AreFree}
 use Rattle.key_index.proofs.OpenLaws.{settled_free}

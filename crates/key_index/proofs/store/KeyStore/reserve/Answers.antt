@@ -19,8 +19,8 @@ invariant_of-self-in_err-write_synced g c =
     let old = store_of g.D.Disk.state g.D.Counted.faults here.key here.used here.secret here.indices in
     let new = store_of g.D.Disk.state g.D.Counted.faults here.key c.write_synced.new.disk here.secret c.take_least.new.self in
     let tried =
-        has_tried old new c.in-Some.index c.from.result c.self.invariant (g.met.D.Disk.reads here.used) c.in-Some.ensures.least c.in-Some.ensures.used
-        c.from.ensures c.write_synced.ensures.any_moment c.write_synced.ensures.cause.later refl refl refl in
+    has_tried old new c.in-Some.index c.from.result c.self.invariant (g.met.D.Disk.reads here.used) c.in-Some.ensures.least c.in-Some.ensures.used
+    c.from.ensures c.write_synced.ensures.any_moment c.write_synced.ensures.cause.later refl refl refl in
     still_store old new c.in-Some.index tried
 
 pub invariant_of-self-2 : goal.invariant_of-self-2
@@ -29,8 +29,8 @@ invariant_of-self-2 g c =
     let old = store_of g.D.Disk.state g.D.Counted.faults here.key here.used here.secret here.indices in
     let new = store_of g.D.Disk.state g.D.Counted.faults here.key c.write_synced.new.disk here.secret c.take_least.new.self in
     let tried =
-        has_tried old new c.in-Some.index c.from.result c.self.invariant (g.met.D.Disk.reads here.used) c.in-Some.ensures.least c.in-Some.ensures.used
-        c.from.ensures c.write_synced.ensures.any_moment c.write_synced.ensures.cause.later refl refl refl in
+    has_tried old new c.in-Some.index c.from.result c.self.invariant (g.met.D.Disk.reads here.used) c.in-Some.ensures.least c.in-Some.ensures.used
+    c.from.ensures c.write_synced.ensures.any_moment c.write_synced.ensures.cause.later refl refl refl in
     still_store old new c.in-Some.index tried
 
 pub returns-in_err-write_synced : goal.returns-in_err-write_synced
@@ -39,8 +39,8 @@ returns-in_err-write_synced g c =
     let old = store_of g.D.Disk.state g.D.Counted.faults here.key here.used here.secret here.indices in
     let new = store_of g.D.Disk.state g.D.Counted.faults here.key c.write_synced.new.disk here.secret c.take_least.new.self in
     let tried =
-        has_tried old new c.in-Some.index c.from.result c.self.invariant (g.met.D.Disk.reads here.used) c.in-Some.ensures.least c.in-Some.ensures.used
-        c.from.ensures c.write_synced.ensures.any_moment c.write_synced.ensures.cause.later refl refl refl in
+    has_tried old new c.in-Some.index c.from.result c.self.invariant (g.met.D.Disk.reads here.used) c.in-Some.ensures.least c.in-Some.ensures.used
+    c.from.ensures c.write_synced.ensures.any_moment c.write_synced.ensures.cause.later refl refl refl in
     subst (λ (r : Result ℕ Reserve). Reserves c.args.self.now r new) (sym (only_fault _ c.from_residual.ensures.0 c.from_residual.ensures.1))
     (subst (λ (k : KeyState). Reserves k (Err DiskFault) new) c.self.view_is (reserve_fails old new c.in-Some.index tried c.in_err-write_synced.ensures.cause.failed))
 
@@ -50,9 +50,9 @@ returns g c =
     let old = store_of g.D.Disk.state g.D.Counted.faults here.key here.used here.secret here.indices in
     let new = store_of g.D.Disk.state g.D.Counted.faults here.key c.write_synced.new.disk here.secret c.take_least.new.self in
     let tried =
-        has_tried old new c.in-Some.index c.from.result c.self.invariant (g.met.D.Disk.reads here.used) c.in-Some.ensures.least c.in-Some.ensures.used
-        c.from.ensures c.write_synced.ensures.any_moment c.write_synced.ensures.cause.later refl refl refl in
+    has_tried old new c.in-Some.index c.from.result c.self.invariant (g.met.D.Disk.reads here.used) c.in-Some.ensures.least c.in-Some.ensures.used
+    c.from.ensures c.write_synced.ensures.any_moment c.write_synced.ensures.cause.later refl refl refl in
     subst (λ (k : KeyState). Reserves k (Ok c.in-Some.index) new) c.self.view_is
     (reserve_answers old new c.in-Some.index tried
-        (λ tells. subst (λ (k : ℕ). (g.D.Disk.state c.write_synced.new.disk).seen ≡ overwritten (g.D.Disk.state here.used).seen k (1 ∷ [])) c.from.ensures (c.in_ok-write_synced.ensures.written tells))
-        c.in_ok-write_synced.ensures.settled)
+    (λ tells. subst (λ (k : ℕ). (g.D.Disk.state c.write_synced.new.disk).seen ≡ overwritten (g.D.Disk.state here.used).seen k (1 ∷ [])) c.from.ensures (c.in_ok-write_synced.ensures.written tells))
+    c.in_ok-write_synced.ensures.settled)
