@@ -5,3 +5,4 @@ pub mod Moments
 pub mod Plans
 pub mod Records
 pub mod Runs
+pub mod Shelves

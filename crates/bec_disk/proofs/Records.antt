@@ -1,11 +1,11 @@
 -- What one more call in the record of a disk in memory does.
-use Rattle.std.proofs.Common.{◌≡◌, ◌≢◌, ◌⊎◌, inl, inr, ⊎_elim, ℕ, ◌+◌, ◌-◌, ◌<◌, ◌≤◌, Bool, true, false, List, [], ◌∷◌, ◌++◌, length, take, get_or, refl, sym, ◌∙◌, ap, subst, arith, Ok, Err}
+use Rattle.std.proofs.Common.{◌≡◌, ◌≢◌, ◌⊎◌, inl, inr, ⊎_elim, ℕ, ◌+◌, ◌-◌, ◌<◌, ◌≤◌, Bool, true, false, List, [], ◌∷◌, ◌++◌, length, take, get_or, refl, sym, ◌∙◌, ap, subst, arith, Some, Ok, Err}
 use Rattle.std.proofs.lemmas.List.{take_more}
 use Rattle.std.specs.Prelude.{nat_le, if◌then◌else◌, Option}
 use Rattle.std.proofs.lemmas.Bool.Decides.{nat_tests}
-use Rattle.bec_disk.specs.Disk.{IsImage, Writes, Cuts, Syncs, overwritten, written_at}
+use Rattle.bec_disk.specs.Disk.{IsImage, handed_out, Writes, Cuts, Syncs, overwritten, written_at}
 use Rattle.bec_disk.specs.Slot.{Slot}
-use Rattle.bec_disk.specs.Replay.{History, IsMixed, begun_with, goes_to, wrote_if, after_call, replayed, seen_after, shown}
+use Rattle.bec_disk.specs.Replay.{History, MemDiskState, IsMixed, state_of, settled_as, begun_with, goes_to, wrote_if, after_call, replayed, seen_after, shown}
 use Rattle.bec_disk.specs.Sound.{replayed-reads, replayed-kept, image-mixed}
 use Rattle.bec_disk.specs.declared.disk_call.DiskCall.{DiskCall}
 use Rattle.bec_disk.specs.declared.disk_call.DiskCall.TheVariants.{Wrote, WriteFailed, Cut, CutFailed, Settled}
@@ -136,3 +136,7 @@ mixed_image start calls synced bytes image is reads mixed =
     let history = replayed (begun_with start) calls in
     image-mixed history.now history.seen image (replayed-reads start calls) (replayed-kept start calls)
     (subst (λ (l : List ℕ). IsMixed l history.seen image) is (subst (λ (l : List ℕ). IsMixed synced l image) reads mixed))
+
+-- a disk that is handed out
+pub settled_handed : (slot : Slot) (disk : MemDiskState) → state_of (settled_as slot disk) ≡ handed_out slot (state_of disk)
+settled_handed slot disk = ap (shown (Some slot)) (replayed-push (begun_with disk.start) disk.calls Settled)

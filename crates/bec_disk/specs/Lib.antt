@@ -5,5 +5,6 @@ pub mod Images
 pub mod Plan
 pub mod Replay
 pub mod Shelf
+pub mod Shelved
 pub mod Slot
 pub mod Sound

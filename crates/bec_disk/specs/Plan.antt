@@ -1,5 +1,5 @@
 -- Which calls of a disk in memory fail.
-use Rattle.std.specs.Prelude.{◌≡◌, ◌⊎◌, ℕ, ◌<◌, Bool, true, List, Result, IsErr, OnOk, OnErr, Contains}
+use Rattle.std.specs.Prelude.{◌≡◌, ◌⊎◌, ℕ, ◌<◌, Bool, true, false, List, Result, IsErr, OnOk, OnErr, Contains}
 use Rattle.bec_bytes.specs.Causes.{one_more, faults_after}
 
 -- The numbers of the calls that are to fail, counted from 1; the number of the last call before the stop; how many calls
@@ -10,6 +10,10 @@ pub record PlanState : Type 0 where
   pub calls : ℕ
   pub faults : ℕ
   pub starved : Bool
+
+-- Before the first call.
+abbrev pub new_plan : List ℕ → ℕ → PlanState
+new_plan failing last = record { failing = failing; last = last; calls = 0; faults = 0; starved = false }
 
 -- The next call is a numbered one, or behind the stop.
 abbrev pub IsToFail : PlanState → Type 0

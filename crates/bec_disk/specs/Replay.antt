@@ -1,7 +1,7 @@
 -- A disk in memory by the record of its calls.
-use Rattle.std.specs.Prelude.{◌≡◌, ◌⊎◌, ℕ, ◌<◌, Bool, true, false, List, [], ◌∷◌, length, take, nat_le, slice_index, if◌then◌else◌, Option, None}
+use Rattle.std.specs.Prelude.{◌≡◌, ◌⊎◌, ℕ, ◌<◌, Bool, true, false, List, [], ◌∷◌, length, take, nat_le, slice_index, if◌then◌else◌, Option, Some, None, ◌++◌, ◌-◌, ◌^◌}
 use Rattle.bec_disk.specs.Disk.{DiskState, Moment, synced_at, written_at, cut_at, overwritten}
-use Rattle.bec_disk.specs.Plan.{PlanState}
+use Rattle.bec_disk.specs.Plan.{PlanState, new_plan}
 use Rattle.bec_disk.specs.Slot.{Slot}
 use Rattle.bec_disk.specs.declared.disk_call.DiskCall.{DiskCall}
 use Rattle.bec_disk.specs.declared.disk_call.DiskCall.TheVariants.{Wrote, WriteFailed, Cut, CutFailed, Settled}
@@ -52,7 +52,19 @@ state_of disk = shown disk.slot (replayed (begun_with disk.start) disk.calls)
 
 -- A disk that is of no part, began with these bytes, and had no call.
 abbrev pub new_disk : List ℕ → List ℕ → ℕ → MemDiskState
-new_disk start failing last = record { slot = None; start = start; calls = []; plan = record { failing = failing; last = last; calls = 0; faults = 0; starved = false } }
+new_disk start failing last = record { slot = None; start = start; calls = []; plan = new_plan failing last }
+
+-- An empty disk that was made as this part.
+abbrev pub made_disk : Slot → MemDiskState
+made_disk slot = record { slot = Some slot; start = []; calls = []; plan = new_plan [] (2 ^ 64 - 1) }
+
+-- The disk as it is handed out as this part: what it reads as counts as synced, and its count is 0.
+abbrev pub settled_as : Slot → MemDiskState → MemDiskState
+settled_as slot disk = record { slot = Some slot; start = disk.start; calls = disk.calls ++ Settled ∷ []; plan = record disk.plan { faults = 0 } }
+
+-- The disk with its next call as the first.
+abbrev pub numbered_anew : MemDiskState → MemDiskState
+numbered_anew disk = record disk { plan = record disk.plan { calls = 0 } }
 
 -- What a call does to the bytes.
 abbrev pub seen_after : List ℕ → DiskCall → List ℕ

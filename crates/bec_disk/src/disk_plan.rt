@@ -1,6 +1,6 @@
 ghost use Rattle.std.specs.Prelude.{◌≡◌, ◌⊎◌, ◌≤◌, ◌<◌, ◌↔◌, IsErr, IsTrue, Contains, false, true};
 ghost use Rattle.bec_bytes.specs.Causes.{one_more, faults_after};
-ghost use Rattle.bec_disk.specs.Plan.{IsToFail};
+ghost use Rattle.bec_disk.specs.Plan.{IsToFail, new_plan};
 
 use crate::disk_fault::DiskFault;
 use std::marker::Model;
@@ -33,7 +33,7 @@ impl DiskPlan {
     /// A plan before the first call: the calls that `failing` numbers, counted from 1, and those
     /// behind the number `last` are to fail.
     pub fn new(failing: Vec<u32>, last: u64) -> DiskPlan
-        ensures { result ≡ record { failing = failing.items; last = last; calls = 0; faults = 0; starved = false } }
+        ensures { result ≡ new_plan failing.items last }
     {
         DiskPlan {
             failing,
@@ -66,6 +66,27 @@ impl DiskPlan {
         self.starved = true;
         self.faults = self.faults.saturating_add(1);
         DiskFault
+    }
+
+    /// Lets the next call be the first.
+    pub fn number_anew(&mut self)
+        ensures { self.new ≡ record self.old { calls = 0 } }
+    {
+        self.calls = 0;
+    }
+
+    /// Forgets the faults.
+    pub fn clear_faults(&mut self)
+        ensures { self.new ≡ record self.old { faults = 0 } }
+    {
+        self.faults = 0;
+    }
+
+    /// How many faults there were.
+    pub fn faults(&self) -> u64
+        ensures { result ≡ self.now.faults }
+    {
+        self.faults
     }
 
     /// Whether a call failed that was not to fail.

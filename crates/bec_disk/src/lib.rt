@@ -15,6 +15,10 @@
 //! }
 //! ```
 //!
+//! A [`Shelf`] hands the parts of directories out as disks and takes them back. [`MemDisk`] and
+//! [`MemShelf`] are both in memory, for tests: their calls fail where a test wants it, and a disk
+//! is restarted as a crash may leave it.
+//!
 //! It opens no file: the disks over real files stand in `bec_host`. A disk that lies about its
 //! syncs is not covered.
 #![tactic(auto)]
@@ -26,10 +30,12 @@ mod disk_fault;
 mod disk_plan;
 mod gated;
 mod mem_disk;
+mod mem_shelf;
 mod part;
 mod place;
 mod replaying;
 mod shelf;
+mod shelved;
 mod synced;
 
 pub use disk::Disk;
@@ -37,6 +43,7 @@ pub use disk_error::DiskError;
 pub use disk_fault::DiskFault;
 pub use gated::{Gated, read_gated, write_gated};
 pub use mem_disk::MemDisk;
+pub use mem_shelf::MemShelf;
 pub use part::Part;
 pub use shelf::Shelf;
 pub use synced::{cut_synced, write_synced};

@@ -1,16 +1,18 @@
-ghost use Rattle.std.specs.Prelude.{◌≡◌, ◌⊎◌, ◌≤◌, ◌+◌, ◌-◌, ◌^◌, ◌++◌, ◌∷◌, [], IsTrue, IfOk, OnOk, OnErr, length, take, drop};
+ghost use Rattle.std.specs.Prelude.{◌≡◌, ◌⊎◌, ◌≤◌, ◌+◌, ◌-◌, ◌^◌, ◌++◌, ◌∷◌, [], Some, IsTrue, IfOk, OnOk, OnErr, length, take, drop};
 ghost use Rattle.std.specs.Bool.{OnTrue, OnFalse};
 ghost use Rattle.bec_bytes.specs.Causes.{HasCause};
 ghost use Rattle.bec_disk.specs.Disk.{IsImage, Writes, Cuts, Syncs, overwritten};
-ghost use Rattle.bec_disk.specs.Plan.{Counts};
+ghost use Rattle.bec_disk.specs.Plan.{Counts, new_plan};
 ghost use Rattle.bec_disk.specs.Replay.{state_of};
 
 use crate::disk::Disk;
 use crate::disk_call::DiskCall;
 use crate::disk_fault::DiskFault;
 use crate::disk_plan::DiskPlan;
+use crate::part::Part;
 use crate::place::Place;
 use crate::replaying::{crash_image, overwrite};
+use crate::shelved::{Shelved, index_of};
 use bec_bytes::Counted;
 use std::alloc::{AllocError, Global};
 use std::marker::Model;
@@ -45,40 +47,87 @@ impl Model for MemDisk {
 }
 
 impl MemDisk {
-    ghost use Rattle.bec_disk.specs.Replay.{new_disk};
+    ghost use Rattle.std.specs.List.{position};
+    ghost use Rattle.bec_disk.specs.Slot.{Slot, slot};
+    ghost use Rattle.bec_disk.specs.Replay.{new_disk, made_disk, settled_as, numbered_anew};
+    ghost use Rattle.bec_disk.specs.Shelved.{is_at};
 
     /// An empty disk that fails at no numbered call.
     pub fn new(alloc: Global) -> MemDisk
         ensures { result ≡ new_disk [] [] (2 ^ 64 - 1) }
     {
-        MemDisk::planned(alloc, Vec::new(alloc), u64::MAX)
+        MemDisk::empty(alloc, None, Vec::new(alloc), u64::MAX)
+    }
+
+    /// An empty disk that is made as this part.
+    pub fn made(alloc: Global, place: Place) -> MemDisk
+        ensures { result ≡ made_disk place }
+    {
+        MemDisk::empty(alloc, Some(place), Vec::new(alloc), u64::MAX)
     }
 
     /// An empty disk that fails at the calls with these numbers, counted from 1.
     pub fn failing(alloc: Global, calls: &[u32]) -> Result<MemDisk, AllocError>
         ensures { IfOk result (λ disk. disk ≡ new_disk [] calls.now (2 ^ 64 - 1)) }
     {
-        Ok(MemDisk::planned(alloc, calls.to_vec(alloc)?, u64::MAX))
+        Ok(MemDisk::empty(alloc, None, calls.to_vec(alloc)?, u64::MAX))
     }
 
     /// An empty disk that passes `n` calls and then fails every call.
     pub fn stopping(alloc: Global, n: u32) -> MemDisk
         ensures { result ≡ new_disk [] [] n }
     {
-        MemDisk::planned(alloc, Vec::new(alloc), u64::from(n))
+        MemDisk::empty(alloc, None, Vec::new(alloc), u64::from(n))
     }
 
-    fn planned(alloc: Global, failing: Vec<u32>, last: u64) -> MemDisk
-        ensures { result ≡ new_disk [] failing.items last }
+    fn empty(alloc: Global, place: Option<Place>, failing: Vec<u32>, last: u64) -> MemDisk
+        ensures { result ≡ record { slot = place; start = []; calls = []; plan = new_plan failing.items last } }
     {
         MemDisk {
             alloc,
-            place: None,
+            place,
             start: Vec::new(alloc),
             calls: Vec::new(alloc),
             bytes: Vec::new(alloc),
             plan: DiskPlan::new(failing, last),
         }
+    }
+
+    /// Settles the disk as it is handed out as this part, with a count of 0. Where there is no memory
+    /// for that nothing changes.
+    pub fn settle_as(&mut self, dir: &str, part: Part) -> Result<(), AllocError>
+        ensures settled { OnOk result (self.new ≡ settled_as (slot dir.now part) self.old) }
+        ensures same { OnErr result (self.new ≡ self.old) }
+    {
+        let place = Place::new(self.alloc, dir, part)?;
+        if !note(&mut self.calls, DiskCall::Settled) {
+            return Err(AllocError);
+        }
+        self.place = Some(place);
+        self.plan.clear_faults();
+        Ok(())
+    }
+
+    /// Lets the next call be the first.
+    pub fn number_anew(&mut self)
+        ensures { self.new ≡ numbered_anew self.old }
+    {
+        self.plan.number_anew();
+    }
+
+    /// How many faults it counted.
+    pub fn faults(&self) -> u64
+        ensures { result ≡ self.now.plan.faults }
+    {
+        self.plan.faults()
+    }
+
+    /// Which of these entries is that of the part that it is of.
+    pub fn index_in(&self, entries: &[Shelved]) -> Option<usize>
+        ensures { (place : Slot) → self.now.slot ≡ Some place → result ≡ position (is_at place) entries.now }
+    {
+        let place = self.place.as_ref()?;
+        index_of(entries, place.dir(), place.part())
     }
 
     /// Whether a call failed that was neither a numbered one nor behind the stop. That is for want of

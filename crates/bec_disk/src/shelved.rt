@@ -1,0 +1,38 @@
+ghost use Rattle.std.specs.Prelude.{◌≡◌, IfOk, OnErr};
+ghost use Rattle.std.specs.List.{position};
+ghost use Rattle.bec_disk.specs.Slot.{slot};
+ghost use Rattle.bec_disk.specs.Shelved.{HandsOutDisk, is_at};
+
+use crate::mem_disk::MemDisk;
+use crate::part::Part;
+use crate::place::Place;
+use std::alloc::AllocError;
+
+/// A part on a shelf in memory: where it stands, and the disk, unless that is handed out.
+#[derive(Debug, Drop)]
+pub struct Shelved {
+    pub place: Place,
+    pub disk: Option<MemDisk>,
+}
+
+/// Takes the disk out of the entry, settled and as the disk of this part.
+pub fn hand_out(entry: &mut Shelved, dir: &str, part: Part) -> Result<Option<MemDisk>, AllocError>
+    ensures taken { IfOk result (λ found. HandsOutDisk entry.old (slot dir.now part) found entry.new) }
+    ensures same { OnErr result (entry.new ≡ entry.old) }
+{
+    let Some(mut disk) = entry.disk.take() else {
+        return Ok(None);
+    };
+    if let Err(error) = disk.settle_as(dir, part) {
+        entry.disk = Some(disk);
+        return Err(error);
+    }
+    Ok(Some(disk))
+}
+
+/// Which entry is that of this part.
+pub fn index_of(entries: &[Shelved], dir: &[u8], part: Part) -> Option<usize>
+    ensures { result ≡ position (is_at (slot dir.now part)) entries.now }
+{
+    entries.iter().position(|entry| entry.place.is(dir, part))
+}
