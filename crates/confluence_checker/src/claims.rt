@@ -53,6 +53,21 @@ pub(crate) fn matches_hold(rows: &[InsertedRow], table: u8, rule: &MatchRule) ->
     rows.iter().all(|row| row.table != table || match_holds(rows, row.values.as_slice(), rule))
 }
 
+/// Whether a `CHECK` is true of a row that fits.
+fn check_is_true<L: Relation, C: Checks<L>>(
+    alloc: Global,
+    native: &Native<L, C>,
+    columns: &[Column],
+    check: &CheckRule,
+    values: &[Value],
+) -> Result<bool, AllocError>
+    requires sound { IsSoundCheck columns.now check.now }
+    requires fits { IsTrue (all_fit columns.now values.now) }
+    ensures { IfOk result (λ answer. answer ≡ holds_tree L.answer values.now check.now.tree) }
+{
+    schema::check_holds(alloc, native, columns, check, values)
+}
+
 /// Whether a `CHECK` is true of a row, which fits, where it is of the table with this number.
 fn check_holds_at<L: Relation, C: Checks<L>>(
     alloc: Global,
@@ -71,7 +86,7 @@ fn check_holds_at<L: Relation, C: Checks<L>>(
     if row.table != table {
         return Ok(true);
     }
-    schema::check_holds(alloc, native, columns, check, row.values.as_slice())
+    check_is_true(alloc, native, columns, check, row.values.as_slice())
 }
 
 /// Whether a `CHECK` is true of each row of a table. All rows fit.
