@@ -1,5 +1,6 @@
 -- Where a part stands.
-use Rattle.std.specs.Prelude.{ℕ, ◌==◌, ◌&&◌, Bool, true, false, List, [], ◌∷◌}
+use Rattle.std.specs.Prelude.{ℕ, ◌==◌, ◌&&◌, Bool, List}
+use Rattle.std.specs.Str.{bytes_eq}
 use Rattle.bec_disk.specs.declared.part.Part.{Part}
 use Rattle.bec_disk.specs.declared.part.Part.TheVariants.{Schema, Updates, Key, Used, Peers}
 
@@ -18,12 +19,6 @@ number_of Key = 2
 number_of Used = 3
 number_of Peers = 4
 
-abbrev pub same_bytes : List ℕ → List ℕ → Bool
-same_bytes [] [] = true
-same_bytes [] (y ∷ ys) = false
-same_bytes (x ∷ xs) [] = false
-same_bytes (x ∷ xs) (y ∷ ys) = (x == y) && same_bytes xs ys
-
 -- The same part of the same directory.
 abbrev pub same_slot : Slot → Slot → Bool
-same_slot a b = (number_of a.part == number_of b.part) && same_bytes a.dir b.dir
+same_slot a b = (number_of a.part == number_of b.part) && bytes_eq a.dir b.dir

@@ -20,15 +20,23 @@
 #![tactic(auto)]
 
 mod disk;
+mod disk_call;
 mod disk_error;
 mod disk_fault;
+mod disk_plan;
 mod gated;
+mod mem_disk;
 mod part;
+mod place;
+mod replaying;
+mod shelf;
 mod synced;
 
 pub use disk::Disk;
 pub use disk_error::DiskError;
 pub use disk_fault::DiskFault;
 pub use gated::{Gated, read_gated, write_gated};
+pub use mem_disk::MemDisk;
 pub use part::Part;
+pub use shelf::Shelf;
 pub use synced::{cut_synced, write_synced};
