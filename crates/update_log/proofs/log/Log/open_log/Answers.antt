@@ -5,8 +5,8 @@ use Rattle.update_log.proofs.log.Log.open_log.Goals as goal
 
 pub invariant_of-log : goal.invariant_of-log
 invariant_of-log g c = (
-    λ tells.
-        let before = told_before _ _ c.in-Ok.ensures.any_moment.disk tells in
-        clean_kept c.in-Ok.opened.end _ _ (c.in-Ok.ensures.settled before, ap length (c.in-Ok.ensures.seen before) ∙ sym c.in-Ok.ensures.end),
-    c.in-Ok.ensures.room,
-  )
+  λ tells.
+      let before = told_before _ _ c.in-Ok.ensures.any_moment.disk tells in
+      clean_kept c.in-Ok.opened.end _ _ (c.in-Ok.ensures.settled before, ap length (c.in-Ok.ensures.seen before) ∙ sym c.in-Ok.ensures.end),
+  c.in-Ok.ensures.room,
+)

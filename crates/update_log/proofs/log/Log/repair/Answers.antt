@@ -24,14 +24,14 @@ returns-in_err-cut_synced-clause-any_moment g c = let log = c.self.inside in
 
 pub invariant_of-self-2 : goal.invariant_of-self-2
 invariant_of-self-2 g c = let log = c.self.inside in (
-      λ tells.
-          let before = told_before _ _ c.cut_synced.ensures.any_moment.disk tells in
-          clean_kept log.end _ _ (
-            c.in_ok-cut_synced.ensures.settled before,
-            ap Rattle.std.proofs.Common.length (c.in_ok-cut_synced.ensures.cut before) ∙ length-take-le log.end (g.D.Disk.state log.disk).seen (c.self.invariant.0 before).long,
-          ),
-      c.self.invariant.1,
-    )
+  λ tells.
+      let before = told_before _ _ c.cut_synced.ensures.any_moment.disk tells in
+      clean_kept log.end _ _ (
+        c.in_ok-cut_synced.ensures.settled before,
+        ap Rattle.std.proofs.Common.length (c.in_ok-cut_synced.ensures.cut before) ∙ length-take-le log.end (g.D.Disk.state log.disk).seen (c.self.invariant.0 before).long,
+      ),
+  c.self.invariant.1,
+)
 
 pub returns-clause-any_moment : goal.returns-clause-any_moment
 returns-clause-any_moment g c = let log = c.self.inside in
