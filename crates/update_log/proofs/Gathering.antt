@@ -1,11 +1,10 @@
 -- Records that are written in large pieces, behind what stands on a disk.
-use Rattle.std.proofs.Common.{◌≡◌, ℕ, ◌+◌, ◌-◌, ◌*◌, ◌<◌, ◌≤◌, ◌^◌, List, [], ◌∷◌, ◌++◌, length, take, drop, map, refl, sym, ap, subst, ◌∙◌, append_assoc, append-nil, length-append, length-take, zero-add, All, Result, arith, IsTrue}
+use Rattle.std.proofs.Common.{◌≡◌, ℕ, ◌+◌, ◌*◌, ◌<◌, ◌≤◌, ◌^◌, List, [], ◌∷◌, ◌++◌, length, take, drop, map, refl, sym, ap, subst, ◌∙◌, append_assoc, append-nil, length-append, zero-add, All, Result, arith, IsTrue}
 use Rattle.std.specs.Prelude.{sum_by, nat_le, ◌&&◌, true}
 use Rattle.std.specs.Int.{w32, to_be_bytes}
-use Rattle.std.specs.List.{flat_map}
-use Rattle.std.proofs.lemmas.List.{take-append-drop, take_all, take_more, drop_all, length-take-le}
+use Rattle.std.proofs.lemmas.List.{take-append-drop, take_all, drop_all, length-take-le}
 use Rattle.std.proofs.lemmas.List.Concat.{flat_map-append}
-use Rattle.std.proofs.lemmas.List.Elements.{All-head, All-tail}
+use Rattle.std.proofs.lemmas.List.Elements.{All-tail}
 use Rattle.std.proofs.lemmas.List.Sums.{sum_by-append}
 use Rattle.std.proofs.lemmas.List.Edits.{take-paste, length-paste}
 use Rattle.std.proofs.lemmas.Slice.{put_mid-paste}
@@ -14,13 +13,13 @@ use Rattle.std.proofs.Math.Seq.{paste}
 use borrow.Rule.Slice.PartMut.{put_mid}
 use Rattle.bec_bytes.specs.Framed.{framed, stream_of}
 use Rattle.bec_bytes.proofs.Frames.{length-framed, stream_of-cons, stream_of-nil, stream_of-push}
-use Rattle.bec_disk.specs.Disk.{DiskState, LeavesOnly, IsSettled, Writes, overwritten}
+use Rattle.bec_disk.specs.Disk.{DiskState, LeavesOnly, Writes, overwritten}
 use Rattle.bec_disk.specs.Front.{Keeps, WritesBehind}
 use Rattle.bec_disk.proofs.Fronts.{behind-kept, behind-write, Keeps-settled}
 use Rattle.bec_disk.proofs.Moments.{weakened, told}
 use Rattle.update_model.specs.declared.limits.TheConstants.{MAX_BYTES, MAX_MEMBERS}
 use Rattle.update_model.specs.Entry.{Entry}
-use Rattle.update_model.specs.Graph.{is_within, byte_count}
+use Rattle.update_model.specs.Graph.{byte_count}
 use Rattle.update_model.specs.Rule.{RuleData}
 use Rattle.update_codec.specs.Parts.{entry_of}
 use Rattle.update_codec.specs.declared.limits.TheConstants.{UPDATE_LIMIT}

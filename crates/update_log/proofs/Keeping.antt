@@ -1,17 +1,19 @@
 -- What a crash leaves in front of a disk.
-use Rattle.std.proofs.Common.{◌≡◌, ℕ, ◌+◌, ◌-◌, ◌≤◌, Bool, true, false, List, [], ◌∷◌, ◌++◌, length, take, drop, refl, sym, ap, subst, ◌∙◌, append-nil, append_assoc, length-append, length-take, arith, IsTrue}
+use Rattle.std.proofs.Common.{◌≡◌, ℕ, ◌+◌, ◌-◌, ◌≤◌, Bool, true, List, [], ◌∷◌, ◌++◌, length, take, drop, refl, sym, ap, subst, ◌∙◌, append-nil, length-append, Result, Ok, Err, arith, IsTrue}
+use Rattle.std.specs.Prelude.{OnErr}
 use Rattle.std.proofs.lemmas.List.{take_all, take_at, length-take-le}
 use Rattle.std.proofs.Math.Seq.{take-append-add}
 use Rattle.bec_bytes.specs.Framed.{stream_of}
-use Rattle.bec_disk.specs.Disk.{DiskState, IsImage, EveryImage, IsSettled, LeavesOnly}
+use Rattle.bec_disk.specs.Disk.{DiskState, IsImage, IsSameDisk, EveryImage, IsSettled, LeavesOnly}
 use Rattle.bec_disk.specs.Images.{IsCut, IsCutFrom}
 use Rattle.bec_disk.proofs.Images.{settled_image, cut_settled}
-use Rattle.bec_disk.proofs.Moments.{same_disk, stays, weakened, leaves_now}
+use Rattle.bec_disk.proofs.Moments.{same_disk, stays, weakened, leaves_now, told_before}
 use Rattle.update_model.specs.Rule.{RuleData}
 use Rattle.update_check.specs.Members.{AreMembers}
 use Rattle.update_log.specs.Logset.{BeginsWith, IsLogset}
-use Rattle.update_log.specs.Log.{IsClean, IsKept, KeepsLogset}
+use Rattle.update_log.specs.Log.{LogState, IsClean, IsKept, IsLogOf, KeepsLogset}
 use Rattle.update_log.specs.Reading.{ReaderState, StopsAt, left_of}
+use Rattle.update_log.proofs.Gathering.{stream_of-append, length-stream_of-append}
 use Rattle.update_log.proofs.Logsets.{same_logset, stop_is_longest}
 
 no_bytes : (xs : List ℕ) → length xs ≡ 0 → xs ≡ []
@@ -100,3 +102,51 @@ cut_kept end is_unsure old new kept run = weakened old new (IsCutFrom old.now en
 -- a disk that has what is acknowledged and no more
 pub clean_front : (end : ℕ) (disk : DiskState) → IsClean end disk → take end disk.seen ≡ disk.seen
 clean_front end disk clean = let size = clean.1 in take_all end disk.seen (omega (arith, size))
+
+-- ---- calls of a log
+
+-- a run that leaves what is acknowledged in front
+pub still_kept : (end : ℕ) (is_unsure : Bool) (old new : DiskState) → (IsTrue old.tells → IsKept end is_unsure old) → LeavesOnly old new (BeginsWith (take end old.seen)) → (IsTrue new.tells → IsImage new.now new.seen)
+    → IsTrue new.tells → IsKept end true new
+still_kept end is_unsure old new kept run reads tells =
+    let before = told_before old new run.disk tells in
+    front_kept end new (take end old.seen) (reads tells) (leaves_now old new (BeginsWith (take end old.seen)) run before) (length-take-le end old.seen (kept before).long)
+
+-- the log is then of the same members
+pub still_log_of : (members : List (List ℕ)) (is_unsure : Bool) (old new : LogState) → new.end ≡ old.end → (IsTrue old.disk.tells → IsKept old.end is_unsure old.disk)
+    → LeavesOnly old.disk new.disk (BeginsWith (take old.end old.disk.seen)) → (IsTrue new.disk.tells → IsImage new.disk.now new.disk.seen) → IsLogOf members old → IsLogOf members new
+still_log_of members is_unsure old new same kept run reads is = record {
+  end = same ∙ is.end;
+  acknowledged = λ tells.
+      let before = told_before old.disk new.disk run.disk tells in
+      let P : List ℕ → Type 0 = BeginsWith (take old.end old.disk.seen) in
+      ap (λ (n : ℕ). take n new.disk.seen) same
+      ∙ front_seen old.end new.disk (take old.end old.disk.seen) (reads tells) (leaves_now old.disk new.disk P run before) (length-take-le old.end old.disk.seen (kept before).long)
+      ∙ is.acknowledged before;
+}
+
+-- of a clean disk, what is acknowledged is all
+pub leaves_acknowledged : (end : ℕ) (old new : DiskState) → (IsTrue old.tells → IsClean end old) → LeavesOnly old new (BeginsWith old.seen) → LeavesOnly old new (BeginsWith (take end old.seen))
+leaves_acknowledged end old new clean run =
+    weakened old new (BeginsWith old.seen) (BeginsWith (take end old.seen)) run (λ tells c begins. subst (λ (l : List ℕ). BeginsWith l c) (sym (clean_front end old (clean tells))) begins)
+
+-- a batch behind the members
+pub added_log_of : (members batch : List (List ℕ)) (old new : LogState) → IsSameDisk old.disk new.disk → new.end ≡ old.end + length (stream_of batch) → (IsTrue old.disk.tells → IsClean old.end old.disk)
+    → (IsTrue old.disk.tells → new.disk.seen ≡ old.disk.seen ++ stream_of batch) → IsLogOf members old → IsLogOf (members ++ batch) new
+added_log_of members batch old new same longer clean seen is =
+    let end : new.end ≡ length (stream_of (members ++ batch)) = omega (arith, longer, is.end, length-stream_of-append members batch) in
+    record {
+      end = end;
+      acknowledged = λ tells.
+          let before = told_before old.disk new.disk same tells in
+          let all : new.disk.seen ≡ stream_of (members ++ batch) =
+          seen before ∙ ap (λ (l : List ℕ). l ++ stream_of batch) (sym (clean_front old.end old.disk (clean before)) ∙ is.acknowledged before) ∙ sym (stream_of-append members batch) in
+          ap (take new.end) all ∙ take_all new.end (stream_of (members ++ batch)) (omega (arith, end));
+    }
+
+pub vec_length : (xs items : List ℕ) (len n : ℕ) → length xs ≡ len → length xs ≡ n → length (take len (xs ++ drop (length xs) items)) ≡ n
+vec_length xs items len n same is = ap length (take_at xs (drop (length xs) items) len same) ∙ is
+
+pub on_err : {T E : Type 0} (result : Result T E) (P : Type 0) → P → OnErr result P
+on_err (Ok value) P is = tt
+on_err (Err error) P is = is

@@ -1,5 +1,5 @@
 -- What bytes stand for, and what begins with it.
-use Rattle.std.proofs.Common.{◌≡◌, ◌⊎◌, inl, inr, ℕ, ◌≤◌, ◌+◌, List, [], ◌∷◌, ◌++◌, length, refl, sym, ap, subst, ◌∙◌, append-nil, append_assoc, length-append, arith}
+use Rattle.std.proofs.Common.{◌≡◌, ◌⊎◌, inl, inr, ℕ, ◌≤◌, List, [], ◌∷◌, ◌++◌, length, refl, sym, ap, subst, ◌∙◌, append-nil, append_assoc, length-append, arith}
 use Rattle.bec_bytes.specs.Framed.{framed, stream_of}
 use Rattle.bec_bytes.proofs.Frames.{framed_some, Fit, GoesOn, lines_up}
 use Rattle.update_model.specs.Rule.{RuleData}

@@ -1,5 +1,5 @@
 -- What stands in the room for a piece, and what is left of a disk that is read.
-use Rattle.std.proofs.Common.{◌≡◌, ◌⊎◌, inl, inr, ℕ, ◌+◌, ◌-◌, ◌<◌, ◌≤◌, ◌^◌, List, ◌++◌, length, take, drop, refl, sym, ap, subst, ◌∙◌, append_assoc, length-append, length-take, length-drop, zero-add, arith}
+use Rattle.std.proofs.Common.{◌≡◌, ◌⊎◌, inl, inr, ℕ, ◌+◌, ◌-◌, ◌<◌, ◌≤◌, ◌^◌, List, ◌++◌, length, take, drop, refl, sym, ap, ◌∙◌, append_assoc, length-append, length-take, length-drop, zero-add, arith}
 use Rattle.std.proofs.lemmas.List.{take-append-drop, take-append-le, take-take, take_all, take_at, drop-take, drop-drop}
 use Rattle.std.proofs.lemmas.List.Edits.{take-paste, length-paste}
 use Rattle.std.proofs.lemmas.Slice.{put_mid-paste}
@@ -8,7 +8,7 @@ use Rattle.std.proofs.Math.Seq.{paste}
 use Rattle.std.specs.Int.{w32, to_be_bytes, from_be_bytes}
 use borrow.Rule.Slice.PartMut.{put_mid}
 use Rattle.update_codec.specs.declared.limits.TheConstants.{UPDATE_LIMIT}
-use Rattle.bec_bytes.specs.Framed.{framed, length_at, HoldsPiece}
+use Rattle.bec_bytes.specs.Framed.{framed, HoldsPiece}
 use Rattle.bec_bytes.proofs.Frames.{length-held, length_at-held}
 use Rattle.update_log.specs.Reading.{ReaderState, left_of, count_left}
 

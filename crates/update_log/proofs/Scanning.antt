@@ -1,5 +1,5 @@
 -- Members of which one more is taken or refused, and the records that they are in.
-use Rattle.std.proofs.Common.{◌≡◌, ℕ, ◌+◌, ◌<◌, ◌≤◌, Bool, true, false, not, List, [], ◌∷◌, ◌++◌, length, map, refl, sym, ap, subst, ◌∙◌, append_assoc, append-nil, length-append, All, Option, Some, None, Result, Ok, Err, arith}
+use Rattle.std.proofs.Common.{◌≡◌, ℕ, ◌+◌, ◌≤◌, Bool, true, false, not, List, [], ◌∷◌, ◌++◌, length, map, refl, sym, ap, subst, ◌∙◌, append_assoc, length-append, All, Option, Some, None, Ok, arith}
 use Rattle.std.specs.Prelude.{find, is_some}
 use Rattle.std.proofs.lemmas.List.{map-append}
 use Rattle.std.proofs.lemmas.List.Elements.{All-head, All-tail, All-push}
@@ -14,12 +14,11 @@ use Rattle.update_codec.specs.Parts.{entry_of}
 use Rattle.update_codec.specs.declared.limits.TheConstants.{UPDATE_LIMIT}
 use Rattle.update_check.specs.Signed.{IsChecked}
 use Rattle.update_check.specs.Members.{AreMembers}
-use Rattle.hash_graph.specs.declared.added.Added.{Added}
 use Rattle.hash_graph.specs.declared.added.Added.TheVariants.{New, Known}
 use Rattle.hash_graph.specs.declared.refusal.Refusal.{Refusal}
 use Rattle.hash_graph.specs.declared.refusal.Refusal.TheVariants.{Lacks, Full, Memory}
 use Rattle.hash_graph.specs.Answer.{answer_by, answer_of, IsRefusedBy}
-use Rattle.update_log.specs.Reading.{IsStop, StopsAt}
+use Rattle.update_log.specs.Reading.{IsStop}
 
 -- ---- one member more
 

@@ -29,11 +29,7 @@ pub struct Opened {
 }
 
 /// Takes the records that can be taken, and cuts a disk behind them.
-pub fn open_at<D: Disk>(
-    alloc: Global,
-    disk: &mut D,
-    rule: &DbRule,
-) -> Result<Opened, DiskError>
+pub fn open_at<D: Disk>(alloc: Global, disk: &mut D, rule: &DbRule) -> Result<Opened, DiskError>
     requires { IsTrue (D.state disk.old).tells → IsSettled (D.state disk.old) }
     ensures members { IfOk result (λ opened. AreMembers rule.now opened.graph) }
     ensures end { IfOk result (λ opened. opened.end ≡ length (stream_of opened.graph)) }

@@ -1,4 +1,4 @@
-use Rattle.std.proofs.Common.{◌≡◌, ◌+◌, ◌++◌, ◌∷◌, ◌∙◌, [], ℕ, List, Bool, true, false, refl, sym, ap, subst, length, arith, IsTrue}
+use Rattle.std.proofs.Common.{◌∙◌, ℕ, List, refl, sym, ap, subst, length, arith, IsTrue}
 use Rattle.bec_bytes.specs.Framed.{HoldsPiece, stream_of}
 use Rattle.bec_disk.specs.Disk.{DiskState}
 use Rattle.update_codec.specs.declared.limits.TheConstants.{UPDATE_LIMIT}

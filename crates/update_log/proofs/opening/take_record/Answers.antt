@@ -12,12 +12,12 @@ returns-in-Ok-New c =
 
 pub returns-in-Ok-Known : goal.returns-in-Ok-Known
 returns-in-Ok-Known c = (
-    rw c.in-Ok-Known.field-0-is at c.in-Ok-Known.ensures.list,
-    known_stops c.args.rule.now c.args.graph.now c.in-Ok.checked c.args.bytes.items c.in-Ok-Known._position c.in-Ok.ensures.same (rw c.in-Ok-Known.field-0-is at c.in-Ok-Known.ensures.answer),
-  )
+  rw c.in-Ok-Known.field-0-is at c.in-Ok-Known.ensures.list,
+  known_stops c.args.rule.now c.args.graph.now c.in-Ok.checked c.args.bytes.items c.in-Ok-Known._position c.in-Ok.ensures.same (rw c.in-Ok-Known.field-0-is at c.in-Ok-Known.ensures.answer),
+)
 
 pub returns : goal.returns
 returns c = (
-    c.in-Err.ensures.list,
-    refused_stops c.args.rule.now c.args.graph.now c.in-Ok.checked c.args.bytes.items c.in-Err.refused.why c.in-Ok.ensures.same c.in-Err.ensures.answer c.in_default.not-Memory,
-  )
+  c.in-Err.ensures.list,
+  refused_stops c.args.rule.now c.args.graph.now c.in-Ok.checked c.args.bytes.items c.in-Err.refused.why c.in-Ok.ensures.same c.in-Err.ensures.answer c.in_default.not-Memory,
+)

@@ -1,4 +1,4 @@
-use Rattle.std.proofs.Common.{◌+◌, ◌-◌, ◌++◌, ◌∙◌, List, ℕ, length, take, sym, ap, refl, arith}
+use Rattle.std.proofs.Common.{◌+◌, ◌-◌, ◌++◌, ◌∙◌, List, ℕ, length, take, ap, arith}
 use Rattle.update_log.proofs.Gathering.{put_two, prefix_and_bytes}
 use Rattle.update_log.proofs.writing.put_framed.Goals as goal
 

@@ -1,10 +1,8 @@
-use Rattle.std.proofs.Common.{◌≡◌, ◌≤◌, ◌+◌, ◌++◌, ◌∷◌, ◌∙◌, [], ℕ, List, length, take, refl, sym, ap, subst, arith, IsTrue}
+use Rattle.std.proofs.Common.{◌≤◌, ◌+◌, ◌++◌, ◌∷◌, ◌∙◌, [], ℕ, List, length, take, sym, ap, subst, arith}
 use Rattle.std.proofs.lemmas.List.{take_more, take_all, append-nil}
 use Rattle.bec_bytes.specs.Framed.{stream_of}
-use Rattle.bec_disk.specs.Disk.{DiskState}
-use Rattle.bec_disk.proofs.Moments.{told}
 use Rattle.update_log.specs.declared.piece_reader.TheConstants.{PIECE}
-use Rattle.update_log.proofs.Gathering.{IsGathered, gathers_none, gathers_more, flushes, leaves_front, leaves_written, stream_of-take}
+use Rattle.update_log.proofs.Gathering.{IsGathered, gathers_none, gathers_more, flushes, leaves_written, stream_of-take}
 use Rattle.update_log.proofs.writing.write_records.Goals.{then-piece-filled+in_ok-write_at, else-piece-filled}
 use Rattle.update_log.proofs.writing.write_records.Goals as goal
 
@@ -29,7 +27,7 @@ loop-update-preserved g c =
     let so_far = c.loop-update.invariant.gathered in
     let is_bytes = c.bytes-bytes.ensures in
     let gathered : (disk : g.row.D.Denot) (at filled : ℕ) → Type 0 = λ disk at filled.
-        IsGathered old c.args.start records c.loop-update.piece (g.D.Disk.state disk) at filled × (g.D.Counted.faults c.args.disk.now ≤ g.D.Counted.faults disk) × (filled + (4 + length c.bytes-bytes.result.now) ≤ PIECE) in
+    IsGathered old c.args.start records c.loop-update.piece (g.D.Disk.state disk) at filled × (g.D.Counted.faults c.args.disk.now ≤ g.D.Counted.faults disk) × (filled + (4 + length c.bytes-bytes.result.now) ≤ PIECE) in
     let few : 4 + length c.bytes-bytes.result.now ≤ PIECE =
     omega (arith, ap length is_bytes, ap length c.update-item.is, c.requires.short c.loop-update.update-index r (omega (arith, c.loop-update-test.true))) in
     let ready : gathered c.if-piece-filled.disk c.if-piece-filled.at c.if-piece-filled.filled = elim c.if-piece-filled.branch [

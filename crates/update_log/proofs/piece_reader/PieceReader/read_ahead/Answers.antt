@@ -1,4 +1,4 @@
-use Rattle.std.proofs.Common.{◌+◌, ◌-◌, ◌∙◌, length, ap, refl, arith}
+use Rattle.std.proofs.Common.{◌+◌, ◌-◌, ◌∙◌, ap, refl, arith}
 use Rattle.update_log.specs.Reading.{ReaderState, left_of}
 use Rattle.update_log.proofs.Pieces.{read_more}
 use Rattle.update_log.proofs.piece_reader.PieceReader.read_ahead.Goals as goal
