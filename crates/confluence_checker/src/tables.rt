@@ -18,9 +18,7 @@ use crate::{RowLists, TableList};
 use row_check::{Checks, Native, Relation};
 use schema::Schema;
 use std::alloc::{AllocError, Global};
-use table_model::{
-    ShownRow, ShownRowList, Verdict, VoidLine, VoidList, sort_lines, sort_rows,
-};
+use table_model::{ShownRow, ShownRowList, Verdict, VoidLine, VoidList, sort_lines, sort_rows};
 use update_model::Node;
 
 /// A row as a table lists it.

@@ -44,13 +44,13 @@ one_member before (e ∷ es) f x y cx cy same =
     let cases : (e ≡ x) ⊎ Contains es x → (e ≡ y) ⊎ Contains es y → x ≡ y =
     elim [
       | inl hx ↦ elim [
-          | inl hy ↦ sym hx ∙ hy
-          | inr ly ↦ absurd (first_apart before es e y f.1 ly (ap (λ (m : Entry). m.id) hx ∙ same))
-        ]
+        | inl hy ↦ sym hx ∙ hy
+        | inr ly ↦ absurd (first_apart before es e y f.1 ly (ap (λ (m : Entry). m.id) hx ∙ same))
+      ]
       | inr lx ↦ elim [
-          | inl hy ↦ absurd (first_apart before es e x f.1 lx (ap (λ (m : Entry). m.id) hy ∙ sym same))
-          | inr ly ↦ one_member (before ++ e ∷ []) es f.1 x y lx ly same
-        ]
+        | inl hy ↦ absurd (first_apart before es e x f.1 lx (ap (λ (m : Entry). m.id) hy ∙ sym same))
+        | inr ly ↦ one_member (before ++ e ∷ []) es f.1 x y lx ly same
+      ]
     ] in
     cases (contains_cases e x es cx) (contains_cases e y es cy)
 
@@ -115,11 +115,11 @@ module _ (rules : Rules) (graph : List Entry) (closed : Follows [] graph) where
       let first = judge_next rules (judged rules ns) n in
       elim (contains_cases first j (judged rules ns) cj) [
         | inl here ↦ (
-            ns,
-            subst (λ (k : Judged). IsNext ns k.node) here c.0,
-            subst (λ (k : Judged). (id : UpdateId) → k.is_ancestor id ≡ ancestor_of (judged rules ns) k.node id) here (λ id. refl),
-            λ k ck. contains_later first k (judged rules ns) ck,
-          )
+          ns,
+          subst (λ (k : Judged). IsNext ns k.node) here c.0,
+          subst (λ (k : Judged). (id : UpdateId) → k.is_ancestor id ≡ ancestor_of (judged rules ns) k.node id) here (λ id. refl),
+          λ k ck. contains_later first k (judged rules ns) ck,
+        )
         | inr later ↦ let o = older_of ns c.1 j later in (o.0, o.1, o.2, λ k ck. contains_later first k (judged rules ns) (o.3 k ck))
       ]
 

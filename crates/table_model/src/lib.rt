@@ -26,10 +26,10 @@ pub use invariant::{Invariant, InvariantKind};
 pub use laws::{
     accepted_holds, accepted_is_confluent, arrivals_are_closed, confirmed_refutes,
     effects_one_by_one, first_refused_is_confirmed, invariants_are_of_the_set,
-    judged_ancestors_are_ancestors, judged_one_by_one,
-    shown_rows_fit, tables_are_of_the_set, union_is_closed, union_is_of_both,
-    unlimited_tables_hold, verdict_goes_by_operations, verdict_is_on_ancestors,
-    verdicts_are_of_the_set, visible_is_shown, visible_rows_are_of_the_set,
+    judged_ancestors_are_ancestors, judged_one_by_one, shown_rows_fit, tables_are_of_the_set,
+    union_is_closed, union_is_of_both, unlimited_tables_hold, verdict_goes_by_operations,
+    verdict_is_on_ancestors, verdicts_are_of_the_set, visible_is_shown,
+    visible_rows_are_of_the_set,
 };
 pub use node_list::NodeList;
 pub use shown_row::ShownRow;

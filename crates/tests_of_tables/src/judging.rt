@@ -5,9 +5,9 @@ ghost use Rattle.table_model.specs.Visible.{same_row};
 
 use row_check::{Luhn, Native};
 use schema::{SchemaError, read_schema};
-use table_model::Verdict;
 use std::alloc::{AllocError, Global};
 use std::test::Fail;
+use table_model::Verdict;
 use update_model::{
     AuthorKey, IdList, Node, Op, OpList, RowEntry, RowName, RowsAt, UpdateId, Value, ValueList,
 };

@@ -5,9 +5,9 @@ ghost use Rattle.update_model.specs.declared.op.Op.TheVariants.{Delete};
 
 use row_check::{Luhn, Native};
 use schema::{Schema, SchemaError, read_schema};
-use table_model::Verdict;
 use std::alloc::{AllocError, Global};
 use std::test::Fail;
+use table_model::Verdict;
 use tuple_state::Tables;
 use update_model::{
     Ancestors, AuthorKey, IdList, Node, Op, OpList, RowName, RowsAt, UpdateId, Value,

@@ -1,14 +1,14 @@
 //! Worked texts: values, a counterexample, and tables.
 
-use table_text::{
-    NameStyle, names_are_read_again, push_counterexample, push_operation, push_row_name,
-    push_tables, push_value, push_void,
-};
 use row_check::{Luhn, Native};
 use schema::{Schema, SchemaError, read_schema};
 use std::alloc::{AllocError, Global};
 use std::test::Fail;
 use table_model::{Counterexample, NodeList, ShownRow, ShownRowList, VoidLine};
+use table_text::{
+    NameStyle, names_are_read_again, push_counterexample, push_operation, push_row_name,
+    push_tables, push_value, push_void,
+};
 use update_model::{
     AuthorKey, IdList, Node, Op, OpList, RowName, TextValue, UpdateId, Value, ValueList,
     check_value_text,

@@ -1,11 +1,7 @@
 //! Texts, and how they read.
 
-use crate::cases::{
-    EXPRESSIONS, LINES, NAMES, PUNCTUATED, ROWS, SCHEMAS, SPACED, VALUES,
-};
-use expression_text::{
-    Kind, are_known, are_row_texts, build, has_kinds, is_expression, tokens_of,
-};
+use crate::cases::{EXPRESSIONS, LINES, NAMES, PUNCTUATED, ROWS, SCHEMAS, SPACED, VALUES};
+use expression_text::{Kind, are_known, are_row_texts, build, has_kinds, is_expression, tokens_of};
 use row_check::{Luhn, Native, eval, fits};
 use schema::{SchemaError, read_schema};
 use std::alloc::{AllocError, Global};
@@ -166,7 +162,13 @@ fn expression(alloc: Global, line: &[u8]) -> Result<&'static str, AllocError> {
         return Ok("name");
     }
     let expr = build(alloc, tokens.as_slice(), names.as_slice())?;
-    let kinds = [Kind::Int, Kind::Flag, Kind::Reference, Kind::Text, Kind::Int];
+    let kinds = [
+        Kind::Int,
+        Kind::Flag,
+        Kind::Reference,
+        Kind::Text,
+        Kind::Int,
+    ];
     if !has_kinds(&expr, &kinds) {
         return Ok("type");
     }
@@ -263,6 +265,9 @@ fn keeps_what_a_schema_says(rt: HostRuntime) -> Result<(), Fail> {
     assert_eq!(rt; &database[..4], [0xe0, 0x4e, 0xbe, 0x00].as_slice());
     assert!(rt; users.tables() == 1);
     let uniques = users.table(0).uniques.as_slice();
-    assert_eq!(rt; format!(in alloc; "{uniques:?}")?.as_str(), "[UniqueRule { column: 0, line: 4 }]");
+    assert_eq!(rt;
+        format!(in alloc; "{uniques:?}")?.as_str(),
+        "[UniqueRule { column: 0, line: 4 }]"
+    );
     Ok(())
 }

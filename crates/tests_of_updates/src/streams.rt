@@ -23,7 +23,12 @@ fn read<S: Source>(alloc: Global, input: &mut S) -> Result<Held, Fail> {
 /// A root as a record.
 fn record(alloc: Global) -> Result<Vec<u8>, Fail> {
     let (update, _author) = signed(alloc, PLAIN)?;
-    let mut record = Vec::from_slice(alloc, &u32::to_be_bytes(update.len() as u32))?;
+    let mut record = Vec::from_slice(
+        alloc,
+        &u32::try_from(update.len())
+            .unwrap_or(u32::MAX)
+            .to_be_bytes(),
+    )?;
     record.extend_from_slice(&update)?;
     Ok(record)
 }

@@ -3,8 +3,8 @@
 ghost use Rattle.std.specs.Prelude.{◌≡◌, IfOk, count_by, map, nat_lt};
 
 use crate::{Dropped, Inserted, Voided};
-use table_model::VoidLine;
 use std::alloc::{AllocError, Global};
+use table_model::VoidLine;
 
 /// How many rows the first updates inserted.
 pub(crate) fn rows_before(rows: &[Inserted], len: u32) -> usize
