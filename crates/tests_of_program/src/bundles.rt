@@ -151,7 +151,14 @@ fn made_next(
 ) -> Result<Made, Fail> {
     let operation = spelled(alloc, made, op)?;
     let record = match after {
-        Some(number) => signed(alloc, author, database, &[id_at(made, number)], 1, &operation)?,
+        Some(number) => signed(
+            alloc,
+            author,
+            database,
+            &[id_at(made, number)],
+            1,
+            &operation,
+        )?,
         None => signed(alloc, author, database, &[], 1, &operation)?,
     };
     let id = hex::encode(alloc, id_of(record.get(4..).unwrap_or(&[])).0)?;
@@ -185,7 +192,9 @@ fn told(alloc: Global, made: &[Made], text: &str) -> Result<String, AllocError> 
 fn dumps_of_bundles(rt: HostRuntime) -> Result<(), Fail> {
     let alloc = rt.alloc();
     let native: Native<Luhn, Luhn> = Native::new(Luhn);
-    let database = read_schema(alloc, TASKS.as_bytes(), &native)?.rule().database;
+    let database = read_schema(alloc, TASKS.as_bytes(), &native)?
+        .rule()
+        .database;
     let authors = authors(alloc)?;
     let mut made = Vec::new(alloc);
     for (author, after, op) in UPDATES {
@@ -208,7 +217,10 @@ fn a_schema_is_cut(rt: HostRuntime) -> Result<(), Fail> {
         (&[0, 1, 0, 1], "! schema line 0: limit\n"),
     ];
     for (bytes, line) in rows {
-        assert!(rt; answers(alloc, "dump", Vec::from_slice(alloc, bytes)?, 1, line)?, "{line}");
+        assert!(rt;
+            answers(alloc, "dump", Vec::from_slice(alloc, bytes)?, 1, line)?,
+            "{line}"
+        );
     }
     Ok(())
 }

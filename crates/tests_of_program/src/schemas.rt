@@ -30,11 +30,7 @@ const EDITS: [(&str, &str, &str); 5] = [
         "! schema line 15: sample\n",
     ),
     ("SAMPLE \"Buy\" 3 NULL\n", "", "! schema line 15: line\n"),
-    (
-        "list CASCADE",
-        "list RESTRICT",
-        "! schema line 14: match\n",
-    ),
+    ("list CASCADE", "list RESTRICT", "! schema line 14: match\n"),
     (TASKS, "", "! schema line 1: line\n"),
 ];
 

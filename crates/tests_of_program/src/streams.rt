@@ -61,7 +61,11 @@ const CASES: [(&[Step], u8, &str); 24] = [
     (&[FIRST, OTHER, SWAPPED], 1, "! update 3: order at 123\n"),
     (&[FIRST, Step::Keep(704)], 1, "! update 1: short at 700\n"),
     (&[FIRST, Step::Keep(3)], 1, "! update 1: short at 0\n"),
-    (&[Step::Raw(&[0, 4, 0, 1])], 1, "! update 1: too long at 262144\n"),
+    (
+        &[Step::Raw(&[0, 4, 0, 1])],
+        1,
+        "! update 1: too long at 262144\n",
+    ),
     (
         &[SECOND],
         1,
@@ -72,24 +76,52 @@ const CASES: [(&[Step], u8, &str); 24] = [
         1,
         "! update 2: other database\n",
     ),
-    (&[FIRST, Step::Put(4, &[2])], 1, "! update 1: version at 0\n"),
-    (&[FIRST, Step::Put(40, &[8])], 1, "! update 1: key type at 33\n"),
-    (&[FIRST, Step::Put(44, &[5])], 1, "! update 1: key type at 37\n"),
-    (&[FIRST, Step::Put(93, &[4, 1])], 1, "! update 1: count at 89\n"),
-    (&[FIRST, Step::Put(95, &[0, 1])], 1, "! update 1: tag at 93\n"),
+    (
+        &[FIRST, Step::Put(4, &[2])],
+        1,
+        "! update 1: version at 0\n",
+    ),
+    (
+        &[FIRST, Step::Put(40, &[8])],
+        1,
+        "! update 1: key type at 33\n",
+    ),
+    (
+        &[FIRST, Step::Put(44, &[5])],
+        1,
+        "! update 1: key type at 37\n",
+    ),
+    (
+        &[FIRST, Step::Put(93, &[4, 1])],
+        1,
+        "! update 1: count at 89\n",
+    ),
+    (
+        &[FIRST, Step::Put(95, &[0, 1])],
+        1,
+        "! update 1: tag at 93\n",
+    ),
     (
         &[FIRST, Step::Put(97, &[0, 0, 0, 0])],
         1,
         "! update 1: signature length at 93\n",
     ),
-    (&[FIRST, Step::Put(114, &[1])], 1, "! update 1: bad signature\n"),
+    (
+        &[FIRST, Step::Put(114, &[1])],
+        1,
+        "! update 1: bad signature\n",
+    ),
     (&[Step::Raw(&[0, 0, 0, 0])], 1, "! update 1: short at 0\n"),
     (
         &[FIRST, Step::Raw(&[0]), Step::Put(3, &[0x6e])],
         1,
         "! update 1: trailing at 1389\n",
     ),
-    (&[Step::Record(0, &[], 1, &[3])], 1, "! update 1: tag at 93\n"),
+    (
+        &[Step::Record(0, &[], 1, &[3])],
+        1,
+        "! update 1: tag at 93\n",
+    ),
     (
         &[Step::Record(0, &[], 1, &[1, 0, 1, 5, 0, 0])],
         1,
@@ -117,7 +149,14 @@ fn take(
     match step {
         Step::Record(author, preds, count, operations) => {
             let author = &authors[author.min(&1) & 1];
-            bytes.extend_from_slice(&signed(alloc, author, &[0xdd; 32], preds, *count, operations)?)?;
+            bytes.extend_from_slice(&signed(
+                alloc,
+                author,
+                &[0xdd; 32],
+                preds,
+                *count,
+                operations,
+            )?)?;
         }
         Step::Foreign => {
             bytes.extend_from_slice(&signed(alloc, &authors[0], &[0xee; 32], &[], 0, &[])?)?;
