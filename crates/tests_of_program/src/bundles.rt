@@ -11,6 +11,7 @@ use std::test::Fail;
 use update_codec::id_of;
 
 /// What an update does. Other updates are named by their numbers.
+#[derive(Clone, Copy)]
 enum Op {
     /// Inserts a list with this title.
     List(&'static str),

@@ -11,6 +11,7 @@ const ROOT: &str = "25b35b96afe714c0e91c5770d478eb26eafe18b0a114a767700b0f7b1157
 const OTHER_ROOT: &str = "2f83f765262f447d9f7abd111e7c06fc217c2861c823b0bda40d9c6b5a7158eb";
 
 /// How the bytes of a stream come about.
+#[derive(Clone, Copy)]
 enum Step {
     /// A record of an author's, after these updates, with so many operations, spelled so.
     Record(usize, &'static [&'static str], u8, &'static [u8]),
@@ -171,15 +172,21 @@ fn take(
     Ok(())
 }
 
+/// The bytes of a stream.
+fn bytes_of(alloc: Global, authors: &[Secret; 2], steps: &[Step]) -> Result<Vec<u8>, Fail> {
+    let mut bytes = Vec::new(alloc);
+    for step in steps {
+        take(alloc, authors, &mut bytes, step)?;
+    }
+    Ok(bytes)
+}
+
 #[test]
 fn heads_of_streams(rt: HostRuntime) -> Result<(), Fail> {
     let alloc = rt.alloc();
     let authors = authors(alloc)?;
     for (steps, status, text) in CASES {
-        let mut bytes = Vec::new(alloc);
-        for step in steps {
-            take(alloc, &authors, &mut bytes, step)?;
-        }
+        let bytes = bytes_of(alloc, &authors, steps)?;
         assert!(rt; answers(alloc, "heads", bytes, status, text)?, "{text}");
     }
     Ok(())

@@ -27,9 +27,9 @@ fn words_that_are_no_command(rt: HostRuntime) -> Result<(), Fail> {
 #[test]
 fn streams_that_fail(rt: HostRuntime) -> Result<(), Fail> {
     let alloc = rt.alloc();
-    let [author, _other] = authors(alloc)?;
+    let authors = authors(alloc)?;
     let heads = words(alloc, "heads")?;
-    let root = signed(alloc, &author, &[0xdd; 32], &[], 0, &[])?;
+    let root = signed(alloc, &authors[0], &[0xdd; 32], &[], 0, &[])?;
     let mut failing = MemSource::new(root.clone()?, vec![in alloc; 2]?);
     let mut out = MemSink::new(alloc, Vec::new(alloc));
     assert_eq!(rt;
