@@ -1,4 +1,11 @@
+pub mod Below
+pub mod Chained
+pub mod Clocking
 pub mod Growth
+pub mod Keeping
+pub mod Marking
+pub mod Merging
 pub mod Numbers
+pub mod Passed
 pub mod Steps
 pub mod Sweep

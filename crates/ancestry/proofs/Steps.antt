@@ -9,7 +9,7 @@ use Rattle.std.proofs.lemmas.Option.{unwrap_or-slice_get, slice_get_past}
 use Rattle.ancestry.specs.Walks.{preds_at, AreLower, leads_in, is_ancestor}
 
 -- tests that agree on each element
-any_same : (P : ℕ → Type 0) (p q : ℕ → Bool) (xs : List ℕ) → AllByRecursion P xs → ((x : ℕ) → P x → p x ≡ q x) → list_any p xs ≡ list_any q xs
+pub any_same : (P : ℕ → Type 0) (p q : ℕ → Bool) (xs : List ℕ) → AllByRecursion P xs → ((x : ℕ) → P x → p x ≡ q x) → list_any p xs ≡ list_any q xs
 any_same P p q [] all same = refl
 any_same P p q (x ∷ xs) all same = rw (same x all.0, any_same P p q xs all.1 same) refl
 
@@ -36,7 +36,7 @@ by_predecessors graph a b lower =
     (λ p below. ap (λ t. (p == a) || t) (enough graph lower b (suc p) a p below (omega arith)))
 
 -- later members add nothing to what an earlier one names
-preds_stay : (graph more : List (List ℕ)) (b : ℕ) → b < length graph → preds_at (graph ++ more) b ≡ preds_at graph b
+pub preds_stay : (graph more : List (List ℕ)) (b : ℕ) → b < length graph → preds_at (graph ++ more) b ≡ preds_at graph b
 preds_stay graph more b low =
     unwrap_or-slice_get (graph ++ more) b [] ∙ get_or_append_left graph more [] b low ∙ sym (unwrap_or-slice_get graph b [])
 

@@ -58,7 +58,7 @@ met_high graph a q lower e = elim (or_cases (q == a) (is_ancestor graph a q) e) 
 
 -- ---- the first mark
 
-unmarked : (m j : ℕ) → mark_at (replicate m false) j ≡ false
+pub unmarked : (m j : ℕ) → mark_at (replicate m false) j ≡ false
 unmarked m j = elim (cases_lt j m) [
   | inl low ↦ get_or-replicate m j false false low
   | inr high ↦ get_or_past (replicate m false) j false (omega (arith, length-replicate m false))
@@ -144,7 +144,7 @@ module _ (graph : List (List ℕ)) (a b k : ℕ) (marks new : List Bool) (lower 
   swept_marked long swept = record { sound = new_sound swept long; complete = new_complete swept }
 
 -- what the member that the sweep comes to names
-preds_read : (graph : List (List ℕ)) (i : ℕ) (preds : List ℕ) → i < length graph → preds ≡ get_or graph i preds → preds_at graph i ≡ preds
+pub preds_read : (graph : List (List ℕ)) (i : ℕ) (preds : List ℕ) → i < length graph → preds ≡ get_or graph i preds → preds_at graph i ≡ preds
 preds_read graph i preds low is = unwrap_or-slice_get graph i [] ∙ sym (get_or_read graph i preds low is [])
 
 pub named_within : (graph : List (List ℕ)) (a k n : ℕ) (preds : List ℕ) → AreLower graph → a + k < length graph → preds ≡ get_or graph (a + k) preds → k < n → All (λ p. p < a + n) preds

@@ -1,3 +1,7 @@
+pub mod Below
+pub mod Chains
+pub mod Clocked
 pub mod Kept
 pub mod Numbered
+pub mod Since
 pub mod Walks

@@ -1,4 +1,5 @@
 pub mod Causes
+pub mod Framed
 pub mod Memory
 pub mod Moved
 pub mod Reading

@@ -1,5 +1,5 @@
 -- What a source gave and a sink took, where that is told.
-use Rattle.std.specs.Prelude.{ℕ, ◌<◌, ◌≤◌, List, length, take, Result, MatchResult}
+use Rattle.std.specs.Prelude.{◌≡◌, ℕ, ◌<◌, ◌≤◌, List, length, take, Some, IfSome, Result, MatchResult}
 use Rattle.std.specs.declared.option.Option.{Option}
 use Rattle.std.specs.Io.KnownBytes.{Consumes, Appends, IsAtEnd}
 
@@ -15,3 +15,7 @@ abbrev pub TakesAll : {T E : Type 0} → Option (List ℕ) → Option (List ℕ)
 TakesAll before after result bytes = MatchResult result
     (λ _. Appends before after bytes)
     (λ _. (n : ℕ) × (n ≤ length bytes) × Appends before after (take n bytes))
+
+-- This holds of the bytes that were left before and those that are left after, where the source tells them.
+abbrev pub IfTold : Option (List ℕ) → Option (List ℕ) → (List ℕ → List ℕ → Type 0) → Type 0
+IfTold before after P = IfSome before (λ bytes. (rest : List ℕ) × (after ≡ Some rest) × P bytes rest)

@@ -4,7 +4,8 @@
 //! [`Failed`] only where that count rose. What an object gives and takes is part of its contract, so
 //! that a function over a source and a sink can say exactly what it reads and writes. An object that
 //! stands for a real stream tells nothing of its bytes, and the same function runs over it.
-//! [`read_full`] and [`write_all_of`] move a whole buffer. [`Cursor`] reads fields from a slice.
+//! [`read_full`] and [`write_all_of`] move a whole buffer, and [`read_framed`] reads a piece behind its length.
+//! [`Cursor`] reads fields from a slice.
 //!
 //! ```
 //! let mut source = MemSource::new(bytes, Vec::new(alloc));
@@ -23,22 +24,28 @@ mod counted;
 mod cursor;
 mod failed;
 mod fault_plan;
+mod framed;
+mod laws;
 mod mem_sink;
 mod mem_source;
 mod moving;
 mod plain_sink;
 mod plain_source;
+mod read_error;
 mod sink;
 mod source;
 
 pub use counted::Counted;
 pub use cursor::Cursor;
 pub use failed::Failed;
+pub use framed::{Framed, read_framed};
+pub use laws::{framed_length, one_piece};
 pub use mem_sink::MemSink;
 pub use mem_source::MemSource;
 pub use moving::{read_full, write_all_of};
 pub use plain_sink::PlainSink;
 pub use plain_source::PlainSource;
+pub use read_error::ReadError;
 pub use sink::Sink;
 pub use source::Source;
 

@@ -16,11 +16,19 @@
 //! that it passes on, unchanged and in order, the bytes that the reader gave or the writer took.
 #![tactic(auto)]
 
+mod file_disk;
+mod file_shelf;
+mod hash_rng;
 mod host_sink;
 mod host_source;
+mod laws;
 
+pub use file_disk::FileDisk;
+pub use file_shelf::FileShelf;
+pub use hash_rng::HashRng;
 pub use host_sink::HostSink;
 pub use host_source::HostSource;
+pub use laws::blocks_follow_one_another;
 
 #[cfg(test)]
 mod tests;

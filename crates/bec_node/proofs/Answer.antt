@@ -1,5 +1,5 @@
--- An input has one answer to a command.
-use Rattle.std.proofs.Common.{◌≡◌, inl, inr, ℕ, ◌≤◌, ◌<◌, ◌+◌, List, ◌++◌, length, length-append, Option, None, Some, map, sym, ap, subst, ◌∙◌, ◌&&◌, not, arith}
+-- What a source has left has one answer to a command.
+use Rattle.std.proofs.Common.{◌≡◌, inl, inr, ℕ, ◌≤◌, ◌+◌, List, ◌++◌, length, length-append, Option, None, Some, Ok, Err, map, refl, sym, ap, subst, ◌∙◌, ◌&&◌, not, arith}
 use Rattle.update_model.specs.declared.update_id.UpdateId.{UpdateId}
 use Rattle.update_model.specs.Graph.{AreHeads, holds, names}
 use Rattle.update_model.proofs.Heads.{sorted_same}
@@ -11,18 +11,21 @@ use Rattle.update_codec.specs.Stream.{framed}
 use Rattle.update_codec.proofs.StreamLemmas.{length-framed}
 use Rattle.update_stream.proofs.Frames.{length_at-framed}
 use Rattle.row_check.specs.Checksum.{is_luhn}
-use Rattle.schema.specs.declared.shown_row.ShownRow.{ShownRow}
-use Rattle.schema.specs.declared.void_line.VoidLine.{VoidLine}
 use Rattle.schema.specs.Schemas.{SchemaData}
-use Rattle.schema.specs.Tables.{AreTablesOf}
+use Rattle.table_model.specs.Tables.{AreTablesOf}
 use Rattle.table_text.specs.Tables.{tables_text}
-use Rattle.bec_node.specs.Bundle.{DumpAnswer, cut, long, whole, IsCutSchema, in_length, in_text, IsLongSchema, HoldsText, RecordsAnswer, TextAnswer, nodes_of}
-use Rattle.bec_node.specs.Texts.{printed, refusal_text, status_of}
-use Rattle.bec_node.specs.Verdict.{rules_of}
+use Rattle.bec_node.specs.declared.refusal.Refusal.{Refusal}
+use Rattle.bec_node.specs.declared.refusal.Refusal.TheVariants.{Record}
+use Rattle.bec_node.specs.Bundle.{DumpAnswer, holds as holds_text, lacks, HoldsText, IsCutSchema, in_length, in_text, IsLongSchema, LacksText, RecordsAnswer, whole, stopped, TextAnswer, taken, refused as text_refused, nodes_of}
+use Rattle.bec_node.specs.Commands.{AnswerTo}
+use Rattle.bec_node.specs.Heads.{HeadsAnswer, done, refused}
+use Rattle.bec_node.specs.Outcome.{Outcome, Prints, status_for, status_of, text_for, text_of}
+use Rattle.bec_node.specs.Texts.{printed}
+use Rattle.bec_node.specs.Verdict.{CheckAnswer, confluent, refused as check_refused, RefusesSchema, TakesSchema, rules_of}
 use Rattle.bec_node.specs.declared.command.Command.{Command}
 use Rattle.bec_node.specs.declared.command.Command.TheVariants.{Heads, Check, Dump}
-use Rattle.bec_node.specs.Run.{HeadsAnswer, AnswerTo}
-use Rattle.bec_node.proofs.Refusals.{SchemaLaws, judged_once, refuses_once, taken_or_refused}
+use Rattle.bec_node.proofs.Streams.{members_of}
+use Rattle.bec_node.proofs.Refusals.{SchemaLaws, refuses_once, taken_or_refused}
 use Rattle.bec_node.proofs.Tables.{TableLaws, tables_once}
 
 heads_once : (members others : List (List ℕ)) (heads again : List UpdateId) → members ≡ others → AreHeads (map entry_of members) heads → AreHeads (map entry_of others) again → heads ≡ again
@@ -41,19 +44,35 @@ pub record StreamLaws : Type 0 where
   pub whole_or_refused : (given : Option RuleData) (input rest : List ℕ) (members : List (List ℕ)) (n : ℕ) (fault : RecordFault)
       → IsWhole given input members → IsRefused given input rest n fault → ⊥
 
-heads_answered : StreamLaws → (input rest other : List ℕ) (status another : ℕ) (text line : List ℕ) → HeadsAnswer input rest status text → HeadsAnswer input other another line
-    → (status ≡ another) × (text ≡ line)
-heads_answered laws input rest other status another text line (inl a) (inl b) =
-    let same = laws.one_graph None input a.1.0 b.1.0 a.1.1 b.1.1 in
-    let heads = heads_once a.1.0 b.1.0 a.0 b.0 same a.1.2 b.1.2 in
-    (a.3 ∙ sym b.3, a.4 ∙ ap printed heads ∙ sym b.4)
-heads_answered laws input rest other status another text line (inl a) (inr b) = absurd (laws.whole_or_refused None input other a.1.0 b.0 b.1.0 a.1.1 b.1.1)
-heads_answered laws input rest other status another text line (inr a) (inl b) = absurd (laws.whole_or_refused None input rest b.1.0 a.0 a.1.0 b.1.1 a.1.1)
-heads_answered laws input rest other status another text line (inr a) (inr b) =
-    let same = laws.one_refusal None input rest other a.0 b.0 a.1.0 b.1.0 a.1.1 b.1.1 in (
-      a.1.2 ∙ ap status_of same.1 ∙ sym b.1.2,
-      a.1.3 ∙ ap (λ (n : ℕ). refusal_text n a.1.0) same.0 ∙ ap (refusal_text b.0) same.1 ∙ sym b.1.3,
-    )
+-- the outcomes are told apart by nobody: one status and one text
+abbrev pub Same : Outcome → Outcome → Type 0
+Same a b = (status_of a ≡ status_of b) × (text_of a ≡ text_of b)
+
+same_prints : (a b : Outcome) (text line : List ℕ) → text ≡ line → Prints a text → Prints b line → Same a b
+same_prints (Ok x) (Ok y) text line same p q = (refl, p ∙ same ∙ sym q)
+same_prints (Ok x) (Err s) text line same p q = absurd q
+same_prints (Err r) b text line same p q = absurd p
+
+same_refused : (a b : Outcome) (r s : Refusal) → r ≡ s → a ≡ Err r → b ≡ Err s → Same a b
+same_refused a b r s same e f = (ap status_of e ∙ ap status_for same ∙ sym (ap status_of f), ap text_of e ∙ ap text_for same ∙ sym (ap text_of f))
+
+module _ (streams : StreamLaws) where
+  same_stop : (given : Option RuleData) (input rest other : List ℕ) (m n : ℕ) (f g : RecordFault) → IsRefused given input rest m f → IsRefused given input other n g → Record m f ≡ Record n g
+  same_stop given input rest other m n f g a b = let same = streams.one_refusal given input rest other m n f g a b in (λ i. Record (same.0 i) (same.1 i))
+
+  heads_answered : (input : List ℕ) (after other : Option (List ℕ)) (a b : Outcome) → HeadsAnswer (Some input) after a → HeadsAnswer (Some input) other b → Same a b
+  heads_answered input after other a b (done ms hs r h p) (done ns ks s k q) =
+      same_prints a b (printed hs) (printed ks) (ap printed (heads_once ms ns hs ks (streams.one_graph None input ms ns r.2.0 s.2.0) h k)) p q
+  heads_answered input after other a b (done ms hs r h p) (refused n g s f) = absurd (streams.whole_or_refused None input s.0 ms n g r.2.0 s.2)
+  heads_answered input after other a b (refused n g s f) (done ms hs r h p) = absurd (streams.whole_or_refused None input s.0 ms n g r.2.0 s.2)
+  heads_answered input after other a b (refused m f r e) (refused n g s h) = same_refused a b (Record m f) (Record n g) (same_stop None input r.0 s.0 m n f g r.2 s.2) e h
+
+check_answered : SchemaLaws → (input : List ℕ) (after other : Option (List ℕ)) (a b : Outcome) → CheckAnswer (Some input) after a → CheckAnswer (Some input) other b → Same a b
+check_answered laws input after other a b (confluent t x h take p) (confluent u y k takes q) = same_prints a b _ _ refl p q
+check_answered laws input after other a b (confluent t x h take p) (check_refused u r k not f) = absurd (taken_or_refused laws input r x (subst (λ (w : List ℕ). TakesSchema w x) h.0 take) (subst (λ (w : List ℕ). RefusesSchema w r) k.0 not))
+check_answered laws input after other a b (check_refused u r k not f) (confluent t x h take p) = absurd (taken_or_refused laws input r x (subst (λ (w : List ℕ). TakesSchema w x) h.0 take) (subst (λ (w : List ℕ). RefusesSchema w r) k.0 not))
+check_answered laws input after other a b (check_refused t r h one e) (check_refused u s k two f) =
+    same_refused a b r s (refuses_once laws input r s (subst (λ (w : List ℕ). RefusesSchema w r) h.0 one) (subst (λ (w : List ℕ). RefusesSchema w s) k.0 two)) e f
 
 -- ---- bundles
 
@@ -61,76 +80,81 @@ heads_answered laws input rest other status another text line (inr a) (inr b) =
 abbrev pub OneFrame : Type 0
 OneFrame = (bytes other more others : List ℕ) → length bytes ≤ 262144 → length other ≤ 262144 → framed bytes ++ more ≡ framed other ++ others → (bytes ≡ other) × (more ≡ others)
 
-records_answered : StreamLaws → TableLaws → (schema : SchemaData) (more rest other : List ℕ) (status another : ℕ) (text line : List ℕ) → RecordsAnswer schema more rest status text → RecordsAnswer schema more other another line
-    → (status ≡ another) × (text ≡ line)
-records_answered streams laws schema more rest other status another text line (inl a) (inl b) =
-    let same : a.0 ≡ b.0 = streams.one_graph (Some schema.rule) more a.0 b.0 a.1 b.1 in
-    let moved : AreTablesOf (rules_of schema) (nodes_of b.0) a.2.0 a.2.1.0 = subst (λ (ms : List (List ℕ)). AreTablesOf (rules_of schema) (nodes_of ms) a.2.0 a.2.1.0) same a.2.1.1.are in
-    let one = tables_once laws schema b.0 a.2.0 b.2.0 a.2.1.0 b.2.1.0 b.2.1.1.taken.closed moved b.2.1.1.are in (
-      a.2.1.3 ∙ sym b.2.1.3,
-      a.2.1.4 ∙ ap (λ (ts : List (List ShownRow)). tables_text schema.tables ts a.2.1.0) one.0 ∙ ap (λ (vs : List VoidLine). tables_text schema.tables b.2.0 vs) one.1 ∙ sym b.2.1.4,
-    )
-records_answered streams laws schema more rest other status another text line (inl a) (inr b) = absurd (streams.whole_or_refused (Some schema.rule) more other a.0 b.0 b.1.0 a.1 b.1.1)
-records_answered streams laws schema more rest other status another text line (inr a) (inl b) = absurd (streams.whole_or_refused (Some schema.rule) more rest b.0 a.0 a.1.0 b.1 a.1.1)
-records_answered streams laws schema more rest other status another text line (inr a) (inr b) =
-    let same = streams.one_refusal (Some schema.rule) more rest other a.0 b.0 a.1.0 b.1.0 a.1.1 b.1.1 in (
-      a.1.2 ∙ ap status_of same.1 ∙ sym b.1.2,
-      a.1.3 ∙ ap (λ (n : ℕ). refusal_text n a.1.0) same.0 ∙ ap (refusal_text b.0) same.1 ∙ sym b.1.3,
-    )
-
-text_answered : StreamLaws → SchemaLaws → TableLaws → (declared more rest other : List ℕ) (status another : ℕ) (text line : List ℕ) → TextAnswer declared more rest status text → TextAnswer declared more other another line
-    → (status ≡ another) × (text ≡ line)
-text_answered streams schemas laws declared more rest other status another text line (inl a) (inl b) = (a.2 ∙ sym b.2, refuses_once schemas declared text line a.0 b.0)
-text_answered streams schemas laws declared more rest other status another text line (inl a) (inr b) = absurd (taken_or_refused schemas declared text b.0 b.1 a.0)
-text_answered streams schemas laws declared more rest other status another text line (inr a) (inl b) = absurd (taken_or_refused schemas declared line a.0 a.1 b.0)
-text_answered streams schemas laws declared more rest other status another text line (inr a) (inr b) =
-    let same : a.0 ≡ b.0 = schemas.one_schema is_luhn declared a.0 b.0 a.1.declares b.1.declares in
-    records_answered streams laws b.0 more rest other status another text line (subst (λ (s : SchemaData). RecordsAnswer s more rest status text) same a.2) b.2
-
 -- the length of a text is its own, and no longer than what follows
-held_length : (input declared more : List ℕ) → HoldsText input declared more → length_at input ≡ length declared
-held_length input declared more holds = let short = holds.short in ap length_at holds.parts ∙ length_at-framed declared more (omega arith)
+held_length : (input declared more : List ℕ) → HoldsText (Some input) (Some more) declared → length_at input ≡ length declared
+held_length input declared more holds = let short = holds.0 in ap length_at holds.1 ∙ length_at-framed declared more (omega arith)
 
-held_whole : (input declared more : List ℕ) → HoldsText input declared more → 4 + length declared ≤ length input
-held_whole input declared more holds = let size = ap length holds.parts ∙ length-append (framed declared) more in let own = length-framed declared in omega (arith, size, own)
+held_whole : (input declared more : List ℕ) → HoldsText (Some input) (Some more) declared → 4 + length declared ≤ length input
+held_whole input declared more holds = let size = ap length holds.1 ∙ length-append (framed declared) more in let own = length-framed declared in omega (arith, size, own)
 
-cut_or_held : (input declared more : List ℕ) → IsCutSchema input → HoldsText input declared more → ⊥
+cut_or_held : (input declared more : List ℕ) → IsCutSchema input → HoldsText (Some input) (Some more) declared → ⊥
 cut_or_held input declared more (in_length few) holds = let all = held_whole input declared more holds in omega (arith, few, all)
 cut_or_held input declared more (in_text four short less) holds =
     let all = held_whole input declared more holds in let own = held_length input declared more holds in omega (arith, less, all, own)
 
-long_or_held : (input declared more : List ℕ) → IsLongSchema input → HoldsText input declared more → ⊥
+long_or_held : (input declared more : List ℕ) → IsLongSchema input → HoldsText (Some input) (Some more) declared → ⊥
 long_or_held input declared more long_one holds =
-    let own = held_length input declared more holds in let over = long_one.over in let short = holds.short in omega (arith, own, over, short)
+    let own = held_length input declared more holds in let over = long_one.over in let short = holds.0 in omega (arith, own, over, short)
 
 cut_or_long : (input : List ℕ) → IsCutSchema input → IsLongSchema input → ⊥
 cut_or_long input (in_length few) long_one = let four = long_one.whole in omega (arith, few, four)
 cut_or_long input (in_text four short less) long_one = let over = long_one.over in omega (arith, short, over)
 
-dump_answered : StreamLaws → SchemaLaws → TableLaws → OneFrame → (input rest other : List ℕ) (status another : ℕ) (text line : List ℕ) → DumpAnswer input rest status text → DumpAnswer input other another line
-    → (status ≡ another) × (text ≡ line)
-dump_answered streams schemas laws one input rest other status another text line (cut a e f g) (cut b h i j) = (f ∙ sym i, g ∙ sym j)
-dump_answered streams schemas laws one input rest other status another text line (cut a e f g) (long b h i j) = absurd (cut_or_long input a b)
-dump_answered streams schemas laws one input rest other status another text line (cut a e f g) (whole d m h t) = absurd (cut_or_held input d m a h)
-dump_answered streams schemas laws one input rest other status another text line (long a e f g) (cut b h i j) = absurd (cut_or_long input b a)
-dump_answered streams schemas laws one input rest other status another text line (long a e f g) (long b h i j) = (f ∙ sym i, g ∙ sym j)
-dump_answered streams schemas laws one input rest other status another text line (long a e f g) (whole d m h t) = absurd (long_or_held input d m a h)
-dump_answered streams schemas laws one input rest other status another text line (whole d m h t) (cut b i j k) = absurd (cut_or_held input d m b h)
-dump_answered streams schemas laws one input rest other status another text line (whole d m h t) (long b i j k) = absurd (long_or_held input d m b h)
-dump_answered streams schemas laws one input rest other status another text line (whole d m h t) (whole e n i u) =
-    let a = h.short in
-    let b = i.short in
-    let same = one d e m n (omega arith) (omega arith) (sym h.parts ∙ i.parts) in
-    let P : List ℕ → Type 0 = λ w. TextAnswer w m rest status text in
-    let Q : List ℕ → Type 0 = λ w. TextAnswer e w rest status text in
-    text_answered streams schemas laws e n rest other status another text line (subst Q same.1 (subst P same.0 t)) u
+lacks_once : (input : List ℕ) (after other : Option (List ℕ)) (r s : Refusal) → LacksText (Some input) after r → LacksText (Some input) other s → r ≡ s
+lacks_once input after other r s (inl a) (inl b) = a.1 ∙ sym b.1
+lacks_once input after other r s (inl a) (inr b) = absurd (cut_or_long input a.0.0 b.0.0)
+lacks_once input after other r s (inr a) (inl b) = absurd (cut_or_long input b.0.0 a.0.0)
+lacks_once input after other r s (inr a) (inr b) = a.1 ∙ sym b.1
 
--- an input has one answer to a command
+lacks_or_holds : (input declared : List ℕ) (after mid : Option (List ℕ)) (r : Refusal) → LacksText (Some input) after r → HoldsText (Some input) mid declared → ⊥
+lacks_or_holds input declared after None r a h = h.1
+lacks_or_holds input declared after (Some more) r (inl a) h = cut_or_held input declared more a.0.0 h
+lacks_or_holds input declared after (Some more) r (inr a) h = long_or_held input declared more a.0.0 h
+
+module _ (streams : StreamLaws) (schemas : SchemaLaws) (laws : TableLaws) where
+  records_answered : (schema : SchemaData) (more : List ℕ) (after other : Option (List ℕ)) (a b : Outcome) → RecordsAnswer schema (Some more) after a → RecordsAnswer schema (Some more) other b → Same a b
+  records_answered schema more after other a b (whole ms t r tables p) (whole ns u s others q) =
+      let same : ms ≡ ns = streams.one_graph (Some schema.rule) more ms ns r.2.0 s.2.0 in
+      let here = tables (members_of schema.rule more ms r.2.0) in
+      let there = others (members_of schema.rule more ns s.2.0) in
+      let moved : AreTablesOf (rules_of schema) (nodes_of ns) here.0 here.1.0 = subst (λ (xs : List (List ℕ)). AreTablesOf (rules_of schema) (nodes_of xs) here.0 here.1.0) same here.1.1.are in
+      let one = tables_once laws schema ns here.0 there.0 here.1.0 there.1.0 there.1.1.taken.closed moved there.1.1.are in
+      let line : t ≡ u = here.1.2 ∙ (λ i. tables_text schema.tables (one.0 i) (one.1 i)) ∙ sym there.1.2 in
+      same_prints a b t u line p q
+  records_answered schema more after other a b (whole ms t r tables p) (stopped n g s f) = absurd (streams.whole_or_refused (Some schema.rule) more s.0 ms n g r.2.0 s.2)
+  records_answered schema more after other a b (stopped n g s f) (whole ms t r tables p) = absurd (streams.whole_or_refused (Some schema.rule) more s.0 ms n g r.2.0 s.2)
+  records_answered schema more after other a b (stopped m f r e) (stopped n g s h) =
+      same_refused a b (Record m f) (Record n g) (same_stop streams (Some schema.rule) more r.0 s.0 m n f g r.2 s.2) e h
+
+  text_answered : (declared more : List ℕ) (after other : Option (List ℕ)) (a b : Outcome) → TextAnswer declared (Some more) after a → TextAnswer declared (Some more) other b → Same a b
+  text_answered declared more after other a b (taken x t r) (taken y u s) =
+      let same : x ≡ y = schemas.one_schema is_luhn declared x y t.declares u.declares in
+      records_answered y more after other a b (subst (λ (z : SchemaData). RecordsAnswer z (Some more) after a) same r) s
+  text_answered declared more after other a b (taken x t r) (text_refused s not same f) = absurd (taken_or_refused schemas declared s x t not)
+  text_answered declared more after other a b (text_refused s not same f) (taken x t r) = absurd (taken_or_refused schemas declared s x t not)
+  text_answered declared more after other a b (text_refused r one same e) (text_refused s two again f) = same_refused a b r s (refuses_once schemas declared r s one two) e f
+
+  held_answered : OneFrame → (input d e : List ℕ) (m n after other : Option (List ℕ)) (a b : Outcome) → HoldsText (Some input) m d → HoldsText (Some input) n e → TextAnswer d m after a → TextAnswer e n other b → Same a b
+  held_answered one input d e None n after other a b h i t u = absurd h.1
+  held_answered one input d e (Some m) None after other a b h i t u = absurd i.1
+  held_answered one input d e (Some m) (Some n) after other a b h i t u =
+      let short = h.0 in
+      let fits = i.0 in
+      let same = one d e m n (omega arith) (omega arith) (sym h.1 ∙ i.1) in
+      let here : TextAnswer e (Some m) after a = subst (λ (w : List ℕ). TextAnswer w (Some m) after a) same.0 t in
+      text_answered e n after other a b (subst (λ (w : List ℕ). TextAnswer e (Some w) after a) same.1 here) u
+
+  dump_answered : OneFrame → (input : List ℕ) (after other : Option (List ℕ)) (a b : Outcome) → DumpAnswer (Some input) after a → DumpAnswer (Some input) other b → Same a b
+  dump_answered one input after other a b (holds_text d m h t) (holds_text e n i u) = held_answered one input d e m n after other a b h i t u
+  dump_answered one input after other a b (holds_text d m h t) (lacks r l e) = absurd (lacks_or_holds input d other m r l h)
+  dump_answered one input after other a b (lacks r l e) (holds_text d m h t) = absurd (lacks_or_holds input d after m r l h)
+  dump_answered one input after other a b (lacks r l e) (lacks s k f) = same_refused a b r s (lacks_once input after other r s l k) e f
+
+-- what a source has left has one answer to a command
 abbrev pub OneAnswer : Type 0
-OneAnswer = (command : Command) (input rest other : List ℕ) (status another : ℕ) (text line : List ℕ)
-    → AnswerTo command input rest status text → AnswerTo command input other another line → (status ≡ another) × (text ≡ line)
+OneAnswer = (command : Command) (input : List ℕ) (after other : Option (List ℕ)) (a b : Outcome) → AnswerTo command (Some input) after a → AnswerTo command (Some input) other b → Same a b
 
 pub answered : StreamLaws → SchemaLaws → TableLaws → OneFrame → OneAnswer
-answered streams schemas laws one Heads input rest other status another text line a b = heads_answered streams input rest other status another text line a b
-answered streams schemas laws one Check input rest other status another text line a b = judged_once schemas input status another text line a.1 b.1
-answered streams schemas laws one Dump input rest other status another text line a b = dump_answered streams schemas laws one input rest other status another text line a b
+answered streams schemas laws one Heads input after other a b = heads_answered streams input after other a b
+answered streams schemas laws one Check input after other a b = check_answered schemas input after other a b
+answered streams schemas laws one Dump input after other a b = dump_answered streams schemas laws one input after other a b

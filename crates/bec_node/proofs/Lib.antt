@@ -1,10 +1,13 @@
 pub mod Members
 pub mod HeadSteps
+pub mod Streams
 pub mod Checking
+pub mod Orders
 pub mod Refusals
 pub mod Tables
 pub mod Unlimited
 pub mod Taking
 pub mod Answer
+pub mod Answering
 pub mod Ending
 pub mod Bundles

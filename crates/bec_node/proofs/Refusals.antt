@@ -1,19 +1,19 @@
 -- A text has one answer: it declares one schema, whose first invariant that is refused is one, or it has one first fault.
-use Rattle.std.proofs.Common.{◌≡◌, ◌≢◌, inl, inr, ℕ, Bool, true, false, ◌&&◌, List, [], ◌∷◌, ◌++◌, refl, sym, ap, subst, ◌∙◌, IsTrue}
-use Rattle.std.specs.List.{list_all}
+use Rattle.std.proofs.Common.{◌≡◌, ℕ, Bool, true, false, List, [], ◌∷◌, ◌++◌, sym, ap, subst, ◌∙◌}
 use Rattle.std.proofs.lemmas.Bool.{and_parts}
 use Rattle.row_check.specs.Checksum.{is_luhn}
-use Rattle.schema.specs.declared.counterexample.Counterexample.{Counterexample}
+use Rattle.table_model.specs.declared.counterexample.Counterexample.{Counterexample}
 use Rattle.schema.specs.declared.fault.SchemaKind.{SchemaKind}
-use Rattle.schema.specs.declared.invariant.Invariant.{Invariant}
-use Rattle.schema.specs.Confluence.{accepts, are_accepted}
-use Rattle.schema.specs.Examples.{example_of}
-use Rattle.schema.specs.Invariants.{Declared, invariants_of}
+use Rattle.table_model.specs.declared.invariant.Invariant.{Invariant}
+use Rattle.table_model.specs.Confluence.{accepts, are_accepted}
+use Rattle.table_model.specs.Examples.{example_of}
+use Rattle.table_model.specs.Invariants.{Declared, invariants_of}
 use Rattle.schema.specs.Schemas.{Meaning, SchemaData, Declares, FirstFault}
-use Rattle.schema.specs.Visible.{Rules}
+use Rattle.table_model.specs.Visible.{Rules}
 use Rattle.confluence_test.specs.Tests.{IsRefused}
-use Rattle.bec_node.specs.Texts.{refused_text, schema_text}
-use Rattle.bec_node.specs.Verdict.{rules_of, IsRefuted, TakesSchema, RefusesSchema, Judges}
+use Rattle.bec_node.specs.declared.refusal.Refusal.{Refusal}
+use Rattle.bec_node.specs.declared.refusal.Refusal.TheVariants.{Schema, NotConfluent}
+use Rattle.bec_node.specs.Verdict.{rules_of, TakesSchema, RefusesSchema, fault, not_confluent}
 
 -- what is known of schemas: a text declares one, or has one first fault, and not both
 pub record SchemaLaws : Type 0 where
@@ -61,32 +61,22 @@ accepted_or_refused rules which example all r =
     (accepted_middle rules r.earlier r.first.later r.declared (ap (are_accepted rules) (sym r.first.split) ∙ all))
     r.first.refused
 
-pub taken_or_refused : SchemaLaws → (text line : List ℕ) (schema : SchemaData) → TakesSchema text schema → RefusesSchema text line → ⊥
-taken_or_refused laws text line schema taken (inl fault) = laws.no_fault is_luhn text schema fault.0 fault.1.0 taken.declares fault.1.1
-taken_or_refused laws text line schema taken (inr refused) =
-    let same : schema ≡ refused.0 = laws.one_schema is_luhn text schema refused.0 taken.declares refused.1 in
-    accepted_or_refused (rules_of refused.0) refused.2.0 refused.2.1.0
+pub taken_or_refused : SchemaLaws → (text : List ℕ) (refusal : Refusal) (schema : SchemaData) → TakesSchema text schema → RefusesSchema text refusal → ⊥
+taken_or_refused laws text refusal schema taken (fault first is e) = laws.no_fault is_luhn text schema first.kind first.line taken.declares is
+taken_or_refused laws text refusal schema taken (not_confluent other which example declares refuted e) =
+    let same : schema ≡ other = laws.one_schema is_luhn text schema other taken.declares declares in
+    accepted_or_refused (rules_of other) which example
     (subst (λ (s : SchemaData). are_accepted (rules_of s) (invariants_of (rules_of s)) ≡ true) same taken.accepted)
-    refused.2.1.1.refused
+    refuted.refused
 
-pub refuses_once : SchemaLaws → (text line other : List ℕ) → RefusesSchema text line → RefusesSchema text other → line ≡ other
-refuses_once laws text line other (inl a) (inl b) =
-    let same = laws.one_fault is_luhn text a.0 b.0 a.1.0 b.1.0 a.1.1 b.1.1 in
-    a.1.2 ∙ ap (λ (k : SchemaKind). schema_text a.1.0 k) same.0 ∙ ap (λ (n : ℕ). schema_text n b.0) same.1 ∙ sym b.1.2
-refuses_once laws text line other (inl a) (inr b) = absurd (laws.no_fault is_luhn text b.0 a.0 a.1.0 b.1 a.1.1)
-refuses_once laws text line other (inr a) (inl b) = absurd (laws.no_fault is_luhn text a.0 b.0 b.1.0 a.1 b.1.1)
-refuses_once laws text line other (inr a) (inr b) =
-    let same : a.0 ≡ b.0 = laws.one_schema is_luhn text a.0 b.0 a.1 b.1 in
-    let moved : IsRefused (rules_of b.0) a.2.0 a.2.1.0 = subst (λ (s : SchemaData). IsRefused (rules_of s) a.2.0 a.2.1.0) same a.2.1.1.refused in
-    let one = refused_once (rules_of b.0) a.2.0 b.2.0 a.2.1.0 b.2.1.0 moved b.2.1.1.refused in
-    a.2.1.2
-    ∙ ap (λ (s : SchemaData). refused_text s.tables a.2.0 a.2.1.0) same
-    ∙ ap (λ (w : Invariant). refused_text b.0.tables w a.2.1.0) one.0
-    ∙ ap (λ (e : Counterexample). refused_text b.0.tables b.2.0 e) one.1
-    ∙ sym b.2.1.2
-
-pub judged_once : SchemaLaws → (input : List ℕ) (status another : ℕ) (text line : List ℕ) → Judges input status text → Judges input another line → (status ≡ another) × (text ≡ line)
-judged_once laws input status another text line (inl a) (inl b) = (a.2 ∙ sym b.2, a.3 ∙ sym b.3)
-judged_once laws input status another text line (inl a) (inr b) = absurd (taken_or_refused laws input line a.0 a.1 b.0)
-judged_once laws input status another text line (inr a) (inl b) = absurd (taken_or_refused laws input text b.0 b.1 a.0)
-judged_once laws input status another text line (inr a) (inr b) = (a.1 ∙ sym b.1, refuses_once laws input text line a.0 b.0)
+pub refuses_once : SchemaLaws → (text : List ℕ) (a b : Refusal) → RefusesSchema text a → RefusesSchema text b → a ≡ b
+refuses_once laws text a b (fault x i e) (fault y j f) =
+    let same = laws.one_fault is_luhn text x.kind y.kind x.line y.line i j in
+    e ∙ (λ k. Schema (record { kind = same.0 k; line = same.1 k })) ∙ sym f
+refuses_once laws text a b (fault x i e) (not_confluent s w c d r f) = absurd (laws.no_fault is_luhn text s x.kind x.line d i)
+refuses_once laws text a b (not_confluent s w c d r f) (fault x i e) = absurd (laws.no_fault is_luhn text s x.kind x.line d i)
+refuses_once laws text a b (not_confluent s w c d r e) (not_confluent t v k g q f) =
+    let same : s ≡ t = laws.one_schema is_luhn text s t d g in
+    let moved : IsRefused (rules_of t) w c = subst (λ (x : SchemaData). IsRefused (rules_of x) w c) same r.refused in
+    let one = refused_once (rules_of t) w v c k moved q.refused in
+    e ∙ (λ i. NotConfluent (same i) (one.0 i) (one.1 i)) ∙ sym f

@@ -1,27 +1,28 @@
 -- The tables of members: they are one, every invariant holds in them, and the heads determine them.
-use Rattle.std.proofs.Common.{◌≡◌, ◌↔◌, ◌⊎◌, inl, inr, ℕ, Bool, true, false, ◌<◌, List, [], ◌∷◌, ◌++◌, length, map, reverse, refl, sym, ap, ap₂, subst, ◌∙◌, Contains, IsTrue, Option, Some, None, All, arith, cond}
+use Rattle.std.proofs.Common.{◌≡◌, inl, inr, ℕ, Bool, true, false, List, [], ◌∷◌, map, reverse, refl, sym, ap, subst, ◌∙◌, Contains, IsTrue, Option, Some, None, arith, cond}
 use Rattle.std.specs.List.{list_all}
 use Rattle.std.proofs.lemmas.Bool.{and_parts}
 use Rattle.update_model.specs.declared.update_id.UpdateId.{UpdateId}
 use Rattle.update_model.specs.Entry.{Entry, same_id}
 use Rattle.update_model.proofs.Ids.{id_from_same}
-use Rattle.update_model.specs.Graph.{AreHeads, Follows, HaveSameMembers, is_within}
+use Rattle.update_model.specs.Graph.{AreHeads, Follows, HaveSameMembers}
 use Rattle.update_model.specs.Node.{NodeData}
 use Rattle.update_codec.specs.Parts.{entry_of}
 use Rattle.update_check.specs.Signed.{node_of}
 use Rattle.head_set.specs.Grown.{NoCollision}
-use Rattle.schema.specs.declared.shown_row.ShownRow.{ShownRow}
-use Rattle.schema.specs.declared.void_line.VoidLine.{VoidLine}
-use Rattle.schema.specs.Confluence.{accepts, are_accepted}
-use Rattle.schema.specs.Invariants.{Declared, claim_holds, invariants_of, shown_in}
-use Rattle.schema.specs.Nodes.{AreNodesOf, IsClosed, IsSameSet, holds, node_of as node_with}
+use Rattle.table_model.specs.declared.shown_row.ShownRow.{ShownRow}
+use Rattle.table_model.specs.declared.void_line.VoidLine.{VoidLine}
+use Rattle.table_model.specs.Confluence.{accepts, are_accepted}
+use Rattle.table_model.specs.Invariants.{Declared, claim_holds, invariants_of, shown_in}
+use Rattle.table_model.specs.Nodes.{AreNodesOf, IsClosed, IsSameSet, holds, node_of as node_with}
 use Rattle.schema.specs.Schemas.{SchemaData}
 use Rattle.schema.specs.Sound.{AreTables}
-use Rattle.schema.specs.Tables.{AreTablesOf}
-use Rattle.schema.specs.Verdicts.{all_fit}
-use Rattle.schema.specs.Visible.{Rules, table_of}
+use Rattle.table_model.specs.Tables.{AreTablesOf}
+use Rattle.schema.specs.Columns.{all_fit}
+use Rattle.table_model.specs.Visible.{Rules, table_of}
 use Rattle.bec_node.specs.Bundle.{AreMembers, AreOfHeads, HasTables, nodes_of}
 use Rattle.bec_node.specs.Verdict.{rules_of}
+use Rattle.bec_node.proofs.Orders.{tables_there}
 use Rattle.bec_node.proofs.Members.{contains_cases, contains_mapped, mapped_contains, contains_turned, turned_contains, find_finds, any_of_contained}
 
 -- what is known of tables
@@ -103,9 +104,8 @@ module _ (laws : TableLaws) where
   of_heads equal_heads schema members tables voids taken are = λ others heads theirs apart a b.
       let same = equal_heads (map entry_of members) (map entry_of others) heads taken.closed theirs.closed apart a b in (
         same,
-        λ lists lines they.
-            laws.same_tables (rules_of schema) (nodes_of members) (nodes_of others) tables lists voids lines (nodes_closed laws members taken.closed) (nodes_closed laws others theirs.closed)
-            (same_nodes members others taken.closed theirs.closed same) are they,
+        tables_there (rules_of schema) (nodes_of members) (nodes_of others) (nodes_closed laws members taken.closed) (nodes_closed laws others theirs.closed)
+            (same_nodes members others taken.closed theirs.closed same) tables voids are,
       )
 
 -- an invariant of those that are all accepted is accepted

@@ -1,13 +1,13 @@
 -- Where every invariant is accepted, no table has a UNIQUE or an ATMOST.
-use Rattle.std.proofs.Common.{◌≡◌, ℕ, zero, suc, ◌+◌, ◌==◌, Bool, true, false, cond, ◌&&◌, List, [], ◌∷◌, ◌++◌, length, refl, sym, ap, ◌∙◌}
+use Rattle.std.proofs.Common.{◌≡◌, ℕ, ◌+◌, ◌==◌, Bool, true, false, List, [], ◌∷◌, ◌++◌, length, refl}
 use Rattle.std.specs.List.{list_all}
 use Rattle.std.proofs.lemmas.Bool.{and_parts}
 use Rattle.schema.specs.declared.rules.UniqueRule.{UniqueRule}
 use Rattle.schema.specs.declared.table_def.TableDef.{TableDef}
-use Rattle.schema.specs.Confluence.{accepts, are_accepted}
-use Rattle.schema.specs.Invariants.{Declared, at_most_declared, check_declared, each_from, match_declared, reference_declared, table_declared, unique_declared}
-use Rattle.schema.specs.Verdicts.{is_unlimited}
-use Rattle.schema.specs.Visible.{Rules}
+use Rattle.table_model.specs.Confluence.{accepts, are_accepted}
+use Rattle.table_model.specs.Invariants.{Declared, at_most_declared, check_declared, each_from, match_declared, reference_declared, table_declared, unique_declared}
+use Rattle.table_model.specs.Verdicts.{is_unlimited}
+use Rattle.table_model.specs.Visible.{Rules}
 
 -- the parts of what is accepted
 accepted_parts : (rules : Rules) (xs ys : List Declared) → are_accepted rules (xs ++ ys) ≡ true → (are_accepted rules xs ≡ true) × (are_accepted rules ys ≡ true)

@@ -1,4 +1,6 @@
 pub mod Texts
+pub mod Outcome
+pub mod Heads
 pub mod Verdict
 pub mod Bundle
 pub mod Commands

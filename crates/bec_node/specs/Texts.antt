@@ -1,4 +1,4 @@
--- What is printed, and with which status.
+-- What is printed.
 use Rattle.std.specs.Prelude.{ℕ, List, [], ◌∷◌, ◌++◌, codes}
 use Rattle.std.specs.List.{flat_map}
 use Rattle.std.specs.Fmt.{decimal}
@@ -7,10 +7,11 @@ use Rattle.update_model.specs.declared.update_id.UpdateId.{UpdateId}
 use Rattle.update_codec.specs.Words.{fault_words}
 use Rattle.update_check.specs.declared.check_error.CheckFault.{CheckFault}
 use Rattle.update_check.specs.declared.check_error.CheckFault.TheVariants.{Codec, WrongDatabase, AuthorNotListed, BadSignature}
-use Rattle.schema.specs.declared.counterexample.Counterexample.{Counterexample}
+use Rattle.table_model.specs.declared.counterexample.Counterexample.{Counterexample}
+use Rattle.schema.specs.declared.fault.SchemaFault.{SchemaFault}
 use Rattle.schema.specs.declared.fault.SchemaKind.{SchemaKind}
 use Rattle.schema.specs.declared.fault.SchemaKind.TheVariants as faults
-use Rattle.schema.specs.declared.invariant.Invariant.{Invariant}
+use Rattle.table_model.specs.declared.invariant.Invariant.{Invariant}
 use Rattle.schema.specs.declared.table_def.TableDef.{TableDef}
 use Rattle.table_text.specs.Examples.{example_text}
 use Rattle.update_stream.specs.declared.record_fault.RecordFault.{RecordFault}
@@ -32,16 +33,10 @@ check_text AuthorNotListed = codes "author not listed"
 check_text BadSignature = codes "bad signature"
 
 -- the line for the n-th record, which is refused
-abbrev pub refusal_text : ℕ → RecordFault → List ℕ
-refusal_text n (Check fault) = codes "! update " ++ decimal n ++ (codes ": " ++ (check_text fault ++ 10 ∷ []))
-refusal_text n (Lacks id) = codes "! update " ++ decimal n ++ (codes ": lacks " ++ line_of id)
-refusal_text n Full = codes "! full\n"
-
--- the status for a refused record
-abbrev pub status_of : RecordFault → ℕ
-status_of (Check fault) = 1
-status_of (Lacks id) = 1
-status_of Full = 7
+abbrev pub record_text : ℕ → RecordFault → List ℕ
+record_text n (Check fault) = codes "! update " ++ decimal n ++ (codes ": " ++ (check_text fault ++ 10 ∷ []))
+record_text n (Lacks id) = codes "! update " ++ decimal n ++ (codes ": lacks " ++ line_of id)
+record_text n Full = codes "! full\n"
 
 -- the word for what is wrong with a schema
 abbrev pub word_of_kind : SchemaKind → List ℕ
@@ -53,9 +48,9 @@ word_of_kind faults.MatchKind = codes "match"
 word_of_kind faults.BadSample = codes "sample"
 word_of_kind faults.Limit = codes "limit"
 
--- the line for a text whose first fault stands in this line
-abbrev pub schema_text : ℕ → SchemaKind → List ℕ
-schema_text line kind = codes "! schema line " ++ decimal line ++ (codes ": " ++ (word_of_kind kind ++ 10 ∷ []))
+-- the line for a text with this fault
+abbrev pub schema_text : SchemaFault → List ℕ
+schema_text fault = codes "! schema line " ++ decimal fault.line ++ (codes ": " ++ (word_of_kind fault.kind ++ 10 ∷ []))
 
 -- the lines for the first invariant that does not survive merging: where it stands, and the counterexample
 abbrev pub refused_text : List TableDef → Invariant → Counterexample → List ℕ

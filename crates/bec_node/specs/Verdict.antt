@@ -1,26 +1,22 @@
--- What is said of the text of a schema.
-use Rattle.std.specs.Prelude.{◌≡◌, ◌⊎◌, ℕ, List, codes, Contains, IsTrue}
+-- What `check` answers, and what is said of the text of a schema.
+use Rattle.std.specs.Prelude.{◌≡◌, ℕ, List, take, drop, codes, Contains, IsTrue, Some, IfSome, Err}
+use Rattle.std.specs.declared.option.Option.{Option}
 use Rattle.row_check.specs.Checksum.{is_luhn}
-use Rattle.schema.specs.declared.counterexample.Counterexample.{Counterexample}
-use Rattle.schema.specs.declared.fault.SchemaKind.{SchemaKind}
-use Rattle.schema.specs.declared.invariant.Invariant.{Invariant}
-use Rattle.schema.specs.Confluence.{IsConfluent, are_accepted, confirms}
-use Rattle.schema.specs.Invariants.{Claim, Declared, claims_of, invariants_of}
-use Rattle.schema.specs.Schemas.{Meaning, SchemaData, Declares, FirstFault}
-use Rattle.schema.specs.Visible.{Rules}
-use Rattle.confluence_test.specs.declared.tested.Tested.TheVariants.{Accepted, Refused as TestRefused}
-use Rattle.confluence_test.specs.Tests.{IsRefused, IsTested}
-use Rattle.bec_node.specs.declared.schema_reply.SchemaReading.{SchemaReading}
-use Rattle.bec_node.specs.declared.schema_reply.SchemaReading.TheVariants.{Taken, Refused}
-use Rattle.bec_node.specs.Texts.{refused_text, schema_text}
+use Rattle.table_model.specs.declared.counterexample.Counterexample.{Counterexample}
+use Rattle.schema.specs.declared.fault.SchemaFault.{SchemaFault}
+use Rattle.table_model.specs.declared.invariant.Invariant.{Invariant}
+use Rattle.table_model.specs.Confluence.{IsConfluent, are_accepted, confirms}
+use Rattle.table_model.specs.Invariants.{Claim, Declared, claims_of, invariants_of}
+use Rattle.schema.specs.Schemas.{SchemaData, Declares, FirstFault}
+use Rattle.table_model.specs.Visible.{Rules}
+use Rattle.confluence_test.specs.Tests.{IsRefused}
+use Rattle.bec_node.specs.declared.refusal.Refusal.{Refusal}
+use Rattle.bec_node.specs.declared.refusal.Refusal.TheVariants.{Schema, NotConfluent}
+use Rattle.bec_node.specs.Outcome.{Outcome, Prints}
 
--- the rules of a schema, where native checks mean this
-abbrev pub rules_with : Meaning → SchemaData → Rules
-rules_with ask schema = record { tables = schema.tables; ask = ask }
-
--- where they mean Luhn's
+-- the rules of a schema, where native checks mean Luhn's
 abbrev pub rules_of : SchemaData → Rules
-rules_of schema = rules_with is_luhn schema
+rules_of schema = record { tables = schema.tables; ask = is_luhn }
 
 -- This invariant is the first that does not survive merging, and the counterexample shows it: both of its sides are closed
 -- and satisfy every invariant up to this one, and both together break it.
@@ -34,26 +30,25 @@ pub record TakesSchema (text : List ℕ) (schema : SchemaData) : Type 0 where
   pub accepted : IsTrue (are_accepted (rules_of schema) (invariants_of (rules_of schema)))
   pub confluent : (earlier : List Claim) (declared : Declared) → Contains (invariants_of (rules_of schema)) declared → IsConfluent (rules_of schema) earlier declared.claim
 
--- Why a text is refused, and what is printed: its first fault, or the first invariant that does not survive merging.
-abbrev pub RefusesSchema : List ℕ → List ℕ → Type 0
-RefusesSchema text line =
-    ((kind : SchemaKind) × ((place : ℕ) × FirstFault is_luhn text kind place × (line ≡ schema_text place kind)))
-    ⊎ ((schema : SchemaData) × Declares is_luhn text schema
-    × ((which : Invariant) × ((example : Counterexample) × IsRefuted (rules_of schema) which example × (line ≡ refused_text schema.tables which example))))
+-- Why a text is refused: its first fault, or the first invariant that does not survive merging.
+pub data RefusesSchema (text : List ℕ) (refusal : Refusal) : Type 0 where
+  fault : (first : SchemaFault) → FirstFault is_luhn text first.kind first.line → refusal ≡ Schema first → RefusesSchema text refusal
+  not_confluent : (schema : SchemaData) (which : Invariant) (example : Counterexample) → Declares is_luhn text schema → IsRefuted (rules_of schema) which example
+      → refusal ≡ NotConfluent schema which example → RefusesSchema text refusal
 
--- The answer to a text: it declares a schema that is taken, or it is refused.
-abbrev pub Judges : List ℕ → ℕ → List ℕ → Type 0
-Judges input status text =
-    ((schema : SchemaData) × TakesSchema input schema × (status ≡ 0) × (text ≡ codes "confluent\n"))
-    ⊎ (RefusesSchema input text × (status ≡ 1))
+-- how many bytes of a text are read: one more than a schema may have
+abbrev pub read_limit : ℕ
+read_limit = 65537
 
--- what a reading tells of a text
-abbrev pub TellsSchema : List ℕ → SchemaReading → Type 0
-TellsSchema text (Taken schema) = TakesSchema text schema
-TellsSchema text (Refused line) = RefusesSchema text line.items
+-- what is read of a text
+abbrev pub ReadsText : Option (List ℕ) → Option (List ℕ) → List ℕ → Type 0
+ReadsText before after text = IfSome before (λ input. (text ≡ take read_limit input) × (after ≡ Some (drop read_limit input)))
 
--- what the test of a schema's invariants tells, whatever native checks mean
-abbrev pub TellsTested : SchemaData → SchemaReading → Type 0
-TellsTested schema (Taken same) = (same ≡ schema) × ((ask : Meaning) → IsTested (rules_with ask schema) Accepted)
-TellsTested schema (Refused line) =
-    (which : Invariant) × ((example : Counterexample) × ((ask : Meaning) → IsTested (rules_with ask schema) (TestRefused which example)) × (line.items ≡ refused_text schema.tables which example))
+-- This is the text that the source has, and no more of it was read.
+abbrev pub HasText : Option (List ℕ) → Option (List ℕ) → List ℕ → Type 0
+HasText before after text = IfSome before (λ input. (text ≡ input) × (after ≡ Some (drop read_limit input)))
+
+-- A text declares a schema whose invariants all survive merging, or it is refused.
+pub data CheckAnswer (before after : Option (List ℕ)) (outcome : Outcome) : Type 0 where
+  confluent : (text : List ℕ) (schema : SchemaData) → HasText before after text → TakesSchema text schema → Prints outcome (codes "confluent\n") → CheckAnswer before after outcome
+  refused : (text : List ℕ) (refusal : Refusal) → HasText before after text → RefusesSchema text refusal → outcome ≡ Err refusal → CheckAnswer before after outcome

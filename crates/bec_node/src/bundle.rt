@@ -1,11 +1,14 @@
-ghost use Rattle.std.specs.Prelude.{◌≡◌, ◌≤◌, IfOk, IfErr};
+ghost use Rattle.std.specs.Prelude.{◌≡◌, ◌⊎◌, ◌≤◌, IfOk, IfErr};
 ghost use Rattle.std.specs.Int.{w32, to_be_bytes};
 ghost use Rattle.bec_bytes.specs.Causes.{Rose};
 ghost use Rattle.update_stream.specs.declared.reading.ReadError.TheVariants.{Failed as StreamFailed};
-ghost use Rattle.bec_node.specs.Bundle.{BeginsAs};
+ghost use Rattle.bec_node.specs.Bundle.{BeginsAs, HoldsText, LacksText};
+ghost use Rattle.bec_node.specs.Outcome.{IsFault};
 
+use crate::refusal::Refusal;
 use bec_bytes::{Source, read_full};
 use byteorder::{BigEndian, ByteOrder};
+use schema::{SchemaFault, SchemaKind};
 use std::alloc::Global;
 use update_stream::ReadError;
 
@@ -14,7 +17,7 @@ const SCHEMA_LIMIT: usize = 65_536;
 
 /// What a bundle begins with.
 #[derive(Drop)]
-pub enum BundleHead {
+enum BundleHead {
     /// The input ends inside the schema.
     Cut,
     /// The schema's length is above what a schema may have. Its text is not read.
@@ -24,7 +27,23 @@ pub enum BundleHead {
 }
 
 /// Reads the text of the schema that a bundle begins with, and nothing behind it.
-pub fn bundle_head<S: Source>(alloc: Global, input: &mut S) -> Result<BundleHead, ReadError>
+pub fn bundle_schema<S: Source>(alloc: Global, input: &mut S) -> Result<Vec<u8>, Refusal>
+    ensures text { IfOk result (λ text. HoldsText (S.left input.old) (S.left input.new) text.items) }
+    ensures refused { IfErr result (λ refusal. LacksText (S.left input.old) (S.left input.new) refusal ⊎ IsFault (S.faults input.old) (S.faults input.new) refusal) }
+    ensures later { S.faults input.old ≤ S.faults input.new }
+{
+    match bundle_head(alloc, input)? {
+        BundleHead::Cut => Err(Refusal::CutSchema),
+        BundleHead::Long => Err(Refusal::Schema(SchemaFault {
+            kind: SchemaKind::Limit,
+            line: 0,
+        })),
+        BundleHead::Text(text) => Ok(text),
+    }
+}
+
+/// Reads the front of a bundle: its schema, and nothing behind it.
+fn bundle_head<S: Source>(alloc: Global, input: &mut S) -> Result<BundleHead, ReadError>
     ensures begins { IfOk result (λ head. BeginsAs (S.left input.old) (S.left input.new) head) }
     ensures later { S.faults input.old ≤ S.faults input.new }
     ensures failed { IfErr result (λ e. e ≡ StreamFailed → Rose (S.faults input.old) (S.faults input.new)) }

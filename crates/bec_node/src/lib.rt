@@ -10,37 +10,31 @@
 //! bec dump < bundle         the tables of a schema and an update stream, and the updates that do nothing
 //! ```
 //!
-//! | Status | When |
-//! |---|---|
-//! | 0 | done |
-//! | 1 | the input is refused: the text says which record and why |
-//! | 2 | the words are no command |
-//! | 4 | the source or the sink failed |
-//! | 5 | memory ran out |
-//! | 7 | a limit is met |
+//! A command comes to an outcome: the text that it prints, or a [`Refusal`], which says why it is not done. The exit
+//! statuses stand in [`status`].
 //!
 //! It waits for nobody but its source and its sink, and opens nothing by itself.
 #![tactic(auto)]
 
 mod bundle;
-mod check_command;
 mod command;
-mod dump_command;
-mod dump_reply;
+mod commands;
+mod graph_tables;
 mod heads;
-mod heads_command;
 mod laws;
+mod lines;
 mod program;
+mod refusal;
 mod reply;
-mod schema_reply;
+mod schema_text;
+pub mod status;
+mod stream;
 
-pub use check_command::command_check;
 pub use command::Command;
-pub use dump_command::command_dump;
+pub use commands::check::command_check;
+pub use commands::dump::command_dump;
+pub use commands::heads::command_heads;
 pub use heads::heads_of;
-pub use heads_command::command_heads;
 pub use laws::one_answer;
 pub use program::run;
-
-#[cfg(test)]
-mod tests;
+pub use refusal::Refusal;

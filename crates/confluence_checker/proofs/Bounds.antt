@@ -3,11 +3,11 @@ use Rattle.std.proofs.Common.{◌≡◌, ℕ, zero, suc, ◌+◌, Bool, true, fa
 use Rattle.std.specs.Prelude.{unwrap_or}
 use Rattle.std.specs.List.{list_all, AllByRecursion}
 use Rattle.schema.specs.declared.table_def.TableDef.{TableDef}
-use Rattle.schema.specs.Verdicts.{at_most_holds, limits_hold, unique_holds}
+use Rattle.table_model.specs.Verdicts.{at_most_holds, limits_hold, unique_holds}
 use Rattle.schema.specs.Sound.{AreTables, IsSoundCheck}
-use Rattle.schema.specs.Visible.{TableRow, missing_table}
+use Rattle.schema.specs.Numbers.{no_table}
+use Rattle.table_model.specs.Visible.{TableRow, bare_rules}
 use Rattle.schema.proofs.Soundness.{sound_tables}
-use Rattle.confluence_checker.specs.Forms.{rules_of}
 
 -- what is left of a list begins with what stands there
 left : {X : Type 0} (xs : List X) (i : ℕ) (x : X) → slice_get xs i ≡ Some x → drop i xs ≡ x ∷ drop (suc i) xs
@@ -17,11 +17,6 @@ left (y ∷ ys) (suc i) x h = left ys i x h
 
 pub left_at : {X : Type 0} (xs : List X) (i : ℕ) (x : X) → slice_get xs i ≡ Some x → drop i xs ≡ x ∷ drop (i + 1) xs
 left_at xs i x h = left xs i x h ∙ ap (λ n. x ∷ drop n xs) (sym (add-one i))
-
--- the CHECK lines of a table are sound
-pub sound_checks : (tables : List TableDef) → AreTables [] tables → (number : ℕ) (table : TableDef) → slice_get tables number ≡ Some table → AllByRecursion (IsSoundCheck table.columns) table.checks
-sound_checks tables all number table at =
-    subst (λ (t : TableDef). AllByRecursion (IsSoundCheck t.columns) t.checks) (ap (λ (o : Option TableDef). unwrap_or o missing_table) at) (sound_tables (rules_of tables) all number).checks
 
 -- whether the limits of a table hold
 abbrev pub limits_of : List TableRow → ℕ → TableDef → Bool

@@ -2,9 +2,9 @@
 use Rattle.std.proofs.Common.{◌≡◌, ℕ, ◌≤◌, List, [], length, drop, sym, ap, ◌∙◌}
 use Rattle.update_model.specs.declared.op.Op.{Op}
 use Rattle.update_model.specs.Node.{NodeData}
-use Rattle.schema.specs.declared.verdict.Verdict.{Verdict}
-use Rattle.schema.specs.Verdicts.{verdict_after}
-use Rattle.schema.specs.Visible.{Rules, TableRow, Effects}
+use Rattle.table_model.specs.declared.verdict.Verdict.{Verdict}
+use Rattle.table_model.specs.Verdicts.{verdict_after}
+use Rattle.table_model.specs.Visible.{Rules, TableRow, Effects}
 use Rattle.confluence_checker.proofs.Lists.{nothing_left}
 
 pub verdict_end : (rules : Rules) (past : Effects) (rows : List TableRow) (node : NodeData) (ops : List Op) (i count : ℕ) (did : Effects) (all v : Verdict) → length ops ≤ i → count ≡ i

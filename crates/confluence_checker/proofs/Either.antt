@@ -2,7 +2,7 @@
 use Rattle.std.proofs.Common.{◌≡◌, Bool, ◌&&◌, ◌||◌, List, ◌++◌, filter, ap, ◌∙◌}
 use Rattle.std.specs.List.{list_any, list_all}
 use Rattle.std.proofs.lemmas.List.Folds.{list_any-append, list_all-append}
-use Rattle.schema.specs.Visible.{TableRow, RowRef}
+use Rattle.table_model.specs.Visible.{TableRow, RowRef}
 use Rattle.confluence_checker.proofs.Lists.{filter_append}
 
 -- every reference that passes a first test passes a second one

@@ -1,8 +1,8 @@
 -- Going through the invariants of a schema.
 use Rattle.std.proofs.Common.{◌≡◌, ℕ, ◌+◌, ◌<◌, List, [], ◌∷◌, ◌++◌, length, drop, get_or, refl, sym, ap, ◌∙◌, Some, slice_get}
-use Rattle.schema.specs.declared.invariant.Invariant.{Invariant}
-use Rattle.schema.specs.Invariants.{Declared, claim_holds, each_from}
-use Rattle.schema.specs.Visible.{Rules, TableRow}
+use Rattle.table_model.specs.declared.invariant.Invariant.{Invariant}
+use Rattle.table_model.specs.Invariants.{Declared, claim_holds, each_from}
+use Rattle.table_model.specs.Visible.{Rules, TableRow}
 use Rattle.confluence_checker.specs.declared.found.Found.{Found}
 use Rattle.confluence_checker.specs.Forms.{found_among, is_same, seen}
 use Rattle.confluence_checker.proofs.Lists.{drop_next}

@@ -1,13 +1,12 @@
 mod Bounds
 mod Doing
 mod Either
-mod Fits
 mod Goings
 mod Lists
 mod Newest
-mod Rising
+mod Listing
 mod Same
-mod Singles
+pub mod Singles
 mod Sight
 mod Splits
 mod Wanted

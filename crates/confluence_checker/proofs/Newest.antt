@@ -4,9 +4,9 @@ use Rattle.update_model.specs.declared.update_id.UpdateId.{UpdateId}
 use Rattle.update_model.specs.Entry.{same_id}
 use Rattle.update_model.specs.Graph.{has}
 use Rattle.update_model.specs.Node.{NodeData}
-use Rattle.schema.specs.Visible.{Rules, Effects}
-use Rattle.schema.specs.Verdicts.{ancestor_of, effects, judge_next, judged, nothing, verdict_on}
-use Rattle.schema.proofs.Order.{ids_equal}
+use Rattle.table_model.specs.Visible.{Rules, Effects}
+use Rattle.table_model.specs.Verdicts.{ancestor_of, effects, judge_next, judged, nothing, verdict_on}
+use Rattle.table_model.proofs.Order.{ids_equal}
 use Rattle.confluence_checker.specs.declared.judged_node.JudgedNode.{JudgedNode}
 use Rattle.confluence_checker.specs.Forms.{as_judged, newest_first}
 

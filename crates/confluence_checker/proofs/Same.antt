@@ -1,8 +1,8 @@
 -- Names that are one, either way.
 use Rattle.std.proofs.Common.{◌≡◌, Bool, true, false, refl, sym, ap, ◌∙◌}
 use Rattle.update_model.specs.declared.row_name.RowName.{RowName}
-use Rattle.schema.specs.Visible.{same_row}
-use Rattle.schema.proofs.Standing.{row_from_same}
+use Rattle.table_model.specs.Visible.{same_row}
+use Rattle.table_model.proofs.Standing.{row_from_same}
 
 -- two truth values are one where each follows the other
 pub one_truth : (x y : Bool) → (x ≡ true → x ≡ y) → (y ≡ true → y ≡ x) → x ≡ y

@@ -10,10 +10,10 @@ use Rattle.schema.specs.declared.column.ColumnKind.{ColumnKind}
 use Rattle.schema.specs.declared.table_def.TableDef.{TableDef}
 use Rattle.schema.specs.Columns.{target_of}
 use Rattle.schema.specs.Schemas.{Meaning}
-use Rattle.schema.specs.Visible.{TableRow, Effects, same_row, shows, cascade_refs, is_nulled, visible_to, visible_rows, shown, shown_rows, shown_value, shown_values, table_of}
-use Rattle.schema.proofs.Order.{any_weaker}
-use Rattle.schema.proofs.Standing.{row_from_same}
-use Rattle.confluence_checker.specs.Forms.{is_among, rules_by, rules_of}
+use Rattle.table_model.specs.Visible.{TableRow, Effects, same_row, shows, cascade_refs, is_nulled, visible_to, visible_rows, shown, shown_rows, shown_value, shown_values, table_of, rules_with, bare_rules}
+use Rattle.table_model.proofs.Order.{any_weaker}
+use Rattle.table_model.proofs.Standing.{row_from_same}
+use Rattle.confluence_checker.specs.Forms.{is_among}
 use Rattle.confluence_checker.specs.Seeing.{SeesTo, SeesAll, shown_by, shown_values_by, shown_row_by}
 use Rattle.confluence_checker.proofs.Same.{same_turned}
 
@@ -53,22 +53,22 @@ and_follows false y h = refl
 
 -- the names of the rows that are shown are what is shown
 names_shown : (tables : List TableDef) (did : Effects) (seen : RowName → Bool) (name : RowName)
-    → is_among (map (λ row. row.name) (filter (λ row. shows (rules_of tables) did seen row.name) did.inserted)) name ≡ shows (rules_of tables) did seen name
+    → is_among (map (λ row. row.name) (filter (λ row. shows (bare_rules tables) did seen row.name) did.inserted)) name ≡ shows (bare_rules tables) did seen name
 names_shown tables did seen name =
-    names_passing (shows (rules_of tables) did seen) name did.inserted
-    ∙ and_follows (shows (rules_of tables) did seen name) (list_any (λ row. same_row row.name name) did.inserted)
-    (λ h. any_weaker (λ row. same_row row.name name && list_all (λ r. seen r.name) (cascade_refs (rules_of tables) row)) (λ row. same_row row.name name)
+    names_passing (shows (bare_rules tables) did seen) name did.inserted
+    ∙ and_follows (shows (bare_rules tables) did seen name) (list_any (λ row. same_row row.name name) did.inserted)
+    (λ h. any_weaker (λ row. same_row row.name name && list_all (λ r. seen r.name) (cascade_refs (bare_rules tables) row)) (λ row. same_row row.name name)
     (λ row two. (and_parts (same_row row.name name) _ two).0) did.inserted
-    (and_parts (list_any (λ row. same_row row.name name && list_all (λ r. seen r.name) (cascade_refs (rules_of tables) row)) did.inserted) _ h).0)
+    (and_parts (list_any (λ row. same_row row.name name && list_all (λ r. seen r.name) (cascade_refs (bare_rules tables) row)) did.inserted) _ h).0)
 
 -- one level deeper
 pub sees_deeper : (tables : List TableDef) (did : Effects) (depth : ℕ) (seen names : List RowName) → SeesTo tables did depth seen
-    → names ≡ map (λ row. row.name) (filter (λ row. shows (rules_of tables) did (is_among seen) row.name) did.inserted) → SeesTo tables did (depth + 1) names
+    → names ≡ map (λ row. row.name) (filter (λ row. shows (bare_rules tables) did (is_among seen) row.name) did.inserted) → SeesTo tables did (depth + 1) names
 unfolding visible_to
 sees_deeper tables did depth seen names sees is ask name =
     ap (λ (l : List RowName). is_among l name) is ∙ names_shown tables did (is_among seen) name
-    ∙ (λ i. shows (rules_by ask tables) did (λ n. sees ask n i) name)
-    ∙ ap (λ (k : ℕ). visible_to (rules_by ask tables) did k name) (sym (add-one depth))
+    ∙ (λ i. shows (rules_with ask tables) did (λ n. sees ask n i) name)
+    ∙ ap (λ (k : ℕ). visible_to (rules_with ask tables) did k name) (sym (add-one depth))
 
 -- nothing is seen where no reference is followed
 pub sees_nothing : (tables : List TableDef) (did : Effects) (names : List RowName) → names ≡ [] → SeesTo tables did 0 names
@@ -77,11 +77,11 @@ sees_nothing tables did names none ask name = ap (λ (l : List RowName). is_amon
 
 -- the rows that are seen
 pub visible_seen : (tables : List TableDef) (did : Effects) (seen : List RowName) (rows : List TableRow) → SeesAll tables did seen
-    → rows ≡ filter (λ row. is_among seen row.name) did.inserted → (ask : Meaning) → rows ≡ visible_rows (rules_by ask tables) did
+    → rows ≡ filter (λ row. is_among seen row.name) did.inserted → (ask : Meaning) → rows ≡ visible_rows (rules_with ask tables) did
 visible_seen tables did seen rows sees is ask = is ∙ (λ i. filter (λ row. sees ask row.name i) did.inserted)
 
 value_seen : (tables : List TableDef) (did : Effects) (seen : List RowName) → SeesAll tables did seen → (ask : Meaning) (kind : ColumnKind) (v : Value)
-    → shown_by seen kind v ≡ shown_value (rules_by ask tables) did kind v
+    → shown_by seen kind v ≡ shown_value (rules_with ask tables) did kind v
 value_seen tables did seen sees ask kind (value.Row name) = λ i. cond (is_nulled (target_of kind) && not (sees ask name i)) value.Null (value.Row name)
 value_seen tables did seen sees ask kind value.Null = refl
 value_seen tables did seen sees ask kind (value.Int n) = refl
@@ -90,20 +90,20 @@ value_seen tables did seen sees ask kind (value.Flag flag) = refl
 value_seen tables did seen sees ask kind (value.Own index) = refl
 
 values_seen : (tables : List TableDef) (did : Effects) (seen : List RowName) → SeesAll tables did seen → (ask : Meaning) (columns : List Column) (values : List Value)
-    → shown_values_by seen columns values ≡ shown_values (rules_by ask tables) did columns values
+    → shown_values_by seen columns values ≡ shown_values (rules_with ask tables) did columns values
 values_seen tables did seen sees ask [] values = refl
 values_seen tables did seen sees ask (column ∷ columns) [] = refl
 values_seen tables did seen sees ask (column ∷ columns) (v ∷ values) =
     λ i. value_seen tables did seen sees ask column.kind v i ∷ values_seen tables did seen sees ask columns values i
 
 row_seen : (tables : List TableDef) (did : Effects) (seen : List RowName) → SeesAll tables did seen → (ask : Meaning) (row : TableRow)
-    → shown_row_by tables seen row ≡ shown (rules_by ask tables) did row
+    → shown_row_by tables seen row ≡ shown (rules_with ask tables) did row
 row_seen tables did seen sees ask row =
-    ap (λ (values : List Value). record row { values = values }) (values_seen tables did seen sees ask (table_of (rules_of tables) row.table).columns row.values)
+    ap (λ (values : List Value). record row { values = values }) (values_seen tables did seen sees ask (table_of (bare_rules tables) row.table).columns row.values)
 
 -- what the rows that are seen show
 pub shown_seen : (tables : List TableDef) (did : Effects) (seen : List RowName) (rows shown : List TableRow) → SeesAll tables did seen
-    → rows ≡ filter (λ row. is_among seen row.name) did.inserted → shown ≡ map (shown_row_by tables seen) rows → (ask : Meaning) → shown ≡ shown_rows (rules_by ask tables) did
+    → rows ≡ filter (λ row. is_among seen row.name) did.inserted → shown ≡ map (shown_row_by tables seen) rows → (ask : Meaning) → shown ≡ shown_rows (rules_with ask tables) did
 shown_seen tables did seen rows shown sees is made ask =
     made ∙ ap (map (shown_row_by tables seen)) (visible_seen tables did seen rows sees is ask)
-    ∙ (λ i. map (λ row. row_seen tables did seen sees ask row i) (visible_rows (rules_by ask tables) did))
+    ∙ (λ i. map (λ row. row_seen tables did seen sees ask row i) (visible_rows (rules_with ask tables) did))

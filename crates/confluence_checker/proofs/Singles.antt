@@ -1,11 +1,12 @@
 -- The ATMOST of a first table is an invariant of the schema.
 use Rattle.std.proofs.Common.{◌≡◌, ◌+◌, Bool, cond, List, [], ◌∷◌, ◌++◌, refl, ap, ◌∙◌, append_assoc, Some, slice_get}
 use Rattle.std.proofs.lemmas.Bool.{ne_eqb}
-use Rattle.schema.specs.declared.invariant.InvariantKind.TheVariants as kind
+use Rattle.table_model.specs.declared.invariant.InvariantKind.TheVariants as kind
 use Rattle.schema.specs.declared.table_def.TableDef.{TableDef}
-use Rattle.schema.specs.Invariants.{AtMost, Declared, each_from, unique_declared, reference_declared, check_declared, match_declared, table_declared}
+use Rattle.table_model.specs.Invariants.{AtMost, Declared, each_from, unique_declared, reference_declared, check_declared, match_declared, table_declared}
 use Rattle.schema.specs.Schemas.{Meaning}
-use Rattle.confluence_checker.specs.Forms.{IsInvariantOf, rules_by}
+use Rattle.confluence_checker.specs.Forms.{IsInvariantOf}
+use Rattle.table_model.specs.Visible.{rules_with}
 
 abbrev first_at_most : TableDef → Declared
 first_at_most table = record { which = record { kind = kind.AtMost; table = 0; place = 0; line = table.at_most_line }; claim = AtMost 0 table.at_most }
@@ -16,7 +17,7 @@ regroup A C D E R d =
     ∙ ap (λ l. l ++ R) (append_assoc A (d ∷ (C ++ D)) E) ∙ append_assoc A (d ∷ (C ++ D ++ E)) R
 
 pub at_most_first : (tables : List TableDef) (table : TableDef) → slice_get tables 0 ≡ Some table → (table.at_most ≡ 0 → ⊥) → (ask : Meaning)
-    → IsInvariantOf (rules_by ask tables) (record { kind = kind.AtMost; table = 0; place = 0; line = table.at_most_line })
+    → IsInvariantOf (rules_with ask tables) (record { kind = kind.AtMost; table = 0; place = 0; line = table.at_most_line })
 at_most_first [] table at some ask = absurd cc
 at_most_first (t ∷ tables) table at some ask =
     let same : t ≡ table = cc in

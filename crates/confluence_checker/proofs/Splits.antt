@@ -3,11 +3,11 @@ use Rattle.std.proofs.Common.{◌≡◌, ℕ, ◌+◌, ◌==◌, ◌<◌, ◌≤
 use Rattle.std.specs.List.{AllByRecursion}
 use Rattle.std.proofs.lemmas.Bool.{eq-eqb, ne_eqb}
 use Rattle.schema.specs.declared.action.Action.{Action}
-use Rattle.schema.specs.declared.invariant.Invariant.{Invariant}
+use Rattle.table_model.specs.declared.invariant.Invariant.{Invariant}
 use Rattle.schema.specs.declared.table_def.TableDef.{TableDef}
 use Rattle.schema.specs.Columns.{target_of}
-use Rattle.schema.specs.Invariants.{Declared, each_from, unique_declared, at_most_declared, refers_declared, reference_declared, check_declared, match_declared, table_declared, invariants_of}
-use Rattle.schema.specs.Visible.{Rules}
+use Rattle.table_model.specs.Invariants.{Declared, each_from, unique_declared, at_most_declared, refers_declared, reference_declared, check_declared, match_declared, table_declared, invariants_of}
+use Rattle.table_model.specs.Visible.{Rules}
 use Rattle.confluence_checker.specs.Forms.{is_same, kind_number}
 
 -- ---- names that differ

@@ -5,13 +5,13 @@ use Rattle.std.proofs.lemmas.Bool.{and_parts}
 use Rattle.std.proofs.lemmas.List.{reverse-append}
 use Rattle.std.proofs.lemmas.List.Folds.{list_all-append, list_all-map}
 use Rattle.update_model.specs.Node.{NodeData}
-use Rattle.schema.specs.declared.counterexample.Counterexample.{Counterexample}
-use Rattle.schema.specs.declared.invariant.Invariant.{Invariant}
-use Rattle.schema.specs.Confluence.{confirms, is_closed}
-use Rattle.schema.specs.Invariants.{Claim, Declared, claim_holds, claims_of, invariants_of, satisfies, shown_in}
-use Rattle.schema.specs.Nodes.{IsClosed}
-use Rattle.schema.specs.Visible.{Rules, TableRow}
-use Rattle.schema.proofs.Confirmed.{closed_from_test}
+use Rattle.table_model.specs.declared.counterexample.Counterexample.{Counterexample}
+use Rattle.table_model.specs.declared.invariant.Invariant.{Invariant}
+use Rattle.table_model.specs.Confluence.{confirms, is_closed}
+use Rattle.table_model.specs.Invariants.{Claim, Declared, claim_holds, claims_of, invariants_of, satisfies, shown_in}
+use Rattle.table_model.specs.Nodes.{IsClosed}
+use Rattle.table_model.specs.Visible.{Rules, TableRow}
+use Rattle.table_model.proofs.Confirmed.{closed_from_test}
 use Rattle.confluence_checker.specs.declared.found.Found.{Found}
 use Rattle.confluence_checker.specs.Forms.{breaks_by, found_among, is_broken, is_kept, is_same, seen, start}
 use Rattle.confluence_checker.proofs.Goings.{found_append}

@@ -6,25 +6,17 @@ use Rattle.update_model.specs.declared.op.Op.TheVariants as op
 use Rattle.update_model.specs.declared.row_name.RowName.{RowName}
 use Rattle.update_model.specs.Graph.{has}
 use Rattle.update_model.specs.Node.{NodeData}
-use Rattle.schema.specs.declared.invariant.Invariant.{Invariant}
-use Rattle.schema.specs.Confluence.{is_closed}
-use Rattle.schema.specs.declared.invariant.InvariantKind.{InvariantKind}
-use Rattle.schema.specs.declared.invariant.InvariantKind.TheVariants as kind
+use Rattle.table_model.specs.declared.invariant.Invariant.{Invariant}
+use Rattle.table_model.specs.Confluence.{is_closed}
+use Rattle.table_model.specs.declared.invariant.InvariantKind.{InvariantKind}
+use Rattle.table_model.specs.declared.invariant.InvariantKind.TheVariants as kind
 use Rattle.schema.specs.declared.table_def.TableDef.{TableDef}
-use Rattle.schema.specs.Invariants.{Claim, Declared, claim_holds, invariants_of, satisfies, shown_in}
-use Rattle.schema.specs.Schemas.{Meaning}
-use Rattle.schema.specs.Verdicts.{Judged, insert_reason, delete_reason, row_inserted, all_fit}
-use Rattle.schema.specs.Visible.{Rules, TableRow, Effects, same_row, table_of}
+use Rattle.table_model.specs.Invariants.{Claim, Declared, claim_holds, invariants_of, satisfies, shown_in}
+use Rattle.table_model.specs.Verdicts.{Judged, insert_reason, delete_reason, row_inserted}
+use Rattle.schema.specs.Columns.{all_fit}
+use Rattle.table_model.specs.Visible.{Rules, TableRow, Effects, bare_rules, same_row, table_of}
 use Rattle.confluence_checker.specs.declared.found.Found.{Found}
 use Rattle.confluence_checker.specs.declared.judged_node.JudgedNode.{JudgedNode}
-
--- the tables of a schema, and what native checks mean
-abbrev pub rules_by : Meaning → List TableDef → Rules
-rules_by ask tables = record { tables = tables; ask = ask }
-
--- the tables alone, where no native check is asked
-abbrev pub rules_of : List TableDef → Rules
-rules_of tables = rules_by (λ number values. false) tables
 
 -- whether a name is among these
 abbrev pub is_among : List RowName → RowName → Bool
@@ -32,7 +24,7 @@ is_among names name = list_any (same_row name) names
 
 -- Every row has what fits in the columns of its table.
 abbrev pub AllFit : List TableDef → List TableRow → Type 0
-AllFit tables rows = IsTrue (list_all (λ row. all_fit (table_of (rules_of tables) row.table).columns row.values) rows)
+AllFit tables rows = IsTrue (list_all (λ row. all_fit (table_of (bare_rules tables) row.table).columns row.values) rows)
 
 -- why an operation with this number may not be done, beside these rows and what earlier operations did
 abbrev pub reason_against : Rules → List TableRow → NodeData → ℕ → Effects → Op → Option ℕ

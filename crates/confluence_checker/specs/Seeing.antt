@@ -8,12 +8,12 @@ use Rattle.schema.specs.declared.column.ColumnKind.{ColumnKind}
 use Rattle.schema.specs.declared.table_def.TableDef.{TableDef}
 use Rattle.schema.specs.Columns.{target_of}
 use Rattle.schema.specs.Schemas.{Meaning}
-use Rattle.schema.specs.Visible.{TableRow, Effects, is_nulled, table_of, visible_to}
-use Rattle.confluence_checker.specs.Forms.{is_among, rules_by, rules_of}
+use Rattle.table_model.specs.Visible.{TableRow, Effects, is_nulled, table_of, visible_to, rules_with, bare_rules}
+use Rattle.confluence_checker.specs.Forms.{is_among}
 
 -- A list has exactly the names that are visible where references are followed this deep.
 abbrev pub SeesTo : List TableDef → Effects → ℕ → List RowName → Type 0
-SeesTo tables did depth names = (ask : Meaning) (name : RowName) → is_among names name ≡ visible_to (rules_by ask tables) did depth name
+SeesTo tables did depth names = (ask : Meaning) (name : RowName) → is_among names name ≡ visible_to (rules_with ask tables) did depth name
 
 -- A list has exactly the names that are visible.
 abbrev pub SeesAll : List TableDef → Effects → List RowName → Type 0
@@ -36,4 +36,4 @@ shown_values_by names (column ∷ columns) (v ∷ values) = shown_by names colum
 
 -- a row with what its values show
 abbrev pub shown_row_by : List TableDef → List RowName → TableRow → TableRow
-shown_row_by tables names row = record row { values = shown_values_by names (table_of (rules_of tables) row.table).columns row.values }
+shown_row_by tables names row = record row { values = shown_values_by names (table_of (bare_rules tables) row.table).columns row.values }

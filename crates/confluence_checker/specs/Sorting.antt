@@ -1,26 +1,11 @@
--- What is sorted is told apart by its names.
+-- The rows of each table, in order.
 use Rattle.std.specs.Prelude.{◌≡◌, ℕ, List, [], ◌∷◌, length, map, filter, Option, Some, None, slice_get}
-use Rattle.std.specs.List.{IsDistinct}
 use Rattle.std.specs.List.Sorted.{IsPermutation, IsStrictlySortedBy}
-use Rattle.std.specs.Ordering.{eq_by_cmp}
-use Rattle.update_model.specs.Entry.{id_cmp}
-use Rattle.schema.specs.declared.shown_row.ShownRow.{ShownRow}
-use Rattle.schema.specs.declared.void_line.VoidLine.{VoidLine}
-use Rattle.schema.specs.Tables.{listed, name_cmp}
-use Rattle.schema.specs.Verdicts.{in_table}
-use Rattle.schema.specs.Visible.{TableRow}
-
--- No two rows have one name.
-abbrev pub HasDistinctNames : List ShownRow → Type 0
-HasDistinctNames rows = IsDistinct (eq_by_cmp name_cmp) (map (λ row. row.name) rows)
-
--- No two inserted rows have one name.
-abbrev pub HasDistinctRows : List TableRow → Type 0
-HasDistinctRows rows = IsDistinct (eq_by_cmp name_cmp) (map (λ row. row.name) rows)
-
--- No two lines have one id.
-abbrev pub HasDistinctIds : List VoidLine → Type 0
-HasDistinctIds lines = IsDistinct (eq_by_cmp id_cmp) (map (λ line. line.id) lines)
+use Rattle.table_model.specs.declared.shown_row.ShownRow.{ShownRow}
+use Rattle.table_model.specs.declared.void_line.VoidLine.{VoidLine}
+use Rattle.table_model.specs.Tables.{listed, name_cmp}
+use Rattle.table_model.specs.Verdicts.{in_table}
+use Rattle.table_model.specs.Visible.{TableRow}
 
 -- In rising order of names, these are the rows of a table among others.
 pub record AreRowsAmong (rows : List TableRow) (number : ℕ) (shown : List ShownRow) : Type 0 where

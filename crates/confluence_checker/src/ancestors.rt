@@ -4,15 +4,15 @@ ghost use Rattle.std.specs.Prelude.{◌≡◌, ◌||◌, IfOk, OnOk, filter, if�
 ghost use Rattle.update_model.specs.declared.update_id.UpdateId.{UpdateId};
 ghost use Rattle.update_model.specs.Entry.{same_id};
 ghost use Rattle.update_model.specs.Graph.{has};
-ghost use Rattle.schema.specs.Verdicts.{ancestor_of, effects, effects_of, is_valid, joined};
+ghost use Rattle.table_model.specs.Verdicts.{ancestor_of, effects, effects_of, is_valid, joined};
 ghost use Rattle.confluence_checker.specs.Forms.{newest_first};
 
 use crate::effects::effects_of;
 use crate::ids::has;
 use crate::judged_node::JudgedNode;
 use crate::row_effects::RowEffects;
-use schema::{Verdict, effects_one_by_one};
 use std::alloc::{AllocError, Global};
+use table_model::{Verdict, effects_one_by_one};
 use update_model::{Node, UpdateId};
 
 /// Puts an id at the end of a list, where it is missing.

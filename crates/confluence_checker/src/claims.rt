@@ -3,14 +3,15 @@
 ghost use Rattle.std.specs.Prelude.{◌≡◌, ◌==◌, ◌||◌, not, IfOk, IsTrue};
 ghost use Rattle.row_check.specs.Meaning.{value_at};
 ghost use Rattle.expression_text.specs.Trees.{holds_tree};
-ghost use Rattle.schema.specs.Invariants.{each_row, names_shown};
+ghost use Rattle.table_model.specs.Invariants.{each_row, names_shown};
 ghost use Rattle.schema.specs.Sound.{IsSoundCheck};
-ghost use Rattle.schema.specs.Verdicts.{all_fit, in_table, matches_among};
-ghost use Rattle.schema.specs.Visible.{table_of};
-ghost use Rattle.confluence_checker.specs.Forms.{AllFit, rules_of};
+ghost use Rattle.table_model.specs.Verdicts.{in_table, matches_among};
+ghost use Rattle.schema.specs.Columns.{all_fit};
+ghost use Rattle.table_model.specs.Visible.{table_of, bare_rules};
+ghost use Rattle.confluence_checker.specs.Forms.{AllFit};
 
 use crate::inserted_row::InsertedRow;
-use crate::reasons::{check_is_true, has_match};
+use crate::reasons::has_match;
 use crate::references::has_row;
 use row_check::{Checks, Native, Relation};
 use schema::{CheckRule, Column, MatchRule, Schema};
@@ -62,15 +63,15 @@ fn check_holds_at<L: Relation, C: Checks<L>>(
     columns: &[Column],
     check: &CheckRule,
 ) -> Result<bool, AllocError>
-    requires fits { IsTrue (all_fit (table_of (rules_of schema.now.tables) row.now.table).columns row.now.values) }
-    requires columns { columns.now ≡ (table_of (rules_of schema.now.tables) table).columns }
+    requires fits { IsTrue (all_fit (table_of (bare_rules schema.now.tables) row.now.table).columns row.now.values) }
+    requires columns { columns.now ≡ (table_of (bare_rules schema.now.tables) table).columns }
     requires sound { IsSoundCheck columns.now check.now }
     ensures { IfOk result (λ answer. answer ≡ (not (in_table table row.now) || holds_tree L.answer row.now.values check.now.tree)) }
 {
     if row.table != table {
         return Ok(true);
     }
-    check_is_true(alloc, native, columns, check, row.values.as_slice())
+    schema::check_holds(alloc, native, columns, check, row.values.as_slice())
 }
 
 /// Whether a `CHECK` is true of each row of a table. All rows fit.
@@ -84,7 +85,7 @@ pub(crate) fn check_holds<L: Relation, C: Checks<L>>(
     check: &CheckRule,
 ) -> Result<bool, AllocError>
     requires fits { AllFit schema.now.tables rows.now }
-    requires columns { columns.now ≡ (table_of (rules_of schema.now.tables) table).columns }
+    requires columns { columns.now ≡ (table_of (bare_rules schema.now.tables) table).columns }
     requires sound { IsSoundCheck columns.now check.now }
     ensures { IfOk result (λ answer. answer ≡ each_row rows.now table (λ row. holds_tree L.answer row.values check.now.tree)) }
 {

@@ -1,20 +1,22 @@
 //! Whether a counterexample confirms.
 
 ghost use Rattle.std.specs.Prelude.{◌≡◌, ◌∷◌, ◌++◌, ◌&&◌, List, IfOk, OnOk, reverse};
-ghost use Rattle.schema.specs.Confluence.{confirms, is_closed};
-ghost use Rattle.schema.specs.Invariants.{Declared, claims_of, invariants_of, shown_in};
-ghost use Rattle.schema.specs.Nodes.{IsClosed};
-ghost use Rattle.confluence_checker.specs.Forms.{IsInvariantOf, breaks_by, found_among, is_broken, is_kept, rules_by, start};
+ghost use Rattle.table_model.specs.Confluence.{confirms, is_closed};
+ghost use Rattle.table_model.specs.Invariants.{Declared, claims_of, invariants_of, shown_in};
+ghost use Rattle.table_model.specs.Nodes.{IsClosed};
+ghost use Rattle.confluence_checker.specs.Forms.{IsInvariantOf, breaks_by, found_among, is_broken, is_kept, start};
+ghost use Rattle.table_model.specs.Visible.{rules_with};
 
 use crate::ancestors::effects;
 use crate::found::Found;
-use crate::ids::is_closed;
+use crate::ids::passes_closed;
 use crate::judging::judged;
 use crate::searching::found;
 use crate::visibility::shown_rows;
 use row_check::{Checks, Native, Relation};
-use schema::{Counterexample, Invariant, Schema, shown_rows_fit};
+use schema::Schema;
 use std::alloc::{AllocError, Global};
+use table_model::{Counterexample, Invariant, shown_rows_fit};
 use update_model::Node;
 
 /// Equal nodes, those of one list and then those of another.
@@ -46,7 +48,7 @@ fn found_in<L: Relation, C: Checks<L>>(
     which: &Invariant,
 ) -> Result<Found, AllocError>
     requires { IsClosed (reverse nodes.now) }
-    ensures { IfOk result (λ found. let rules = rules_by L.answer schema.now.tables in
+    ensures { IfOk result (λ found. let rules = rules_with L.answer schema.now.tables in
         found ≡ found_among rules (shown_in rules (reverse nodes.now)) which.now (invariants_of rules) start) }
 {
     shown_rows_fit();
@@ -76,7 +78,7 @@ fn is_broken(found: &Found) -> bool
 fn are_closed(left: &[Node], right: &[Node], both: &[Node]) -> bool
     ensures { result ≡ (is_closed (reverse left.now) && is_closed (reverse right.now) && is_closed (reverse both.now)) }
 {
-    is_closed(left) && is_closed(right) && is_closed(both)
+    passes_closed(left) && passes_closed(right) && passes_closed(both)
 }
 
 /// Whether the wanted invariant holds on both sides, with those before it, and not in their union.
@@ -96,7 +98,7 @@ fn confirm<L: Relation, C: Checks<L>>(
     right: &[Node],
     both: &[Node],
 ) -> Result<bool, AllocError>
-    ensures { IfOk result (λ answer. let rules = rules_by L.answer schema.now.tables in
+    ensures { IfOk result (λ answer. let rules = rules_with L.answer schema.now.tables in
         (earlier later : List Declared) (declared : Declared) → invariants_of rules ≡ earlier ++ declared ∷ later → declared.which ≡ which.now
         → answer ≡ breaks_by rules (claims_of earlier) declared.claim left.now right.now both.now) }
 {
@@ -121,8 +123,8 @@ pub fn confirms<L: Relation, C: Checks<L>>(
     which: &Invariant,
     example: &Counterexample,
 ) -> Result<bool, AllocError>
-    requires { IsInvariantOf (rules_by L.answer schema.now.tables) which.now }
-    ensures { IfOk result (λ answer. let rules = rules_by L.answer schema.now.tables in
+    requires { IsInvariantOf (rules_with L.answer schema.now.tables) which.now }
+    ensures { IfOk result (λ answer. let rules = rules_with L.answer schema.now.tables in
         (earlier later : List Declared) (declared : Declared) → invariants_of rules ≡ earlier ++ declared ∷ later → declared.which ≡ which.now
         → answer ≡ confirms rules (claims_of earlier) declared.claim example.now) }
 {

@@ -1,7 +1,7 @@
 //! What operations do.
 
 ghost use Rattle.std.specs.Prelude.{◌≡◌, ◌<◌, ◌≤◌, IfOk, length, map};
-ghost use Rattle.schema.specs.Verdicts.{effects_of, named, row_inserted};
+ghost use Rattle.table_model.specs.Verdicts.{effects_of, named, row_inserted};
 ghost use Rattle.confluence_checker.specs.Forms.{after_op};
 
 use crate::inserted_row::InsertedRow;

@@ -1,12 +1,12 @@
 //! Ids and names in lists, and closed lists.
 
-ghost use Rattle.std.specs.Prelude.{◌≡◌, reverse, not, ◌&&◌};
+ghost use Rattle.std.specs.Prelude.{◌≡◌, ◌↔◌, IsTrue, reverse, not, ◌&&◌};
 ghost use Rattle.std.specs.List.{list_all};
 ghost use Rattle.update_model.specs.Entry.{same_id};
 ghost use Rattle.update_model.specs.Graph.{has};
-ghost use Rattle.schema.specs.Confluence.{is_closed};
-ghost use Rattle.schema.specs.Nodes.{holds};
-ghost use Rattle.schema.specs.Visible.{same_row};
+ghost use Rattle.table_model.specs.Confluence.{is_closed};
+ghost use Rattle.table_model.specs.Nodes.{holds, IsClosed};
+ghost use Rattle.table_model.specs.Visible.{same_row};
 ghost use Rattle.confluence_checker.specs.Forms.{is_among};
 
 use update_model::{Node, RowName, UpdateId};
@@ -67,8 +67,15 @@ fn is_next(older: &[Node], node: &Node) -> bool
     !holds(older, &node.id) && all_held(older, node.preds.as_slice())
 }
 
-/// Whether a list in the order of arrival is closed.
-pub(crate) fn is_closed(nodes: &[Node]) -> bool
+/// Whether a list of updates in the order of arrival is closed: ids are distinct, and each predecessor stands earlier.
+pub fn is_closed(nodes: &[Node]) -> bool
+    ensures { IsTrue result ↔ IsClosed (reverse nodes.now) }
+{
+    passes_closed(nodes)
+}
+
+/// The same, as the test of the definitions.
+pub(crate) fn passes_closed(nodes: &[Node]) -> bool
     ensures { result ≡ is_closed (reverse nodes.now) }
 {
     let mut closed = true;

@@ -18,7 +18,7 @@ pub(crate) struct InsertedRow {
 }
 
 impl Model for InsertedRow {
-    ghost use Rattle.schema.specs.Visible.{TableRow};
+    ghost use Rattle.table_model.specs.Visible.{TableRow};
 
     ghost Value = { TableRow };
 

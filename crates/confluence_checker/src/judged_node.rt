@@ -1,4 +1,4 @@
-use schema::Verdict;
+use table_model::Verdict;
 use update_model::{Node, UpdateId};
 
 /// A node with its verdict.

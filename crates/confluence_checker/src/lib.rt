@@ -6,7 +6,8 @@
 //! computes, and to check a counterexample, whose updates are few.
 //!
 //! ```text
-//! tables_of(alloc, &schema, &native, nodes)?              // of a list of updates in the order of arrival
+//! is_closed(nodes)                                        // which tables_of asks of a list in the order of arrival
+//! tables_of(alloc, &schema, &native, nodes)?
 //! confirms(alloc, &schema, &native, &which, &example)?    // whether both sides satisfy it, and both together break it
 //! ```
 #![tactic(auto)]
@@ -26,16 +27,14 @@ mod references;
 mod row_effects;
 mod row_lists;
 mod searching;
-mod sorting;
 mod table_list;
 mod tables;
-#[cfg(test)]
-mod tests;
 mod values;
 mod verdicts;
 mod visibility;
 
 pub use confirming::confirms;
+pub use ids::is_closed;
 pub use row_lists::RowLists;
 pub use table_list::TableList;
 pub use tables::tables_of;

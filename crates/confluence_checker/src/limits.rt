@@ -5,7 +5,7 @@ ghost use Rattle.std.specs.List.{list_all};
 ghost use Rattle.row_check.specs.declared.cmp.Cmp.TheVariants as cmp;
 ghost use Rattle.row_check.specs.Comparisons.{compares};
 ghost use Rattle.row_check.specs.Meaning.{value_at};
-ghost use Rattle.schema.specs.Verdicts.{at_most_holds, in_table, limits_hold, unique_holds};
+ghost use Rattle.table_model.specs.Verdicts.{at_most_holds, in_table, limits_hold, unique_holds};
 
 use crate::inserted_row::InsertedRow;
 use crate::values::compare_at;

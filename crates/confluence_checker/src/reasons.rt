@@ -6,101 +6,20 @@ ghost use Rattle.row_check.specs.Comparisons.{compares};
 ghost use Rattle.row_check.specs.Meaning.{value_at};
 ghost use Rattle.expression_text.specs.Trees.{holds_tree};
 ghost use Rattle.schema.specs.Sound.{IsSoundCheck};
-ghost use Rattle.schema.specs.Verdicts.{all_fit, checks_hold, delete_reason, fits, insert_reason, matches_among, matches_hold, same_author};
-ghost use Rattle.schema.specs.Visible.{refs, same_row, table_of};
-ghost use Rattle.schema.specs.Columns.{is_restrict};
-ghost use Rattle.confluence_checker.specs.Forms.{rules_by, rules_of};
+ghost use Rattle.table_model.specs.Verdicts.{delete_reason, insert_reason, matches_among, matches_hold, same_author};
+ghost use Rattle.schema.specs.Checks.{checks_hold};
+ghost use Rattle.table_model.specs.Visible.{refs, same_row, table_of, rules_with, bare_rules};
+ghost use Rattle.schema.specs.Columns.{is_restrict, all_fit, fits};
 
 use crate::ids::{is_among, same_row};
 use crate::inserted_row::InsertedRow;
 use crate::references::{references_stand, restricts};
 use crate::values::{columns_of, compare_at, is_deletable, is_owned};
-use expression_text::{kinds_fit_rows, trees_hold};
-use row_check::{Checks, Native, Relation, eval};
-use schema::{CheckRule, Column, MatchRule, Schema, TableDef, fits_column};
+use row_check::{Checks, Native, Relation};
+use schema::{MatchRule, Schema, all_fit, checks_hold};
 use std::alloc::{AllocError, Global};
+use table_model::reason;
 use update_model::{AuthorKey, RowName, Value};
-
-/// Whether a value may stand in a column.
-
-fn fits(column: &Column, value: &Value) -> bool
-    ensures { result ≡ fits column.now value.now }
-{
-    fits_column(column, value)
-}
-
-/// Whether there is a value for each column, and each fits.
-pub(crate) fn all_fit(columns: &[Column], values: &[Value]) -> bool
-    ensures { result ≡ all_fit columns.now values.now }
-{
-    match columns {
-        [] => values.is_empty(),
-        [column, columns @ ..] => match values {
-            [] => false,
-            [value, values @ ..] => fits(column, value) && all_fit(columns, values),
-        },
-    }
-}
-
-/// Whether a `CHECK` is true of a row that fits.
-pub(crate) fn check_is_true<L: Relation, C: Checks<L>>(
-    alloc: Global,
-    native: &Native<L, C>,
-    columns: &[Column],
-    check: &CheckRule,
-    values: &[Value],
-) -> Result<bool, AllocError>
-    requires sound { IsSoundCheck columns.now check.now }
-    requires fits { IsTrue (all_fit columns.now values.now) }
-    ensures { IfOk result (λ answer. answer ≡ holds_tree L.answer values.now check.now.tree) }
-{
-    kinds_fit_rows();
-    trees_hold();
-    eval(alloc, &check.expr, values, native)
-}
-
-/// Whether every `CHECK` is true of a row that fits.
-fn checks_hold<L: Relation, C: Checks<L>>(
-    alloc: Global,
-    native: &Native<L, C>,
-    columns: &[Column],
-    checks: &[CheckRule],
-    values: &[Value],
-) -> Result<bool, AllocError>
-    requires sound { AllByRecursion (IsSoundCheck columns.now) checks.now }
-    requires fits { IsTrue (all_fit columns.now values.now) }
-    ensures { IfOk result (λ answer. answer ≡ checks_hold L.answer values.now checks.now) }
-{
-    match checks {
-        [] => Ok(true),
-        [check, checks @ ..] => {
-            if !check_is_true(alloc, native, columns, check, values)? {
-                return Ok(false);
-            }
-            checks_hold(alloc, native, columns, checks, values)
-        }
-    }
-}
-
-/// Whether every `CHECK` of a table is true of a row that fits.
-fn table_checks_hold<L: Relation, C: Checks<L>>(
-    alloc: Global,
-    native: &Native<L, C>,
-    table: &TableDef,
-    values: &[Value],
-) -> Result<bool, AllocError>
-    requires sound { AllByRecursion (IsSoundCheck table.now.columns) table.now.checks }
-    requires fits { IsTrue (all_fit table.now.columns values.now) }
-    ensures { IfOk result (λ answer. answer ≡ checks_hold L.answer values.now table.now.checks) }
-{
-    checks_hold(
-        alloc,
-        native,
-        table.columns.as_slice(),
-        table.checks.as_slice(),
-        values,
-    )
-}
 
 /// Whether a row with this name among these compares as a `MATCH` says.
 pub(crate) fn has_match(
@@ -176,25 +95,25 @@ pub(crate) fn insert_reason<L: Relation, C: Checks<L>>(
     older: &[InsertedRow],
     row: &InsertedRow,
 ) -> Result<Option<u8>, AllocError>
-    ensures { IfOk result (λ reason. reason ≡ insert_reason (rules_by L.answer schema.now.tables) (newer.now ++ older.now) row.now) }
+    ensures { IfOk result (λ reason. reason ≡ insert_reason (rules_with L.answer schema.now.tables) (newer.now ++ older.now) row.now) }
 {
     if row.table >= schema.tables() {
-        return Ok(Some(1));
+        return Ok(Some(reason::NO_TABLE));
     }
     let table = schema.table(row.table);
     let columns = table.columns.as_slice();
     let values = row.values.as_slice();
     if !all_fit(columns, values) {
-        return Ok(Some(2));
+        return Ok(Some(reason::MISFIT));
     }
-    if !table_checks_hold(alloc, native, table, values)? {
-        return Ok(Some(3));
+    if !checks_hold(alloc, native, columns, table.checks.as_slice(), values)? {
+        return Ok(Some(reason::CHECK_FALSE));
     }
     if !references_stand(columns, values, newer, older) {
-        return Ok(Some(4));
+        return Ok(Some(reason::NO_TARGET));
     }
     if !matches_hold(newer, older, values, table.matches.as_slice()) {
-        return Ok(Some(5));
+        return Ok(Some(reason::MATCH_FALSE));
     }
     Ok(None)
 }
@@ -211,14 +130,14 @@ fn same_author(a: &AuthorKey, b: &AuthorKey) -> bool
 
 /// Whether a row with this name stands among these, in a table whose rows may be deleted.
 fn may_go(schema: &Schema, rows: &[InsertedRow], name: &RowName) -> bool
-    ensures { result ≡ list_any (λ row. same_row row.name name.now && (table_of (rules_of schema.now.tables) row.table).deletable) rows.now }
+    ensures { result ≡ list_any (λ row. same_row row.name name.now && (table_of (bare_rules schema.now.tables) row.table).deletable) rows.now }
 {
     rows.iter().any(|row| same_row(&row.name, name) && is_deletable(schema, row.table))
 }
 
 /// Whether a row with this name is another author's, in a table whose rows only their authors may delete.
 fn is_anothers(schema: &Schema, rows: &[InsertedRow], author: &AuthorKey, name: &RowName) -> bool
-    ensures { result ≡ list_any (λ row. same_row row.name name.now && (table_of (rules_of schema.now.tables) row.table).owned && not (same_author row.author author.now)) rows.now }
+    ensures { result ≡ list_any (λ row. same_row row.name name.now && (table_of (bare_rules schema.now.tables) row.table).owned && not (same_author row.author author.now)) rows.now }
 {
     rows.iter().any(|row| {
         same_row(&row.name, name)
@@ -229,7 +148,7 @@ fn is_anothers(schema: &Schema, rows: &[InsertedRow], author: &AuthorKey, name: 
 
 /// Whether a row names this one by `RESTRICT`.
 fn is_restricted(schema: &Schema, rows: &[InsertedRow], name: &RowName) -> bool
-    ensures { result ≡ list_any (λ row. list_any (λ r. is_restrict r.action && same_row r.name name.now) (refs (rules_of schema.now.tables) row)) rows.now }
+    ensures { result ≡ list_any (λ row. list_any (λ r. is_restrict r.action && same_row r.name name.now) (refs (bare_rules schema.now.tables) row)) rows.now }
 {
     rows.iter().any(|row| { restricts(columns_of(schema, row.table), row.values.as_slice(), name) })
 }
@@ -243,16 +162,16 @@ pub(crate) fn delete_reason(
     author: &AuthorKey,
     name: &RowName,
 ) -> Option<u8>
-    ensures { result ≡ delete_reason (rules_of schema.now.tables) rows.now dropped.now author.now name.now }
+    ensures { result ≡ delete_reason (bare_rules schema.now.tables) rows.now dropped.now author.now name.now }
 {
     if !may_go(schema, rows, name) || is_among(dropped, name) {
-        return Some(6);
+        return Some(reason::NOT_DELETABLE);
     }
     if is_anothers(schema, rows, author, name) {
-        return Some(7);
+        return Some(reason::NOT_OWNER);
     }
     if is_restricted(schema, rows, name) {
-        return Some(8);
+        return Some(reason::RESTRICTED);
     }
     None
 }

@@ -3,8 +3,8 @@
 ghost use Rattle.std.specs.Prelude.{◌≡◌, ◌==◌, ◌&&◌, ◌++◌, filter};
 ghost use Rattle.std.specs.List.{list_all, list_any};
 ghost use Rattle.schema.specs.Columns.{is_restrict};
-ghost use Rattle.schema.specs.Verdicts.{stands_among};
-ghost use Rattle.schema.specs.Visible.{is_cascade, ref_in, refs_in, same_row};
+ghost use Rattle.table_model.specs.Verdicts.{stands_among};
+ghost use Rattle.table_model.specs.Visible.{is_cascade, ref_in, refs_in, same_row};
 ghost use Rattle.confluence_checker.specs.Forms.{is_among};
 
 use crate::ids::{is_among, same_row};

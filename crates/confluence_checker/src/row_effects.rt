@@ -1,6 +1,6 @@
 ghost use Rattle.std.specs.Prelude.{◌≡◌, ◌∷◌, IfOk, OnOk};
-ghost use Rattle.schema.specs.Verdicts.{nothing, joined};
-ghost use Rattle.schema.specs.Visible.{is_deleted};
+ghost use Rattle.table_model.specs.Verdicts.{nothing, joined};
+ghost use Rattle.table_model.specs.Visible.{is_deleted};
 
 use crate::ids::is_among;
 use crate::inserted_row::{InsertedRow, copy_rows};
@@ -16,7 +16,7 @@ pub(crate) struct RowEffects {
 }
 
 impl Model for RowEffects {
-    ghost use Rattle.schema.specs.Visible.{Effects};
+    ghost use Rattle.table_model.specs.Visible.{Effects};
 
     ghost Value = { Effects };
 

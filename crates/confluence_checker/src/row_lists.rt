@@ -1,7 +1,7 @@
 ghost use Rattle.std.specs.Prelude.{◌≡◌};
 
-use schema::ShownRowList;
 use std::marker::Model;
+use table_model::ShownRowList;
 
 /// A list of the rows of each table. A contract sees the list of these lists.
 #[derive(Debug, Drop)]
@@ -11,7 +11,7 @@ pub struct RowLists {
 
 impl Model for RowLists {
     ghost use Rattle.std.specs.Prelude.{List};
-    ghost use Rattle.schema.specs.declared.shown_row.ShownRow.{ShownRow};
+    ghost use Rattle.table_model.specs.declared.shown_row.ShownRow.{ShownRow};
 
     ghost Value = { List (List ShownRow) };
 

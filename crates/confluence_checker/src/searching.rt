@@ -3,10 +3,10 @@
 ghost use Rattle.std.specs.Prelude.{◌≡◌, IfOk};
 ghost use Rattle.std.specs.List.{AllByRecursion};
 ghost use Rattle.schema.specs.Columns.{target_of};
-ghost use Rattle.schema.specs.Invariants.{at_most_declared, check_declared, each_from, invariants_of, match_declared, reference_declared, refers_declared, table_declared, unique_declared};
+ghost use Rattle.table_model.specs.Invariants.{at_most_declared, check_declared, each_from, invariants_of, match_declared, reference_declared, refers_declared, table_declared, unique_declared};
 ghost use Rattle.schema.specs.Sound.{IsSoundCheck};
-ghost use Rattle.schema.specs.Visible.{Rules, table_of};
-ghost use Rattle.confluence_checker.specs.Forms.{AllFit, found_among, is_same, kind_number, rules_by, rules_of, start};
+ghost use Rattle.table_model.specs.Visible.{Rules, table_of, rules_with, bare_rules};
+ghost use Rattle.confluence_checker.specs.Forms.{AllFit, found_among, is_same, kind_number, start};
 
 use crate::claims::{check_holds, matches_hold, refers_holds};
 use crate::found::Found;
@@ -14,10 +14,9 @@ use crate::inserted_row::InsertedRow;
 use crate::limits::{at_most_holds, unique_holds};
 use crate::values::target_of;
 use row_check::{Checks, Native, Relation};
-use schema::{
-    CheckRule, Column, Invariant, InvariantKind, MatchRule, Schema, TableDef, UniqueRule,
-};
+use schema::{CheckRule, Column, MatchRule, Schema, TableDef, UniqueRule};
 use std::alloc::{AllocError, Global};
+use table_model::{Invariant, InvariantKind};
 
 /// The number of a kind.
 fn kind_number(kind: InvariantKind) -> u8
@@ -128,9 +127,9 @@ fn at_check<L: Relation, C: Checks<L>>(
     before: Found,
 ) -> Result<Found, AllocError>
     requires fits { AllFit schema.now.tables rows.now }
-    requires columns { columns.now ≡ (table_of (rules_of schema.now.tables) number).columns }
+    requires columns { columns.now ≡ (table_of (bare_rules schema.now.tables) number).columns }
     requires sound { IsSoundCheck columns.now check.now }
-    ensures { IfOk result (λ found. found ≡ found_among (rules_by L.answer schema.now.tables) rows.now which.now (check_declared number place check.now) before) }
+    ensures { IfOk result (λ found. found ≡ found_among (rules_with L.answer schema.now.tables) rows.now which.now (check_declared number place check.now) before) }
 {
     let holds = check_holds(alloc, schema, native, rows, number, columns, check)?;
     let wanted = is_at(which, InvariantKind::Check, number, place, check.line);
@@ -149,9 +148,9 @@ fn among_checks<L: Relation, C: Checks<L>>(
     before: Found,
 ) -> Result<Found, AllocError>
     requires fits { AllFit schema.now.tables rows.now }
-    requires table { table.now ≡ table_of (rules_of schema.now.tables) number }
+    requires table { table.now ≡ table_of (bare_rules schema.now.tables) number }
     requires sound { AllByRecursion (IsSoundCheck table.now.columns) table.now.checks }
-    ensures { IfOk result (λ found. found ≡ found_among (rules_by L.answer schema.now.tables) rows.now which.now (each_from (check_declared number) 0 table.now.checks) before) }
+    ensures { IfOk result (λ found. found ≡ found_among (rules_with L.answer schema.now.tables) rows.now which.now (each_from (check_declared number) 0 table.now.checks) before) }
 {
     let columns = table.columns.as_slice();
     let checks = table.checks.as_slice();
@@ -208,9 +207,9 @@ fn in_table<L: Relation, C: Checks<L>>(
     before: Found,
 ) -> Result<Found, AllocError>
     requires fits { AllFit schema.now.tables rows.now }
-    requires table { table.now ≡ table_of (rules_of schema.now.tables) number }
+    requires table { table.now ≡ table_of (bare_rules schema.now.tables) number }
     requires sound { AllByRecursion (IsSoundCheck table.now.columns) table.now.checks }
-    ensures { IfOk result (λ found. found ≡ found_among (rules_by L.answer schema.now.tables) rows.now which.now (table_declared number table.now) before) }
+    ensures { IfOk result (λ found. found ≡ found_among (rules_with L.answer schema.now.tables) rows.now which.now (table_declared number table.now) before) }
 {
     let uniques = among_uniques(rows, which, number, table.uniques.as_slice(), before);
     let most = among_at_most(rows, which, number, table, uniques);
@@ -229,7 +228,7 @@ pub(crate) fn found<L: Relation, C: Checks<L>>(
     which: &Invariant,
 ) -> Result<Found, AllocError>
     requires { AllFit schema.now.tables rows.now }
-    ensures { IfOk result (λ found. found ≡ found_among (rules_by L.answer schema.now.tables) rows.now which.now (invariants_of (rules_by L.answer schema.now.tables)) start) }
+    ensures { IfOk result (λ found. found ≡ found_among (rules_with L.answer schema.now.tables) rows.now which.now (invariants_of (rules_with L.answer schema.now.tables)) start) }
 {
     let mut found = Found::start();
     for number in 0..schema.tables() {

@@ -1,5 +1,5 @@
 use crate::RowLists;
-use schema::VoidList;
+use table_model::VoidList;
 
 /// The tables of a set of updates.
 #[derive(Debug, Drop)]

@@ -1,22 +1,26 @@
 //! The tables of a set of updates.
 
 ghost use Rattle.std.specs.Prelude.{◌≡◌, IfOk, length, reverse, map, filter};
-ghost use Rattle.schema.specs.Nodes.{IsClosed};
-ghost use Rattle.schema.specs.Tables.{AreTablesOf, AreVoidsIn, listed, void_line, void_lines};
-ghost use Rattle.schema.specs.Verdicts.{in_table};
-ghost use Rattle.confluence_checker.specs.Forms.{newest_first, rules_by};
-ghost use Rattle.confluence_checker.specs.Sorting.{AreLists, HasDistinctRows, line_of};
+ghost use Rattle.table_model.specs.Nodes.{IsClosed};
+ghost use Rattle.table_model.specs.Tables.{AreTablesOf, AreVoidsIn, listed, void_line, void_lines};
+ghost use Rattle.table_model.specs.Verdicts.{in_table};
+ghost use Rattle.confluence_checker.specs.Forms.{newest_first};
+ghost use Rattle.table_model.specs.Visible.{rules_with};
+ghost use Rattle.table_model.specs.Tables.{HasDistinctRows};
+ghost use Rattle.confluence_checker.specs.Sorting.{AreLists, line_of};
 
 use crate::ancestors::effects;
 use crate::inserted_row::InsertedRow;
 use crate::judged_node::JudgedNode;
 use crate::judging::judged;
-use crate::sorting::{sort_lines, sort_rows};
 use crate::visibility::shown_rows;
 use crate::{RowLists, TableList};
 use row_check::{Checks, Native, Relation};
-use schema::{Schema, ShownRow, ShownRowList, Verdict, VoidLine, VoidList};
+use schema::Schema;
 use std::alloc::{AllocError, Global};
+use table_model::{
+    ShownRow, ShownRowList, Verdict, VoidLine, VoidList, sort_lines, sort_rows,
+};
 use update_model::Node;
 
 /// A row as a table lists it.
@@ -84,7 +88,7 @@ fn lists_of(alloc: Global, schema: &Schema, rows: &[InsertedRow]) -> Result<RowL
 
 /// The tables of a closed list of updates in the order of arrival, and the updates that do nothing.
 ///
-/// The list has to be closed: ids are distinct, and each predecessor stands earlier. It gives up where memory runs out.
+/// The list has to be closed ([`crate::is_closed`]). It gives up where memory runs out.
 pub fn tables_of<L: Relation, C: Checks<L>>(
     alloc: Global,
     schema: &Schema,
@@ -92,7 +96,7 @@ pub fn tables_of<L: Relation, C: Checks<L>>(
     nodes: &[Node],
 ) -> Result<TableList, AllocError>
     requires { IsClosed (reverse nodes.now) }
-    ensures { IfOk result (λ list. AreTablesOf (rules_by L.answer schema.now.tables) (reverse nodes.now) list.tables list.voids) }
+    ensures { IfOk result (λ list. AreTablesOf (rules_with L.answer schema.now.tables) (reverse nodes.now) list.tables list.voids) }
 {
     let js = judged(alloc, schema, native, nodes)?;
     let did = effects(alloc, js.as_slice())?;

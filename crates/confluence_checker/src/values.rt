@@ -4,8 +4,7 @@ ghost use Rattle.std.specs.Prelude.{◌≡◌};
 ghost use Rattle.row_check.specs.Comparisons.{compares};
 ghost use Rattle.row_check.specs.Meaning.{value_at};
 ghost use Rattle.schema.specs.Columns.{target_of};
-ghost use Rattle.schema.specs.Visible.{table_of};
-ghost use Rattle.confluence_checker.specs.Forms.{rules_of};
+ghost use Rattle.table_model.specs.Visible.{table_of, bare_rules};
 
 use row_check::{Cmp, compare};
 use schema::{Action, CheckRule, Column, ColumnKind, MatchRule, Schema};
@@ -42,7 +41,7 @@ pub(crate) fn target_of(kind: &ColumnKind) -> Option<(u8, Action)>
 
 /// The columns of the table with this number. A table that is not there has none.
 pub(crate) fn columns_of(schema: &Schema, number: u8) -> &[Column]
-    ensures { result.now ≡ (table_of (rules_of schema.now.tables) number).columns }
+    ensures { result.now ≡ (table_of (bare_rules schema.now.tables) number).columns }
 {
     if number < schema.tables() {
         schema.table(number).columns.as_slice()
@@ -53,7 +52,7 @@ pub(crate) fn columns_of(schema: &Schema, number: u8) -> &[Column]
 
 /// Its `CHECK` lines.
 pub(crate) fn checks_of(schema: &Schema, number: u8) -> &[CheckRule]
-    ensures { result.now ≡ (table_of (rules_of schema.now.tables) number).checks }
+    ensures { result.now ≡ (table_of (bare_rules schema.now.tables) number).checks }
 {
     if number < schema.tables() {
         schema.table(number).checks.as_slice()
@@ -64,7 +63,7 @@ pub(crate) fn checks_of(schema: &Schema, number: u8) -> &[CheckRule]
 
 /// Its `MATCH` lines.
 pub(crate) fn matches_of(schema: &Schema, number: u8) -> &[MatchRule]
-    ensures { result.now ≡ (table_of (rules_of schema.now.tables) number).matches }
+    ensures { result.now ≡ (table_of (bare_rules schema.now.tables) number).matches }
 {
     if number < schema.tables() {
         schema.table(number).matches.as_slice()
@@ -75,14 +74,14 @@ pub(crate) fn matches_of(schema: &Schema, number: u8) -> &[MatchRule]
 
 /// Whether its rows may be deleted.
 pub(crate) fn is_deletable(schema: &Schema, number: u8) -> bool
-    ensures { result ≡ (table_of (rules_of schema.now.tables) number).deletable }
+    ensures { result ≡ (table_of (bare_rules schema.now.tables) number).deletable }
 {
     number < schema.tables() && schema.table(number).deletable
 }
 
 /// Whether only the author of a row of it may delete that row.
 pub(crate) fn is_owned(schema: &Schema, number: u8) -> bool
-    ensures { result ≡ (table_of (rules_of schema.now.tables) number).owned }
+    ensures { result ≡ (table_of (bare_rules schema.now.tables) number).owned }
 {
     number < schema.tables() && schema.table(number).owned
 }

@@ -3,9 +3,9 @@
 ghost use Rattle.std.specs.Prelude.{◌≡◌, ◌<◌, IfOk, List, []};
 ghost use Rattle.update_model.specs.Node.{NodeData};
 ghost use Rattle.schema.specs.Schemas.{Meaning};
-ghost use Rattle.schema.specs.Verdicts.{delete_reason, verdict_after, verdict_on};
-ghost use Rattle.schema.specs.Visible.{TableRow};
-ghost use Rattle.confluence_checker.specs.Forms.{reason_against, rules_by, rules_of};
+ghost use Rattle.table_model.specs.Verdicts.{delete_reason, verdict_after, verdict_on};
+ghost use Rattle.table_model.specs.Visible.{TableRow, rules_with, bare_rules};
+ghost use Rattle.confluence_checker.specs.Forms.{reason_against};
 
 use crate::effects::{do_op, op_count, row_inserted};
 use crate::inserted_row::InsertedRow;
@@ -14,8 +14,9 @@ use crate::reasons::{delete_reason, insert_reason};
 use crate::row_effects::RowEffects;
 use crate::visibility::visible_rows;
 use row_check::{Checks, Native, Relation};
-use schema::{Schema, Verdict, verdict_goes_by_operations};
+use schema::Schema;
 use std::alloc::{AllocError, Global};
+use table_model::{Verdict, reason, verdict_goes_by_operations};
 use update_model::{Node, Op, RowName};
 
 /// Why a row may not be deleted, where these rows are visible on the ancestors and earlier operations did this.
@@ -26,7 +27,7 @@ fn reason_against_deletion(
     did: &RowEffects,
     name: &RowName,
 ) -> Option<u8>
-    ensures { result ≡ delete_reason (rules_of schema.now.tables) rows.now did.now.deleted node.now.author name.now }
+    ensures { result ≡ delete_reason (bare_rules schema.now.tables) rows.now did.now.deleted node.now.author name.now }
 {
     delete_reason(schema, rows, did.deleted(), &node.author, name)
 }
@@ -44,7 +45,7 @@ fn reason_against<L: Relation, C: Checks<L>>(
     op: &Op,
 ) -> Result<Option<u8>, AllocError>
     requires { number < 65536 }
-    ensures { IfOk result (λ reason. reason ≡ reason_against (rules_by L.answer schema.now.tables) rows.now node.now number did.now op.now) }
+    ensures { IfOk result (λ reason. reason ≡ reason_against (rules_with L.answer schema.now.tables) rows.now node.now number did.now op.now) }
 {
     match op {
         Op::Insert { table, values } => {
@@ -64,7 +65,7 @@ fn verdict_at_end(
     number: usize,
 ) -> Result<Verdict, AllocError>
     requires { number < 65536 }
-    ensures { IfOk result (λ verdict. (ask : Meaning) (node : NodeData) (rows : List TableRow) → verdict ≡ verdict_after (rules_by ask schema.now.tables) past.now rows node number did []) }
+    ensures { IfOk result (λ verdict. (ask : Meaning) (node : NodeData) (rows : List TableRow) → verdict ≡ verdict_after (rules_with ask schema.now.tables) past.now rows node number did []) }
 {
     let both = did.joined(past.copy(alloc)?)?;
     let rows = visible_rows(alloc, schema, &both)?;
@@ -72,7 +73,7 @@ fn verdict_at_end(
         Verdict::Valid
     } else {
         Verdict::Void {
-            reason: 9,
+            reason: reason::LIMIT_BROKEN,
             operation: number as u16,
         }
     })
@@ -86,7 +87,7 @@ pub(crate) fn verdict_on<L: Relation, C: Checks<L>>(
     past: &RowEffects,
     node: &Node,
 ) -> Result<Verdict, AllocError>
-    ensures { IfOk result (λ verdict. verdict ≡ verdict_on (rules_by L.answer schema.now.tables) past.now node.now) }
+    ensures { IfOk result (λ verdict. verdict ≡ verdict_on (rules_with L.answer schema.now.tables) past.now node.now) }
 {
     verdict_goes_by_operations();
     let count = op_count(node);

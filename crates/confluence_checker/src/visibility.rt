@@ -3,8 +3,8 @@
 ghost use Rattle.std.specs.Prelude.{◌≡◌, IfOk, OnOk, map, filter, ◌++◌, ◌&&◌};
 ghost use Rattle.std.specs.List.{list_all, list_any};
 ghost use Rattle.schema.specs.Schemas.{Meaning};
-ghost use Rattle.schema.specs.Visible.{cascade_refs, same_row, shown_rows, shows, visible_rows};
-ghost use Rattle.confluence_checker.specs.Forms.{is_among, rules_by, rules_of};
+ghost use Rattle.table_model.specs.Visible.{cascade_refs, same_row, shown_rows, shows, visible_rows, rules_with, bare_rules};
+ghost use Rattle.confluence_checker.specs.Forms.{is_among};
 ghost use Rattle.confluence_checker.specs.Seeing.{SeesAll, is_hidden, shown_by, shown_values_by, shown_row_by};
 
 use crate::ids::{is_among, same_row};
@@ -19,21 +19,21 @@ use update_model::{RowName, Value, ValueList};
 /// Whether a row is visible, where these are seen: it was inserted, it is not deleted, and each row that it names by
 /// `CASCADE` is seen.
 pub(crate) fn shows(schema: &Schema, did: &RowEffects, seen: &[RowName], name: &RowName) -> bool
-    ensures { result ≡ shows (rules_of schema.now.tables) did.now (is_among seen.now) name.now }
+    ensures { result ≡ shows (bare_rules schema.now.tables) did.now (is_among seen.now) name.now }
 {
     is_inserted(schema, did.inserted(), seen, name) && !did.is_deleted(name)
 }
 
 /// Whether each row that a row names by `CASCADE` is seen.
 fn needs_are_seen(schema: &Schema, row: &InsertedRow, seen: &[RowName]) -> bool
-    ensures { result ≡ list_all (λ r. is_among seen.now r.name) (cascade_refs (rules_of schema.now.tables) row.now) }
+    ensures { result ≡ list_all (λ r. is_among seen.now r.name) (cascade_refs (bare_rules schema.now.tables) row.now) }
 {
     cascades_seen(columns_of(schema, row.table), row.values.as_slice(), seen)
 }
 
 /// Whether a row was inserted, each row that it names by `CASCADE` being seen.
 fn is_inserted(schema: &Schema, rows: &[InsertedRow], seen: &[RowName], name: &RowName) -> bool
-    ensures { result ≡ list_any (λ row. same_row row.name name.now && list_all (λ r. is_among seen.now r.name) (cascade_refs (rules_of schema.now.tables) row)) rows.now }
+    ensures { result ≡ list_any (λ row. same_row row.name name.now && list_all (λ r. is_among seen.now r.name) (cascade_refs (bare_rules schema.now.tables) row)) rows.now }
 {
     rows.iter().any(|row| { same_row(&row.name, name) && needs_are_seen(schema, row, seen) })
 }
@@ -45,7 +45,7 @@ fn shown_names(
     did: &RowEffects,
     seen: &[RowName],
 ) -> Result<Vec<RowName>, AllocError>
-    ensures { IfOk result (λ names. names.items ≡ map (λ row. row.name) (filter (λ row. shows (rules_of schema.now.tables) did.now (is_among seen.now) row.name) did.now.inserted)) }
+    ensures { IfOk result (λ names. names.items ≡ map (λ row. row.name) (filter (λ row. shows (bare_rules schema.now.tables) did.now (is_among seen.now) row.name) did.now.inserted)) }
 {
     did.inserted()
         .iter()
@@ -76,7 +76,7 @@ pub(crate) fn visible_rows(
     schema: &Schema,
     did: &RowEffects,
 ) -> Result<Vec<InsertedRow>, AllocError>
-    ensures { IfOk result (λ rows. (ask : Meaning) → rows.items ≡ visible_rows (rules_by ask schema.now.tables) did.now) }
+    ensures { IfOk result (λ rows. (ask : Meaning) → rows.items ≡ visible_rows (rules_with ask schema.now.tables) did.now) }
 {
     let seen = visible_names(alloc, schema, did)?;
     let rows = rows_among(alloc, did.inserted(), seen.as_slice())?;
@@ -180,7 +180,7 @@ pub(crate) fn shown_rows(
     schema: &Schema,
     did: &RowEffects,
 ) -> Result<Vec<InsertedRow>, AllocError>
-    ensures { IfOk result (λ rows. (ask : Meaning) → rows.items ≡ shown_rows (rules_by ask schema.now.tables) did.now) }
+    ensures { IfOk result (λ rows. (ask : Meaning) → rows.items ≡ shown_rows (rules_with ask schema.now.tables) did.now) }
 {
     let seen = visible_names(alloc, schema, did)?;
     let visible = rows_among(alloc, did.inserted(), seen.as_slice())?;

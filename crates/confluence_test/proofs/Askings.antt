@@ -7,24 +7,23 @@ use Rattle.update_model.specs.declared.value.Value.{Value}
 use Rattle.schema.specs.declared.action.Action.{Action}
 use Rattle.schema.specs.declared.action.Action.TheVariants as action
 use Rattle.schema.specs.declared.column.Column.{Column}
-use Rattle.schema.specs.declared.counterexample.Counterexample.{Counterexample}
+use Rattle.table_model.specs.declared.counterexample.Counterexample.{Counterexample}
 use Rattle.schema.specs.declared.table_def.TableDef.{TableDef}
 use Rattle.schema.specs.Columns.{target_of}
-use Rattle.schema.specs.Visible.{Rules, table_of, is_cascade}
-use Rattle.schema.specs.Invariants.{Claim, Unique, AtMost, Refers, Check, Match, Declared, invariants_of}
-use Rattle.schema.specs.Confluence.{cascade_targets, permanent_to, is_permanent, accepts, are_accepted}
-use Rattle.schema.specs.Examples.{Item, Step, has_table, item_of, needed_tables, needed_but, for_each, need, base_of, twice_after, copies, step_by, next_step, path_by, path_from, path_items, item_naming, shared_of, restrict_example, example_of}
-use Rattle.confluence_test.specs.Plans.{rules_of}
+use Rattle.table_model.specs.Visible.{Rules, table_of, is_cascade, bare_rules, rules_with}
+use Rattle.table_model.specs.Invariants.{Claim, Unique, AtMost, Refers, Check, Match, Declared, invariants_of}
+use Rattle.table_model.specs.Confluence.{cascade_targets, permanent_to, is_permanent, accepts, are_accepted}
+use Rattle.table_model.specs.Examples.{Item, Step, has_table, item_of, needed_tables, needed_but, for_each, need, base_of, twice_after, copies, step_by, next_step, path_by, path_from, path_items, item_naming, shared_of, restrict_example, example_of}
 use Rattle.confluence_test.specs.Findings.{first_refused}
 use Rattle.confluence_test.proofs.Restricts.{sides_of, after_path}
 use Rattle.confluence_test.specs.Tests.{IsRefused}
 
 module _ (tables : List TableDef) (ask : ℕ → List Value → Bool) where
   abbrev asked : Rules
-  asked = record { tables = tables; ask = ask }
+  asked = rules_with ask tables
 
   abbrev alone : Rules
-  alone = rules_of tables
+  alone = bare_rules tables
 
   same_to : (depth : ℕ) → permanent_to asked depth ≡ permanent_to alone depth
   unfolding permanent_to

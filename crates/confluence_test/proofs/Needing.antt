@@ -2,8 +2,8 @@
 use Rattle.std.proofs.Common.{◌≡◌, ℕ, ◌+◌, ◌-◌, ◌<◌, ◌≤◌, zero, suc, Bool, true, false, cond, List, [], ◌∷◌, ◌++◌, length, drop, get_or, refl, sym, ap, ◌∙◌, arith, Option, None}
 use Rattle.schema.specs.declared.column.Column.{Column}
 use Rattle.schema.specs.Columns.{target_of}
-use Rattle.schema.specs.Visible.{Rules, table_of}
-use Rattle.schema.specs.Examples.{Item, has_table, item_of, needed_by, needed_tables, needed_but, for_each, need, base_of}
+use Rattle.table_model.specs.Visible.{Rules, table_of}
+use Rattle.table_model.specs.Examples.{Item, has_table, item_of, needed_by, needed_tables, needed_but, for_each, need, base_of}
 use Rattle.confluence_test.specs.Plans.{needed_at, all_of}
 use Rattle.confluence_test.proofs.Listing.{drop_next, drop_all}
 

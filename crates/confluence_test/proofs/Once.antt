@@ -4,9 +4,9 @@ use Rattle.std.specs.List.{AllByRecursion}
 use Rattle.std.proofs.lemmas.Bool.{ne_eqb, eqb-true, eqb-false}
 use Rattle.schema.specs.declared.table_def.TableDef.{TableDef}
 use Rattle.schema.specs.Sound.{AreTables}
-use Rattle.schema.specs.Visible.{table_of}
-use Rattle.schema.specs.Examples.{Item, has_table, item_of, needed_tables, needed_but, for_each, need}
-use Rattle.confluence_test.specs.Plans.{rules_of, AreOnce}
+use Rattle.table_model.specs.Visible.{table_of, bare_rules}
+use Rattle.table_model.specs.Examples.{Item, has_table, item_of, needed_tables, needed_but, for_each, need}
+use Rattle.confluence_test.specs.Plans.{AreOnce}
 use Rattle.confluence_test.proofs.Sounds.{sound_columns, low_but}
 use Rattle.confluence_test.proofs.Needing.{needed_plain_but}
 
@@ -78,11 +78,11 @@ once_each count grow one top few (t ∷ tables) low items once =
     record { once = rest.once; above = λ u h. rest.above u h ∙ first.above u (omega arith) }
 
 pub once_need : (tables : List TableDef) → AreTables [] tables → (depth : ℕ) (items : List Item) (t : ℕ) → t < length tables → AreOnce (length tables) items
-    → KeepsOnce (length tables) items (need (rules_of tables) depth items t) (suc t)
+    → KeepsOnce (length tables) items (need (bare_rules tables) depth items t) (suc t)
 unfolding need
 once_need tables sound zero items t known once = record { once = once; above = λ u h. refl }
 once_need tables sound (suc depth) items t known once =
-    let rules = rules_of tables in
+    let rules = bare_rules tables in
     let needed = needed_tables (table_of rules t).columns in
     let grown = for_each (need rules depth) needed items in
     let low : AllByRecursion (λ (u : ℕ). u < t) needed = subst (AllByRecursion (λ (u : ℕ). u < t)) (needed_plain_but 0 (table_of rules t).columns) (low_but t None 0 (table_of rules t).columns (sound_columns tables sound t)) in
@@ -101,8 +101,8 @@ once_need tables sound (suc depth) items t known once =
 
 -- the same of all that a table's rows need, but for one column
 pub once_all : (tables : List TableDef) → AreTables [] tables → (depth : ℕ) (items : List Item) (t : ℕ) (skip : Option ℕ) → t < length tables → AreOnce (length tables) items
-    → (grown : List Item) → grown ≡ for_each (need (rules_of tables) depth) (needed_but skip 0 (table_of (rules_of tables) t).columns) items → KeepsOnce (length tables) items grown t
+    → (grown : List Item) → grown ≡ for_each (need (bare_rules tables) depth) (needed_but skip 0 (table_of (bare_rules tables) t).columns) items → KeepsOnce (length tables) items grown t
 once_all tables sound depth items t skip known once grown is =
     subst (λ (l : List Item). KeepsOnce (length tables) items l t) (sym is)
-    (once_each (length tables) (need (rules_of tables) depth) (once_need tables sound depth) t (omega arith) (needed_but skip 0 (table_of (rules_of tables) t).columns)
-    (low_but t skip 0 (table_of (rules_of tables) t).columns (sound_columns tables sound t)) items once)
+    (once_each (length tables) (need (bare_rules tables) depth) (once_need tables sound depth) t (omega arith) (needed_but skip 0 (table_of (bare_rules tables) t).columns)
+    (low_but t skip 0 (table_of (bare_rules tables) t).columns (sound_columns tables sound t)) items once)

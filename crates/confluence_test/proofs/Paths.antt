@@ -7,10 +7,10 @@ use Rattle.schema.specs.declared.column.Column.{Column}
 use Rattle.schema.specs.declared.table_def.TableDef.{TableDef}
 use Rattle.schema.specs.Columns.{target_of}
 use Rattle.schema.specs.Sound.{IsSoundColumn, AreTables}
-use Rattle.schema.specs.Visible.{Rules, table_of, is_cascade}
-use Rattle.schema.specs.Confluence.{is_permanent}
-use Rattle.schema.specs.Examples.{Item, Step, needed_but, for_each, need, step_by, next_step, path_by, path_from, path_items, item_naming, shared_of}
-use Rattle.confluence_test.specs.Plans.{rules_of, permanent_at, SaysPermanent, AreBelow, step_to, or_later, next_step_by}
+use Rattle.table_model.specs.Visible.{Rules, table_of, is_cascade, bare_rules}
+use Rattle.table_model.specs.Confluence.{is_permanent}
+use Rattle.table_model.specs.Examples.{Item, Step, needed_but, for_each, need, step_by, next_step, path_by, path_from, path_items, item_naming, shared_of}
+use Rattle.confluence_test.specs.Plans.{permanent_at, SaysPermanent, AreBelow, step_to, or_later, next_step_by}
 use Rattle.confluence_test.proofs.Listing.{drop_next, drop_all, take_all, reverse_next}
 use Rattle.confluence_test.proofs.Needing.{each_of_both}
 use Rattle.confluence_test.proofs.Sounds.{sound_columns, low_target}
@@ -107,10 +107,10 @@ path_few rules (suc depth) t =
     elim [ true ↦ omega arith | false ↦ on (next_step rules t 0 (table_of rules t).columns) ] in
     step (table_of rules t).deletable
 
-pub path_below : (tables : List TableDef) → AreTables [] tables → (depth t : ℕ) → t < length tables → AreBelow (length tables) (path_from (rules_of tables) depth t)
+pub path_below : (tables : List TableDef) → AreTables [] tables → (depth t : ℕ) → t < length tables → AreBelow (length tables) (path_from (bare_rules tables) depth t)
 path_below tables sound zero t known = tt
 path_below tables sound (suc depth) t known =
-    let rules = rules_of tables in
+    let rules = bare_rules tables in
     let columns = (table_of rules t).columns in
     let on : (o : Option (ℕ × ℕ)) → IfSome o (λ r. r.1 ≤ t) → AreBelow (length tables) (path_by t (path_from rules depth) o) =
     elim [ None ↦ λ low. tt | Some r ↦ λ low. (known, path_below tables sound depth r.1 (let l : r.1 ≤ t = low in omega arith)) ] in
@@ -119,11 +119,11 @@ path_below tables sound (suc depth) t known =
     step (table_of rules t).deletable
 
 -- the next step of a table, as it was found
-pub next_of : (tables : List TableDef) → AreTables [] tables → (permanence : List Bool) → SaysPermanent (rules_of tables) permanence → (t : ℕ) → t < length tables
-    → (columns : List Column) → columns ≡ (table_of (rules_of tables) t).columns → (o : Option (ℕ × ℕ)) → o ≡ next_step_by permanence t 0 columns
-    → next_step (rules_of tables) t 0 (table_of (rules_of tables) t).columns ≡ o
+pub next_of : (tables : List TableDef) → AreTables [] tables → (permanence : List Bool) → SaysPermanent (bare_rules tables) permanence → (t : ℕ) → t < length tables
+    → (columns : List Column) → columns ≡ (table_of (bare_rules tables) t).columns → (o : Option (ℕ × ℕ)) → o ≡ next_step_by permanence t 0 columns
+    → next_step (bare_rules tables) t 0 (table_of (bare_rules tables) t).columns ≡ o
 next_of tables sound permanence says t known columns same o found =
-    sym (next_is (rules_of tables) permanence says t known 0 (table_of (rules_of tables) t).columns (sound_columns tables sound t)) ∙ sym (ap (next_step_by permanence t 0) same) ∙ sym found
+    sym (next_is (bare_rules tables) permanence says t known 0 (table_of (bare_rules tables) t).columns (sound_columns tables sound t)) ∙ sym (ap (next_step_by permanence t 0) same) ∙ sym found
 
 pub path_more : (before after path rest final : List Step) (step : Step) → final ≡ after ++ rest → after ≡ before ++ step ∷ [] → step ∷ rest ≡ path → final ≡ before ++ path
 path_more before after path rest final step f a p = f ∙ ap (λ (l : List Step). l ++ rest) a ∙ append_assoc before (step ∷ []) rest ∙ ap (λ (l : List Step). before ++ l) p

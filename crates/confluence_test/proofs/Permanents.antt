@@ -8,9 +8,9 @@ use Rattle.schema.specs.declared.column.Column.{Column}
 use Rattle.schema.specs.declared.table_def.TableDef.{TableDef}
 use Rattle.schema.specs.Columns.{target_of}
 use Rattle.schema.specs.Sound.{IsSoundColumn, AreTables}
-use Rattle.schema.specs.Visible.{table_of, is_cascade}
-use Rattle.schema.specs.Confluence.{cascade_target, cascade_targets, permanent_to, is_permanent}
-use Rattle.confluence_test.specs.Plans.{rules_of, permanent_at, keeps, all_keep, is_permanent_by}
+use Rattle.table_model.specs.Visible.{table_of, is_cascade, bare_rules}
+use Rattle.table_model.specs.Confluence.{cascade_target, cascade_targets, permanent_to, is_permanent}
+use Rattle.confluence_test.specs.Plans.{permanent_at, keeps, all_keep, is_permanent_by}
 use Rattle.confluence_test.proofs.Sounds.{sound_columns, low_target}
 
 -- a test of the tables that a table refers to, where the table itself passes
@@ -53,25 +53,25 @@ keeps_all permanence number (c ∷ cs) =
     ap (λ (b : Bool). keeps permanence number (target_of c.kind) && b) (keeps_all permanence number cs) ∙ keeps_one permanence number (target_of c.kind) (cascade_targets cs)
 
 -- how deep references are followed makes no difference, once it is deeper than the table
-stable : (tables : List TableDef) → AreTables [] tables → (t d e : ℕ) → t < d → t < e → permanent_to (rules_of tables) d t ≡ permanent_to (rules_of tables) e t
+stable : (tables : List TableDef) → AreTables [] tables → (t d e : ℕ) → t < d → t < e → permanent_to (bare_rules tables) d t ≡ permanent_to (bare_rules tables) e t
 unfolding permanent_to
 stable tables sound t zero e h k = absurd (omega arith)
 stable tables sound t (suc d) zero h k = absurd (omega arith)
 stable tables sound t (suc d) (suc e) h k =
-    ap (λ (b : Bool). not (table_of (rules_of tables) t).deletable && b)
-    (same_targets t (permanent_to (rules_of tables) d) (permanent_to (rules_of tables) e) (λ u low. stable tables sound u d e (omega arith) (omega arith)) (table_of (rules_of tables) t).columns (sound_columns tables sound t))
+    ap (λ (b : Bool). not (table_of (bare_rules tables) t).deletable && b)
+    (same_targets t (permanent_to (bare_rules tables) d) (permanent_to (bare_rules tables) e) (λ u low. stable tables sound u d e (omega arith) (omega arith)) (table_of (bare_rules tables) t).columns (sound_columns tables sound t))
 
 -- what is known of earlier tables tells of this one
 is_by : (tables : List TableDef) → AreTables [] tables → (permanence : List Bool) (number count : ℕ) → count ≡ length tables → number < count
-    → ((t : ℕ) → t < number → permanent_at permanence t ≡ permanent_to (rules_of tables) count t)
-    → is_permanent_by permanence number (table_of (rules_of tables) number) ≡ permanent_to (rules_of tables) count number
+    → ((t : ℕ) → t < number → permanent_at permanence t ≡ permanent_to (bare_rules tables) count t)
+    → is_permanent_by permanence number (table_of (bare_rules tables) number) ≡ permanent_to (bare_rules tables) count number
 unfolding permanent_to
 is_by tables sound permanence number zero is known says = absurd (omega arith)
 is_by tables sound permanence number (suc depth) is known says =
-    ap (λ (b : Bool). not (table_of (rules_of tables) number).deletable && b)
-    (keeps_all permanence number (table_of (rules_of tables) number).columns
-    ∙ same_targets number (permanent_at permanence) (permanent_to (rules_of tables) depth) (λ u low. says u low ∙ stable tables sound u (suc depth) depth (omega arith) (omega arith))
-    (table_of (rules_of tables) number).columns (sound_columns tables sound number))
+    ap (λ (b : Bool). not (table_of (bare_rules tables) number).deletable && b)
+    (keeps_all permanence number (table_of (bare_rules tables) number).columns
+    ∙ same_targets number (permanent_at permanence) (permanent_to (bare_rules tables) depth) (λ u low. says u low ∙ stable tables sound u (suc depth) depth (omega arith) (omega arith))
+    (table_of (bare_rules tables) number).columns (sound_columns tables sound number))
 
 -- a list so far, and one table more
 at_end : (permanence : List Bool) (b : Bool) (t : ℕ) → t ≡ length permanence → permanent_at (permanence ++ b ∷ []) t ≡ b
@@ -91,18 +91,18 @@ or_before t number h = let low : t ≤ number = omega arith in eq-or-lt_of_le lo
 -- what is said of the tables so far
 pub record SaysUpTo (tables : List TableDef) (permanence : List Bool) (number : ℕ) : Type 0 where
   pub many : length permanence ≡ number
-  pub says : (t : ℕ) → t < number → permanent_at permanence t ≡ is_permanent (rules_of tables) t
+  pub says : (t : ℕ) → t < number → permanent_at permanence t ≡ is_permanent (bare_rules tables) t
 
 pub says_next : (tables : List TableDef) → AreTables [] tables → (permanence : List Bool) (number : ℕ) → number < length tables → SaysUpTo tables permanence number
-    → (b : Bool) → b ≡ is_permanent_by permanence number (table_of (rules_of tables) number) → SaysUpTo tables (permanence ++ b ∷ []) (number + 1)
+    → (b : Bool) → b ≡ is_permanent_by permanence number (table_of (bare_rules tables) number) → SaysUpTo tables (permanence ++ b ∷ []) (number + 1)
 says_next tables sound permanence number known so b is =
-    let here : b ≡ is_permanent (rules_of tables) number = is ∙ is_by tables sound permanence number (length tables) refl known so.says in
+    let here : b ≡ is_permanent (bare_rules tables) number = is ∙ is_by tables sound permanence number (length tables) refl known so.says in
     record {
       many = (let n = length-append permanence (b ∷ []) in let m = so.many in omega arith);
       says = λ t h.
           let many = so.many in
           elim (or_before t number h) [
-            | inl e ↦ at_end permanence b t (omega arith) ∙ here ∙ ap (is_permanent (rules_of tables)) (sym e)
+            | inl e ↦ at_end permanence b t (omega arith) ∙ here ∙ ap (is_permanent (bare_rules tables)) (sym e)
             | inr low ↦ before_end permanence b t (omega arith) ∙ so.says t low
           ];
     }

@@ -7,16 +7,17 @@ use Rattle.std.proofs.lemmas.Option.{slice_get-get_or}
 use Rattle.schema.specs.declared.action.Action.{Action}
 use Rattle.schema.specs.declared.action.Action.TheVariants as action
 use Rattle.schema.specs.declared.column.Column.{Column}
-use Rattle.schema.specs.declared.invariant.InvariantKind.TheVariants as kind
+use Rattle.table_model.specs.declared.invariant.InvariantKind.TheVariants as kind
 use Rattle.schema.specs.declared.rules.UniqueRule.{UniqueRule}
 use Rattle.schema.specs.declared.table_def.TableDef.{TableDef}
 use Rattle.schema.specs.Columns.{target_of}
 use Rattle.schema.specs.Sound.{IsSoundColumn, AreTables}
-use Rattle.schema.specs.Visible.{Rules, missing_table, table_of}
-use Rattle.schema.specs.Invariants.{Refers, Declared, each_from, unique_declared, at_most_declared, refers_declared, reference_declared, check_declared, match_declared, table_declared}
-use Rattle.schema.specs.Confluence.{accepts}
+use Rattle.schema.specs.Numbers.{no_table}
+use Rattle.table_model.specs.Visible.{Rules, table_of, bare_rules}
+use Rattle.table_model.specs.Invariants.{Refers, Declared, each_from, unique_declared, at_most_declared, refers_declared, reference_declared, check_declared, match_declared, table_declared}
+use Rattle.table_model.specs.Confluence.{accepts}
 use Rattle.confluence_test.specs.declared.finding.Finding.{Finding}
-use Rattle.confluence_test.specs.Plans.{rules_of, permanent_at, SaysPermanent}
+use Rattle.confluence_test.specs.Plans.{permanent_at, SaysPermanent}
 use Rattle.confluence_test.specs.Findings.{declared_of, is_refused, first_refused, accepts_to, accepts_by, refused_by, dangling}
 use Rattle.confluence_test.proofs.Listing.{drop_next, each_append}
 use Rattle.confluence_test.proofs.Sounds.{sound_columns, low_target}
@@ -176,34 +177,34 @@ same_refused rules permanence says number known table sound =
     (each_all P (check_declared number) (λ k x. (refl, tt)) 0 table.checks))
     (each_all P (match_declared number) (λ k x. (refl, tt)) 0 table.matches))
 
-tables_at : (tables : List TableDef) (number : ℕ) → number < length tables → drop number tables ≡ table_of (rules_of tables) number ∷ drop (number + 1) tables
+tables_at : (tables : List TableDef) (number : ℕ) → number < length tables → drop number tables ≡ table_of (bare_rules tables) number ∷ drop (number + 1) tables
 tables_at tables number known =
-    let read : slice_get tables number ≡ Some (get_or tables number missing_table) = slice_get-get_or tables number missing_table known in
-    let is : table_of (rules_of tables) number ≡ get_or tables number missing_table = ap (λ (o : Option TableDef). unwrap_or o missing_table) read in
-    rw (add-one, drop-cons tables number missing_table) (ap (λ (t : TableDef). t ∷ drop (suc number) tables) (sym is))
+    let read : slice_get tables number ≡ Some (get_or tables number no_table) = slice_get-get_or tables number no_table known in
+    let is : table_of (bare_rules tables) number ≡ get_or tables number no_table = ap (λ (o : Option TableDef). unwrap_or o no_table) read in
+    rw (add-one, drop-cons tables number no_table) (ap (λ (t : TableDef). t ∷ drop (suc number) tables) (sym is))
 
-scan_at : (tables : List TableDef) → AreTables [] tables → (permanence : List Bool) → SaysPermanent (rules_of tables) permanence → (number : ℕ) → number < length tables
-    → first_refused (rules_of tables) (each_from table_declared number (drop number tables))
-    ≡ option_or (refused_by permanence (table_declared number (table_of (rules_of tables) number))) (first_refused (rules_of tables) (each_from table_declared (number + 1) (drop (number + 1) tables)))
+scan_at : (tables : List TableDef) → AreTables [] tables → (permanence : List Bool) → SaysPermanent (bare_rules tables) permanence → (number : ℕ) → number < length tables
+    → first_refused (bare_rules tables) (each_from table_declared number (drop number tables))
+    ≡ option_or (refused_by permanence (table_declared number (table_of (bare_rules tables) number))) (first_refused (bare_rules tables) (each_from table_declared (number + 1) (drop (number + 1) tables)))
 scan_at tables sound permanence says number known =
-    let rules = rules_of tables in
+    let rules = bare_rules tables in
     let here = table_declared number (table_of rules number) in
     let rest = each_from table_declared (number + 1) (drop (number + 1) tables) in
     ap (λ (l : List TableDef). first_refused rules (each_from table_declared number l)) (tables_at tables number known) ∙ find-append (is_refused rules) here rest
     ∙ ap (λ (o : Option Declared). option_or o (first_refused rules rest)) (same_refused rules permanence says number known (table_of rules number) (sound_columns tables sound number))
 
 -- one of this table is refused
-pub scan_found : (tables : List TableDef) → AreTables [] tables → (permanence : List Bool) → SaysPermanent (rules_of tables) permanence → (number : ℕ) → number < length tables
-    → (d : Declared) (all : Option Declared) → Some d ≡ refused_by permanence (table_declared number (table_of (rules_of tables) number))
-    → first_refused (rules_of tables) (each_from table_declared number (drop number tables)) ≡ all → Some d ≡ all
+pub scan_found : (tables : List TableDef) → AreTables [] tables → (permanence : List Bool) → SaysPermanent (bare_rules tables) permanence → (number : ℕ) → number < length tables
+    → (d : Declared) (all : Option Declared) → Some d ≡ refused_by permanence (table_declared number (table_of (bare_rules tables) number))
+    → first_refused (bare_rules tables) (each_from table_declared number (drop number tables)) ≡ all → Some d ≡ all
 scan_found tables sound permanence says number known d all found told =
-    let later = first_refused (rules_of tables) (each_from table_declared (number + 1) (drop (number + 1) tables)) in
+    let later = first_refused (bare_rules tables) (each_from table_declared (number + 1) (drop (number + 1) tables)) in
     sym (scan_at tables sound permanence says number known ∙ ap (λ (o : Option Declared). option_or o later) (sym found)) ∙ told
 
 -- none of it is
-pub scan_past : (tables : List TableDef) → AreTables [] tables → (permanence : List Bool) → SaysPermanent (rules_of tables) permanence → (number : ℕ) → number < length tables
-    → (all : Option Declared) → None ≡ refused_by permanence (table_declared number (table_of (rules_of tables) number))
-    → first_refused (rules_of tables) (each_from table_declared number (drop number tables)) ≡ all → first_refused (rules_of tables) (each_from table_declared (number + 1) (drop (number + 1) tables)) ≡ all
+pub scan_past : (tables : List TableDef) → AreTables [] tables → (permanence : List Bool) → SaysPermanent (bare_rules tables) permanence → (number : ℕ) → number < length tables
+    → (all : Option Declared) → None ≡ refused_by permanence (table_declared number (table_of (bare_rules tables) number))
+    → first_refused (bare_rules tables) (each_from table_declared number (drop number tables)) ≡ all → first_refused (bare_rules tables) (each_from table_declared (number + 1) (drop (number + 1) tables)) ≡ all
 scan_past tables sound permanence says number known all none told =
-    let later = first_refused (rules_of tables) (each_from table_declared (number + 1) (drop (number + 1) tables)) in
+    let later = first_refused (bare_rules tables) (each_from table_declared (number + 1) (drop (number + 1) tables)) in
     sym (scan_at tables sound permanence says number known ∙ ap (λ (o : Option Declared). option_or o later) (sym none)) ∙ told

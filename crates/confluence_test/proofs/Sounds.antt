@@ -7,10 +7,11 @@ use Rattle.schema.specs.declared.column.ColumnKind.{ColumnKind}
 use Rattle.schema.specs.declared.column.ColumnKind.TheVariants as kind
 use Rattle.schema.specs.declared.table_def.TableDef.{TableDef}
 use Rattle.schema.specs.Columns.{target_of}
-use Rattle.schema.specs.Examples.{needed_by, needed_but, is_skipped}
+use Rattle.table_model.specs.Examples.{needed_by, needed_but, is_skipped}
 use Rattle.schema.specs.Sound.{IsSoundKind, IsSoundColumn, AreTables}
-use Rattle.schema.specs.Visible.{missing_table, table_of}
-use Rattle.confluence_test.specs.Plans.{rules_of, needed_at}
+use Rattle.schema.specs.Numbers.{no_table}
+use Rattle.table_model.specs.Visible.{table_of, bare_rules}
+use Rattle.confluence_test.specs.Plans.{needed_at}
 use Rattle.confluence_test.proofs.Listing.{each_append}
 
 pub record IsSoundAt (number : ℕ) (table : TableDef) : Type 0 where
@@ -34,9 +35,9 @@ pub sound_at : (tables : List TableDef) → AreTables [] tables → (number : �
 sound_at tables h number table at = let n : 0 + number ≡ number = omega arith in subst (λ (m : ℕ). IsSoundAt m table) n (sound_from [] tables h number table at)
 
 -- the columns of each table, and of none
-pub sound_columns : (tables : List TableDef) → AreTables [] tables → (number : ℕ) → AllByRecursion (IsSoundColumn number) (table_of (rules_of tables) number).columns
+pub sound_columns : (tables : List TableDef) → AreTables [] tables → (number : ℕ) → AllByRecursion (IsSoundColumn number) (table_of (bare_rules tables) number).columns
 sound_columns tables h number =
-    let step : (o : Option TableDef) → slice_get tables number ≡ o → AllByRecursion (IsSoundColumn number) (unwrap_or o missing_table).columns =
+    let step : (o : Option TableDef) → slice_get tables number ≡ o → AllByRecursion (IsSoundColumn number) (unwrap_or o no_table).columns =
     elim [ None ↦ λ e. tt | Some table ↦ λ e. (sound_at tables h number table e).columns ] in
     step (slice_get tables number) refl
 

@@ -2,9 +2,9 @@
 use Rattle.std.specs.Prelude.{◌≡◌, ℕ, ◌<◌, ◌≤◌, Bool, true, false, not, List, find, Option, None, Some, if◌then◌else◌}
 use Rattle.schema.specs.declared.action.Action.{Action}
 use Rattle.schema.specs.declared.action.Action.TheVariants as action
-use Rattle.schema.specs.Visible.{Rules}
-use Rattle.schema.specs.Invariants.{Claim, Unique, AtMost, Refers, Check, Match, Declared}
-use Rattle.schema.specs.Confluence.{accepts}
+use Rattle.table_model.specs.Visible.{Rules}
+use Rattle.table_model.specs.Invariants.{Claim, Unique, AtMost, Refers, Check, Match, Declared}
+use Rattle.table_model.specs.Confluence.{accepts}
 use Rattle.confluence_test.specs.Plans.{permanent_at}
 use Rattle.confluence_test.specs.declared.finding.Finding.{Finding}
 use Rattle.confluence_test.specs.declared.finding.Flaw.{Flaw}

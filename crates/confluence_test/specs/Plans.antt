@@ -5,13 +5,9 @@ use Rattle.schema.specs.declared.action.Action.{Action}
 use Rattle.schema.specs.declared.table_def.TableDef.{TableDef}
 use Rattle.schema.specs.declared.column.Column.{Column}
 use Rattle.schema.specs.Columns.{target_of}
-use Rattle.schema.specs.Visible.{Rules, is_cascade}
-use Rattle.schema.specs.Confluence.{is_permanent}
-use Rattle.schema.specs.Examples.{Item, Step, has_table, is_skipped, needed_by}
-
--- the rules of tables alone. Nothing that the test computes asks a native check, so none is ever true here
-abbrev pub rules_of : List TableDef → Rules
-rules_of tables = record { tables = tables; ask = λ number values. false }
+use Rattle.table_model.specs.Visible.{Rules, is_cascade}
+use Rattle.table_model.specs.Confluence.{is_permanent}
+use Rattle.table_model.specs.Examples.{Item, Step, has_table, is_skipped, needed_by}
 
 -- Each row is of one of so many tables, and no two are of one table.
 abbrev pub AreOnce : ℕ → List Item → Type 0

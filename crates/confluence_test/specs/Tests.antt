@@ -1,11 +1,11 @@
 -- What the confluence test says of a schema.
 use Rattle.std.specs.Prelude.{◌≡◌, false, List, ◌∷◌, ◌++◌, IsTrue}
-use Rattle.schema.specs.declared.counterexample.Counterexample.{Counterexample}
-use Rattle.schema.specs.declared.invariant.Invariant.{Invariant}
-use Rattle.schema.specs.Visible.{Rules}
-use Rattle.schema.specs.Invariants.{Declared, invariants_of}
-use Rattle.schema.specs.Confluence.{accepts, are_accepted}
-use Rattle.schema.specs.Examples.{example_of}
+use Rattle.table_model.specs.declared.counterexample.Counterexample.{Counterexample}
+use Rattle.table_model.specs.declared.invariant.Invariant.{Invariant}
+use Rattle.table_model.specs.Visible.{Rules}
+use Rattle.table_model.specs.Invariants.{Declared, invariants_of}
+use Rattle.table_model.specs.Confluence.{accepts, are_accepted}
+use Rattle.table_model.specs.Examples.{example_of}
 use Rattle.confluence_test.specs.declared.tested.Tested.{Tested}
 use Rattle.confluence_test.specs.declared.tested.Tested.TheVariants.{Accepted, Refused}
 

@@ -1,12 +1,12 @@
 //! Rows to be inserted one after the other.
 
 ghost use Rattle.std.specs.Prelude.{◌≡◌, ◌<◌, List, [], ◌∷◌, ◌++◌, IfOk, OnOk, length, reverse};
-ghost use Rattle.schema.specs.Examples.{chain, has_table, name_in};
+ghost use Rattle.table_model.specs.Examples.{chain, has_table, name_in};
 
 use crate::nodes::{chain_of, row_numbered};
-use schema::NodeList;
 use std::alloc::{AllocError, Global};
 use std::marker::Model;
+use table_model::NodeList;
 use update_model::{RowName, ValueList};
 
 /// A row to be inserted.
@@ -19,7 +19,7 @@ pub(crate) struct PlannedRow {
 }
 
 impl Model for PlannedRow {
-    ghost use Rattle.schema.specs.Examples.{Item};
+    ghost use Rattle.table_model.specs.Examples.{Item};
 
     ghost Value = { Item };
 
@@ -46,7 +46,7 @@ pub(crate) struct Chain {
 
 impl Model for Chain {
     ghost use Rattle.std.specs.Prelude.{List, reverse};
-    ghost use Rattle.schema.specs.Examples.{Item};
+    ghost use Rattle.table_model.specs.Examples.{Item};
 
     ghost Value = { List Item };
 

@@ -3,17 +3,17 @@
 ghost use Rattle.std.specs.Prelude.{◌≡◌, ◌<◌, ◌≤◌, [], length};
 ghost use Rattle.std.specs.List.{AllByRecursion};
 ghost use Rattle.schema.specs.Columns.{target_of};
-ghost use Rattle.schema.specs.Examples.{is_skipped};
+ghost use Rattle.table_model.specs.Examples.{is_skipped};
 ghost use Rattle.schema.specs.Sound.{AreTables, IsSoundColumn};
-ghost use Rattle.schema.specs.Visible.{table_of};
-ghost use Rattle.confluence_test.specs.Plans.{rules_of, needed_at, all_of};
+ghost use Rattle.table_model.specs.Visible.{table_of, bare_rules};
+ghost use Rattle.confluence_test.specs.Plans.{needed_at, all_of};
 
 use schema::{Action, Column, ColumnKind, Schema, TableDef};
 
 /// The table with this number.
 pub(crate) fn table_of(schema: &Schema, number: u8) -> &TableDef
     requires { number < length schema.now.tables }
-    ensures table { result.now ≡ table_of (rules_of schema.now.tables) number }
+    ensures table { result.now ≡ table_of (bare_rules schema.now.tables) number }
     ensures columns { AllByRecursion (IsSoundColumn number) result.now.columns }
     ensures few_columns { length result.now.columns ≤ 16 }
     ensures few_rows { result.now.at_most ≤ 64 }

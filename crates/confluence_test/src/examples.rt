@@ -1,9 +1,10 @@
 //! The counterexamples.
 
 ghost use Rattle.std.specs.Prelude.{◌≡◌, ◌<◌, ◌≤◌, ◌+◌, ◌-◌, [], ◌∷◌, ◌++◌, IfOk, OnOk, length, reverse};
-ghost use Rattle.schema.specs.Examples.{example_of, unique_example, at_most_example, restrict_example, twice_after, split_after, copies};
+ghost use Rattle.table_model.specs.Examples.{example_of, unique_example, at_most_example, restrict_example, twice_after, split_after, copies};
 ghost use Rattle.confluence_test.specs.Findings.{claim_of, IsFlaw};
-ghost use Rattle.confluence_test.specs.Plans.{rules_of, SaysPermanent};
+ghost use Rattle.confluence_test.specs.Plans.{SaysPermanent};
+ghost use Rattle.table_model.specs.Visible.{bare_rules};
 
 use crate::chain::{Chain, PlannedRow};
 use crate::filling::{item_naming, item_of};
@@ -11,8 +12,9 @@ use crate::finding::Flaw;
 use crate::needs::base_of;
 use crate::nodes::{after, one_after, row_numbered};
 use crate::path::{path_back, path_rows, shared_of};
-use schema::{Counterexample, NodeList, Schema};
+use schema::Schema;
 use std::alloc::{AllocError, Global};
+use table_model::{Counterexample, NodeList};
 use update_model::{Node, Op};
 
 /// The counterexample of an invariant that is refused.
@@ -23,8 +25,8 @@ pub(crate) fn example_of(
     flaw: Flaw,
 ) -> Result<Counterexample, AllocError>
     requires flaw { IsFlaw (length schema.now.tables) flaw }
-    requires permanence { SaysPermanent (rules_of schema.now.tables) permanence.now }
-    ensures { IfOk result (λ example. example ≡ example_of (rules_of schema.now.tables) (claim_of flaw)) }
+    requires permanence { SaysPermanent (bare_rules schema.now.tables) permanence.now }
+    ensures { IfOk result (λ example. example ≡ example_of (bare_rules schema.now.tables) (claim_of flaw)) }
 {
     match flaw {
         Flaw::Doubles { table, .. } => unique_example(alloc, schema, table),
@@ -40,7 +42,7 @@ pub(crate) fn example_of(
 /// Of a `UNIQUE`: after what the table's rows need, each side inserts one.
 fn unique_example(alloc: Global, schema: &Schema, table: u8) -> Result<Counterexample, AllocError>
     requires { table < length schema.now.tables }
-    ensures { IfOk result (λ example. example ≡ unique_example (rules_of schema.now.tables) table) }
+    ensures { IfOk result (λ example. example ≡ unique_example (bare_rules schema.now.tables) table) }
 {
     let base = base_of(alloc, schema, table)?;
     let row = item_of(alloc, schema, &base, table)?;
@@ -57,7 +59,7 @@ fn at_most_example(
     requires table { table < length schema.now.tables }
     requires some { 1 ≤ count }
     requires few { count ≤ 64 }
-    ensures { IfOk result (λ example. example ≡ at_most_example (rules_of schema.now.tables) table count) }
+    ensures { IfOk result (λ example. example ≡ at_most_example (bare_rules schema.now.tables) table count) }
 {
     let mut base = base_of(alloc, schema, table)?;
     let row = item_of(alloc, schema, &base, table)?;
@@ -93,8 +95,8 @@ fn restrict_example(
 ) -> Result<Counterexample, AllocError>
     requires table { table < length schema.now.tables }
     requires target { target ≤ table }
-    requires permanence { SaysPermanent (rules_of schema.now.tables) permanence.now }
-    ensures { IfOk result (λ example. example ≡ restrict_example (rules_of schema.now.tables) table column target) }
+    requires permanence { SaysPermanent (bare_rules schema.now.tables) permanence.now }
+    ensures { IfOk result (λ example. example ≡ restrict_example (bare_rules schema.now.tables) table column target) }
 {
     let back = path_back(alloc, schema, permanence, target)?;
     let mut base = shared_of(alloc, schema, back.as_slice(), table, column)?;

@@ -3,8 +3,8 @@
 ghost use Rattle.std.specs.Prelude.{◌≡◌, ◌<◌, IfOk, length, cond};
 ghost use Rattle.update_model.specs.declared.value.Value.TheVariants.{Row};
 ghost use Rattle.schema.specs.Columns.{target_of};
-ghost use Rattle.schema.specs.Examples.{fill, filled_but, item_naming, item_of};
-ghost use Rattle.confluence_test.specs.Plans.{rules_of};
+ghost use Rattle.table_model.specs.Examples.{fill, filled_but, item_naming, item_of};
+ghost use Rattle.table_model.specs.Visible.{bare_rules};
 
 use crate::chain::{Chain, PlannedRow};
 use crate::columns::{is_skipped, table_of, target_of};
@@ -78,7 +78,7 @@ pub(crate) fn item_naming(
     requires table { table < length schema.now.tables }
     requires chain { length chain.now < 256 }
     requires number { number < 256 }
-    ensures { IfOk result (λ row. row ≡ item_naming (rules_of schema.now.tables) chain.now table column number) }
+    ensures { IfOk result (λ row. row ≡ item_naming (bare_rules schema.now.tables) chain.now table column number) }
 {
     let of = table_of(schema, table);
     let columns = of.columns.as_slice();
@@ -100,7 +100,7 @@ pub(crate) fn item_of(
 ) -> Result<PlannedRow, AllocError>
     requires table { table < length schema.now.tables }
     requires chain { length chain.now < 256 }
-    ensures { IfOk result (λ row. row ≡ item_of (rules_of schema.now.tables) chain.now table) }
+    ensures { IfOk result (λ row. row ≡ item_of (bare_rules schema.now.tables) chain.now table) }
 {
     let row = item_naming(alloc, schema, chain, table, None, 0)?;
     Ok(row)

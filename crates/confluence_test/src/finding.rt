@@ -1,4 +1,4 @@
-use schema::Invariant;
+use table_model::Invariant;
 
 /// Why an invariant is refused.
 #[derive(Clone, Copy, Debug)]

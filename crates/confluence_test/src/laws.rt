@@ -1,23 +1,24 @@
 //! Laws of the test. Each function does nothing: its contract is a theorem for callers to cite.
 
 ghost use Rattle.std.specs.Prelude.{ℕ, List, [], IsTrue};
-ghost use Rattle.schema.specs.declared.counterexample.Counterexample.{Counterexample};
-ghost use Rattle.schema.specs.declared.invariant.Invariant.{Invariant};
-ghost use Rattle.schema.specs.Confluence.{confirms};
-ghost use Rattle.schema.specs.Examples.{SamplesPass};
-ghost use Rattle.schema.specs.Invariants.{claims_of};
+ghost use Rattle.table_model.specs.declared.counterexample.Counterexample.{Counterexample};
+ghost use Rattle.table_model.specs.declared.invariant.Invariant.{Invariant};
+ghost use Rattle.table_model.specs.Confluence.{confirms};
+ghost use Rattle.schema.specs.Samples.{SamplesPass};
+ghost use Rattle.table_model.specs.Invariants.{claims_of};
 ghost use Rattle.schema.specs.Schemas.{Declares, Meaning, SchemaData};
 ghost use Rattle.schema.specs.Sound.{AreTables};
-ghost use Rattle.schema.specs.Visible.{Rules};
+ghost use Rattle.table_model.specs.Visible.{Rules, rules_with};
 ghost use Rattle.confluence_test.specs.Tests.{IsRefused};
 
-use schema::{declared_is_sound, declared_samples_pass, first_refused_is_confirmed};
+use schema::{declared_is_sound, declared_samples_pass};
+use table_model::first_refused_is_confirmed;
 
 /// The counterexample of a refusal confirms, whatever native checks mean, as long as the samples pass: both of its sides are
 /// closed and satisfy every invariant up to the refused one, and both together break that one.
 pub fn refused_is_confirmed()
     ensures { (rules : Rules) (which : Invariant) (example : Counterexample) (refused : IsRefused rules which example)
-        → AreTables [] rules.tables → SamplesPass rules
+        → AreTables [] rules.tables → SamplesPass rules.ask rules.tables
         → IsTrue (confirms rules (claims_of refused.earlier) refused.declared.claim example) }
 {
     first_refused_is_confirmed();
@@ -27,8 +28,8 @@ pub fn refused_is_confirmed()
 /// meaning: the samples pass under it, so nothing is left to suppose.
 pub fn declared_refusal_is_confirmed()
     ensures { (relation : Meaning) (text : List ℕ) (schema : SchemaData) (which : Invariant) (example : Counterexample)
-        → Declares relation text schema → (refused : IsRefused (record { tables = schema.tables; ask = relation }) which example)
-        → IsTrue (confirms (record { tables = schema.tables; ask = relation }) (claims_of refused.earlier) refused.declared.claim example) }
+        → Declares relation text schema → (refused : IsRefused (rules_with relation schema.tables) which example)
+        → IsTrue (confirms (rules_with relation schema.tables) (claims_of refused.earlier) refused.declared.claim example) }
 {
     declared_is_sound();
     declared_samples_pass();

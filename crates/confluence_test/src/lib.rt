@@ -31,8 +31,6 @@ mod permanence;
 mod scanning;
 mod tested;
 mod testing;
-#[cfg(test)]
-mod tests;
 
 pub use laws::{declared_refusal_is_confirmed, refused_is_confirmed};
 pub use tested::Tested;

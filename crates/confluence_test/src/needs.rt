@@ -1,9 +1,9 @@
 //! The rows that other rows need.
 
 ghost use Rattle.std.specs.Prelude.{◌≡◌, ℕ, ◌<◌, ◌≤◌, IfOk, OnOk, length};
-ghost use Rattle.schema.specs.Examples.{has_table, need, needed_but, for_each, base_of};
-ghost use Rattle.schema.specs.Visible.{table_of};
-ghost use Rattle.confluence_test.specs.Plans.{rules_of, AreOnce};
+ghost use Rattle.table_model.specs.Examples.{has_table, need, needed_but, for_each, base_of};
+ghost use Rattle.table_model.specs.Visible.{table_of, bare_rules};
+ghost use Rattle.confluence_test.specs.Plans.{AreOnce};
 
 use crate::chain::Chain;
 use crate::columns::{needed_by, table_of};
@@ -23,7 +23,7 @@ pub(crate) fn need(
 ) -> Result<(), AllocError>
     requires table { table < length schema.now.tables }
     requires once { AreOnce (length schema.now.tables) chain.old }
-    ensures needed { OnOk result (chain.new ≡ need (rules_of schema.now.tables) depth chain.old table) }
+    ensures needed { OnOk result (chain.new ≡ need (bare_rules schema.now.tables) depth chain.old table) }
     ensures once { OnOk result (AreOnce (length schema.now.tables) chain.new) }
 {
     if depth == 0 || chain.has_table(table) {
@@ -48,8 +48,8 @@ pub(crate) fn need_all_but(
 ) -> Result<(), AllocError>
     requires table { table < length schema.now.tables }
     requires once { AreOnce (length schema.now.tables) chain.old }
-    ensures needed { OnOk result (chain.new ≡ for_each (need (rules_of schema.now.tables) depth)
-        (needed_but skip 0 (table_of (rules_of schema.now.tables) table).columns) chain.old) }
+    ensures needed { OnOk result (chain.new ≡ for_each (need (bare_rules schema.now.tables) depth)
+        (needed_but skip 0 (table_of (bare_rules schema.now.tables) table).columns) chain.old) }
     ensures once { OnOk result (AreOnce (length schema.now.tables) chain.new) }
     ensures few { OnOk result (length chain.new ≤ 16) }
     ensures earlier { OnOk result ((other : ℕ) → table ≤ other → has_table chain.new other ≡ has_table chain.old other) }
@@ -66,7 +66,7 @@ pub(crate) fn need_all_but(
 /// The chain of all that the rows of a table need.
 pub(crate) fn base_of(alloc: Global, schema: &Schema, table: u8) -> Result<Chain, AllocError>
     requires table { table < length schema.now.tables }
-    ensures needed { IfOk result (λ chain. chain ≡ base_of (rules_of schema.now.tables) table) }
+    ensures needed { IfOk result (λ chain. chain ≡ base_of (bare_rules schema.now.tables) table) }
     ensures few { IfOk result (λ chain. length chain ≤ 16) }
 {
     let mut chain = Chain::new(alloc);

@@ -3,10 +3,10 @@
 ghost use Rattle.std.specs.Prelude.{◌≡◌, ◌<◌, ◌≤◌, ◌+◌, [], ◌++◌, All, IfOk, OnOk, IfSome, Some, length, reverse};
 ghost use Rattle.std.specs.List.{AllByRecursion};
 ghost use Rattle.schema.specs.Columns.{target_of};
-ghost use Rattle.schema.specs.Examples.{path_from, path_items, shared_of};
+ghost use Rattle.table_model.specs.Examples.{path_from, path_items, shared_of};
 ghost use Rattle.schema.specs.Sound.{IsSoundColumn};
-ghost use Rattle.schema.specs.Visible.{table_of};
-ghost use Rattle.confluence_test.specs.Plans.{rules_of, AreOnce, SaysPermanent, AreBelow, next_step_by, step_to};
+ghost use Rattle.table_model.specs.Visible.{table_of, bare_rules};
+ghost use Rattle.confluence_test.specs.Plans.{AreOnce, SaysPermanent, AreBelow, next_step_by, step_to};
 
 use crate::chain::{Chain, PlannedRow};
 use crate::columns::{table_of, target_of};
@@ -27,7 +27,7 @@ pub(crate) struct PathStep {
 }
 
 impl Model for PathStep {
-    ghost use Rattle.schema.specs.Examples.{Step};
+    ghost use Rattle.table_model.specs.Examples.{Step};
 
     ghost Value = { Step };
 
@@ -42,8 +42,8 @@ pub(crate) fn path_back(
     table: u8,
 ) -> Result<Vec<PathStep>, AllocError>
     requires table { table < length schema.now.tables }
-    requires permanence { SaysPermanent (rules_of schema.now.tables) permanence.now }
-    ensures steps { IfOk result (λ steps. reverse steps.items ≡ path_from (rules_of schema.now.tables) (table + 1) table) }
+    requires permanence { SaysPermanent (bare_rules schema.now.tables) permanence.now }
+    ensures steps { IfOk result (λ steps. reverse steps.items ≡ path_from (bare_rules schema.now.tables) (table + 1) table) }
     ensures below { IfOk result (λ steps. AreBelow (length schema.now.tables) steps.items) }
     ensures few { IfOk result (λ steps. length steps.items ≤ 16) }
 {
@@ -63,8 +63,8 @@ fn follow(
     table: u8,
 ) -> Result<(), AllocError>
     requires table { table < length schema.now.tables }
-    requires permanence { SaysPermanent (rules_of schema.now.tables) permanence.now }
-    ensures steps { OnOk result (steps.new.items ≡ steps.old.items ++ path_from (rules_of schema.now.tables) depth table) }
+    requires permanence { SaysPermanent (bare_rules schema.now.tables) permanence.now }
+    ensures steps { OnOk result (steps.new.items ≡ steps.old.items ++ path_from (bare_rules schema.now.tables) depth table) }
 {
     if depth == 0 {
         return Ok(());
@@ -122,7 +122,7 @@ pub(crate) fn shared_of(
 ) -> Result<Chain, AllocError>
     requires table { table < length schema.now.tables }
     requires back { AreBelow (length schema.now.tables) back.now }
-    ensures shared { IfOk result (λ shared. shared ≡ shared_of (rules_of schema.now.tables) (reverse back.now) table column) }
+    ensures shared { IfOk result (λ shared. shared ≡ shared_of (bare_rules schema.now.tables) (reverse back.now) table column) }
     ensures few { IfOk result (λ shared. length shared ≤ 16) }
 {
     let mut shared = Chain::new(alloc);
@@ -142,7 +142,7 @@ pub(crate) fn path_rows(
 ) -> Result<Vec<PlannedRow>, AllocError>
     requires back { AreBelow (length schema.now.tables) back.now }
     requires few { length shared.now + length back.now < 256 }
-    ensures rows { IfOk result (λ rows. reverse rows.items ++ shared.now ≡ path_items (rules_of schema.now.tables) shared.now (reverse back.now)) }
+    ensures rows { IfOk result (λ rows. reverse rows.items ++ shared.now ≡ path_items (bare_rules schema.now.tables) shared.now (reverse back.now)) }
     ensures many { IfOk result (λ rows. length rows.items ≡ length back.now) }
 {
     let mut rows = Vec::with_capacity(alloc, back.len())?;

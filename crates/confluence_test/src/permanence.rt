@@ -2,7 +2,8 @@
 
 ghost use Rattle.std.specs.Prelude.{◌≡◌, IfOk};
 ghost use Rattle.schema.specs.Columns.{target_of};
-ghost use Rattle.confluence_test.specs.Plans.{rules_of, keeps, all_keep, is_permanent_by, permanent_at, SaysPermanent};
+ghost use Rattle.confluence_test.specs.Plans.{keeps, all_keep, is_permanent_by, permanent_at, SaysPermanent};
+ghost use Rattle.table_model.specs.Visible.{bare_rules};
 
 use crate::columns::{table_of, target_of};
 use schema::{Action, Column, Schema, TableDef};
@@ -11,7 +12,7 @@ use std::alloc::{AllocError, Global};
 /// Of each table whether it is permanent: it is not `DELETABLE`, and each other table that it refers to by `CASCADE` is
 /// permanent.
 pub(crate) fn permanent_tables(alloc: Global, schema: &Schema) -> Result<Vec<bool>, AllocError>
-    ensures { IfOk result (λ permanence. SaysPermanent (rules_of schema.now.tables) permanence.items) }
+    ensures { IfOk result (λ permanence. SaysPermanent (bare_rules schema.now.tables) permanence.items) }
 {
     let tables = schema.tables();
     let mut permanence = Vec::with_capacity(alloc, usize::from(tables))?;

@@ -3,20 +3,22 @@
 ghost use Rattle.std.specs.Prelude.{◌≡◌, ◌<◌, ◌≤◌, length, option_map, slice_get, IfSome};
 ghost use Rattle.std.specs.List.{AllByRecursion};
 ghost use Rattle.schema.specs.Columns.{target_of};
-ghost use Rattle.schema.specs.Invariants.{invariants_of, each_from, unique_declared, at_most_declared, reference_declared, table_declared};
+ghost use Rattle.table_model.specs.Invariants.{invariants_of, each_from, unique_declared, at_most_declared, reference_declared, table_declared};
 ghost use Rattle.schema.specs.Sound.{IsSoundColumn};
 ghost use Rattle.confluence_test.specs.Findings.{declared_of, first_refused, refused_by, dangling, IsFlawOf, IsFlaw};
-ghost use Rattle.confluence_test.specs.Plans.{rules_of, SaysPermanent};
+ghost use Rattle.confluence_test.specs.Plans.{SaysPermanent};
+ghost use Rattle.table_model.specs.Visible.{bare_rules};
 
 use crate::columns::{table_of, target_of};
 use crate::finding::{Finding, Flaw};
 use crate::permanence::permanent_at;
-use schema::{Action, Column, Invariant, InvariantKind, Schema, TableDef, UniqueRule};
+use schema::{Action, Column, Schema, TableDef, UniqueRule};
+use table_model::{Invariant, InvariantKind};
 
 /// The first invariant of a schema that is refused.
 pub(crate) fn first_refused(schema: &Schema, permanence: &[bool]) -> Option<Finding>
-    requires { SaysPermanent (rules_of schema.now.tables) permanence.now }
-    ensures first { option_map declared_of result ≡ first_refused (rules_of schema.now.tables) (invariants_of (rules_of schema.now.tables)) }
+    requires { SaysPermanent (bare_rules schema.now.tables) permanence.now }
+    ensures first { option_map declared_of result ≡ first_refused (bare_rules schema.now.tables) (invariants_of (bare_rules schema.now.tables)) }
     ensures flaw { IfSome result (λ finding. IsFlaw (length schema.now.tables) finding.flaw) }
 {
     for number in 0..schema.tables() {

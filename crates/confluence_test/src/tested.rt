@@ -1,4 +1,4 @@
-use schema::{Counterexample, Invariant};
+use table_model::{Counterexample, Invariant};
 
 /// What the confluence test says of a schema.
 #[derive(Debug, Drop)]

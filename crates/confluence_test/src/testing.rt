@@ -3,6 +3,7 @@
 ghost use Rattle.std.specs.Prelude.{◌≡◌, ℕ, Bool, List, IfOk};
 ghost use Rattle.confluence_test.specs.Tests.{IsTested};
 ghost use Rattle.schema.specs.Schemas.{Meaning};
+ghost use Rattle.table_model.specs.Visible.{rules_with};
 
 use crate::Tested;
 use crate::examples::example_of;
@@ -20,7 +21,7 @@ use std::alloc::{AllocError, Global};
 ///
 /// It gives up where memory runs out.
 pub fn test(alloc: Global, schema: &Schema) -> Result<Tested, AllocError>
-    ensures { IfOk result (λ tested. (ask : Meaning) → IsTested (record { tables = schema.now.tables; ask = ask }) tested) }
+    ensures { IfOk result (λ tested. (ask : Meaning) → IsTested (rules_with ask schema.now.tables) tested) }
 {
     let permanence = permanent_tables(alloc, schema)?;
     let Some(finding) = first_refused(schema, permanence.as_slice()) else {

@@ -26,8 +26,6 @@ mod pending;
 mod place;
 mod progress;
 mod recognizing;
-#[cfg(test)]
-mod tests;
 mod token;
 mod words;
 

@@ -6,13 +6,14 @@ use Rattle.std.proofs.lemmas.List.{map-append, length-map}
 use Rattle.std.proofs.lemmas.List.Sums.{sum_by_push}
 use Rattle.std.proofs.lemmas.Bool.Decides.{nat_tests}
 use Rattle.update_model.specs.declared.update_id.UpdateId.{UpdateId}
+use Rattle.update_model.specs.declared.limits.TheConstants.{MAX_BYTES, MAX_MEMBERS}
 use Rattle.update_model.specs.Entry.{Entry, id_cmp, same_id}
 use Rattle.update_model.specs.Graph.{IsNext, is_within, byte_count}
 use Rattle.update_model.proofs.Closed.{Follows-push, Follows-pop, position_of-push, position_of-pop}
 use Rattle.hash_graph.specs.Kept.{IsKept}
 
 -- fewer members and bytes are within the limits too
-is_within-fewer : (m n p q : ℕ) → m ≤ n → p ≤ q → (nat_le n 131072 && nat_le q 268435456) ≡ true → (nat_le m 131072 && nat_le p 268435456) ≡ true
+is_within-fewer : (m n p q : ℕ) → m ≤ n → p ≤ q → (nat_le n MAX_MEMBERS && nat_le q MAX_BYTES) ≡ true → (nat_le m MAX_MEMBERS && nat_le p MAX_BYTES) ≡ true
 is_within-fewer m n p q fewer less within = grind (arith, nat_tests)
 
 -- one more member

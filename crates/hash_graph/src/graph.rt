@@ -6,13 +6,7 @@ use crate::{Added, Refusal, Refused};
 use std::alloc::Global;
 use std::collections::BTreeMap;
 use std::marker::Model;
-use update_model::{Member, UpdateId};
-
-/// How many members a graph has at most.
-pub const MAX_MEMBERS: u32 = 131_072;
-
-/// How many bytes a graph's members have together at most.
-pub const MAX_BYTES: u64 = 268_435_456;
+use update_model::{MAX_BYTES, MAX_MEMBERS, Member, UpdateId};
 
 /// Members in arrival order, closed and within the limits. A contract sees a graph as the list of its members.
 #[derive(Debug, Drop)]

@@ -1,7 +1,7 @@
 //! A store's members in arrival order, as a closed list: ids are distinct, and each predecessor stands earlier.
 //!
 //! A [`Graph`] takes a member only after its predecessors, so everything that is built over it (heads, ancestors,
-//! bundles) may rely on arrival order. It keeps two limits, [`MAX_MEMBERS`] and [`MAX_BYTES`], and finds a
+//! bundles) may rely on arrival order. It keeps two limits, [`update_model::MAX_MEMBERS`] and [`update_model::MAX_BYTES`], and finds a
 //! member's position by its id in logarithmic time.
 //!
 //! ```text
@@ -23,6 +23,6 @@ mod refused;
 mod tests;
 
 pub use added::Added;
-pub use graph::{Graph, MAX_BYTES, MAX_MEMBERS};
+pub use graph::Graph;
 pub use refusal::Refusal;
 pub use refused::Refused;

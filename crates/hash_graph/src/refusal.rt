@@ -7,8 +7,8 @@ pub enum Refusal {
     /// This predecessor is not held; of several, the least.
     #[error("the predecessor {0:?} is not held")]
     Lacks(UpdateId),
-    /// The graph would have more than [`MAX_MEMBERS`](crate::MAX_MEMBERS) members, or more than
-    /// [`MAX_BYTES`](crate::MAX_BYTES) bytes.
+    /// The graph would have more than [`MAX_MEMBERS`](update_model::MAX_MEMBERS) members, or more than
+    /// [`MAX_BYTES`](update_model::MAX_BYTES) bytes.
     #[error("the graph is full")]
     Full,
     /// Memory ran out.

@@ -1,3 +1,5 @@
-pub mod Copies
 pub mod HeadSteps
+pub mod Keeping
 pub mod SameSets
+pub mod Spanned
+pub mod States

@@ -1,2 +1,4 @@
 pub mod Grown
-pub mod Limits
+pub mod Kept
+pub mod Present
+pub mod Spans

@@ -1,10 +1,29 @@
 //! Laws of heads. Each function does nothing: its contract is a theorem for callers to cite.
 
-ghost use Rattle.std.specs.Prelude.{◌≡◌, ◌≤◌, List, [], length};
+ghost use Rattle.std.specs.Prelude.{◌≡◌, ◌≤◌, ℕ, List, [], false, length, take};
+ghost use Rattle.std.specs.List.{list_any};
 ghost use Rattle.update_model.specs.declared.update_id.UpdateId.{UpdateId};
 ghost use Rattle.update_model.specs.Entry.{Entry};
-ghost use Rattle.update_model.specs.Graph.{IsClosed, AreHeads, HaveSameMembers};
-ghost use Rattle.head_set.specs.Grown.{NoCollision};
+ghost use Rattle.update_model.specs.Graph.{IsClosed, IsNext, AreHeads, HaveSameMembers, has};
+ghost use Rattle.head_set.specs.Grown.{AreHeadsOfEach, NoCollision};
+ghost use Rattle.head_set.specs.Present.{present};
+
+/// A member that may stand next was never a head, as [`Heads::add`](crate::Heads::add) asks.
+pub fn new_ids_were_no_heads()
+    ensures { (graph : List Entry) (states : List (List UpdateId)) (e : Entry) → AreHeadsOfEach graph states → IsNext graph e
+        → list_any (λ heads. has heads e.id) states ≡ false }
+{}
+
+/// The heads of the moment are those of the whole graph.
+pub fn present_heads_are_heads()
+    ensures { (graph : List Entry) (states : List (List UpdateId)) → AreHeadsOfEach graph states → AreHeads graph (present states) }
+{}
+
+/// After a cut the heads are those of the members that are left.
+pub fn heads_of_a_front()
+    ensures { (graph : List Entry) (states : List (List UpdateId)) (len : ℕ) → AreHeadsOfEach graph states → len ≤ length graph
+        → AreHeadsOfEach (take len graph) (take len states) }
+{}
 
 /// A graph has no more heads than members.
 pub fn heads_are_few()
@@ -21,6 +40,11 @@ pub fn equal_heads_mean_equal_sets()
 /// A graph with no member has no head, as [`Heads::new`](crate::Heads::new) says.
 pub fn no_members_no_heads()
     ensures { AreHeads [] [] }
+{}
+
+/// Before the first add no heads are those of any member.
+pub fn heads_begin()
+    ensures { AreHeadsOfEach [] [] }
 {}
 
 /// A closed graph with no head has no member.

@@ -10,10 +10,10 @@ use Rattle.update_model.specs.Node.{NodeData}
 use Rattle.update_model.proofs.Ids.{id_from_same, same_id-refl}
 use Rattle.ancestry.specs.Walks.{AreLower, is_ancestor, preds_at}
 use Rattle.ancestry.proofs.Steps.{by_predecessors, not_below, stays}
-use Rattle.schema.specs.Nodes.{holds, IsClosed, IsNext}
-use Rattle.schema.specs.Visible.{Rules}
-use Rattle.schema.specs.Verdicts.{Judged, ancestor_of, judge_next, judged}
-use Rattle.schema.proofs.Order.{ancestors_held, any_weaker, at_id}
+use Rattle.table_model.specs.Nodes.{holds, IsClosed, IsNext}
+use Rattle.table_model.specs.Visible.{Rules}
+use Rattle.table_model.specs.Verdicts.{Judged, ancestor_of, judge_next, judged}
+use Rattle.table_model.proofs.Order.{ancestors_held, any_weaker, at_id}
 use Rattle.replay.specs.Arrivals.{places_of}
 use Rattle.replay.proofs.Places.{IsAt, at_below, at_held, other_id, same_place}
 

@@ -14,8 +14,8 @@ use Rattle.update_model.proofs.Ids.{id_from_same}
 use Rattle.update_codec.specs.Parts.{entry_of, id_of, preds_of}
 use Rattle.update_check.specs.Signed.{node_of}
 use Rattle.ancestry.specs.Walks.{AreLower, is_ancestor}
-use Rattle.schema.specs.Nodes.{AreNodesOf, holds, IsClosed, IsNext}
-use Rattle.schema.specs.Visible.{Rules}
+use Rattle.table_model.specs.Nodes.{AreNodesOf, holds, IsClosed, IsNext}
+use Rattle.table_model.specs.Visible.{Rules}
 use Rattle.tuple_state.specs.Past.{IsPastOf}
 use Rattle.replay.specs.Arrivals.{nodes_before, place_in, places_before, places_of}
 use Rattle.replay.proofs.Places.{IsAt, at_last, at_shift}

@@ -6,7 +6,7 @@ use Rattle.update_model.specs.declared.update_id.UpdateId.{UpdateId}
 use Rattle.update_model.specs.Entry.{same_id}
 use Rattle.update_model.specs.Node.{NodeData}
 use Rattle.update_model.proofs.Ids.{id_from_same, same_id-refl}
-use Rattle.schema.specs.Nodes.{holds, IsClosed}
+use Rattle.table_model.specs.Nodes.{holds, IsClosed}
 
 -- the node with this id stands at this position
 abbrev pub IsAt : List NodeData → UpdateId → ℕ → Type 0

@@ -1,15 +1,16 @@
 ghost use Rattle.std.specs.Prelude.{◌≡◌, ◌+◌, ◌<◌, length, map, option_map, reverse, slice_get, Some, IsTrue, IfOk, OnOk};
 ghost use Rattle.std.specs.List.{filter_map, list_all};
 ghost use Rattle.update_check.specs.Signed.{node_of};
-ghost use Rattle.schema.specs.Verdicts.{is_unlimited, judge_next, judged};
+ghost use Rattle.table_model.specs.Verdicts.{is_unlimited, judge_next, judged};
 ghost use Rattle.tuple_state.specs.State.{IsStateOf};
 ghost use Rattle.replay.specs.Arrivals.{nodes_before, place_in, places_before};
 
 use ancestry::Ancestry;
 use hash_graph::Graph;
 use row_check::{Checks, Native, Relation};
-use schema::{Schema, Verdict, arrivals_are_closed, verdict_is_on_ancestors};
+use schema::Schema;
 use std::alloc::{AllocError, Global};
+use table_model::{Verdict, arrivals_are_closed, verdict_is_on_ancestors};
 use tuple_state::{Tables, applied_is_next};
 use update_check::Checked;
 use update_model::{Member, Node, UpdateId};
@@ -69,7 +70,7 @@ fn take_next<L: Relation, C: Checks<L>>(
     arrivals_are_closed();
     applied_is_next();
     graph.len();
-    tables.apply(&node, verdict)
+    tables.apply(node, verdict)
 }
 
 /// Takes the positions of the predecessors of the member at this position.

@@ -26,8 +26,6 @@ mod native;
 mod relation;
 mod side;
 mod term;
-#[cfg(test)]
-mod tests;
 
 pub use cmp::Cmp;
 pub use comparing::compare;

@@ -1,7 +1,7 @@
 -- The samples of a schema that is declared under a meaning of native checks pass under it.
-use Rattle.std.proofs.Common.{◌≡◌, ℕ, zero, suc, ◌+◌, ◌<◌, ◌≤◌, ◌==◌, ltb, Bool, true, false, ◌&&◌, ◌||◌, List, [], ◌∷◌, ◌++◌, length, refl, sym, ◌∙◌, ap, subst, arith, inl, inr, append_assoc, append-nil, length-append, Option, Some, None, unwrap_or, slice_get}
+use Rattle.std.proofs.Common.{◌≡◌, ℕ, zero, suc, ◌+◌, ◌<◌, ◌≤◌, ◌==◌, ltb, Bool, true, false, ◌||◌, List, [], ◌∷◌, ◌++◌, length, refl, sym, ap, subst, arith, inl, inr, append_assoc, append-nil, length-append, Option, Some, None, unwrap_or, slice_get}
 use Rattle.std.specs.List.{list_all, AllByRecursion}
-use Rattle.std.proofs.lemmas.Bool.{both_ways, ltb-true, ltb-false, eq-eqb}
+use Rattle.std.proofs.lemmas.Bool.{both_ways, and_parts, and_from, ltb-true, ltb-false, eq-eqb}
 use Rattle.update_model.specs.declared.value.Value.{Value}
 use Rattle.row_check.specs.Comparisons.{compares}
 use Rattle.row_check.specs.Meaning.{value_at}
@@ -9,23 +9,29 @@ use Rattle.text_words.specs.Lines.{lines_of}
 use Rattle.schema.specs.declared.action.Action.{Action}
 use Rattle.schema.specs.declared.column.Column.{Column}
 use Rattle.schema.specs.declared.draft.Draft.{Draft}
+use Rattle.schema.specs.declared.form.SampleValue.{SampleValue}
 use Rattle.schema.specs.declared.form.Form.{Form}
 use Rattle.schema.specs.declared.form.Form.TheVariants as form
 use Rattle.schema.specs.declared.rules.MatchRule.{MatchRule}
 use Rattle.schema.specs.declared.table_def.TableDef.{TableDef}
+use Rattle.schema.specs.Checks.{checks_hold}
 use Rattle.schema.specs.Columns.{reference_at}
+use Rattle.schema.specs.Faults.{matches_target}
 use Rattle.schema.specs.Drafts.{start}
-use Rattle.schema.specs.Rows.{sample_row, matches_target}
+use Rattle.schema.specs.Numbers.{no_table, table_number}
+use Rattle.schema.specs.Rows.{sample_row}
+use Rattle.schema.specs.Samples.{sample_matches, SamplesPass}
 use Rattle.schema.specs.Steps.{IsAfter}
 use Rattle.schema.specs.Schemas.{Meaning, SchemaData, IsGood, Leads, LeadOn, Declares}
-use Rattle.schema.specs.Sound.{IsSoundColumn, IsTable, AreTables, IsDraft}
-use Rattle.schema.specs.Visible.{Rules, missing_table, table_of}
-use Rattle.schema.specs.Verdicts.{checks_hold}
-use Rattle.schema.specs.Examples.{sample_matches, SamplesPass}
-use Rattle.schema.proofs.Founded.{all_weaker}
+use Rattle.schema.specs.Sound.{IsSoundColumn, AreTables}
+use Rattle.schema.specs.Kept.{IsDraft}
 use Rattle.schema.proofs.Keeping.{leads_kept, start_sound}
-use Rattle.schema.proofs.Soundness.{table_number, target_below}
+use Rattle.schema.proofs.Soundness.{target_below}
 use Rattle.schema.proofs.Unique.{OneExpression}
+
+all_weaker : {X : Type 0} (p q : X → Bool) → ((x : X) → p x ≡ true → q x ≡ true) → (xs : List X) → list_all p xs ≡ true → list_all q xs ≡ true
+all_weaker p q h [] e = e
+all_weaker p q h (x ∷ xs) e = let parts = and_parts (p x) (list_all p xs) e in and_from _ _ (h x parts.0) (all_weaker p q h xs parts.1)
 
 -- a MATCH of the table with this number among these, along a reference to another one, is true of its sample
 abbrev pub placed_matches : List TableDef → ℕ → List Value → MatchRule → Option (ℕ × Action) → Bool
@@ -94,19 +100,19 @@ more_behind relation before more table sound is = record {
   checks = is.checks;
   matches = by_reference (length before) table.columns sound (placed_matches before (length before) table.sample) (placed_matches (before ++ more) (length before) table.sample)
       (λ rule target low h. unless_own target.0 (length before) _ _ low
-      (λ lower. ap (λ (t : TableDef). compares rule.cmp (value_at table.sample rule.column) (value_at t.sample rule.target_column)) (found_with_more before more missing_table target.0 lower)) h)
+      (λ lower. ap (λ (t : TableDef). compares rule.cmp (value_at table.sample rule.column) (value_at t.sample rule.target_column)) (found_with_more before more no_table target.0 lower)) h)
       (λ rule. refl) table.matches is.matches;
 }
 
 -- the sample line of a table
-sample_passes : (relation : Meaning) (d : Draft) (values : List Rattle.text_words.specs.declared.literal.Literal.Literal) → IsDraft d → IsGood relation d (form.Sample values)
+sample_passes : (relation : Meaning) (d : Draft) (values : List SampleValue) → IsDraft d → IsGood relation d (form.Sample values)
     → PassesAt relation d.tables (length d.tables) (record d.table { sample = sample_row d.table.columns values })
 sample_passes relation d values s g =
     let row = sample_row d.table.columns values in record {
       checks = g.sample.1.1;
       matches = by_reference (length d.tables) d.table.columns s.table.columns (matches_target d row) (placed_matches d.tables (length d.tables) row)
           (λ rule target low h. unless_own target.0 (length d.tables) _ _ low
-          (λ lower. ap (λ (t : TableDef). compares rule.cmp (value_at row rule.column) (value_at t.sample rule.target_column)) (found_there d.tables d.table missing_table target.0 lower)) h)
+          (λ lower. ap (λ (t : TableDef). compares rule.cmp (value_at row rule.column) (value_at t.sample rule.target_column)) (found_there d.tables d.table no_table target.0 lower)) h)
           (λ rule. refl) d.table.matches g.sample.1.2;
     }
 
@@ -146,13 +152,12 @@ pass_each relation before (table ∷ tables) a p (suc place) =
     subst (λ (l : List TableDef). PassesAt relation l (length before + suc place) (table_number tables place)) (append_assoc before (table ∷ []) tables)
     (subst (λ (number : ℕ). PassesAt relation ((before ++ table ∷ []) ++ tables) number (table_number tables place)) n rest)
 
-tables_pass : (relation : Meaning) (tables : List TableDef) → AreTables [] tables → PassEach relation [] tables → SamplesPass (record { tables = tables; ask = relation })
+tables_pass : (relation : Meaning) (tables : List TableDef) → AreTables [] tables → PassEach relation [] tables → SamplesPass relation tables
 tables_pass relation tables a p =
-    let rules : Rules = record { tables = tables; ask = relation } in
     let at : (number : ℕ) → PassesAt relation tables number (table_number tables number) = λ number.
     let n : 0 + number ≡ number = omega arith in
     subst (λ (k : ℕ). PassesAt relation tables k (table_number tables number)) n (pass_each relation [] tables a p number) in
-    let same : (number : ℕ) (rule : MatchRule) (o : Option (ℕ × Action)) → placed_matches tables number (table_number tables number).sample rule o ≡ true → sample_matches rules number rule o ≡ true =
+    let same : (number : ℕ) (rule : MatchRule) (o : Option (ℕ × Action)) → placed_matches tables number (table_number tables number).sample rule o ≡ true → sample_matches tables number rule o ≡ true =
     λ number rule. elim [ None ↦ λ h. h | Some target ↦ λ h. h ] in record {
       checks = λ number. (at number).checks;
       matches = λ number. all_weaker (λ rule. placed_matches tables number (table_number tables number).sample rule (reference_at (table_number tables number).columns rule.reference)) _
@@ -160,7 +165,7 @@ tables_pass relation tables a p =
     }
 
 -- the samples of every schema that a text declares
-pub declared_pass : OneExpression → (relation : Meaning) (text : List ℕ) (schema : SchemaData) → Declares relation text schema → SamplesPass (record { tables = schema.tables; ask = relation })
+pub declared_pass : OneExpression → (relation : Meaning) (text : List ℕ) (schema : SchemaData) → Declares relation text schema → SamplesPass relation schema.tables
 declared_pass one relation text schema h =
     let both = lead_pass one relation 1 start (lines_of text) h.1.0 start_sound tt h.1.1 in
-    subst (λ (s : SchemaData). SamplesPass (record { tables = s.tables; ask = relation })) (sym h.1.3) (tables_pass relation h.1.0.tables both.0 both.1)
+    subst (λ (s : SchemaData). SamplesPass relation s.tables) (sym h.1.3) (tables_pass relation h.1.0.tables both.0 both.1)

@@ -1,5 +1,5 @@
 -- Good lines keep a draft sound.
-use Rattle.std.proofs.Common.{◌≡◌, ℕ, zero, suc, ◌+◌, ◌<◌, ◌≤◌, ltb, Bool, true, false, not, ◌&&◌, ◌||◌, cond, List, [], ◌∷◌, ◌++◌, length, refl, sym, ◌∙◌, ap, subst, arith, inl, inr, append_assoc, append-nil, length-append, IsTrue, ℤ, pos, negsuc, ◌≤ℤ◌}
+use Rattle.std.proofs.Common.{◌≡◌, ℕ, zero, suc, ◌+◌, ◌<◌, ◌≤◌, ltb, Bool, true, false, not, ◌&&◌, ◌||◌, cond, List, [], ◌∷◌, ◌++◌, length, refl, sym, ◌∙◌, ap, subst, arith, inl, inr, append_assoc, append-nil, length-append, ℤ, pos, negsuc, ◌≤ℤ◌}
 use Rattle.std.specs.Prelude.{Option, Some, None, IsSome, MatchOption, slice_get, unwrap_or, bytes_eq, position, option_and_then, nat_abs}
 use Rattle.std.specs.List.{AllByRecursion, position_or_len}
 use Rattle.std.proofs.lemmas.Bool.{and_parts, lt-ltb, ltb-true}
@@ -18,11 +18,13 @@ use Rattle.schema.specs.declared.form.PlainKind.{PlainKind}
 use Rattle.schema.specs.declared.form.PlainKind.TheVariants as plain
 use Rattle.schema.specs.declared.table_def.TableDef.{TableDef}
 use Rattle.schema.specs.Columns.{is_reference, kinds_of, names_of, number_named, column_named, target_of, reference_at, reference_named, is_restrict, are_comparable}
-use Rattle.schema.specs.Drafts.{no_table, start, table_at, table_named, first_some, kind_declared, with_column, with_rules, is_columns, is_in_table, is_turn}
+use Rattle.schema.specs.Numbers.{no_table}
+use Rattle.schema.specs.Drafts.{start, table_at, table_named, first_some, kind_declared, with_column, with_rules, is_columns, is_in_table, is_turn}
 use Rattle.schema.specs.Faults.{AreBounds, IsTypedMatch, IsTypedUnique, MayMatch, HasGoodTarget}
 use Rattle.schema.specs.Steps.{IsAfter, number_of, target_columns, match_rule}
 use Rattle.schema.specs.Schemas.{Meaning, SchemaData, IsGood, Leads, LeadOn, IsComplete, Declares}
-use Rattle.schema.specs.Sound.{IsSoundKind, IsSoundColumn, columns_or, IsSoundMatch, IsSoundUnique, IsSoundCheck, IsSoundTable, IsTable, AreTables, IsDraft, IsSchema}
+use Rattle.schema.specs.Sound.{IsSoundKind, IsSoundColumn, columns_or, IsSoundMatch, IsSoundUnique, IsSoundCheck, IsSoundTable, IsTable, AreTables, IsSchema}
+use Rattle.schema.specs.Kept.{IsDraft}
 use Rattle.schema.proofs.Unique.{OneExpression}
 
 all_push : {X : Type 0} (P : X → Type 0) (xs : List X) (x : X) → AllByRecursion P xs → P x → AllByRecursion P (xs ++ x ∷ [])

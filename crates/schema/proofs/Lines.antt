@@ -6,7 +6,6 @@ use Rattle.schema.specs.declared.fault.SchemaError.{SchemaError}
 use Rattle.schema.specs.declared.fault.SchemaError.TheVariants as error
 use Rattle.schema.specs.declared.fault.SchemaKind.{SchemaKind}
 use Rattle.schema.specs.declared.fault.SchemaKind.TheVariants as fault
-use Rattle.schema.specs.Drafts.{start}
 use Rattle.schema.specs.Outcome.{HasCause, HasFaultIn, Answers}
 use Rattle.schema.specs.Schemas.{Meaning, SchemaData, Leads, LeadOn, LineFault, FaultIn, IsComplete, Declares, FirstFault, schema_of}
 

@@ -1,25 +1,26 @@
 -- A good line has what is needed to take it.
-use Rattle.std.proofs.Common.{◌≡◌, ℕ, List, length, get_or}
-use Rattle.text_words.specs.declared.literal.Literal.{Literal}
+use Rattle.std.proofs.Common.{get_or}
 use Rattle.text_words.specs.declared.literal.Literal.TheVariants as literal
 use Rattle.expression_text.specs.declared.token.Token.{Token}
 use Rattle.expression_text.specs.declared.token.Token.TheVariants as token
 use Rattle.expression_text.specs.Columns.{HasShortText, HasRowText}
 use Rattle.schema.specs.declared.draft.Draft.{Draft}
+use Rattle.schema.specs.declared.form.SampleValue.{SampleValue}
+use Rattle.schema.specs.declared.form.SampleValue.TheVariants as sample
 use Rattle.schema.specs.declared.form.Form.{Form}
 use Rattle.schema.specs.declared.form.Form.TheVariants as form
-use Rattle.schema.specs.Faults.{IsWithinLimits, IsNamed, HasShortLiteral}
+use Rattle.schema.specs.Faults.{IsWithinLimits, IsNamed, HasShortValue}
 use Rattle.schema.specs.Forms.{HasUtf8, HasUtf8Text, IsWhole}
 use Rattle.schema.specs.Schemas.{Meaning, IsGood}
-use Rattle.schema.specs.Sound.{IsDraft, CanBuild, CanAdd, HasRowValues, IsRowLiteral}
+use Rattle.schema.specs.Kept.{IsDraft, CanBuild, CanAdd, HasRowValues, IsRowValue}
 
 row_text : (t : Token) → HasShortText t → HasUtf8Text t → HasRowText t
 row_text (token.Text bytes) h u = (h, u)
 row_text other h u = tt
 
-row_literal : (l : Literal) → HasShortLiteral l → HasUtf8 l → IsRowLiteral l
-row_literal (literal.Text bytes) h u = (h, u)
-row_literal other h u = tt
+row_value : (v : SampleValue) → HasShortValue v → HasUtf8 v → IsRowValue v
+row_value (sample.Literal (literal.Text bytes)) h u = (h, u)
+row_value other h u = tt
 
 pub can_build : (d : Draft) (f : Form) → IsDraft d → IsWhole f → IsWithinLimits d f → IsNamed d f → CanBuild d f
 can_build d (form.Check tokens) s w l n =
@@ -27,7 +28,7 @@ can_build d (form.Check tokens) s w l n =
 can_build d other s w l n = tt
 
 pub row_values : (d : Draft) (f : Form) → IsWhole f → IsWithinLimits d f → HasRowValues f
-row_values d (form.Sample values) w l = λ k x low. row_literal (get_or values k x) (l k x low) (w k x low)
+row_values d (form.Sample values) w l = λ k x low. row_value (get_or values k x) (l k x low) (w k x low)
 row_values d other w l = tt
 
 pub can_add : (r : Meaning) (d : Draft) (f : Form) → IsDraft d → IsWhole f → IsGood r d f → CanAdd d f

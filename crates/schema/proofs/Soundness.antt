@@ -1,5 +1,5 @@
 -- What the tables of a schema keep, by their numbers.
-use Rattle.std.proofs.Common.{◌≡◌, ℕ, ◌+◌, ◌≤◌, zero, suc, not, List, [], ◌∷◌, ◌++◌, length, refl, subst, arith, append_assoc, length-append, Option, Some, None, unwrap_or, slice_get}
+use Rattle.std.proofs.Common.{◌≡◌, ℕ, ◌+◌, ◌≤◌, zero, suc, not, List, [], ◌∷◌, ◌++◌, length, refl, ap, subst, arith, append_assoc, length-append, Option, Some, None, unwrap_or, slice_get}
 use Rattle.std.specs.Prelude.{IsTrue, MatchOption}
 use Rattle.std.specs.List.{AllByRecursion}
 use Rattle.schema.specs.declared.action.Action.{Action}
@@ -9,13 +9,9 @@ use Rattle.schema.specs.declared.column.ColumnKind.TheVariants as kind
 use Rattle.schema.specs.declared.rules.MatchRule.{MatchRule}
 use Rattle.schema.specs.declared.table_def.TableDef.{TableDef}
 use Rattle.schema.specs.Columns.{target_of, reference_at, is_restrict, are_comparable}
-use Rattle.schema.specs.Rows.{FitsSample}
+use Rattle.schema.specs.Rows.{fits_sample}
 use Rattle.schema.specs.Sound.{IsSoundKind, IsSoundColumn, columns_or, IsSoundMatch, IsSoundCheck, IsSoundUnique, IsTable, AreTables}
-use Rattle.schema.specs.Visible.{Rules, missing_table, table_of}
-
--- the table with this number
-abbrev pub table_number : List TableDef → ℕ → TableDef
-table_number tables number = unwrap_or (slice_get tables number) missing_table
+use Rattle.schema.specs.Numbers.{no_table, table_number}
 
 -- A MATCH compares two plain columns of one kind, along a reference that is not RESTRICT.
 abbrev pub ComparesPlain : List TableDef → TableDef → MatchRule → Type 0
@@ -27,10 +23,10 @@ pub record IsSoundAt (tables : List TableDef) (number : ℕ) (table : TableDef) 
   pub checks : AllByRecursion (IsSoundCheck table.columns) table.checks
   pub matches : AllByRecursion (ComparesPlain tables table) table.matches
   pub uniques : AllByRecursion (IsSoundUnique table.columns) table.uniques
-  pub sample : FitsSample table.columns table.sample
+  pub sample : IsTrue (fits_sample table.columns table.sample)
 
-abbrev pub IsSound : Rules → Type 0
-IsSound rules = (number : ℕ) → IsSoundAt rules.tables number (table_of rules number)
+abbrev pub IsSound : List TableDef → Type 0
+IsSound tables = (number : ℕ) → IsSoundAt tables number (table_number tables number)
 
 -- what holds of each element holds of the one at this place
 pub each_at : {X : Type 0} (P : X → Type 0) (xs : List X) (i : ℕ) (x : X) → AllByRecursion P xs → slice_get xs i ≡ Some x → P x
@@ -77,7 +73,7 @@ match_in before table rest number n sound (rule ∷ rules) h =
     (step (reference_at columns rule.reference) refl h.0, match_in before table rest number n sound rules h.1)
 
 sound_each : (before tables : List TableDef) → AreTables before tables → (place : ℕ) → IsSoundAt (before ++ tables) (length before + place) (table_number tables place)
-sound_each before [] h place = record { columns = tt; checks = tt; matches = tt; uniques = tt; sample = tt }
+sound_each before [] h place = record { columns = tt; checks = tt; matches = tt; uniques = tt; sample = refl }
 sound_each before (table ∷ tables) h zero =
     let is : IsTable before table = h.0 in
     let n : length before ≡ length before + 0 = omega arith in
@@ -90,6 +86,11 @@ sound_each before (table ∷ tables) h (suc place) =
     (subst (λ (number : ℕ). IsSoundAt ((before ++ table ∷ []) ++ tables) number (table_number tables place)) n rest)
 
 -- the tables of every schema are sound
-pub sound_tables : (rules : Rules) → AreTables [] rules.tables → IsSound rules
-sound_tables rules h number =
-    let n : 0 + number ≡ number = omega arith in subst (λ (k : ℕ). IsSoundAt rules.tables k (table_of rules number)) n (sound_each [] rules.tables h number)
+pub sound_tables : (tables : List TableDef) → AreTables [] tables → IsSound tables
+sound_tables tables h number =
+    let n : 0 + number ≡ number = omega arith in subst (λ (k : ℕ). IsSoundAt tables k (table_number tables number)) n (sound_each [] tables h number)
+
+-- the CHECKs of each table of a schema are sound
+pub checks_sound : (tables : List TableDef) → AreTables [] tables → (number : ℕ) (table : TableDef) → slice_get tables number ≡ Some table → AllByRecursion (IsSoundCheck table.columns) table.checks
+checks_sound tables all number table at =
+    subst (λ (t : TableDef). AllByRecursion (IsSoundCheck t.columns) t.checks) (ap (λ (o : Option TableDef). unwrap_or o no_table) at) (sound_tables tables all number).checks

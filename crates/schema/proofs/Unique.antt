@@ -1,6 +1,6 @@
 -- Lines lead to one draft at most, or to one fault.
-use Rattle.std.proofs.Common.{◌≡◌, ℕ, ◌+◌, ◌<◌, ◌≤◌, Bool, true, List, [], ◌∷◌, length, refl, sym, ◌∙◌, ap, subst, arith, inl, inr, IsTrue, ◌⊎◌, ◌↔◌}
-use Rattle.std.specs.Prelude.{Option, Some, None}
+use Rattle.std.proofs.Common.{◌≡◌, ℕ, ◌+◌, Bool, true, List, [], ◌∷◌, sym, ◌∙◌, ap, subst, arith, inl, inr, ◌↔◌}
+use Rattle.std.specs.Prelude.{Some}
 use Rattle.text_words.specs.Lines.{lines_of}
 use Rattle.text_words.specs.Words.{skip_blanks}
 use Rattle.expression_text.specs.Grammar.{Parses, Disjunction}
@@ -9,7 +9,6 @@ use Rattle.expression_text.specs.Trees.{Tree}
 use Rattle.expression_text.specs.declared.token.Token.{Token}
 use Rattle.schema.specs.declared.draft.Draft.{Draft}
 use Rattle.schema.specs.declared.fault.SchemaKind.{SchemaKind}
-use Rattle.schema.specs.declared.fault.SchemaKind.TheVariants as fault
 use Rattle.schema.specs.declared.form.Form.{Form}
 use Rattle.schema.specs.declared.form.Form.TheVariants as form
 use Rattle.expression_text.specs.Kinds.{HasKinds}
@@ -19,7 +18,7 @@ use Rattle.schema.specs.Faults.{Means, IsTypedCheck}
 use Rattle.schema.specs.Drafts.{start}
 use Rattle.schema.specs.Forms.{form_at}
 use Rattle.schema.specs.Steps.{IsAfter, with_check}
-use Rattle.schema.specs.Schemas.{Meaning, SchemaData, IsPassedOver, IsItsTurn, IsGood, Leads, LeadOn, FormFault, LineFault, IsComplete, FaultIn, Declares, FirstFault, schema_of}
+use Rattle.schema.specs.Schemas.{Meaning, SchemaData, IsItsTurn, IsGood, Leads, LeadOn, FormFault, LineFault, IsComplete, FaultIn, Declares, FirstFault, schema_of}
 use Rattle.schema.proofs.FaultKinds.{one_kind, none_if_good}
 
 -- Tokens are one expression at most.

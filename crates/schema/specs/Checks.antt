@@ -1,12 +1,12 @@
 -- What a CHECK is to contracts: its question, without where that lies in memory, and its line.
-use Rattle.std.specs.Prelude.{◌≡◌, ℕ, List, refl}
+use Rattle.std.specs.Prelude.{◌≡◌, ℕ, Bool, List, refl}
+use Rattle.std.specs.List.{list_all}
 use Rattle.std.specs.Coded.{Coded, code_by, coded×, coded_ℕ, coded_list}
 use base.Stored.{Gv, gnum, gcons}
-use Rattle.row_check.specs.declared.cmp.Cmp.{Cmp}
-use Rattle.row_check.specs.declared.term.Term.{Term}
+use Rattle.update_model.specs.declared.value.Value.{Value}
 use Rattle.row_check.specs.contracts.cmp.Cmp as cmp
 use Rattle.row_check.specs.contracts.term.Term as term
-use Rattle.expression_text.specs.Trees.{Tree, Both, Either, Negation, Comparison, Absence, Check}
+use Rattle.expression_text.specs.Trees.{Tree, Both, Either, Negation, Comparison, Absence, Check, holds_tree}
 
 -- a CHECK: its question, and the line that declares it
 pub record CheckData : Type 0 where
@@ -43,3 +43,7 @@ coded_tree = record { code = tree_code; inj = tree_inj }
 
 abbrev pub coded_check : Coded CheckData
 coded_check = code_by (Tree × ℕ) (coded× coded_tree coded_ℕ) (λ c. (c.tree, c.line)) (λ p. record { tree = p.0; line = p.1 }) (λ _. refl)
+
+-- whether every CHECK is true of a row
+abbrev pub checks_hold : (ℕ → List Value → Bool) → List Value → List CheckData → Bool
+checks_hold ask row checks = list_all (λ check. holds_tree ask row check.tree) checks

@@ -1,5 +1,6 @@
 -- Columns, and the values that fit them.
-use Rattle.std.specs.Prelude.{◌≡◌, ℕ, ◌≤◌, ◌≤ℤ◌, Bool, true, false, List, length, map, Option, Some, None, IsTrue, bytes_eq, position, find, slice_get, option_and_then}
+use Rattle.std.specs.Prelude.{ℕ, Bool, true, false, ◌&&◌, List, [], ◌∷◌, length, map, nat_le, Option, Some, None, bytes_eq, position, find, slice_get, option_and_then}
+use Rattle.std.specs.Int.Signed.{le_z}
 use Rattle.update_model.specs.declared.value.Value.{Value}
 use Rattle.update_model.specs.declared.value.Value.TheVariants as value
 use Rattle.expression_text.specs.declared.kind.Kind.{Kind}
@@ -77,24 +78,23 @@ is_restrict action.Restrict = true
 is_restrict action.Cascade = false
 is_restrict action.SetNull = false
 
--- A value, not null, of this kind and within its bounds. A reference is any name of a row.
-abbrev pub FitsKind : ColumnKind → Value → Type 0
-FitsKind (kind.Int lo hi) (value.Int n) = (lo ≤ℤ n) × (n ≤ℤ hi)
-FitsKind (kind.Text lo hi) (value.Text bytes) = (lo ≤ length bytes) × (length bytes ≤ hi)
-FitsKind kind.Flag (value.Flag flag) = Unit {0}
-FitsKind (kind.Reference target act) (value.Row row) = Unit {0}
-FitsKind (kind.Reference target act) (value.Own index) = Unit {0}
-FitsKind kind value = ⊥
+-- whether a value, not null, is of a kind and within its bounds. A reference is any name of a row
+abbrev pub fits_kind : ColumnKind → Value → Bool
+fits_kind (kind.Int lo hi) (value.Int n) = le_z lo n && le_z n hi
+fits_kind (kind.Text lo hi) (value.Text bytes) = nat_le lo (length bytes) && nat_le (length bytes) hi
+fits_kind kind.Flag (value.Flag flag) = true
+fits_kind (kind.Reference target act) (value.Row name) = true
+fits_kind (kind.Reference target act) (value.Own index) = true
+fits_kind kind other = false
 
--- A value that may stand in the column: null where it may have none, else a value of its kind.
-abbrev pub FitsColumn : Column → Value → Type 0
-FitsColumn column value.Null = IsTrue column.null
-FitsColumn column (value.Int n) = FitsKind column.kind (value.Int n)
-FitsColumn column (value.Text bytes) = FitsKind column.kind (value.Text bytes)
-FitsColumn column (value.Flag flag) = FitsKind column.kind (value.Flag flag)
-FitsColumn column (value.Row row) = FitsKind column.kind (value.Row row)
-FitsColumn column (value.Own index) = FitsKind column.kind (value.Own index)
+-- whether a value may stand in a column: null where it may have none, else a value of its kind
+abbrev pub fits : Column → Value → Bool
+fits column value.Null = column.null
+fits column other = fits_kind column.kind other
 
--- What a sample has in a column: null in a reference, and what fits in any other.
-abbrev pub FitsSampleAt : Column → Value → Type 0
-FitsSampleAt column v = elim (is_reference column.kind) [ true ↦ v ≡ value.Null | false ↦ FitsColumn column v ]
+-- whether there is a value for each column, and each fits
+abbrev pub all_fit : List Column → List Value → Bool
+all_fit [] [] = true
+all_fit [] (value ∷ values) = false
+all_fit (column ∷ columns) [] = false
+all_fit (column ∷ columns) (value ∷ values) = fits column value && all_fit columns values

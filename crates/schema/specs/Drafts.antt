@@ -11,21 +11,7 @@ use Rattle.schema.specs.declared.form.Form.TheVariants as form
 use Rattle.schema.specs.declared.form.PlainKind.{PlainKind}
 use Rattle.schema.specs.declared.form.PlainKind.TheVariants as plain
 use Rattle.schema.specs.declared.table_def.TableDef.{TableDef}
-
--- a table of nothing
-abbrev pub no_table : TableDef
-no_table = record {
-  name = [];
-  columns = [];
-  checks = [];
-  matches = [];
-  uniques = [];
-  at_most = 0;
-  at_most_line = 0;
-  deletable = false;
-  owned = false;
-  sample = [];
-}
+use Rattle.schema.specs.Numbers.{no_table}
 
 -- what no line declares
 abbrev pub start : Draft

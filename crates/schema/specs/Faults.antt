@@ -1,10 +1,9 @@
 -- What each kind of fault asks of a line, by its form. A line is judged by these in turn: its form and turn, limits,
 -- names, targets, kinds, the references of a MATCH, and the sample.
-use Rattle.std.specs.Prelude.{◌≡◌, ℕ, pos, ◌<◌, ◌≤◌, ◌≤ℤ◌, Bool, true, false, not, ◌&&◌, ◌||◌, ◌==◌, nat_lt, List, length, All, Contains, Option, Some, None, IsTrue, IsSome, MatchOption, bytes_eq}
-use Rattle.std.specs.List.{list_any}
+use Rattle.std.specs.Prelude.{◌≡◌, ℕ, pos, ◌<◌, ◌≤◌, ◌≤ℤ◌, Bool, false, not, ◌&&◌, ◌||◌, ◌==◌, nat_lt, List, length, All, Contains, Option, Some, None, IsTrue, IsSome, MatchOption, bytes_eq}
+use Rattle.std.specs.List.{list_any, list_all}
 use Rattle.update_model.specs.declared.value.Value.{Value}
 use Rattle.update_model.specs.Form.{IsKnownKey}
-use Rattle.text_words.specs.declared.literal.Literal.{Literal}
 use Rattle.text_words.specs.declared.literal.Literal.TheVariants as literal
 use Rattle.text_words.specs.Names.{is_a_name, is_spelled_as_name}
 use Rattle.expression_text.specs.declared.token.Token.{Token}
@@ -18,12 +17,19 @@ use Rattle.schema.specs.declared.column.Column.{Column}
 use Rattle.schema.specs.declared.draft.Draft.{Draft}
 use Rattle.schema.specs.declared.form.Form.{Form}
 use Rattle.schema.specs.declared.form.Form.TheVariants as form
+use Rattle.schema.specs.declared.form.SampleValue.{SampleValue}
+use Rattle.schema.specs.declared.form.SampleValue.TheVariants as sample
 use Rattle.schema.specs.declared.form.PlainKind.{PlainKind}
 use Rattle.schema.specs.declared.form.PlainKind.TheVariants as plain
 use Rattle.schema.specs.declared.table_def.TableDef.{TableDef}
-use Rattle.schema.specs.Columns.{is_reference, kinds_of, names_of, number_named, column_named, reference_named, is_restrict, is_set_null, are_comparable}
+use Rattle.row_check.specs.Comparisons.{compares}
+use Rattle.row_check.specs.Meaning.{value_at}
+use Rattle.schema.specs.declared.limits.TheConstants.{MAX_AUTHORS, MAX_CHECKS, MAX_COLUMNS, MAX_MATCHES, MAX_ROWS, MAX_TABLES, MAX_TOKENS}
+use Rattle.schema.specs.declared.rules.MatchRule.{MatchRule}
+use Rattle.schema.specs.Checks.{checks_hold}
+use Rattle.schema.specs.Columns.{is_reference, kinds_of, names_of, number_named, column_named, reference_at, reference_named, is_restrict, is_set_null, are_comparable}
 use Rattle.schema.specs.Drafts.{table_at, table_named}
-use Rattle.schema.specs.Rows.{sample_row, plain_count, FitsSample, passes_checks, passes_matches}
+use Rattle.schema.specs.Rows.{sample_row, plain_count, fits_sample}
 
 -- No name, for its length alone.
 abbrev pub is_overlong : List ℕ → Bool
@@ -36,13 +42,13 @@ abbrev pub HasShortName : Token → Type 0
 HasShortName (token.Column name) = IsShort name
 HasShortName other = Unit {0}
 
-abbrev pub HasShortLiteral : Literal → Type 0
-HasShortLiteral (literal.Text bytes) = length bytes ≤ 1024
-HasShortLiteral other = Unit {0}
+abbrev pub HasShortValue : SampleValue → Type 0
+HasShortValue (sample.Literal (literal.Text bytes)) = length bytes ≤ 1024
+HasShortValue other = Unit {0}
 
--- An expression has at most 256 tokens, and no text or name in it is too long.
+-- An expression has not too many tokens, and no text or name in it is too long.
 abbrev pub AreFewAndShort : List Token → Type 0
-AreFewAndShort tokens = (length tokens ≤ 256) × All HasShortText tokens × All HasShortName tokens
+AreFewAndShort tokens = (length tokens ≤ MAX_TOKENS) × All HasShortText tokens × All HasShortName tokens
 
 -- whether a UNIQUE of the column with this number stands already
 abbrev pub is_unique : TableDef → Option ℕ → Bool
@@ -51,20 +57,20 @@ is_unique table (Some column) = list_any (λ rule. rule.column == column) table.
 
 -- There is room for a column, whose name is not too long.
 abbrev pub MayHaveMore : List Column → List ℕ → Type 0
-MayHaveMore columns name = (length columns < 16) × IsShort name
+MayHaveMore columns name = (length columns < MAX_COLUMNS) × IsShort name
 
 -- Nothing is too many, too long or there twice.
 abbrev pub IsWithinLimits : Draft → Form → Type 0
 IsWithinLimits draft (form.Database name) = IsShort name
-IsWithinLimits draft (form.Author key) = (length draft.authors < 256) × ¬ Contains draft.authors key
-IsWithinLimits draft (form.Table name deletable owned) = (length draft.tables < 16) × IsShort name
+IsWithinLimits draft (form.Author key) = (length draft.authors < MAX_AUTHORS) × ¬ Contains draft.authors key
+IsWithinLimits draft (form.Table name deletable owned) = (length draft.tables < MAX_TABLES) × IsShort name
 IsWithinLimits draft (form.Column name kind null) = MayHaveMore draft.table.columns name
 IsWithinLimits draft (form.Ref name table act null) = MayHaveMore draft.table.columns name
-IsWithinLimits draft (form.Check tokens) = (length draft.table.checks < 16) × AreFewAndShort tokens
-IsWithinLimits draft (form.Match column cmp reference target) = (length draft.table.matches < 16) × IsShort column × IsShort reference × IsShort target
+IsWithinLimits draft (form.Check tokens) = (length draft.table.checks < MAX_CHECKS) × AreFewAndShort tokens
+IsWithinLimits draft (form.Match column cmp reference target) = (length draft.table.matches < MAX_MATCHES) × IsShort column × IsShort reference × IsShort target
 IsWithinLimits draft (form.Unique column) = IsShort column × (is_unique draft.table (number_named draft.table.columns column) ≡ false)
-IsWithinLimits draft (form.AtMost count) = (pos 1 ≤ℤ count) × (count ≤ℤ pos 64) × (draft.table.at_most ≡ 0)
-IsWithinLimits draft (form.Sample values) = All HasShortLiteral values
+IsWithinLimits draft (form.AtMost count) = (pos 1 ≤ℤ count) × (count ≤ℤ MAX_ROWS) × (draft.table.at_most ≡ 0)
+IsWithinLimits draft (form.Sample values) = All HasShortValue values
 
 -- A name that no table has.
 abbrev pub IsNewTable : List TableDef → List ℕ → Type 0
@@ -147,10 +153,20 @@ abbrev pub IsMatchable : Draft → Form → Type 0
 IsMatchable draft (form.Match column cmp reference target) = MayMatch draft reference
 IsMatchable draft other = Unit {0}
 
+-- a comparison of a row's value with the sample of the table that a reference names, which is not asked of a table itself
+abbrev pub matches_target : Draft → List Value → MatchRule → Option (ℕ × Action) → Bool
+matches_target draft row rule None = false
+matches_target draft row rule (Some target) =
+    (target.0 == length draft.tables) || compares rule.cmp (value_at row rule.column) (value_at (table_at draft target.0).sample rule.target_column)
+
+-- every MATCH is true of a row
+abbrev pub passes_matches : Draft → List Value → Bool
+passes_matches draft row = list_all (λ rule. matches_target draft row rule (reference_at draft.table.columns rule.reference)) draft.table.matches
+
 -- A row that the table may have: its values fit the columns, each CHECK is true of it, and so is each MATCH beside the
 -- sample of its target.
 abbrev pub IsSample : (ℕ → List Value → Bool) → Draft → List Value → Type 0
-IsSample relation draft row = FitsSample draft.table.columns row × IsTrue (passes_checks relation draft.table.checks row) × IsTrue (passes_matches draft row)
+IsSample ask draft row = IsTrue (fits_sample draft.table.columns row) × IsTrue (checks_hold ask row draft.table.checks) × IsTrue (passes_matches draft row)
 
 -- A sample has a value for each column that is no reference, and is such a row.
 abbrev pub HasSample : (ℕ → List Value → Bool) → Draft → Form → Type 0

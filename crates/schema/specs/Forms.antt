@@ -5,15 +5,14 @@ use Rattle.std.specs.Int.{w32, from_be_bytes}
 use Rattle.update_model.specs.declared.author_key.AuthorKey.{AuthorKey}
 use Rattle.row_check.specs.declared.cmp.Cmp.{Cmp}
 use Rattle.row_check.specs.declared.cmp.Cmp.TheVariants as cmp
-use Rattle.text_words.specs.declared.literal.Literal.{Literal}
 use Rattle.text_words.specs.declared.literal.Literal.TheVariants as literal
 use Rattle.text_words.specs.declared.style.Style.TheVariants.{Spaced, Punctuated}
 use Rattle.text_words.specs.declared.word.Word.{Word}
 use Rattle.text_words.specs.declared.word.Word.TheVariants as word
-use Rattle.text_words.specs.Words.{Read, skip_blanks, first_word, words_of}
+use Rattle.text_words.specs.Words.{skip_blanks, first_word, words_of}
 use Rattle.text_words.specs.Literals.{value_of}
 use Rattle.text_words.specs.Integers.{int_of}
-use Rattle.text_words.specs.Hexadecimal.{block_of_hex}
+use Rattle.text_words.specs.Hexadecimal.{block_of_hex, row_of}
 use Rattle.expression_text.specs.declared.token.Token.{Token}
 use Rattle.expression_text.specs.declared.token.Token.TheVariants as token
 use Rattle.expression_text.specs.Words.{token_of}
@@ -22,10 +21,17 @@ use Rattle.schema.specs.declared.action.Action.{Action}
 use Rattle.schema.specs.declared.action.Action.TheVariants as action
 use Rattle.schema.specs.declared.form.Form.{Form}
 use Rattle.schema.specs.declared.form.Form.TheVariants as form
+use Rattle.schema.specs.declared.form.SampleValue.{SampleValue}
+use Rattle.schema.specs.declared.form.SampleValue.TheVariants as sample
 use Rattle.schema.specs.declared.form.PlainKind.{PlainKind}
 use Rattle.schema.specs.declared.form.PlainKind.TheVariants as plain
 use Rattle.schema.specs.declared.keyword.Keyword.{Keyword}
 use Rattle.schema.specs.declared.keyword.Keyword.TheVariants as keyword
+
+-- a choice by what there is
+abbrev pub option_cases : {A B : Type 0} → Option A → (A → B) → B → B
+option_cases None f b = b
+option_cases (Some a) f b = f a
 
 -- whether a word is this one
 abbrev pub is_word : List ℕ → Word → Bool
@@ -153,10 +159,19 @@ at_most_form [] = None
 at_most_form (count ∷ []) = option_map (λ k. form.AtMost k) (number_in count)
 at_most_form (count ∷ w ∷ ws) = None
 
+-- the name of a row that a word writes
+abbrev pub row_in : Word → Option SampleValue
+row_in (word.Plain bytes) = option_map (λ row. sample.Row (record { update = record { 0 = row.0 }; index = row.1 })) (row_of bytes)
+row_in other = None
+
+-- the value that a word writes, names of rows included
+abbrev pub value_in : Word → Option SampleValue
+value_in w = option_cases (value_of w) (λ literal. Some (sample.Literal literal)) (row_in w)
+
 -- the values that words write, where each writes one
-abbrev pub values_of : List Word → Option (List Literal)
+abbrev pub values_of : List Word → Option (List SampleValue)
 values_of [] = Some []
-values_of (w ∷ ws) = option_and_then (λ value. option_map (λ values. value ∷ values) (values_of ws)) (value_of w)
+values_of (w ∷ ws) = option_and_then (λ value. option_map (λ values. value ∷ values) (values_of ws)) (value_in w)
 
 abbrev pub sample_form : List Word → Option Form
 sample_form words = option_map (λ values. form.Sample values) (values_of words)
@@ -191,11 +206,6 @@ form_with keyword.Unique words = unique_form words
 form_with keyword.AtMost words = at_most_form words
 form_with keyword.Sample words = sample_form words
 
--- a choice by what there is
-abbrev pub option_cases : {A B : Type 0} → Option A → (A → B) → B → B
-option_cases None f b = b
-option_cases (Some a) f b = f a
-
 -- the form of a line that is no CHECK, by its first word and the bytes after it
 unfoldable pub plain_form : List ℕ → Option Form
 plain_form start = option_and_then (λ read. option_and_then (λ k. option_and_then (form_with k) (words_of Spaced read.1)) (keyword_in read.0)) (first_word Spaced start)
@@ -213,8 +223,8 @@ unfoldable pub form_at : List ℕ → Option Form
 form_at start = option_cases (after_check start) check_form (plain_form start)
 
 -- a text has bytes of UTF-8
-abbrev pub HasUtf8 : Literal → Type 0
-HasUtf8 (literal.Text bytes) = IsUtf8 bytes
+abbrev pub HasUtf8 : SampleValue → Type 0
+HasUtf8 (sample.Literal (literal.Text bytes)) = IsUtf8 bytes
 HasUtf8 other = Unit {0}
 
 abbrev pub HasUtf8Text : Token → Type 0

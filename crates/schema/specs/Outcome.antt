@@ -5,7 +5,8 @@ use Rattle.schema.specs.declared.fault.SchemaError.TheVariants.{Fault, Memory}
 use Rattle.text_words.specs.Lines.{lines_of}
 use Rattle.schema.specs.declared.draft.Draft.{Draft}
 use Rattle.schema.specs.Drafts.{start}
-use Rattle.schema.specs.Schemas.{Meaning, SchemaData, FirstFault, LineFault, FaultIn}
+use Rattle.schema.specs.Schemas.{FirstFault, LineFault, FaultIn}
+use Rattle.schema.specs.Data.{Meaning, SchemaData}
 
 -- A fault comes where it is the first one; want of memory may come wherever it likes.
 abbrev pub HasCause : Meaning → List ℕ → SchemaError → Type 0

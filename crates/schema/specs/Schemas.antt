@@ -1,7 +1,5 @@
 -- Which texts declare a schema, and the first fault of those that declare none.
-use Rattle.std.specs.Prelude.{◌≡◌, ℕ, ◌+◌, ◌<◌, ◌≤◌, List, [], ◌∷◌, length, Bool, true, IsUtf8, ◌⊎◌, IsTrue}
-use Rattle.update_model.specs.declared.value.Value.{Value}
-use Rattle.update_model.specs.Rule.{RuleData}
+use Rattle.std.specs.Prelude.{◌≡◌, ℕ, ◌+◌, ◌<◌, ◌≤◌, List, [], ◌∷◌, length, IsUtf8, ◌⊎◌, IsTrue}
 use Rattle.sha2.specs.Sha256.{sha256}
 use Rattle.text_words.specs.Lines.{lines_of}
 use Rattle.text_words.specs.Words.{passed_over}
@@ -9,15 +7,12 @@ use Rattle.schema.specs.declared.draft.Draft.{Draft}
 use Rattle.schema.specs.declared.fault.SchemaKind.{SchemaKind}
 use Rattle.schema.specs.declared.fault.SchemaKind.TheVariants as fault
 use Rattle.schema.specs.declared.form.Form.{Form}
-use Rattle.schema.specs.declared.table_def.TableDef.{TableDef}
+use Rattle.schema.specs.declared.limits.TheConstants.{MAX_SCHEMA_BYTES}
+pub use Rattle.schema.specs.Data.{Meaning, SchemaData}
 use Rattle.schema.specs.Forms.{HasForm}
 use Rattle.schema.specs.Drafts.{start, is_turn, is_between}
 use Rattle.schema.specs.Steps.{IsAfter}
 use Rattle.schema.specs.Faults.{IsWithinLimits, IsNamed, HasTarget, IsTyped, IsMatchable, HasSample}
-
--- what native checks mean
-abbrev pub Meaning : Type 0
-Meaning = ℕ → List Value → Bool
 
 -- a blank line or a comment
 pub record IsPassedOver (line : List ℕ) : Type 0 where
@@ -79,23 +74,17 @@ FaultIn relation number draft (line ∷ lines) kind place =
     (LineFault relation draft line kind × (place ≡ number))
     ⊎ ((next : Draft) × Leads relation number draft line next × FaultIn relation (number + 1) next lines kind place)
 
--- a schema: its tables, which updates its database takes, and its text
-pub record SchemaData : Type 0 where
-  pub tables : List TableDef
-  pub rule : RuleData
-  pub text : List ℕ
-
 -- the schema of a draft and the text that it is read from, whose digest names the database
 abbrev pub schema_of : Draft → List ℕ → SchemaData
 schema_of draft text = record { tables = draft.tables; rule = record { database = sha256 text; authors = draft.authors }; text = text }
 
--- A text of at most 65,536 bytes, whose lines are good each after those before it and end with a table, declares what
+-- A text that is not too long, whose lines are good each after those before it and end with a table, declares what
 -- they say.
 abbrev pub Declares : Meaning → List ℕ → SchemaData → Type 0
 Declares relation text schema =
-    (length text ≤ 65536) × ((end : Draft) × LeadOn relation 1 start (lines_of text) end × IsComplete end × (schema ≡ schema_of end text))
+    (length text ≤ MAX_SCHEMA_BYTES) × ((end : Draft) × LeadOn relation 1 start (lines_of text) end × IsComplete end × (schema ≡ schema_of end text))
 
 -- The first fault of a text: a text of more bytes is over the limit, at line 0.
 abbrev pub FirstFault : Meaning → List ℕ → SchemaKind → ℕ → Type 0
 FirstFault relation text kind place =
-    ((65536 < length text) × (kind ≡ fault.Limit) × (place ≡ 0)) ⊎ ((length text ≤ 65536) × FaultIn relation 1 start (lines_of text) kind place)
+    ((MAX_SCHEMA_BYTES < length text) × (kind ≡ fault.Limit) × (place ≡ 0)) ⊎ ((length text ≤ MAX_SCHEMA_BYTES) × FaultIn relation 1 start (lines_of text) kind place)

@@ -1,28 +1,18 @@
 -- What every schema keeps, so that its expressions may be asked of rows that fit and its numbers name what is there.
-use Rattle.std.specs.Prelude.{◌≡◌, ℕ, pos, ◌<◌, ◌≤◌, ◌≤ℤ◌, Bool, not, ◌&&◌, ◌||◌, nat_lt, List, [], ◌∷◌, ◌++◌, length, slice_get, Option, Some, None, IsTrue, All, MatchOption}
+use Rattle.std.specs.Prelude.{ℕ, ◌≤◌, ◌≤ℤ◌, Bool, not, ◌&&◌, ◌||◌, nat_lt, List, [], ◌∷◌, ◌++◌, length, slice_get, Option, Some, None, IsTrue, MatchOption}
 use Rattle.std.specs.List.{AllByRecursion}
-use Rattle.update_model.specs.Text.{IsText}
-use Rattle.text_words.specs.declared.literal.Literal.{Literal}
-use Rattle.text_words.specs.declared.literal.Literal.TheVariants as literal
-use Rattle.expression_text.specs.Columns.{IsKnown, HasRowText}
-use Rattle.expression_text.specs.Grammar.{IsExpression}
 use Rattle.expression_text.specs.Kinds.{HasKinds}
 use Rattle.schema.specs.declared.column.Column.{Column}
 use Rattle.schema.specs.declared.column.ColumnKind.{ColumnKind}
 use Rattle.schema.specs.declared.column.ColumnKind.TheVariants as kind
-use Rattle.schema.specs.declared.draft.Draft.{Draft}
-use Rattle.schema.specs.declared.form.Form.{Form}
-use Rattle.schema.specs.declared.form.Form.TheVariants as form
-use Rattle.schema.specs.Checks.{CheckData}
+use Rattle.schema.specs.declared.limits.TheConstants.{MAX_CHECKS, MAX_COLUMNS, MAX_MATCHES, MAX_TABLES}
 use Rattle.schema.specs.declared.rules.MatchRule.{MatchRule}
 use Rattle.schema.specs.declared.rules.UniqueRule.{UniqueRule}
 use Rattle.schema.specs.declared.table_def.TableDef.{TableDef}
-use Rattle.schema.specs.Columns.{is_reference, kinds_of, names_of, reference_at, is_restrict, is_set_null, are_comparable}
-use Rattle.schema.specs.Drafts.{is_columns, is_in_table, is_between}
-use Rattle.text_words.specs.Names.{is_a_name}
-use Rattle.schema.specs.Faults.{AreBounds}
-use Rattle.schema.specs.Rows.{FitsSample}
-use Rattle.schema.specs.Schemas.{SchemaData}
+use Rattle.schema.specs.Checks.{CheckData}
+use Rattle.schema.specs.Columns.{is_reference, kinds_of, reference_at, is_restrict, is_set_null, are_comparable}
+use Rattle.schema.specs.Data.{SchemaData}
+use Rattle.schema.specs.Rows.{fits_sample}
 
 -- In the table with this number: bounds rise, lengths are at most 1,024, a reference is to an earlier table or to its own
 -- with NULL, and SETNULL has NULL.
@@ -56,11 +46,11 @@ IsSoundCheck columns check = HasKinds (kinds_of columns) check.tree
 
 -- A table behind these is sound.
 pub record IsSoundTable (before : List TableDef) (table : TableDef) : Type 0 where
-  pub few_columns : length table.columns ≤ 16
+  pub few_columns : length table.columns ≤ MAX_COLUMNS
   pub columns : AllByRecursion (IsSoundColumn (length before)) table.columns
-  pub few_checks : length table.checks ≤ 16
+  pub few_checks : length table.checks ≤ MAX_CHECKS
   pub checks : AllByRecursion (IsSoundCheck table.columns) table.checks
-  pub few_matches : length table.matches ≤ 16
+  pub few_matches : length table.matches ≤ MAX_MATCHES
   pub matches : AllByRecursion (IsSoundMatch before table.columns) table.matches
   pub uniques : AllByRecursion (IsSoundUnique table.columns) table.uniques
   pub at_most : table.at_most ≤ 64
@@ -69,56 +59,15 @@ pub record IsSoundTable (before : List TableDef) (table : TableDef) : Type 0 whe
 pub record IsTable (before : List TableDef) (table : TableDef) : Type 0 where
   pub sound : IsSoundTable before table
   pub some_columns : 1 ≤ length table.columns
-  pub sample : FitsSample table.columns table.sample
+  pub sample : IsTrue (fits_sample table.columns table.sample)
 
 -- Each of these tables is whole, behind those before it.
 abbrev pub AreTables : List TableDef → List TableDef → Type 0
 AreTables before [] = Unit {0}
 AreTables before (table ∷ tables) = IsTable before table × AreTables (before ++ table ∷ []) tables
 
--- A schema has one to sixteen tables, each of them whole.
+-- A schema has a table and not too many, each of them whole.
 pub record IsSchema (schema : SchemaData) : Type 0 where
   pub some_tables : 1 ≤ length schema.tables
-  pub few_tables : length schema.tables ≤ 16
+  pub few_tables : length schema.tables ≤ MAX_TABLES
   pub tables : AreTables [] schema.tables
-
--- What the lines so far keep: tables that have ended are whole, the one that has begun is sound and has room among them,
--- and it has no rules while columns come.
-pub record IsDraft (draft : Draft) : Type 0 where
-  pub few_tables : length draft.tables ≤ 16
-  pub tables : AreTables [] draft.tables
-  pub table : IsSoundTable draft.tables draft.table
-  pub some_tables : IsTrue (is_between draft.phase) → 1 ≤ length draft.tables
-  pub room : IsTrue (is_in_table draft.phase) → length draft.tables < 16
-  pub no_checks : IsTrue (is_columns draft.phase) → draft.table.checks ≡ []
-  pub no_matches : IsTrue (is_columns draft.phase) → draft.table.matches ≡ []
-  pub no_uniques : IsTrue (is_columns draft.phase) → draft.table.uniques ≡ []
-
--- What an expression needs to be built over the columns of a table.
-abbrev pub CanBuild : Draft → Form → Type 0
-CanBuild draft (form.Check tokens) =
-    (length draft.table.columns ≤ 16) × (length tokens ≤ 256) × IsExpression tokens × All (IsKnown (names_of draft.table.columns)) tokens × All HasRowText tokens
-CanBuild draft other = Unit {0}
-
--- a literal is a value that a row may have
-abbrev pub IsRowLiteral : Literal → Type 0
-IsRowLiteral (literal.Text bytes) = IsText bytes
-IsRowLiteral other = Unit {0}
-
--- the literals of a sample are values that a row may have
-abbrev pub HasRowValues : Form → Type 0
-HasRowValues (form.Sample values) = All IsRowLiteral values
-HasRowValues other = Unit {0}
-
--- What a line has to be for a draft to take it.
-abbrev pub CanAdd : Draft → Form → Type 0
-CanAdd draft (form.Database name) = Unit {0}
-CanAdd draft (form.Author key) = Unit {0}
-CanAdd draft (form.Table name deletable owned) = IsTrue (is_a_name name)
-CanAdd draft (form.Column name kind null) = IsTrue (is_a_name name) × AreBounds kind
-CanAdd draft (form.Ref name table act null) = IsTrue (is_a_name name)
-CanAdd draft (form.Check tokens) = CanBuild draft (form.Check tokens)
-CanAdd draft (form.Match column cmp reference target) = Unit {0}
-CanAdd draft (form.Unique column) = Unit {0}
-CanAdd draft (form.AtMost count) = (pos 1 ≤ℤ count) × (count ≤ℤ pos 64)
-CanAdd draft (form.Sample values) = All IsRowLiteral values

@@ -1,7 +1,6 @@
 -- What a line of each form adds to a draft.
-use Rattle.std.specs.Prelude.{◌≡◌, ℕ, nat_abs, Bool, List, [], ◌∷◌, ◌++◌, length, Option, Some, None, unwrap_or}
+use Rattle.std.specs.Prelude.{◌≡◌, ℕ, nat_abs, Bool, List, [], ◌∷◌, ◌++◌, Option, Some, None, unwrap_or}
 use Rattle.row_check.specs.declared.cmp.Cmp.{Cmp}
-use Rattle.text_words.specs.declared.literal.Literal.{Literal}
 use Rattle.expression_text.specs.declared.token.Token.{Token}
 use Rattle.expression_text.specs.Trees.{Tree}
 use Rattle.schema.specs.declared.action.Action.{Action}
@@ -9,12 +8,14 @@ use Rattle.schema.specs.declared.column.Column.{Column}
 use Rattle.schema.specs.declared.column.ColumnKind.TheVariants as kind
 use Rattle.schema.specs.declared.draft.Draft.{Draft}
 use Rattle.schema.specs.declared.draft.Phase.TheVariants as phase
+use Rattle.schema.specs.declared.form.SampleValue.{SampleValue}
 use Rattle.schema.specs.declared.form.Form.{Form}
 use Rattle.schema.specs.declared.form.Form.TheVariants as form
 use Rattle.schema.specs.declared.rules.MatchRule.{MatchRule}
 use Rattle.schema.specs.Columns.{names_of, number_named, reference_named}
 use Rattle.schema.specs.Faults.{Means}
-use Rattle.schema.specs.Drafts.{no_table, table_at, table_named, kind_declared, with_column, with_rules}
+use Rattle.schema.specs.Drafts.{table_at, table_named, kind_declared, with_column, with_rules}
+use Rattle.schema.specs.Numbers.{no_table}
 use Rattle.schema.specs.Rows.{sample_row}
 
 -- the number of the column with this name, which is there
@@ -51,7 +52,7 @@ abbrev pub with_unique : ℕ → Draft → List ℕ → Draft
 with_unique line draft column = with_rules draft (record draft.table { uniques = draft.table.uniques ++ record { column = number_of draft.table.columns column; line = line } ∷ [] })
 
 -- the table that has begun ends with this sample
-abbrev pub with_sample : Draft → List Literal → Draft
+abbrev pub with_sample : Draft → List SampleValue → Draft
 with_sample draft values = record draft {
   phase = phase.Between;
   tables = draft.tables ++ record draft.table { sample = sample_row draft.table.columns values } ∷ [];

@@ -7,20 +7,20 @@ ghost use Rattle.schema.specs.Columns.{names_of};
 ghost use Rattle.text_words.specs.Names.{is_a_name};
 ghost use Rattle.schema.specs.Drafts.{kind_declared, with_column};
 ghost use Rattle.schema.specs.Faults.{AreBounds};
-ghost use Rattle.schema.specs.Sound.{IsDraft, CanAdd, IsRowLiteral};
+ghost use Rattle.schema.specs.Kept.{IsDraft, CanAdd, IsRowValue};
 ghost use Rattle.schema.specs.Steps.{IsAfter, IsCheckAdded, number_of, target_number, match_rule, with_match, with_unique, with_sample, with_table};
 
 use crate::draft::{Draft, Phase, no_table};
-use crate::form::{Form, PlainKind};
+use crate::form::{Form, PlainKind, SampleValue};
 use crate::lookups::{columns_at, number_named, reference_named, table_named};
 use crate::names::names_of;
 use crate::samples::sample_row;
-use crate::{CheckRule, Column, ColumnKind, MatchRule, UniqueRule};
+use crate::{CheckRule, Column, ColumnKind, MAX_COLUMNS, MAX_TOKENS, MatchRule, UniqueRule};
 use expression_text::{Token, build};
 use row_check::Cmp;
 use std::alloc::{AllocError, Global};
 use std::mem;
-use text_words::{ByteString, Literal};
+use text_words::ByteString;
 use update_model::{TextValue, ValueList};
 
 impl Draft {
@@ -111,8 +111,8 @@ impl Draft {
     }
 
     fn add_check(&mut self, alloc: Global, line: u32, tokens: &[Token]) -> Result<(), AllocError>
-        requires few { length self.old.table.columns ≤ 16 }
-        requires short { length tokens.now ≤ 256 }
+        requires few { length self.old.table.columns ≤ MAX_COLUMNS }
+        requires short { length tokens.now ≤ MAX_TOKENS }
         requires expression { IsExpression tokens.now }
         requires known { All (IsKnown (names_of self.old.table.columns)) tokens.now }
         requires texts { All HasRowText tokens.now }
@@ -174,7 +174,7 @@ impl Draft {
     }
 
     fn add_unique(&mut self, line: u32, column: &[u8]) -> Result<(), AllocError>
-        requires { length self.old.table.columns ≤ 16 }
+        requires { length self.old.table.columns ≤ MAX_COLUMNS }
         ensures { OnOk result (self.new ≡ with_unique line self.old column.now) }
     {
         let column = number_of(self.table.columns.as_slice(), column);
@@ -183,8 +183,8 @@ impl Draft {
     }
 
     /// Ends the table that has begun with this sample.
-    fn end_table(&mut self, alloc: Global, values: &[Literal]) -> Result<(), AllocError>
-        requires { All IsRowLiteral values.now }
+    fn end_table(&mut self, alloc: Global, values: &[SampleValue]) -> Result<(), AllocError>
+        requires { All IsRowValue values.now }
         ensures { OnOk result (self.new ≡ with_sample self.old values.now) }
     {
         let row = sample_row(alloc, self.table.columns.as_slice(), values)?;
@@ -205,7 +205,7 @@ fn text_of(name: ByteString) -> TextValue
 
 /// The number of the column with this name, which is there.
 fn number_of(columns: &[Column], name: &[u8]) -> u8
-    requires { length columns.now ≤ 16 }
+    requires { length columns.now ≤ MAX_COLUMNS }
     ensures { result ≡ number_of columns.now name.now }
 {
     number_named(columns, name).unwrap_or(0) as u8

@@ -1,5 +1,6 @@
 ghost use Rattle.std.specs.Prelude.{◌≡◌};
-ghost use Rattle.schema.specs.Drafts.{start, no_table, is_turn, is_between, has_columns};
+ghost use Rattle.schema.specs.Numbers.{no_table};
+ghost use Rattle.schema.specs.Drafts.{start, is_turn, is_between, has_columns};
 
 use crate::draft_lists::{AuthorList, TableList};
 use crate::form::Form;

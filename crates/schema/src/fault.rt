@@ -2,37 +2,49 @@ ghost use Rattle.std.specs.Prelude.{◌≡◌};
 ghost use Rattle.schema.specs.declared.fault.SchemaError.TheVariants.{Memory};
 
 use std::alloc::{AllocError, AllocFailed};
-use thiserror::Error;
+use std::error::Error;
+use std::fmt;
 
 /// What is wrong with a text that declares no schema.
-#[derive(Clone, Copy, Debug, PartialEq, Eq, Hash, Error)]
+#[derive(Clone, Copy, Debug, PartialEq, Eq, Hash)]
 pub enum SchemaKind {
     /// A line has none of the forms, or it is not the turn of such a line, or the text ends too early.
-    #[error("line")]
     Line,
     /// A word is no name, a name is taken already, or there is no such column.
-    #[error("name")]
     Name,
     /// Bounds or kinds that do not go together.
-    #[error("type")]
     WrongType,
     /// A reference to no table that it may refer to, or without the NULL that it needs.
-    #[error("target")]
     Target,
     /// A `MATCH` along a `RESTRICT` reference.
-    #[error("match")]
     MatchKind,
     /// A sample that does not fit the table, or for which a `CHECK` or a `MATCH` is false.
-    #[error("sample")]
     BadSample,
     /// Too much of something.
-    #[error("limit")]
     Limit,
 }
 
-/// The first fault of a text that declares no schema.
-#[derive(Clone, Copy, Debug, PartialEq, Eq, Hash, Error)]
-#[error("line {line}: {kind}")]
+impl fmt::Display for SchemaKind {
+    ghost use Rattle.std.specs.Prelude.{Some};
+    ghost use Rattle.schema.specs.Words.{kind_word};
+
+    ghost output = { λ kind. Some (kind_word kind) };
+
+    fn fmt<W: fmt::Write>(&self, f: &mut fmt::Formatter<W>) -> fmt::Result {
+        f.write_str(match self {
+            SchemaKind::Line => "line",
+            SchemaKind::Name => "name",
+            SchemaKind::WrongType => "type",
+            SchemaKind::Target => "target",
+            SchemaKind::MatchKind => "match",
+            SchemaKind::BadSample => "sample",
+            SchemaKind::Limit => "limit",
+        })
+    }
+}
+
+/// The first fault of a text that declares no schema. It prints as `line 3: name`.
+#[derive(Clone, Copy, Debug, PartialEq, Eq, Hash)]
 pub struct SchemaFault {
     /// What is wrong.
     pub kind: SchemaKind,
@@ -41,8 +53,23 @@ pub struct SchemaFault {
     pub line: u32,
 }
 
+impl fmt::Display for SchemaFault {
+    ghost use Rattle.std.specs.Prelude.{Some};
+    ghost use Rattle.schema.specs.Words.{fault_words};
+
+    ghost output = { λ fault. Some (fault_words fault) };
+
+    fn fmt<W: fmt::Write>(&self, f: &mut fmt::Formatter<W>) -> fmt::Result {
+        let line = self.line;
+        let kind = self.kind;
+        write!(f, "line {line}: {kind}")
+    }
+}
+
+impl Error for SchemaFault {}
+
 /// Why no schema was read.
-#[derive(Clone, Copy, Debug, PartialEq, Eq, Hash, Error)]
+#[derive(Clone, Copy, Debug, PartialEq, Eq, Hash, thiserror::Error)]
 pub enum SchemaError {
     /// The text declares none.
     #[error("{0}")]

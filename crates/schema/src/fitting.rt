@@ -1,13 +1,26 @@
-ghost use Rattle.std.specs.Prelude.{◌≡◌, ◌↔◌, IsTrue};
-ghost use Rattle.schema.specs.Columns.{FitsColumn, FitsKind};
+ghost use Rattle.std.specs.Prelude.{◌≡◌};
+ghost use Rattle.schema.specs.Columns.{all_fit, fits, fits_kind};
 
 use crate::{Column, ColumnKind};
 use update_model::Value;
 
+/// Whether there is a value for each column, and each may stand in it.
+pub fn all_fit(columns: &[Column], values: &[Value]) -> bool
+    ensures { result ≡ all_fit columns.now values.now }
+{
+    match columns {
+        [] => values.is_empty(),
+        [column, columns @ ..] => match values {
+            [] => false,
+            [value, values @ ..] => fits_column(column, value) && all_fit(columns, values),
+        },
+    }
+}
+
 /// Whether a value may stand in a column: null where it may have none, else a value of its kind and within its bounds.
 /// Every name of a row may stand in a reference.
 pub fn fits_column(column: &Column, value: &Value) -> bool
-    ensures { IsTrue result ↔ FitsColumn column.now value.now }
+    ensures { result ≡ fits column.now value.now }
 {
     match value {
         Value::Null => column.null,
@@ -19,7 +32,7 @@ pub fn fits_column(column: &Column, value: &Value) -> bool
 
 /// Whether a value that is not null is of a kind and within its bounds.
 fn fits_kind(kind: &ColumnKind, value: &Value) -> bool
-    ensures { IsTrue result ↔ FitsKind kind.now value.now }
+    ensures { result ≡ fits_kind kind.now value.now }
 {
     match (kind, value) {
         (ColumnKind::Int { lo, hi }, Value::Int(n)) => *lo <= *n && *n <= *hi,

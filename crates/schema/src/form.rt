@@ -1,8 +1,8 @@
 use crate::Action;
-use crate::word_lists::{LiteralList, TokenList};
+use crate::word_lists::{SampleList, TokenList};
 use row_check::Cmp;
-use text_words::ByteString;
-use update_model::AuthorKey;
+use text_words::{ByteString, Literal};
+use update_model::{AuthorKey, RowName};
 
 /// What a line says. Names are any words here: whether they are names is judged later.
 #[derive(Debug, Drop)]
@@ -55,7 +55,7 @@ pub(crate) enum Form {
     },
     /// `SAMPLE value ..`
     Sample {
-        values: LiteralList,
+        values: SampleList,
     },
 }
 
@@ -65,4 +65,11 @@ pub(crate) enum PlainKind {
     Int { lo: i64, hi: i64 },
     Text { lo: i64, hi: i64 },
     Flag,
+}
+
+/// A value as a `SAMPLE` writes it, with a text of whatever length. The name of a row is one, though no plain column has it.
+#[derive(Debug, Drop)]
+pub(crate) enum SampleValue {
+    Literal(Literal),
+    Row(RowName),
 }

@@ -3,9 +3,9 @@
 ghost use Rattle.std.specs.Prelude.{◌≡◌, ◌↔◌, ℕ, All, IsTrue, IfOk, IsUtf8, option_map};
 ghost use Rattle.schema.specs.Forms.{HasUtf8, HasUtf8Text, IsWhole, IsForm, author_form, author_in, kind_in, at_most_form, after_check, check_form, column_form, database_form, form_at, form_with, match_form, plain_form, ref_form, sample_form, table_form, unique_form};
 
-use crate::form::{Form, PlainKind};
+use crate::form::{Form, PlainKind, SampleValue};
 use crate::keyword::Keyword;
-use crate::word_lists::{LiteralList, TokenList};
+use crate::word_lists::{SampleList, TokenList};
 use crate::words::{
     action_in, bounds_in, is_word, key_in, keyword_in, null_at_end, number_in, path_in, rights_in,
     sign_in, spelled, values_of,
@@ -63,18 +63,18 @@ fn has_utf8_text(token: &Token) -> bool
     }
 }
 
-fn are_utf8_values(values: &[Literal]) -> bool
+fn are_utf8_values(values: &[SampleValue]) -> bool
     ensures { IsTrue result ↔ All HasUtf8 values.now }
 {
     values.iter().all(|value| has_utf8(value))
 }
 
-fn has_utf8(value: &Literal) -> bool
+fn has_utf8(value: &SampleValue) -> bool
     ensures { IsTrue result ↔ HasUtf8 value.now }
 {
     match value {
-        Literal::Text(bytes) => is_utf8(bytes.as_slice()),
-        Literal::Null | Literal::Integer(_) | Literal::Flag(_) => true,
+        SampleValue::Literal(Literal::Text(bytes)) => is_utf8(bytes.as_slice()),
+        _ => true,
     }
 }
 
@@ -305,7 +305,7 @@ fn sample_form(alloc: Global, words: &[Word]) -> Result<Option<Form>, AllocError
 {
     match values_of(alloc, words)? {
         Some(values) => Ok(Some(Form::Sample {
-            values: LiteralList::from_vec(values),
+            values: SampleList::from_vec(values),
         })),
         None => Ok(None),
     }

@@ -6,13 +6,13 @@ ghost use Rattle.expression_text.specs.Columns.{IsKnown, HasRowText};
 ghost use Rattle.expression_text.specs.Grammar.{IsExpression};
 ghost use Rattle.schema.specs.Columns.{is_set_null, is_restrict, is_reference, is_comparable, are_comparable, kind_seen, kinds_of, names_of};
 ghost use Rattle.schema.specs.Faults.{HasTarget, HasGoodTarget, IsTyped, AreBounds, IsTypedCheck, IsTypedMatch, IsTypedUnique, IsMatchable, MayMatch};
-ghost use Rattle.schema.specs.Sound.{CanBuild};
+ghost use Rattle.schema.specs.Kept.{CanBuild};
 
 use crate::draft::Draft;
 use crate::form::{Form, PlainKind};
 use crate::lookups::{column_named, columns_at, reference_named, table_named};
 use crate::names::names_of;
-use crate::{Action, Column, ColumnKind};
+use crate::{Action, Column, ColumnKind, MAX_COLUMNS, MAX_TOKENS};
 use expression_text::{Kind, Token, build, has_kinds, one_expression};
 use std::alloc::{AllocError, Global};
 use update_model::AuthorKey;
@@ -103,8 +103,8 @@ fn are_bounds(kind: &PlainKind) -> bool
 
 /// Whether an expression reads plain columns and compares values of one kind.
 fn is_typed_check(alloc: Global, columns: &[Column], tokens: &[Token]) -> Result<bool, AllocError>
-    requires few { length columns.now ≤ 16 }
-    requires short { length tokens.now ≤ 256 }
+    requires few { length columns.now ≤ MAX_COLUMNS }
+    requires short { length tokens.now ≤ MAX_TOKENS }
     requires expression { IsExpression tokens.now }
     requires known { All (IsKnown (names_of columns.now)) tokens.now }
     requires texts { All HasRowText tokens.now }

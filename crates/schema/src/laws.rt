@@ -2,6 +2,7 @@
 
 ghost use Rattle.std.specs.Prelude.{◌≡◌, ℕ, List};
 ghost use Rattle.schema.specs.declared.fault.SchemaKind.{SchemaKind};
+ghost use Rattle.schema.specs.Samples.{SamplesPass};
 ghost use Rattle.schema.specs.Schemas.{Meaning, SchemaData, Declares, FirstFault};
 ghost use Rattle.schema.specs.Sound.{IsSchema};
 
@@ -34,6 +35,13 @@ pub fn no_fault()
 /// Every schema that a text declares keeps what [`crate::Schema`] promises.
 pub fn declared_is_sound()
     ensures { (relation : Meaning) (text : List ℕ) (schema : SchemaData) → Declares relation text schema → IsSchema schema }
+{
+    one_expression();
+}
+
+/// The samples of a schema that a text declares pass under the meaning of native checks under which it is declared.
+pub fn declared_samples_pass()
+    ensures { (relation : Meaning) (text : List ℕ) (schema : SchemaData) → Declares relation text schema → SamplesPass relation schema.tables }
 {
     one_expression();
 }

@@ -19,20 +19,19 @@
 //!
 //! What a text declares is a relation over its lines (`Declares` in specs/Schemas): the form of a line, whose turn it
 //! is, what it adds, and what each kind of fault asks of it, apart from the code that reads. No rows are kept here, and
-//! no invariant is judged: a schema that is read may still be refused for its invariants.
+//! no invariant is judged (crate `table_model`): a schema that is read may still be refused for its invariants.
 #![tactic(auto)]
 
 mod action;
 mod adding;
+mod checks;
 mod column;
-mod counterexample;
 mod draft;
 mod draft_lists;
 mod fault;
 mod fitting;
 mod form;
 mod forms;
-mod invariant;
 mod keyword;
 mod kinds;
 mod laws;
@@ -40,48 +39,26 @@ mod limits;
 mod lists;
 mod lookups;
 mod names;
-mod node_list;
 mod reading;
 mod rules;
 mod samples;
 mod schema;
-mod shown_row;
-mod shown_row_list;
 mod table_def;
-mod table_laws;
-#[cfg(test)]
-mod table_tests;
-#[cfg(test)]
-mod tests;
-mod verdict;
-mod void_line;
-mod void_list;
 mod word_lists;
 mod words;
 
 pub use action::Action;
+pub use checks::{check_holds, checks_hold};
 pub use column::{Column, ColumnKind};
-pub use counterexample::Counterexample;
 pub use fault::{SchemaError, SchemaFault, SchemaKind};
-pub use fitting::fits_column;
-pub use invariant::{Invariant, InvariantKind};
-pub use laws::{declared_is_sound, no_fault, one_fault, one_schema};
+pub use fitting::{all_fit, fits_column};
+pub use laws::{declared_is_sound, declared_samples_pass, no_fault, one_fault, one_schema};
+pub use limits::{
+    MAX_AUTHORS, MAX_CHECKS, MAX_COLUMNS, MAX_MATCHES, MAX_ROWS, MAX_SCHEMA_BYTES, MAX_TABLES,
+    MAX_TOKENS,
+};
 pub use lists::{CheckList, ColumnList, MatchList, UniqueList};
-pub use node_list::NodeList;
 pub use reading::read_schema;
 pub use rules::{CheckRule, MatchRule, UniqueRule};
 pub use schema::Schema;
-pub use shown_row::ShownRow;
-pub use shown_row_list::ShownRowList;
 pub use table_def::TableDef;
-pub use table_laws::{
-    accepted_holds, accepted_is_confluent, arrivals_are_closed, confirmed_refutes,
-    declared_samples_pass, effects_one_by_one, first_refused_is_confirmed,
-    invariants_are_of_the_set, judged_one_by_one, shown_rows_fit, tables_are_of_the_set,
-    union_is_closed, union_is_of_both, unlimited_tables_hold, verdict_goes_by_operations,
-    verdict_is_on_ancestors, verdicts_are_of_the_set, visible_is_shown,
-    visible_rows_are_of_the_set,
-};
-pub use verdict::Verdict;
-pub use void_line::VoidLine;
-pub use void_list::VoidList;

@@ -1,13 +1,37 @@
 ghost use Rattle.std.specs.Prelude.{◌≡◌, ◌==◌, ◌↔◌, IsTrue, All};
 ghost use Rattle.std.specs.List.{list_any};
-ghost use Rattle.schema.specs.Faults.{IsWithinLimits, IsShort, MayHaveMore, AreFewAndShort, HasShortName, HasShortLiteral, is_unique, is_overlong};
+ghost use Rattle.schema.specs.Faults.{IsWithinLimits, IsShort, MayHaveMore, AreFewAndShort, HasShortName, HasShortValue, is_unique, is_overlong};
 
 use crate::draft::Draft;
-use crate::form::Form;
+use crate::form::{Form, SampleValue};
 use crate::lookups::number_named;
 use crate::{Column, TableDef, UniqueRule};
 use expression_text::{Token, are_short_texts};
 use text_words::{Literal, has_name_letters};
+
+/// The most bytes of a text.
+pub const MAX_SCHEMA_BYTES: usize = 65536;
+
+/// The most authors that a schema lists.
+pub const MAX_AUTHORS: usize = 256;
+
+/// The most tables of a schema.
+pub const MAX_TABLES: usize = 16;
+
+/// The most columns of a table.
+pub const MAX_COLUMNS: usize = 16;
+
+/// The most `CHECK` lines of a table.
+pub const MAX_CHECKS: usize = 16;
+
+/// The most `MATCH` lines of a table.
+pub const MAX_MATCHES: usize = 16;
+
+/// The most words of an expression, with `(`, `)` and `,` counted.
+pub const MAX_TOKENS: usize = 256;
+
+/// The most rows that an `ATMOST` may name.
+pub const MAX_ROWS: i64 = 64;
 
 /// Whether nothing in a line is too many, too long or there twice.
 pub(crate) fn is_within_limits(draft: &Draft, form: &Form) -> bool
@@ -18,15 +42,15 @@ pub(crate) fn is_within_limits(draft: &Draft, form: &Form) -> bool
         Form::Database { name } => is_short(name.as_slice()),
         Form::Author { key } => {
             let authors = draft.authors.as_slice();
-            authors.len() < 256 && !authors.contains(key)
+            authors.len() < MAX_AUTHORS && !authors.contains(key)
         }
         Form::Table { name, .. } => {
-            draft.tables.as_slice().len() < 16 && is_short(name.as_slice())
+            draft.tables.as_slice().len() < MAX_TABLES && is_short(name.as_slice())
         }
         Form::Column { name, .. } => may_have_more(table.columns.as_slice(), name.as_slice()),
         Form::Ref { name, .. } => may_have_more(table.columns.as_slice(), name.as_slice()),
         Form::Check { tokens } => {
-            table.checks.as_slice().len() < 16 && are_few_and_short(tokens.as_slice())
+            table.checks.as_slice().len() < MAX_CHECKS && are_few_and_short(tokens.as_slice())
         }
         Form::Match {
             column,
@@ -34,7 +58,7 @@ pub(crate) fn is_within_limits(draft: &Draft, form: &Form) -> bool
             target_column,
             ..
         } => {
-            table.matches.as_slice().len() < 16
+            table.matches.as_slice().len() < MAX_MATCHES
                 && is_short(column.as_slice())
                 && is_short(reference.as_slice())
                 && is_short(target_column.as_slice())
@@ -46,8 +70,8 @@ pub(crate) fn is_within_limits(draft: &Draft, form: &Form) -> bool
                     number_named(table.columns.as_slice(), column.as_slice()),
                 )
         }
-        Form::AtMost { count } => 1 <= *count && *count <= 64 && table.at_most == 0,
-        Form::Sample { values } => are_short_literals(values.as_slice()),
+        Form::AtMost { count } => 1 <= *count && *count <= MAX_ROWS && table.at_most == 0,
+        Form::Sample { values } => are_short_values(values.as_slice()),
     }
 }
 
@@ -55,7 +79,7 @@ pub(crate) fn is_within_limits(draft: &Draft, form: &Form) -> bool
 fn may_have_more(columns: &[Column], name: &[u8]) -> bool
     ensures { IsTrue result ↔ MayHaveMore columns.now name.now }
 {
-    columns.len() < 16 && is_short(name)
+    columns.len() < MAX_COLUMNS && is_short(name)
 }
 
 /// Whether bytes are no name that is too long.
@@ -65,11 +89,11 @@ fn is_short(name: &[u8]) -> bool
     name.len() <= 32 || !has_name_letters(name)
 }
 
-/// Whether an expression has at most 256 tokens, and no text or name in it is too long.
+/// Whether an expression has not too many tokens, and no text or name in it is too long.
 fn are_few_and_short(tokens: &[Token]) -> bool
     ensures { IsTrue result ↔ AreFewAndShort tokens.now }
 {
-    tokens.len() <= 256 && are_short_texts(tokens) && are_short_names(tokens)
+    tokens.len() <= MAX_TOKENS && are_short_texts(tokens) && are_short_names(tokens)
 }
 
 fn are_short_names(tokens: &[Token]) -> bool
@@ -87,18 +111,18 @@ fn has_short_name(token: &Token) -> bool
     }
 }
 
-fn are_short_literals(literals: &[Literal]) -> bool
-    ensures { IsTrue result ↔ All HasShortLiteral literals.now }
+fn are_short_values(values: &[SampleValue]) -> bool
+    ensures { IsTrue result ↔ All HasShortValue values.now }
 {
-    literals.iter().all(|literal| is_short_literal(literal))
+    values.iter().all(|value| is_short_value(value))
 }
 
-fn is_short_literal(literal: &Literal) -> bool
-    ensures { IsTrue result ↔ HasShortLiteral literal.now }
+fn is_short_value(value: &SampleValue) -> bool
+    ensures { IsTrue result ↔ HasShortValue value.now }
 {
-    match literal {
-        Literal::Text(text) => text.as_slice().len() <= 1024,
-        Literal::Null | Literal::Integer(_) | Literal::Flag(_) => true,
+    match value {
+        SampleValue::Literal(Literal::Text(text)) => text.as_slice().len() <= 1024,
+        _ => true,
     }
 }
 

@@ -8,7 +8,7 @@ ghost use Rattle.schema.specs.Schemas.{Declares, FirstFault, SchemaData, Leads, 
 ghost use Rattle.text_words.specs.Words.{passed_over};
 ghost use Rattle.schema.specs.Forms.{HasForm, IsWhole};
 ghost use Rattle.schema.specs.declared.fault.SchemaError.TheVariants.{Fault, Memory};
-ghost use Rattle.schema.specs.Sound.{IsDraft};
+ghost use Rattle.schema.specs.Kept.{IsDraft};
 
 use crate::draft::Draft;
 use crate::form::Form;
@@ -17,7 +17,7 @@ use crate::kinds::{has_target, is_matchable, is_typed};
 use crate::limits::is_within_limits;
 use crate::names::is_named;
 use crate::samples::has_sample;
-use crate::{Schema, SchemaError, SchemaFault, SchemaKind, no_fault, one_schema};
+use crate::{MAX_SCHEMA_BYTES, Schema, SchemaError, SchemaFault, SchemaKind, no_fault, one_schema};
 use expression_text::one_expression;
 use row_check::{Checks, Native, Relation};
 use sha2::{Digest, Sha256};
@@ -25,13 +25,10 @@ use std::alloc::{AllocError, Global};
 use text_words::{is_passed_over, next_line};
 use update_model::{ByteList, DbRule, KeyList};
 
-/// How many bytes a text may have.
-const MAX_BYTES: usize = 65536;
-
 /// The schema that a text declares.
 ///
 /// A fault is the first one: the first line that has one, and in a line the first kind in the order Line, Limit, Name,
-/// Target, WrongType, MatchKind, BadSample. A text of more than 65,536 bytes is Limit at line 0. Samples are tested by
+/// Target, WrongType, MatchKind, BadSample. A text of more than [`MAX_SCHEMA_BYTES`] is Limit at line 0. Samples are tested by
 /// these native checks. The time is linear in the text.
 pub fn read_schema<L: Relation, C: Checks<L>>(
     alloc: Global,
@@ -42,7 +39,7 @@ pub fn read_schema<L: Relation, C: Checks<L>>(
     ensures only { (schema : SchemaData) → Declares L.answer text.now schema → Answers result schema }
     ensures fault { IfErr result (λ error. HasCause L.answer text.now error) }
 {
-    if MAX_BYTES < text.len() {
+    if MAX_SCHEMA_BYTES < text.len() {
         return Err(fault(SchemaKind::Limit, 0));
     }
     one_schema();
@@ -83,7 +80,7 @@ fn read_lines<L: Relation, C: Checks<L>>(
     text: &[u8],
     native: &Native<L, C>,
 ) -> Result<Draft, SchemaError>
-    requires { length text.now ≤ 65536 }
+    requires { length text.now ≤ MAX_SCHEMA_BYTES }
     ensures found { IfOk result (λ draft. LeadOn L.answer 1 start (lines_of text.now) draft) }
     ensures complete { IfOk result (λ draft. IsComplete draft) }
     ensures sound { IfOk result (λ draft. IsDraft draft) }

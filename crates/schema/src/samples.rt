@@ -1,21 +1,18 @@
 //! Samples: the rows that they are, and whether they hold.
 
 ghost use Rattle.std.specs.Prelude.{◌≡◌, ◌↔◌, ◌≤◌, length, IsTrue, IfOk, All};
-ghost use Rattle.std.specs.List.{AllByRecursion};
-ghost use Rattle.expression_text.specs.Trees.{holds_tree};
-ghost use Rattle.schema.specs.Columns.{FitsSampleAt};
-ghost use Rattle.schema.specs.Faults.{HasSample, IsSample};
-ghost use Rattle.schema.specs.Rows.{sample_row, value_written, value_at_column, values_after, plain_count, FitsSample, passes_checks, passes_matches, matches_target};
-ghost use Rattle.schema.specs.Sound.{IsDraft, IsSoundCheck, IsRowLiteral, HasRowValues};
+ghost use Rattle.schema.specs.Faults.{HasSample, IsSample, matches_target, passes_matches};
+ghost use Rattle.schema.specs.Rows.{sample_row, value_written, value_at_column, values_after, plain_count, fits_sample, fits_sample_at};
+ghost use Rattle.schema.specs.Kept.{IsDraft, IsRowValue, HasRowValues};
 
+use crate::checks::checks_hold;
 use crate::draft::Draft;
 use crate::fitting::fits_column;
-use crate::form::Form;
+use crate::form::{Form, SampleValue};
 use crate::kinds::is_reference;
 use crate::lookups::{reference_at, table_at};
-use crate::{Action, CheckRule, Column, MatchRule};
-use expression_text::{kinds_fit_rows, trees_hold};
-use row_check::{Checks, Native, Relation, compare, eval};
+use crate::{Action, Column, MatchRule};
+use row_check::{Checks, Native, Relation, compare};
 use std::alloc::{AllocError, Global};
 use text_words::Literal;
 use update_model::{TextValue, Value};
@@ -49,9 +46,9 @@ pub(crate) fn has_sample<L: Relation, C: Checks<L>>(
 pub(crate) fn sample_row(
     alloc: Global,
     columns: &[Column],
-    values: &[Literal],
+    values: &[SampleValue],
 ) -> Result<Vec<Value>, AllocError>
-    requires { All IsRowLiteral values.now }
+    requires { All IsRowValue values.now }
     ensures { IfOk result (λ row. row.items ≡ sample_row columns.now values.now) }
 {
     let mut row = Vec::with_capacity(alloc, columns.len())?;
@@ -68,12 +65,12 @@ pub(crate) fn sample_row(
 fn next_value<'a>(
     alloc: Global,
     column: &Column,
-    values: &'a [Literal],
-) -> Result<(Value, &'a [Literal]), AllocError>
-    requires { All IsRowLiteral values.now }
+    values: &'a [SampleValue],
+) -> Result<(Value, &'a [SampleValue]), AllocError>
+    requires { All IsRowValue values.now }
     ensures value { IfOk result (λ read. read.0 ≡ value_at_column column.now values.now) }
     ensures rest { IfOk result (λ read. read.1.now ≡ values_after column.now values.now) }
-    ensures texts { IfOk result (λ read. All IsRowLiteral read.1.now) }
+    ensures texts { IfOk result (λ read. All IsRowValue read.1.now) }
 {
     if is_reference(&column.kind) {
         return Ok((Value::Null, values));
@@ -84,18 +81,19 @@ fn next_value<'a>(
     }
 }
 
-/// The value that a literal writes.
-fn value_written(alloc: Global, literal: &Literal) -> Result<Value, AllocError>
-    requires { IsRowLiteral literal.now }
-    ensures { IfOk result (λ value. value ≡ value_written literal.now) }
+/// The value that a word writes.
+fn value_written(alloc: Global, written: &SampleValue) -> Result<Value, AllocError>
+    requires { IsRowValue written.now }
+    ensures { IfOk result (λ value. value ≡ value_written written.now) }
 {
-    Ok(match literal {
-        Literal::Null => Value::Null,
-        Literal::Integer(n) => Value::Int(*n),
-        Literal::Text(text) => {
+    Ok(match written {
+        SampleValue::Literal(Literal::Null) => Value::Null,
+        SampleValue::Literal(Literal::Integer(n)) => Value::Int(*n),
+        SampleValue::Literal(Literal::Text(text)) => {
             Value::Text(TextValue::from_vec(Vec::from_slice(alloc, text.as_slice())?))
         }
-        Literal::Flag(flag) => Value::Flag(*flag),
+        SampleValue::Literal(Literal::Flag(flag)) => Value::Flag(*flag),
+        SampleValue::Row(name) => Value::Row(*name),
     })
 }
 
@@ -128,18 +126,16 @@ fn is_sample<L: Relation, C: Checks<L>>(
     ensures { IfOk result (λ answer. IsTrue answer ↔ IsSample L.answer draft.now row.now) }
 {
     let columns = draft.table.columns.as_slice();
-    if !fits_sample(columns, row) {
-        return Ok(false);
-    }
     Ok(
-        passes_checks(alloc, native, columns, draft.table.checks.as_slice(), row)?
+        fits_sample(columns, row)
+            && checks_hold(alloc, native, columns, draft.table.checks.as_slice(), row)?
             && passes_matches(draft, row),
     )
 }
 
 /// Whether a row has what fits in each column of a sample.
 fn fits_sample(columns: &[Column], row: &[Value]) -> bool
-    ensures { IsTrue result ↔ FitsSample columns.now row.now }
+    ensures { result ≡ fits_sample columns.now row.now }
 {
     match columns {
         [] => row.is_empty(),
@@ -151,51 +147,13 @@ fn fits_sample(columns: &[Column], row: &[Value]) -> bool
 }
 
 fn fits_sample_at(column: &Column, value: &Value) -> bool
-    ensures { IsTrue result ↔ FitsSampleAt column.now value.now }
+    ensures { result ≡ fits_sample_at column.now value.now }
 {
     if is_reference(&column.kind) {
         matches!(value, Value::Null)
     } else {
         fits_column(column, value)
     }
-}
-
-/// Whether every CHECK is true of a row that fits.
-fn passes_checks<L: Relation, C: Checks<L>>(
-    alloc: Global,
-    native: &Native<L, C>,
-    columns: &[Column],
-    checks: &[CheckRule],
-    row: &[Value],
-) -> Result<bool, AllocError>
-    requires sound { AllByRecursion (IsSoundCheck columns.now) checks.now }
-    requires fits { FitsSample columns.now row.now }
-    ensures { IfOk result (λ answer. answer ≡ passes_checks L.answer checks.now row.now) }
-{
-    for check in checks {
-        let passes = passes_check(alloc, native, columns, check, row)?;
-        if !passes {
-            return Ok(false);
-        }
-    }
-    Ok(true)
-}
-
-/// Whether a CHECK is true of a row that fits.
-fn passes_check<L: Relation, C: Checks<L>>(
-    alloc: Global,
-    native: &Native<L, C>,
-    columns: &[Column],
-    check: &CheckRule,
-    row: &[Value],
-) -> Result<bool, AllocError>
-    requires sound { IsSoundCheck columns.now check.now }
-    requires fits { FitsSample columns.now row.now }
-    ensures { IfOk result (λ answer. answer ≡ holds_tree L.answer row.now check.now.tree) }
-{
-    kinds_fit_rows();
-    trees_hold();
-    eval(alloc, &check.expr, row, native)
 }
 
 /// Whether every MATCH is true of a row beside the samples of its targets.

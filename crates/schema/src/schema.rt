@@ -19,7 +19,7 @@ pub struct Schema {
 }
 
 impl Model for Schema {
-    ghost use Rattle.schema.specs.Schemas.{SchemaData};
+    ghost use Rattle.schema.specs.Data.{SchemaData};
 
     ghost Value = { SchemaData };
 

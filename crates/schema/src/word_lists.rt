@@ -2,9 +2,9 @@
 
 ghost use Rattle.std.specs.Prelude.{◌≡◌};
 
+use crate::form::SampleValue;
 use expression_text::Token;
 use std::marker::Model;
-use text_words::Literal;
 
 /// A list of tokens of an expression. A contract sees the list of its items.
 #[derive(Debug, Drop)]
@@ -37,33 +37,33 @@ impl TokenList {
     }
 }
 
-/// A list of values that words write. A contract sees the list of its items.
+/// A list of values of a `SAMPLE`. A contract sees the list of its items.
 #[derive(Debug, Drop)]
-pub(crate) struct LiteralList {
-    literals: Vec<Literal>,
+pub(crate) struct SampleList {
+    values: Vec<SampleValue>,
 }
 
-impl Model for LiteralList {
+impl Model for SampleList {
     ghost use Rattle.std.specs.Prelude.{List};
-    ghost use Rattle.text_words.specs.declared.literal.Literal.{Literal};
+    ghost use Rattle.schema.specs.declared.form.SampleValue.{SampleValue};
 
-    ghost Value = { List Literal };
+    ghost Value = { List SampleValue };
 
-    ghost view = { λ list. list.literals.items };
+    ghost view = { λ list. list.values.items };
 }
 
-impl LiteralList {
+impl SampleList {
     /// Takes over a vector.
-    pub(crate) fn from_vec(literals: Vec<Literal>) -> Self
-        ensures { result ≡ literals.items }
+    pub(crate) fn from_vec(values: Vec<SampleValue>) -> Self
+        ensures { result ≡ values.items }
     {
-        LiteralList { literals }
+        SampleList { values }
     }
 
     /// Lends the items.
-    pub(crate) fn as_slice(&self) -> &[Literal]
+    pub(crate) fn as_slice(&self) -> &[SampleValue]
         ensures { result.now ≡ self.now }
     {
-        self.literals.as_slice()
+        self.values.as_slice()
     }
 }

@@ -2,15 +2,16 @@
 
 ghost use Rattle.std.specs.Prelude.{◌≡◌, ◌==◌, ◌<◌, ◌∷◌, length, position, IfOk, IfSome, option_map};
 ghost use Rattle.text_words.specs.Literals.{value_of};
-ghost use Rattle.schema.specs.Forms.{is_word, spelled, number_in, sign_in, action_in, null_at_end, key_in, rights_in, bounds_in, path_in, values_of, keyword_of, keyword_in};
+ghost use Rattle.schema.specs.Forms.{is_word, spelled, number_in, sign_in, action_in, null_at_end, key_in, rights_in, bounds_in, path_in, values_of, value_in, row_in, keyword_of, keyword_in};
 
 use crate::Action;
+use crate::form::SampleValue;
 use crate::keyword::Keyword;
 use byteorder::{BigEndian, ByteOrder};
 use row_check::Cmp;
 use std::alloc::{AllocError, Global};
-use text_words::{ByteString, Literal, Word, integer_of, literal_of};
-use update_model::AuthorKey;
+use text_words::{ByteString, Literal, Word, integer_of, literal_of, row_name_of};
+use update_model::{AuthorKey, RowName, UpdateId};
 
 /// Whether a word is this one.
 pub(crate) fn is_word(text: &[u8], word: &Word) -> bool
@@ -149,12 +150,15 @@ fn dot_in(path: &[u8]) -> Option<usize>
 }
 
 /// The values that words write, where each writes one.
-pub(crate) fn values_of(alloc: Global, words: &[Word]) -> Result<Option<Vec<Literal>>, AllocError>
+pub(crate) fn values_of(
+    alloc: Global,
+    words: &[Word],
+) -> Result<Option<Vec<SampleValue>>, AllocError>
     ensures { IfOk result (λ found. option_map (λ values. values.items) found ≡ values_of words.now) }
 {
     let mut values = Vec::with_capacity(alloc, words.len())?;
     for word in words {
-        match value_of(alloc, word)? {
+        match value_in(alloc, word)? {
             Some(value) => values.push(value)?,
             None => return Ok(None),
         }
@@ -162,7 +166,33 @@ pub(crate) fn values_of(alloc: Global, words: &[Word]) -> Result<Option<Vec<Lite
     Ok(Some(values))
 }
 
-/// The value that a word writes.
+/// The value that a word writes, names of rows included.
+fn value_in(alloc: Global, word: &Word) -> Result<Option<SampleValue>, AllocError>
+    ensures { IfOk result (λ found. found ≡ value_in word.now) }
+{
+    Ok(match value_of(alloc, word)? {
+        Some(literal) => Some(SampleValue::Literal(literal)),
+        None => row_in(word),
+    })
+}
+
+/// The name of a row that a word writes.
+fn row_in(word: &Word) -> Option<SampleValue>
+    ensures { result ≡ row_in word.now }
+{
+    match word {
+        Word::Plain(bytes) => {
+            let (update, index) = row_name_of(bytes.as_slice())?;
+            Some(SampleValue::Row(RowName {
+                update: UpdateId(update),
+                index,
+            }))
+        }
+        _ => None,
+    }
+}
+
+/// The literal that a word writes.
 fn value_of(alloc: Global, word: &Word) -> Result<Option<Literal>, AllocError>
     ensures { IfOk result (λ found. found ≡ value_of word.now) }
 {

@@ -1,6 +1,6 @@
 -- Tables that are printed one after another.
 use Rattle.std.proofs.Common.{◌≡◌, ℕ, zero, suc, ◌+◌, ◌<◌, List, [], ◌∷◌, ◌++◌, length, take, Option, Some, None, slice_get, refl, sym, ap, ◌∙◌, append-nil, append_assoc, arith}
-use Rattle.schema.specs.declared.shown_row.ShownRow.{ShownRow}
+use Rattle.table_model.specs.declared.shown_row.ShownRow.{ShownRow}
 use Rattle.schema.specs.declared.table_def.TableDef.{TableDef}
 use Rattle.table_text.specs.Tables.{table_text, pair_text, filled_text}
 

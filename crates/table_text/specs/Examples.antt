@@ -5,7 +5,7 @@ use Rattle.std.specs.List.{flat_map}
 use Rattle.update_model.specs.Node.{NodeData}
 use Rattle.update_model.specs.declared.op.Op.{Op}
 use Rattle.update_model.specs.declared.update_id.UpdateId.{UpdateId}
-use Rattle.schema.specs.declared.counterexample.Counterexample.{Counterexample}
+use Rattle.table_model.specs.declared.counterexample.Counterexample.{Counterexample}
 use Rattle.schema.specs.declared.table_def.TableDef.{TableDef}
 use Rattle.table_text.specs.declared.name_style.NameStyle.TheVariants.{Short}
 use Rattle.table_text.specs.Names.{number_of}

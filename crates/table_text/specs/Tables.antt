@@ -2,9 +2,9 @@
 use Rattle.std.specs.Prelude.{ℕ, List, [], ◌∷◌, ◌++◌, Option, Some, None, codes}
 use Rattle.std.specs.Fmt.{decimal}
 use Rattle.std.specs.List.{flat_map}
-use Rattle.schema.specs.declared.shown_row.ShownRow.{ShownRow}
+use Rattle.table_model.specs.declared.shown_row.ShownRow.{ShownRow}
 use Rattle.schema.specs.declared.table_def.TableDef.{TableDef}
-use Rattle.schema.specs.declared.void_line.VoidLine.{VoidLine}
+use Rattle.table_model.specs.declared.void_line.VoidLine.{VoidLine}
 use Rattle.table_text.specs.declared.name_style.NameStyle.TheVariants.{Full}
 use Rattle.table_text.specs.Names.{id_text, name_text}
 use Rattle.table_text.specs.Values.{values_text}

@@ -5,8 +5,9 @@ use crate::NameStyle;
 use crate::names::number_of;
 use crate::numbers::push_number;
 use crate::operations::push_operation;
-use schema::{Counterexample, Schema};
+use schema::Schema;
 use std::alloc::AllocError;
+use table_model::Counterexample;
 use update_model::{Node, Op, UpdateId};
 
 /// Adds a counterexample at the end: a line for each operation, with its side `BASE`, `A` or `B`, the number of its

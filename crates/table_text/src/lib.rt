@@ -19,8 +19,6 @@ mod names;
 mod numbers;
 mod operations;
 mod tables;
-#[cfg(test)]
-mod tests;
 mod values;
 
 pub use examples::push_counterexample;

@@ -6,8 +6,9 @@ use crate::NameStyle;
 use crate::names::{push_id, push_row_name};
 use crate::numbers::push_number;
 use crate::values::push_values;
-use schema::{Schema, ShownRow, ShownRowList, TableDef, VoidLine};
+use schema::{Schema, TableDef};
 use std::alloc::AllocError;
+use table_model::{ShownRow, ShownRowList, VoidLine};
 
 /// Adds the tables of a schema at the end, each with the rows of the list that has its number, and then the updates that
 /// do nothing. A table without a list is not printed, nor is a list without a table.

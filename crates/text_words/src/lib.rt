@@ -29,8 +29,6 @@ mod printing;
 mod quoting;
 mod splitting;
 mod style;
-#[cfg(test)]
-mod tests;
 mod word;
 
 pub use byte_string::ByteString;

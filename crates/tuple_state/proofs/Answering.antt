@@ -1,20 +1,24 @@
 -- What is answered of the rows visible after an update's ancestors.
-use Rattle.std.proofs.Common.{◌≡◌, ℕ, Bool, true, false, cond, List, [], ◌∷◌, refl, ap, ◌∙◌, subst}
-use Rattle.std.specs.Prelude.{filter, Contains}
+use Rattle.std.proofs.Common.{◌≡◌, ℕ, Bool, true, false, cond, List, [], ◌∷◌, map, refl, sym, ap, ◌∙◌, subst, Some}
+use Rattle.std.specs.Prelude.{count_by, filter, slice_get, Contains}
 use Rattle.std.specs.List.{AllByRecursion}
 use Rattle.std.proofs.lemmas.Bool.{both_ways, or_parts}
 use Rattle.std.proofs.lemmas.List.Elements.{All-contains, All-from_recursion}
 use Rattle.update_model.specs.declared.row_name.RowName.{RowName}
 use Rattle.update_model.specs.Node.{NodeData}
-use Rattle.schema.specs.Verdicts.{ancestor_of, effects, judged}
-use Rattle.schema.specs.Visible.{Effects, Rules, TableRow, is_visible, same_row, visible_rows}
-use Rattle.schema.proofs.Standing.{row_from_same, same_row-refl, each-map}
-use Rattle.validity.specs.Answers.{AreAnswers, entry_in, has_child_in}
+use Rattle.table_model.specs.Verdicts.{ancestor_of, effects, in_table, judged}
+use Rattle.table_model.specs.Visible.{Effects, Rules, TableRow, is_visible, same_row, visible_rows}
+use Rattle.table_model.proofs.Standing.{row_from_same, same_row-refl, each-map}
+use Rattle.validity.specs.Answers.{AreAnswers, entry_in, equal_in, has_child_in}
 use Rattle.tuple_state.specs.Kept.{are_layered, is_named}
-use Rattle.tuple_state.specs.Past.{IsPastOf, child_then, done_then, row_then, visible_then}
-use Rattle.tuple_state.specs.State.{IsStateOf, State, rules_of}
-use Rattle.tuple_state.proofs.Layers.{layer_parts, same_child, same_layered, same_rows}
-use Rattle.tuple_state.proofs.Lookups.{columns_same}
+use Rattle.tuple_state.specs.declared.inserted.Inserted.{Inserted}
+use Rattle.tuple_state.specs.Past.{IsPastOf, child_then, count_then, done_then, equal_then, row_then, visible_then}
+use Rattle.tuple_state.specs.State.{IsStateOf, State, done_in, row_of, rules_of}
+use Rattle.tuple_state.proofs.Lasting.{visible_before}
+use Rattle.tuple_state.proofs.Layers.{Stands, each_stands, layer_parts, same_child, same_layered, same_rows, same_visible}
+use Rattle.tuple_state.proofs.Lookups.{columns_same, visible_now}
+use Rattle.tuple_state.proofs.Reaching.{filtered_at}
+use Rattle.tuple_state.proofs.Regrowth.{each_back}
 use Rattle.tuple_state.proofs.Pasts.{done_past, layered_past}
 
 none_named : (older : List TableRow) (name : RowName) → is_named older name ≡ false → AllByRecursion (λ b. same_row b.name name ≡ false) older
@@ -73,9 +77,22 @@ module _ (rules : Rules) (nodes : List NodeData) (node : NodeData) (state : Stat
   rows_is : visible_then state past ≡ visible_rows rules ancestors_did
   rows_is = same_rows (columns_same rules nodes state held) (done_then state past) ∙ ap (visible_rows rules) done_is
 
-  pub answers_then : AreAnswers rules ancestors_did (row_then state past) (child_then state past)
+  -- what is visible now is visible then, where an ancestor inserted it
+  pub lasts_then : (place : ℕ) (it : Inserted) → slice_get state.inserted place ≡ Some it → past it.position ≡ true → is_visible (rules_of state) (done_in state) it.name ≡ true
+      → is_visible (rules_of state) (done_then state past) it.name ≡ true
+  lasts_then place it at here seen =
+      let same = columns_same rules nodes state held in
+      let stands = filtered_at (Stands (done_then state past).inserted) (λ (x : Inserted). past x.position) state.inserted place it
+      (each_back (Stands (done_then state past).inserted) (map row_of (filter (λ (x : Inserted). past x.position) state.inserted)) (each_stands (rules_of state) (done_then state past).inserted layered_then)) at here in
+      same_visible same (done_then state past) it.name ∙ ap (λ (g : Effects). is_visible rules g it.name) done_is
+      ∙ visible_before rules nodes node held.closed it.name (sym (visible_now rules nodes state held it.name) ∙ seen)
+      (ap (λ (g : Effects). is_named g.inserted it.name) (sym done_is) ∙ stands.here (λ row. same_row row.name it.name) (same_row-refl it.name))
+
+  pub answers_then : AreAnswers rules ancestors_did (row_then state past) (child_then state past) (equal_then state past) (count_then state past)
   answers_then = record {
     once = visible_once rules ancestors_did (layered_past rules nodes node held.closed);
     row = λ name. ap (λ rows. entry_in rows name) rows_is;
+    equal = λ table column value. ap (λ rows. equal_in rows table column value) rows_is;
+    number = λ table. ap (count_by (in_table table)) rows_is;
     child = λ name. same_child (columns_same rules nodes state held) (visible_then state past) name ∙ ap (λ rows. has_child_in rules rows name) rows_is;
   }

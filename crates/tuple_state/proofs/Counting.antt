@@ -4,7 +4,7 @@ use Rattle.std.specs.Prelude.{slice_get, filter, count_by, Result, IfOk}
 use Rattle.std.proofs.lemmas.Bool.{both_ways}
 use Rattle.std.proofs.lemmas.List.{take_all}
 use Rattle.std.proofs.lemmas.List.Sums.{count_by_more_no, count_by_more_yes, sum_by-cons, sum_by_push}
-use Rattle.schema.specs.Visible.{TableRow, is_deleted, is_visible}
+use Rattle.table_model.specs.Visible.{TableRow, is_deleted, is_visible}
 use Rattle.tuple_state.specs.declared.inserted.Inserted.{Inserted}
 use Rattle.tuple_state.specs.Kept.{are_layered}
 use Rattle.tuple_state.specs.Past.{done_then, visible_then}

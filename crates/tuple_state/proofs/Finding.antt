@@ -4,8 +4,8 @@ use Rattle.std.specs.Prelude.{slice_get, filter, find, option_map}
 use Rattle.std.specs.List.{list_any, AllByRecursion}
 use Rattle.std.proofs.lemmas.Bool.{both_ways, and_from}
 use Rattle.update_model.specs.declared.row_name.RowName.{RowName}
-use Rattle.schema.specs.Visible.{TableRow, is_deleted, is_visible, same_row}
-use Rattle.schema.proofs.Standing.{row_from_same, same_row-refl, each-map}
+use Rattle.table_model.specs.Visible.{TableRow, is_deleted, is_visible, same_row}
+use Rattle.table_model.proofs.Standing.{row_from_same, same_row-refl, each-map}
 use Rattle.validity.specs.Answers.{entry_of_row}
 use Rattle.tuple_state.specs.declared.inserted.Inserted.{Inserted}
 use Rattle.tuple_state.specs.Kept.{are_layered, place_of}

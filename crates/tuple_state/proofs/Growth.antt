@@ -4,9 +4,9 @@ use Rattle.std.specs.List.{list_any, list_all, AllByRecursion}
 use Rattle.std.proofs.lemmas.Bool.{and_parts, and_from, both_ways, not-true, not_from_false, or_parts, or_from, false_from_ne_true, and_right}
 use Rattle.std.proofs.lemmas.List.Folds.{list_any-append}
 use Rattle.update_model.specs.declared.row_name.RowName.{RowName}
-use Rattle.schema.specs.Visible.{Rules, TableRow, Effects, same_row, cascade_refs, is_visible, is_deleted}
-use Rattle.schema.proofs.Standing.{row_from_same, same_row-refl, any_each, all_both}
-use Rattle.schema.proofs.SameTables.{each-left, each-right}
+use Rattle.table_model.specs.Visible.{Rules, TableRow, Effects, same_row, cascade_refs, is_visible, is_deleted}
+use Rattle.table_model.proofs.Standing.{row_from_same, same_row-refl, any_each, all_both}
+use Rattle.table_model.proofs.SameTables.{each-left, each-right}
 use Rattle.tuple_state.specs.Kept.{are_layered, is_named}
 use Rattle.tuple_state.proofs.Layers.{Stands, each_stands, layer_parts, row_visible}
 

@@ -1,6 +1,6 @@
 -- What tables keep after one more update.
 use Rattle.std.proofs.Common.{◌≡◌, ℕ, suc, ◌+◌, ◌<◌, ◌≤◌, Bool, true, false, not, ◌&&◌, ◌⊎◌, List, [], ◌∷◌, ◌++◌, length, get_or, map, reverse, replicate, length-append, refl, ap, ◌∙◌, Some, arith}
-use Rattle.std.specs.Prelude.{slice_get}
+use Rattle.std.specs.Prelude.{is_some, slice_get}
 use Rattle.std.specs.List.{list_any, list_all}
 use Rattle.std.specs.BTreeMap.{get, BTreeMap}
 use Rattle.std.proofs.lemmas.Bool.{and_parts}
@@ -9,19 +9,22 @@ use Rattle.update_model.specs.declared.op.Op.{Op}
 use Rattle.update_model.specs.declared.op.Op.TheVariants.{Insert, Delete}
 use Rattle.update_model.specs.declared.row_name.RowName.{RowName}
 use Rattle.update_model.specs.Node.{IsNode, NodeData}
-use Rattle.schema.specs.declared.verdict.Verdict.{Verdict}
-use Rattle.schema.specs.declared.verdict.Verdict.TheVariants as verdict
-use Rattle.schema.specs.Tables.{name_cmp}
-use Rattle.schema.specs.Verdicts.{effects_after, effects_in, effects_of, nothing, row_inserted}
-use Rattle.schema.specs.Visible.{Effects, Rules, is_visible, same_row, table_of}
-use Rattle.schema.proofs.Order.{any_weaker}
-use Rattle.schema.proofs.Founded.{all_weaker, erasable, founded_closed}
+use Rattle.table_model.specs.declared.verdict.Verdict.{Verdict}
+use Rattle.table_model.specs.declared.verdict.Verdict.TheVariants as verdict
+use Rattle.table_model.specs.Tables.{name_cmp}
+use Rattle.table_model.specs.Verdicts.{effects_after, effects_in, effects_of, nothing, row_inserted}
+use Rattle.table_model.specs.Visible.{Effects, Rules, is_visible, same_row, table_of}
+use Rattle.table_model.proofs.Order.{any_weaker}
+use Rattle.table_model.proofs.Founded.{all_weaker, erasable, founded_closed}
 use Rattle.tuple_state.specs.declared.dropped.Dropped.{Dropped}
 use Rattle.tuple_state.specs.declared.inserted.Inserted.{Inserted}
-use Rattle.tuple_state.specs.Kept.{IsKept, are_layered, is_named, place_of}
+use Rattle.tuple_state.specs.Kept.{IsKept, are_layered, deletes_at, is_named, pairs_of, place_of}
+use Rattle.tuple_state.specs.Links.{Linked}
 use Rattle.tuple_state.specs.Parents.{Continues}
 use Rattle.tuple_state.specs.Past.{IsNextVerdict}
 use Rattle.tuple_state.specs.State.{IsStateOf, State, after, done_in, dropped_at, inserted_at, rules_of, state_of}
+use Rattle.tuple_state.proofs.Fronts.{bounded_next, dated_next}
+use Rattle.tuple_state.proofs.Deleting.{deleted_next, drops_found}
 use Rattle.tuple_state.proofs.Effects.{count_is}
 use Rattle.tuple_state.proofs.Layers.{layered_founded, same_layered}
 use Rattle.tuple_state.proofs.Lookups.{columns_same, did_same}
@@ -54,13 +57,13 @@ few_inserted node number did (Delete name ∷ ops) = let rest = few_inserted nod
 pub count_next : (state : State) (node : NodeData) (v : Verdict) → IsNextVerdict state node v → state.count < 131072
 count_next state node v next = let c = ap (λ (s : State). s.count) next.is.is ∙ count_is next.rules next.nodes in omega (arith, c, next.few)
 
-marks_are : (rows : List Inserted) (shown : List Bool) (f : Inserted → Bool) → length shown ≡ length rows → ((k : ℕ) (it : Inserted) → slice_get rows k ≡ Some it → get_or shown k false ≡ f it) → shown ≡ map f rows
+pub marks_are : (rows : List Inserted) (shown : List Bool) (f : Inserted → Bool) → length shown ≡ length rows → ((k : ℕ) (it : Inserted) → slice_get rows k ≡ Some it → get_or shown k false ≡ f it) → shown ≡ map f rows
 marks_are [] [] f len h = refl
 marks_are [] (b ∷ shown) f len h = absurd (omega (arith, len))
 marks_are (row ∷ rows) [] f len h = absurd (omega (arith, len))
 marks_are (row ∷ rows) (b ∷ shown) f len h = λ i. h 0 row refl i ∷ marks_are rows shown f (omega (arith, len)) (λ k it at. h (suc k) it at) i
 
-module _ (state : State) (node : NodeData) (places : BTreeMap RowName ℕ) (shown : List Bool) (kept : IsKept state places shown) (next : IsNextVerdict state node verdict.Valid) where
+module _ (state : State) (node : NodeData) (places : BTreeMap RowName ℕ) (shown : List Bool) (deleters : Linked) (kept : IsKept state places shown deleters) (next : IsNextVerdict state node verdict.Valid) where
   abbrev news : List Inserted
   news = map (inserted_at state.count) (reverse (effects_of node).inserted)
 
@@ -80,6 +83,10 @@ module _ (state : State) (node : NodeData) (places : BTreeMap RowName ℕ) (show
       let f = few_inserted node 0 nothing node.ops in
       omega (arith, a, b, f, small)
 
+  -- what it deletes is there
+  pub drops_there : list_all (λ (d : Dropped). is_some (place_of (state.inserted ++ news) d.name)) drops ≡ true
+  drops_there = drops_found (state.inserted ++ news) state.dropped drops (homed_now next.rules (node ∷ next.nodes) (after state node verdict.Valid) (state_next state node verdict.Valid next))
+
   -- what is kept after a valid update
   pub kept_next : IsNode node → (after_places : BTreeMap RowName ℕ) (m : ℕ) (marked : List Bool)
       → ((name : RowName) → get name_cmp after_places name ≡ place_of (state.inserted ++ news) name)
@@ -88,12 +95,16 @@ module _ (state : State) (node : NodeData) (places : BTreeMap RowName ℕ) (show
       → ((k : ℕ) (it : Inserted) → slice_get (state.inserted ++ news) k ≡ Some it → get_or hidden k false ≡ (get_or (shown ++ replicate m true) k false && not (list_any (λ (d : Dropped). same_row d.name it.name) drops)))
       → Continues (rules_of state) (state.inserted ++ news) from hidden test) → (k : ℕ) (it : Inserted) → slice_get (state.inserted ++ news) k ≡ Some it → get_or marked k false ≡ test it.name)
       → length marked ≡ length (state.inserted ++ news)
-      → IsKept (after state node verdict.Valid) after_places marked
-  kept_next small after_places m marked placed enough marks len = record {
+      → (after_deleters : Linked) → after_deleters.size ≡ deleters.size + length news → pairs_of after_deleters.links ≡ pairs_of deleters.links ++ deletes_at (place_of (state.inserted ++ news)) drops
+      → IsKept (after state node verdict.Valid) after_places marked after_deleters
+  kept_next small after_places m marked placed enough marks len after_deleters rooms added = record {
     few = omega (arith, count_few);
-    bounded = let l = length-append state.inserted news in omega (arith, l, news_few small, kept.bounded);
+    bounded = λ len. bounded_next state.inserted (reverse (effects_of node).inserted) state.count len kept.dated kept.bounded (news_few small);
+    dated = dated_next state.inserted (reverse (effects_of node).inserted) state.count kept.dated;
     layered = layered_next;
     placed = placed;
+    rooms = let l = length-append state.inserted news in omega (arith, rooms, kept.rooms, l);
+    deleted = deleted_next state.inserted news state.dropped drops deleters.links after_deleters.links kept.deleted added;
     marked = marks_are (state.inserted ++ news) marked (λ it. is_visible (rules_of state) (done_in (after state node verdict.Valid)) it.name) len
         (marks (is_visible (rules_of state) (done_in (after state node verdict.Valid)))
         (λ from hidden start hid. continues state.columns state.inserted news state.dropped drops from m shown hidden layered_next (homed_now next.rules next.nodes state next.is) kept.marked enough hid start));

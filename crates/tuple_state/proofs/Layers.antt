@@ -8,11 +8,12 @@ use Rattle.update_model.specs.declared.value.Value.{Value}
 use Rattle.schema.specs.declared.column.Column.{Column}
 use Rattle.schema.specs.declared.table_def.TableDef.{TableDef}
 use Rattle.schema.specs.Columns.{is_restrict}
-use Rattle.schema.specs.Visible.{Rules, TableRow, RowRef, Effects, same_row, table_of, missing_table, refs, refs_in, is_cascade, cascade_refs, shows, visible_to, is_visible, is_deleted, visible_rows}
-use Rattle.schema.specs.Verdicts.{stands_among}
-use Rattle.schema.proofs.Order.{any_weaker}
-use Rattle.schema.proofs.Founded.{all_weaker, IsFounded, Founded}
-use Rattle.schema.proofs.Standing.{row_from_same, same_row-refl, each-map, any_each, all_both, all_filtered, deeper}
+use Rattle.schema.specs.Numbers.{no_table}
+use Rattle.table_model.specs.Visible.{Rules, TableRow, RowRef, Effects, same_row, table_of, refs, refs_in, is_cascade, cascade_refs, shows, visible_to, is_visible, is_deleted, visible_rows}
+use Rattle.table_model.specs.Verdicts.{stands_among}
+use Rattle.table_model.proofs.Order.{any_weaker}
+use Rattle.table_model.proofs.Founded.{all_weaker, IsFounded, Founded}
+use Rattle.table_model.proofs.Standing.{row_from_same, same_row-refl, each-map, any_each, all_both, all_filtered, deeper}
 use Rattle.tuple_state.specs.Kept.{are_layered, is_named}
 
 bool_same : (a b : Bool) → (a ≡ true → b ≡ true) → (b ≡ true → a ≡ true) → a ≡ b
@@ -172,15 +173,15 @@ module _ {r q : Rules} (s : SameColumns r q) where
   same_child rows name = λ i. list_any (λ row. list_any (λ x. is_restrict x.action && same_row x.name name) (same_refs row i)) rows
 
 same_at : (tables : List TableDef) (number : ℕ)
-    → (unwrap_or (slice_get (map (λ (columns : List Column). record missing_table { columns = columns }) (map (λ (table : TableDef). table.columns) tables)) number) missing_table).columns
-    ≡ (unwrap_or (slice_get tables number) missing_table).columns
+    → (unwrap_or (slice_get (map (λ (columns : List Column). record no_table { columns = columns }) (map (λ (table : TableDef). table.columns) tables)) number) no_table).columns
+    ≡ (unwrap_or (slice_get tables number) no_table).columns
 same_at [] number = refl
 same_at (table ∷ tables) zero = refl
 same_at (table ∷ tables) (suc number) = same_at tables number
 
 -- rules made of the columns of others alone
 pub same_columns : (rules : Rules) (columns : List (List Column)) (ask : ℕ → List Value → Bool) → columns ≡ map (λ (table : TableDef). table.columns) rules.tables
-    → SameColumns (record { tables = map (λ (c : List Column). record missing_table { columns = c }) columns; ask = ask }) rules
+    → SameColumns (record { tables = map (λ (c : List Column). record no_table { columns = c }) columns; ask = ask }) rules
 same_columns rules columns ask is = record {
-  at = λ number. ap (λ (l : List (List Column)). (unwrap_or (slice_get (map (λ (c : List Column). record missing_table { columns = c }) l) number) missing_table).columns) is ∙ same_at rules.tables number;
+  at = λ number. ap (λ (l : List (List Column)). (unwrap_or (slice_get (map (λ (c : List Column). record no_table { columns = c }) l) number) no_table).columns) is ∙ same_at rules.tables number;
 }

@@ -1,12 +1,16 @@
 pub mod Answering
 pub mod Counting
+pub mod Fronts
+pub mod Deleting
 pub mod Dropping
 pub mod Effects
 pub mod Emptiness
 pub mod Finding
 pub mod Growth
 pub mod Keeping
+pub mod Lasting
 pub mod Layers
+pub mod Linking
 pub mod Listing
 pub mod Lookups
 pub mod Marking
@@ -16,6 +20,7 @@ pub mod Reaching
 pub mod Regrowth
 pub mod Restricting
 pub mod Rising
+pub mod Shortening
 pub mod Starting
 pub mod Stepping
 pub mod Voiding

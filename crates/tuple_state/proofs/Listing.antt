@@ -16,10 +16,10 @@ use Rattle.update_model.specs.declared.value.Value.TheVariants as value
 use Rattle.update_model.specs.Node.{NodeData}
 use Rattle.schema.specs.declared.column.Column.{Column}
 use Rattle.schema.specs.declared.column.ColumnKind.{ColumnKind}
-use Rattle.schema.specs.declared.shown_row.ShownRow.{ShownRow}
-use Rattle.schema.specs.Tables.{AreRowsIn, listed, listed_in, name_cmp}
-use Rattle.schema.specs.Verdicts.{in_table}
-use Rattle.schema.specs.Visible.{Effects, Rules, TableRow, is_visible, same_row, shown, shown_rows, shown_value, shown_values, table_of}
+use Rattle.table_model.specs.declared.shown_row.ShownRow.{ShownRow}
+use Rattle.table_model.specs.Tables.{AreRowsIn, listed, listed_in, name_cmp}
+use Rattle.table_model.specs.Verdicts.{in_table}
+use Rattle.table_model.specs.Visible.{Effects, Rules, TableRow, is_visible, same_row, shown, shown_rows, shown_value, shown_values, table_of}
 use Rattle.tuple_state.specs.declared.inserted.Inserted.{Inserted}
 use Rattle.tuple_state.specs.Kept.{are_layered, is_named, place_of}
 use Rattle.tuple_state.specs.Parents.{columns_at}

@@ -7,9 +7,9 @@ use Rattle.std.proofs.lemmas.List.Folds.{list_any-append}
 use Rattle.update_model.specs.declared.row_name.RowName.{RowName}
 use Rattle.update_model.specs.Node.{NodeData}
 use Rattle.update_model.proofs.Closed.{is_some-position}
-use Rattle.schema.specs.Visible.{Rules, TableRow, Effects, same_row, is_visible}
-use Rattle.schema.specs.Verdicts.{effects_in}
-use Rattle.schema.proofs.Standing.{row_from_same}
+use Rattle.table_model.specs.Visible.{Rules, TableRow, Effects, same_row, is_visible}
+use Rattle.table_model.specs.Verdicts.{effects_in}
+use Rattle.table_model.proofs.Standing.{row_from_same}
 use Rattle.tuple_state.specs.declared.inserted.Inserted.{Inserted}
 use Rattle.tuple_state.specs.State.{IsStateOf, State, done_in, row_of, rules_of}
 use Rattle.tuple_state.specs.Kept.{is_named, place_of}

@@ -19,9 +19,10 @@ use Rattle.schema.specs.declared.action.Action.{Action}
 use Rattle.schema.specs.declared.column.Column.{Column}
 use Rattle.schema.specs.declared.column.ColumnKind.{ColumnKind}
 use Rattle.schema.specs.Columns.{target_of}
-use Rattle.schema.specs.Tables.{name_cmp}
-use Rattle.schema.specs.Visible.{Rules, TableRow, RowRef, same_row, refs_in, ref_in, ref_to, is_cascade, cascade_refs, missing_table}
-use Rattle.schema.proofs.Standing.{row_from_same, same_row-refl}
+use Rattle.table_model.specs.Tables.{name_cmp}
+use Rattle.schema.specs.Numbers.{no_table}
+use Rattle.table_model.specs.Visible.{Rules, TableRow, RowRef, same_row, refs_in, ref_in, ref_to, is_cascade, cascade_refs}
+use Rattle.table_model.proofs.Standing.{row_from_same, same_row-refl}
 use Rattle.tuple_state.specs.declared.inserted.Inserted.{Inserted}
 use Rattle.tuple_state.specs.Kept.{are_layered, is_named, place_of}
 use Rattle.tuple_state.specs.Parents.{AreFresh, Continues, all_parents, columns_at, mark_at, name_by_cascade, parent_in, passes}
@@ -189,7 +190,7 @@ parents_are test (column ∷ columns) (v ∷ values) =
     ∙ list_all-append (λ (r : RowRef). test r.name) (filter (λ (r : RowRef). is_cascade r.action) (ref_in column.kind v)) (filter (λ (r : RowRef). is_cascade r.action) (refs_in columns values))
     ∙ (λ i. one_parent test column.kind v i && parents_are test columns values i)
 
-pub columns_there : (columns : List (List Column)) (number : ℕ) → (unwrap_or (slice_get (map (λ (list : List Column). record missing_table { columns = list }) columns) number) missing_table).columns ≡ columns_at columns number
+pub columns_there : (columns : List (List Column)) (number : ℕ) → (unwrap_or (slice_get (map (λ (list : List Column). record no_table { columns = list }) columns) number) no_table).columns ≡ columns_at columns number
 columns_there [] number = refl
 columns_there (list ∷ columns) zero = refl
 columns_there (list ∷ columns) (suc number) = columns_there columns number

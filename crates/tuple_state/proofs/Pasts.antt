@@ -11,14 +11,14 @@ use Rattle.update_model.specs.Entry.{same_id}
 use Rattle.update_model.specs.Graph.{has}
 use Rattle.update_model.specs.Node.{NodeData}
 use Rattle.update_model.proofs.Ids.{id_from_same, same_id-refl}
-use Rattle.schema.specs.declared.verdict.Verdict.{Verdict}
-use Rattle.schema.specs.declared.verdict.Verdict.TheVariants as verdict
-use Rattle.schema.specs.Nodes.{holds, IsClosed}
-use Rattle.schema.specs.Verdicts.{Judged, ancestor_of, effects, effects_of, is_valid, joined, judge_next, judged, verdict_on}
-use Rattle.schema.specs.Visible.{Effects, Rules, TableRow}
-use Rattle.schema.proofs.Order.{any_weaker, ancestors_held, at_id}
-use Rattle.schema.proofs.Founded.{founded_closed, all_weaker}
-use Rattle.schema.proofs.Standing.{any_each, each-map}
+use Rattle.table_model.specs.declared.verdict.Verdict.{Verdict}
+use Rattle.table_model.specs.declared.verdict.Verdict.TheVariants as verdict
+use Rattle.table_model.specs.Nodes.{holds, IsClosed}
+use Rattle.table_model.specs.Verdicts.{Judged, ancestor_of, effects, effects_of, is_valid, joined, judge_next, judged, verdict_on}
+use Rattle.table_model.specs.Visible.{Effects, Rules, TableRow}
+use Rattle.table_model.proofs.Order.{any_weaker, ancestors_held, at_id}
+use Rattle.table_model.proofs.Founded.{founded_closed, all_weaker}
+use Rattle.table_model.proofs.Standing.{any_each, each-map}
 use Rattle.tuple_state.specs.declared.inserted.Inserted.{Inserted}
 use Rattle.tuple_state.specs.declared.dropped.Dropped.{Dropped}
 use Rattle.tuple_state.specs.Kept.{are_layered}
@@ -193,7 +193,7 @@ module _ (rules : Rules) where
     pub layered_kept : (nodes : List NodeData) → IsClosed nodes → KeepsPreds keep (judged rules nodes) → are_layered rules (effects (kept (judged rules nodes))).inserted ≡ true
     layered_kept nodes c k =
         let it = kept_closed nodes c k in
-        layered_founded rules _ (subst (λ (js : List Judged). Rattle.schema.proofs.Founded.Founded rules (effects js).inserted) it.is (founded_closed rules (chosen nodes) it.closed).founded)
+        layered_founded rules _ (subst (λ (js : List Judged). Rattle.table_model.proofs.Founded.Founded rules (effects js).inserted) it.is (founded_closed rules (chosen nodes) it.closed).founded)
 
 -- ---- the positions of a past
 

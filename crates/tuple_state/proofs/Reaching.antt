@@ -10,9 +10,9 @@ use Rattle.std.proofs.lemmas.List.Elements.{recursion_from_All}
 use Rattle.std.proofs.lemmas.List.Folds.{list_all-append}
 use Rattle.update_model.specs.declared.row_name.RowName.{RowName}
 use Rattle.schema.specs.declared.column.Column.{Column}
-use Rattle.schema.specs.Visible.{Effects, TableRow, cascade_refs, is_deleted, is_visible, same_row}
-use Rattle.schema.proofs.Founded.{all_weaker}
-use Rattle.schema.proofs.Standing.{row_from_same}
+use Rattle.table_model.specs.Visible.{Effects, TableRow, cascade_refs, is_deleted, is_visible, same_row}
+use Rattle.table_model.proofs.Founded.{all_weaker}
+use Rattle.table_model.proofs.Standing.{row_from_same}
 use Rattle.tuple_state.specs.declared.inserted.Inserted.{Inserted}
 use Rattle.tuple_state.specs.Kept.{are_layered, place_of}
 use Rattle.tuple_state.specs.Parents.{limit_of, passes_place, passes_row}
@@ -50,7 +50,7 @@ any_filtered_at t keep (row ∷ rows) h =
     ] in
     step (keep row) refl h
 
-and_true : (b : Bool) → (b && true) ≡ b
+pub and_true : (b : Bool) → (b && true) ≡ b
 and_true true = refl
 and_true false = refl
 
@@ -79,6 +79,9 @@ above_limit (x ∷ keys) k = let rest = above_limit keys k in omega (arith, rest
 less_tests : (keys : List ℕ) (k : ℕ) → AllByRecursion (λ q. nat_cmp q k ≡ Less) keys → list_all (λ q. nat_lt q k) keys ≡ true
 less_tests [] k h = refl
 less_tests (q ∷ keys) k h = and_from _ _ (let e = h.0 in grind (arith, nat_tests)) (less_tests keys k h.1)
+
+pub below_all : (keys : List ℕ) (place n : ℕ) → list_all (λ k. nat_lt k place) keys ≡ true → place < n → list_all (λ k. nat_lt k n) keys ≡ true
+below_all keys place n h below = all_weaker (λ k. nat_lt k place) (λ k. nat_lt k n) (λ k e. grind (arith, nat_tests)) keys h
 
 module _ (columns : List (List Column)) (rows : List Inserted) (past : ℕ → Bool) (gone : List RowName) where
   abbrev then : Effects
@@ -121,37 +124,34 @@ module _ (columns : List (List Column)) (rows : List Inserted) (past : ℕ → B
         ∙ sym (named_before columns rows all (λ name. passes_place at_place (place_of rows name)) vis place it at
         (λ j name found below. let row = row_found rows name j found in ap (passes_place at_place) found ∙ ap (passes_row vis) row.at ∙ ap vis row.name_is))
 
-    parents_below : list_all (λ r. passes_place (λ k. nat_lt k place) (place_of rows r.name)) (cascade_refs (rules_with columns) (row_of it)) ≡ true
+    pub parents_below : list_all (λ r. passes_place (λ k. nat_lt k place) (place_of rows r.name)) (cascade_refs (rules_with columns) (row_of it)) ≡ true
     parents_below =
         named_before columns rows all (λ name. passes_place (λ k. nat_lt k place) (place_of rows name)) (λ name. true) place it at
         (λ j name found below. ap (passes_place (λ k. nat_lt k place)) found ∙ (grind (arith, nat_tests)))
         ∙ always (cascade_refs (rules_with columns) (row_of it))
 
-    -- what is known of the rows that are still to be looked at
-    module _ (start : Bool) (before keys next : List ℕ) (popped : before ≡ keys ++ place ∷ []) (so : start ≡ list_all at_place before) where
-      here_is : at_place place ≡ vis it.name
-      here_is = ap (passes_row vis) at
+-- ---- one of the rows that are still to be looked at
 
-      before_is : start ≡ (list_all at_place keys && vis it.name)
-      before_is = so ∙ ap (list_all at_place) popped ∙ list_all-append at_place keys (place ∷ []) ∙ ap (λ b. list_all at_place keys && b) (and_true (at_place place) ∙ here_is)
+module _ (before keys next : List ℕ) (place : ℕ) (popped : before ≡ keys ++ place ∷ []) where
+  popped_is : (t : ℕ → Bool) → list_all t before ≡ (list_all t keys && t place)
+  popped_is t = ap (list_all t) popped ∙ list_all-append t keys (place ∷ []) ∙ ap (λ b. list_all t keys && b) (and_true (t place))
 
-      pub stop : (past it.position && not (is_deleted then it.name)) ≡ false → false ≡ start
-      stop h = sym (before_is ∙ and_right _ _ (hidden_row h))
+  pub stop : (t : ℕ → Bool) (start v : Bool) → start ≡ list_all t before → t place ≡ v → v ≡ false → false ≡ start
+  stop t start v so here hidden = sym (so ∙ popped_is t ∙ and_right _ _ (here ∙ hidden))
 
-      module _ (added : (test : ℕ → Bool) → list_all test next ≡ (list_all test keys && list_all (λ r. passes_place test (place_of rows r.name)) (cascade_refs (rules_with columns) (row_of it)))) where
-        pub go_on : (past it.position && not (is_deleted then it.name)) ≡ true → start ≡ list_all at_place next
-        go_on h = before_is ∙ ap (λ b. list_all at_place keys && b) (kept_row h) ∙ sym (added at_place)
+  pub go_on : (t : ℕ → Bool) (start v : Bool) → start ≡ list_all t before → t place ≡ v → list_all t next ≡ (list_all t keys && v) → start ≡ list_all t next
+  go_on t start v so here decides = so ∙ popped_is t ∙ ap (λ b. list_all t keys && b) here ∙ sym decides
 
-        next_below : All (λ q. nat_cmp q place ≡ Less) keys → list_all (λ k. nat_lt k place) next ≡ true
-        next_below lower = added (λ k. nat_lt k place) ∙ and_from _ _ (less_tests keys place (recursion_from_All _ keys lower)) parents_below
+  module _ (lower : All (λ q. nat_cmp q place ≡ Less) keys) (stays : list_all (λ k. nat_lt k place) keys ≡ true → list_all (λ k. nat_lt k place) next ≡ true) where
+    next_below : list_all (λ k. nat_lt k place) next ≡ true
+    next_below = stays (less_tests keys place (recursion_from_All _ keys lower))
 
-        pub shrinks : All (λ q. nat_cmp q place ≡ Less) keys → limit_of next < limit_of before
-        shrinks lower =
-            let a = below_limit next place (next_below lower) in
-            let b = above_limit keys place in
-            let c = ap limit_of popped in
-            omega (arith, a, b, c)
+    pub shrinks : limit_of next < limit_of before
+    shrinks =
+        let a = below_limit next place next_below in
+        let b = above_limit keys place in
+        let c = ap limit_of popped in
+        omega (arith, a, b, c)
 
-        pub in_range : All (λ q. nat_cmp q place ≡ Less) keys → place < length rows → list_all (λ k. nat_lt k (length rows)) next ≡ true
-        in_range lower below =
-            all_weaker (λ k. nat_lt k place) (λ k. nat_lt k (length rows)) (λ k h. grind (arith, nat_tests)) next (next_below lower)
+    pub in_range : (n : ℕ) → place < n → list_all (λ k. nat_lt k n) next ≡ true
+    in_range n below = below_all next place n next_below below

@@ -12,7 +12,7 @@ use Rattle.schema.specs.declared.action.Action.{Action}
 use Rattle.schema.specs.declared.column.Column.{Column}
 use Rattle.schema.specs.declared.column.ColumnKind.{ColumnKind}
 use Rattle.schema.specs.Columns.{is_restrict, target_of}
-use Rattle.schema.specs.Visible.{RowRef, TableRow, is_deleted, is_visible, ref_in, ref_to, refs, refs_in, same_row}
+use Rattle.table_model.specs.Visible.{RowRef, TableRow, is_deleted, is_visible, ref_in, ref_to, refs, refs_in, same_row}
 use Rattle.tuple_state.specs.declared.inserted.Inserted.{Inserted}
 use Rattle.tuple_state.specs.Kept.{are_layered}
 use Rattle.tuple_state.specs.Parents.{any_restricts, columns_at, is_row, name_by_restrict, restricts_in}

@@ -7,10 +7,10 @@ use Rattle.update_model.specs.declared.row_name.RowName.{RowName}
 use Rattle.update_model.specs.declared.update_id.UpdateId.{UpdateId}
 use Rattle.update_model.specs.Node.{NodeData}
 use Rattle.schema.specs.declared.table_def.TableDef.{TableDef}
-use Rattle.schema.specs.declared.verdict.Verdict.TheVariants as verdict
-use Rattle.schema.specs.Nodes.{holds}
-use Rattle.schema.specs.Verdicts.{effects, judge_next, judged, nothing, verdict_after, verdict_on}
-use Rattle.schema.specs.Visible.{Rules}
+use Rattle.table_model.specs.declared.verdict.Verdict.TheVariants as verdict
+use Rattle.table_model.specs.Nodes.{holds}
+use Rattle.table_model.specs.Verdicts.{effects, judge_next, judged, nothing, verdict_after, verdict_on}
+use Rattle.table_model.specs.Visible.{Rules}
 use Rattle.tuple_state.specs.Past.{IsNextVerdict, StandsAt}
 use Rattle.tuple_state.specs.State.{IsStateOf, State}
 

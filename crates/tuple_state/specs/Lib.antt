@@ -1,4 +1,5 @@
 pub mod Kept
+pub mod Links
 pub mod Parents
 pub mod Past
 pub mod Showing

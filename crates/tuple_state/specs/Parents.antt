@@ -8,7 +8,7 @@ use Rattle.schema.specs.declared.action.Action.{Action}
 use Rattle.schema.specs.declared.column.Column.{Column}
 use Rattle.schema.specs.declared.column.ColumnKind.{ColumnKind}
 use Rattle.schema.specs.Columns.{is_restrict, target_of}
-use Rattle.schema.specs.Visible.{Rules, cascade_refs, is_cascade, same_row}
+use Rattle.table_model.specs.Visible.{Rules, cascade_refs, is_cascade, same_row}
 use Rattle.tuple_state.specs.declared.inserted.Inserted.{Inserted}
 use Rattle.tuple_state.specs.State.{row_of}
 

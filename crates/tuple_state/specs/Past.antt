@@ -1,18 +1,20 @@
 -- The rows that are visible after the ancestors of one update, and what they answer.
-use Rattle.std.specs.Prelude.{◌≡◌, ℕ, ◌<◌, Bool, ◌&&◌, List, ◌∷◌, ◌++◌, count_by, filter, length, map, reverse, Option}
+use Rattle.std.specs.Prelude.{◌≡◌, ℕ, ◌<◌, Bool, true, ◌&&◌, List, ◌∷◌, ◌++◌, count_by, filter, length, map, reverse, Option, Some, slice_get}
 use Rattle.update_model.specs.declared.row_entry.RowEntry.{RowEntry}
 use Rattle.update_model.specs.declared.row_name.RowName.{RowName}
 use Rattle.update_model.specs.declared.value.Value.{Value}
 use Rattle.update_model.specs.Node.{NodeData}
 use Rattle.row_check.specs.Meaning.{value_at}
-use Rattle.schema.specs.declared.verdict.Verdict.{Verdict}
-use Rattle.schema.specs.Nodes.{IsNext}
-use Rattle.schema.specs.Verdicts.{ancestor_of, in_table, judge_next, judged}
-use Rattle.schema.specs.Visible.{Effects, Rules, TableRow, visible_rows}
+use Rattle.table_model.specs.declared.verdict.Verdict.{Verdict}
+use Rattle.table_model.specs.Nodes.{IsNext}
+use Rattle.table_model.specs.Verdicts.{ancestor_of, effects, in_table, judge_next, judged}
+use Rattle.table_model.specs.Visible.{Effects, Rules, TableRow, is_visible, visible_rows}
 use Rattle.row_check.specs.declared.cmp.Cmp.TheVariants as cmp
 use Rattle.row_check.specs.Comparisons.{compares}
 use Rattle.validity.specs.Answers.{entry_in, has_child_in}
-use Rattle.tuple_state.specs.State.{IsStateOf, State, row_of, rules_of}
+use Rattle.tuple_state.specs.declared.inserted.Inserted.{Inserted}
+use Rattle.tuple_state.specs.Parents.{passes_row}
+use Rattle.tuple_state.specs.State.{IsStateOf, State, done_in, row_of, rules_of}
 
 -- This verdict is the one on an update that is next in tables of fewer than 131,072 updates.
 pub record IsNextVerdict (state : State) (node : NodeData) (verdict : Verdict) : Type 0 where
@@ -37,12 +39,29 @@ pub record StandsAt (state : State) (past : ℕ → Bool) : Type 0 where
   pub is : IsStateOf rules nodes state
   pub past_of : IsPastOf rules nodes node past
 
+-- what those of these nodes did that are ancestors of one
+abbrev pub effects_before : Rules → List NodeData → NodeData → Effects
+effects_before rules nodes node = effects (filter (λ j. ancestor_of (judged rules nodes) node j.node.id) (judged rules nodes))
+
 -- what the updates did whose positions the past holds
 abbrev pub done_then : State → (ℕ → Bool) → Effects
 done_then state past = record {
   inserted = reverse (map row_of (filter (λ it. past it.position) state.inserted));
   deleted = reverse (map (λ it. it.name) (filter (λ it. past it.position) state.dropped));
 }
+
+-- whether a row is visible after the ancestors of the update at a position
+abbrev pub visible_at : (ℕ → ℕ → Bool) → State → ℕ → RowName → Bool
+visible_at ancestor state position name = is_visible (rules_of state) (done_then state (λ p. ancestor p position)) name
+
+-- the same of the row at a place
+abbrev pub row_visible_at : (ℕ → ℕ → Bool) → State → ℕ → ℕ → Bool
+row_visible_at ancestor state position place = passes_row (visible_at ancestor state position) (slice_get state.inserted place)
+
+-- What is visible now is visible then, where an ancestor inserted it.
+abbrev pub Lasts : (ℕ → ℕ → Bool) → State → ℕ → Type 0
+Lasts ancestor state position = (place : ℕ) (it : Inserted) → slice_get state.inserted place ≡ Some it → ancestor it.position position ≡ true
+    → is_visible (rules_of state) (done_in state) it.name ≡ true → visible_at ancestor state position it.name ≡ true
 
 -- the rows that are visible then
 abbrev pub visible_then : State → (ℕ → Bool) → List TableRow

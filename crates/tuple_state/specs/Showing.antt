@@ -6,7 +6,7 @@ use Rattle.update_model.specs.declared.value.Value.TheVariants as value
 use Rattle.schema.specs.declared.column.Column.{Column}
 use Rattle.schema.specs.declared.column.ColumnKind.{ColumnKind}
 use Rattle.schema.specs.Columns.{target_of}
-use Rattle.schema.specs.Visible.{is_nulled}
+use Rattle.table_model.specs.Visible.{is_nulled}
 
 -- whether a value is a SETNULL reference to a row that is not visible
 abbrev pub is_shown_null : (RowName → Bool) → ColumnKind → Value → Bool

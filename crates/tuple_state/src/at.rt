@@ -1,17 +1,17 @@
-ghost use Rattle.std.specs.Prelude.{◌≡◌, ◌<◌, true, not, ◌&&◌, IfOk, Some, length, slice_get};
-ghost use Rattle.schema.specs.Visible.{is_deleted, is_visible, refs, same_row};
+ghost use Rattle.std.specs.Prelude.{◌≡◌, ◌<◌, true, false, ◌&&◌, IfOk, Some, length, nat_lt, slice_get};
+ghost use Rattle.table_model.specs.Visible.{refs, same_row};
 ghost use Rattle.row_check.specs.declared.cmp.Cmp.TheVariants.{Eq};
 ghost use Rattle.row_check.specs.Comparisons.{compares};
 ghost use Rattle.row_check.specs.Meaning.{value_at};
 ghost use Rattle.schema.specs.Columns.{is_restrict};
-ghost use Rattle.schema.specs.Verdicts.{in_table};
-ghost use Rattle.std.specs.List.{list_any};
+ghost use Rattle.table_model.specs.Verdicts.{in_table};
+ghost use Rattle.std.specs.List.{list_all, list_any};
 ghost use Rattle.tuple_state.specs.declared.inserted.Inserted.{Inserted as Row};
 ghost use Rattle.tuple_state.specs.Kept.{are_layered};
-ghost use Rattle.tuple_state.specs.Past.{StandsAt, child_then, count_then, done_then, equal_then, row_then};
+ghost use Rattle.tuple_state.specs.Past.{Lasts, StandsAt, child_then, count_then, done_then, equal_then, row_then, row_visible_at, visible_at};
 ghost use Rattle.tuple_state.specs.State.{done_in, row_of, rules_of};
 
-use crate::{Dropped, Tables};
+use crate::Tables;
 use std::alloc::{AllocError, Global};
 use std::collections::BTreeSet;
 use update_model::{Ancestors, RowEntry, RowName, RowsAt, Value};
@@ -23,6 +23,7 @@ pub struct At<'a, A: Ancestors> {
     ancestors: &'a A,
     position: u32,
     ghost founded: { are_layered (rules_of tables.now) (done_in tables.now).inserted ≡ true },
+    ghost lasting: { Lasts (A.ancestor ancestors.now) tables.now position },
     ghost layered: { are_layered (rules_of tables.now) (done_then tables.now (λ p. A.ancestor ancestors.now p position)).inserted ≡ true },
 }
 
@@ -41,35 +42,11 @@ impl<'a, A: Ancestors> At<'a, A> {
         }
     }
 
-    /// Whether an ancestor deletes this name.
-    fn is_dropped(&self, alloc: Global, name: &RowName) -> Result<bool, AllocError>
-        ensures { IfOk result (λ answer. answer ≡ is_deleted (done_then self.now.tables.now (λ p. A.ancestor self.now.ancestors.now p self.now.position)) name.now) }
-    {
-        for drop in self.tables.dropped() {
-            if self.drops(alloc, drop, name)? {
-                return Ok(true);
-            }
-        }
-        Ok(false)
-    }
-
-    /// Whether this is by an ancestor and deletes the name.
-    fn drops(&self, alloc: Global, drop: &Dropped, name: &RowName) -> Result<bool, AllocError>
-        ensures { IfOk result (λ answer. answer ≡ (A.ancestor self.now.ancestors.now drop.now.position self.now.position && same_row name.now drop.now.name)) }
-    {
-        if drop.name == *name {
-            self.ancestors
-                .is_ancestor(alloc, drop.position, self.position)
-        } else {
-            Ok(false)
-        }
-    }
-
     /// Whether the row at a place is visible then and names this one by `RESTRICT`.
     fn restricts(&self, alloc: Global, place: usize, name: &RowName) -> Result<bool, AllocError>
         requires { place < length self.now.tables.now.inserted }
         ensures { IfOk result (λ answer. (it : Row) → slice_get self.now.tables.now.inserted place ≡ Some it
-            → answer ≡ (is_visible (rules_of self.now.tables.now) (done_then self.now.tables.now (λ p. A.ancestor self.now.ancestors.now p self.now.position)) it.name
+            → answer ≡ (visible_at (A.ancestor self.now.ancestors.now) self.now.tables.now self.now.position it.name
             && list_any (λ r. is_restrict r.action && same_row r.name name.now) (refs (rules_of self.now.tables.now) (row_of it)))) }
     {
         if self.tables.restricts(place, name) {
@@ -83,7 +60,7 @@ impl<'a, A: Ancestors> At<'a, A> {
     fn stands_in(&self, alloc: Global, place: usize, table: u8) -> Result<bool, AllocError>
         requires { place < length self.now.tables.now.inserted }
         ensures { IfOk result (λ answer. (it : Row) → slice_get self.now.tables.now.inserted place ≡ Some it
-            → answer ≡ (is_visible (rules_of self.now.tables.now) (done_then self.now.tables.now (λ p. A.ancestor self.now.ancestors.now p self.now.position)) it.name
+            → answer ≡ (visible_at (A.ancestor self.now.ancestors.now) self.now.tables.now self.now.position it.name
             && in_table table (row_of it))) }
     {
         if self.tables.is_in(place, table) {
@@ -104,7 +81,7 @@ impl<'a, A: Ancestors> At<'a, A> {
     ) -> Result<bool, AllocError>
         requires { place < length self.now.tables.now.inserted }
         ensures { IfOk result (λ answer. (it : Row) → slice_get self.now.tables.now.inserted place ≡ Some it
-            → answer ≡ (is_visible (rules_of self.now.tables.now) (done_then self.now.tables.now (λ p. A.ancestor self.now.ancestors.now p self.now.position)) it.name
+            → answer ≡ (visible_at (A.ancestor self.now.ancestors.now) self.now.tables.now self.now.position it.name
             && (in_table table (row_of it) && compares Eq (value_at it.entry.values column) value.now))) }
     {
         if self.tables.equals_at(place, table, column, value) {
@@ -114,11 +91,22 @@ impl<'a, A: Ancestors> At<'a, A> {
         }
     }
 
-    /// Whether the update that inserted the row at a place is an ancestor, and no ancestor deletes the row.
-    fn is_kept(&self, alloc: Global, place: usize) -> Result<bool, AllocError>
+    /// Looks at the row at a place: it is hidden then, or it is visible where the other pending rows are too, to which
+    /// the rows are added that it names by `CASCADE`. A row that is visible now names none that is hidden then.
+    fn look(
+        &self,
+        alloc: Global,
+        place: usize,
+        pending: &mut BTreeSet<usize>,
+    ) -> Result<bool, AllocError>
         requires { place < length self.now.tables.now.inserted }
-        ensures { IfOk result (λ answer. (it : Row) → slice_get self.now.tables.now.inserted place ≡ Some it
-            → answer ≡ (A.ancestor self.now.ancestors.now it.position self.now.position && not (is_deleted (done_then self.now.tables.now (λ p. A.ancestor self.now.ancestors.now p self.now.position)) it.name))) }
+        ensures hidden { IfOk result (λ may. may ≡ false → (it : Row) → slice_get self.now.tables.now.inserted place ≡ Some it
+            → visible_at (A.ancestor self.now.ancestors.now) self.now.tables.now self.now.position it.name ≡ false) }
+        ensures decides { IfOk result (λ may. may ≡ true → (it : Row) → slice_get self.now.tables.now.inserted place ≡ Some it
+            → list_all (row_visible_at (A.ancestor self.now.ancestors.now) self.now.tables.now self.now.position) pending.new.keys
+            ≡ (list_all (row_visible_at (A.ancestor self.now.ancestors.now) self.now.tables.now self.now.position) pending.old.keys
+            && visible_at (A.ancestor self.now.ancestors.now) self.now.tables.now self.now.position it.name)) }
+        ensures below { IfOk result (λ may. may ≡ true → list_all (λ k. nat_lt k place) pending.old.keys ≡ true → list_all (λ k. nat_lt k place) pending.new.keys ≡ true) }
     {
         let row = self.tables.row(place);
         if !self
@@ -127,24 +115,34 @@ impl<'a, A: Ancestors> At<'a, A> {
         {
             return Ok(false);
         }
-        let dropped = self.is_dropped(alloc, &row.name)?;
-        Ok(!dropped)
+        if self.tables.is_marked(place) {
+            return Ok(true);
+        }
+        if self
+            .tables
+            .is_deleted_at(alloc, place, self.ancestors, self.position)?
+        {
+            return Ok(false);
+        }
+        self.tables.add_parents(place, pending)?;
+        Ok(true)
     }
 
-    /// Whether the row at a place is visible then. It looks at the rows to which `CASCADE` references lead from it, each
-    /// once, the newest first: a row names only rows before it.
+    /// Whether the row at a place is visible then. A row that is visible now is, where its update is an ancestor. Of others
+    /// it looks at the rows to which `CASCADE` references lead, each once, the newest first: a row names only rows before it.
     fn stands(&self, alloc: Global, place: usize) -> Result<bool, AllocError>
         requires { place < length self.now.tables.now.inserted }
         ensures { IfOk result (λ answer. (it : Row) → slice_get self.now.tables.now.inserted place ≡ Some it
-            → answer ≡ is_visible (rules_of self.now.tables.now) (done_then self.now.tables.now (λ p. A.ancestor self.now.ancestors.now p self.now.position)) it.name) }
+            → answer ≡ visible_at (A.ancestor self.now.ancestors.now) self.now.tables.now self.now.position it.name) }
     {
         let mut pending = BTreeSet::new(alloc);
-        pending.insert(place)?;
+        if !self.look(alloc, place, &mut pending)? {
+            return Ok(false);
+        }
         while let Some(next) = pending.pop_last() {
-            if !self.is_kept(alloc, next)? {
+            if !self.look(alloc, next, &mut pending)? {
                 return Ok(false);
             }
-            self.tables.add_parents(next, &mut pending)?;
         }
         Ok(true)
     }

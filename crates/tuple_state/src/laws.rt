@@ -1,13 +1,16 @@
 //! Laws of tables. Each function does nothing: its contract is a theorem for callers to cite. Lists of nodes stand newest
 //! first.
 
-ghost use Rattle.std.specs.Prelude.{◌≡◌, ℕ, List, ◌∷◌, reverse};
+ghost use Rattle.std.specs.Prelude.{◌≡◌, true, List, ◌∷◌, map, reverse};
 ghost use Rattle.update_model.specs.Node.{NodeData};
-ghost use Rattle.schema.specs.declared.verdict.Verdict.{Verdict};
-ghost use Rattle.schema.specs.Nodes.{IsNext};
-ghost use Rattle.schema.specs.Tables.{void_lines};
-ghost use Rattle.schema.specs.Verdicts.{effects_in, judge_next, judged};
-ghost use Rattle.schema.specs.Visible.{Rules};
+ghost use Rattle.table_model.specs.declared.verdict.Verdict.{Verdict};
+ghost use Rattle.table_model.specs.Nodes.{IsClosed, IsNext};
+ghost use Rattle.table_model.specs.Tables.{void_lines};
+ghost use Rattle.table_model.specs.Verdicts.{effects_in, judge_next, judged};
+ghost use Rattle.table_model.specs.Visible.{Rules, is_visible};
+ghost use Rattle.tuple_state.specs.Kept.{is_named};
+ghost use Rattle.tuple_state.specs.Past.{effects_before};
+ghost use Rattle.update_model.specs.declared.row_name.RowName.{RowName};
 ghost use Rattle.tuple_state.specs.State.{IsStateOf, State, after, done_in};
 
 /// Tables that hold what nodes do hold, after one more node is applied with its verdict, what all of them do.
@@ -16,8 +19,16 @@ pub fn applied_is_next()
         → verdict ≡ (judge_next rules (judged rules nodes) node).verdict → IsStateOf rules (node ∷ nodes) (after state node verdict) }
 {}
 
+/// What is visible now was visible before. A row that is visible after the updates of a closed list is visible after the
+/// ancestors of any update, where one of them inserted it: nobody has hidden it by then.
+pub fn visible_rows_were_visible()
+    ensures { (rules : Rules) (nodes : List NodeData) (node : NodeData) → IsClosed nodes → (name : RowName)
+        → is_visible rules (effects_in rules nodes) name ≡ true → is_named (effects_before rules nodes node).inserted name ≡ true
+        → is_visible rules (effects_before rules nodes node) name ≡ true }
+{}
+
 /// Tables that hold what nodes do have their effects and their void lines.
 pub fn states_are_effects()
     ensures did { (rules : Rules) (nodes : List NodeData) (state : State) → IsStateOf rules nodes state → done_in state ≡ effects_in rules nodes }
-    ensures voids { (rules : Rules) (nodes : List NodeData) (state : State) → IsStateOf rules nodes state → reverse state.voids ≡ void_lines (judged rules nodes) }
+    ensures voids { (rules : Rules) (nodes : List NodeData) (state : State) → IsStateOf rules nodes state → reverse (map (λ it. it.line) state.voids) ≡ void_lines (judged rules nodes) }
 {}

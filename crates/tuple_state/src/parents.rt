@@ -4,8 +4,8 @@ ghost use Rattle.std.specs.Prelude.{◌≡◌, ◌+◌, ◌<◌, ◌^◌, ◌⊎
 ghost use Rattle.std.specs.List.{list_all, list_any};
 ghost use Rattle.std.specs.BTreeMap.{get};
 ghost use Rattle.update_model.specs.declared.row_name.RowName.{RowName as Name};
-ghost use Rattle.schema.specs.Tables.{name_cmp};
-ghost use Rattle.schema.specs.Visible.{same_row};
+ghost use Rattle.table_model.specs.Tables.{name_cmp};
+ghost use Rattle.table_model.specs.Visible.{same_row};
 ghost use Rattle.tuple_state.specs.declared.dropped.Dropped.{Dropped as Drop};
 ghost use Rattle.tuple_state.specs.declared.inserted.Inserted.{Inserted as Row};
 ghost use Rattle.tuple_state.specs.Kept.{are_layered, place_of};
@@ -101,13 +101,26 @@ pub(crate) fn add_places(
 }
 
 /// Takes the places of the later rows away.
-fn remove_places(places: &mut BTreeMap<RowName, usize>, rows: &[Inserted], taken: &[Inserted])
+pub(crate) fn remove_places(
+    places: &mut BTreeMap<RowName, usize>,
+    rows: &[Inserted],
+    taken: &[Inserted],
+)
     requires placed { (name : Name) → get name_cmp places.old name ≡ place_of (rows.now ++ taken.now) name }
     requires fresh { AreFresh rows.now taken.now }
     ensures { (name : Name) → get name_cmp places.new name ≡ place_of rows.now name }
 {
     for number in 0..taken.len() {
         places.remove(&taken[taken.len() - 1 - number].name);
+    }
+}
+
+/// Marks each row.
+pub(crate) fn show(shown: &mut [bool])
+    ensures { (k : ℕ) → k < length shown.old → slice_index_or shown.new k false ≡ true }
+{
+    for mark in shown.iter_mut() {
+        *mark = true;
     }
 }
 

@@ -1,15 +1,16 @@
 //! The visible rows of a table, and what their values show.
 
 ghost use Rattle.std.specs.Prelude.{◌≡◌, ◌++◌, ◌&&◌, IfOk, OnOk, filter, map};
-ghost use Rattle.schema.specs.Tables.{listed};
-ghost use Rattle.schema.specs.Verdicts.{in_table};
-ghost use Rattle.schema.specs.Visible.{is_visible, shown};
+ghost use Rattle.table_model.specs.Tables.{listed};
+ghost use Rattle.table_model.specs.Verdicts.{in_table};
+ghost use Rattle.table_model.specs.Visible.{is_visible, shown};
 ghost use Rattle.tuple_state.specs.Showing.{is_shown_null, shown_by, shown_values_by};
 ghost use Rattle.tuple_state.specs.State.{done_in, row_of, rules_of};
 
 use crate::{Inserted, Tables};
-use schema::{Action, Column, ColumnKind, ShownRow};
+use schema::{Action, Column, ColumnKind};
 use std::alloc::{AllocError, Global};
+use table_model::ShownRow;
 use update_model::{Value, ValueList};
 
 /// Whether a value is a `SETNULL` reference to a row that is not visible.

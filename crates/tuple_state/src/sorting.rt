@@ -3,11 +3,11 @@
 ghost use Rattle.std.specs.Prelude.{◌≡◌, map};
 ghost use Rattle.std.specs.List.Sorted.{IsPermutation, IsStrictlySortedBy};
 ghost use Rattle.update_model.specs.Entry.{id_cmp};
-ghost use Rattle.schema.specs.Tables.{name_cmp};
+ghost use Rattle.table_model.specs.Tables.{name_cmp};
 ghost use Rattle.tuple_state.specs.Sorting.{HasDistinctIds, HasDistinctNames};
 
-use schema::{ShownRow, VoidLine};
 use std::cmp::Ordering;
+use table_model::{ShownRow, VoidLine};
 use update_model::{RowName, UpdateId};
 
 /// The order of two ids.

@@ -1,35 +1,39 @@
-ghost use Rattle.std.specs.Prelude.{◌≡◌, ℕ, ◌+◌, ◌*◌, ◌<◌, ◌≤◌, Bool, List, [], ◌∷◌, ◌++◌, IfOk, OnOk, MatchResult, filter, length, slice_get, vec_len, Some, true, ◌&&◌};
+ghost use Rattle.std.specs.Prelude.{◌≡◌, ℕ, ◌+◌, ◌*◌, ◌<◌, ◌≤◌, Bool, List, [], ◌∷◌, ◌++◌, IfOk, OnOk, MatchResult, length, slice_get, vec_len, Some, true, ◌&&◌};
 ghost use Rattle.std.specs.List.{list_all, list_any};
 ghost use Rattle.std.specs.Vec.{vec_capacity};
-ghost use Rattle.schema.specs.declared.verdict.Verdict.TheVariants.{Valid};
+ghost use Rattle.table_model.specs.declared.verdict.Verdict.TheVariants.{Valid};
 ghost use Rattle.update_model.specs.declared.value.Value.{Value as Cell};
 ghost use Rattle.row_check.specs.declared.cmp.Cmp.TheVariants.{Eq};
 ghost use Rattle.row_check.specs.Comparisons.{compares};
 ghost use Rattle.row_check.specs.Meaning.{value_at};
 ghost use Rattle.update_model.specs.Node.{NodeData};
-ghost use Rattle.schema.specs.Tables.{AreRowsIn, AreVoidsIn};
-ghost use Rattle.schema.specs.Verdicts.{ancestor_of, effects, effects_in, in_table, judged};
-ghost use Rattle.schema.specs.Visible.{Rules, cascade_refs, is_visible, refs, same_row};
+ghost use Rattle.table_model.specs.Tables.{AreRowsIn, AreVoidsIn};
+ghost use Rattle.table_model.specs.Verdicts.{effects_in, in_table};
+ghost use Rattle.table_model.specs.Visible.{Rules, cascade_refs, is_deleted, is_visible, refs, same_row};
 ghost use Rattle.schema.specs.Columns.{is_restrict};
 ghost use Rattle.validity.specs.Answers.{AreAnswers};
-ghost use Rattle.tuple_state.specs.Past.{IsNextVerdict, IsPastOf, StandsAt};
+ghost use Rattle.tuple_state.specs.Past.{IsNextVerdict, IsPastOf, StandsAt, done_then, effects_before};
 ghost use Rattle.tuple_state.specs.Kept.{are_layered, place_of};
 ghost use Rattle.tuple_state.specs.Parents.{columns_at, passes_place};
-ghost use Rattle.tuple_state.specs.State.{IsStateOf, after, done_in, row_of, rules_of};
+ghost use Rattle.tuple_state.specs.State.{IsCut, IsStateOf, after, done_in, row_of, rules_of, voided_at};
 ghost use Rattle.tuple_state.specs.declared.inserted.Inserted.{Inserted as Row};
 
 use crate::columns::{columns_of, copy_lists};
-use crate::parents::{add_parents, add_places, remark};
+use crate::cutting::{lines_of, names_before, rows_before, voids_before};
+use crate::deleters::add_deleters;
+use crate::links::Links;
+use crate::parents::{add_parents, add_places, remark, remove_places, show};
 use crate::restricts::restricts;
 use crate::showing::{copy_rows, listed_among};
 use crate::sorting::{sort_lines, sort_rows};
 use crate::steps::{dropped_by, inserted_by};
-use crate::{At, Dropped, Inserted};
+use crate::{At, Dropped, Inserted, Voided};
 use row_check::{Cmp, compare};
-use schema::{Column, ColumnList, Schema, ShownRowList, Verdict, VoidLine, VoidList};
+use schema::{Column, ColumnList, Schema};
 use std::alloc::{AllocError, Global};
 use std::collections::{BTreeMap, BTreeSet};
 use std::marker::Model;
+use table_model::{ShownRowList, Verdict, VoidLine, VoidList};
 use update_model::{Ancestors, Node, RowName, RowsAt, Value};
 
 /// What valid updates did, and which rows are visible for it. A contract sees the [state](mod@crate) of the definitions.
@@ -49,8 +53,10 @@ pub struct Tables {
     shown: Vec<bool>,
     /// The deleted names in order of arrival.
     dropped: Vec<Dropped>,
+    /// To the place of each row the positions of the updates that delete it.
+    deleters: Links,
     /// The updates that do nothing, in order of arrival.
-    voids: Vec<VoidLine>,
+    voids: Vec<Voided>,
 }
 
 impl Model for Tables {
@@ -62,7 +68,7 @@ impl Model for Tables {
     ghost view = { λ t. record { columns = t.columns.items; count = t.count; inserted = t.rows.items; dropped = t.dropped.items; voids = t.voids.items } };
 
     ghost invariant = { λ t. IsKept (record { columns = t.columns.items; count = t.count; inserted = t.rows.items; dropped = t.dropped.items; voids = t.voids.items })
-        t.places t.shown.items };
+        t.places t.shown.items t.deleters };
 }
 
 impl Tables {
@@ -78,15 +84,16 @@ impl Tables {
             places: BTreeMap::new(alloc),
             shown: Vec::new(alloc),
             dropped: Vec::new(alloc),
+            deleters: Links::new(alloc),
             voids: Vec::new(alloc),
         })
     }
 
-    /// Takes the next update with its verdict: a valid one's rows and deletions, or a void one's line. The verdict has to
+    /// Takes the next update over with its verdict: a valid one's rows and deletions, or a void one's line. The verdict has to
     /// be the right one, on the update's ancestors among those that were applied. After an error nothing has changed.
-    pub fn apply(&mut self, node: &Node, verdict: Verdict) -> Result<(), AllocError>
-        requires next { IsNextVerdict self.old node.now verdict }
-        ensures { MatchResult result (λ _. self.new ≡ after self.old node.now verdict) (λ _. self.new ≡ self.old) }
+    pub fn apply(&mut self, node: Node, verdict: Verdict) -> Result<(), AllocError>
+        requires next { IsNextVerdict self.old node verdict }
+        ensures { MatchResult result (λ _. self.new ≡ after self.old node verdict) (λ _. self.new ≡ self.old) }
     {
         match verdict {
             Verdict::Valid => self.keep_valid(node),
@@ -114,11 +121,28 @@ impl Tables {
         &self.rows[place]
     }
 
-    /// The deleted names in order of arrival.
-    pub(crate) fn dropped(&self) -> &[Dropped]
-        ensures { result.now ≡ self.now.dropped }
+    /// Whether the row at a place is visible now.
+    pub(crate) fn is_marked(&self, place: usize) -> bool
+        requires { place < length self.now.inserted }
+        ensures { (it : Row) → slice_get self.now.inserted place ≡ Some it → result ≡ is_visible (rules_of self.now) (done_in self.now) it.name }
     {
-        self.dropped.as_slice()
+        self.shown[place]
+    }
+
+    /// Whether an ancestor of the update at a position deletes the row at a place.
+    pub(crate) fn is_deleted_at<A: Ancestors>(
+        &self,
+        alloc: Global,
+        place: usize,
+        ancestors: &A,
+        position: u32,
+    ) -> Result<bool, AllocError>
+        requires { place < length self.now.inserted }
+        ensures { IfOk result (λ answer. (it : Row) → slice_get self.now.inserted place ≡ Some it
+            → answer ≡ is_deleted (done_then self.now (λ p. A.ancestor ancestors.now p position)) it.name) }
+    {
+        self.deleters
+            .any_ancestor(alloc, place, ancestors, position)
     }
 
     /// Adds the places of the rows that the row at a place names by `CASCADE`.
@@ -183,13 +207,13 @@ impl Tables {
     }
 
     /// Keeps what a valid update does. Memory is taken before anything changes.
-    fn keep_valid(&mut self, node: &Node) -> Result<(), AllocError>
-        requires next { IsNextVerdict self.old node.now Valid }
-        ensures { MatchResult result (λ _. self.new ≡ after self.old node.now Valid) (λ _. self.new ≡ self.old) }
+    fn keep_valid(&mut self, node: Node) -> Result<(), AllocError>
+        requires next { IsNextVerdict self.old node Valid }
+        ensures { MatchResult result (λ _. self.new ≡ after self.old node Valid) (λ _. self.new ≡ self.old) }
     {
         let _ops = &node.ops;
+        let mut dropped = dropped_by(self.alloc, self.count, &node)?;
         let mut inserted = inserted_by(self.alloc, self.count, node)?;
-        let mut dropped = dropped_by(self.alloc, self.count, node)?;
         let first = self.rows.len();
         make_room(
             &mut self.rows,
@@ -199,6 +223,17 @@ impl Tables {
             dropped.len(),
         )?;
         add_places(&mut self.places, self.rows.as_slice(), inserted.as_slice())?;
+        let grown = add_deleters(
+            self.alloc,
+            &mut self.deleters,
+            inserted.len(),
+            dropped.as_slice(),
+            &self.places,
+        );
+        if grown.is_err() {
+            remove_places(&mut self.places, self.rows.as_slice(), inserted.as_slice());
+            return Err(AllocError);
+        }
         self.shown.resize(first + inserted.len(), true).unwrap();
         self.rows.append(&mut inserted).unwrap();
         remark(
@@ -214,12 +249,46 @@ impl Tables {
         Ok(())
     }
 
+    /// Takes the updates back that were applied after the first so many. It takes no memory, and goes over all rows.
+    pub fn cut(&mut self, len: u32)
+        requires { IsCut self.old len }
+        ensures { (rules : Rules) (newer older : List NodeData) → IsStateOf rules (newer ++ older) self.old → length older ≡ len → IsStateOf rules older self.new }
+    {
+        let rows = rows_before(self.rows.as_slice(), len);
+        let names = names_before(self.dropped.as_slice(), len);
+        let voids = voids_before(self.voids.as_slice(), len);
+        remove_places(
+            &mut self.places,
+            &self.rows.as_slice()[..rows],
+            &self.rows.as_slice()[rows..],
+        );
+        self.deleters.cut(rows, names);
+        self.rows.truncate(rows);
+        self.dropped.truncate(names);
+        self.voids.truncate(voids);
+        self.shown.truncate(rows);
+        self.count = len;
+        let shown = self.shown.as_mut_slice();
+        show(shown);
+        remark(
+            shown,
+            0,
+            self.rows.as_slice(),
+            self.columns.as_slice(),
+            &self.places,
+            self.dropped.as_slice(),
+        );
+    }
+
     /// Keeps the line of a void update.
     fn keep_void(&mut self, line: VoidLine) -> Result<(), AllocError>
         requires few { self.old.count < 131072 }
-        ensures { MatchResult result (λ _. self.new ≡ record self.old { count = self.old.count + 1; voids = self.old.voids ++ line ∷ [] }) (λ _. self.new ≡ self.old) }
+        ensures { MatchResult result (λ _. self.new ≡ record self.old { count = self.old.count + 1; voids = self.old.voids ++ voided_at self.old.count line ∷ [] }) (λ _. self.new ≡ self.old) }
     {
-        self.voids.push(line)?;
+        self.voids.push(Voided {
+            position: self.count,
+            line,
+        })?;
         self.count += 1;
         Ok(())
     }
@@ -270,7 +339,7 @@ impl Tables {
     pub fn voids(&self, alloc: Global) -> Result<VoidList, AllocError>
         ensures { IfOk result (λ lines. (rules : Rules) (nodes : List NodeData) → IsStateOf rules nodes self.now → AreVoidsIn rules nodes lines) }
     {
-        let lines = Vec::from_slice(alloc, self.voids.as_slice())?;
+        let lines = lines_of(alloc, self.voids.as_slice())?;
         Ok(VoidList::from_vec(sort_lines(lines)))
     }
 
@@ -290,6 +359,7 @@ impl Tables {
             places,
             shown: Vec::from_slice(alloc, self.shown.as_slice())?,
             dropped: Vec::from_slice(alloc, self.dropped.as_slice())?,
+            deleters: self.deleters.copy(alloc)?,
             voids: Vec::from_slice(alloc, self.voids.as_slice())?,
         })
     }
@@ -299,7 +369,8 @@ impl Tables {
     pub fn at<'a, A: Ancestors>(&'a self, ancestors: &'a A, position: u32) -> At<'a, A>
         requires past { StandsAt self.now (λ p. A.ancestor ancestors.now p position) }
         ensures answers { (rules : Rules) (nodes : List NodeData) (node : NodeData) → IsStateOf rules nodes self.now → IsPastOf rules nodes node (λ p. A.ancestor ancestors.now p position)
-            → AreAnswers rules (effects (filter (λ j. ancestor_of (judged rules nodes) node j.node.id) (judged rules nodes))) (⟦<At<'a, A> as RowsAt>⟧.row result) (⟦<At<'a, A> as RowsAt>⟧.has_child result) }
+            → AreAnswers rules (effects_before rules nodes node) (⟦<At<'a, A> as RowsAt>⟧.row result) (⟦<At<'a, A> as RowsAt>⟧.has_child result)
+            (⟦<At<'a, A> as RowsAt>⟧.equal_count result) (⟦<At<'a, A> as RowsAt>⟧.count result) }
     {
         At::new(self, ancestors, position)
     }

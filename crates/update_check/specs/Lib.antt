@@ -1,2 +1,4 @@
 pub mod Causes
+pub mod Members
 pub mod Signed
+pub mod Words

@@ -1,26 +1,41 @@
 use std::alloc::AllocError;
-use thiserror::Error;
+use std::error::Error;
+use std::fmt;
 use update_codec::{CodecFault, DecodeError};
 
 /// Why bytes are no update of a database. Where there is more than one reason, it is the first in this order.
-#[derive(Clone, Copy, Debug, PartialEq, Eq, Hash, Error)]
+#[derive(Clone, Copy, Debug, PartialEq, Eq, Hash)]
 pub enum CheckFault {
     /// The bytes spell no update, and this is their first fault.
-    #[error("{0}")]
     Codec(CodecFault),
     /// The update is of another database.
-    #[error("other database")]
     WrongDatabase,
     /// The rule lists authors, and not the update's.
-    #[error("author not listed")]
     AuthorNotListed,
     /// The signature is not the author's of this message (RFC 8554, section 5.4.2).
-    #[error("bad signature")]
     BadSignature,
 }
 
+impl fmt::Display for CheckFault {
+    ghost use Rattle.std.specs.Prelude.{Some};
+    ghost use Rattle.update_check.specs.Words.{check_words};
+
+    ghost output = { λ fault. Some (check_words fault) };
+
+    fn fmt<W: fmt::Write>(&self, f: &mut fmt::Formatter<W>) -> fmt::Result {
+        match self {
+            CheckFault::Codec(fault) => write!(f, "{fault}"),
+            CheckFault::WrongDatabase => f.write_str("other database"),
+            CheckFault::AuthorNotListed => f.write_str("author not listed"),
+            CheckFault::BadSignature => f.write_str("bad signature"),
+        }
+    }
+}
+
+impl Error for CheckFault {}
+
 /// Why bytes were not taken.
-#[derive(Clone, Copy, Debug, PartialEq, Eq, Hash, Error)]
+#[derive(Clone, Copy, Debug, PartialEq, Eq, Hash, thiserror::Error)]
 pub enum CheckError {
     /// The bytes are refused.
     #[error("{0}")]

@@ -1,9 +1,10 @@
-//! Laws of the causes. Each function does nothing: its contract is a theorem for callers to cite.
+//! Laws of the causes and of members. Each function does nothing: its contract is a theorem for callers to cite.
 
-ghost use Rattle.std.specs.Prelude.{◌≡◌, ℕ, List};
+ghost use Rattle.std.specs.Prelude.{◌≡◌, ◌++◌, ℕ, List};
 ghost use Rattle.update_model.specs.Rule.{RuleData};
 ghost use Rattle.update_check.specs.declared.check_error.CheckFault.{CheckFault};
 ghost use Rattle.update_check.specs.Causes.{IsCause};
+ghost use Rattle.update_check.specs.Members.{AreMembers};
 ghost use Rattle.update_check.specs.Signed.{IsChecked};
 
 use update_codec::{no_fault, one_fault, one_update};
@@ -25,3 +26,8 @@ pub fn no_cause()
     one_update();
     no_fault();
 }
+
+/// The first of so many members are members too.
+pub fn front_of_members()
+    ensures { (rule : RuleData) (front back : List (List ℕ)) → AreMembers rule (front ++ back) → AreMembers rule front }
+{}

@@ -28,4 +28,4 @@ mod tests;
 pub use check_error::{CheckError, CheckFault};
 pub use checked_update::Checked;
 pub use checking::{check, check_spelled};
-pub use laws::{no_cause, one_cause};
+pub use laws::{front_of_members, no_cause, one_cause};

@@ -4,7 +4,6 @@ mod AgainRows
 pub mod Loops
 pub mod Rising
 pub mod Steps
-pub mod StreamLemmas
 mod TakesFields
 mod TakesRows
 pub mod TakesLemmas

@@ -12,6 +12,8 @@ use Rattle.update_model.specs.declared.value.Value.{Value}
 use Rattle.update_model.specs.Block.{IsBlock, IsId}
 use Rattle.update_model.specs.Form.{BodyData, UpdateData, IsKey, AreRising, IsBody, IsUpdate, signature_length}
 use Rattle.update_model.specs.Rows.{IsValue}
+use Rattle.update_model.specs.declared.limits.TheConstants.{MAX_OPS, MAX_PREDS, MAX_TEXT, MAX_VALUES}
+use Rattle.update_codec.specs.declared.limits.TheConstants.{UPDATE_LIMIT}
 use Rattle.update_codec.specs.Spelling as spell
 use Rattle.update_codec.specs.declared.codec_fault.CodecKind.{CodecKind}
 use Rattle.update_codec.specs.declared.codec_fault.CodecKind.TheVariants as kinds
@@ -26,7 +28,7 @@ IsChainType kind = (1 ≤ kind) × (kind ≤ 4)
 
 -- how many values an insert may have
 abbrev pub IsValueCount : ℕ → Type 0
-IsValueCount n = (1 ≤ n) × (n ≤ 16)
+IsValueCount n = (1 ≤ n) × (n ≤ MAX_VALUES)
 
 -- a key of another LMS type, or of another LM-OTS type behind an LMS type that is known
 pub data KeyFault : List ℕ → CodecKind → ℕ → Type 0 where
@@ -37,8 +39,8 @@ pub data KeyFault : List ℕ → CodecKind → ℕ → Type 0 where
 -- neither 0 nor 1, or an own reference to no earlier operation
 pub data ValueFault (number : ℕ) : List ℕ → CodecKind → ℕ → Type 0 where
   value_tag : (tag : ℕ) → 6 ≤ tag → ValueFault number (tag ∷ []) kinds.Tag 0
-  long_text : (n : ℕ) → n < 2 ^ 16 → 1024 < n → ValueFault number (2 ∷ to_be_bytes w16 n) kinds.Text 1
-  no_text : (bytes : List ℕ) → length bytes ≤ 1024 → ¬ (IsUtf8 bytes) → ValueFault number (2 ∷ (to_be_bytes w16 (length bytes) ++ bytes)) kinds.Text 3
+  long_text : (n : ℕ) → n < 2 ^ 16 → MAX_TEXT < n → ValueFault number (2 ∷ to_be_bytes w16 n) kinds.Text 1
+  no_text : (bytes : List ℕ) → length bytes ≤ MAX_TEXT → ¬ (IsUtf8 bytes) → ValueFault number (2 ∷ (to_be_bytes w16 (length bytes) ++ bytes)) kinds.Text 3
   flag_tag : (flag : ℕ) → 2 ≤ flag → ValueFault number (3 ∷ flag ∷ []) kinds.Tag 1
   later_own : (index : ℕ) → index < 2 ^ 16 → number ≤ index → ValueFault number (5 ∷ to_be_bytes w16 index) kinds.OwnIndex 1
 
@@ -55,14 +57,14 @@ pub data OpFault (number : ℕ) : List ℕ → CodecKind → ℕ → Type 0 wher
 pub data BodyFault : List ℕ → CodecKind → ℕ → Type 0 where
   other_version : (version : ℕ) → version ≢ 1 → BodyFault (version ∷ []) kinds.Version 0
   in_key : (database front : List ℕ) (kind : CodecKind) (at : ℕ) → IsBlock 32 database → KeyFault front kind at → BodyFault (1 ∷ (database ++ front)) kind (33 + at)
-  pred_count : (database : List ℕ) (key : AuthorKey) (n : ℕ) → IsBlock 32 database → IsKey key → n < 2 ^ 16 → 1024 < n
+  pred_count : (database : List ℕ) (key : AuthorKey) (n : ℕ) → IsBlock 32 database → IsKey key → n < 2 ^ 16 → MAX_PREDS < n
       → BodyFault (spell.header database key ++ to_be_bytes w16 n) kinds.Count 89
-  pred_order : (database : List ℕ) (key : AuthorKey) (n : ℕ) (ids : List UpdateId) (id : UpdateId) → IsBlock 32 database → IsKey key → n ≤ 1024 → length ids < n
+  pred_order : (database : List ℕ) (key : AuthorKey) (n : ℕ) (ids : List UpdateId) (id : UpdateId) → IsBlock 32 database → IsKey key → n ≤ MAX_PREDS → length ids < n
       → AllByRecursion IsId ids → AreRising None ids → IsId id → ¬ (AreRising None (ids ++ id ∷ []))
       → BodyFault (spell.header database key ++ (to_be_bytes w16 n ++ (flat_map spell.id ids ++ spell.id id))) kinds.Order (91 + 32 * length ids)
-  op_count : (before : BodyData) (n : ℕ) → IsBody before → before.ops ≡ [] → n < 2 ^ 16 → spell.op_limit before < n
+  op_count : (before : BodyData) (n : ℕ) → IsBody before → before.ops ≡ [] → n < 2 ^ 16 → MAX_OPS < n
       → BodyFault (spell.before_ops before ++ to_be_bytes w16 n) kinds.Count (91 + 32 * length before.preds)
-  in_op : (before : BodyData) (n : ℕ) (front : List ℕ) (kind : CodecKind) (at : ℕ) → IsBody before → n ≤ spell.op_limit before → length before.ops < n → OpFault (length before.ops) front kind at
+  in_op : (before : BodyData) (n : ℕ) (front : List ℕ) (kind : CodecKind) (at : ℕ) → IsBody before → n ≤ MAX_OPS → length before.ops < n → OpFault (length before.ops) front kind at
       → BodyFault (spell.before_next_op before n ++ front) kind (length (spell.before_next_op before n) + at)
 
 -- an update: a body that has a fault, or another length of the signature than its author's key asks for
@@ -90,8 +92,8 @@ pub record BeginsWithFault (bytes : List ℕ) : Type 0 where
 -- The first fault of bytes that spell no update, and its place: they are too long, begin with a field that has a
 -- fault, go on behind an update, or end in a field (so that they begin with neither).
 pub data FirstFault (bytes : List ℕ) : CodecKind → ℕ → Type 0 where
-  too_long : 262144 < length bytes → FirstFault bytes kinds.TooLong 262144
-  in_field : (front rest : List ℕ) (kind : CodecKind) (at : ℕ) → length bytes ≤ 262144 → bytes ≡ front ++ rest → UpdateFault front kind at → FirstFault bytes kind at
-  after_update : (update : UpdateData) (rest : List ℕ) → length bytes ≤ 262144 → IsUpdate update → bytes ≡ spell.spelling update ++ rest → rest ≢ []
+  too_long : UPDATE_LIMIT < length bytes → FirstFault bytes kinds.TooLong UPDATE_LIMIT
+  in_field : (front rest : List ℕ) (kind : CodecKind) (at : ℕ) → length bytes ≤ UPDATE_LIMIT → bytes ≡ front ++ rest → UpdateFault front kind at → FirstFault bytes kind at
+  after_update : (update : UpdateData) (rest : List ℕ) → length bytes ≤ UPDATE_LIMIT → IsUpdate update → bytes ≡ spell.spelling update ++ rest → rest ≢ []
       → FirstFault bytes kinds.Trailing (length (spell.spelling update))
-  cut_short : length bytes ≤ 262144 → ¬ (BeginsWithUpdate bytes) → ¬ (BeginsWithFault bytes) → FirstFault bytes kinds.Short (length bytes)
+  cut_short : length bytes ≤ UPDATE_LIMIT → ¬ (BeginsWithUpdate bytes) → ¬ (BeginsWithFault bytes) → FirstFault bytes kinds.Short (length bytes)

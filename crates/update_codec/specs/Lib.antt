@@ -4,5 +4,4 @@ pub mod Outcome
 pub mod Parts
 pub mod Reading
 pub mod Spelling
-pub mod Stream
 pub mod Words

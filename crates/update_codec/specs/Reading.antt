@@ -11,7 +11,8 @@ use Rattle.update_model.specs.declared.value.Value.TheVariants as values
 use Rattle.update_model.specs.declared.op.Op.{Op}
 use Rattle.update_model.specs.declared.op.Op.TheVariants as ops
 use Rattle.update_model.specs.Form.{BodyData, UpdateData, is_below, signature_length}
-use Rattle.update_codec.specs.Spelling.{op_limit}
+use Rattle.update_model.specs.declared.limits.TheConstants.{MAX_OPS, MAX_PREDS, MAX_TEXT, MAX_VALUES}
+use Rattle.update_codec.specs.declared.limits.TheConstants.{UPDATE_LIMIT}
 use Rattle.update_codec.specs.declared.codec_fault.CodecKind.{CodecKind}
 use Rattle.update_codec.specs.declared.codec_fault.CodecKind.TheVariants as kinds
 use Rattle.update_codec.specs.declared.codec_fault.CodecFault.{CodecFault}
@@ -80,7 +81,7 @@ int_at bytes = do
 unfoldable pub text_at : List ℕ → Read Value
 text_at bytes = do
   len ← number_at w16 bytes
-  small ← judge (nat_le len.0 1024) kinds.Text bytes
+  small ← judge (nat_le len.0 MAX_TEXT) kinds.Text bytes
   text ← block_at len.0 len.1
   utf8 ← judge (is_utf8 text.0) kinds.Text len.1
   Ok (values.Text text.0, text.1)
@@ -121,7 +122,7 @@ unfoldable pub insert_at : ℕ → List ℕ → Read Op
 insert_at number bytes = do
   table ← byte_at bytes
   count ← byte_at table.1
-  right ← judge (nat_le 1 count.0 && nat_le count.0 16) kinds.Count table.1
+  right ← judge (nat_le 1 count.0 && nat_le count.0 MAX_VALUES) kinds.Count table.1
   values ← values_at number count.0 count.1
   Ok (ops.Insert table.0 values.0, values.1)
 
@@ -172,7 +173,7 @@ before_ops_at bytes = do
   database ← block_at 32 version.1
   author ← author_at database.1
   n ← number_at w16 author.1
-  few ← judge (nat_le n.0 1024) kinds.Count author.1
+  few ← judge (nat_le n.0 MAX_PREDS) kinds.Count author.1
   preds ← ids_at n.0 None n.1
   Ok (record { database = database.0; author = author.0; preds = preds.0; ops = [] }, preds.1)
 
@@ -181,7 +182,7 @@ unfoldable pub body_at : List ℕ → Read BodyData
 body_at bytes = do
   before ← before_ops_at bytes
   n ← number_at w16 before.1
-  few ← judge (nat_le n.0 (op_limit before.0)) kinds.Count before.1
+  few ← judge (nat_le n.0 MAX_OPS) kinds.Count before.1
   ops ← ops_at n.0 0 n.1
   Ok (record { database = before.0.database; author = before.0.author; preds = before.0.preds; ops = ops.0 }, ops.1)
 
@@ -207,4 +208,4 @@ placed len (Err halt) = Err (record { kind = halt.kind; place = len - halt.left 
 
 -- the update, or the first fault and its place from the start
 unfoldable pub first_of : List ℕ → Result UpdateData CodecFault
-first_of bytes = if nat_lt 262144 (length bytes) then Err (record { kind = kinds.TooLong; place = 262144 }) else placed (length bytes) (whole bytes)
+first_of bytes = if nat_lt UPDATE_LIMIT (length bytes) then Err (record { kind = kinds.TooLong; place = UPDATE_LIMIT }) else placed (length bytes) (whole bytes)

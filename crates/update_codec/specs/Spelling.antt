@@ -9,6 +9,7 @@ use Rattle.update_model.specs.declared.value.Value.{Value}
 use Rattle.update_model.specs.declared.value.Value.TheVariants.{Null, Int, Text, Flag, Row, Own}
 use Rattle.update_model.specs.declared.op.Op.{Op}
 use Rattle.update_model.specs.declared.op.Op.TheVariants.{Insert, Delete}
+use Rattle.update_codec.specs.declared.limits.TheConstants.{UPDATE_LIMIT}
 use Rattle.update_model.specs.Form.{BodyData, UpdateData, IsUpdate, signature_length}
 
 -- an id: its 32 bytes
@@ -63,10 +64,6 @@ message body = before_next_op body (length body.ops)
 abbrev pub spelling : UpdateData → List ℕ
 spelling update = message update.body ++ (to_be_bytes w32 (length update.signature) ++ update.signature)
 
--- how many operations a body may have
-abbrev pub op_limit : BodyData → ℕ
-op_limit body = 64
-
 -- how long the spelling is of a body whose author has signed it
 abbrev pub signed_length : BodyData → ℕ
 signed_length body = length (message body) + 4 + signature_length body.author
@@ -75,7 +72,7 @@ signed_length body = length (message body) + 4 + signature_length body.author
 pub record Spells (bytes : List ℕ) (update : UpdateData) : Type 0 where
   pub form : IsUpdate update
   pub spells : bytes ≡ spelling update
-  pub short : length bytes ≤ 262144
+  pub short : length bytes ≤ UPDATE_LIMIT
 
 -- The bytes are the spelling of an update.
 abbrev pub IsSpelling : List ℕ → Type 0

@@ -12,17 +12,18 @@ pub enum CodecKind {
     Trailing,
     /// A predecessor is not above the one before it.
     Order,
-    /// There are more than 1,024 predecessors, more than 64 operations, or other than 1 to 16 values in an insert.
+    /// There are more than [`MAX_PREDS`](update_model::MAX_PREDS) predecessors or [`MAX_OPS`](update_model::MAX_OPS)
+    /// operations, or an insert has no values or more than [`MAX_VALUES`](update_model::MAX_VALUES).
     Count,
     /// An operation or a value has an unknown tag, or a flag is neither 0 nor 1.
     Tag,
-    /// A text has more than 1,024 bytes, or is no UTF-8.
+    /// A text has more than [`MAX_TEXT`](update_model::MAX_TEXT) bytes, or is no UTF-8.
     Text,
     /// The LMS type is not 5 to 7, or the LM-OTS type is not 1 to 4.
     KeyType,
     /// The signature's length is not the one that the author's key asks for.
     SignatureLength,
-    /// There are more than 262,144 bytes.
+    /// There are more than [`UPDATE_LIMIT`](crate::UPDATE_LIMIT) bytes.
     TooLong,
     /// An own reference names no earlier operation.
     OwnIndex,

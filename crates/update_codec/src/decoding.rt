@@ -8,12 +8,12 @@ ghost use Rattle.update_codec.specs.Spelling.{Spells};
 
 use crate::fields::{array_of, author_of, block_of, byte_of, u16_of, u32_of};
 use crate::halt::{ReadError, fault_at};
-use crate::limits::{MAX_OPS, MAX_PREDS, UPDATE_LIMIT, VERSION};
+use crate::limits::{UPDATE_LIMIT, VERSION};
 use crate::operations::ops_of;
 use crate::predecessors::preds_of;
 use crate::{CodecFault, CodecKind, DecodeError};
 use std::alloc::Global;
-use update_model::{Body, ByteList, IdList, OpList, Update, signature_len};
+use update_model::{Body, ByteList, IdList, MAX_OPS, MAX_PREDS, OpList, Update, signature_len};
 
 /// The update whose spelling these bytes are.
 ///

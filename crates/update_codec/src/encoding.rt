@@ -12,11 +12,11 @@ use update_model::{Body, Update, signature_len};
 
 /// The bytes that the author of a body signs: its spelling up to the signature's length.
 ///
-/// `TooLong` comes exactly where the update, with the signature that its author's key makes, would have more
-/// than 262,144 bytes.
+/// `TooLong` comes exactly where the update, with the signature that its author's key makes, would have bytes
+/// than [`UPDATE_LIMIT`].
 pub fn encode_body(alloc: Global, body: &Body) -> Result<Vec<u8>, EncodeError>
-    ensures short { signed_length body.now ≤ 262144 → Writes result (message body.now) }
-    ensures long { 262144 < signed_length body.now → Refuses result (signed_length body.now) }
+    ensures short { signed_length body.now ≤ UPDATE_LIMIT → Writes result (message body.now) }
+    ensures long { UPDATE_LIMIT < signed_length body.now → Refuses result (signed_length body.now) }
 {
     let out = message_of(alloc, body, 0)?;
     let len = out.len() + 4 + signature_len(&body.author) as usize;
@@ -28,11 +28,11 @@ pub fn encode_body(alloc: Global, body: &Body) -> Result<Vec<u8>, EncodeError>
 
 /// The spelling of an update.
 ///
-/// `TooLong` comes exactly where it has more than 262,144 bytes.
+/// `TooLong` comes exactly where it has more than [`UPDATE_LIMIT`] bytes.
 pub fn encode(alloc: Global, update: &Update) -> Result<Vec<u8>, EncodeError>
     ensures spells { IfOk result (λ out. Spells out.items update.now) }
-    ensures short { length (spelling update.now) ≤ 262144 → Writes result (spelling update.now) }
-    ensures long { 262144 < length (spelling update.now) → Refuses result (length (spelling update.now)) }
+    ensures short { length (spelling update.now) ≤ UPDATE_LIMIT → Writes result (spelling update.now) }
+    ensures long { UPDATE_LIMIT < length (spelling update.now) → Refuses result (length (spelling update.now)) }
 {
     let signature = update.signature.as_slice();
     let mut out = message_of(alloc, &update.body, 4 + signature.len())?;

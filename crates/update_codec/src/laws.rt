@@ -7,7 +7,6 @@ ghost use Rattle.update_codec.specs.declared.codec_fault.CodecKind.{CodecKind};
 ghost use Rattle.update_codec.specs.Faults.{FirstFault};
 ghost use Rattle.update_codec.specs.Parts.{database_of, author_of, preds_of, ops_of, signature_of, update_of};
 ghost use Rattle.update_codec.specs.Spelling.{Spells, IsSpelling};
-ghost use Rattle.update_codec.specs.Stream.{framed};
 
 /// An update has one spelling.
 pub fn one_spelling()
@@ -56,16 +55,4 @@ pub fn fields_of_spelling()
 /// A spelling spells the update of its parts.
 pub fn spells_its_parts()
     ensures { (bytes : List ℕ) → IsSpelling bytes → Spells bytes (update_of bytes) }
-{}
-
-/// A record in a stream takes four bytes more than it has.
-pub fn framed_length()
-    ensures { (bytes : List ℕ) → length (framed bytes) ≡ 4 + length bytes }
-{}
-
-/// Two records that stand at the front of one stream are one.
-pub fn one_frame()
-    ensures { (bytes other more others : List ℕ)
-        → length bytes ≤ 262144 → length other ≤ 262144 → framed bytes ++ more ≡ framed other ++ others
-        → (bytes ≡ other) × (more ≡ others) }
 {}

@@ -41,8 +41,8 @@ pub use digest::id_of;
 pub use encode_error::{EncodeError, TooLong};
 pub use encoding::{encode, encode_body};
 pub use laws::{
-    fields_of_spelling, framed_length, no_fault, no_prefix, one_fault, one_frame, one_spelling,
-    one_update, some_fault, spells_its_parts,
+    fields_of_spelling, no_fault, no_prefix, one_fault, one_spelling, one_update, some_fault,
+    spells_its_parts,
 };
 pub use limits::UPDATE_LIMIT;
 pub use spelled_update::Spelled;

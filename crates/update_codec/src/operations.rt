@@ -6,10 +6,9 @@ ghost use Rattle.update_codec.specs.Reading.{Gives, insert_at, op_at, ops_at};
 use crate::CodecKind;
 use crate::fields::{byte_of, row_of};
 use crate::halt::{ReadError, SHORT, fault_at};
-use crate::limits::MAX_VALUES;
 use crate::values::values_of;
 use std::alloc::Global;
-use update_model::{Op, ValueList};
+use update_model::{MAX_VALUES, Op, ValueList};
 
 /// An insert, behind its tag, that is the operation with this number.
 #[tactic(auto, unfolding(crate::specs::Reading::insert_at))]

@@ -7,10 +7,9 @@ ghost use Rattle.update_codec.specs.Reading.{Gives, int_at, text_at, flag_at, ow
 use crate::CodecKind;
 use crate::fields::{block_of, row_of, u16_of, u64_of};
 use crate::halt::{ReadError, SHORT, fault_at};
-use crate::limits::MAX_TEXT;
 use std::alloc::Global;
 use std::str;
-use update_model::{TextValue, Value};
+use update_model::{MAX_TEXT, TextValue, Value};
 
 #[tactic(auto, unfolding(crate::specs::Reading::int_at))]
 fn int_of(bytes: &[u8]) -> Result<(Value, &[u8]), ReadError>

@@ -6,6 +6,7 @@ use Rattle.std.specs.Cmp.Lexicographic.{slice_cmp}
 use Rattle.update_model.specs.declared.update_id.UpdateId.{UpdateId}
 use Rattle.update_model.specs.declared.author_key.AuthorKey.{AuthorKey}
 use Rattle.update_model.specs.declared.op.Op.{Op}
+use Rattle.update_model.specs.declared.limits.TheConstants.{MAX_OPS, MAX_PREDS}
 use Rattle.update_model.specs.Block.{IsBlock, IsId}
 use Rattle.update_model.specs.Rows.{AreOps}
 
@@ -45,10 +46,10 @@ pub record IsKey (key : AuthorKey) : Type 0 where
 pub record IsBody (body : BodyData) : Type 0 where
   pub database : IsBlock 32 body.database
   pub author : IsKey body.author
-  pub few_preds : length body.preds ≤ 1024
+  pub few_preds : length body.preds ≤ MAX_PREDS
   pub ids : AllByRecursion IsId body.preds
   pub rising : AreRising None body.preds
-  pub few_ops : length body.ops ≤ 64
+  pub few_ops : length body.ops ≤ MAX_OPS
   pub ops : AreOps 0 body.ops
 
 -- how many bytes the one-time signatures of an LM-OTS type have

@@ -3,6 +3,7 @@ use Rattle.std.specs.Prelude.{◌≡◌, ◌↔◌, ℕ, Bool, true, false, List
 use Rattle.std.specs.List.{list_any, position_from}
 use Rattle.std.specs.List.Sorted.{IsStrictlySortedBy}
 use Rattle.update_model.specs.declared.update_id.UpdateId.{UpdateId}
+use Rattle.update_model.specs.declared.limits.TheConstants.{MAX_BYTES, MAX_MEMBERS}
 use Rattle.update_model.specs.Entry.{Entry, same_id, id_cmp}
 
 -- whether the id is among these
@@ -43,9 +44,9 @@ IsClosed graph = Follows [] graph
 abbrev pub byte_count : List Entry → ℕ
 byte_count graph = sum_by (λ e. length e.bytes) graph
 
--- within the limits of a store: 131,072 members and 268,435,456 bytes
+-- within the limits on members and bytes
 abbrev pub is_within : List Entry → Bool
-is_within graph = nat_le (length graph) 131072 && nat_le (byte_count graph) 268435456
+is_within graph = nat_le (length graph) MAX_MEMBERS && nat_le (byte_count graph) MAX_BYTES
 
 -- the member `a` is a proper ancestor of `e`: `e` names it, or names a member whose ancestor it is
 pub data IsAncestor (graph : List Entry) (a : Entry) : Entry → Type 0 where

@@ -1,6 +1,7 @@
 -- Updates as tables see them.
 use Rattle.std.specs.Prelude.{◌≤◌, List, length}
 use Rattle.update_model.specs.declared.author_key.AuthorKey.{AuthorKey}
+use Rattle.update_model.specs.declared.limits.TheConstants.{MAX_NODE_OPS}
 use Rattle.update_model.specs.declared.op.Op.{Op}
 use Rattle.update_model.specs.declared.update_id.UpdateId.{UpdateId}
 
@@ -11,6 +12,6 @@ pub record NodeData : Type 0 where
   pub author : AuthorKey
   pub ops : List Op
 
--- A node has at most 256 operations.
+-- a node has no more operations than it may
 abbrev pub IsNode : NodeData → Type 0
-IsNode node = length node.ops ≤ 256
+IsNode node = length node.ops ≤ MAX_NODE_OPS

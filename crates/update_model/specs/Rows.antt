@@ -2,6 +2,7 @@
 use Rattle.std.specs.Prelude.{ℕ, ◌+◌, ◌^◌, ◌<◌, ◌≤◌, List, [], ◌∷◌, length, FitsSigned}
 use Rattle.std.specs.Int.{w64}
 use Rattle.std.specs.List.{AllByRecursion}
+use Rattle.update_model.specs.declared.limits.TheConstants.{MAX_VALUES}
 use Rattle.update_model.specs.declared.row_name.RowName.{RowName}
 use Rattle.update_model.specs.declared.value.Value.{Value}
 use Rattle.update_model.specs.declared.value.Value.TheVariants.{Null, Int, Text, Flag, Row, Own}
@@ -24,9 +25,9 @@ IsValue number (Flag flag) = Unit {0}
 IsValue number (Row row) = IsRowName row
 IsValue number (Own index) = index < number
 
--- The operation with this number: an insert gives one to sixteen values.
+-- The operation with this number: an insert gives one value or more, and not too many.
 abbrev pub IsOp : ℕ → Op → Type 0
-IsOp number (Insert table values) = (table < 256) × (1 ≤ length values) × (length values ≤ 16) × AllByRecursion (IsValue number) values
+IsOp number (Insert table values) = (table < 256) × (1 ≤ length values) × (length values ≤ MAX_VALUES) × AllByRecursion (IsValue number) values
 IsOp number (Delete row) = IsRowName row
 
 -- operations that number from this one on

@@ -6,14 +6,14 @@ ghost use Rattle.std.specs.Prelude.{◌≤◌, ◌↔◌, ◌<◌, ℕ, IsTrue, 
 ghost use Rattle.std.specs.List.{AllByRecursion};
 ghost use Rattle.update_model.specs.Rows.{IsRowName, IsValue, IsOp, AreOps};
 
-use crate::{Op, RowName, Value};
+use crate::{MAX_OPS, MAX_VALUES, Op, RowName, Value};
 
 /// Whether the operations may stand in a body, which has at most 64 of them: each insert gives one to sixteen
 /// values, and each own reference names an earlier operation.
 pub fn check_ops(ops: &[Op]) -> bool
-    ensures { IsTrue result ↔ ((length ops.now ≤ 64) × AreOps 0 ops.now) }
+    ensures { IsTrue result ↔ ((length ops.now ≤ MAX_OPS) × AreOps 0 ops.now) }
 {
-    ops.len() <= 64 && are_ops(ops)
+    ops.len() <= MAX_OPS as usize && are_ops(ops)
 }
 
 // whether each operation is in form
@@ -36,7 +36,7 @@ fn is_op(number: usize, op: &Op) -> bool
         Op::Insert { table, values } => {
             let _table = *table;
             let values = values.as_slice();
-            1 <= values.len() && values.len() <= 16 && are_values(number, values)
+            1 <= values.len() && values.len() <= MAX_VALUES as usize && are_values(number, values)
         }
         Op::Delete { row } => is_row_name(*row),
     }

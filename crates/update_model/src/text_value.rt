@@ -1,6 +1,7 @@
 ghost use Rattle.std.specs.Prelude.{◌≡◌, ◌↔◌, IsTrue, IfOk};
 ghost use Rattle.update_model.specs.Text.{IsText};
 
+use crate::MAX_TEXT;
 use std::alloc::{AllocError, Global};
 use std::marker::Model;
 use std::str;
@@ -12,7 +13,7 @@ use std::str;
 pub fn check_value_text(bytes: &[u8]) -> bool
     ensures { IsTrue result ↔ IsText bytes.now }
 {
-    bytes.len() <= 1024 && str::from_utf8(bytes).is_ok()
+    bytes.len() <= MAX_TEXT as usize && str::from_utf8(bytes).is_ok()
 }
 
 /// A text in a row: at most 1,024 bytes of UTF-8, which a contract sees as the list of its bytes.

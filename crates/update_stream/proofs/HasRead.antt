@@ -1,141 +1,174 @@
--- What was read so far, and what it tells at the end or where a record is refused.
-use Rattle.std.proofs.Common.{◌≡◌, ℕ, inl, inr, ◌≤◌, ◌<◌, ◌+◌, List, [], ◌∷◌, ◌++◌, length, refl, sym, ap, subst, ◌∙◌, append-nil, length-append, map, Option, Some, None, arith, IfSome}
-use Rattle.std.specs.Io.KnownBytes.{Consumes, IsAtEnd}
-use Rattle.std.proofs.KnownBytes.{Consumes-nil, Consumes-trans}
+-- What was read so far, and what it tells at the end, where a record is refused, or where the reading fails.
+use Rattle.std.proofs.Common.{◌≡◌, ℕ, inl, inr, ◌≤◌, ◌<◌, ◌+◌, List, [], ◌∷◌, ◌++◌, length, refl, sym, ap, subst, ◌∙◌, append-nil, append_assoc, length-append, drop, Option, Some, None, arith}
+use Rattle.std.specs.Io.KnownBytes.{Consumes}
+use Rattle.std.proofs.KnownBytes.{Consumes-nil}
+use Rattle.bec_bytes.specs.Framed.{framed, stream_of, HoldsPiece, StandsFirst, StaysWithin, IsLeft}
+use Rattle.bec_bytes.specs.Moved.{IfTold}
+use Rattle.bec_bytes.specs.declared.framed.Framed.TheVariants.{Cut, TooLong}
+use Rattle.bec_bytes.specs.declared.read_error.ReadError.{ReadError}
+use Rattle.bec_bytes.proofs.Frames.{stream_of-push, stream_of-nil}
+use Rattle.bec_bytes.proofs.ReadFrames.{told, behind, front_within, held_within, left_within}
+use Rattle.std.proofs.lemmas.List.{drop_at}
 use Rattle.update_model.specs.Rule.{RuleData}
-use Rattle.update_codec.specs.Stream.{framed, stream_of}
-use Rattle.update_codec.specs.Parts.{entry_of}
-use Rattle.update_codec.specs.declared.codec_fault.CodecFault.{CodecFault}
+use Rattle.update_codec.specs.declared.limits.TheConstants.{UPDATE_LIMIT}
+use Rattle.update_codec.specs.declared.codec_fault.CodecKind.TheVariants as kinds
 use Rattle.update_check.specs.declared.check_error.CheckFault.TheVariants.{Codec}
-use Rattle.update_check.specs.Signed.{IsChecked}
-use Rattle.update_check.specs.Causes.{IsCause}
 use Rattle.update_stream.specs.declared.record_fault.RecordFault.{RecordFault}
 use Rattle.update_stream.specs.declared.record_fault.RecordFault.TheVariants.{Check, Lacks, Full}
-use Rattle.update_stream.specs.declared.next_record.NextRecord.TheVariants.{Cut}
-use Rattle.update_stream.specs.Stream.{firsts, rule_of, AreGood, IsWhole, BeginsWith, IsCut, LacksPredecessor, PassesLimit, HasFault, IsStop, IsRefused, span_of}
-use Rattle.update_stream.specs.Steps.{StaysWithin, Finds, Adds, Takes}
-use Rattle.update_codec.proofs.StreamLemmas.{length-framed}
-use Rattle.update_stream.proofs.Frames.{stream_of-push, stream_of-nil, length_at-framed}
+use Rattle.update_stream.specs.declared.stream.TheConstants.{MAX_RECORDS}
+use Rattle.update_stream.specs.Stream.{firsts, rule_of, AreGood, IsWhole, IsRefused, IsStop, HasFault, short, too_long, BreaksOff}
+use Rattle.update_stream.specs.Steps.{Takes, rule_for, set_after}
 use Rattle.update_stream.proofs.Firsts.{firsts-held, firsts-new}
-use Rattle.update_stream.proofs.Good.{AreGood-none, AreGood-held, AreGood-new, rule_of-members}
+use Rattle.update_stream.proofs.Good.{AreGood-none, AreGood-held, AreGood-new}
 
--- So far the source gave this many good records, whose members these are.
-pub record HasRead (given : Option RuleData) (before after : Option (List ℕ)) (members : List (List ℕ)) (count : ℕ) : Type 0 where
+-- the rule that is set behind these records
+abbrev pub set_by : Option RuleData → List (List ℕ) → Option RuleData
+set_by (Some rule) records = None
+set_by None [] = None
+set_by None (x ∷ xs) = Some (rule_of None (x ∷ xs))
+
+-- So far the source gave this many good records, whose members these are, and this rule is set.
+pub record HasRead (given set : Option RuleData) (before after : Option (List ℕ)) (members : List (List ℕ)) (count : ℕ) : Type 0 where
   pub records : List (List ℕ)
   pub good : AreGood given records
   pub firsts_of : members ≡ firsts records
   pub counted : count ≡ length records
   pub came : Consumes before after (stream_of records)
+  pub rule : set ≡ set_by given records
 
-pub HasRead-none : (given : Option RuleData) (a : Option (List ℕ)) → HasRead given a a [] 0
-HasRead-none given a = record { records = []; good = AreGood-none given; firsts_of = refl; counted = refl; came = rw stream_of-nil (Consumes-nil a) }
+pub HasRead-none : (given : Option RuleData) (a : Option (List ℕ)) → HasRead given None a a [] 0
+HasRead-none given a = record { records = []; good = AreGood-none given; firsts_of = refl; counted = refl; came = rw stream_of-nil (Consumes-nil a); rule = none given }
+  where
+    none : (o : Option RuleData) → None ≡ set_by o []
+    none None = refl
+    none (Some rule) = refl
 
--- what the members' rule says of a record, the records' says
-under_rule : (given : Option RuleData) (records members : List (List ℕ)) (r : List ℕ) (P : RuleData → Type 0) → members ≡ firsts records
-    → P (rule_of given (members ++ r ∷ [])) → P (rule_of given (records ++ r ∷ []))
-under_rule given records members r P is holds = subst P (ap (λ (ms : List (List ℕ)). rule_of given (ms ++ r ∷ [])) is ∙ rule_of-members given records r) holds
+rule_for-next : (given : Option RuleData) (records : List (List ℕ)) (r : List ℕ) → rule_for given (set_by given records) r ≡ rule_of given (records ++ r ∷ [])
+rule_for-next (Some rule) records r = refl
+rule_for-next None [] r = refl
+rule_for-next None (x ∷ xs) r = refl
+
+set_after-next : (given : Option RuleData) (records : List (List ℕ)) (r : List ℕ) → set_after given (set_by given records) r ≡ set_by given (records ++ r ∷ [])
+set_after-next (Some rule) records r = refl
+set_after-next None [] r = refl
+set_after-next None (x ∷ xs) r = refl
+
+-- what is taken under the rule that is set is taken under the stream's
+taken_under : (given set : Option RuleData) (records members after : List (List ℕ)) (r : List ℕ) (fault : Option RecordFault) → set ≡ set_by given records → members ≡ firsts records
+    → Takes (rule_for given set r) members r after fault → Takes (rule_of given (records ++ r ∷ [])) (firsts records) r after fault
+taken_under given set records members after r fault is same taken =
+    let P : RuleData → Type 0 = λ rule. Takes rule (firsts records) r after fault in
+    let Q : List (List ℕ) → Type 0 = λ ms. Takes (rule_for given set r) ms r after fault in
+    subst P (ap (λ (s : Option RuleData). rule_for given s r) is ∙ rule_for-next given records r) (subst Q same taken)
 
 -- one more record, which was taken
-pub HasRead-more : (given : Option RuleData) (a b c : Option (List ℕ)) (members after : List (List ℕ)) (n : ℕ) (r : List ℕ) → HasRead given a b members n → n < 262144
-    → Consumes b c (framed r) → Takes given members r after None → HasRead given a c after (n + 1)
-HasRead-more given a b c members after n r h few came taken =
-    let accepted = under_rule given h.records members r (λ (rule : RuleData). IsChecked rule r) h.firsts_of taken.0 in
+pub HasRead-more : (given set new : Option RuleData) (a b c : Option (List ℕ)) (members after : List (List ℕ)) (n : ℕ) (r : List ℕ) → HasRead given set a b members n → n < MAX_RECORDS
+    → IfTold b c (λ bytes rest. HoldsPiece UPDATE_LIMIT bytes r rest) → Takes (rule_for given set r) members r after None → new ≡ set_after given set r → HasRead given new a c after (n + 1)
+HasRead-more given set new a b c members after n r h few came taken is =
+    let under = taken_under given set h.records members after r None h.rule h.firsts_of taken in
     let counted = h.counted in
-    let short : length h.records < 262144 = omega arith in
-    let added : Adds (firsts h.records) r after = (let P : List (List ℕ) → Type 0 = λ ms. Adds ms r after in subst P h.firsts_of taken.1) in
-    let all : Consumes a c (stream_of (h.records ++ r ∷ [])) = rw stream_of-push (Consumes-trans a b c (stream_of h.records) (framed r) h.came came) in
-    elim added [
+    let short : length h.records < MAX_RECORDS = omega arith in
+    let all : Consumes a c (stream_of (h.records ++ r ∷ [])) = rw stream_of-push (consumed a b c h.came came) in
+    let rule : new ≡ set_by given (h.records ++ r ∷ []) = is ∙ ap (λ (s : Option RuleData). set_after given s r) h.rule ∙ set_after-next given h.records r in
+    elim under.1 [
       | inl held ↦ record {
         records = h.records ++ r ∷ [];
-        good = AreGood-held given h.records r h.good accepted short held.0;
+        good = AreGood-held given h.records r h.good under.0 short held.0;
         firsts_of = held.1 ∙ sym (firsts-held h.records r held.0);
         counted = omega (arith, length-append h.records (r ∷ []), counted);
         came = all;
+        rule = rule;
       }
       | inr next ↦ record {
         records = h.records ++ r ∷ [];
-        good = AreGood-new given h.records r h.good accepted short next.0 next.1;
+        good = AreGood-new given h.records r h.good under.0 short next.0 next.1;
         firsts_of = next.2 ∙ sym (firsts-new h.records r next.0.new);
         counted = omega (arith, length-append h.records (r ∷ []), counted);
         came = all;
+        rule = rule;
       }
     ]
-
-pub told_end : (given : Option RuleData) (a b c : Option (List ℕ)) (members : List (List ℕ)) (n : ℕ) → HasRead given a b members n → IsAtEnd b → Consumes b c []
-    → IfSome a (λ input. (rest : List ℕ) × (c ≡ Some rest) × (IsWhole given input members × (rest ≡ [])))
-told_end given None b c members n h at_end came = tt
-told_end given (Some xs) None c members n h at_end came = absurd h.came
-told_end given (Some xs) (Some ys) None members n h at_end came = absurd came
-told_end given (Some xs) (Some ys) (Some zs) members n h at_end came =
-    (zs, refl, ((h.records, h.good, h.came ∙ ap (λ (w : List ℕ). stream_of h.records ++ w) at_end ∙ append-nil (stream_of h.records), h.firsts_of), sym came ∙ at_end))
-
--- what stands next is no record that can be taken, and no more than it was read
-pub told_stop : (given : Option RuleData) (a b c : Option (List ℕ)) (members : List (List ℕ)) (n : ℕ) (fault : RecordFault) → (h : HasRead given a b members n)
-    → IfSome b (λ bytes. IsStop given h.records bytes fault) → StaysWithin b c
-    → IfSome a (λ input. (rest : List ℕ) × (c ≡ Some rest) × IsRefused given input rest (n + 1) fault)
-told_stop given None b c members n fault h stop within = tt
-told_stop given (Some xs) None c members n fault h stop within = absurd h.came
-told_stop given (Some xs) (Some ys) None members n fault h stop within = absurd within.1
-told_stop given (Some xs) (Some ys) (Some zs) members n fault h stop within =
-    let P : List ℕ → Type 0 = λ w. IsStop given h.records w fault in
-    let Q : List ℕ → Type 0 = λ w. length within.0 ≤ span_of w in
-    (zs, refl, (h.records, (within.0, h.good, h.came ∙ ap (λ (w : List ℕ). stream_of h.records ++ w) within.1, ap (λ (k : ℕ). k + 1) h.counted, subst P within.1 stop, subst Q within.1 within.2)))
-
-pub told_cut : (given : Option RuleData) (a b c : Option (List ℕ)) (members : List (List ℕ)) (n : ℕ) (fault : CodecFault) → HasRead given a b members n → n < 262144 → Finds b c (Cut fault)
-    → IfSome a (λ input. (rest : List ℕ) × (c ≡ Some rest) × IsRefused given input rest (n + 1) (Check (Codec fault)))
-told_cut given a b c members n fault h few found = told_stop given a b c members n (Check (Codec fault)) h (stop b found.0) found.1
   where
-    stop : (o : Option (List ℕ)) → IfSome o (λ bytes. IsCut bytes fault.kind fault.place) → IfSome o (λ bytes. IsStop given h.records bytes (Check (Codec fault)))
-    stop None f = tt
-    stop (Some bytes) f = inl (let counted = h.counted in omega arith, inl f)
+    consumed : (x y z : Option (List ℕ)) → Consumes x y (stream_of h.records) → IfTold y z (λ bytes rest. HoldsPiece UPDATE_LIMIT bytes r rest) → Consumes x z (stream_of h.records ++ framed r)
+    consumed None y z first second = tt
+    consumed (Some xs) None z first second = absurd first
+    consumed (Some xs) (Some ys) None first second = absurd (let none = second.1 in cc)
+    consumed (Some xs) (Some ys) (Some zs) first second =
+        let same : zs ≡ second.0 = (let e = second.1 in cc) in
+        first ∙ ap (λ (w : List ℕ). stream_of h.records ++ w) (second.2.parts ∙ ap (λ (w : List ℕ). framed r ++ w) (sym same)) ∙ sym (append_assoc (stream_of h.records) (framed r) zs)
 
--- the record that stands next is as long as its length says
-pub span_of-framed : (r more : List ℕ) → length r ≤ 262144 → span_of (framed r ++ more) ≡ length (framed r)
-span_of-framed r more short = ap (λ (k : ℕ). 4 + k) (length_at-framed r more short) ∙ sym (length-framed r)
+pub told_end : (given set : Option RuleData) (a b c : Option (List ℕ)) (members : List (List ℕ)) (n : ℕ) → HasRead given set a b members n
+    → IfTold b c (λ bytes rest. (bytes ≡ []) × (rest ≡ [])) → IfTold a c (λ input rest. IsWhole given input members × (rest ≡ []))
+told_end given set a b c members n h found =
+    behind a b c (stream_of h.records) (λ bytes rest. (bytes ≡ []) × (rest ≡ [])) (λ input rest. IsWhole given input members × (rest ≡ [])) h.came found
+    (λ bytes rest ends. ((h.records, h.good, ap (λ (w : List ℕ). stream_of h.records ++ w) ends.0 ∙ append-nil (stream_of h.records), h.firsts_of), ends.1))
 
-stays : (b c : Option (List ℕ)) (r : List ℕ) → length r ≤ 262144 → Consumes b c (framed r) → StaysWithin b c
-stays None c r short came = (framed r, tt, tt)
-stays (Some ys) None r short came = absurd came
-stays (Some ys) (Some zs) r short came =
-    (framed r, came, (let span : span_of ys ≡ length (framed r) = ap span_of came ∙ span_of-framed r zs short in omega (arith, span)))
+-- what stands next has a fault
+told_stop : (given set : Option RuleData) (a b c : Option (List ℕ)) (members : List (List ℕ)) (n : ℕ) (fault : RecordFault) (P : List ℕ → List ℕ → Type 0) → (h : HasRead given set a b members n)
+    → IfTold b c P → ((bytes rest : List ℕ) → P bytes rest → IsStop given h.records bytes rest fault) → IfTold a c (λ input rest. IsRefused given input rest (n + 1) fault)
+told_stop given set a b c members n fault P h found stops =
+    behind a b c (stream_of h.records) P (λ input rest. IsRefused given input rest (n + 1) fault) h.came found
+    (λ bytes rest p. (h.records, (bytes, h.good, refl, ap (λ (k : ℕ). k + 1) h.counted, stops bytes rest p)))
 
-fault_of : (given : Option RuleData) (records : List (List ℕ)) (r more : List ℕ) (members result : List (List ℕ)) (fault : RecordFault) → members ≡ firsts records
-    → BeginsWith more r → Takes given members r result (Some fault) → HasFault given records more fault
-fault_of given records r more members result (Check fault) is begins taken =
-    inr (r, begins, under_rule given records members r (λ (rule : RuleData). IsCause rule r fault) is taken)
-fault_of given records r more members result (Lacks id) is begins taken = (
-  r,
-  record { begins = begins; accepted = under_rule given records members r (λ (rule : RuleData). IsChecked rule r) is taken.0 },
-  subst (λ (ms : List (List ℕ)). LacksPredecessor (map entry_of ms) (entry_of r) id) is taken.1,
-)
-fault_of given records r more members result Full is begins taken = (
-  r,
-  record { begins = begins; accepted = under_rule given records members r (λ (rule : RuleData). IsChecked rule r) is taken.0 },
-  subst (λ (ms : List (List ℕ)). PassesLimit (map entry_of ms) (entry_of r)) is taken.1,
-)
+few_records : (given set : Option RuleData) (a b : Option (List ℕ)) (members : List (List ℕ)) (n : ℕ) → (h : HasRead given set a b members n) → n < MAX_RECORDS → length h.records < MAX_RECORDS
+few_records given set a b members n h few = let counted = h.counted in omega arith
 
-pub told_fault : (given : Option RuleData) (a b c : Option (List ℕ)) (members after : List (List ℕ)) (n : ℕ) (r : List ℕ) (fault : RecordFault) → HasRead given a b members n → n < 262144
-    → length r ≤ 262144 → Consumes b c (framed r) → Takes given members r after (Some fault)
-    → IfSome a (λ input. (rest : List ℕ) × (c ≡ Some rest) × IsRefused given input rest (n + 1) fault)
-told_fault given a b c members after n r fault h few short came taken = told_stop given a b c members n fault h (stop b c came) (stays b c r short came)
-  where
-    stop : (o p : Option (List ℕ)) → Consumes o p (framed r) → IfSome o (λ bytes. IsStop given h.records bytes fault)
-    stop None p g = tt
-    stop (Some ys) None g = absurd g
-    stop (Some ys) (Some zs) g = inl (
-      let counted = h.counted in omega arith,
-      fault_of given h.records r ys members after fault h.firsts_of (record { short = short; more = zs; parts = g }) taken,
-    )
+pub told_short : (given set : Option RuleData) (a b c : Option (List ℕ)) (members : List (List ℕ)) (n came : ℕ) → HasRead given set a b members n → n < MAX_RECORDS
+    → IfTold b c (λ bytes rest. StandsFirst UPDATE_LIMIT bytes rest (Cut came)) → IfTold a c (λ input rest. IsRefused given input rest (n + 1) (Check (Codec (record { kind = kinds.Short; place = came }))))
+told_short given set a b c members n came h few found =
+    told_stop given set a b c members n (Check (Codec (record { kind = kinds.Short; place = came }))) (λ bytes rest. StandsFirst UPDATE_LIMIT bytes rest (Cut came)) h found
+    (λ bytes rest p. inl (few_records given set a b members n h few, inl (short came p)))
 
-pub told_limit : (given : Option RuleData) (a b c : Option (List ℕ)) (members : List (List ℕ)) (n : ℕ) (bytes : List ℕ) → HasRead given a b members n → n ≡ 262144 → Consumes b c bytes
-    → 0 < length bytes → length bytes ≤ 4 → IfSome a (λ input. (rest : List ℕ) × (c ≡ Some rest) × IsRefused given input rest (n + 1) Full)
-told_limit given a b c members n bytes h many came some few = told_stop given a b c members n Full h (stop b c came) (bytes, came, spans b)
-  where
-    stop : (o p : Option (List ℕ)) → Consumes o p bytes → IfSome o (λ w. IsStop given h.records w Full)
-    stop None p g = tt
-    stop (Some ys) None g = absurd g
-    stop (Some ys) (Some zs) g = inr (let counted = h.counted in omega arith, (let size = ap length g in omega (arith, length-append bytes zs)), refl)
+pub told_long : (given set : Option RuleData) (a b c : Option (List ℕ)) (members : List (List ℕ)) (n : ℕ) → HasRead given set a b members n → n < MAX_RECORDS
+    → IfTold b c (λ bytes rest. StandsFirst UPDATE_LIMIT bytes rest TooLong) → IfTold a c (λ input rest. IsRefused given input rest (n + 1) (Check (Codec (record { kind = kinds.TooLong; place = UPDATE_LIMIT }))))
+told_long given set a b c members n h few found =
+    told_stop given set a b c members n (Check (Codec (record { kind = kinds.TooLong; place = UPDATE_LIMIT }))) (λ bytes rest. StandsFirst UPDATE_LIMIT bytes rest TooLong) h found
+    (λ bytes rest p. inl (few_records given set a b members n h few, inl (too_long p)))
 
-    spans : (o : Option (List ℕ)) → IfSome o (λ w. length bytes ≤ span_of w)
-    spans None = tt
-    spans (Some ys) = omega arith
+fault_of : (given : Option RuleData) (records : List (List ℕ)) (r bytes rest : List ℕ) (result : List (List ℕ)) (fault : RecordFault) → HoldsPiece UPDATE_LIMIT bytes r rest
+    → Takes (rule_of given (records ++ r ∷ [])) (firsts records) r result (Some fault) → HasFault given records bytes rest fault
+fault_of given records r bytes rest result (Check fault) begins taken = inr (r, begins, taken)
+fault_of given records r bytes rest result (Lacks id) begins taken = (r, record { begins = begins; accepted = taken.0 }, taken.1)
+fault_of given records r bytes rest result Full begins taken = (r, record { begins = begins; accepted = taken.0 }, taken.1)
+
+pub told_fault : (given set : Option RuleData) (a b c : Option (List ℕ)) (members after : List (List ℕ)) (n : ℕ) (r : List ℕ) (fault : RecordFault) → HasRead given set a b members n → n < MAX_RECORDS
+    → IfTold b c (λ bytes rest. HoldsPiece UPDATE_LIMIT bytes r rest) → Takes (rule_for given set r) members r after (Some fault) → IfTold a c (λ input rest. IsRefused given input rest (n + 1) fault)
+told_fault given set a b c members after n r fault h few found taken =
+    told_stop given set a b c members n fault (λ bytes rest. HoldsPiece UPDATE_LIMIT bytes r rest) h found
+    (λ bytes rest p. inl (few_records given set a b members n h few, fault_of given h.records r bytes rest after fault p (taken_under given set h.records members after r (Some fault) h.rule h.firsts_of taken)))
+
+-- as many records as a stream has at most came, and one byte more
+pub told_limit : (given set : Option RuleData) (a b c : Option (List ℕ)) (members : List (List ℕ)) (n : ℕ) (front : List ℕ) → HasRead given set a b members n → n ≡ MAX_RECORDS
+    → Consumes b c front → length front ≡ 1 → IfTold a c (λ input rest. IsRefused given input rest (n + 1) Full)
+told_limit given set a b c members n front h many came one =
+    told_stop given set a b c members n Full (λ bytes rest. (0 < length bytes) × (rest ≡ drop 1 bytes)) h
+    (told b c front (λ bytes rest. (0 < length bytes) × (rest ≡ drop 1 bytes)) came (λ rest. (omega (arith, length-append front rest, one), sym (drop_at front rest 1 one))))
+    (λ bytes rest p. inr (let counted = h.counted in omega arith, p.0, p.1, refl))
+
+-- the reading failed in what stands next
+told_left : (given set : Option RuleData) (a b c : Option (List ℕ)) (members : List (List ℕ)) (n : ℕ) → HasRead given set a b members n
+    → IfTold b c (StaysWithin UPDATE_LIMIT) → IfTold a c (BreaksOff given)
+told_left given set a b c members n h found =
+    behind a b c (stream_of h.records) (StaysWithin UPDATE_LIMIT) (BreaksOff given) h.came found (λ bytes rest p. (h.records, (bytes, h.good, refl, p)))
+
+weaker : (b c : Option (List ℕ)) (P Q : List ℕ → List ℕ → Type 0) → IfTold b c P → ((bytes rest : List ℕ) → P bytes rest → Q bytes rest) → IfTold b c Q
+weaker None c P Q found each = tt
+weaker (Some xs) c P Q found each = (found.0, found.1, each xs found.0 found.2)
+
+-- in a record
+pub left_record : (given set : Option RuleData) (a b c : Option (List ℕ)) (members : List (List ℕ)) (n : ℕ) (error : ReadError) → HasRead given set a b members n
+    → IfTold b c (λ bytes rest. IsLeft UPDATE_LIMIT bytes rest error) → IfTold a c (BreaksOff given)
+left_record given set a b c members n error h found =
+    told_left given set a b c members n h (weaker b c (λ bytes rest. IsLeft UPDATE_LIMIT bytes rest error) (StaysWithin UPDATE_LIMIT) found (λ bytes rest left. left_within UPDATE_LIMIT bytes rest error left))
+
+-- behind a whole one
+pub left_behind : (given set : Option RuleData) (a b c : Option (List ℕ)) (members : List (List ℕ)) (n : ℕ) (r : List ℕ) → HasRead given set a b members n
+    → IfTold b c (λ bytes rest. HoldsPiece UPDATE_LIMIT bytes r rest) → IfTold a c (BreaksOff given)
+left_behind given set a b c members n r h found =
+    told_left given set a b c members n h (weaker b c (λ bytes rest. HoldsPiece UPDATE_LIMIT bytes r rest) (StaysWithin UPDATE_LIMIT) found (λ bytes rest p. held_within UPDATE_LIMIT bytes r rest (omega arith) p))
+
+-- at the limit, where a byte more may have come
+pub left_limit : (given set : Option RuleData) (a b c : Option (List ℕ)) (members : List (List ℕ)) (n : ℕ) (front : List ℕ) → HasRead given set a b members n
+    → Consumes b c front → length front ≤ 1 → IfTold a c (BreaksOff given)
+left_limit given set a b c members n front h came few =
+    told_left given set a b c members n h (told b c front (StaysWithin UPDATE_LIMIT) came (λ rest. front_within UPDATE_LIMIT front rest (omega (arith, few))))

@@ -1,22 +1,17 @@
 -- What taking a record does.
-use Rattle.std.proofs.Common.{◌≡◌, inl, inr, ℕ, Bool, true, false, List, [], ◌∷◌, ◌++◌, length, refl, sym, ap, ◌∙◌, map, Option, Some, None, Result, Ok, Err, IfOk, IfErr, subst}
+use Rattle.std.proofs.Common.{◌≡◌, inl, inr, ℕ, Bool, true, false, List, [], ◌∷◌, ◌++◌, length, refl, sym, ap, ◌∙◌, map, Option, Some, None, Ok, Err}
 use Rattle.std.specs.Bool.{OnTrue, OnFalse}
 use Rattle.std.specs.Option.{is_some}
 use Rattle.update_model.specs.declared.update_id.UpdateId.{UpdateId}
 use Rattle.update_model.specs.Entry.{Entry}
 use Rattle.update_model.specs.Graph.{holds, position_of, lacking, is_within}
 use Rattle.update_model.proofs.Closed.{position_of-held, IsNext-from_tests}
-use Rattle.update_codec.specs.Parts.{entry_of, database_of}
+use Rattle.update_codec.specs.Parts.{entry_of}
 use Rattle.hash_graph.specs.declared.added.Added.{Added}
 use Rattle.hash_graph.specs.declared.added.Added.TheVariants.{New, Known}
 use Rattle.hash_graph.specs.declared.refusal.Refusal.TheVariants.{Lacks, Full}
 use Rattle.hash_graph.specs.Answer.{answer_by, answer_of, list_after}
-use Rattle.update_model.specs.Rule.{RuleData}
-use Rattle.update_model.specs.declared.author_key.AuthorKey.{AuthorKey}
-use Rattle.update_check.specs.declared.check_error.CheckFault.{CheckFault}
-use Rattle.update_check.specs.Signed.{IsChecked}
-use Rattle.update_check.specs.Causes.{IsCause}
-use Rattle.update_stream.specs.Stream.{LacksPredecessor, PassesLimit, rule_of}
+use Rattle.update_stream.specs.Stream.{LacksPredecessor, PassesLimit}
 use Rattle.update_stream.specs.Steps.{Adds}
 
 pub on_true : (b : Bool) (P : Type 0) → (b ≡ true → P) → OnTrue b P
@@ -69,32 +64,3 @@ passes graph e a = by_case (position_of graph e.id) (lacking graph e) (is_within
     by_case None (Some other) fits at_p at_l at_f a = absurd cc
     by_case None None false at_p at_l at_f a = record { new = not_held graph e.id at_p; preds = at_l; over = at_f }
     by_case None None true at_p at_l at_f a = absurd cc
-
-abbrev rule_with : List ℕ → List AuthorKey → RuleData
-rule_with database authors = record { database = database; authors = authors }
-
--- what is checked under a rule is checked under one that is equal
-pub checked_under : (result : Result (List ℕ) CheckFault) (rule other : RuleData) (update : List ℕ) → rule ≡ other → IfOk result (λ checked. IsChecked rule checked) → IfOk result (λ checked. checked ≡ update)
-    → IfOk result (λ checked. (checked ≡ update) × IsChecked other update)
-checked_under (Ok checked) rule other update same passed is =
-    let P : List ℕ → Type 0 = λ w. IsChecked rule w in
-    let Q : RuleData → Type 0 = λ r. IsChecked r update in
-    (is, subst Q same (subst P is passed))
-checked_under (Err fault) rule other update same passed is = tt
-
--- and what is refused is refused
-pub refused_under : (result : Result (List ℕ) CheckFault) (rule other : RuleData) (update : List ℕ) → rule ≡ other → IfErr result (λ fault. IsCause rule update fault)
-    → IfErr result (λ fault. IsCause other update fault)
-refused_under (Ok checked) rule other update same cause = tt
-refused_under (Err fault) rule other update same cause = let Q : RuleData → Type 0 = λ r. IsCause r update fault in subst Q same cause
-
--- the parts of a rule together
-together : (database other : List ℕ) (authors others : List AuthorKey) → database ≡ other → authors ≡ others
-    → rule_with database authors ≡ rule_with other others
-together database other authors others a b = ap (λ (d : List ℕ). rule_with d authors) a ∙ ap (λ (ks : List AuthorKey). rule_with other ks) b
-
--- the rule that the first record sets
-pub first_rule : (records : List (List ℕ)) (database : List ℕ) (authors : List AuthorKey) → database ≡ (rule_of None records).database → authors ≡ []
-    → rule_with database authors ≡ rule_of None records
-first_rule [] database authors is none = together database [] authors [] is none
-first_rule (x ∷ xs) database authors is none = together database (database_of x) authors [] is none

@@ -1,6 +1,7 @@
 -- What reading a stream tells.
-use Rattle.std.specs.Prelude.{◌≡◌, ℕ, List, [], Some, IfSome}
+use Rattle.std.specs.Prelude.{◌≡◌, ℕ, List, []}
 use Rattle.std.specs.declared.option.Option.{Option}
+use Rattle.bec_bytes.specs.Moved.{IfTold}
 use Rattle.update_model.specs.Rule.{RuleData}
 use Rattle.update_stream.specs.declared.reading.Reading.{Reading}
 use Rattle.update_stream.specs.declared.reading.Reading.TheVariants.{Whole, Refused}
@@ -11,6 +12,6 @@ abbrev pub Tells : Option RuleData → List ℕ → List ℕ → Reading → Typ
 Tells given input rest (Whole members) = IsWhole given input members × (rest ≡ [])
 Tells given input rest (Refused n fault) = IsRefused given input rest n fault
 
--- what a whole reading tells, where the source tells its bytes
+-- the same, where the source tells its bytes
 abbrev pub Reads : Option RuleData → Option (List ℕ) → Option (List ℕ) → Reading → Type 0
-Reads given before after reading = IfSome before (λ input. (rest : List ℕ) × (after ≡ Some rest) × Tells given input rest reading)
+Reads given before after reading = IfTold before after (λ input rest. Tells given input rest reading)

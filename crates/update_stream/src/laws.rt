@@ -1,7 +1,8 @@
 //! Laws of streams. Each function does nothing: its contract is a theorem for callers to cite.
 
-ghost use Rattle.std.specs.Prelude.{◌≡◌, ℕ, List, Option};
+ghost use Rattle.std.specs.Prelude.{◌≡◌, ℕ, List, Option, Some};
 ghost use Rattle.update_model.specs.Rule.{RuleData};
+ghost use Rattle.update_check.specs.Members.{AreMembers};
 ghost use Rattle.update_stream.specs.declared.record_fault.RecordFault.{RecordFault};
 ghost use Rattle.update_stream.specs.Stream.{IsWhole, IsRefused};
 
@@ -28,3 +29,8 @@ pub fn whole_or_refused()
 {
     no_cause();
 }
+
+/// A whole stream under a rule has members of its database.
+pub fn whole_has_members()
+    ensures { (rule : RuleData) (input : List ℕ) (members : List (List ℕ)) → IsWhole (Some rule) input members → AreMembers rule members }
+{}

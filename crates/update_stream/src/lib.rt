@@ -17,13 +17,12 @@
 #![tactic(auto)]
 
 mod laws;
-mod next_record;
 mod reading;
 mod record_fault;
 mod stream;
 mod take_record;
 
-pub use laws::{one_graph, one_refusal, whole_or_refused};
-pub use reading::{ReadError, Reading};
+pub use laws::{one_graph, one_refusal, whole_has_members, whole_or_refused};
+pub use reading::Reading;
 pub use record_fault::RecordFault;
 pub use stream::{MAX_RECORDS, read_stream};

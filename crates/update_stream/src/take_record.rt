@@ -1,9 +1,7 @@
-ghost use Rattle.std.specs.Prelude.{◌≡◌, ◌++◌, ◌∷◌, [], IfOk, IfErr, IfSome};
-ghost use Rattle.update_codec.specs.Parts.{database_of};
+ghost use Rattle.std.specs.Prelude.{◌≡◌, IfOk, IfErr, IfSome, IfNone};
 ghost use Rattle.update_check.specs.Causes.{IsCause};
 ghost use Rattle.update_check.specs.Signed.{IsChecked};
-ghost use Rattle.update_stream.specs.Stream.{rule_of};
-ghost use Rattle.update_stream.specs.Steps.{Takes};
+ghost use Rattle.update_stream.specs.Steps.{Takes, rule_for, set_after};
 
 use crate::RecordFault;
 use hash_graph::{Graph, Refusal};
@@ -13,14 +11,18 @@ use update_codec::{DecodeError, Spelled, spelled};
 use update_model::{DbRule, KeyList};
 
 /// Takes a record into the graph, or tells its fault and leaves the graph as it was.
+///
+/// Where no rule is given, the record is under the one that is set; the first record sets it.
 pub fn take_record(
     alloc: Global,
-    rule: &Option<DbRule>,
+    given: &Option<DbRule>,
+    set: &mut Option<DbRule>,
     graph: &mut Graph<Checked>,
     bytes: Vec<u8>,
 ) -> Result<Option<RecordFault>, AllocError>
-    ensures ok { IfOk result (λ fault. Takes rule.now graph.old bytes.items graph.new fault) }
+    ensures ok { IfOk result (λ fault. Takes (rule_for given.now set.old bytes.items) graph.old bytes.items graph.new fault) }
     ensures kept { IfOk result (λ fault. IfSome fault (λ _. graph.new ≡ graph.old)) }
+    ensures set { IfOk result (λ fault. IfNone fault (set.new ≡ set_after given.now set.old bytes.items)) }
 {
     let update = match spelled(alloc, bytes) {
         Ok(update) => update,
@@ -29,7 +31,7 @@ pub fn take_record(
         }
         Err(DecodeError::Memory) => return Err(AllocError),
     };
-    let checked = match check_next(alloc, rule, graph, update) {
+    let checked = match check_next(alloc, given, set, update) {
         Ok(checked) => checked,
         Err(fault) => return Ok(Some(RecordFault::Check(fault))),
     };
@@ -43,35 +45,29 @@ pub fn take_record(
     }
 }
 
-/// Checks an update under the rule of a stream whose members so far these are.
+/// Checks an update under the rule that is given, or the one that is set, or else the one that it sets itself.
 fn check_next(
     alloc: Global,
-    rule: &Option<DbRule>,
-    graph: &Graph<Checked>,
+    given: &Option<DbRule>,
+    set: &mut Option<DbRule>,
     update: Spelled,
 ) -> Result<Checked, CheckFault>
-    ensures found { IfOk result (λ checked. (checked ≡ update) × IsChecked (rule_of rule.now (graph.now ++ update ∷ [])) update) }
-    ensures fault { IfErr result (λ fault. IsCause (rule_of rule.now (graph.now ++ update ∷ [])) update fault) }
+    ensures found { IfOk result (λ checked. IsChecked (rule_for given.now set.old update) checked) }
+    ensures same { IfOk result (λ checked. checked ≡ update) }
+    ensures fault { IfErr result (λ fault. IsCause (rule_for given.now set.old update) update fault) }
+    ensures set { set.new ≡ set_after given.now set.old update }
 {
-    match rule {
-        Some(rule) => check_spelled(rule, update),
-        None => {
-            let rule = DbRule {
-                database: first_database(graph, &update),
-                authors: KeyList::from_vec(Vec::new(alloc)),
-            };
-            check_spelled(&rule, update)
-        }
+    if let Some(rule) = given {
+        return check_spelled(rule, update);
     }
-}
-
-/// The database of the first member, or of the update where there is none.
-fn first_database(graph: &Graph<Checked>, update: &Spelled) -> [u8; 32]
-    ensures { result ≡ (rule_of None (graph.now ++ update.now ∷ [])).database }
-{
-    if graph.is_empty() {
-        *update.database()
-    } else {
-        *graph.at(0).database()
+    if let Some(rule) = set {
+        return check_spelled(rule, update);
     }
+    let rule = DbRule {
+        database: *update.database(),
+        authors: KeyList::from_vec(Vec::new(alloc)),
+    };
+    let answer = check_spelled(&rule, update);
+    *set = Some(rule);
+    answer
 }

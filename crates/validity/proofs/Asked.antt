@@ -12,9 +12,11 @@ use Rattle.update_model.specs.declared.value.Value.TheVariants as value
 use Rattle.update_model.specs.Node.{NodeData}
 use Rattle.row_check.specs.Meaning.{value_at}
 use Rattle.schema.specs.declared.rules.MatchRule.{MatchRule}
-use Rattle.schema.specs.declared.verdict.Verdict.TheVariants as verdict
-use Rattle.schema.specs.Visible.{Effects, RowRef, Rules, TableRow, refs, same_row, table_of, visible_rows}
-use Rattle.schema.specs.Verdicts.{all_fit, checks_hold, delete_reason, first_reason, insert_reason, joined, limits_hold, matches_among, nothing, row_inserted, same_author, stands_among, verdict_after}
+use Rattle.table_model.specs.declared.verdict.Verdict.TheVariants as verdict
+use Rattle.table_model.specs.Visible.{Effects, RowRef, Rules, TableRow, refs, same_row, table_of, visible_rows}
+use Rattle.table_model.specs.Verdicts.{delete_reason, first_reason, insert_reason, joined, limits_hold, matches_among, nothing, row_inserted, same_author, stands_among, verdict_after}
+use Rattle.schema.specs.Checks.{checks_hold}
+use Rattle.schema.specs.Columns.{all_fit}
 use Rattle.validity.specs.declared.own_row.OwnRow.{OwnRow}
 use Rattle.validity.specs.Answers.{AreAnswers}
 use Rattle.validity.specs.Asked.{delete_asked, insert_asked, is_anothers, is_deletable, is_in, is_match, is_matched, match_asked, own_row, row_of, stands_asked, verdict_asked}
@@ -54,7 +56,7 @@ more_names names others name s = record {
   any = λ p. list_any-append p names (name ∷ []) ∙ or_none (list_any p names) (p name) ∙ ap (λ b. p name || b) (s.any p);
 }
 
-module _ (rules : Rules) (past : Effects) (row : RowName → Option RowEntry) (child : RowName → Bool) (answers : AreAnswers rules past row child) where
+module _ (rules : Rules) (past : Effects) (row : RowName → Option RowEntry) (child : RowName → Bool) (equal : ℕ → ℕ → Value → ℕ) (number : ℕ → ℕ) (answers : AreAnswers rules past row child equal number) where
   once : Once (visible_rows rules past)
   once = record { once = answers.once }
 

@@ -1,5 +1,4 @@
 mod Asked
-mod Fitting
 mod Lent
 mod Limits
 mod Named

@@ -2,7 +2,7 @@
 use Rattle.std.proofs.Common.{◌≡◌, ℕ, zero, suc, ◌+◌, Bool, ◌&&◌, List, [], ◌∷◌, drop, sym, ap, ◌∙◌, arith, Some, slice_get}
 use Rattle.std.specs.List.{list_all}
 use Rattle.schema.specs.declared.table_def.TableDef.{TableDef}
-use Rattle.schema.specs.Verdicts.{is_unlimited}
+use Rattle.table_model.specs.Verdicts.{is_unlimited}
 
 -- the rest from a place on begins with what stands there
 drop_at : (tables : List TableDef) (i : ℕ) (table : TableDef) → slice_get tables i ≡ Some table → drop i tables ≡ table ∷ drop (suc i) tables

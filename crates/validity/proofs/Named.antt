@@ -5,8 +5,8 @@ use Rattle.std.specs.List.{list_any}
 use Rattle.std.proofs.lemmas.Bool.{or_from}
 use Rattle.update_model.specs.declared.row_entry.RowEntry.{RowEntry}
 use Rattle.update_model.specs.declared.row_name.RowName.{RowName}
-use Rattle.schema.specs.Visible.{TableRow, same_row}
-use Rattle.schema.proofs.Standing.{row_from_same}
+use Rattle.table_model.specs.Visible.{TableRow, same_row}
+use Rattle.table_model.proofs.Standing.{row_from_same}
 use Rattle.validity.specs.Answers.{entry_of_row, entry_in}
 
 -- rows with one name are one

@@ -1,6 +1,6 @@
 -- The first of three reasons.
 use Rattle.std.proofs.Common.{◌≡◌, Bool, true, false, not, ◌||◌, [], ◌∷◌, Some, None, refl, sym}
-use Rattle.schema.specs.Verdicts.{first_reason}
+use Rattle.table_model.specs.Verdicts.{first_reason}
 
 pub six_gone : (d m b c : Bool) → d ≡ false → Some 6 ≡ first_reason ((6, not d || m) ∷ (7, b) ∷ (8, c) ∷ [])
 six_gone true m b c h = absurd (cc)

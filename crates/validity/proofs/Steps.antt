@@ -5,9 +5,9 @@ use Rattle.update_model.specs.declared.op.Op.{Op}
 use Rattle.update_model.specs.declared.row_entry.RowEntry.{RowEntry}
 use Rattle.update_model.specs.declared.row_name.RowName.{RowName}
 use Rattle.update_model.specs.Node.{NodeData}
-use Rattle.schema.specs.declared.verdict.Verdict.{Verdict}
-use Rattle.schema.specs.declared.verdict.Verdict.TheVariants as verdict
-use Rattle.schema.specs.Visible.{Rules}
+use Rattle.table_model.specs.declared.verdict.Verdict.{Verdict}
+use Rattle.table_model.specs.declared.verdict.Verdict.TheVariants as verdict
+use Rattle.table_model.specs.Visible.{Rules}
 use Rattle.validity.specs.declared.own_row.OwnRow.{OwnRow}
 use Rattle.validity.specs.Asked.{deleted_after, op_asked, own_after, verdict_asked}
 

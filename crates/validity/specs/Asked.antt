@@ -13,10 +13,12 @@ use Rattle.update_model.specs.Node.{NodeData}
 use Rattle.row_check.specs.Comparisons.{compares}
 use Rattle.row_check.specs.Meaning.{value_at}
 use Rattle.schema.specs.declared.rules.MatchRule.{MatchRule}
-use Rattle.schema.specs.declared.verdict.Verdict.{Verdict}
-use Rattle.schema.specs.declared.verdict.Verdict.TheVariants as verdict
-use Rattle.schema.specs.Visible.{Rules, TableRow, refs_in, same_row, table_of}
-use Rattle.schema.specs.Verdicts.{all_fit, checks_hold, first_reason, named, same_author}
+use Rattle.table_model.specs.declared.verdict.Verdict.{Verdict}
+use Rattle.table_model.specs.declared.verdict.Verdict.TheVariants as verdict
+use Rattle.table_model.specs.Visible.{Rules, TableRow, refs_in, same_row, table_of}
+use Rattle.table_model.specs.Verdicts.{first_reason, named, same_author}
+use Rattle.schema.specs.Checks.{checks_hold}
+use Rattle.schema.specs.Columns.{all_fit}
 use Rattle.validity.specs.declared.own_row.OwnRow.{OwnRow}
 
 -- a row of the update, as a row of a table

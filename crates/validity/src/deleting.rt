@@ -3,13 +3,14 @@
 ghost use Rattle.std.specs.Prelude.{◌≡◌, IfOk, slice_get, option_copied};
 ghost use Rattle.std.specs.List.{list_any};
 ghost use Rattle.schema.specs.Schemas.{Meaning};
-ghost use Rattle.schema.specs.Verdicts.{same_author};
-ghost use Rattle.schema.specs.Visible.{same_row};
+ghost use Rattle.table_model.specs.Verdicts.{same_author};
+ghost use Rattle.table_model.specs.Visible.{same_row};
 ghost use Rattle.validity.specs.Asked.{delete_asked, is_anothers, is_deletable};
 
 use crate::referring::is_row;
 use schema::{Schema, TableDef};
 use std::alloc::{AllocError, Global};
+use table_model::reason;
 use update_model::{AuthorKey, RowEntry, RowName, RowsAt};
 
 /// The number of the first reason for which this author may not delete a row, from 6 to 8, where the update has deleted
@@ -25,16 +26,16 @@ pub(crate) fn delete_reason<Q: RowsAt>(
     ensures { IfOk result (λ reason. (ask : Meaning) → reason ≡ delete_asked (record { tables = schema.now.tables; ask = ask }) (Q.RowsAt.row rows.now) (Q.RowsAt.has_child rows.now) deleted.now author.now name.now) }
 {
     let Some(row) = rows.row_at(alloc, name)? else {
-        return Ok(Some(6));
+        return Ok(Some(reason::NOT_DELETABLE));
     };
     if !is_deletable(schema, row) || is_among(name, deleted) {
-        return Ok(Some(6));
+        return Ok(Some(reason::NOT_DELETABLE));
     }
     if is_anothers(schema, author, row) {
-        return Ok(Some(7));
+        return Ok(Some(reason::NOT_OWNER));
     }
     if rows.restrict_child(alloc, name)? {
-        return Ok(Some(8));
+        return Ok(Some(reason::RESTRICTED));
     }
     Ok(None)
 }

@@ -1,8 +1,8 @@
 ghost use Rattle.std.specs.Prelude.{◌≡◌, ◌+◌, ◌<◌, [], ◌∷◌, ◌++◌, IsTrue, IfOk};
 ghost use Rattle.std.specs.List.{list_all};
 ghost use Rattle.schema.specs.Schemas.{Meaning};
-ghost use Rattle.schema.specs.Verdicts.{is_unlimited, verdict_on};
-ghost use Rattle.schema.specs.Visible.{Effects};
+ghost use Rattle.table_model.specs.Verdicts.{is_unlimited, verdict_on};
+ghost use Rattle.table_model.specs.Visible.{Effects};
 ghost use Rattle.validity.specs.Answers.{AreAnswers};
 ghost use Rattle.validity.specs.Asked.{delete_asked, deleted_after, insert_asked, op_asked, own_after, verdict_asked};
 
@@ -10,8 +10,9 @@ use crate::deleting::delete_reason;
 use crate::inserting::insert_reason;
 use crate::own_row::{OwnRow, own_row};
 use row_check::{Checks, Native, Relation};
-use schema::{Schema, Verdict, unlimited_tables_hold, verdict_goes_by_operations};
+use schema::Schema;
 use std::alloc::{AllocError, Global};
+use table_model::{Verdict, unlimited_tables_hold, verdict_goes_by_operations};
 use update_model::{AuthorKey, Node, Op, RowName, RowsAt};
 
 /// What the operations so far did.
@@ -42,7 +43,7 @@ pub fn judge<L: Relation, C: Checks<L>, Q: RowsAt>(
 ) -> Result<Verdict, AllocError>
     requires { IsTrue (list_all is_unlimited schema.now.tables) }
     ensures { IfOk result (λ verdict. (past : Effects)
-        → AreAnswers (record { tables = schema.now.tables; ask = L.answer }) past (Q.RowsAt.row rows.now) (Q.RowsAt.has_child rows.now)
+        → AreAnswers (record { tables = schema.now.tables; ask = L.answer }) past (Q.RowsAt.row rows.now) (Q.RowsAt.has_child rows.now) (Q.RowsAt.equal_count rows.now) (Q.RowsAt.count rows.now)
         → verdict ≡ verdict_on (record { tables = schema.now.tables; ask = L.answer }) past node.now) }
 {
     unlimited_tables_hold();

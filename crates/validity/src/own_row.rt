@@ -1,5 +1,5 @@
 ghost use Rattle.std.specs.Prelude.{◌≡◌, map, IfOk};
-ghost use Rattle.schema.specs.Verdicts.{named};
+ghost use Rattle.table_model.specs.Verdicts.{named};
 ghost use Rattle.validity.specs.Asked.{own_row};
 
 use std::alloc::{AllocError, Global};

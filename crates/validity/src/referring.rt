@@ -3,7 +3,7 @@
 ghost use Rattle.std.specs.Prelude.{◌≡◌, ◌==◌, ◌&&◌, IfOk};
 ghost use Rattle.std.specs.List.{list_all, list_any};
 ghost use Rattle.row_check.specs.Meaning.{value_at};
-ghost use Rattle.schema.specs.Visible.{ref_in, refs_in, same_row};
+ghost use Rattle.table_model.specs.Visible.{ref_in, refs_in, same_row};
 ghost use Rattle.validity.specs.Asked.{is_in, is_match, is_matched, match_asked, stands_asked};
 
 use crate::own_row::OwnRow;

@@ -2,7 +2,7 @@
 
 ghost use Rattle.std.specs.Prelude.{◌≡◌};
 ghost use Rattle.std.specs.List.{list_all};
-ghost use Rattle.schema.specs.Verdicts.{is_unlimited};
+ghost use Rattle.table_model.specs.Verdicts.{is_unlimited};
 
 use schema::{Schema, TableDef};
 

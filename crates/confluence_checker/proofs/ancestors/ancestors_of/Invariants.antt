@@ -1,7 +1,7 @@
 use Rattle.std.proofs.Common.{◌≡◌, take}
 use Rattle.update_model.specs.declared.update_id.UpdateId.{UpdateId}
 use Rattle.update_model.specs.Graph.{has}
-use Rattle.schema.specs.Verdicts.{ancestor_of}
+use Rattle.table_model.specs.Verdicts.{ancestor_of}
 use Rattle.confluence_checker.specs.Forms.{newest_first}
 use Rattle.confluence_checker.proofs.ancestors.ancestors_of.Given as goal
 

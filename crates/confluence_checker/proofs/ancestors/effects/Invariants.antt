@@ -1,5 +1,5 @@
 use Rattle.std.proofs.Common.{◌≡◌, take}
-use Rattle.schema.specs.Verdicts.{effects}
+use Rattle.table_model.specs.Verdicts.{effects}
 use Rattle.confluence_checker.specs.Forms.{newest_first}
 use Rattle.confluence_checker.proofs.ancestors.effects.Given as goal
 

@@ -1,6 +1,6 @@
 use Rattle.std.proofs.Common.{◌≡◌, take, filter}
 use Rattle.update_model.specs.Graph.{has}
-use Rattle.schema.specs.Verdicts.{effects}
+use Rattle.table_model.specs.Verdicts.{effects}
 use Rattle.confluence_checker.specs.Forms.{newest_first}
 use Rattle.confluence_checker.proofs.ancestors.effects_among.Given as goal
 

@@ -1,14 +1,14 @@
 use Rattle.std.proofs.Common.{◌≡◌, List, reverse, ap, sym, subst, ◌∙◌}
-use Rattle.schema.specs.Invariants.{invariants_of, shown_in}
-use Rattle.schema.specs.Verdicts.{Judged, effects}
-use Rattle.schema.specs.Visible.{TableRow, Effects, shown_rows}
-use Rattle.confluence_checker.specs.Forms.{AllFit, found_among, newest_first, rules_by, start}
+use Rattle.table_model.specs.Invariants.{invariants_of, shown_in}
+use Rattle.table_model.specs.Verdicts.{Judged, effects}
+use Rattle.table_model.specs.Visible.{TableRow, Effects, shown_rows, rules_with}
+use Rattle.confluence_checker.specs.Forms.{AllFit, found_among, newest_first, start}
 use Rattle.confluence_checker.specs.declared.judged_node.JudgedNode.{JudgedNode}
 use Rattle.confluence_checker.proofs.confirming.found_in.Goals as goal
 
 pub found-requires-after_bounds : goal.found-requires-after_bounds
 found-requires-after_bounds g c κs within =
-    let r = rules_by g.L.Relation.answer c.args.schema.now.tables in
+    let r = rules_with g.L.Relation.answer c.args.schema.now.tables in
     let nodes = reverse c.args.nodes.now in
     let is : c.as_slice-2.result.now ≡ shown_in r nodes =
     c.as_slice-2.ensures.value ∙ c.in_ok-rows.ensures g.L.Relation.answer
@@ -17,7 +17,7 @@ found-requires-after_bounds g c κs within =
 
 pub returns : goal.returns
 returns g c =
-    let r = rules_by g.L.Relation.answer c.args.schema.now.tables in
+    let r = rules_with g.L.Relation.answer c.args.schema.now.tables in
     let nodes = reverse c.args.nodes.now in
     let is : c.as_slice-2.result.now ≡ shown_in r nodes =
     c.as_slice-2.ensures.value ∙ c.in_ok-rows.ensures g.L.Relation.answer

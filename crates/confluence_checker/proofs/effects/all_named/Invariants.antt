@@ -1,5 +1,5 @@
 use Rattle.std.proofs.Common.{◌≡◌, take, map}
-use Rattle.schema.specs.Verdicts.{named}
+use Rattle.table_model.specs.Verdicts.{named}
 use Rattle.confluence_checker.proofs.effects.all_named.Given as goal
 
 abbrev pub invariant-loop-value : goal.invariant-loop-value

@@ -1,5 +1,5 @@
 use Rattle.std.proofs.Common.{◌≡◌, drop}
-use Rattle.schema.specs.Verdicts.{effects_after, effects_of}
+use Rattle.table_model.specs.Verdicts.{effects_after, effects_of}
 use Rattle.confluence_checker.proofs.effects.effects_of.Given as goal
 
 abbrev pub invariant-loop-number : goal.invariant-loop-number

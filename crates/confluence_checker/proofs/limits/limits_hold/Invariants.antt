@@ -1,5 +1,5 @@
 use Rattle.std.proofs.Common.{◌≡◌, drop}
-use Rattle.schema.specs.Verdicts.{limits_hold}
+use Rattle.table_model.specs.Verdicts.{limits_hold}
 use Rattle.confluence_checker.proofs.limits.limits_hold.Given as goal
 
 abbrev pub invariant-loop-number : goal.invariant-loop-number

@@ -1,12 +1,13 @@
 use Rattle.std.proofs.Common.{◌<◌, length, arith}
-use Rattle.schema.specs.Invariants.{each_from, check_declared}
-use Rattle.confluence_checker.specs.Forms.{found_among, rules_by}
+use Rattle.table_model.specs.Invariants.{each_from, check_declared}
+use Rattle.confluence_checker.specs.Forms.{found_among}
+use Rattle.table_model.specs.Visible.{rules_with}
 use Rattle.confluence_checker.proofs.Goings.{found_next}
 use Rattle.confluence_checker.proofs.searching.among_checks.Goals as goal
 
 pub loop-place-preserved : goal.loop-place-preserved
 loop-place-preserved g c =
-    let r = rules_by g.L.Relation.answer c.args.schema.now.tables in
+    let r = rules_with g.L.Relation.answer c.args.schema.now.tables in
     let checks = c.as_slice-checks.result.now in
     let low : c.loop-place.place < length checks = omega arith in
     found_next r c.args.rows.now c.args.which.now (check_declared c.args.number) checks c.loop-place.place c.index-checks-place.result c.loop-place.found c.in_ok-found.found

@@ -1,7 +1,8 @@
 use Rattle.std.proofs.Common.{◌≡◌, drop}
-use Rattle.schema.specs.Invariants.{each_from, check_declared}
-use Rattle.confluence_checker.specs.Forms.{found_among, rules_by}
+use Rattle.table_model.specs.Invariants.{each_from, check_declared}
+use Rattle.confluence_checker.specs.Forms.{found_among}
+use Rattle.table_model.specs.Visible.{rules_with}
 use Rattle.confluence_checker.proofs.searching.among_checks.Given as goal
 
 abbrev pub invariant-loop-place : goal.invariant-loop-place
-invariant-loop-place g l = found_among (rules_by g.L.Relation.answer l.schema.tables) l.rows l.which (each_from (check_declared l.number) l.place (drop l.place l.checks)) l.found ≡ found_among (rules_by g.L.Relation.answer l.schema.tables) l.rows l.which (each_from (check_declared l.number) 0 l.checks) l.fn.before
+invariant-loop-place g l = found_among (rules_with g.L.Relation.answer l.schema.tables) l.rows l.which (each_from (check_declared l.number) l.place (drop l.place l.checks)) l.found ≡ found_among (rules_with g.L.Relation.answer l.schema.tables) l.rows l.which (each_from (check_declared l.number) 0 l.checks) l.fn.before

@@ -2,7 +2,7 @@ use Rattle.std.proofs.Common.{◌<◌, length, get_or, arith}
 use Rattle.std.proofs.lemmas.List.{get_or_default}
 use Rattle.row_check.specs.declared.cmp.Cmp.TheVariants as cmp
 use Rattle.schema.specs.declared.rules.MatchRule.{MatchRule}
-use Rattle.schema.specs.Invariants.{each_from, match_declared}
+use Rattle.table_model.specs.Invariants.{each_from, match_declared}
 use Rattle.confluence_checker.specs.Forms.{found_among}
 use Rattle.confluence_checker.proofs.Goings.{found_next}
 use Rattle.confluence_checker.proofs.searching.among_matches.Goals as goal

@@ -1,5 +1,5 @@
 use Rattle.std.proofs.Common.{◌<◌, length, arith}
-use Rattle.schema.specs.Invariants.{each_from, reference_declared}
+use Rattle.table_model.specs.Invariants.{each_from, reference_declared}
 use Rattle.confluence_checker.specs.Forms.{found_among}
 use Rattle.confluence_checker.proofs.Goings.{found_next}
 use Rattle.confluence_checker.proofs.searching.among_references.Goals as goal

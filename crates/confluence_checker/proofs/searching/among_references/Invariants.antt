@@ -1,6 +1,6 @@
 use Rattle.std.proofs.Common.{◌≡◌, drop}
-use Rattle.schema.specs.Invariants.{each_from, reference_declared}
-use Rattle.schema.specs.Visible.{Rules}
+use Rattle.table_model.specs.Invariants.{each_from, reference_declared}
+use Rattle.table_model.specs.Visible.{Rules}
 use Rattle.confluence_checker.specs.Forms.{found_among}
 use Rattle.confluence_checker.proofs.searching.among_references.Given as goal
 

@@ -2,14 +2,15 @@ use Rattle.std.proofs.Common.{List, ap, ◌∙◌}
 use Rattle.schema.specs.declared.column.Column.{Column}
 use Rattle.schema.specs.declared.rules.MatchRule.{MatchRule}
 use Rattle.schema.specs.declared.rules.UniqueRule.{UniqueRule}
-use Rattle.schema.specs.Invariants.{each_from, unique_declared, at_most_declared, reference_declared, check_declared, match_declared}
-use Rattle.confluence_checker.specs.Forms.{found_among, rules_by}
+use Rattle.table_model.specs.Invariants.{each_from, unique_declared, at_most_declared, reference_declared, check_declared, match_declared}
+use Rattle.confluence_checker.specs.Forms.{found_among}
+use Rattle.table_model.specs.Visible.{rules_with}
 use Rattle.confluence_checker.proofs.Goings.{found_table}
 use Rattle.confluence_checker.proofs.searching.in_table.Goals as goal
 
 pub returns : goal.returns
 returns g c =
-    let r = rules_by g.L.Relation.answer c.args.schema.now.tables in
+    let r = rules_with g.L.Relation.answer c.args.schema.now.tables in
     let rows = c.args.rows.now in
     let which = c.args.which.now in
     let number = c.args.number in

@@ -1,6 +1,6 @@
 use Rattle.std.proofs.Common.{◌≡◌, take, map, filter}
-use Rattle.schema.specs.Tables.{listed}
-use Rattle.schema.specs.Verdicts.{in_table}
+use Rattle.table_model.specs.Tables.{listed}
+use Rattle.table_model.specs.Verdicts.{in_table}
 use Rattle.confluence_checker.proofs.tables.listed_in.Given as goal
 
 abbrev pub invariant-loop-row : goal.invariant-loop-row

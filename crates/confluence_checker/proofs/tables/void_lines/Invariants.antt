@@ -1,5 +1,5 @@
 use Rattle.std.proofs.Common.{◌≡◌, take, reverse}
-use Rattle.schema.specs.Tables.{void_lines}
+use Rattle.table_model.specs.Tables.{void_lines}
 use Rattle.confluence_checker.specs.Forms.{newest_first}
 use Rattle.confluence_checker.proofs.tables.void_lines.Given as goal
 

@@ -1,13 +1,13 @@
 use Rattle.std.proofs.Common.{◌≡◌, ◌≤◌, length, ap, arith, ◌∙◌}
 use Rattle.update_model.specs.Node.{NodeData}
-use Rattle.schema.specs.Verdicts.{verdict_on}
-use Rattle.confluence_checker.specs.Forms.{rules_by}
+use Rattle.table_model.specs.Verdicts.{verdict_on}
+use Rattle.table_model.specs.Visible.{rules_with}
 use Rattle.confluence_checker.proofs.Doing.{verdict_end}
 use Rattle.confluence_checker.proofs.verdicts.verdict_on.Goals as goal
 
 pub returns : goal.returns
 returns g c =
-    let rules = rules_by g.L.Relation.answer c.args.schema.now.tables in
+    let rules = rules_with g.L.Relation.answer c.args.schema.now.tables in
     let node = c.args.node.now in
     let ops = c.as_slice-ops.result.now in
     let same : length ops ≡ length node.ops = ap length (c.as_slice-ops.ensures ∙ ap (λ (n : NodeData). n.ops) c.node.view_is) in

@@ -1,6 +1,6 @@
 use Rattle.std.proofs.Common.{◌∙◌, ap, List, filter, map}
 use Rattle.update_model.specs.declared.row_name.RowName.{RowName}
-use Rattle.schema.specs.Visible.{TableRow}
+use Rattle.table_model.specs.Visible.{TableRow}
 use Rattle.confluence_checker.specs.Forms.{is_among}
 use Rattle.confluence_checker.specs.Seeing.{shown_row_by}
 use Rattle.confluence_checker.proofs.Sight.{shown_seen}

@@ -1,6 +1,6 @@
 use Rattle.std.proofs.Common.{◌∙◌, ap, List, filter}
 use Rattle.update_model.specs.declared.row_name.RowName.{RowName}
-use Rattle.schema.specs.Visible.{TableRow}
+use Rattle.table_model.specs.Visible.{TableRow}
 use Rattle.confluence_checker.specs.Forms.{is_among}
 use Rattle.confluence_checker.proofs.Sight.{visible_seen}
 use Rattle.confluence_checker.proofs.visibility.visible_rows.Goals as goal

@@ -2,15 +2,15 @@ use Rattle.std.proofs.Common.{◌≡◌, ℕ, ◌+◌, ◌∙◌, List, length, 
 use Rattle.std.proofs.lemmas.List.{length-reverse}
 use Rattle.update_model.specs.declared.op.Op.TheVariants as op
 use Rattle.update_model.specs.declared.row_name.RowName.{RowName}
-use Rattle.schema.specs.declared.counterexample.Counterexample.{Counterexample}
-use Rattle.schema.specs.Examples.{Step, path_items, shared_of, one_after, row_numbered}
-use Rattle.confluence_test.specs.Plans.{rules_of}
+use Rattle.table_model.specs.declared.counterexample.Counterexample.{Counterexample}
+use Rattle.table_model.specs.Examples.{Step, path_items, shared_of, one_after, row_numbered}
+use Rattle.table_model.specs.Visible.{bare_rules}
 use Rattle.confluence_test.proofs.Restricts.{restrict_is}
 use Rattle.confluence_test.proofs.examples.restrict_example.Goals as goal
 
 pub returns : goal.returns
 returns c =
-    let rules = rules_of c.args.schema.now.tables in
+    let rules = bare_rules c.args.schema.now.tables in
     let base = c.in_ok-base.base in
     let path = c.in_ok-path.path.items in
     let steps = reverse c.in_ok-back.back.items in

@@ -1,8 +1,8 @@
 use Rattle.std.proofs.Common.{◌∙◌, sym, subst, ap}
 use Rattle.std.specs.Prelude.{IsTrue}
-use Rattle.schema.specs.declared.counterexample.Counterexample.{Counterexample}
-use Rattle.schema.specs.Confluence.{confirms}
-use Rattle.schema.specs.Invariants.{claims_of}
+use Rattle.table_model.specs.declared.counterexample.Counterexample.{Counterexample}
+use Rattle.table_model.specs.Confluence.{confirms}
+use Rattle.table_model.specs.Invariants.{claims_of}
 use Rattle.confluence_test.proofs.laws.refused_is_confirmed.Goals as goal
 
 pub returns : goal.returns

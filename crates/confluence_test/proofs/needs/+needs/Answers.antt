@@ -1,8 +1,8 @@
 use Rattle.std.proofs.Common.{◌≡◌, ◌<◌, ◌≤◌, ◌∙◌, sym, subst, arith, List, ◌∷◌, length}
 use Rattle.schema.specs.declared.column.Column.{Column}
-use Rattle.schema.specs.Examples.{Item, need, needed_but, for_each}
-use Rattle.schema.specs.Visible.{table_of}
-use Rattle.confluence_test.specs.Plans.{rules_of, AreOnce}
+use Rattle.table_model.specs.Examples.{Item, need, needed_but, for_each}
+use Rattle.table_model.specs.Visible.{table_of, bare_rules}
+use Rattle.confluence_test.specs.Plans.{AreOnce}
 use Rattle.confluence_test.proofs.Needing.{need_none, need_kept, need_new, need_end}
 use Rattle.confluence_test.proofs.Once.{once_few, once_all}
 use Rattle.confluence_test.proofs.needs.+needs.Goals as goal
@@ -11,16 +11,16 @@ use Rattle.confluence_test.proofs.needs.+needs.Goals.{need-then-depth-eq0-via-th
 pub need-returns-then-depth-eq0-clause-needed : goal.need-returns-then-depth-eq0-clause-needed
 need-returns-then-depth-eq0-clause-needed t c =
     elim c.then-depth-eq0.branch [
-      | need-then-depth-eq0-via-then-depth-eq0 w ↦ need_none (rules_of c.args.schema.now.tables) c.args.depth c.args.chain.now c.args.table w.if-depth-eq0.true
+      | need-then-depth-eq0-via-then-depth-eq0 w ↦ need_none (bare_rules c.args.schema.now.tables) c.args.depth c.args.chain.now c.args.table w.if-depth-eq0.true
       | need-then-depth-eq0-via-else-depth-eq0+then-has_table w ↦
-          need_kept (rules_of c.args.schema.now.tables) c.args.depth c.args.chain.now c.args.table (sym w.has_table.ensures ∙ w.if-has_table.true)
+          need_kept (bare_rules c.args.schema.now.tables) c.args.depth c.args.chain.now c.args.table (sym w.has_table.ensures ∙ w.if-has_table.true)
     ]
 
 pub need-returns-clause-needed : goal.need-returns-clause-needed
 need-returns-clause-needed t c =
     let some : 0 < c.args.depth = omega arith in
     c.in_ok-push.ensures
-    ∙ need_new (rules_of c.args.schema.now.tables) c.args.depth c.args.chain.now c.need_all_but.new.chain c.in_ok-row.row c.args.table some (sym c.has_table.ensures ∙ c.if-has_table.false)
+    ∙ need_new (bare_rules c.args.schema.now.tables) c.args.depth c.args.chain.now c.need_all_but.new.chain c.in_ok-row.row c.args.table some (sym c.has_table.ensures ∙ c.if-has_table.false)
     c.in_ok-need_all_but.ensures.needed c.in_ok-row.ensures
 
 pub need-returns-clause-once : goal.need-returns-clause-once
@@ -38,7 +38,7 @@ need_all_but-returns-clause-few t c =
 
 pub need_all_but-returns-clause-earlier : goal.need_all_but-returns-clause-earlier
 need_all_but-returns-clause-earlier t c =
-    let rules = rules_of c.args.schema.now.tables in
+    let rules = bare_rules c.args.schema.now.tables in
     let end : length c.as_slice-columns.result.now ≤ c.loop-number.number = omega arith in
     let same : c.as_slice-columns.result.now ≡ (table_of rules c.args.table).columns = cc in
     let told = need_end (need rules c.args.depth) c.args.skip c.as_slice-columns.result.now c.loop-number.number c.loop-number.chain _ end c.loop-number.invariant.needed in

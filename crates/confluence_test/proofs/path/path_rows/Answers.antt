@@ -1,12 +1,12 @@
 use Rattle.std.proofs.Common.{◌≡◌, ℕ, ◌+◌, ◌∙◌, List, [], ◌∷◌, ◌++◌, length, length-append, ap, sym, subst, arith, take, reverse}
-use Rattle.schema.specs.Examples.{Step, Item, item_naming, path_items}
-use Rattle.confluence_test.specs.Plans.{rules_of}
+use Rattle.table_model.specs.Examples.{Step, Item, item_naming, path_items}
+use Rattle.table_model.specs.Visible.{bare_rules}
 use Rattle.confluence_test.proofs.Paths.{rows_next}
 use Rattle.confluence_test.proofs.path.path_rows.Goals as goal
 
 pub loop-step-preserved : goal.loop-step-preserved
 loop-step-preserved c =
-    let rules = rules_of c.args.schema.now.tables in
+    let rules = bare_rules c.args.schema.now.tables in
     let older : ℕ = c.len.result + c.len-in-loop-step.result in
     let row = c.in_ok-item_naming.field-0 in
     let rows = c.loop-step.rows.items in

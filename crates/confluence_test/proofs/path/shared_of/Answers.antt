@@ -1,12 +1,12 @@
 use Rattle.std.proofs.Common.{◌≡◌, ◌≤◌, ◌∙◌, length, ap, arith}
-use Rattle.schema.specs.Examples.{Step, need, for_each}
-use Rattle.confluence_test.specs.Plans.{rules_of}
+use Rattle.table_model.specs.Examples.{Step, need, for_each}
+use Rattle.table_model.specs.Visible.{bare_rules}
 use Rattle.confluence_test.proofs.Paths.{needed_of, shared_next, shared_end}
 use Rattle.confluence_test.proofs.path.shared_of.Goals as goal
 
 pub loop-step-preserved : goal.loop-step-preserved
 loop-step-preserved c =
-    let rules = rules_of c.args.schema.now.tables in
+    let rules = bare_rules c.args.schema.now.tables in
     let grow = need rules c.args.table in
     let grown : c.need_all_but.new.chain ≡ for_each grow (needed_of rules c.step-item.result) c.loop-step.shared =
     c.in_ok-need_all_but.ensures.needed ∙ ap (λ (s : Step). for_each grow (needed_of rules s) c.loop-step.shared) c.step.view_is in
@@ -17,6 +17,6 @@ loop-step-preserved c =
 
 pub returns-clause-shared : goal.returns-clause-shared
 returns-clause-shared c =
-    let rules = rules_of c.args.schema.now.tables in
+    let rules = bare_rules c.args.schema.now.tables in
     let end : length c.args.back.now ≤ c.loop-step.step-index = omega arith in
     shared_end rules c.args.back.now c.loop-step.step-index c.args.table c.args.column c.loop-step.shared c.need_all_but-2.new.chain end c.in_ok-need_all_but-2.ensures.needed c.loop-step.invariant.needed

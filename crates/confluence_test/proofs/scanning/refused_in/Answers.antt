@@ -2,7 +2,7 @@ use Rattle.std.proofs.Common.{◌∙◌, List, ap, Option, slice_get}
 use Rattle.std.specs.Option.{option_or, option_map}
 use Rattle.schema.specs.declared.column.Column.{Column}
 use Rattle.schema.specs.declared.rules.UniqueRule.{UniqueRule}
-use Rattle.schema.specs.Invariants.{each_from, unique_declared}
+use Rattle.table_model.specs.Invariants.{each_from, unique_declared}
 use Rattle.confluence_test.specs.Findings.{declared_of, refused_by}
 use Rattle.confluence_test.specs.declared.finding.Finding.{Finding}
 use Rattle.confluence_test.proofs.Scans.{table_first, references_from}

@@ -2,8 +2,8 @@ use Rattle.std.proofs.Common.{◌+◌, filter, map, take, sym, ◌∙◌}
 use Rattle.std.proofs.lemmas.Result.{IfOk-weaker}
 use Rattle.update_codec.specs.Parts.{entry_of}
 use Rattle.ancestry.specs.Walks.{is_ancestor}
-use Rattle.schema.specs.Visible.{Rules}
-use Rattle.schema.specs.Verdicts.{ancestor_of, effects, judged}
+use Rattle.table_model.specs.Visible.{Rules}
+use Rattle.table_model.specs.Verdicts.{ancestor_of, effects, judged}
 use Rattle.tuple_state.specs.Past.{IsPastOf}
 use Rattle.replay.specs.Arrivals.{nodes_before}
 use Rattle.replay.proofs.Arriving.{front_closed, past_from}

@@ -3,8 +3,8 @@ use Rattle.std.specs.Prelude.{option_map}
 use Rattle.update_model.specs.Node.{NodeData}
 use Rattle.update_codec.specs.Parts.{entry_of}
 use Rattle.update_check.specs.Signed.{node_of}
-use Rattle.schema.specs.Nodes.{IsNext}
-use Rattle.schema.specs.Visible.{Rules}
+use Rattle.table_model.specs.Nodes.{IsNext}
+use Rattle.table_model.specs.Visible.{Rules}
 use Rattle.tuple_state.specs.State.{IsStateOf, State, after}
 use Rattle.replay.specs.Arrivals.{nodes_before}
 use Rattle.replay.proofs.Arriving.{front_closed, is_next_from, length-nodes, next_from}

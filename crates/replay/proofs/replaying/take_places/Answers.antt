@@ -2,7 +2,7 @@ use Rattle.std.proofs.Common.{◌≡◌, ℕ, ◌+◌, ◌<◌, ◌≤◌, List,
 use Rattle.std.specs.List.{filter_map}
 use Rattle.update_codec.specs.Parts.{entry_of, preds_of}
 use Rattle.update_check.specs.Signed.{node_of}
-use Rattle.schema.specs.Nodes.{IsClosed}
+use Rattle.table_model.specs.Nodes.{IsClosed}
 use Rattle.replay.specs.Arrivals.{nodes_before, place_in}
 use Rattle.replay.proofs.Arriving.{are_nodes, front_closed, length-before, places_earlier, places_next}
 use Rattle.replay.proofs.replaying.take_places.Goals as goal

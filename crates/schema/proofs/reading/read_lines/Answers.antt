@@ -1,4 +1,4 @@
-use Rattle.std.proofs.Common.{◌≡◌, true, [], List, ℕ, sym, subst, rules}
+use Rattle.std.proofs.Common.{◌≡◌, [], sym, subst, rules}
 use Rattle.schema.specs.declared.fault.SchemaError.{SchemaError}
 use Rattle.schema.specs.declared.fault.SchemaKind.TheVariants as fault
 use Rattle.schema.specs.Outcome.{HasFaultIn}

@@ -1,10 +1,10 @@
-use Rattle.std.proofs.Common.{◌≡◌, ℕ, ◌+◌, ◌≤◌, length}
+use Rattle.std.proofs.Common.{ℕ, ◌+◌, ◌≤◌, length}
 use Rattle.text_words.specs.Lines.{lines_of}
 use Rattle.schema.specs.declared.draft.Draft.{Draft}
 use Rattle.schema.specs.declared.fault.SchemaKind.{SchemaKind}
 use Rattle.schema.specs.Drafts.{start}
 use Rattle.schema.specs.Schemas.{LeadOn, FaultIn}
-use Rattle.schema.specs.Sound.{IsDraft}
+use Rattle.schema.specs.Kept.{IsDraft}
 use Rattle.schema.proofs.reading.read_lines.Given as goal
 
 -- what the lines that are left lead to, or where they fail, all lines do

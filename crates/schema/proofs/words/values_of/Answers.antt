@@ -1,7 +1,6 @@
 use Rattle.std.proofs.Common.{◌≡◌, ◌+◌, ◌<◌, List, length, drop, Some, sym, ◌∙◌, subst, arith}
-use Rattle.text_words.specs.declared.literal.Literal.{Literal}
-use Rattle.text_words.specs.Literals.{value_of}
-use Rattle.schema.specs.Forms.{values_of}
+use Rattle.schema.specs.declared.form.SampleValue.{SampleValue}
+use Rattle.schema.specs.Forms.{value_in, values_of}
 use Rattle.schema.proofs.SampleRows.{with_front, values_next}
 use Rattle.schema.proofs.words.values_of.Goals as goal
 
@@ -10,6 +9,6 @@ loop-word-preserved c =
     let words = c.args.words.now in
     let i = c.loop-word.word-index in
     let low : c.loop-word.word-index < length c.args.words.now = omega arith in
-    let known : value_of c.word-item.result ≡ Some c.in-Some.value = sym c.in_ok-value.ensures ∙ c.in-Some.is in
-    subst (λ (values : List Literal). values_of words ≡ with_front values (values_of (drop (i + 1) words))) (sym c.in_ok-push-in-Some.ensures.items)
+    let known : value_in c.word-item.result ≡ Some c.in-Some.value = sym c.in_ok-value.ensures ∙ c.in-Some.is in
+    subst (λ (values : List SampleValue). values_of words ≡ with_front values (values_of (drop (i + 1) words))) (sym c.in_ok-push-in-Some.ensures.items)
     (values_next words i c.word-item.result c.loop-word.values.items c.in-Some.value low c.word-item.is known c.loop-word.invariant)

@@ -2,7 +2,7 @@ use Rattle.std.proofs.Common.{ℕ, ◌&&◌, Option, ap, ◌∙◌}
 use Rattle.std.specs.BTreeMap.{get}
 use Rattle.std.specs.List.{list_all}
 use Rattle.update_model.specs.declared.row_name.RowName.{RowName}
-use Rattle.schema.specs.Tables.{name_cmp}
+use Rattle.table_model.specs.Tables.{name_cmp}
 use Rattle.tuple_state.specs.Parents.{passes, passes_place}
 use Rattle.tuple_state.proofs.Walking.{all_inserted}
 use Rattle.tuple_state.proofs.parents.add_parent.Goals as goal

@@ -1,7 +1,7 @@
 use Rattle.std.proofs.Common.{◌≡◌, ℕ, Bool, ◌&&◌, drop}
 use Rattle.std.specs.BTreeMap.{get}
 use Rattle.std.specs.List.{list_all}
-use Rattle.schema.specs.Tables.{name_cmp}
+use Rattle.table_model.specs.Tables.{name_cmp}
 use Rattle.tuple_state.specs.Parents.{all_parents, passes_place}
 use Rattle.tuple_state.proofs.parents.add_parents.Given as goal
 

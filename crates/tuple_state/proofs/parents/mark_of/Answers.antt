@@ -1,6 +1,6 @@
 use Rattle.std.proofs.Common.{◌≤◌, ◌&&◌, length, sym, subst}
 use Rattle.std.specs.BTreeMap.{get}
-use Rattle.schema.specs.Tables.{name_cmp}
+use Rattle.table_model.specs.Tables.{name_cmp}
 use Rattle.tuple_state.specs.Parents.{all_parents, mark_at}
 use Rattle.tuple_state.proofs.Marking.{columns_past}
 use Rattle.tuple_state.proofs.parents.mark_of.Goals as goal

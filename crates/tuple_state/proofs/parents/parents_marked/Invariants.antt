@@ -1,6 +1,6 @@
 use Rattle.std.proofs.Common.{◌≡◌, drop}
 use Rattle.std.specs.BTreeMap.{get}
-use Rattle.schema.specs.Tables.{name_cmp}
+use Rattle.table_model.specs.Tables.{name_cmp}
 use Rattle.tuple_state.specs.Parents.{all_parents, mark_at}
 use Rattle.tuple_state.proofs.parents.parents_marked.Given as goal
 

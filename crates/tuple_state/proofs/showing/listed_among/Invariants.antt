@@ -1,7 +1,7 @@
 use Rattle.std.proofs.Common.{◌≡◌, ◌&&◌, take, filter, map}
-use Rattle.schema.specs.Tables.{listed}
-use Rattle.schema.specs.Verdicts.{in_table}
-use Rattle.schema.specs.Visible.{is_visible, shown}
+use Rattle.table_model.specs.Tables.{listed}
+use Rattle.table_model.specs.Verdicts.{in_table}
+use Rattle.table_model.specs.Visible.{is_visible, shown}
 use Rattle.tuple_state.specs.State.{done_in, row_of, rules_of}
 use Rattle.tuple_state.proofs.showing.listed_among.Given as goal
 

@@ -3,7 +3,7 @@ use Rattle.std.specs.Ordering.{is_lt}
 use Rattle.std.proofs.lemmas.List.Sorted.{IsPermutation-sym, answers_always, ranks_by}
 use Rattle.update_model.specs.Entry.{id_cmp}
 use Rattle.update_model.proofs.Ids.{id_cmp_total}
-use Rattle.schema.specs.declared.void_line.VoidLine.{VoidLine}
+use Rattle.table_model.specs.declared.void_line.VoidLine.{VoidLine}
 use Rattle.tuple_state.proofs.Rising.{rising_from_sort}
 use Rattle.tuple_state.proofs.sorting.sort_lines.Goals as goal
 

@@ -1,8 +1,8 @@
 use Rattle.std.proofs.Common.{◌≡◌, rules}
 use Rattle.std.specs.Ordering.{is_lt}
 use Rattle.std.proofs.lemmas.List.Sorted.{IsPermutation-sym, answers_always, ranks_by}
-use Rattle.schema.specs.declared.shown_row.ShownRow.{ShownRow}
-use Rattle.schema.specs.Tables.{name_cmp}
+use Rattle.table_model.specs.declared.shown_row.ShownRow.{ShownRow}
+use Rattle.table_model.specs.Tables.{name_cmp}
 use Rattle.tuple_state.proofs.Rising.{name_cmp_total, rising_from_sort}
 use Rattle.tuple_state.proofs.sorting.sort_rows.Goals as goal
 

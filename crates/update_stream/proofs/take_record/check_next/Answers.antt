@@ -1,31 +1,24 @@
-use Rattle.std.proofs.Common.{◌++◌, ◌∷◌, [], ◌∙◌, sym, ap, Option}
+use Rattle.std.proofs.Common.{◌∙◌, sym, subst, List, ℕ, Option, None, IfErr}
+use Rattle.update_model.specs.declared.author_key.AuthorKey.{AuthorKey}
 use Rattle.update_model.specs.Rule.{RuleData}
-use Rattle.update_stream.specs.Stream.{rule_of}
-use Rattle.update_stream.proofs.Taken.{checked_under, refused_under, first_rule}
+use Rattle.update_check.specs.Causes.{IsCause}
+use Rattle.update_stream.specs.Steps.{rule_for}
 use Rattle.update_stream.proofs.take_record.check_next.Goals as goal
-
-pub returns-in-Some-clause-found : goal.returns-in-Some-clause-found
-returns-in-Some-clause-found c =
-    let records = c.args.graph.now ++ c.args.update ∷ [] in
-    checked_under c.check_spelled.result (record { database = c.in-Some.rule.database; authors = c.in-Some.rule.authors }) (rule_of c.args.rule.now records) c.args.update
-    (ap (λ (r : Option RuleData). rule_of r records) (sym c.in-Some.is)) c.check_spelled.ensures.found c.check_spelled.ensures.same
 
 pub returns-in-Some-clause-fault : goal.returns-in-Some-clause-fault
 returns-in-Some-clause-fault c =
-    let records = c.args.graph.now ++ c.args.update ∷ [] in
-    refused_under c.check_spelled.result (record { database = c.in-Some.rule.database; authors = c.in-Some.rule.authors }) (rule_of c.args.rule.now records) c.args.update
-    (ap (λ (r : Option RuleData). rule_of r records) (sym c.in-Some.is)) c.check_spelled.ensures.fault
+    let P : Option RuleData → Type 0 = λ given. IfErr c.check_spelled.result (λ fault. IsCause (rule_for given c.args.set.now c.args.update) c.args.update fault) in
+    subst P (sym c.in-Some.is) c.check_spelled.ensures.fault
 
-pub returns-in-None-clause-found : goal.returns-in-None-clause-found
-returns-in-None-clause-found c =
-    let records = c.args.graph.now ++ c.args.update ∷ [] in
-    checked_under c.check_spelled-in-None.result (record { database = c.first_database.result; authors = c.from_vec.result }) (rule_of c.args.rule.now records) c.args.update
-    (first_rule records c.first_database.result c.from_vec.result c.first_database.ensures (c.from_vec.ensures ∙ c.new.ensures.items) ∙ ap (λ (r : Option RuleData). rule_of r records) (sym c.in-None.is))
-    c.check_spelled-in-None.ensures.found c.check_spelled-in-None.ensures.same
+pub returns-in-Some-set-clause-fault : goal.returns-in-Some-set-clause-fault
+returns-in-Some-set-clause-fault c =
+    let P : Option RuleData → Option RuleData → Type 0 = λ given set. IfErr c.check_spelled-in-Some-set.result (λ fault. IsCause (rule_for given set c.args.update) c.args.update fault) in
+    subst (λ given. P given c.args.set.now) (sym c.in_default.is) (subst (P None) (sym c.in-Some-set.is) c.check_spelled-in-Some-set.ensures.fault)
 
-pub returns-in-None-clause-fault : goal.returns-in-None-clause-fault
-returns-in-None-clause-fault c =
-    let records = c.args.graph.now ++ c.args.update ∷ [] in
-    refused_under c.check_spelled-in-None.result (record { database = c.first_database.result; authors = c.from_vec.result }) (rule_of c.args.rule.now records) c.args.update
-    (first_rule records c.first_database.result c.from_vec.result c.first_database.ensures (c.from_vec.ensures ∙ c.new.ensures.items) ∙ ap (λ (r : Option RuleData). rule_of r records) (sym c.in-None.is))
-    c.check_spelled-in-None.ensures.fault
+pub returns-clause-fault : goal.returns-clause-fault
+returns-clause-fault c =
+    let P : Option RuleData → Option RuleData → Type 0 = λ given set. IfErr c.check_spelled-answer.result (λ fault. IsCause (rule_for given set c.args.update) c.args.update fault) in
+    let Q : List ℕ → List AuthorKey → Type 0 = λ database authors. IfErr c.check_spelled-answer.result (λ fault. IsCause (record { database = database; authors = authors }) c.args.update fault) in
+    let own = subst (λ database. Q database c.from_vec.result) c.database.ensures c.check_spelled-answer.ensures.fault in
+    let listed = subst (Q _) (c.from_vec.ensures ∙ c.new.ensures.items) own in
+    subst (λ given. P given c.args.set.now) (sym c.in_default.is) (subst (P None) (sym c.in_default-set.is) listed)

@@ -1,5 +1,5 @@
 use Rattle.std.proofs.Common.{◌≡◌, sym, ap, ◌∙◌}
-use Rattle.schema.specs.Visible.{Rules}
+use Rattle.table_model.specs.Visible.{Rules}
 use Rattle.validity.specs.Asked.{is_anothers, is_deletable}
 use Rattle.validity.proofs.Lent.{lent}
 use Rattle.validity.proofs.Reasons.{eight, no_reason, seven, six_gone, six_twice}

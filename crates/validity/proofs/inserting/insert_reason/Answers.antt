@@ -1,7 +1,11 @@
-use Rattle.std.proofs.Common.{[]}
-use Rattle.validity.proofs.Fitting.{checks_sound}
+use Rattle.std.proofs.Common.{sym, ◌∙◌}
+use Rattle.schema.proofs.RowKinds.{fits_kinds}
+use Rattle.schema.proofs.Soundness.{checks_sound}
 use Rattle.validity.proofs.inserting.insert_reason.Goals as goal
 
 pub checks_hold-requires-clause-sound : goal.checks_hold-requires-clause-sound
 checks_hold-requires-clause-sound g c κs within =
-    rw (c.as_slice-columns.ensures, c.as_slice.ensures) (checks_sound c.args.schema.now.tables [] c.tables.ensures.kept.tables c.args.row.now.table c.table-table.result.now c.table-table.ensures)
+    rw (c.as_slice-columns.ensures, c.as_slice.ensures) (checks_sound c.args.schema.now.tables c.tables.ensures.kept.tables c.args.row.now.table c.table-table.result.now c.table-table.ensures)
+
+pub checks_hold-requires-clause-kinds : goal.checks_hold-requires-clause-kinds
+checks_hold-requires-clause-kinds g c κs within = fits_kinds c.as_slice-columns.result.now c.as_slice-values.result.now (sym c.all_fit.ensures ∙ c.if-not-all_fit.false)

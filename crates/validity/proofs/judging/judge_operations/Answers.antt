@@ -1,5 +1,5 @@
 use Rattle.std.proofs.Common.{◌≡◌, ◌+◌, [], length, refl, sym, ap, ◌∙◌, arith}
-use Rattle.schema.specs.Visible.{Rules}
+use Rattle.table_model.specs.Visible.{Rules}
 use Rattle.validity.specs.Asked.{verdict_asked}
 use Rattle.validity.proofs.Steps.{on_at, valid_at, void_at}
 use Rattle.validity.proofs.judging.judge_operations.Goals as goal

@@ -1,5 +1,5 @@
 use Rattle.std.proofs.Common.{◌≡◌, map, take}
-use Rattle.schema.specs.Verdicts.{named}
+use Rattle.table_model.specs.Verdicts.{named}
 use Rattle.validity.proofs.own_row.named_values.Given as goal
 
 abbrev pub invariant-loop-value : goal.invariant-loop-value

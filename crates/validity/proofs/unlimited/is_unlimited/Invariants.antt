@@ -1,6 +1,6 @@
 use Rattle.std.proofs.Common.{◌≡◌, drop}
 use Rattle.std.specs.List.{list_all}
-use Rattle.schema.specs.Verdicts.{is_unlimited}
+use Rattle.table_model.specs.Verdicts.{is_unlimited}
 use Rattle.validity.proofs.unlimited.is_unlimited.Given as goal
 
 -- the tables that are left decide

@@ -2,7 +2,7 @@ use Rattle.std.proofs.Common.{ℕ, Bool, ◌&&◌}
 use Rattle.row_check.specs.declared.cmp.Cmp.TheVariants.{Eq}
 use Rattle.row_check.specs.Comparisons.{compares}
 use Rattle.row_check.specs.Meaning.{value_at}
-use Rattle.schema.specs.Verdicts.{in_table}
+use Rattle.table_model.specs.Verdicts.{in_table}
 use Rattle.tuple_state.proofs.Counting.{tested}
 use Rattle.tuple_state.proofs.at.At.equals_in.Goals as goal
 

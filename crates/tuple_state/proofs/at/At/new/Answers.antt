@@ -1,4 +1,4 @@
-use Rattle.tuple_state.proofs.Answering.{layered_then}
+use Rattle.tuple_state.proofs.Answering.{lasts_then, layered_then}
 use Rattle.tuple_state.proofs.Keeping.{layered_now}
 use Rattle.tuple_state.proofs.at.At.new.Goals as goal
 
@@ -6,5 +6,6 @@ pub invariant_of-result : goal.invariant_of-result
 invariant_of-result g c =
     let it = c.requires.past in record {
       founded = layered_now it.rules it.nodes c.args.tables.now it.is;
+      lasting = lasts_then it.rules it.nodes it.node c.args.tables.now _ it.is it.past_of;
       layered = layered_then it.rules it.nodes it.node c.args.tables.now _ it.is it.past_of;
     }

@@ -2,7 +2,7 @@ use Rattle.std.proofs.Common.{◌≡◌, ℕ, Bool, ◌&&◌, Some, ap, sym, ◌
 use Rattle.std.specs.Prelude.{slice_get}
 use Rattle.std.specs.List.{list_any}
 use Rattle.schema.specs.Columns.{is_restrict}
-use Rattle.schema.specs.Visible.{is_visible, refs, same_row}
+use Rattle.table_model.specs.Visible.{is_visible, refs, same_row}
 use Rattle.tuple_state.specs.declared.inserted.Inserted.{Inserted}
 use Rattle.tuple_state.specs.Past.{done_then}
 use Rattle.tuple_state.specs.State.{row_of, rules_of}

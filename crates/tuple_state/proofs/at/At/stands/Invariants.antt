@@ -1,7 +1,7 @@
 use Rattle.std.proofs.Common.{◌≡◌, true, nat_lt, length, Some}
 use Rattle.std.specs.Prelude.{slice_get}
 use Rattle.std.specs.List.{list_all}
-use Rattle.schema.specs.Visible.{is_visible}
+use Rattle.table_model.specs.Visible.{is_visible}
 use Rattle.tuple_state.specs.declared.inserted.Inserted.{Inserted}
 use Rattle.tuple_state.specs.Parents.{limit_of, passes_row}
 use Rattle.tuple_state.specs.Past.{done_then}

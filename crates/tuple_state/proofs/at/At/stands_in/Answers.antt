@@ -1,5 +1,5 @@
 use Rattle.std.proofs.Common.{ℕ, Bool}
-use Rattle.schema.specs.Verdicts.{in_table}
+use Rattle.table_model.specs.Verdicts.{in_table}
 use Rattle.tuple_state.proofs.Counting.{tested}
 use Rattle.tuple_state.proofs.at.At.stands_in.Goals as goal
 

@@ -2,7 +2,7 @@ use Rattle.std.proofs.Common.{ℕ, ◌<◌, ◌≤◌, Bool, subst, ◌∙◌, �
 use Rattle.row_check.specs.declared.cmp.Cmp.TheVariants.{Eq}
 use Rattle.row_check.specs.Comparisons.{compares}
 use Rattle.row_check.specs.Meaning.{value_at}
-use Rattle.schema.specs.Verdicts.{in_table}
+use Rattle.table_model.specs.Verdicts.{in_table}
 use Rattle.tuple_state.proofs.Counting.{all_counted, no_more, one_more}
 use Rattle.tuple_state.proofs.Dropping.{row_there}
 use Rattle.tuple_state.proofs.at.AtRowsAt.equal_rows.Goals as goal

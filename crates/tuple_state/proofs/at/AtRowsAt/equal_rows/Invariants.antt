@@ -3,7 +3,7 @@ use Rattle.std.specs.Prelude.{count_by}
 use Rattle.row_check.specs.declared.cmp.Cmp.TheVariants.{Eq}
 use Rattle.row_check.specs.Comparisons.{compares}
 use Rattle.row_check.specs.Meaning.{value_at}
-use Rattle.schema.specs.Verdicts.{in_table}
+use Rattle.table_model.specs.Verdicts.{in_table}
 use Rattle.tuple_state.proofs.Counting.{seen_on}
 use Rattle.tuple_state.proofs.at.AtRowsAt.equal_rows.Given as goal
 

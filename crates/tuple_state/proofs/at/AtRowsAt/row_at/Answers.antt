@@ -1,5 +1,5 @@
 use Rattle.std.proofs.Common.{sym, ap, ◌∙◌}
-use Rattle.schema.specs.Visible.{is_visible}
+use Rattle.table_model.specs.Visible.{is_visible}
 use Rattle.tuple_state.specs.declared.inserted.Inserted.{Inserted}
 use Rattle.tuple_state.specs.State.{rules_of}
 use Rattle.tuple_state.proofs.Finding.{same_some, row_absent, row_hidden, row_shown}

@@ -1,5 +1,5 @@
 use Rattle.std.proofs.Common.{ℕ, ◌<◌, ◌≤◌, Bool, subst, ◌∙◌}
-use Rattle.schema.specs.Verdicts.{in_table}
+use Rattle.table_model.specs.Verdicts.{in_table}
 use Rattle.tuple_state.proofs.Counting.{all_counted, no_more, one_more}
 use Rattle.tuple_state.proofs.Dropping.{row_there}
 use Rattle.tuple_state.proofs.at.AtRowsAt.row_count.Goals as goal

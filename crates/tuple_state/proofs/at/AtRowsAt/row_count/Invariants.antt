@@ -1,6 +1,6 @@
 use Rattle.std.proofs.Common.{◌≡◌, take}
 use Rattle.std.specs.Prelude.{count_by}
-use Rattle.schema.specs.Verdicts.{in_table}
+use Rattle.table_model.specs.Verdicts.{in_table}
 use Rattle.tuple_state.proofs.Counting.{seen_on}
 use Rattle.tuple_state.proofs.at.AtRowsAt.row_count.Given as goal
 

@@ -3,8 +3,8 @@ use Rattle.std.specs.Prelude.{slice_get}
 use Rattle.std.specs.List.{list_all}
 use Rattle.std.specs.BTreeMap.{get}
 use Rattle.schema.specs.declared.column.Column.{Column}
-use Rattle.schema.specs.Tables.{name_cmp}
-use Rattle.schema.specs.Visible.{cascade_refs}
+use Rattle.table_model.specs.Tables.{name_cmp}
+use Rattle.table_model.specs.Visible.{cascade_refs}
 use Rattle.tuple_state.specs.Kept.{place_of}
 use Rattle.tuple_state.specs.Parents.{all_parents, passes_place}
 use Rattle.tuple_state.specs.State.{State, row_of, rules_of}

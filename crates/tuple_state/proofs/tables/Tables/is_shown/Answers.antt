@@ -1,6 +1,6 @@
 use Rattle.std.proofs.Common.{length, ap, sym, ◌∙◌, arith}
 use Rattle.std.proofs.lemmas.List.{length-map}
-use Rattle.schema.specs.Visible.{is_visible}
+use Rattle.table_model.specs.Visible.{is_visible}
 use Rattle.tuple_state.specs.State.{State, done_in, rules_of}
 use Rattle.tuple_state.proofs.Lookups.{row_found}
 use Rattle.tuple_state.proofs.Listing.{mark_shown, none_shown}

@@ -3,7 +3,7 @@ use Rattle.std.specs.Prelude.{slice_get}
 use Rattle.std.specs.List.{list_any}
 use Rattle.schema.specs.declared.column.Column.{Column}
 use Rattle.schema.specs.Columns.{is_restrict}
-use Rattle.schema.specs.Visible.{refs, same_row}
+use Rattle.table_model.specs.Visible.{refs, same_row}
 use Rattle.tuple_state.specs.Parents.{any_restricts}
 use Rattle.tuple_state.specs.State.{State, row_of, rules_of}
 use Rattle.tuple_state.proofs.Dropping.{same_found, columns_found}

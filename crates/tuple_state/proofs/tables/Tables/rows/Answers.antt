@@ -1,6 +1,6 @@
 use Rattle.std.proofs.Common.{List, ap, sym, subst, ◌∙◌}
-use Rattle.schema.specs.declared.shown_row.ShownRow.{ShownRow}
-use Rattle.schema.specs.Tables.{AreRowsIn}
+use Rattle.table_model.specs.declared.shown_row.ShownRow.{ShownRow}
+use Rattle.table_model.specs.Tables.{AreRowsIn}
 use Rattle.tuple_state.specs.State.{State}
 use Rattle.tuple_state.proofs.Listing.{listed_rows, rows_now}
 use Rattle.tuple_state.proofs.tables.Tables.rows.Goals as goal

@@ -1,0 +1,85 @@
+-- A front that is on the disk and left alone.
+use Rattle.std.proofs.Common.{◌≡◌, ◌⊎◌, inl, inr, ℕ, ◌<◌, ◌≤◌, List, [], ◌∷◌, length, take, refl, sym, ◌∙◌, ap, subst, arith, IsTrue, Result, Ok, Err}
+use Rattle.std.proofs.lemmas.List.{get_or-take, length-take-le}
+use Rattle.std.specs.Prelude.{OnOk, OnErr}
+use Rattle.bec_disk.specs.Disk.{Moment, DiskState, IsImage, IsSettled, IsUnwritten, IsSameDisk, Writes, Cuts, Syncs, moments, synced_at, written_at, cut_at}
+use Rattle.bec_disk.specs.Front.{AllBehind, Keeps, WritesBehind}
+use Rattle.bec_disk.proofs.Images.{same_numbers}
+use Rattle.bec_disk.proofs.Moments.{newest-same, no_moment, one_moment, stays, followed_by, told, told_before}
+use Rattle.bec_disk.proofs.Runs.{then_synced}
+
+unwritten_before : (n : ℕ) (ranges : List (ℕ × ℕ)) (i : ℕ) → i < n → AllBehind n ranges → IsUnwritten ranges i
+unwritten_before n [] i lt behind = tt
+unwritten_before n (range ∷ ranges) i lt behind = (inl (omega (arith, behind.0)), unwritten_before n ranges i lt behind.1)
+
+-- a crash leaves a front that is kept
+pub image-front : (n : ℕ) (front : List ℕ) (m : Moment) (c : List ℕ) → Keeps n front m → IsImage m c → take n c ≡ front
+image-front n front m c keeps image =
+    let long : n ≤ length c = omega (arith, keeps.longer, image.no_shorter) in
+    let lc : length (take n c) ≡ n = length-take-le n c long in
+    let ls : length (take n m.synced) ≡ n = length-take-le n m.synced keeps.long in
+    same_numbers (take n c) (take n m.synced) (lc ∙ sym ls)
+    (λ i lt. let lt' : i < n = omega (arith, lc) in
+    get_or-take n c i 0 lt' ∙ image.kept i (omega (arith, keeps.long)) (omega arith) (unwritten_before n m.written i lt' keeps.behind) ∙ sym (get_or-take n m.synced i 0 lt'))
+    ∙ keeps.is_front
+
+pub Keeps-synced : (n : ℕ) (bytes : List ℕ) → n ≤ length bytes → Keeps n (take n bytes) (synced_at bytes)
+Keeps-synced n bytes long = record { is_front = refl; long = long; longer = long; behind = tt }
+
+pub Keeps-settled : (n : ℕ) (disk : DiskState) → IsSettled disk → n ≤ length disk.seen → Keeps n (take n disk.seen) disk.now
+Keeps-settled n disk settled long = subst (λ (m : Moment). Keeps n (take n disk.seen) m) (sym settled) (Keeps-synced n disk.seen long)
+
+pub Keeps-written : (n : ℕ) (front : List ℕ) (m : Moment) (at k : ℕ) → Keeps n front m → n ≤ at → Keeps n front (written_at at k m)
+Keeps-written n front m at k keeps le = record { is_front = keeps.is_front; long = keeps.long; longer = keeps.longer; behind = (le, keeps.behind) }
+
+pub Keeps-cut : (n : ℕ) (front : List ℕ) (m : Moment) (len : ℕ) → Keeps n front m → n ≤ len → Keeps n front (cut_at len m)
+Keeps-cut n front m len keeps le = record { is_front = keeps.is_front; long = keeps.long; longer = omega (arith, keeps.longer); behind = keeps.behind }
+
+-- a run that begins with a front that is kept
+pub behind-kept : (n : ℕ) (front : List ℕ) (old : DiskState) → (IsTrue old.tells → Keeps n front old.now) → WritesBehind n front old old
+behind-kept n front old keeps = record { keeps = keeps; run = stays old old (λ c. take n c ≡ front) refl (λ tells c image. image-front n front old.now c (keeps tells) image) }
+
+-- a call after which one moment came that keeps the front, or none
+one_call : (n : ℕ) (front : List ℕ) (old mid new : DiskState) (m : Moment) {X : Type 0} → WritesBehind n front old mid → IsSameDisk mid new
+    → (IsTrue mid.tells → (moments new ≡ m ∷ moments mid) ⊎ (X × (new ≡ mid))) → (Keeps n front mid.now → Keeps n front m) → WritesBehind n front old new
+one_call n front old mid new m so_far same counts more = record {
+  keeps = λ tells. elim (counts (told old mid so_far.run.disk tells)) [
+    | inl came ↦ subst (λ (k : Moment). Keeps n front k) (sym (newest-same new.now m new.past (moments mid) came)) (more (so_far.keeps tells))
+    | inr none ↦ subst (λ (s : DiskState). Keeps n front s.now) (sym none.1) (so_far.keeps tells)
+  ];
+  run = followed_by old mid new (λ c. take n c ≡ front) so_far.run record {
+    disk = same;
+    first = λ tells c image. image-front n front mid.now c (so_far.keeps (told_before old mid so_far.run.disk tells)) image;
+    run = λ tells. elim (counts tells) [
+      | inl came ↦ one_moment (moments mid) (moments new) m (λ c. take n c ≡ front) came (λ c image. image-front n front m c (more (so_far.keeps (told_before old mid so_far.run.disk tells))) image)
+      | inr none ↦ no_moment (moments mid) (moments new) (λ c. take n c ≡ front) (ap moments none.1)
+    ];
+  };
+}
+
+-- a write behind the front
+pub behind-write : {T E : Type 0} (n : ℕ) (front : List ℕ) (old mid new : DiskState) (at : ℕ) (bytes : List ℕ) (result : Result T E) → WritesBehind n front old mid → n ≤ at → Writes mid at bytes result new
+    → WritesBehind n front old new
+behind-write n front old mid new at bytes result so_far le writes =
+    one_call n front old mid new (written_at at (length bytes) mid.now) so_far writes.disk writes.counts (λ keeps. Keeps-written n front mid.now at (length bytes) keeps le)
+
+-- a cut behind the front
+pub behind-cut : {T E : Type 0} (n : ℕ) (front : List ℕ) (old mid new : DiskState) (len : ℕ) (result : Result T E) → WritesBehind n front old mid → n ≤ len → Cuts mid len result new
+    → WritesBehind n front old new
+behind-cut n front old mid new len result so_far le cuts =
+    one_call n front old mid new (cut_at len mid.now) so_far cuts.disk cuts.counts (λ keeps. Keeps-cut n front mid.now len keeps le)
+
+-- a sync keeps the front too
+pub behind-sync : {T E : Type 0} (n : ℕ) (front : List ℕ) (old mid new : DiskState) (result : Result T E) → WritesBehind n front old mid → (IsTrue mid.tells → IsImage mid.now mid.seen) → Syncs mid result new
+    → WritesBehind n front old new
+behind-sync n front old mid new result so_far reads syncs = record {
+  keeps = λ tells. let mid_tells = told old mid so_far.run.disk tells in by_result result (syncs.counts mid_tells) (syncs.failed mid_tells) (so_far.keeps tells) (reads mid_tells);
+  run = then_synced old mid new (λ c. take n c ≡ front) result so_far.run reads syncs;
+}
+  where
+    by_result : {T E : Type 0} (result : Result T E) → OnOk result (moments new ≡ synced_at mid.seen ∷ moments mid) → OnErr result (new ≡ mid) → Keeps n front mid.now → IsImage mid.now mid.seen → Keeps n front new.now
+    by_result (Ok value) more same keeps is_image =
+        let long : n ≤ length mid.seen = omega (arith, keeps.longer, is_image.no_shorter) in
+        subst (λ (m : Moment). Keeps n front m) (sym (newest-same new.now (synced_at mid.seen) new.past (moments mid) more))
+        (subst (λ (f : List ℕ). Keeps n f (synced_at mid.seen)) (image-front n front mid.now mid.seen keeps is_image) (Keeps-synced n mid.seen long))
+    by_result (Err error) more same keeps is_image = subst (λ (s : DiskState). Keeps n front s.now) (sym same) keeps

@@ -1,0 +1,9 @@
+pub mod Disk
+pub mod Front
+pub mod Gated
+pub mod Images
+pub mod Plan
+pub mod Replay
+pub mod Shelf
+pub mod Slot
+pub mod Sound

@@ -1,0 +1,87 @@
+ghost use Rattle.std.specs.Prelude.{◌≡◌, ◌⊎◌, ◌≤◌, ◌<◌, ◌↔◌, IsErr, IsTrue, Contains, false, true};
+ghost use Rattle.bec_bytes.specs.Causes.{one_more, faults_after};
+ghost use Rattle.bec_disk.specs.Plan.{IsToFail};
+
+use crate::disk_fault::DiskFault;
+use std::marker::Model;
+
+/// Which calls of a disk in memory are to fail, and how many it had.
+#[derive(Debug, Drop)]
+pub struct DiskPlan {
+    failing: Vec<u32>,
+    last: u64,
+    calls: u64,
+    faults: u64,
+    starved: bool,
+}
+
+impl Model for DiskPlan {
+    ghost use Rattle.bec_disk.specs.Plan.{PlanState};
+
+    ghost Value = { PlanState };
+
+    ghost view = { λ p. record {
+      failing = p.failing.items;
+      last = p.last;
+      calls = p.calls;
+      faults = p.faults;
+      starved = p.starved;
+    } };
+}
+
+impl DiskPlan {
+    /// A plan before the first call: the calls that `failing` numbers, counted from 1, and those
+    /// behind the number `last` are to fail.
+    pub fn new(failing: Vec<u32>, last: u64) -> DiskPlan
+        ensures { result ≡ record { failing = failing.items; last = last; calls = 0; faults = 0; starved = false } }
+    {
+        DiskPlan {
+            failing,
+            last,
+            calls: 0,
+            faults: 0,
+            starved: false,
+        }
+    }
+
+    /// Counts a call, and a fault where it is one of those that are to fail.
+    pub fn count_call(&mut self) -> Result<(), DiskFault>
+        ensures fails { IsErr result ↔ IsToFail self.old }
+        ensures counted { self.new ≡ record self.old { calls = one_more self.old.calls; faults = faults_after result self.old.faults } }
+        ensures later { self.old.faults ≤ self.new.faults }
+    {
+        self.calls = self.calls.saturating_add(1);
+        if is_to_fail(&self.failing, self.last, self.calls) {
+            self.faults = self.faults.saturating_add(1);
+            return Err(DiskFault);
+        }
+        Ok(())
+    }
+
+    /// Counts a fault that is for want of memory.
+    pub fn starve(&mut self) -> DiskFault
+        ensures starved { self.new ≡ record self.old { faults = one_more self.old.faults; starved = true } }
+        ensures later { self.old.faults ≤ self.new.faults }
+    {
+        self.starved = true;
+        self.faults = self.faults.saturating_add(1);
+        DiskFault
+    }
+
+    /// Whether a call failed that was not to fail.
+    pub fn starved(&self) -> bool
+        ensures { result ≡ self.now.starved }
+    {
+        self.starved
+    }
+}
+
+/// Whether the call of this number is to fail.
+fn is_to_fail(failing: &[u32], last: u64, call: u64) -> bool
+    ensures { IsTrue result ↔ (Contains failing.now call ⊎ (last < call)) }
+{
+    if last < call {
+        return true;
+    }
+    failing.iter().any(|number| u64::from(*number) == call)
+}

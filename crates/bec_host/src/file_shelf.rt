@@ -1,0 +1,198 @@
+ghost use Rattle.std.specs.Prelude.{◌≡◌, ◌≤◌};
+ghost use Rattle.bec_bytes.specs.Causes.{Rose};
+ghost use Rattle.bec_host.specs.Untold.{untold_shelf};
+
+use crate::file_disk::FileDisk;
+use bec_bytes::Counted;
+use bec_disk::{DiskFault, Part, Shelf};
+use std::alloc::{AllocError, Global};
+use std::fs::{File, OpenOptions};
+use std::io::{ErrorKind, Write};
+use std::os::unix::fs::OpenOptionsExt;
+use std::path::Path;
+use std::rt::Files;
+use std::{fs, io};
+
+/// A shelf over directories. A part is a file of its directory, locked while it is handed out (`flock`), so that two
+/// programs never have one part at once: the second one's `find` fails. The system gives the lock up when a process ends.
+///
+/// Only a file that is not there is an absent part; whatever else keeps it from being opened is a fault. Each fault is told in a
+/// sentence to `explain`, as a rule standard error, whose own errors are passed over.
+#[derive(Drop)]
+pub struct FileShelf<R: Files<File = File> + AllocGlobal + Drop, W: Write + Drop> {
+    /// The system's files.
+    rt: R,
+    /// Where faults are explained.
+    explain: W,
+    /// How many calls failed, and how many disks came back that had failed.
+    faults: u64,
+}
+
+impl<R: Files<File = File> + AllocGlobal + Drop, W: Write + Drop> FileShelf<R, W> {
+    /// A shelf over the directories of the system.
+    pub fn new(rt: R, explain: W) -> FileShelf<R, W>
+        ensures { result.faults ≡ 0 }
+    {
+        FileShelf {
+            rt,
+            explain,
+            faults: 0,
+        }
+    }
+
+    /// Counts a fault of the file at a path, and explains it.
+    fn fault(&mut self, path: &str, error: &io::Error) -> DiskFault
+        ensures later { self.old.faults ≤ self.new.faults }
+        ensures rose { Rose self.old.faults self.new.faults }
+    {
+        let _ = match error.kind() {
+            ErrorKind::WouldBlock => {
+                writeln!(self.explain, "bec: {path}: another program is using it")
+            }
+            _ => writeln!(self.explain, "bec: {path}: {error}"),
+        };
+        self.faults = self.faults.saturating_add(1);
+        DiskFault
+    }
+}
+
+/// The name of a part's file.
+fn file_name(part: Part) -> &'static str {
+    match part {
+        Part::Schema => "schema",
+        Part::Updates => "updates",
+        Part::Key => "key",
+        Part::Used => "used",
+        Part::Peers => "peers",
+    }
+}
+
+/// The path of a part's file. The empty directory is the current one.
+fn path_of(alloc: Global, dir: &str, part: Part) -> Result<String, AllocError> {
+    let name = file_name(part);
+    if dir.is_empty() {
+        return name.to_string(alloc);
+    }
+    format!(in alloc; "{dir}/{name}")
+}
+
+/// Opens a file and locks it. Where another process has it, that is an error.
+fn open_locked<R: Files<File = File>>(rt: &R, how: &OpenOptions, path: &str) -> io::Result<File> {
+    let file = how.open(rt, path)?;
+    file.try_lock()?;
+    Ok(file)
+}
+
+/// Opens a part where it exists. What an earlier process wrote and did not sync is synced.
+fn open_part<R: Files<File = File>>(rt: &R, path: &str) -> io::Result<Option<File>> {
+    let mut how = OpenOptions::new();
+    how.read(true).write(true);
+    match open_locked(rt, &how, path) {
+        Ok(file) => {
+            file.sync_all()?;
+            Ok(Some(file))
+        }
+        Err(error) if error.kind() == ErrorKind::NotFound => Ok(None),
+        Err(error) => Err(error),
+    }
+}
+
+/// Makes an empty part, and its directory where there is none. A key is for its owner alone. The file and its name are
+/// synced, so that the part exists after a crash.
+fn make_part<R: Files<File = File> + AllocGlobal>(
+    rt: &R,
+    dir: &str,
+    part: Part,
+    path: &str,
+) -> io::Result<File> {
+    make_directories(rt, dir)?;
+    let mut how = OpenOptions::new();
+    how.read(true).write(true).create_new(true);
+    if part == Part::Key {
+        how.mode(0o600);
+    }
+    let file = open_locked(rt, &how, path)?;
+    file.sync_all()?;
+    sync_names(rt, dir)?;
+    Ok(file)
+}
+
+/// Makes a directory and those above it, where there are none.
+fn make_directories<R: Files<File = File> + AllocGlobal>(rt: &R, dir: &str) -> io::Result<()> {
+    let mut path = String::new(rt.alloc());
+    for (place, name) in dir.split('/').enumerate() {
+        if place > 0 {
+            path.push('/')?;
+        }
+        path.push_str(name)?;
+        if !name.is_empty() {
+            make_directory(rt, path.as_str())?;
+        }
+    }
+    Ok(())
+}
+
+/// Makes a directory where there is none, and syncs its name. That of one that was there is synced where the one above
+/// it can be read: an earlier process may have made it and stopped.
+fn make_directory<R: Files<File = File>>(rt: &R, path: &str) -> io::Result<()> {
+    let above = match Path::new(path).parent().and_then(|above| above.to_str()) {
+        None => return Ok(()),
+        Some(above) => above,
+    };
+    match fs::create_dir(rt, path) {
+        Ok(()) => sync_names(rt, above),
+        Err(error) if error.kind() == ErrorKind::AlreadyExists => {
+            let _ = sync_names(rt, above);
+            Ok(())
+        }
+        Err(error) => Err(error),
+    }
+}
+
+/// Makes the names in a directory last. The empty name is the current directory's.
+fn sync_names<R: Files<File = File>>(rt: &R, dir: &str) -> io::Result<()> {
+    let name = if dir.is_empty() { "." } else { dir };
+    File::open(rt, name)?.sync_all()
+}
+
+impl<R: Files<File = File> + AllocGlobal + Drop, W: Write + Drop> Counted for FileShelf<R, W> {
+    ghost faults = { λ s. s.faults };
+}
+
+impl<R: Files<File = File> + AllocGlobal + Drop, W: Write + Drop> Shelf for FileShelf<R, W> {
+    type D = FileDisk<File>;
+
+    ghost state = { λ _. untold_shelf };
+
+    fn find(&mut self, dir: &str, part: Part) -> Result<Option<FileDisk<File>>, DiskFault> {
+        let Ok(path) = path_of(self.rt.alloc(), dir, part) else {
+            return Err(self.fault(dir, &io::Error::from(ErrorKind::OutOfMemory)));
+        };
+        match open_part(&self.rt, path.as_str()) {
+            Ok(found) => Ok(found.map(|file| FileDisk::new(file, path))),
+            Err(error) => Err(self.fault(path.as_str(), &error)),
+        }
+    }
+
+    fn make(&mut self, dir: &str, part: Part) -> Result<FileDisk<File>, DiskFault> {
+        let Ok(path) = path_of(self.rt.alloc(), dir, part) else {
+            return Err(self.fault(dir, &io::Error::from(ErrorKind::OutOfMemory)));
+        };
+        match make_part(&self.rt, dir, part, path.as_str()) {
+            Ok(file) => Ok(FileDisk::new(file, path)),
+            Err(error) => Err(self.fault(path.as_str(), &error)),
+        }
+    }
+
+    fn put_back(&mut self, disk: FileDisk<File>) {
+        if !disk.is_faulty() {
+            return;
+        }
+        match disk.error() {
+            Some(error) => {
+                self.fault(disk.path(), error);
+            }
+            None => self.faults = self.faults.saturating_add(1),
+        }
+    }
+}

@@ -1,0 +1,90 @@
+-- What a command comes to, and how it is said.
+use Rattle.std.specs.Prelude.{◌≡◌, ◌≢◌, ◌⊎◌, ℕ, ◌≤◌, List, [], length, take, codes, Option, Result, Ok, Err, Vec}
+use Rattle.std.specs.declared.alloc.Global.{Global}
+use Rattle.std.specs.Io.KnownBytes.{Appends}
+use Rattle.bec_bytes.specs.Causes.{Rose}
+use Rattle.schema.specs.declared.fault.SchemaError.{SchemaError}
+use Rattle.schema.specs.declared.fault.SchemaError.TheVariants as schema_errors
+use Rattle.update_stream.specs.declared.reading.ReadError.{ReadError}
+use Rattle.update_stream.specs.declared.reading.ReadError.TheVariants as read_errors
+use Rattle.update_stream.specs.declared.record_fault.RecordFault.TheVariants.{Check, Lacks, Full}
+use Rattle.bec_node.specs.declared.refusal.Refusal.{Refusal}
+use Rattle.bec_node.specs.declared.refusal.Refusal.TheVariants.{Words, Record, CutSchema, Schema, NotConfluent, Stream, Memory}
+use Rattle.bec_node.specs.declared.status.TheConstants.{DONE, REFUSED, NO_COMMAND, STREAM_FAULT, OUT_OF_MEMORY, FULL}
+use Rattle.bec_node.specs.Texts.{record_text, refused_text, schema_text}
+
+-- A command is done and prints a text, or it is refused.
+abbrev pub Outcome : Type 0
+Outcome = Result (Vec ℕ Global) Refusal
+
+-- the status for a refusal
+abbrev pub status_for : Refusal → ℕ
+status_for Words = NO_COMMAND
+status_for (Record n (Check fault)) = REFUSED
+status_for (Record n (Lacks id)) = REFUSED
+status_for (Record n Full) = FULL
+status_for CutSchema = REFUSED
+status_for (Schema fault) = REFUSED
+status_for (NotConfluent schema which example) = REFUSED
+status_for Stream = STREAM_FAULT
+status_for Memory = OUT_OF_MEMORY
+
+-- its lines
+abbrev pub text_for : Refusal → List ℕ
+text_for Words = codes "! words\n"
+text_for (Record n fault) = record_text n fault
+text_for CutSchema = codes "! schema cut\n"
+text_for (Schema fault) = schema_text fault
+text_for (NotConfluent schema which example) = refused_text schema.tables which example
+text_for Stream = codes "! stream fault\n"
+text_for Memory = []
+
+-- the status of an outcome
+abbrev pub status_of : Outcome → ℕ
+status_of (Ok text) = DONE
+status_of (Err refusal) = status_for refusal
+
+-- its text
+abbrev pub text_of : Outcome → List ℕ
+text_of (Ok text) = text.items
+text_of (Err refusal) = text_for refusal
+
+-- the command is done, and prints this
+abbrev pub Prints : Outcome → List ℕ → Type 0
+Prints (Ok text) bytes = text.items ≡ bytes
+Prints (Err refusal) bytes = ⊥
+
+-- the refusals that errors of the layers below become
+abbrev pub from_reading : ReadError → Refusal
+from_reading read_errors.Failed = Stream
+from_reading read_errors.Memory = Memory
+
+abbrev pub from_schema : SchemaError → Refusal
+from_schema (schema_errors.Fault fault) = Schema fault
+from_schema schema_errors.Memory = Memory
+
+-- What may come in place of an answer: memory ran out, or the source failed, whose count of faults rose.
+abbrev pub IsFault : ℕ → ℕ → Refusal → Type 0
+IsFault old new refusal = (refusal ≡ Memory) ⊎ ((refusal ≡ Stream) × Rose old new)
+
+-- The outcome is the answer to what the source has left before and after, or a fault.
+abbrev pub ComesTo : (Option (List ℕ) → Option (List ℕ) → Outcome → Type 0) → Option (List ℕ) → Option (List ℕ) → ℕ → ℕ → Outcome → Type 0
+ComesTo Answer before after old new (Ok text) = Answer before after (Ok text)
+ComesTo Answer before after old new (Err refusal) = Answer before after (Err refusal) ⊎ IsFault old new refusal
+
+-- The sink takes the whole text, and the status is the one that belongs to it; or it fails, takes a front, and the status is that of a
+-- stream fault.
+abbrev pub Puts : ℕ → ℕ → Option (List ℕ) → Option (List ℕ) → ℕ → List ℕ → ℕ → Type 0
+Puts old new held held_new own text status =
+    ((status ≡ own) × Appends held held_new text)
+    ⊎ ((status ≡ STREAM_FAULT) × Rose old new × ((n : ℕ) × (n ≤ length text) × Appends held held_new (take n text)))
+
+-- An outcome is said: its text is put. Without memory nothing is written.
+abbrev pub Says : ℕ → ℕ → Option (List ℕ) → Option (List ℕ) → Outcome → ℕ → Type 0
+Says old new held held_new (Err Memory) status = (status ≡ OUT_OF_MEMORY) × Appends held held_new []
+Says old new held held_new outcome status = Puts old new held held_new (status_of outcome) (text_of outcome) status
+
+-- An outcome is said, or want of memory is said in its place; that words are no command is always said.
+abbrev pub Ends : ℕ → ℕ → Option (List ℕ) → Option (List ℕ) → Outcome → ℕ → Type 0
+Ends old new held held_new outcome status =
+    Says old new held held_new outcome status ⊎ ((outcome ≢ Err Words) × Says old new held held_new (Err Memory) status)

@@ -1,0 +1,64 @@
+ghost use Rattle.std.specs.Prelude.{◌≡◌, ◌≤◌, IfOk, IfErr};
+ghost use Rattle.bec_bytes.specs.Causes.{Rose};
+ghost use Rattle.update_stream.specs.declared.reading.ReadError.TheVariants.{Failed as StreamFailed};
+ghost use Rattle.bec_node.specs.declared.command.Command.TheVariants.{Check};
+ghost use Rattle.bec_node.specs.Outcome.{ComesTo};
+ghost use Rattle.bec_node.specs.Run.{HasFirstWord, Runs, outside};
+ghost use Rattle.bec_node.specs.Verdict.{CheckAnswer, ReadsText};
+
+use crate::laws::one_answer;
+use crate::lines::no_command;
+use crate::refusal::Refusal;
+use crate::reply::finish;
+use crate::schema_text::take_schema;
+use bec_bytes::{Sink, Source, read_full};
+use row_check::{Luhn, Native};
+use std::alloc::Global;
+use update_stream::ReadError;
+
+/// How many bytes of a text are read at most: one more than a schema may have, which shows that it is too long.
+const READ_LIMIT: usize = 65_537;
+
+/// The command `check`: reads the text of a schema, and prints `confluent` where each invariant survives merging, or the
+/// line for its first fault, or the line for the first invariant that does not survive, with a history that breaks it.
+/// `words` are all the words of the command line; a second one makes them no command.
+///
+/// Its clause is that of [`run`](crate::run) for these words.
+pub fn command_check<S: Source, K: Sink>(
+    alloc: Global,
+    words: &[String],
+    input: &mut S,
+    out: &mut K,
+) -> u8
+    requires { HasFirstWord Check words.now }
+    ensures { Runs words.now (outside S.left S.faults K.held K.faults input.old out.old) (outside S.left S.faults K.held K.faults input.new out.new) result }
+{
+    one_answer();
+    if words.len() > 1 {
+        return no_command(out);
+    }
+    let outcome = verdict(alloc, input);
+    finish(alloc, out, outcome)
+}
+
+/// What is said of a schema whose invariants all survive merging.
+fn verdict<S: Source>(alloc: Global, input: &mut S) -> Result<Vec<u8>, Refusal>
+    ensures { ComesTo CheckAnswer (S.left input.old) (S.left input.new) (S.faults input.old) (S.faults input.new) result }
+{
+    let native: Native<Luhn, Luhn> = Native::new(Luhn);
+    let text = read_text(alloc, input)?;
+    let _schema = take_schema(alloc, &text, &native)?;
+    let verdict = Vec::from_slice(alloc, b"confluent\n")?;
+    Ok(verdict)
+}
+
+/// Reads the text of a schema, and one byte more where it is too long.
+fn read_text<S: Source>(alloc: Global, input: &mut S) -> Result<Vec<u8>, ReadError>
+    ensures text { IfOk result (λ text. ReadsText (S.left input.old) (S.left input.new) text.items) }
+    ensures failed { IfErr result (λ e. e ≡ StreamFailed → Rose (S.faults input.old) (S.faults input.new)) }
+{
+    let mut text = vec![in alloc; 0u8; READ_LIMIT]?;
+    let count = read_full(input, &mut text)?;
+    text.truncate(count);
+    Ok(text)
+}

@@ -1,0 +1,127 @@
+//! Every line that begins with `! `, and what follows it.
+
+ghost use Rattle.std.specs.Prelude.{◌≡◌, ◌≢◌, IfOk, IfErr, OnErr, codes, Err};
+ghost use Rattle.std.specs.String.{string_bytes};
+ghost use Rattle.bec_node.specs.declared.refusal.Refusal.TheVariants.{Words};
+ghost use Rattle.bec_node.specs.Texts.{check_text, record_text, refused_text, schema_text, word_of_kind};
+ghost use Rattle.bec_node.specs.Outcome.{Puts, Says};
+
+use crate::refusal::Refusal;
+use crate::reply::put;
+use crate::status::NO_COMMAND;
+use bec_bytes::Sink;
+use schema::{Schema, SchemaFault, SchemaKind};
+use table_model::{Counterexample, Invariant};
+use std::alloc::{AllocError, Global};
+use table_text::push_counterexample;
+use update_check::CheckFault;
+use update_stream::RecordFault;
+
+/// Writes the lines of a refusal and answers its exit status. Where memory runs out nothing is written; that words are no
+/// command is said without memory.
+pub fn refuse<K: Sink>(alloc: Global, out: &mut K, refusal: &Refusal) -> Result<u8, AllocError>
+    ensures said { IfOk result (λ status. Says (K.faults out.old) (K.faults out.new) (K.held out.old) (K.held out.new) (Err refusal.now) status) }
+    ensures same { OnErr result (out.new ≡ out.old) }
+    ensures made { IfErr result (λ _. refusal.now ≢ Words) }
+{
+    let status = refusal.status();
+    match refusal {
+        Refusal::Words => Ok(no_command(out)),
+        Refusal::Record { number, fault } => {
+            let line = record_line(alloc, *number, fault)?;
+            Ok(put(out, line.as_bytes(), status))
+        }
+        Refusal::CutSchema => Ok(put(out, b"! schema cut\n", status)),
+        Refusal::Schema(fault) => {
+            let line = schema_line(alloc, fault)?;
+            Ok(put(out, line.as_bytes(), status))
+        }
+        Refusal::NotConfluent {
+            schema,
+            which,
+            example,
+        } => {
+            let lines = refused_lines(alloc, schema, which, example)?;
+            Ok(put(out, &lines, status))
+        }
+        Refusal::Stream => Ok(put(out, b"! stream fault\n", status)),
+        Refusal::Memory => Err(AllocError),
+    }
+}
+
+/// Writes the line for words that are no command.
+pub fn no_command<K: Sink>(out: &mut K) -> u8
+    ensures { Puts (K.faults out.old) (K.faults out.new) (K.held out.old) (K.held out.new) NO_COMMAND (codes "! words\n") result }
+{
+    put(out, b"! words\n", NO_COMMAND)
+}
+
+/// The line for a refused record, which is counted from 1.
+fn record_line(alloc: Global, number: u32, fault: &RecordFault) -> Result<String, AllocError>
+    ensures { IfOk result (λ line. string_bytes line ≡ record_text number fault.now) }
+{
+    match fault {
+        RecordFault::Check(fault) => {
+            let text = check_text(alloc, fault)?;
+            let why = text.as_str();
+            format!(in alloc; "! update {number}: {why}\n")
+        }
+        RecordFault::Lacks(id) => {
+            let digits = hex::encode(alloc, id.0)?;
+            let name = digits.as_str();
+            format!(in alloc; "! update {number}: lacks {name}\n")
+        }
+        RecordFault::Full => String::from_str(alloc, "! full\n"),
+    }
+}
+
+/// What is said of a record that is no checked update.
+fn check_text(alloc: Global, fault: &CheckFault) -> Result<String, AllocError>
+    ensures { IfOk result (λ text. string_bytes text ≡ check_text fault.now) }
+{
+    match fault {
+        CheckFault::Codec(fault) => { format!(in alloc; "{fault}") }
+        CheckFault::WrongDatabase => String::from_str(alloc, "other database"),
+        CheckFault::AuthorNotListed => String::from_str(alloc, "author not listed"),
+        CheckFault::BadSignature => String::from_str(alloc, "bad signature"),
+    }
+}
+
+/// The line for the first fault of a text.
+fn schema_line(alloc: Global, fault: &SchemaFault) -> Result<String, AllocError>
+    ensures { IfOk result (λ line. string_bytes line ≡ schema_text fault.now) }
+{
+    let line = fault.line;
+    let word = word(fault.kind);
+    format!(in alloc; "! schema line {line}: {word}\n")
+}
+
+/// The word for what is wrong with a schema.
+fn word(kind: SchemaKind) -> &'static str
+    ensures { result.now ≡ word_of_kind kind }
+{
+    match kind {
+        SchemaKind::Line => "line",
+        SchemaKind::Name => "name",
+        SchemaKind::WrongType => "type",
+        SchemaKind::Target => "target",
+        SchemaKind::MatchKind => "match",
+        SchemaKind::BadSample => "sample",
+        SchemaKind::Limit => "limit",
+    }
+}
+
+/// The lines for an invariant that does not survive merging: where it stands, and the counterexample.
+fn refused_lines(
+    alloc: Global,
+    schema: &Schema,
+    which: &Invariant,
+    example: &Counterexample,
+) -> Result<Vec<u8>, AllocError>
+    ensures { IfOk result (λ lines. lines.items ≡ refused_text schema.now.tables which.now example.now) }
+{
+    let line = which.line;
+    let mut lines = format!(in alloc; "! not confluent line {line}\n")?.into_bytes();
+    push_counterexample(&mut lines, schema, example)?;
+    Ok(lines)
+}

@@ -1,6 +1,0 @@
-use Rattle.std.proofs.Common.{◌≡◌, take, reverse}
-use Rattle.schema.specs.Confluence.{is_closed}
-use Rattle.confluence_checker.proofs.ids.is_closed.Given as goal
-
-abbrev pub invariant-loop-older : goal.invariant-loop-older
-invariant-loop-older l = l.closed ≡ is_closed (reverse (take l.older l.nodes))

@@ -1,0 +1,6 @@
+use Rattle.std.proofs.Common.{◌≡◌, take, reverse}
+use Rattle.table_model.specs.Confluence.{is_closed}
+use Rattle.confluence_checker.proofs.ids.passes_closed.Given as goal
+
+abbrev pub invariant-loop-older : goal.invariant-loop-older
+invariant-loop-older l = l.closed ≡ is_closed (reverse (take l.older l.nodes))

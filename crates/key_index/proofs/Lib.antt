@@ -1,0 +1,7 @@
+mod PayloadLaws
+mod IndexLaws
+mod UsedLaws
+mod ReserveLaws
+mod OpenLaws
+mod CreateLaws
+mod RunLaws

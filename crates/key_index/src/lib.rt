@@ -1,0 +1,35 @@
+//! A key whose leaves sign once each, whatever stops the program: a [`KeyStore`] on two disks.
+//!
+//! The part Key keeps what the key is made from: its types, its identifier and its seed. The part Used
+//! has a byte for each of its indices. [`KeyStore::reserve`] hands out the least index that is not used
+//! and has it on the disk first, so no index is handed out twice, over crashes at any moment and any
+//! number of openings; [`no_index_twice`] says so of whole runs. [`KeyStore::sign`] signs with such an
+//! index only. [`KeyStore::create`] draws a key where there is none, and [`KeyStore::open_key`] opens it.
+//!
+//! ```text
+//! let mut store = KeyStore::create(alloc, key, used, LmsType::H10, OtsType::W8, &mut random)?;
+//! let mut signature = vec![in alloc; 0; signature_len(&store.public()) as usize]?;
+//! let index = store.sign(&c, b"message", &mut signature)?;
+//! let (key, used) = store.into_disks();
+//! let store = KeyStore::open_key(alloc, key, used)?;   // the index stays used
+//! ```
+//!
+//! Two programs that open the same parts at once could hand an index out twice: keeping the second one
+//! out is for the shelf that hands the disks out. It encrypts nothing: whoever reads the part Key has the
+//! key.
+#![tactic(auto)]
+
+mod create;
+mod faults;
+mod indices;
+mod laws;
+mod material;
+mod open;
+mod opened;
+mod reserve;
+mod store;
+
+pub use faults::{CreateKey, CreateKeyKind, KeyFault, KeyFaultKind};
+pub use laws::no_index_twice;
+pub use reserve::Reserve;
+pub use store::KeyStore;

@@ -1,7 +1,0 @@
-use Rattle.std.proofs.Common.{refl}
-use Rattle.schema.specs.Verdicts.{verdict_on}
-use Rattle.schema.proofs.table_laws.verdict_goes_by_operations.Goals as goal
-
-pub returns : goal.returns
-unfolding verdict_on
-returns c rules past node = refl

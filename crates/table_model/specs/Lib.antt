@@ -1,0 +1,7 @@
+pub mod Confluence
+pub mod Examples
+pub mod Invariants
+pub mod Nodes
+pub mod Tables
+pub mod Verdicts
+pub mod Visible

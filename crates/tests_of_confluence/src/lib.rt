@@ -1,0 +1,7 @@
+//! Tests of confluence_test and confluence_checker.
+#![tactic(auto)]
+
+#[cfg(test)]
+mod checked;
+#[cfg(test)]
+mod tested;

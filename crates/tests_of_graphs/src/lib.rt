@@ -1,0 +1,7 @@
+//! Tests of the crates that keep a graph: what no clause says of them, as figures from outside and that they are quick.
+#![tactic(auto)]
+
+#[cfg(test)]
+mod ancestors;
+#[cfg(test)]
+mod heads;

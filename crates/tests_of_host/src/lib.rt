@@ -1,0 +1,7 @@
+//! Tests of `bec_host`, in a crate of their own: what no clause says of real files and of random words.
+#![tactic(auto)]
+
+#[cfg(test)]
+mod files;
+#[cfg(test)]
+mod random;

@@ -1,0 +1,5 @@
+mod Gathering
+mod Keeping
+pub mod Logsets
+mod Pieces
+mod Scanning

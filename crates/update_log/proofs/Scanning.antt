@@ -1,0 +1,127 @@
+-- Members of which one more is taken or refused, and the records that they are in.
+use Rattle.std.proofs.Common.{◌≡◌, ℕ, ◌+◌, ◌<◌, ◌≤◌, Bool, true, false, not, List, [], ◌∷◌, ◌++◌, length, map, refl, sym, ap, subst, ◌∙◌, append_assoc, append-nil, length-append, All, Option, Some, None, Result, Ok, Err, arith}
+use Rattle.std.specs.Prelude.{find, is_some}
+use Rattle.std.proofs.lemmas.List.{map-append}
+use Rattle.std.proofs.lemmas.List.Elements.{All-head, All-tail, All-push}
+use Rattle.bec_bytes.specs.Framed.{framed, stream_of, HoldsPiece}
+use Rattle.bec_bytes.proofs.Frames.{length-framed, one_front, stream_of-nil, stream_of-push}
+use Rattle.update_model.specs.declared.update_id.UpdateId.{UpdateId}
+use Rattle.update_model.specs.Entry.{Entry}
+use Rattle.update_model.specs.Graph.{IsNext, IsClosed, holds, lacking, position_of, is_within}
+use Rattle.update_model.specs.Rule.{RuleData}
+use Rattle.update_model.proofs.Closed.{Follows-push, Follows-pop, IsNext-from_tests, position_of-held}
+use Rattle.update_codec.specs.Parts.{entry_of}
+use Rattle.update_codec.specs.declared.limits.TheConstants.{UPDATE_LIMIT}
+use Rattle.update_check.specs.Signed.{IsChecked}
+use Rattle.update_check.specs.Members.{AreMembers}
+use Rattle.hash_graph.specs.declared.added.Added.{Added}
+use Rattle.hash_graph.specs.declared.added.Added.TheVariants.{New, Known}
+use Rattle.hash_graph.specs.declared.refusal.Refusal.{Refusal}
+use Rattle.hash_graph.specs.declared.refusal.Refusal.TheVariants.{Lacks, Full, Memory}
+use Rattle.hash_graph.specs.Answer.{answer_by, answer_of, IsRefusedBy}
+use Rattle.update_log.specs.Reading.{IsStop, StopsAt}
+
+-- ---- one member more
+
+pub no_members : (rule : RuleData) → AreMembers rule []
+no_members rule = record { checked = λ k d low. absurd (omega (arith, low)); closed = tt; within = refl }
+
+-- the last member
+last_of : {X : Type 0} (P : X → Type 0) (xs : List X) (x : X) → All P (xs ++ x ∷ []) → P x
+last_of P [] x all = All-head P x [] all
+last_of P (y ∷ xs) x all = last_of P xs x (All-tail P y (xs ++ x ∷ []) all)
+
+-- a member stands next exactly where a graph takes it as new
+new_is_next : (graph : List Entry) (e : Entry) (n : ℕ) → answer_of graph e ≡ Ok (New n) → IsNext graph e × (is_within (graph ++ e ∷ []) ≡ true)
+new_is_next graph e n is = by_case (position_of graph e.id) (lacking graph e) (is_within (graph ++ e ∷ [])) refl refl refl is
+  where
+    by_case : (p : Option ℕ) (lack : Option UpdateId) (fits : Bool) → position_of graph e.id ≡ p → lacking graph e ≡ lack → is_within (graph ++ e ∷ []) ≡ fits
+        → answer_by p lack fits (length graph) ≡ Ok (New n) → IsNext graph e × (is_within (graph ++ e ∷ []) ≡ true)
+    by_case (Some k) lack fits at_p at_l at_f is = absurd cc
+    by_case None (Some id) fits at_p at_l at_f is = absurd cc
+    by_case None None false at_p at_l at_f is = absurd cc
+    by_case None None true at_p at_l at_f is = (IsNext-from_tests graph e at_p at_l, at_f)
+
+none_lacking : (graph : List Entry) (preds : List UpdateId) → All (λ p. holds graph p ≡ true) preds → find (λ p. not (holds graph p)) preds ≡ None
+none_lacking graph [] held = refl
+none_lacking graph (p ∷ ps) held = rw (All-head (λ q. holds graph q ≡ true) p ps held) (none_lacking graph ps (All-tail (λ q. holds graph q ≡ true) p ps held))
+
+next_is_new : (graph : List Entry) (e : Entry) → IsNext graph e → is_within (graph ++ e ∷ []) ≡ true → answer_of graph e ≡ Ok (New (length graph))
+next_is_new graph e next within = by_place (position_of graph e.id) (position_of-held graph e.id ∙ next.new)
+  where
+    by_place : (p : Option ℕ) → is_some p ≡ false → answer_by p (lacking graph e) (is_within (graph ++ e ∷ [])) (length graph) ≡ Ok (New (length graph))
+    by_place (Some k) is = absurd cc
+    by_place None is = rw (none_lacking graph e.preds next.preds, within) refl
+
+-- the members in front of the last one, and what a graph of them answers to it
+push_is_new : (rule : RuleData) (old : List (List ℕ)) (r : List ℕ) → AreMembers rule (old ++ r ∷ []) → answer_of (map entry_of old) (entry_of r) ≡ Ok (New (length (map entry_of old)))
+push_is_new rule old r are =
+    let parts = map-append entry_of old (r ∷ []) in
+    let closed : IsClosed (map entry_of old ++ entry_of r ∷ []) = subst IsClosed parts are.closed in
+    next_is_new (map entry_of old) (entry_of r) (Follows-pop [] (map entry_of old) (entry_of r) closed).1 (ap is_within (sym parts) ∙ are.within)
+
+-- a new member stands last
+pub takes_new : (rule : RuleData) (old new : List (List ℕ)) (m r : List ℕ) (n : ℕ) → AreMembers rule old → IsChecked rule m → m ≡ r → answer_of (map entry_of old) (entry_of m) ≡ Ok (New n)
+    → new ≡ old ++ m ∷ [] → (new ≡ old ++ r ∷ []) × AreMembers rule new
+takes_new rule old new m r n are checked same is is_new =
+    let next = new_is_next (map entry_of old) (entry_of m) n is in
+    let parts = map-append entry_of old (m ∷ []) in
+    let more : AreMembers rule (old ++ m ∷ []) = record {
+      checked = All-push (IsChecked rule) old m are.checked checked;
+      closed = subst IsClosed (sym parts) (Follows-push [] (map entry_of old) (entry_of m) are.closed next.0);
+      within = ap is_within parts ∙ next.1;
+    } in
+    (is_new ∙ ap (λ (x : List ℕ). old ++ x ∷ []) same, subst (AreMembers rule) (sym is_new) more)
+
+-- one that is held can't stand last
+pub known_stops : (rule : RuleData) (old : List (List ℕ)) (m r : List ℕ) (n : ℕ) → m ≡ r → answer_of (map entry_of old) (entry_of m) ≡ Ok (Known n) → AreMembers rule (old ++ r ∷ []) → ⊥
+known_stops rule old m r n same is are =
+    let new = push_is_new rule old r are in
+    let known = sym (ap (λ (x : List ℕ). answer_of (map entry_of old) (entry_of x)) same) ∙ is in absurd cc
+
+-- nor can one that is refused
+pub refused_stops : (rule : RuleData) (old : List (List ℕ)) (m r : List ℕ) (why : Refusal) → m ≡ r → IsRefusedBy why (answer_of (map entry_of old) (entry_of m)) → (why ≡ Memory → ⊥)
+    → AreMembers rule (old ++ r ∷ []) → ⊥
+refused_stops rule old m r (Lacks id) same is not are =
+    let new = push_is_new rule old r are in
+    let refused = sym (ap (λ (x : List ℕ). answer_of (map entry_of old) (entry_of x)) same) ∙ is in absurd cc
+refused_stops rule old m r Full same is not are =
+    let new = push_is_new rule old r are in
+    let refused = sym (ap (λ (x : List ℕ). answer_of (map entry_of old) (entry_of x)) same) ∙ is in absurd cc
+refused_stops rule old m r Memory same is not are = not refl
+
+-- nor can what is no checked update
+pub unchecked_stops : (rule : RuleData) (old : List (List ℕ)) (r : List ℕ) → (IsChecked rule r → ⊥) → AreMembers rule (old ++ r ∷ []) → ⊥
+unchecked_stops rule old r not are = not (last_of (IsChecked rule) old r are.checked)
+
+-- ---- where the records end
+
+last_short : (rule : RuleData) (old : List (List ℕ)) (r : List ℕ) → AreMembers rule (old ++ r ∷ []) → length r ≤ UPDATE_LIMIT
+last_short rule old r are = (last_of (IsChecked rule) old r are.checked).1.spells.short
+
+-- a record that can't be taken is where a list ends
+pub stop_here : (rule : RuleData) (members : List (List ℕ)) (rest r more : List ℕ) → HoldsPiece UPDATE_LIMIT rest r more → (AreMembers rule (members ++ r ∷ []) → ⊥) → IsStop rule members rest
+stop_here rule members rest r more holds refused other tail e are =
+    let short = holds.short in
+    let low = last_short rule members other are in
+    let same = one_front r other more tail (omega (arith, short)) (omega (arith, low)) (sym holds.parts ∙ e) in
+    refused (subst (λ (x : List ℕ). AreMembers rule (members ++ x ∷ [])) (sym same.0) are)
+
+-- and so is a place where no whole record stands
+pub stop_none : (rule : RuleData) (members : List (List ℕ)) (rest : List ℕ) → ((r more : List ℕ) → HoldsPiece UPDATE_LIMIT rest r more → ⊥) → IsStop rule members rest
+stop_none rule members rest none other tail e are = none other tail record { short = last_short rule members other are; parts = e }
+
+-- the records of members, and one more
+pub one_more_record : (bytes : List ℕ) (old new : List (List ℕ)) (r before after : List ℕ) → new ≡ old ++ r ∷ [] → bytes ≡ stream_of old ++ before → before ≡ framed r ++ after → bytes ≡ stream_of new ++ after
+one_more_record bytes old new r before after is_new parts is =
+    parts ∙ ap (λ (l : List ℕ). stream_of old ++ l) is ∙ sym (append_assoc (stream_of old) (framed r) after) ∙ ap (λ (l : List ℕ). l ++ after) (sym (stream_of-push old r) ∙ ap stream_of (sym is_new))
+
+pub one_more_length : (old new : List (List ℕ)) (r : List ℕ) → new ≡ old ++ r ∷ [] → length (stream_of new) ≡ length (stream_of old) + (4 + length r)
+one_more_length old new r is_new =
+    ap (λ (l : List (List ℕ)). length (stream_of l)) is_new ∙ ap length (stream_of-push old r) ∙ length-append (stream_of old) (framed r) ∙ ap (λ (n : ℕ). length (stream_of old) + n) (length-framed r)
+
+pub no_records : (graph : List (List ℕ)) (bytes : List ℕ) → graph ≡ [] → bytes ≡ stream_of graph ++ bytes
+no_records graph bytes is = sym (ap (λ (l : List (List ℕ)). stream_of l ++ bytes) is ∙ ap (λ (l : List ℕ). l ++ bytes) stream_of-nil)
+
+pub no_length : (graph : List (List ℕ)) → graph ≡ [] → 0 ≡ length (stream_of graph)
+no_length graph is = sym (ap (λ (l : List (List ℕ)). length (stream_of l)) is ∙ ap length stream_of-nil)

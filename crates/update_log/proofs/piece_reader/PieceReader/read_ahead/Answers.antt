@@ -1,0 +1,15 @@
+use Rattle.std.proofs.Common.{◌+◌, ◌-◌, ◌∙◌, length, ap, refl, arith}
+use Rattle.update_log.specs.Reading.{ReaderState, left_of}
+use Rattle.update_log.proofs.Pieces.{read_more}
+use Rattle.update_log.proofs.piece_reader.PieceReader.read_ahead.Goals as goal
+
+pub returns-clause-left : goal.returns-clause-left
+returns-clause-left g c tells =
+    let r = c.self.inside in
+    let seen = (g.D.Disk.state c.args.disk.now).seen in
+    let room = c.deref_mut.result.now in
+    let ready = r.to - r.from in
+    let more = c.min-more.result in
+    read_more r.piece.items c.copy_within.new.self.items room c.read.new.buf seen r.from ready more (ready + more - ready) 0 (ready + more) r.at c.copy_within.new.self.len
+    (omega arith) c.deref_mut.ensures.len c.copy_within.ensures.items c.deref_mut.ensures.value (omega (arith, c.deref_mut.ensures.len)) (omega arith) refl refl c.read.auto.buf (c.in_ok-read.ensures.bytes tells)
+    ∙ ap (λ (k : ReaderState). left_of k seen) c.self.view_is
