@@ -3,12 +3,11 @@
 
 use bec_host::{HostSink, HostSource};
 use bec_node::run;
+use bec_node::status::OUT_OF_MEMORY;
 use std::alloc::AllocError;
 use std::env;
+use std::io::ErrorKind;
 use std::process::ExitCode;
-
-/// The status for want of memory, as [`run`] gives it.
-const OUT_OF_MEMORY: u8 = 5;
 
 fn main(rt: HostRuntime) -> ExitCode {
     let Ok(words) = words(&rt) else {
@@ -21,14 +20,21 @@ fn main(rt: HostRuntime) -> ExitCode {
     ExitCode::from(run(rt.alloc(), &words, &mut input, &mut output))
 }
 
-/// The words of the command line, without the program's own name.
+/// The words of the command line, without the program's own name. Words of which one is no UTF-8 are no command, as no
+/// words are none.
 fn words(rt: &(impl std::rt::Env + AllocGlobal)) -> Result<Vec<String>, AllocError> {
     let mut words = Vec::new(rt.alloc());
-    let Ok(arguments) = env::args(rt) else {
-        return Err(AllocError);
-    };
-    for argument in arguments.skip(1) {
-        words.push(argument)?;
+    match env::args(rt) {
+        Ok(arguments) => {
+            for argument in arguments.skip(1) {
+                words.push(argument)?;
+            }
+        }
+        Err(error) => {
+            if error.kind() != ErrorKind::InvalidData {
+                return Err(AllocError);
+            }
+        }
     }
     Ok(words)
 }
