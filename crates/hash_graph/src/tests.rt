@@ -4,11 +4,11 @@ ghost use Rattle.std.specs.Prelude.{◌≡◌, IfOk};
 ghost use Rattle.std.specs.List.Sorted.{IsStrictlySortedBy, IsStrictlySortedBy-prop};
 ghost use Rattle.update_model.specs.Entry.{Entry, id_cmp};
 
-use crate::{Added, Graph, MAX_MEMBERS, Refusal};
+use crate::{Added, Graph, Refusal};
 use std::alloc::{AllocError, Global};
 use std::cmp::Ordering;
 use std::test::Fail;
-use update_model::{Member, UpdateId};
+use update_model::{MAX_MEMBERS, Member, UpdateId};
 
 /// A member of one byte.
 #[derive(Debug, Drop)]

@@ -23,8 +23,6 @@ mod digits;
 mod laws;
 mod one_time;
 mod ots_type;
-#[cfg(test)]
-mod tests;
 
 pub use laws::own_signature;
 pub use one_time::{candidate, public_of, sign};

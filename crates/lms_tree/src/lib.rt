@@ -23,8 +23,6 @@ mod laws;
 mod lms_type;
 mod nodes;
 mod secret;
-#[cfg(test)]
-mod tests;
 mod tree;
 mod verifying;
 

@@ -5,7 +5,5 @@
 #![tactic(auto)]
 
 mod replaying;
-#[cfg(test)]
-mod tests;
 
 pub use replaying::replay;

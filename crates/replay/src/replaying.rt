@@ -70,7 +70,7 @@ fn take_next<L: Relation, C: Checks<L>>(
     arrivals_are_closed();
     applied_is_next();
     graph.len();
-    tables.apply(&node, verdict)
+    tables.apply(node, verdict)
 }
 
 /// Takes the positions of the predecessors of the member at this position.

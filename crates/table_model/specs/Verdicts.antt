@@ -13,7 +13,6 @@ use Rattle.update_model.specs.Node.{NodeData}
 use Rattle.row_check.specs.declared.cmp.Cmp.TheVariants as cmp
 use Rattle.row_check.specs.Comparisons.{compares}
 use Rattle.row_check.specs.Meaning.{value_at}
-use Rattle.schema.specs.declared.column.Column.{Column}
 use Rattle.schema.specs.declared.rules.MatchRule.{MatchRule}
 use Rattle.schema.specs.declared.table_def.TableDef.{TableDef}
 use Rattle.table_model.specs.declared.reason.TheConstants.{NO_TABLE, MISFIT, CHECK_FALSE, NO_TARGET, MATCH_FALSE, NOT_DELETABLE, NOT_OWNER, RESTRICTED, LIMIT_BROKEN}

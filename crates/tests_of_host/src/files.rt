@@ -1,3 +1,5 @@
+ghost use Rattle.std.specs.Prelude.{◌≤◌, IfOk};
+
 use bec_disk::{Disk, DiskFault, Part, Shelf};
 use bec_host::{FileDisk, FileShelf};
 use std::cell::Cell;
@@ -48,7 +50,9 @@ struct SlowFile {
 }
 
 impl SlowFile {
-    fn moves(&self, most: usize) -> io::Result<usize> {
+    fn moves(&self, most: usize) -> io::Result<usize>
+        ensures { IfOk result (λ n. n ≤ most) }
+    {
         let calls = self.calls.get().wrapping_add(1);
         self.calls.set(calls);
         if calls % 2 == 0 {
@@ -62,7 +66,7 @@ impl FileExt for SlowFile {
     fn read_at(&self, buf: &mut [u8], offset: u64) -> io::Result<usize> {
         let count = self.moves(buf.len())?;
         for byte in buf[..count].iter_mut() {
-            *byte = offset as u8;
+            *byte = (offset % 256) as u8;
         }
         Ok(count)
     }

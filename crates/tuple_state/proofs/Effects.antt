@@ -11,7 +11,9 @@ use Rattle.table_model.specs.Verdicts.{effects, effects_of, is_valid, joined, ju
 use Rattle.table_model.specs.Visible.{Effects, Rules, TableRow}
 use Rattle.tuple_state.specs.declared.inserted.Inserted.{Inserted}
 use Rattle.tuple_state.specs.declared.dropped.Dropped.{Dropped}
-use Rattle.tuple_state.specs.State.{after, done_in, dropped_at, inserted_at, row_of, state_of}
+use Rattle.tuple_state.specs.declared.voided.Voided.{Voided}
+use Rattle.table_model.specs.declared.void_line.VoidLine.{VoidLine}
+use Rattle.tuple_state.specs.State.{after, done_in, dropped_at, inserted_at, row_of, state_of, voided_at}
 
 rows_back : (position : ℕ) (rows : List TableRow) → map row_of (map (inserted_at position) rows) ≡ rows
 rows_back position [] = refl
@@ -54,16 +56,17 @@ did_is rules (node ∷ older) =
     ] in
     step (judge_next rules (judged rules older) node).verdict
 
-pub voids_are : (rules : Rules) (nodes : List NodeData) → reverse (state_of rules nodes).voids ≡ void_lines (judged rules nodes)
+pub voids_are : (rules : Rules) (nodes : List NodeData) → reverse (map (λ (it : Voided). it.line) (state_of rules nodes).voids) ≡ void_lines (judged rules nodes)
 unfolding state_of judge_next judged
 voids_are rules [] = refl
 voids_are rules (node ∷ older) =
     let state = state_of rules older in
     let rest = voids_are rules older in
-    let step : (v : Verdict) → reverse (after state node v).voids ≡ void_line node.id v ++ void_lines (judged rules older) =
+    let step : (v : Verdict) → reverse (map (λ (it : Voided). it.line) (after state node v).voids) ≡ void_line node.id v ++ void_lines (judged rules older) =
     elim [
       | verdict.Valid ↦ rest
-      | verdict.Void reason operation ↦ reverse-append state.voids (void_line node.id (verdict.Void reason operation)) ∙ ap (λ l. void_line node.id (verdict.Void reason operation) ++ l) rest
+      | verdict.Void reason operation ↦ let line : VoidLine = record { id = node.id; reason = reason; operation = operation } in
+          ap reverse (map-append (λ (it : Voided). it.line) state.voids (voided_at state.count line ∷ [])) ∙ reverse-append (map (λ (it : Voided). it.line) state.voids) (line ∷ []) ∙ ap (λ l. void_line node.id (verdict.Void reason operation) ++ l) rest
     ] in
     step (judge_next rules (judged rules older) node).verdict
 

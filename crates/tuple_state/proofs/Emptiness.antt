@@ -13,7 +13,8 @@ pub kept_new : (columns : List (List Column)) (places : BTreeMap RowName ℕ) (d
 unfolding are_layered
 kept_new columns places deleters none empty = record {
   few = omega arith;
-  bounded = omega arith;
+  bounded = λ len. omega arith;
+  dated = refl;
   layered = refl;
   placed = λ name. ap (lookup (is_at (name_cmp name))) none;
   marked = refl;

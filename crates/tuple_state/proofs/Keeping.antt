@@ -23,6 +23,7 @@ use Rattle.tuple_state.specs.Links.{Linked}
 use Rattle.tuple_state.specs.Parents.{Continues}
 use Rattle.tuple_state.specs.Past.{IsNextVerdict}
 use Rattle.tuple_state.specs.State.{IsStateOf, State, after, done_in, dropped_at, inserted_at, rules_of, state_of}
+use Rattle.tuple_state.proofs.Fronts.{bounded_next, dated_next}
 use Rattle.tuple_state.proofs.Deleting.{deleted_next, drops_found}
 use Rattle.tuple_state.proofs.Effects.{count_is}
 use Rattle.tuple_state.proofs.Layers.{layered_founded, same_layered}
@@ -56,7 +57,7 @@ few_inserted node number did (Delete name ∷ ops) = let rest = few_inserted nod
 pub count_next : (state : State) (node : NodeData) (v : Verdict) → IsNextVerdict state node v → state.count < 131072
 count_next state node v next = let c = ap (λ (s : State). s.count) next.is.is ∙ count_is next.rules next.nodes in omega (arith, c, next.few)
 
-marks_are : (rows : List Inserted) (shown : List Bool) (f : Inserted → Bool) → length shown ≡ length rows → ((k : ℕ) (it : Inserted) → slice_get rows k ≡ Some it → get_or shown k false ≡ f it) → shown ≡ map f rows
+pub marks_are : (rows : List Inserted) (shown : List Bool) (f : Inserted → Bool) → length shown ≡ length rows → ((k : ℕ) (it : Inserted) → slice_get rows k ≡ Some it → get_or shown k false ≡ f it) → shown ≡ map f rows
 marks_are [] [] f len h = refl
 marks_are [] (b ∷ shown) f len h = absurd (omega (arith, len))
 marks_are (row ∷ rows) [] f len h = absurd (omega (arith, len))
@@ -98,7 +99,8 @@ module _ (state : State) (node : NodeData) (places : BTreeMap RowName ℕ) (show
       → IsKept (after state node verdict.Valid) after_places marked after_deleters
   kept_next small after_places m marked placed enough marks len after_deleters rooms added = record {
     few = omega (arith, count_few);
-    bounded = let l = length-append state.inserted news in omega (arith, l, news_few small, kept.bounded);
+    bounded = λ len. bounded_next state.inserted (reverse (effects_of node).inserted) state.count len kept.dated kept.bounded (news_few small);
+    dated = dated_next state.inserted (reverse (effects_of node).inserted) state.count kept.dated;
     layered = layered_next;
     placed = placed;
     rooms = let l = length-append state.inserted news in omega (arith, rooms, kept.rooms, l);

@@ -1,5 +1,6 @@
 pub mod Answering
 pub mod Counting
+pub mod Fronts
 pub mod Deleting
 pub mod Dropping
 pub mod Effects
@@ -19,6 +20,7 @@ pub mod Reaching
 pub mod Regrowth
 pub mod Restricting
 pub mod Rising
+pub mod Shortening
 pub mod Starting
 pub mod Stepping
 pub mod Voiding

@@ -27,7 +27,7 @@ each_at P [] k it h at = absurd (cc)
 each_at P (row ∷ rows) zero it h at = let same : row ≡ it = cc in subst (λ (r : Inserted). P (row_of r)) same h.0
 each_at P (row ∷ rows) (suc k) it h at = each_at P rows k it h.1 at
 
-row_has : (P : TableRow → Type 0) (rows : List Inserted) (k : ℕ) (it : Inserted) → AllByRecursion P (reverse (map row_of rows)) → slice_get rows k ≡ Some it → P (row_of it)
+pub row_has : (P : TableRow → Type 0) (rows : List Inserted) (k : ℕ) (it : Inserted) → AllByRecursion P (reverse (map row_of rows)) → slice_get rows k ≡ Some it → P (row_of it)
 row_has P rows k it h at = each_at P rows k it (each_back P (map row_of rows) h) at
 
 -- a place in two lists side by side
@@ -55,7 +55,7 @@ pub and_true : (b : Bool) → (b && true) ≡ b
 and_true true = refl
 and_true false = refl
 
-any_gone : (drops : List Dropped) (name : RowName) → list_any (same_row name) (reverse (map (λ (d : Dropped). d.name) drops)) ≡ list_any (λ (d : Dropped). same_row d.name name) drops
+pub any_gone : (drops : List Dropped) (name : RowName) → list_any (same_row name) (reverse (map (λ (d : Dropped). d.name) drops)) ≡ list_any (λ (d : Dropped). same_row d.name name) drops
 any_gone drops name =
     any_reversed (same_row name) (map (λ (d : Dropped). d.name) drops) ∙ any_mapped (λ (d : Dropped). d.name) (same_row name) drops ∙ (λ i. list_any (λ (d : Dropped). same_row-symm name d.name i) drops)
 

@@ -9,7 +9,9 @@ use Rattle.table_model.specs.Visible.{Effects}
 use Rattle.tuple_state.specs.declared.inserted.Inserted.{Inserted}
 use Rattle.tuple_state.specs.declared.dropped.Dropped.{Dropped}
 use Rattle.tuple_state.specs.State.{dropped_at, inserted_at}
-use Rattle.tuple_state.specs.Steps.{name_by, names_by, row_by, rows_by}
+use Rattle.update_model.specs.declared.author_key.AuthorKey.{AuthorKey}
+use Rattle.update_model.specs.declared.update_id.UpdateId.{UpdateId}
+use Rattle.tuple_state.specs.Steps.{name_by, names_by, row_by, row_made, rows_by}
 use Rattle.tuple_state.proofs.Lookups.{reverse_cons}
 
 -- one more at the end of a list that is turned round
@@ -71,3 +73,23 @@ rows_step position node ops total i op rows new below is inv added =
 pub rows_end : (position : ℕ) (node : NodeData) (ops total : List Op) (i : ℕ) (rows : List Inserted) → length ops ≤ i → rows ++ rows_by position node i (drop i ops) ≡ rows_by position node 0 total → rows ≡ rows_by position node 0 total
 unfolding rows_by
 rows_end position node ops total i rows past inv = sym (append-nil rows) ∙ ap (λ l. rows ++ rows_by position node i l) (sym (drop_past i ops past)) ∙ inv
+
+-- a node with this id and author
+abbrev pub made_of : UpdateId → AuthorKey → NodeData
+made_of id author = record { id = id; preds = []; author = author; ops = [] }
+
+pub rows_more : (position : ℕ) (node : NodeData) (number : ℕ) (ops : List Op) (op : Op) → rows_by position node number (ops ++ op ∷ []) ≡ rows_by position node number ops ++ row_by position node (number + length ops) op
+unfolding rows_by
+rows_more position node number [] op = append-nil _ ∙ ap (λ n. row_by position node n op) (omega arith)
+rows_more position node number (first ∷ ops) op =
+    ap (λ l. row_by position node number first ++ l) (rows_more position node (number + 1) ops op ∙ ap (λ n. rows_by position node (number + 1) ops ++ row_by position node n op) (omega arith))
+    ∙ sym (append_assoc (row_by position node number first) (rows_by position node (number + 1) ops) _)
+
+pub rows_same : (position : ℕ) (node other : NodeData) (number : ℕ) (ops : List Op) → node.id ≡ other.id → node.author ≡ other.author → rows_by position node number ops ≡ rows_by position other number ops
+unfolding rows_by
+rows_same position node other number [] a b = refl
+rows_same position node other number (op ∷ ops) a b = λ i. row_made position (a i) (b i) number op ++ rows_same position node other (number + 1) ops a b i
+
+pub empty_from : {X : Type 0} (xs : List X) → length xs ≡ 0 → xs ≡ []
+empty_from [] h = refl
+empty_from (x ∷ xs) h = absurd (omega (arith, h))

@@ -18,6 +18,7 @@ use Rattle.table_model.specs.Nodes.{holds, IsClosed}
 use Rattle.table_model.specs.Tables.{AreVoidsIn, void_line, void_lines}
 use Rattle.table_model.specs.Verdicts.{judge_next, judged}
 use Rattle.table_model.specs.Visible.{Rules}
+use Rattle.tuple_state.specs.declared.voided.Voided.{Voided}
 use Rattle.tuple_state.specs.Sorting.{HasDistinctIds}
 use Rattle.tuple_state.specs.State.{IsStateOf, State}
 use Rattle.tuple_state.proofs.Effects.{voids_are}
@@ -53,10 +54,10 @@ arrived_distinct lines all is h =
     (IsPermutation-map (λ (l : VoidLine). l.id) all lines (subst (λ (l : List VoidLine). IsPermutation l lines) is (IsPermutation-sym lines (reverse lines) (IsPermutation-reverse lines)))) h
 
 -- those that a state keeps, once sorted
-pub voids_now : (rules : Rules) (nodes : List NodeData) (state : State) → IsStateOf rules nodes state → (lines sorted : List VoidLine) → lines ≡ state.voids
+pub voids_now : (rules : Rules) (nodes : List NodeData) (state : State) → IsStateOf rules nodes state → (lines sorted : List VoidLine) → lines ≡ map (λ (it : Voided). it.line) state.voids
     → (HasDistinctIds lines → IsStrictlySortedBy id_cmp (map (λ line. line.id) sorted)) → IsPermutation sorted lines → AreVoidsIn rules nodes sorted
 voids_now rules nodes state held lines sorted kept rising moved =
-    let is : reverse lines ≡ void_lines (judged rules nodes) = ap reverse kept ∙ ap (λ (s : State). reverse s.voids) held.is ∙ voids_are rules nodes in
+    let is : reverse lines ≡ void_lines (judged rules nodes) = ap reverse kept ∙ ap (λ (s : State). reverse (map (λ (it : Voided). it.line) s.voids)) held.is ∙ voids_are rules nodes in
     record {
       rising = rising (arrived_distinct lines (void_lines (judged rules nodes)) is (lines_distinct rules nodes held.closed));
       exact = subst (λ (l : List VoidLine). IsPermutation sorted l) is (IsPermutation-trans sorted lines (reverse lines) moved (IsPermutation-reverse lines));

@@ -1,5 +1,5 @@
 -- What tables keep beside their state, so that look-ups are quick.
-use Rattle.std.specs.Prelude.{◌≡◌, ℕ, ◌*◌, ◌≤◌, Bool, true, not, ◌&&◌, List, [], ◌∷◌, length, map, Option, Some}
+use Rattle.std.specs.Prelude.{◌≡◌, ℕ, ◌*◌, ◌≤◌, Bool, true, not, ◌&&◌, List, [], ◌∷◌, length, map, count_by, nat_lt, Option, Some}
 use Rattle.std.specs.List.{list_any, list_all, position_from}
 use Rattle.std.specs.BTreeMap.{get, BTreeMap}
 use Rattle.update_model.specs.declared.row_name.RowName.{RowName}
@@ -37,7 +37,8 @@ deletes_at place dropped = map (λ (drop : Dropped). (place drop.name, drop.posi
 -- found by its place.
 pub record IsKept (state : State) (places : BTreeMap RowName ℕ) (shown : List Bool) (deleters : Linked) : Type 0 where
   pub few : state.count ≤ 131072
-  pub bounded : length state.inserted ≤ 256 * state.count
+  pub bounded : (len : ℕ) → count_by (λ it. nat_lt it.position len) state.inserted ≤ 256 * len
+  pub dated : list_all (λ it. nat_lt it.position state.count) state.inserted ≡ true
   pub layered : are_layered (rules_of state) (done_in state).inserted ≡ true
   pub placed : (name : RowName) → get name_cmp places name ≡ place_of state.inserted name
   pub marked : shown ≡ map (λ it. is_visible (rules_of state) (done_in state) it.name) state.inserted

@@ -1,5 +1,5 @@
 -- What tables hold: what the valid updates did, in the order in which they were applied, and the updates that do nothing.
-use Rattle.std.specs.Prelude.{◌≡◌, ℕ, ◌+◌, false, List, [], ◌∷◌, ◌++◌, map, reverse}
+use Rattle.std.specs.Prelude.{◌≡◌, ℕ, ◌+◌, false, List, [], ◌∷◌, ◌++◌, length, map, reverse}
 use Rattle.update_model.specs.declared.row_name.RowName.{RowName}
 use Rattle.update_model.specs.Node.{NodeData}
 use Rattle.schema.specs.declared.column.Column.{Column}
@@ -8,12 +8,12 @@ use Rattle.table_model.specs.declared.verdict.Verdict.{Verdict}
 use Rattle.table_model.specs.declared.verdict.Verdict.TheVariants as verdict
 use Rattle.table_model.specs.declared.void_line.VoidLine.{VoidLine}
 use Rattle.table_model.specs.Nodes.{IsClosed}
-use Rattle.table_model.specs.Tables.{void_line}
 use Rattle.table_model.specs.Verdicts.{effects_of, judge_next, judged}
 use Rattle.schema.specs.Numbers.{no_table}
 use Rattle.table_model.specs.Visible.{Effects, Rules, TableRow}
 use Rattle.tuple_state.specs.declared.inserted.Inserted.{Inserted}
 use Rattle.tuple_state.specs.declared.dropped.Dropped.{Dropped}
+use Rattle.tuple_state.specs.declared.voided.Voided.{Voided}
 
 -- the columns of each table, how many updates were applied, what the valid ones did, oldest first, and the void ones
 pub record State : Type 0 where
@@ -21,7 +21,7 @@ pub record State : Type 0 where
   pub count : ℕ
   pub inserted : List Inserted
   pub dropped : List Dropped
-  pub voids : List VoidLine
+  pub voids : List Voided
 
 -- a row, as the update at this position inserts it
 abbrev pub inserted_at : ℕ → TableRow → Inserted
@@ -36,6 +36,10 @@ row_of it = record { name = it.name; table = it.entry.table; author = it.entry.a
 abbrev pub dropped_at : ℕ → RowName → Dropped
 dropped_at position name = record { position = position; name = name }
 
+-- a line, as the update at this position has it
+abbrev pub voided_at : ℕ → VoidLine → Voided
+voided_at position line = record { position = position; line = line }
+
 -- the state after one more update: a valid one's effects come last, a void one has its line and nothing else
 abbrev pub after : State → NodeData → Verdict → State
 after state node verdict.Valid = record state {
@@ -45,7 +49,7 @@ after state node verdict.Valid = record state {
 }
 after state node (verdict.Void reason operation) = record state {
   count = state.count + 1;
-  voids = state.voids ++ void_line node.id (verdict.Void reason operation);
+  voids = state.voids ++ voided_at state.count (record { id = node.id; reason = reason; operation = operation }) ∷ [];
 }
 
 -- the state before any update
@@ -73,3 +77,11 @@ rules_with columns = record { tables = map (λ list. record no_table { columns =
 -- those of a state
 abbrev pub rules_of : State → Rules
 rules_of state = rules_with state.columns
+
+-- The tables hold what nodes do of which all after the first so many are to be taken back.
+pub record IsCut (state : State) (len : ℕ) : Type 0 where
+  pub rules : Rules
+  pub newer : List NodeData
+  pub older : List NodeData
+  pub is : IsStateOf rules (newer ++ older) state
+  pub at : length older ≡ len

@@ -1,17 +1,27 @@
 -- What the operations of an update insert and delete, one by one.
-use Rattle.std.specs.Prelude.{ℕ, ◌+◌, List, [], ◌∷◌, ◌++◌}
+use Rattle.std.specs.Prelude.{ℕ, ◌+◌, List, [], ◌∷◌, ◌++◌, map}
+use Rattle.update_model.specs.declared.author_key.AuthorKey.{AuthorKey}
+use Rattle.update_model.specs.declared.update_id.UpdateId.{UpdateId}
 use Rattle.update_model.specs.declared.op.Op.{Op}
 use Rattle.update_model.specs.declared.op.Op.TheVariants as op
 use Rattle.update_model.specs.Node.{NodeData}
-use Rattle.table_model.specs.Verdicts.{row_inserted}
+use Rattle.table_model.specs.Verdicts.{named}
 use Rattle.tuple_state.specs.declared.inserted.Inserted.{Inserted}
 use Rattle.tuple_state.specs.declared.dropped.Dropped.{Dropped}
-use Rattle.tuple_state.specs.State.{dropped_at, inserted_at}
+use Rattle.tuple_state.specs.State.{dropped_at}
 
--- the row that the operation with this number inserts
+-- the row that the operation with this number inserts, of the update with this id and author
+abbrev pub row_made : ℕ → UpdateId → AuthorKey → ℕ → Op → List Inserted
+row_made position id author number (op.Insert table values) = record {
+  position = position;
+  name = record { update = id; index = number };
+  entry = record { table = table; author = author; values = map (named id) values };
+} ∷ []
+row_made position id author number (op.Delete name) = []
+
+-- the same of a node
 abbrev pub row_by : ℕ → NodeData → ℕ → Op → List Inserted
-row_by position node number (op.Insert table values) = inserted_at position (row_inserted node number table values) ∷ []
-row_by position node number (op.Delete name) = []
+row_by position node number op = row_made position node.id node.author number op
 
 -- the name that an operation deletes
 abbrev pub name_by : ℕ → Op → List Dropped

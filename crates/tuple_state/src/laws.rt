@@ -1,7 +1,7 @@
 //! Laws of tables. Each function does nothing: its contract is a theorem for callers to cite. Lists of nodes stand newest
 //! first.
 
-ghost use Rattle.std.specs.Prelude.{◌≡◌, true, List, ◌∷◌, reverse};
+ghost use Rattle.std.specs.Prelude.{◌≡◌, true, List, ◌∷◌, map, reverse};
 ghost use Rattle.update_model.specs.Node.{NodeData};
 ghost use Rattle.table_model.specs.declared.verdict.Verdict.{Verdict};
 ghost use Rattle.table_model.specs.Nodes.{IsClosed, IsNext};
@@ -30,5 +30,5 @@ pub fn visible_rows_were_visible()
 /// Tables that hold what nodes do have their effects and their void lines.
 pub fn states_are_effects()
     ensures did { (rules : Rules) (nodes : List NodeData) (state : State) → IsStateOf rules nodes state → done_in state ≡ effects_in rules nodes }
-    ensures voids { (rules : Rules) (nodes : List NodeData) (state : State) → IsStateOf rules nodes state → reverse state.voids ≡ void_lines (judged rules nodes) }
+    ensures voids { (rules : Rules) (nodes : List NodeData) (state : State) → IsStateOf rules nodes state → reverse (map (λ it. it.line) state.voids) ≡ void_lines (judged rules nodes) }
 {}

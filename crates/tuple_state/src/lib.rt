@@ -3,13 +3,15 @@
 //! [`Tables`] takes one update after another with its verdict. It keeps the rows that the valid ones inserted, the names
 //! that they deleted, and a line for each update that does nothing, and it answers which rows are visible: now
 //! ([`Tables::visible`], [`Tables::rows`]), or after the ancestors of one update ([`Tables::at`], by which the next
-//! verdict is found).
+//! verdict is found). What is visible now was visible before, so of a row that nobody hides no history is walked. The last
+//! updates can be taken back ([`Tables::cut`]).
 //!
 //! It judges nothing itself: whoever applies an update says its verdict, and a contract asks that it is the right one.
 #![tactic(auto)]
 
 mod at;
 mod columns;
+mod cutting;
 mod deleters;
 mod dropped;
 mod inserted;
@@ -21,11 +23,11 @@ mod showing;
 mod sorting;
 mod steps;
 mod tables;
-#[cfg(test)]
-mod tests;
+mod voided;
 
 pub use at::At;
 pub use dropped::Dropped;
 pub use inserted::Inserted;
 pub use laws::{applied_is_next, states_are_effects, visible_rows_were_visible};
 pub use tables::Tables;
+pub use voided::Voided;

@@ -115,6 +115,15 @@ pub(crate) fn remove_places(
     }
 }
 
+/// Marks each row.
+pub(crate) fn show(shown: &mut [bool])
+    ensures { (k : ℕ) → k < length shown.old → slice_index_or shown.new k false ≡ true }
+{
+    for mark in shown.iter_mut() {
+        *mark = true;
+    }
+}
+
 /// Takes the marks of deleted rows away.
 fn hide(
     shown: &mut [bool],

@@ -1,31 +1,31 @@
-ghost use Rattle.std.specs.Prelude.{◌≡◌, ℕ, ◌<◌, ◌^◌, ◌++◌, IfOk, OnOk, map, reverse};
+ghost use Rattle.std.specs.Prelude.{◌≡◌, ◌++◌, IfOk, OnOk, map, reverse};
 ghost use Rattle.table_model.specs.Verdicts.{effects_of, named};
 ghost use Rattle.tuple_state.specs.State.{dropped_at, inserted_at};
-ghost use Rattle.tuple_state.specs.Steps.{name_by, row_by};
+ghost use Rattle.tuple_state.specs.Steps.{name_by, row_made};
 
 use crate::{Dropped, Inserted};
 use std::alloc::{AllocError, Global};
-use update_model::{Node, Op, RowEntry, RowName, UpdateId, Value, ValueList};
+use update_model::{AuthorKey, Node, Op, RowEntry, RowName, UpdateId, Value, ValueList};
 
-/// The rows that a valid update at this position inserts, in the order of its operations.
+/// The rows that a valid update at this position inserts, in the order of its operations. Their values are the update's own.
 pub(crate) fn inserted_by(
     alloc: Global,
     position: u32,
-    node: &Node,
+    node: Node,
 ) -> Result<Vec<Inserted>, AllocError>
-    ensures { IfOk result (λ rows. rows.items ≡ map (inserted_at position) (reverse (effects_of node.now).inserted)) }
+    ensures { IfOk result (λ rows. rows.items ≡ map (inserted_at position) (reverse (effects_of node).inserted)) }
 {
+    let Node {
+        id,
+        preds: _,
+        author,
+        ops,
+    } = node;
     let mut rows = Vec::new(alloc);
-    let ops = node.ops.as_slice();
-    for number in 0..ops.len() {
-        add_row(
-            alloc,
-            &mut rows,
-            position,
-            node,
-            number as u16,
-            &ops[number],
-        )?;
+    let mut number = 0;
+    for op in ops.into_vec() {
+        add_row(alloc, &mut rows, position, id, author, number, op)?;
+        number += 1;
     }
     Ok(rows)
 }
@@ -35,21 +35,22 @@ fn add_row(
     alloc: Global,
     rows: &mut Vec<Inserted>,
     position: u32,
-    node: &Node,
+    id: UpdateId,
+    author: AuthorKey,
     number: u16,
-    op: &Op,
+    op: Op,
 ) -> Result<(), AllocError>
-    ensures { OnOk result (rows.new.items ≡ rows.old.items ++ row_by position node.now number op.now) }
+    ensures { OnOk result (rows.new.items ≡ rows.old.items ++ row_made position id author number op) }
 {
     match op {
         Op::Insert { table, values } => {
             let entry = RowEntry {
-                table: *table,
-                author: node.author,
-                values: all_named(alloc, node.id, values.as_slice())?,
+                table,
+                author,
+                values: all_named(alloc, id, values)?,
             };
             let name = RowName {
-                update: node.id,
+                update: id,
                 index: number,
             };
             rows.push(Inserted {
@@ -98,24 +99,22 @@ fn add_name(names: &mut Vec<Dropped>, position: u32, op: &Op) -> Result<(), Allo
 }
 
 /// Values as they stand in a table: a reference to a row of the update with this id is that row's name.
-fn all_named(alloc: Global, id: UpdateId, values: &[Value]) -> Result<ValueList, AllocError>
-    ensures { IfOk result (λ list. list ≡ map (named id) values.now) }
+fn all_named(alloc: Global, id: UpdateId, values: ValueList) -> Result<ValueList, AllocError>
+    ensures { IfOk result (λ list. list ≡ map (named id) values) }
 {
+    let values = values.into_vec();
     let mut list = Vec::with_capacity(alloc, values.len())?;
     for value in values {
-        list.push(named_value(alloc, id, value)?)?;
+        list.push(named_value(id, value))?;
     }
     Ok(ValueList::from_vec(list))
 }
 
-fn named_value(alloc: Global, id: UpdateId, value: &Value) -> Result<Value, AllocError>
-    ensures { IfOk result (λ copy. copy ≡ named id value.now) }
+fn named_value(id: UpdateId, value: Value) -> Value
+    ensures { result ≡ named id value }
 {
     match value {
-        Value::Own(index) => Ok(Value::Row(RowName {
-            update: id,
-            index: *index,
-        })),
-        other => other.copy(alloc),
+        Value::Own(index) => Value::Row(RowName { update: id, index }),
+        other => other,
     }
 }

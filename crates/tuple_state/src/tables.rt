@@ -15,18 +15,19 @@ ghost use Rattle.validity.specs.Answers.{AreAnswers};
 ghost use Rattle.tuple_state.specs.Past.{IsNextVerdict, IsPastOf, StandsAt, done_then, effects_before};
 ghost use Rattle.tuple_state.specs.Kept.{are_layered, place_of};
 ghost use Rattle.tuple_state.specs.Parents.{columns_at, passes_place};
-ghost use Rattle.tuple_state.specs.State.{IsStateOf, after, done_in, row_of, rules_of};
+ghost use Rattle.tuple_state.specs.State.{IsCut, IsStateOf, after, done_in, row_of, rules_of, voided_at};
 ghost use Rattle.tuple_state.specs.declared.inserted.Inserted.{Inserted as Row};
 
 use crate::columns::{columns_of, copy_lists};
+use crate::cutting::{lines_of, names_before, rows_before, voids_before};
 use crate::deleters::add_deleters;
 use crate::links::Links;
-use crate::parents::{add_parents, add_places, remark, remove_places};
+use crate::parents::{add_parents, add_places, remark, remove_places, show};
 use crate::restricts::restricts;
 use crate::showing::{copy_rows, listed_among};
 use crate::sorting::{sort_lines, sort_rows};
 use crate::steps::{dropped_by, inserted_by};
-use crate::{At, Dropped, Inserted};
+use crate::{At, Dropped, Inserted, Voided};
 use row_check::{Cmp, compare};
 use schema::{Column, ColumnList, Schema};
 use std::alloc::{AllocError, Global};
@@ -55,7 +56,7 @@ pub struct Tables {
     /// To the place of each row the positions of the updates that delete it.
     deleters: Links,
     /// The updates that do nothing, in order of arrival.
-    voids: Vec<VoidLine>,
+    voids: Vec<Voided>,
 }
 
 impl Model for Tables {
@@ -88,11 +89,11 @@ impl Tables {
         })
     }
 
-    /// Takes the next update with its verdict: a valid one's rows and deletions, or a void one's line. The verdict has to
+    /// Takes the next update over with its verdict: a valid one's rows and deletions, or a void one's line. The verdict has to
     /// be the right one, on the update's ancestors among those that were applied. After an error nothing has changed.
-    pub fn apply(&mut self, node: &Node, verdict: Verdict) -> Result<(), AllocError>
-        requires next { IsNextVerdict self.old node.now verdict }
-        ensures { MatchResult result (λ _. self.new ≡ after self.old node.now verdict) (λ _. self.new ≡ self.old) }
+    pub fn apply(&mut self, node: Node, verdict: Verdict) -> Result<(), AllocError>
+        requires next { IsNextVerdict self.old node verdict }
+        ensures { MatchResult result (λ _. self.new ≡ after self.old node verdict) (λ _. self.new ≡ self.old) }
     {
         match verdict {
             Verdict::Valid => self.keep_valid(node),
@@ -206,13 +207,13 @@ impl Tables {
     }
 
     /// Keeps what a valid update does. Memory is taken before anything changes.
-    fn keep_valid(&mut self, node: &Node) -> Result<(), AllocError>
-        requires next { IsNextVerdict self.old node.now Valid }
-        ensures { MatchResult result (λ _. self.new ≡ after self.old node.now Valid) (λ _. self.new ≡ self.old) }
+    fn keep_valid(&mut self, node: Node) -> Result<(), AllocError>
+        requires next { IsNextVerdict self.old node Valid }
+        ensures { MatchResult result (λ _. self.new ≡ after self.old node Valid) (λ _. self.new ≡ self.old) }
     {
         let _ops = &node.ops;
+        let mut dropped = dropped_by(self.alloc, self.count, &node)?;
         let mut inserted = inserted_by(self.alloc, self.count, node)?;
-        let mut dropped = dropped_by(self.alloc, self.count, node)?;
         let first = self.rows.len();
         make_room(
             &mut self.rows,
@@ -248,12 +249,46 @@ impl Tables {
         Ok(())
     }
 
+    /// Takes the updates back that were applied after the first so many. It takes no memory, and goes over all rows.
+    pub fn cut(&mut self, len: u32)
+        requires { IsCut self.old len }
+        ensures { (rules : Rules) (newer older : List NodeData) → IsStateOf rules (newer ++ older) self.old → length older ≡ len → IsStateOf rules older self.new }
+    {
+        let rows = rows_before(self.rows.as_slice(), len);
+        let names = names_before(self.dropped.as_slice(), len);
+        let voids = voids_before(self.voids.as_slice(), len);
+        remove_places(
+            &mut self.places,
+            &self.rows.as_slice()[..rows],
+            &self.rows.as_slice()[rows..],
+        );
+        self.deleters.cut(rows, names);
+        self.rows.truncate(rows);
+        self.dropped.truncate(names);
+        self.voids.truncate(voids);
+        self.shown.truncate(rows);
+        self.count = len;
+        let shown = self.shown.as_mut_slice();
+        show(shown);
+        remark(
+            shown,
+            0,
+            self.rows.as_slice(),
+            self.columns.as_slice(),
+            &self.places,
+            self.dropped.as_slice(),
+        );
+    }
+
     /// Keeps the line of a void update.
     fn keep_void(&mut self, line: VoidLine) -> Result<(), AllocError>
         requires few { self.old.count < 131072 }
-        ensures { MatchResult result (λ _. self.new ≡ record self.old { count = self.old.count + 1; voids = self.old.voids ++ line ∷ [] }) (λ _. self.new ≡ self.old) }
+        ensures { MatchResult result (λ _. self.new ≡ record self.old { count = self.old.count + 1; voids = self.old.voids ++ voided_at self.old.count line ∷ [] }) (λ _. self.new ≡ self.old) }
     {
-        self.voids.push(line)?;
+        self.voids.push(Voided {
+            position: self.count,
+            line,
+        })?;
         self.count += 1;
         Ok(())
     }
@@ -304,7 +339,7 @@ impl Tables {
     pub fn voids(&self, alloc: Global) -> Result<VoidList, AllocError>
         ensures { IfOk result (λ lines. (rules : Rules) (nodes : List NodeData) → IsStateOf rules nodes self.now → AreVoidsIn rules nodes lines) }
     {
-        let lines = Vec::from_slice(alloc, self.voids.as_slice())?;
+        let lines = lines_of(alloc, self.voids.as_slice())?;
         Ok(VoidList::from_vec(sort_lines(lines)))
     }
 

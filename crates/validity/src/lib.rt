@@ -14,8 +14,6 @@ mod inserting;
 mod judging;
 mod own_row;
 mod referring;
-#[cfg(test)]
-mod tests;
 mod unlimited;
 
 pub use judging::judge;

@@ -1,4 +1,4 @@
-use Rattle.std.proofs.Common.{◌+◌, ◌≡◌, List, true, ap, ◌∙◌}
+use Rattle.std.proofs.Common.{◌+◌, ap, ◌∙◌}
 use Rattle.std.specs.BTreeMap.{get}
 use Rattle.table_model.specs.Tables.{name_cmp}
 use Rattle.tuple_state.specs.Links.{are_inside}

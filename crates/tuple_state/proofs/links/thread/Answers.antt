@@ -1,4 +1,4 @@
-use Rattle.std.proofs.Common.{◌≡◌, Bool, true, refl, subst, sym, arith, ap, length, ◌∙◌}
+use Rattle.std.proofs.Common.{refl, ap, ◌∙◌}
 use Rattle.tuple_state.specs.Links.{are_inside}
 use Rattle.tuple_state.proofs.Linking.{link_at, thread_end, thread_step}
 use Rattle.tuple_state.proofs.links.thread.Goals as goal

@@ -1,4 +1,4 @@
-use Rattle.std.proofs.Common.{◌<◌, ◌≡◌, Bool, ℕ, ap, arith, length, sym, subst, ◌∙◌}
+use Rattle.std.proofs.Common.{◌<◌, Bool, ℕ, ap, arith, length, sym, subst, ◌∙◌}
 use Rattle.tuple_state.specs.Links.{IsBelow}
 use Rattle.tuple_state.proofs.Linking.{asked_here, asked_on, below_more, link_there}
 use Rattle.tuple_state.proofs.links.Links.any_ancestor.Goals as goal

@@ -1,4 +1,4 @@
-use Rattle.std.proofs.Common.{◌≡◌, ◌<◌, length}
+use Rattle.std.proofs.Common.{◌≡◌, length}
 use Rattle.std.specs.List.{list_any}
 use Rattle.tuple_state.specs.Links.{IsBelow, numbers_from, numbers_of}
 use Rattle.tuple_state.proofs.Linking.{size_of}

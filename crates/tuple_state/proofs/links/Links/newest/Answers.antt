@@ -1,4 +1,4 @@
-use Rattle.std.proofs.Common.{◌≡◌, ◌<◌, length, ap, sym, subst}
+use Rattle.std.proofs.Common.{◌≡◌, ◌<◌, length, sym, subst}
 use Rattle.tuple_state.specs.Links.{IsBelow, Linked, numbers_from, numbers_of}
 use Rattle.tuple_state.proofs.Linking.{last_below, last_numbers}
 use Rattle.tuple_state.proofs.links.Links.newest.Goals as goal

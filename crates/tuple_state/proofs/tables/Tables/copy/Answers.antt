@@ -1,4 +1,10 @@
-use Rattle.std.proofs.Common.{List, [], sym, subst, ◌∙◌}
+use Rattle.std.proofs.Common.{◌≡◌, Bool, List, [], ap, sym, subst, ◌∙◌}
+use Rattle.std.specs.BTreeMap.{get}
+use Rattle.update_model.specs.declared.row_name.RowName.{RowName}
+use Rattle.table_model.specs.Tables.{name_cmp}
+use Rattle.tuple_state.specs.Kept.{IsKept, place_of}
+use Rattle.tuple_state.specs.State.{State}
+use Rattle.tuple_state.proofs.Shortening.{kept_places}
 use Rattle.tuple_state.specs.declared.inserted.Inserted.{Inserted}
 use Rattle.tuple_state.specs.Parents.{AreFresh}
 use Rattle.tuple_state.proofs.Marks.{fresh_layered}
@@ -8,3 +14,20 @@ pub add_places-requires-clause-fresh : goal.add_places-requires-clause-fresh
 add_places-requires-clause-fresh c =
     let rows = c.as_slice-3.ensures.value ∙ c.in_ok-rows.ensures ∙ c.as_slice-2.ensures.value in
     subst (λ (l : List Inserted). AreFresh [] l) (sym rows) (fresh_layered _ [] c.self.inside.rows.items c.self.invariant.layered)
+
+pub invariant_of-result : goal.invariant_of-result
+invariant_of-result c =
+    let inside = c.self.inside in
+    let state : State = record { columns = inside.columns.items; count = inside.count; inserted = inside.rows.items; dropped = inside.dropped.items; voids = inside.voids.items } in
+    let columns = c.in_ok-columns.ensures ∙ c.as_slice.ensures.value in
+    let rows = c.in_ok-rows.ensures ∙ c.as_slice-2.ensures.value in
+    let shown = c.in_ok-from_slice.ensures.items ∙ c.as_slice-4.ensures.value in
+    let dropped = c.in_ok-from_slice-2.ensures.items ∙ c.as_slice-5.ensures.value in
+    let voids = c.in_ok-from_slice-3.ensures.items ∙ c.as_slice-6.ensures.value in
+    let whole : ◌≡◌ {A = State} (record { columns = c.in_ok-columns.columns.items; count = inside.count; inserted = c.in_ok-rows.rows.items; dropped = c.in_ok-from_slice-2.field-0.items; voids = c.in_ok-from_slice-3.field-0.items }) state =
+    λ i. record { columns = columns i; count = inside.count; inserted = rows i; dropped = dropped i; voids = voids i } in
+    let placed : (name : RowName) → get name_cmp c.add_places.new.places name ≡ place_of inside.rows.items name =
+    λ name. c.in_ok-add_places.ensures.ok name ∙ ap (λ (l : List Inserted). place_of l name) (c.as_slice-3.ensures.value ∙ rows) in
+    subst (λ (s : State). IsKept s c.add_places.new.places c.in_ok-from_slice.field-0.items c.in_ok-copy.field-0) (sym whole)
+    (subst (λ (l : List Bool). IsKept state c.add_places.new.places l c.in_ok-copy.field-0) (sym shown)
+    (kept_places state inside.places c.add_places.new.places inside.shown.items inside.deleters c.in_ok-copy.field-0 c.self.invariant placed c.in_ok-copy.ensures))

@@ -11,7 +11,8 @@ use Rattle.tuple_state.specs.State.{State, dropped_at, inserted_at}
 use Rattle.std.specs.BTreeMap.{get}
 use Rattle.table_model.specs.Tables.{name_cmp}
 use Rattle.tuple_state.specs.Kept.{deletes_at, pairs_of}
-use Rattle.tuple_state.proofs.Deleting.{all_same, match_ok, pairs_same}
+use Rattle.tuple_state.proofs.Deleting.{all_same, match_err, match_ok, pairs_same}
+use Rattle.tuple_state.proofs.Shortening.{kept_places}
 use Rattle.tuple_state.proofs.Keeping.{drops_there, kept_next, layered_next}
 use Rattle.tuple_state.proofs.Lookups.{row_found}
 use Rattle.tuple_state.proofs.Marks.{found_layered, fresh_layered}
@@ -19,27 +20,27 @@ use Rattle.tuple_state.proofs.tables.Tables.keep_valid.Goals as goal
 
 pub add_places-requires-clause-fresh : goal.add_places-requires-clause-fresh
 add_places-requires-clause-fresh c =
-    let next = subst (λ (s : State). IsNextVerdict s c.args.node.now verdict.Valid) (sym c.self.view_is) c.requires.next in
+    let next = subst (λ (s : State). IsNextVerdict s c.args.node verdict.Valid) (sym c.self.view_is) c.requires.next in
     rw (c.as_slice.ensures.value, c.make_room.ensures.rows, c.as_slice-2.ensures.value, c.in_ok-inserted.ensures)
-    (fresh_layered _ c.self.inside.rows.items _ (layered_next _ c.args.node.now c.self.inside.places c.self.inside.shown.items c.self.inside.deleters c.self.invariant next))
+    (fresh_layered _ c.self.inside.rows.items _ (layered_next _ c.args.node c.self.inside.places c.self.inside.shown.items c.self.inside.deleters c.self.invariant next))
 
 pub remark-requires-clause-found : goal.remark-requires-clause-found
 remark-requires-clause-found c =
-    let next = subst (λ (s : State). IsNextVerdict s c.args.node.now verdict.Valid) (sym c.self.view_is) c.requires.next in
+    let next = subst (λ (s : State). IsNextVerdict s c.args.node verdict.Valid) (sym c.self.view_is) c.requires.next in
     let rows = rw (c.unwrap-2.ensures, c.make_room.ensures.rows, c.in_ok-inserted.ensures) at c.append.ensures.items in
     rw (c.as_slice-4.ensures.value, rows)
-    (found_layered _ _ (layered_next _ c.args.node.now c.self.inside.places c.self.inside.shown.items c.self.inside.deleters c.self.invariant next))
+    (found_layered _ _ (layered_next _ c.args.node c.self.inside.places c.self.inside.shown.items c.self.inside.deleters c.self.invariant next))
 
 pub remark-requires-clause-layered : goal.remark-requires-clause-layered
 remark-requires-clause-layered c =
-    let next = subst (λ (s : State). IsNextVerdict s c.args.node.now verdict.Valid) (sym c.self.view_is) c.requires.next in
+    let next = subst (λ (s : State). IsNextVerdict s c.args.node verdict.Valid) (sym c.self.view_is) c.requires.next in
     let rows = rw (c.unwrap-2.ensures, c.make_room.ensures.rows, c.in_ok-inserted.ensures) at c.append.ensures.items in
     rw (c.as_slice-5.ensures.value, c.as_slice-4.ensures.value, rows)
-    (layered_next _ c.args.node.now c.self.inside.places c.self.inside.shown.items c.self.inside.deleters c.self.invariant next)
+    (layered_next _ c.args.node c.self.inside.places c.self.inside.shown.items c.self.inside.deleters c.self.invariant next)
 
 pub invariant_of-self-2 : goal.invariant_of-self-2
 invariant_of-self-2 c =
-    let next = subst (λ (s : State). IsNextVerdict s c.args.node.now verdict.Valid) (sym c.self.view_is) c.requires.next in
+    let next = subst (λ (s : State). IsNextVerdict s c.args.node verdict.Valid) (sym c.self.view_is) c.requires.next in
     let small = subst (λ (n : NodeData). IsNode n) c.node.view_is c.node.invariant in
     let rows = rw (c.unwrap-2.ensures, c.make_room.ensures.rows, c.in_ok-inserted.ensures) at c.append.ensures.items in
     let names = rw (c.unwrap-3.ensures, c.make_room.ensures.dropped, c.in_ok-dropped.ensures) at c.append-2.ensures.items in
@@ -48,7 +49,7 @@ invariant_of-self-2 c =
     let found = rw (c.as_slice-5.ensures.value, c.as_slice-4.ensures.value, rows, c.as_slice-6.ensures.value, c.in_ok-dropped.ensures, c.as_mut_slice.ensures.value) at c.remark.ensures in
     let old_rows = c.self.inside.rows.items in
     let old_shown = c.self.inside.shown.items in
-    let news = map (inserted_at c.self.inside.count) (reverse (effects_of c.args.node.now).inserted) in
+    let news = map (inserted_at c.self.inside.count) (reverse (effects_of c.args.node).inserted) in
     let old_len : length old_shown ≡ length old_rows = ap length c.self.invariant.marked ∙ length-map old_rows _ in
     let news_len : length c.in_ok-inserted.inserted.items ≡ length news = ap length c.in_ok-inserted.ensures in
     let room_len = ap length c.make_room.ensures.shown in
@@ -66,21 +67,21 @@ invariant_of-self-2 c =
     let end_len : length c.remark.new.shown ≡ length (old_rows ++ news) = omega (arith, c.remark.auto.shown, value, whole_len, pad_len, all_len, old_len) in
     let state : State = record { columns = c.self.inside.columns.items; count = c.self.inside.count; inserted = old_rows; dropped = c.self.inside.dropped.items; voids = c.self.inside.voids.items } in
     rw (rows, names, front)
-    (kept_next state c.args.node.now c.self.inside.places old_shown c.self.inside.deleters c.self.invariant next small c.add_places.new.places (length news) c.remark.new.shown placed refl
+    (kept_next state c.args.node c.self.inside.places old_shown c.self.inside.deleters c.self.invariant next small c.add_places.new.places (length news) c.remark.new.shown placed refl
     (λ test so. found test (λ from hidden start hid. so from hidden
     (elim start [ inl z ↦ inl z | inr e ↦ inr (start_is from e.0, e.1) ])
-    (λ k it at. hid k it at ∙ ap (λ l. get_or l k false && not (list_any (λ (d : Dropped). same_row d.name it.name) (map (dropped_at c.self.inside.count) (reverse (effects_of c.args.node.now).deleted)))) whole)))
+    (λ k it at. hid k it at ∙ ap (λ l. get_or l k false && not (list_any (λ (d : Dropped). same_row d.name it.name) (map (dropped_at c.self.inside.count) (reverse (effects_of c.args.node).deleted)))) whole)))
     end_len c.add_deleters-grown.new.deleters (omega (arith, grown.0, c.len-3.ensures, news_len))
     (grown.1 ∙ ap (λ l. pairs_of c.self.inside.deleters.links ++ l) (ap (deletes_at (get name_cmp c.add_places.new.places)) (c.as_slice-3.ensures.value ∙ c.in_ok-dropped.ensures)
-    ∙ pairs_same placed (map (dropped_at c.self.inside.count) (reverse (effects_of c.args.node.now).deleted)))))
+    ∙ pairs_same placed (map (dropped_at c.self.inside.count) (reverse (effects_of c.args.node).deleted)))))
 
 pub add_deleters-grown-requires-clause-found : goal.add_deleters-grown-requires-clause-found
 add_deleters-grown-requires-clause-found c =
-    let next = subst (λ (s : State). IsNextVerdict s c.args.node.now verdict.Valid) (sym c.self.view_is) c.requires.next in
+    let next = subst (λ (s : State). IsNextVerdict s c.args.node verdict.Valid) (sym c.self.view_is) c.requires.next in
     let placed = rw (c.as_slice.ensures.value, c.make_room.ensures.rows, c.as_slice-2.ensures.value, c.in_ok-inserted.ensures) at c.in_ok-add_places.ensures.ok in
     rw (c.as_slice-3.ensures.value, c.in_ok-dropped.ensures)
-    (all_same placed (map (dropped_at c.self.inside.count) (reverse (effects_of c.args.node.now).deleted))
-    ∙ drops_there _ c.args.node.now c.self.inside.places c.self.inside.shown.items c.self.inside.deleters c.self.invariant next)
+    (all_same placed (map (dropped_at c.self.inside.count) (reverse (effects_of c.args.node).deleted))
+    ∙ drops_there _ c.args.node c.self.inside.places c.self.inside.shown.items c.self.inside.deleters c.self.invariant next)
 
 pub add_deleters-grown-requires-clause-inside : goal.add_deleters-grown-requires-clause-inside
 add_deleters-grown-requires-clause-inside c name place at =
@@ -91,9 +92,25 @@ add_deleters-grown-requires-clause-inside c name place at =
 
 pub remove_places-requires : goal.remove_places-requires
 remove_places-requires c =
-    let next = subst (λ (s : State). IsNextVerdict s c.args.node.now verdict.Valid) (sym c.self.view_is) c.requires.next in
+    let next = subst (λ (s : State). IsNextVerdict s c.args.node verdict.Valid) (sym c.self.view_is) c.requires.next in
     record {
       placed = rw (c.as_slice-then-is_err.ensures.value, c.as_slice-then-is_err-2.ensures.value) (rw (c.as_slice.ensures.value, c.as_slice-2.ensures.value) at c.in_ok-add_places.ensures.ok);
       fresh = rw (c.as_slice-then-is_err.ensures.value, c.make_room.ensures.rows, c.as_slice-then-is_err-2.ensures.value, c.in_ok-inserted.ensures)
-          (fresh_layered _ c.self.inside.rows.items _ (layered_next _ c.args.node.now c.self.inside.places c.self.inside.shown.items c.self.inside.deleters c.self.invariant next));
+          (fresh_layered _ c.self.inside.rows.items _ (layered_next _ c.args.node c.self.inside.places c.self.inside.shown.items c.self.inside.deleters c.self.invariant next));
     }
+
+pub invariant_of-self-in_err-add_places : goal.invariant_of-self-in_err-add_places
+invariant_of-self-in_err-add_places c =
+    let inside = c.self.inside in
+    let state : State = record { columns = inside.columns.items; count = inside.count; inserted = inside.rows.items; dropped = inside.dropped.items; voids = inside.voids.items } in
+    rw (c.make_room.ensures.rows, c.make_room.ensures.shown, c.make_room.ensures.dropped)
+    (kept_places state inside.places c.add_places.new.places inside.shown.items inside.deleters inside.deleters c.self.invariant
+    (rw (c.as_slice.ensures.value, c.make_room.ensures.rows) at c.in_err-add_places.ensures.err) refl)
+
+pub invariant_of-self-then-is_err : goal.invariant_of-self-then-is_err
+invariant_of-self-then-is_err c =
+    let inside = c.self.inside in
+    let state : State = record { columns = inside.columns.items; count = inside.count; inserted = inside.rows.items; dropped = inside.dropped.items; voids = inside.voids.items } in
+    rw (c.make_room.ensures.rows, c.make_room.ensures.shown, c.make_room.ensures.dropped)
+    (kept_places state inside.places c.remove_places.new.places inside.shown.items inside.deleters c.add_deleters-grown.new.deleters c.self.invariant
+    (rw (c.as_slice-then-is_err.ensures.value, c.make_room.ensures.rows) at c.remove_places.ensures) (match_err _ c.add_deleters-grown.result (sym c.is_err.ensures.value ∙ c.if-is_err.true) c.add_deleters-grown.ensures))
