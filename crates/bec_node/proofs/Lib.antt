@@ -1,4 +1,3 @@
-pub mod Members
 pub mod HeadSteps
 pub mod Checking
 pub mod Orders
