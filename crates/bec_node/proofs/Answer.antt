@@ -1,22 +1,23 @@
 -- What a source has left has one answer to a command.
-use Rattle.std.proofs.Common.{◌≡◌, inl, inr, ℕ, ◌≤◌, ◌+◌, List, ◌++◌, length, length-append, Option, None, Some, Ok, Err, map, refl, sym, ap, subst, ◌∙◌, ◌&&◌, not, arith}
+use Rattle.std.proofs.Common.{◌≡◌, inl, inr, ℕ, List, length, Option, None, Some, Ok, Err, map, refl, sym, ap, subst, ◌∙◌, ◌&&◌, not, arith}
 use Rattle.update_model.specs.declared.update_id.UpdateId.{UpdateId}
 use Rattle.update_model.specs.Graph.{AreHeads, holds, names}
 use Rattle.update_model.proofs.Heads.{sorted_same}
 use Rattle.update_codec.specs.Parts.{entry_of}
 use Rattle.update_model.specs.Rule.{RuleData}
 use Rattle.update_stream.specs.declared.record_fault.RecordFault.{RecordFault}
-use Rattle.update_stream.specs.Stream.{IsWhole, IsRefused, length_at}
-use Rattle.update_codec.specs.Stream.{framed}
-use Rattle.update_codec.proofs.StreamLemmas.{length-framed}
-use Rattle.update_stream.proofs.Frames.{length_at-framed}
+use Rattle.update_stream.specs.Stream.{IsWhole, IsRefused}
+use Rattle.update_stream.proofs.Good.{members_of}
+use Rattle.bec_bytes.specs.Framed.{HoldsPiece, IsTooLong}
+use Rattle.bec_bytes.proofs.Frames.{cut_or_held, cut_or_long, framed_some, long_or_held, one_piece}
+use Rattle.schema.specs.declared.limits.TheConstants.{MAX_SCHEMA_BYTES}
 use Rattle.row_check.specs.Checksum.{is_luhn}
 use Rattle.schema.specs.Schemas.{SchemaData}
 use Rattle.table_model.specs.Tables.{AreTablesOf}
 use Rattle.table_text.specs.Tables.{tables_text}
 use Rattle.bec_node.specs.declared.refusal.Refusal.{Refusal}
 use Rattle.bec_node.specs.declared.refusal.Refusal.TheVariants.{Record}
-use Rattle.bec_node.specs.Bundle.{DumpAnswer, holds as holds_text, lacks, HoldsText, IsCutSchema, in_length, in_text, IsLongSchema, LacksText, RecordsAnswer, whole, stopped, TextAnswer, taken, refused as text_refused, nodes_of}
+use Rattle.bec_node.specs.Bundle.{DumpAnswer, holds as holds_text, lacks, HoldsText, IsCutSchema, LacksText, RecordsAnswer, whole, stopped, TextAnswer, taken, refused as text_refused, nodes_of}
 use Rattle.bec_node.specs.Commands.{AnswerTo}
 use Rattle.bec_node.specs.Heads.{HeadsAnswer, done, refused}
 use Rattle.bec_node.specs.Outcome.{Outcome, Prints, status_for, status_of, text_for, text_of}
@@ -24,7 +25,6 @@ use Rattle.bec_node.specs.Texts.{printed}
 use Rattle.bec_node.specs.Verdict.{CheckAnswer, confluent, refused as check_refused, RefusesSchema, TakesSchema, rules_of}
 use Rattle.bec_node.specs.declared.command.Command.{Command}
 use Rattle.bec_node.specs.declared.command.Command.TheVariants.{Heads, Check, Dump}
-use Rattle.bec_node.proofs.Streams.{members_of}
 use Rattle.bec_node.proofs.Refusals.{SchemaLaws, refuses_once, taken_or_refused}
 use Rattle.bec_node.proofs.Tables.{TableLaws, tables_once}
 
@@ -76,40 +76,25 @@ check_answered laws input after other a b (check_refused t r h one e) (check_ref
 
 -- ---- bundles
 
--- what is known of a text behind its length
-abbrev pub OneFrame : Type 0
-OneFrame = (bytes other more others : List ℕ) → length bytes ≤ 262144 → length other ≤ 262144 → framed bytes ++ more ≡ framed other ++ others → (bytes ≡ other) × (more ≡ others)
+-- no input that begins with a schema ends inside it
+cut_or_whole : (input declared more : List ℕ) → IsCutSchema input → HoldsPiece MAX_SCHEMA_BYTES input declared more → ⊥
+cut_or_whole input declared more (inl none) h = framed_some declared more (sym none ∙ h.parts)
+cut_or_whole input declared more (inr cut) h = cut_or_held MAX_SCHEMA_BYTES input declared more (omega arith) cut h
 
--- the length of a text is its own, and no longer than what follows
-held_length : (input declared more : List ℕ) → HoldsText (Some input) (Some more) declared → length_at input ≡ length declared
-held_length input declared more holds = let short = holds.0 in ap length_at holds.1 ∙ length_at-framed declared more (omega arith)
-
-held_whole : (input declared more : List ℕ) → HoldsText (Some input) (Some more) declared → 4 + length declared ≤ length input
-held_whole input declared more holds = let size = ap length holds.1 ∙ length-append (framed declared) more in let own = length-framed declared in omega (arith, size, own)
-
-cut_or_held : (input declared more : List ℕ) → IsCutSchema input → HoldsText (Some input) (Some more) declared → ⊥
-cut_or_held input declared more (in_length few) holds = let all = held_whole input declared more holds in omega (arith, few, all)
-cut_or_held input declared more (in_text four short less) holds =
-    let all = held_whole input declared more holds in let own = held_length input declared more holds in omega (arith, less, all, own)
-
-long_or_held : (input declared more : List ℕ) → IsLongSchema input → HoldsText (Some input) (Some more) declared → ⊥
-long_or_held input declared more long_one holds =
-    let own = held_length input declared more holds in let over = long_one.over in let short = holds.0 in omega (arith, own, over, short)
-
-cut_or_long : (input : List ℕ) → IsCutSchema input → IsLongSchema input → ⊥
-cut_or_long input (in_length few) long_one = let four = long_one.whole in omega (arith, few, four)
-cut_or_long input (in_text four short less) long_one = let over = long_one.over in omega (arith, short, over)
+-- nor is it too long
+cut_or_over : (input : List ℕ) → IsCutSchema input → IsTooLong MAX_SCHEMA_BYTES input → ⊥
+cut_or_over input (inl none) over = let size = ap length none in let four = over.whole in omega (arith, size, four)
+cut_or_over input (inr cut) over = cut_or_long MAX_SCHEMA_BYTES input cut over
 
 lacks_once : (input : List ℕ) (after other : Option (List ℕ)) (r s : Refusal) → LacksText (Some input) after r → LacksText (Some input) other s → r ≡ s
 lacks_once input after other r s (inl a) (inl b) = a.1 ∙ sym b.1
-lacks_once input after other r s (inl a) (inr b) = absurd (cut_or_long input a.0.0 b.0.0)
-lacks_once input after other r s (inr a) (inl b) = absurd (cut_or_long input b.0.0 a.0.0)
+lacks_once input after other r s (inl a) (inr b) = absurd (cut_or_over input a.0.2.0 b.0.2.0)
+lacks_once input after other r s (inr a) (inl b) = absurd (cut_or_over input b.0.2.0 a.0.2.0)
 lacks_once input after other r s (inr a) (inr b) = a.1 ∙ sym b.1
 
 lacks_or_holds : (input declared : List ℕ) (after mid : Option (List ℕ)) (r : Refusal) → LacksText (Some input) after r → HoldsText (Some input) mid declared → ⊥
-lacks_or_holds input declared after None r a h = h.1
-lacks_or_holds input declared after (Some more) r (inl a) h = cut_or_held input declared more a.0.0 h
-lacks_or_holds input declared after (Some more) r (inr a) h = long_or_held input declared more a.0.0 h
+lacks_or_holds input declared after mid r (inl a) h = cut_or_whole input declared h.1.0 a.0.2.0 h.1.2
+lacks_or_holds input declared after mid r (inr a) h = long_or_held MAX_SCHEMA_BYTES input declared h.1.0 (omega arith) a.0.2.0 h.1.2
 
 module _ (streams : StreamLaws) (schemas : SchemaLaws) (laws : TableLaws) where
   records_answered : (schema : SchemaData) (more : List ℕ) (after other : Option (List ℕ)) (a b : Outcome) → RecordsAnswer schema (Some more) after a → RecordsAnswer schema (Some more) other b → Same a b
@@ -134,27 +119,24 @@ module _ (streams : StreamLaws) (schemas : SchemaLaws) (laws : TableLaws) where
   text_answered declared more after other a b (text_refused s not same f) (taken x t r) = absurd (taken_or_refused schemas declared s x t not)
   text_answered declared more after other a b (text_refused r one same e) (text_refused s two again f) = same_refused a b r s (refuses_once schemas declared r s one two) e f
 
-  held_answered : OneFrame → (input d e : List ℕ) (m n after other : Option (List ℕ)) (a b : Outcome) → HoldsText (Some input) m d → HoldsText (Some input) n e → TextAnswer d m after a → TextAnswer e n other b → Same a b
-  held_answered one input d e None n after other a b h i t u = absurd h.1
-  held_answered one input d e (Some m) None after other a b h i t u = absurd i.1
-  held_answered one input d e (Some m) (Some n) after other a b h i t u =
-      let short = h.0 in
-      let fits = i.0 in
-      let same = one d e m n (omega arith) (omega arith) (sym h.1 ∙ i.1) in
-      let here : TextAnswer e (Some m) after a = subst (λ (w : List ℕ). TextAnswer w (Some m) after a) same.0 t in
-      text_answered e n after other a b (subst (λ (w : List ℕ). TextAnswer e (Some w) after a) same.1 here) u
+  held_answered : (input d e : List ℕ) (m n after other : Option (List ℕ)) (a b : Outcome) → HoldsText (Some input) m d → HoldsText (Some input) n e → TextAnswer d m after a → TextAnswer e n other b → Same a b
+  held_answered input d e m n after other a b h i t u =
+      let same = one_piece MAX_SCHEMA_BYTES input d e h.1.0 i.1.0 (omega arith) h.1.2 i.1.2 in
+      let mid : m ≡ Some i.1.0 = h.1.1 ∙ ap Some same.1 in
+      let here : TextAnswer e m after a = subst (λ (w : List ℕ). TextAnswer w m after a) same.0 t in
+      text_answered e i.1.0 after other a b (subst (λ (w : Option (List ℕ)). TextAnswer e w after a) mid here) (subst (λ (w : Option (List ℕ)). TextAnswer e w other b) i.1.1 u)
 
-  dump_answered : OneFrame → (input : List ℕ) (after other : Option (List ℕ)) (a b : Outcome) → DumpAnswer (Some input) after a → DumpAnswer (Some input) other b → Same a b
-  dump_answered one input after other a b (holds_text d m h t) (holds_text e n i u) = held_answered one input d e m n after other a b h i t u
-  dump_answered one input after other a b (holds_text d m h t) (lacks r l e) = absurd (lacks_or_holds input d other m r l h)
-  dump_answered one input after other a b (lacks r l e) (holds_text d m h t) = absurd (lacks_or_holds input d after m r l h)
-  dump_answered one input after other a b (lacks r l e) (lacks s k f) = same_refused a b r s (lacks_once input after other r s l k) e f
+  dump_answered : (input : List ℕ) (after other : Option (List ℕ)) (a b : Outcome) → DumpAnswer (Some input) after a → DumpAnswer (Some input) other b → Same a b
+  dump_answered input after other a b (holds_text d m h t) (holds_text e n i u) = held_answered input d e m n after other a b h i t u
+  dump_answered input after other a b (holds_text d m h t) (lacks r l e) = absurd (lacks_or_holds input d other m r l h)
+  dump_answered input after other a b (lacks r l e) (holds_text d m h t) = absurd (lacks_or_holds input d after m r l h)
+  dump_answered input after other a b (lacks r l e) (lacks s k f) = same_refused a b r s (lacks_once input after other r s l k) e f
 
 -- what a source has left has one answer to a command
 abbrev pub OneAnswer : Type 0
 OneAnswer = (command : Command) (input : List ℕ) (after other : Option (List ℕ)) (a b : Outcome) → AnswerTo command (Some input) after a → AnswerTo command (Some input) other b → Same a b
 
-pub answered : StreamLaws → SchemaLaws → TableLaws → OneFrame → OneAnswer
-answered streams schemas laws one Heads input after other a b = heads_answered streams input after other a b
-answered streams schemas laws one Check input after other a b = check_answered schemas input after other a b
-answered streams schemas laws one Dump input after other a b = dump_answered streams schemas laws one input after other a b
+pub answered : StreamLaws → SchemaLaws → TableLaws → OneAnswer
+answered streams schemas laws Heads input after other a b = heads_answered streams input after other a b
+answered streams schemas laws Check input after other a b = check_answered schemas input after other a b
+answered streams schemas laws Dump input after other a b = dump_answered streams schemas laws input after other a b

@@ -11,7 +11,8 @@ use Rattle.schema.specs.Schemas.{SchemaData}
 use Rattle.bec_bytes.specs.Causes.{Rose}
 use Rattle.bec_node.specs.declared.refusal.Refusal.{Refusal}
 use Rattle.bec_node.specs.declared.refusal.Refusal.TheVariants.{Memory, NotConfluent, Schema}
-use Rattle.bec_node.specs.Bundle.{AreMembers, DumpAnswer, holds, HoldsText, lacks, LacksText, PrintsTables, stopped, taken, refused as text_refused, whole}
+use Rattle.update_check.specs.Members.{AreMembers}
+use Rattle.bec_node.specs.Bundle.{DumpAnswer, holds, HoldsText, lacks, LacksText, PrintsTables, stopped, taken, refused as text_refused, whole}
 use Rattle.bec_node.specs.Heads.{HeadsAnswer, refused, StopsAt}
 use Rattle.bec_node.specs.Outcome.{ComesTo, IsFault, Puts, Says, status_for}
 use Rattle.bec_node.specs.Texts.{refused_text, schema_text}

@@ -27,7 +27,7 @@ heads_more graph i e old new closed low at keeps heads =
     let front = closed_front graph i e closed low in
     let next : IsNext (take i graph) e = subst (λ (m : Entry). IsNext (take i graph) m) at front.1 in
     let more : take (i + 1) graph ≡ take i graph ++ e ∷ [] = take_more graph i e low ∙ ap (λ (m : Entry). take i graph ++ m ∷ []) at in
-    let P : List Entry → Type 0 = λ g. AreHeads g new in
+    let P : List Entry → Type 0 = λ g. AreHeadsOfEach g new in
     subst P (sym more) (keeps (take i graph) e.bytes front.0 heads next)
 
 -- the same, of members that are seen as entries

@@ -1,6 +1,4 @@
-pub mod Members
 pub mod HeadSteps
-pub mod Streams
 pub mod Checking
 pub mod Orders
 pub mod Refusals

@@ -20,10 +20,11 @@ use Rattle.schema.specs.Sound.{AreTables}
 use Rattle.table_model.specs.Tables.{AreTablesOf}
 use Rattle.schema.specs.Columns.{all_fit}
 use Rattle.table_model.specs.Visible.{Rules, table_of}
-use Rattle.bec_node.specs.Bundle.{AreMembers, AreOfHeads, HasTables, nodes_of}
+use Rattle.update_check.specs.Members.{AreMembers}
+use Rattle.bec_node.specs.Bundle.{AreOfHeads, HasTables, nodes_of}
 use Rattle.bec_node.specs.Verdict.{rules_of}
 use Rattle.bec_node.proofs.Orders.{tables_there}
-use Rattle.bec_node.proofs.Members.{contains_cases, contains_mapped, mapped_contains, contains_turned, turned_contains, find_finds, any_of_contained}
+use Rattle.table_model.proofs.Members.{contains_cases, contains_mapped, mapped_contains, contains_turned, turned_contains, find_finds, any_of_contained}
 
 -- what is known of tables
 pub record TableLaws : Type 0 where

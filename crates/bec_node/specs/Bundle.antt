@@ -1,21 +1,21 @@
 -- What a bundle is, and what its tables are.
-use Rattle.std.specs.Prelude.{◌≡◌, ◌⊎◌, ℕ, ◌+◌, ◌<◌, ◌≤◌, true, List, length, map, reverse, All, Contains, IsTrue, Some, IfSome, Err, slice_get}
+use Rattle.std.specs.Prelude.{◌≡◌, ◌⊎◌, ℕ, ◌≤◌, List, [], length, map, reverse, drop, Contains, IsTrue, Some, Err, slice_get}
 use Rattle.std.specs.declared.option.Option.{Option}
-use Rattle.std.specs.Io.KnownBytes.{Consumes, IsAtEnd}
 use Rattle.std.specs.List.{list_all}
+use Rattle.bec_bytes.specs.Framed.{HoldsPiece, IsCut, IsTooLong}
+use Rattle.bec_bytes.specs.Moved.{IfTold}
 use Rattle.update_model.specs.declared.update_id.UpdateId.{UpdateId}
-use Rattle.update_model.specs.Graph.{AreHeads, HaveSameMembers, IsClosed, is_within}
+use Rattle.update_model.specs.Graph.{AreHeads, HaveSameMembers}
 use Rattle.update_model.specs.Node.{NodeData}
-use Rattle.update_model.specs.Rule.{RuleData}
 use Rattle.update_codec.specs.Parts.{entry_of}
-use Rattle.update_codec.specs.Stream.{framed}
-use Rattle.update_check.specs.Signed.{IsChecked, node_of}
+use Rattle.update_check.specs.Members.{AreMembers}
+use Rattle.update_check.specs.Signed.{node_of}
 use Rattle.head_set.specs.Grown.{NoCollision}
 use Rattle.update_stream.specs.declared.reading.Reading.TheVariants.{Whole, Refused}
 use Rattle.update_stream.specs.declared.record_fault.RecordFault.{RecordFault}
-use Rattle.update_stream.specs.Stream.{length_at}
 use Rattle.update_stream.specs.Told.{Reads}
 use Rattle.schema.specs.declared.fault.SchemaKind.TheVariants as faults
+use Rattle.schema.specs.declared.limits.TheConstants.{MAX_SCHEMA_BYTES}
 use Rattle.table_model.specs.declared.shown_row.ShownRow.{ShownRow}
 use Rattle.table_model.specs.declared.void_line.VoidLine.{VoidLine}
 use Rattle.table_model.specs.Invariants.{Declared, claim_holds, invariants_of, shown_in}
@@ -24,32 +24,14 @@ use Rattle.table_model.specs.Tables.{AreRowsIn, AreTablesOf}
 use Rattle.schema.specs.Columns.{all_fit}
 use Rattle.table_model.specs.Visible.{Rules, table_of}
 use Rattle.table_text.specs.Tables.{tables_text}
-use Rattle.bec_node.specs.declared.bundle.BundleHead.{BundleHead}
-use Rattle.bec_node.specs.declared.bundle.BundleHead.TheVariants.{Cut, Long, Text}
 use Rattle.bec_node.specs.declared.refusal.Refusal.{Refusal}
 use Rattle.bec_node.specs.declared.refusal.Refusal.TheVariants.{CutSchema, Record, Schema}
 use Rattle.bec_node.specs.Outcome.{Outcome, Prints}
 use Rattle.bec_node.specs.Verdict.{RefusesSchema, TakesSchema, rules_of}
 
--- The input ends inside its schema: in the four bytes of its length, or in its text.
-pub data IsCutSchema (input : List ℕ) : Type 0 where
-  in_length : length input < 4 → IsCutSchema input
-  in_text : 4 ≤ length input → length_at input ≤ 65536 → length input < 4 + length_at input → IsCutSchema input
-
--- The length of the schema is above what a schema may have.
-pub record IsLongSchema (input : List ℕ) : Type 0 where
-  pub whole : 4 ≤ length input
-  pub over : 65536 < length_at input
-
 -- what tables see of the members of a graph, newest first
 abbrev pub nodes_of : List (List ℕ) → List NodeData
 nodes_of members = reverse (map node_of members)
-
--- Updates that their authors signed and that are under a rule, predecessor-closed and within the limits.
-pub record AreMembers (rule : RuleData) (members : List (List ℕ)) : Type 0 where
-  pub checked : All (IsChecked rule) members
-  pub closed : IsClosed (map entry_of members)
-  pub within : is_within (map entry_of members) ≡ true
 
 -- Whatever other members have the same heads, where one id means one update, they are the same set, and these are their tables.
 abbrev pub AreOfHeads : SchemaData → List (List ℕ) → List (List ShownRow) → List VoidLine → Type 0
@@ -67,20 +49,19 @@ pub record HasTables (schema : SchemaData) (members : List (List ℕ)) (tables :
   pub fit : IsTrue (list_all (λ row. all_fit (table_of (rules_of schema) row.table).columns row.values) (shown_in (rules_of schema) (nodes_of members)))
   pub determined : AreOfHeads schema members tables voids
 
--- A source gave this text behind its length.
+-- A source gave this text behind its length, and no more.
 abbrev pub HoldsText : Option (List ℕ) → Option (List ℕ) → List ℕ → Type 0
-HoldsText before after text = (length text ≤ 65536) × Consumes before after (framed text)
+HoldsText before after text = (length text ≤ MAX_SCHEMA_BYTES) × IfTold before after (λ input rest. HoldsPiece MAX_SCHEMA_BYTES input text rest)
 
--- what stands at the front of a source, which gave no more than that
-abbrev pub BeginsAs : Option (List ℕ) → Option (List ℕ) → BundleHead → Type 0
-BeginsAs before after Cut = IfSome before IsCutSchema × IsAtEnd after × ((front : List ℕ) × Consumes before after front)
-BeginsAs before after Long = IfSome before IsLongSchema × ((front : List ℕ) × (length front ≡ 4) × Consumes before after front)
-BeginsAs before after (Text bytes) = HoldsText before after bytes.items
+-- The input is empty, or it ends inside the schema that it begins with: in the four bytes of its length, or in its text.
+abbrev pub IsCutSchema : List ℕ → Type 0
+IsCutSchema input = (input ≡ []) ⊎ IsCut MAX_SCHEMA_BYTES input
 
--- No schema stands at the front: the bundle ends inside it, or it is too long.
+-- No schema stands at the front: the bundle ends inside it, or it is too long, and then its length alone is read.
 abbrev pub LacksText : Option (List ℕ) → Option (List ℕ) → Refusal → Type 0
 LacksText before after refusal =
-    (BeginsAs before after Cut × (refusal ≡ CutSchema)) ⊎ (BeginsAs before after Long × (refusal ≡ Schema (record { kind = faults.Limit; line = 0 })))
+    (IfTold before after (λ input rest. IsCutSchema input × (rest ≡ [])) × (refusal ≡ CutSchema))
+    ⊎ (IfTold before after (λ input rest. IsTooLong MAX_SCHEMA_BYTES input × (rest ≡ drop 4 input)) × (refusal ≡ Schema (record { kind = faults.Limit; line = 0 })))
 
 -- These are the tables of the members, and this is their text.
 abbrev pub PrintsTables : SchemaData → List (List ℕ) → List ℕ → Type 0

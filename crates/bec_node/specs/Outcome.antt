@@ -5,8 +5,8 @@ use Rattle.std.specs.Io.KnownBytes.{Appends}
 use Rattle.bec_bytes.specs.Causes.{Rose}
 use Rattle.schema.specs.declared.fault.SchemaError.{SchemaError}
 use Rattle.schema.specs.declared.fault.SchemaError.TheVariants as schema_errors
-use Rattle.update_stream.specs.declared.reading.ReadError.{ReadError}
-use Rattle.update_stream.specs.declared.reading.ReadError.TheVariants as read_errors
+use Rattle.bec_bytes.specs.declared.read_error.ReadError.{ReadError}
+use Rattle.bec_bytes.specs.declared.read_error.ReadError.TheVariants as read_errors
 use Rattle.update_stream.specs.declared.record_fault.RecordFault.TheVariants.{Check, Lacks, Full}
 use Rattle.bec_node.specs.declared.refusal.Refusal.{Refusal}
 use Rattle.bec_node.specs.declared.refusal.Refusal.TheVariants.{Words, Record, CutSchema, Schema, NotConfluent, Stream, Memory}

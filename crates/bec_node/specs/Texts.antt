@@ -4,13 +4,10 @@ use Rattle.std.specs.List.{flat_map}
 use Rattle.std.specs.Fmt.{decimal}
 use Rattle.hex.specs.Hex.{encode_lower}
 use Rattle.update_model.specs.declared.update_id.UpdateId.{UpdateId}
-use Rattle.update_codec.specs.Words.{fault_words}
-use Rattle.update_check.specs.declared.check_error.CheckFault.{CheckFault}
-use Rattle.update_check.specs.declared.check_error.CheckFault.TheVariants.{Codec, WrongDatabase, AuthorNotListed, BadSignature}
+use Rattle.update_check.specs.Words.{check_words}
+use Rattle.schema.specs.Words.{fault_words}
 use Rattle.table_model.specs.declared.counterexample.Counterexample.{Counterexample}
 use Rattle.schema.specs.declared.fault.SchemaFault.{SchemaFault}
-use Rattle.schema.specs.declared.fault.SchemaKind.{SchemaKind}
-use Rattle.schema.specs.declared.fault.SchemaKind.TheVariants as faults
 use Rattle.table_model.specs.declared.invariant.Invariant.{Invariant}
 use Rattle.schema.specs.declared.table_def.TableDef.{TableDef}
 use Rattle.table_text.specs.Examples.{example_text}
@@ -25,32 +22,15 @@ line_of id = encode_lower id.0 ++ 10 ∷ []
 abbrev pub printed : List UpdateId → List ℕ
 printed ids = flat_map line_of ids
 
--- what is said of a record that is no checked update
-abbrev pub check_text : CheckFault → List ℕ
-check_text (Codec fault) = fault_words fault.kind fault.place
-check_text WrongDatabase = codes "other database"
-check_text AuthorNotListed = codes "author not listed"
-check_text BadSignature = codes "bad signature"
-
 -- the line for the n-th record, which is refused
 abbrev pub record_text : ℕ → RecordFault → List ℕ
-record_text n (Check fault) = codes "! update " ++ decimal n ++ (codes ": " ++ (check_text fault ++ 10 ∷ []))
+record_text n (Check fault) = codes "! update " ++ decimal n ++ (codes ": " ++ (check_words fault ++ 10 ∷ []))
 record_text n (Lacks id) = codes "! update " ++ decimal n ++ (codes ": lacks " ++ line_of id)
 record_text n Full = codes "! full\n"
 
--- the word for what is wrong with a schema
-abbrev pub word_of_kind : SchemaKind → List ℕ
-word_of_kind faults.Line = codes "line"
-word_of_kind faults.Name = codes "name"
-word_of_kind faults.WrongType = codes "type"
-word_of_kind faults.Target = codes "target"
-word_of_kind faults.MatchKind = codes "match"
-word_of_kind faults.BadSample = codes "sample"
-word_of_kind faults.Limit = codes "limit"
-
 -- the line for a text with this fault
 abbrev pub schema_text : SchemaFault → List ℕ
-schema_text fault = codes "! schema line " ++ decimal fault.line ++ (codes ": " ++ (word_of_kind fault.kind ++ 10 ∷ []))
+schema_text fault = codes "! schema " ++ (fault_words fault ++ 10 ∷ [])
 
 -- the lines for the first invariant that does not survive merging: where it stands, and the counterexample
 abbrev pub refused_text : List TableDef → Invariant → Counterexample → List ℕ

@@ -8,7 +8,8 @@ ghost use Rattle.table_model.specs.Tables.{AreTablesOf};
 ghost use Rattle.table_text.specs.Tables.{tables_text};
 ghost use Rattle.update_model.specs.Node.{NodeData};
 ghost use Rattle.tuple_state.specs.State.{IsStateOf};
-ghost use Rattle.bec_node.specs.Bundle.{AreMembers, AreShown, PrintsTables, nodes_of};
+ghost use Rattle.update_check.specs.Members.{AreMembers};
+ghost use Rattle.bec_node.specs.Bundle.{AreShown, PrintsTables, nodes_of};
 ghost use Rattle.bec_node.specs.Verdict.{rules_of};
 
 use hash_graph::Graph;

@@ -8,7 +8,6 @@ ghost use Rattle.bec_node.specs.Outcome.{Outcome, status_of, text_of};
 
 use schema::{declared_is_sound, no_fault, one_fault, one_schema};
 use table_model::{arrivals_are_closed, tables_are_of_the_set};
-use update_codec::one_frame;
 use update_stream::{one_graph, one_refusal, whole_or_refused};
 
 /// An input has one answer to a command, so each status and each text comes exactly where its cause stands.
@@ -23,7 +22,6 @@ pub fn one_answer()
     one_schema();
     one_fault();
     no_fault();
-    one_frame();
     arrivals_are_closed();
     tables_are_of_the_set();
 }

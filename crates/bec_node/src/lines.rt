@@ -3,18 +3,17 @@
 ghost use Rattle.std.specs.Prelude.{◌≡◌, ◌≢◌, IfOk, IfErr, OnErr, codes, Err};
 ghost use Rattle.std.specs.String.{string_bytes};
 ghost use Rattle.bec_node.specs.declared.refusal.Refusal.TheVariants.{Words};
-ghost use Rattle.bec_node.specs.Texts.{check_text, record_text, refused_text, schema_text, word_of_kind};
+ghost use Rattle.bec_node.specs.Texts.{record_text, refused_text, schema_text};
 ghost use Rattle.bec_node.specs.Outcome.{Puts, Says};
 
 use crate::refusal::Refusal;
 use crate::reply::put;
 use crate::status::NO_COMMAND;
 use bec_bytes::Sink;
-use schema::{Schema, SchemaFault, SchemaKind};
-use std::alloc::{AllocError, Global};
+use schema::{Schema, SchemaFault};
 use table_model::{Counterexample, Invariant};
+use std::alloc::{AllocError, Global};
 use table_text::push_counterexample;
-use update_check::CheckFault;
 use update_stream::RecordFault;
 
 /// Writes the lines of a refusal and answers its exit status. Where memory runs out nothing is written; that words are no
@@ -61,11 +60,7 @@ fn record_line(alloc: Global, number: u32, fault: &RecordFault) -> Result<String
     ensures { IfOk result (λ line. string_bytes line ≡ record_text number fault.now) }
 {
     match fault {
-        RecordFault::Check(fault) => {
-            let text = check_text(alloc, fault)?;
-            let why = text.as_str();
-            format!(in alloc; "! update {number}: {why}\n")
-        }
+        RecordFault::Check(fault) => { format!(in alloc; "! update {number}: {fault}\n") }
         RecordFault::Lacks(id) => {
             let digits = hex::encode(alloc, id.0)?;
             let name = digits.as_str();
@@ -75,40 +70,11 @@ fn record_line(alloc: Global, number: u32, fault: &RecordFault) -> Result<String
     }
 }
 
-/// What is said of a record that is no checked update.
-fn check_text(alloc: Global, fault: &CheckFault) -> Result<String, AllocError>
-    ensures { IfOk result (λ text. string_bytes text ≡ check_text fault.now) }
-{
-    match fault {
-        CheckFault::Codec(fault) => { format!(in alloc; "{fault}") }
-        CheckFault::WrongDatabase => String::from_str(alloc, "other database"),
-        CheckFault::AuthorNotListed => String::from_str(alloc, "author not listed"),
-        CheckFault::BadSignature => String::from_str(alloc, "bad signature"),
-    }
-}
-
 /// The line for the first fault of a text.
 fn schema_line(alloc: Global, fault: &SchemaFault) -> Result<String, AllocError>
     ensures { IfOk result (λ line. string_bytes line ≡ schema_text fault.now) }
 {
-    let line = fault.line;
-    let word = word(fault.kind);
-    format!(in alloc; "! schema line {line}: {word}\n")
-}
-
-/// The word for what is wrong with a schema.
-fn word(kind: SchemaKind) -> &'static str
-    ensures { result.now ≡ word_of_kind kind }
-{
-    match kind {
-        SchemaKind::Line => "line",
-        SchemaKind::Name => "name",
-        SchemaKind::WrongType => "type",
-        SchemaKind::Target => "target",
-        SchemaKind::MatchKind => "match",
-        SchemaKind::BadSample => "sample",
-        SchemaKind::Limit => "limit",
-    }
+    format!(in alloc; "! schema {fault}\n")
 }
 
 /// The lines for an invariant that does not survive merging: where it stands, and the counterexample.

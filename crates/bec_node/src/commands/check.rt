@@ -1,6 +1,6 @@
 ghost use Rattle.std.specs.Prelude.{◌≡◌, ◌≤◌, IfOk, IfErr};
 ghost use Rattle.bec_bytes.specs.Causes.{Rose};
-ghost use Rattle.update_stream.specs.declared.reading.ReadError.TheVariants.{Failed as StreamFailed};
+ghost use Rattle.bec_bytes.specs.declared.read_error.ReadError.TheVariants.{Failed as StreamFailed};
 ghost use Rattle.bec_node.specs.declared.command.Command.TheVariants.{Check};
 ghost use Rattle.bec_node.specs.Outcome.{ComesTo};
 ghost use Rattle.bec_node.specs.Run.{HasFirstWord, Runs, outside};
@@ -11,10 +11,9 @@ use crate::lines::no_command;
 use crate::refusal::Refusal;
 use crate::reply::finish;
 use crate::schema_text::take_schema;
-use bec_bytes::{Sink, Source, read_full};
+use bec_bytes::{ReadError, Sink, Source, read_full};
 use row_check::{Luhn, Native};
 use std::alloc::Global;
-use update_stream::ReadError;
 
 /// How many bytes of a text are read at most: one more than a schema may have, which shows that it is too long.
 const READ_LIMIT: usize = 65_537;

@@ -1,5 +1,5 @@
 use Rattle.std.proofs.Common.{◌≡◌, ◌∙◌, ℕ, List, length, take, sym, ap, subst, arith}
-use Rattle.update_stream.proofs.Found.{rewritten}
+use Rattle.bec_bytes.proofs.ReadFrames.{rewritten}
 use Rattle.bec_node.specs.Verdict.{ReadsText}
 use Rattle.bec_node.proofs.Checking.{text_read}
 use Rattle.bec_node.proofs.commands.check.read_text.Goals as goal

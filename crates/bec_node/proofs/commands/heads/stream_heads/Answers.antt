@@ -1,5 +1,6 @@
 use Rattle.std.proofs.Common.{◌∙◌, ap}
 use Rattle.std.proofs.lemmas.Result.{err_from_is_err_and}
+use Rattle.head_set.specs.Present.{present}
 use Rattle.bec_node.specs.Heads.{done}
 use Rattle.bec_node.specs.Texts.{printed}
 use Rattle.bec_node.proofs.Answering.{heads_refused}
@@ -13,4 +14,4 @@ returns-in_err-graph g c =
 
 pub returns : goal.returns
 returns g c =
-    done c.in_ok-graph.graph c.in_ok-heads_of.field-0 c.in_ok-graph.ensures.whole c.in_ok-heads_of.ensures (c.in_ok-text.ensures ∙ ap printed (c.deref.ensures.value ∙ c.in_ok-heads.ensures.items))
+    done c.in_ok-graph.graph (present c.in_ok-heads_of.field-0) c.in_ok-graph.ensures.whole c.in_ok-heads_of.ensures (c.in_ok-text.ensures ∙ ap printed (c.deref.ensures.value ∙ c.in_ok-heads.ensures.items))
