@@ -11,8 +11,8 @@ use crate::reply::put;
 use crate::status::NO_COMMAND;
 use bec_bytes::Sink;
 use schema::{Schema, SchemaFault};
-use table_model::{Counterexample, Invariant};
 use std::alloc::{AllocError, Global};
+use table_model::{Counterexample, Invariant};
 use table_text::push_counterexample;
 use update_stream::RecordFault;
 

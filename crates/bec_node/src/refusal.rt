@@ -5,8 +5,8 @@ ghost use Rattle.bec_node.specs.Outcome.{status_for, from_reading, from_schema};
 use crate::status::{FULL, NO_COMMAND, OUT_OF_MEMORY, REFUSED, STREAM_FAULT};
 use bec_bytes::ReadError;
 use schema::{Schema, SchemaError, SchemaFault};
-use table_model::{Counterexample, Invariant};
 use std::alloc::AllocError;
+use table_model::{Counterexample, Invariant};
 use update_stream::RecordFault;
 
 /// Why a command is not done.

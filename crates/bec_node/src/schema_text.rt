@@ -6,8 +6,8 @@ use crate::refusal::Refusal;
 use confluence_test::{Tested, declared_refusal_is_confirmed, test};
 use row_check::{Luhn, Native};
 use schema::{Schema, declared_is_sound, read_schema};
-use table_model::accepted_is_confluent;
 use std::alloc::Global;
+use table_model::accepted_is_confluent;
 
 /// Reads the text of a schema and tests its invariants, or refuses the text.
 pub fn take_schema(
