@@ -1,0 +1,5 @@
+//! Tests of stores over disks in memory: what faults and crashes leave of logs.
+#![tactic(auto)]
+
+#[cfg(test)]
+mod logs;
