@@ -1,9 +1,4 @@
-use Rattle.std.proofs.Common.{◌≡◌, ◌≤◌, List, length, arith, subst, take, map}
-use Rattle.std.proofs.lemmas.List.{take_all, length-map}
-use Rattle.update_model.specs.Entry.{Entry}
-use Rattle.update_model.specs.Graph.{AreHeads}
-use Rattle.head_set.specs.Grown.{AreHeadsOfEach}
-use Rattle.head_set.specs.Present.{present}
+use Rattle.std.proofs.Common.{◌≤◌, length, arith}
 use Rattle.bec_node.proofs.HeadSteps.{few_adds, heads_next, next_was_none}
 use Rattle.bec_node.proofs.heads.heads_of.Goals as goal
 
