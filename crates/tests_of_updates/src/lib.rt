@@ -4,15 +4,7 @@
 #[cfg(test)]
 mod bytes;
 #[cfg(test)]
-mod checks;
-#[cfg(test)]
-mod codec;
-#[cfg(test)]
-mod graph;
-#[cfg(test)]
 mod host;
-#[cfg(test)]
-mod model;
 #[cfg(test)]
 mod signed;
 #[cfg(test)]
