@@ -1,3 +1,4 @@
+pub mod Batch
 pub mod Block
 pub mod Entry
 pub mod Form
@@ -5,4 +6,5 @@ pub mod Graph
 pub mod Node
 pub mod Rows
 pub mod Rule
+pub mod Since
 pub mod Text
