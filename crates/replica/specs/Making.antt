@@ -23,7 +23,6 @@ use Rattle.schema.specs.Schemas.{Meaning}
 use Rattle.table_model.specs.declared.verdict.Verdict.{Verdict}
 use Rattle.table_model.specs.declared.verdict.Verdict.TheVariants.{Valid, Void}
 use Rattle.history.specs.Histories.{HistoryData, verdict_after}
-use Rattle.key_index.specs.KeyState.{KeyState}
 use Rattle.key_index.specs.Used.{least_unused}
 use Rattle.replica.specs.declared.make_fault.MakeFault.{MakeFault}
 use Rattle.replica.specs.declared.make_fault.MakeFault.TheVariants.{NotListed, TooManyHeads, Invalid, TooLong, Full, Spent, Taken, DiskFault, Memory}
@@ -69,10 +68,10 @@ pub record HasRoom (history : HistoryData) (len : ℕ) : Type 0 where
   pub bytes : byte_count (map entry_of history.members) + len ≤ MAX_BYTES
 
 -- The bytes are those of the update that this key makes of operations after these predecessors, at its least index that is not used.
-pub record IsMadeBy (history : HistoryData) (key : KeyState) (preds : List UpdateId) (ops : List Op) (c bytes : List ℕ) : Type 0 where
+pub record IsMadeBy (history : HistoryData) (secret : SecretData) (taken : List Bool) (preds : List UpdateId) (ops : List Op) (c bytes : List ℕ) : Type 0 where
   pub index : ℕ
-  pub least : least_unused key.taken ≡ Some index
-  pub spells : Spells bytes (update_by key.secret index c (body_by history (public_key key.secret) preds ops))
+  pub least : least_unused taken ≡ Some index
+  pub spells : Spells bytes (update_by secret index c (body_by history (public_key secret) preds ops))
 
 -- These are the predecessors of an update that is made: all heads.
 abbrev pub AfterAllHeads : HistoryData → List UpdateId → Type 0
@@ -86,48 +85,48 @@ pub record AfterLeastHeads (history : HistoryData) (preds : List UpdateId) : Typ
   pub least : preds ≡ take MAX_PREDS heads
 
 -- The author may write, and the heads can all be named.
-pub record MayMake (history : HistoryData) (key : KeyState) (preds : List UpdateId) : Type 0 where
-  pub listed : IsListed history.schema.rule.authors (public_key key.secret)
+pub record MayMake (history : HistoryData) (secret : SecretData) (preds : List UpdateId) : Type 0 where
+  pub listed : IsListed history.schema.rule.authors (public_key secret)
   pub after : AfterAllHeads history preds
   pub few : length preds ≤ MAX_PREDS
 
 -- What would be made is valid besides.
-pub record MaySign (ask : Meaning) (history : HistoryData) (key : KeyState) (preds : List UpdateId) (ops : List Op) : Type 0 where
-  pub may_make : MayMake history key preds
-  pub valid : IsJudged ask history (public_key key.secret) preds ops Valid
+pub record MaySign (ask : Meaning) (history : HistoryData) (secret : SecretData) (preds : List UpdateId) (ops : List Op) : Type 0 where
+  pub may_make : MayMake history secret preds
+  pub valid : IsJudged ask history (public_key secret) preds ops Valid
 
 -- Its length is within the limit, and it has room.
-pub record HasLength (history : HistoryData) (key : KeyState) (preds : List UpdateId) (ops : List Op) : Type 0 where
-  pub short : signed_length (body_by history (public_key key.secret) preds ops) ≤ UPDATE_LIMIT
-  pub room : HasRoom history (signed_length (body_by history (public_key key.secret) preds ops))
+pub record HasLength (history : HistoryData) (secret : SecretData) (preds : List UpdateId) (ops : List Op) : Type 0 where
+  pub short : signed_length (body_by history (public_key secret) preds ops) ≤ UPDATE_LIMIT
+  pub room : HasRoom history (signed_length (body_by history (public_key secret) preds ops))
 
 -- Why nothing was made. Each cause stands where none before it does, in this order; a fault of a disk and want of memory have theirs in
 -- counts and in nothing.
-abbrev pub IsMakeCause : Meaning → HistoryData → KeyState → List Op → List ℕ → MakeFault → Type 0
-IsMakeCause ask history key ops c NotListed = ¬ (IsListed history.schema.rule.authors (public_key key.secret))
-IsMakeCause ask history key ops c (TooManyHeads n) =
-    IsListed history.schema.rule.authors (public_key key.secret) × ((heads : List UpdateId) × AfterAllHeads history heads × (length heads ≡ n) × (MAX_PREDS < n))
-IsMakeCause ask history key ops c (Invalid reason operation) =
-    (preds : List UpdateId) × MayMake history key preds × IsJudged ask history (public_key key.secret) preds ops (Void reason operation)
-IsMakeCause ask history key ops c (TooLong len) =
-    (preds : List UpdateId) × MaySign ask history key preds ops × (signed_length (body_by history (public_key key.secret) preds ops) ≡ len) × (UPDATE_LIMIT < len)
-IsMakeCause ask history key ops c Full =
-    (preds : List UpdateId) × MaySign ask history key preds ops × (signed_length (body_by history (public_key key.secret) preds ops) ≤ UPDATE_LIMIT)
-    × ¬ (HasRoom history (signed_length (body_by history (public_key key.secret) preds ops)))
-IsMakeCause ask history key ops c Spent =
-    (preds : List UpdateId) × MaySign ask history key preds ops × HasLength history key preds ops × (least_unused key.taken ≡ None)
-IsMakeCause ask history key ops c (Taken id) =
-    (preds : List UpdateId) × MaySign ask history key preds ops × HasLength history key preds ops
-    × ((bytes : List ℕ) × IsMadeBy history key preds ops c bytes × (id_of bytes ≡ id) × (holds (map entry_of history.members) id ≡ true))
-IsMakeCause ask history key ops c (DiskFault side) = Unit {0}
-IsMakeCause ask history key ops c Memory = Unit {0}
+abbrev pub IsMakeCause : Meaning → HistoryData → SecretData → List Bool → List Op → List ℕ → MakeFault → Type 0
+IsMakeCause ask history secret taken ops c NotListed = ¬ (IsListed history.schema.rule.authors (public_key secret))
+IsMakeCause ask history secret taken ops c (TooManyHeads n) =
+    IsListed history.schema.rule.authors (public_key secret) × ((heads : List UpdateId) × AfterAllHeads history heads × (length heads ≡ n) × (MAX_PREDS < n))
+IsMakeCause ask history secret taken ops c (Invalid reason operation) =
+    (preds : List UpdateId) × MayMake history secret preds × IsJudged ask history (public_key secret) preds ops (Void reason operation)
+IsMakeCause ask history secret taken ops c (TooLong len) =
+    (preds : List UpdateId) × MaySign ask history secret preds ops × (signed_length (body_by history (public_key secret) preds ops) ≡ len) × (UPDATE_LIMIT < len)
+IsMakeCause ask history secret taken ops c Full =
+    (preds : List UpdateId) × MaySign ask history secret preds ops × (signed_length (body_by history (public_key secret) preds ops) ≤ UPDATE_LIMIT)
+    × ¬ (HasRoom history (signed_length (body_by history (public_key secret) preds ops)))
+IsMakeCause ask history secret taken ops c Spent =
+    (preds : List UpdateId) × MaySign ask history secret preds ops × HasLength history secret preds ops × (least_unused taken ≡ None)
+IsMakeCause ask history secret taken ops c (Taken id) =
+    (preds : List UpdateId) × MaySign ask history secret preds ops × HasLength history secret preds ops
+    × ((bytes : List ℕ) × IsMadeBy history secret taken preds ops c bytes × (id_of bytes ≡ id) × (holds (map entry_of history.members) id ≡ true))
+IsMakeCause ask history secret taken ops c (DiskFault side) = Unit {0}
+IsMakeCause ask history secret taken ops c Memory = Unit {0}
 
 -- An update was made and stands last: of these operations, by the key, after all heads, and valid.
-pub record Makes (ask : Meaning) (old : HistoryData) (key : KeyState) (ops : List Op) (c : List ℕ) (id : UpdateId) (new : HistoryData) : Type 0 where
+pub record Makes (ask : Meaning) (old : HistoryData) (secret : SecretData) (taken : List Bool) (ops : List Op) (c : List ℕ) (id : UpdateId) (new : HistoryData) : Type 0 where
   pub preds : List UpdateId
   pub bytes : List ℕ
   pub after : AfterAllHeads old preds
-  pub made : IsMadeBy old key preds ops c bytes
+  pub made : IsMadeBy old secret taken preds ops c bytes
   pub members : AreMembers old.schema.rule (old.members ++ bytes ∷ [])
   pub valid : verdict_after ask old (node_of bytes) ≡ Valid
   pub id_is : id ≡ id_of bytes
@@ -138,35 +137,35 @@ abbrev pub HasNoneToJoin : HistoryData → Type 0
 HasNoneToJoin history = (heads : List UpdateId) × AreHeads (map entry_of history.members) heads × (length heads < 2)
 
 -- Why heads were not joined, in order.
-abbrev pub IsJoinCause : HistoryData → KeyState → List ℕ → MakeFault → Type 0
-IsJoinCause history key c NotListed = ((preds : List UpdateId) × AfterLeastHeads history preds) × ¬ (IsListed history.schema.rule.authors (public_key key.secret))
-IsJoinCause history key c (TooManyHeads n) = ⊥
-IsJoinCause history key c (Invalid reason operation) = ⊥
-IsJoinCause history key c (TooLong len) = ⊥
-IsJoinCause history key c Full =
-    (preds : List UpdateId) × AfterLeastHeads history preds × IsListed history.schema.rule.authors (public_key key.secret)
-    × ¬ (HasRoom history (signed_length (body_by history (public_key key.secret) preds [])))
-IsJoinCause history key c Spent =
-    (preds : List UpdateId) × AfterLeastHeads history preds × IsListed history.schema.rule.authors (public_key key.secret)
-    × HasRoom history (signed_length (body_by history (public_key key.secret) preds [])) × (least_unused key.taken ≡ None)
-IsJoinCause history key c (Taken id) =
-    (preds : List UpdateId) × AfterLeastHeads history preds × IsListed history.schema.rule.authors (public_key key.secret)
-    × HasRoom history (signed_length (body_by history (public_key key.secret) preds []))
-    × ((bytes : List ℕ) × IsMadeBy history key preds [] c bytes × (id_of bytes ≡ id) × (holds (map entry_of history.members) id ≡ true))
-IsJoinCause history key c (DiskFault side) = (preds : List UpdateId) × AfterLeastHeads history preds
-IsJoinCause history key c Memory = Unit {0}
+abbrev pub IsJoinCause : HistoryData → SecretData → List Bool → List ℕ → MakeFault → Type 0
+IsJoinCause history secret taken c NotListed = ((preds : List UpdateId) × AfterLeastHeads history preds) × ¬ (IsListed history.schema.rule.authors (public_key secret))
+IsJoinCause history secret taken c (TooManyHeads n) = ⊥
+IsJoinCause history secret taken c (Invalid reason operation) = ⊥
+IsJoinCause history secret taken c (TooLong len) = ⊥
+IsJoinCause history secret taken c Full =
+    (preds : List UpdateId) × AfterLeastHeads history preds × IsListed history.schema.rule.authors (public_key secret)
+    × ¬ (HasRoom history (signed_length (body_by history (public_key secret) preds [])))
+IsJoinCause history secret taken c Spent =
+    (preds : List UpdateId) × AfterLeastHeads history preds × IsListed history.schema.rule.authors (public_key secret)
+    × HasRoom history (signed_length (body_by history (public_key secret) preds [])) × (least_unused taken ≡ None)
+IsJoinCause history secret taken c (Taken id) =
+    (preds : List UpdateId) × AfterLeastHeads history preds × IsListed history.schema.rule.authors (public_key secret)
+    × HasRoom history (signed_length (body_by history (public_key secret) preds []))
+    × ((bytes : List ℕ) × IsMadeBy history secret taken preds [] c bytes × (id_of bytes ≡ id) × (holds (map entry_of history.members) id ≡ true))
+IsJoinCause history secret taken c (DiskFault side) = (preds : List UpdateId) × AfterLeastHeads history preds
+IsJoinCause history secret taken c Memory = Unit {0}
 
 -- Heads were joined by an update without operations that stands last.
-pub record Joins (old : HistoryData) (key : KeyState) (c : List ℕ) (id : UpdateId) (new : HistoryData) : Type 0 where
+pub record Joins (old : HistoryData) (secret : SecretData) (taken : List Bool) (c : List ℕ) (id : UpdateId) (new : HistoryData) : Type 0 where
   pub preds : List UpdateId
   pub bytes : List ℕ
   pub after : AfterLeastHeads old preds
-  pub made : IsMadeBy old key preds [] c bytes
+  pub made : IsMadeBy old secret taken preds [] c bytes
   pub members : AreMembers old.schema.rule (old.members ++ bytes ∷ [])
   pub id_is : id ≡ id_of bytes
   pub last : new ≡ record { schema = old.schema; members = old.members ++ bytes ∷ [] }
 
 -- What joining answers.
-abbrev pub JoinsTo : HistoryData → KeyState → List ℕ → Option UpdateId → HistoryData → Type 0
-JoinsTo old key c None new = HasNoneToJoin old × (new ≡ old)
-JoinsTo old key c (Some id) new = Joins old key c id new
+abbrev pub JoinsTo : HistoryData → SecretData → List Bool → List ℕ → Option UpdateId → HistoryData → Type 0
+JoinsTo old secret taken c None new = HasNoneToJoin old × (new ≡ old)
+JoinsTo old secret taken c (Some id) new = Joins old secret taken c id new

@@ -5,7 +5,7 @@ use Rattle.bec_disk.specs.Disk.{DiskState, IsSameDisk, IsSettled, LeavesOnly}
 use Rattle.bec_disk.specs.Gated.{IsOldOrNew, gated_of, whole_of}
 use Rattle.bec_disk.specs.declared.gated.Gated.TheVariants.{Absent}
 use Rattle.confluence_test.specs.Taking.{RefusesSchema, TakesSchema}
-use Rattle.confluence_test.specs.declared.taking.SchemaRefusal.TheVariants as refusals
+use Rattle.confluence_test.specs.declared.refusal.SchemaRefusal.TheVariants as refusals
 use Rattle.schema.specs.Schemas.{Meaning, SchemaData}
 use Rattle.update_log.specs.Log.{IsClean}
 use Rattle.update_log.specs.Logset.{BeginsWith, IsLogset}

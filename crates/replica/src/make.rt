@@ -39,10 +39,10 @@ impl<D: Disk, L: Relation, C: Checks<L>> Replica<D, L, C> {
     ) -> Result<UpdateId, MakeFault>
         requires few { length ops ≤ MAX_OPS }
         requires form { AreOps 0 ops }
-        ensures made { IfOk result (λ id. Makes L.answer self.old.history key.old ops c.now id self.new.history) }
+        ensures made { IfOk result (λ id. Makes L.answer self.old.history key.old.secret key.old.taken ops c.now id self.new.history) }
         ensures same { OnErr result (self.new.history ≡ self.old.history) }
         ensures store { IsSameStore self.old self.new }
-        ensures refused { IfErr result (λ why. IsMakeCause L.answer self.old.history key.old ops c.now why) }
+        ensures refused { IfErr result (λ why. IsMakeCause L.answer self.old.history key.old.secret key.old.taken ops c.now why) }
         ensures clean { IsTrue self.old.log.disk.tells → OnOk result (IsClean self.new.log.end self.new.log.disk) }
         ensures key { KeyAfter key.old result key.new }
 
@@ -67,10 +67,10 @@ impl<D: Disk, L: Relation, C: Checks<L>> Replica<D, L, C> {
         key: &mut KeyStore<D>,
         c: &[u8; 32],
     ) -> Result<Option<UpdateId>, MakeFault>
-        ensures joined { IfOk result (λ id. JoinsTo self.old.history key.old c.now id self.new.history) }
+        ensures joined { IfOk result (λ id. JoinsTo self.old.history key.old.secret key.old.taken c.now id self.new.history) }
         ensures same { OnErr result (self.new.history ≡ self.old.history) }
         ensures store { IsSameStore self.old self.new }
-        ensures refused { IfErr result (λ why. IsJoinCause self.old.history key.old c.now why) }
+        ensures refused { IfErr result (λ why. IsJoinCause self.old.history key.old.secret key.old.taken c.now why) }
         ensures clean { IsTrue self.old.log.disk.tells → IfOk result (λ id. IfSome id (λ _. IsClean self.new.log.end self.new.log.disk)) }
         ensures untouched { IfOk result (λ id. IfNone id (self.new ≡ self.old)) }
         ensures key { KeyAfterJoin key.old result key.new }
