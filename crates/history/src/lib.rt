@@ -1,0 +1,6 @@
+//! stub
+#![tactic(auto)]
+
+mod history;
+
+pub use history::{AddFault, History, NoHistory};
