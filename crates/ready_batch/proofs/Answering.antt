@@ -1,6 +1,6 @@
 -- What an answer of `Graph::add` says of the member.
-use Rattle.std.proofs.Common.{◌≡◌, ℕ, Bool, true, false, List, [], ◌∷◌, ◌++◌, length, get_or, ◌<◌, Some, None, refl, sym, ap, ◌∙◌}
-use Rattle.std.specs.Prelude.{is_some, Result, Ok, Err}
+use Rattle.std.proofs.Common.{◌≡◌, ℕ, Bool, true, false, not, List, [], ◌∷◌, ◌++◌, length, get_or, ◌<◌, Some, None, refl, sym, ap, ◌∙◌}
+use Rattle.std.specs.Prelude.{is_some, Ok, Err}
 use Rattle.std.specs.List.{slice_get}
 use Rattle.std.proofs.lemmas.Option.{slice_get-get_or}
 use Rattle.std.specs.declared.option.Option.{Option}
@@ -41,3 +41,8 @@ pub no_position : (graph : List Entry) (ids : List UpdateId) (i : ℕ) (d : Upda
     → (id : UpdateId) × (slice_get ids i ≡ Some id) × (holds graph id ≡ false)
 no_position graph ids i d o lt position none =
     (get_or ids i d, slice_get-get_or ids i d lt, sym (position_of-held graph (get_or ids i d)) ∙ ap is_some (sym position) ∙ none)
+
+-- whether a position is found says whether the id is held
+pub held_by_position : (graph : List Entry) (id same : UpdateId) (o : Option ℕ) (t b : Bool) → same ≡ id → o ≡ position_of graph same → is_some o ≡ not t → t ≡ b → holds graph id ≡ not b
+held_by_position graph id same o t b is position none test =
+    ap (holds graph) (sym is) ∙ sym (position_of-held graph same) ∙ ap is_some (sym position) ∙ none ∙ ap not test

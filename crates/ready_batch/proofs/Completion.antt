@@ -1,18 +1,17 @@
 -- What was added of a batch so far can be completed: member by member, while one of the rest lacks nothing.
-use Rattle.std.proofs.Common.{◌≡◌, ◌≢◌, ◌⊎◌, inl, inr, ℕ, ◌+◌, ◌<◌, ◌≤◌, zero, suc, Bool, true, false, cond, not, ◌&&◌, List, [], ◌∷◌, ◌++◌, length, map, None, refl, sym, ap, subst, ◌∙◌, append_assoc, length-append, arith}
-use Rattle.std.specs.Prelude.{Contains, filter, nat_le}
+use Rattle.std.proofs.Common.{◌≡◌, ◌≢◌, ◌⊎◌, inl, inr, ℕ, ◌+◌, ◌<◌, ◌≤◌, zero, suc, Bool, true, false, not, ◌&&◌, List, [], ◌∷◌, ◌++◌, length, map, None, refl, sym, ap, subst, ◌∙◌, append_assoc, length-append, arith}
+use Rattle.std.specs.Prelude.{Contains, nat_le}
 use Rattle.std.specs.List.{AllByRecursion}
 use Rattle.std.proofs.lemmas.Bool.Decides.{nat_tests}
 use Rattle.std.proofs.lemmas.List.{map-append}
 use Rattle.std.proofs.lemmas.List.Elements.{All-from_recursion}
 use Rattle.std.proofs.lemmas.List.Sums.{sum_by_push}
-use Rattle.update_model.specs.declared.update_id.UpdateId.{UpdateId}
-use Rattle.update_model.specs.Batch.{Limits, store_limits, fits, not_held, Adds, IsTooMuch}
+use Rattle.update_model.specs.Batch.{Limits, store_limits, fits, not_held, IsTooMuch}
 use Rattle.update_model.specs.Entry.{Entry}
 use Rattle.update_model.specs.Graph.{holds, lacking, byte_count, IsNext, Follows}
 use Rattle.update_model.proofs.Closed.{all_pass, Follows-push, Follows-split}
 use Rattle.ready_batch.specs.Steps.{IsOver}
-use Rattle.ready_batch.proofs.Elements.{first_there, later_there, none_there, each_push, each_map, contains_map, contains_filter_back, filter_fewer}
+use Rattle.ready_batch.proofs.Elements.{first_there, later_there, each_push, each_map, contains_map, contains_filter_back, filter_fewer}
 use Rattle.ready_batch.proofs.Holding.{true_or_false, holds_more, holds_last, none_or_some}
 
 -- one member that lacks nothing, where there is one

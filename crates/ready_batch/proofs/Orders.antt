@@ -1,6 +1,6 @@
 -- Laws of what a batch adds: in whatever order, the same ids are held.
-use Rattle.std.proofs.Common.{◌≡◌, ◌≢◌, ◌⊎◌, inl, inr, true, false, not, List, [], ◌∷◌, ◌++◌, None, get_or, refl, sym, ap, subst, ◌∙◌}
-use Rattle.std.specs.Prelude.{Contains, All}
+use Rattle.std.proofs.Common.{◌≡◌, ◌≢◌, ◌⊎◌, inl, inr, true, not, List, [], ◌∷◌, ◌++◌, None, get_or, sym, ap, subst, ◌∙◌}
+use Rattle.std.specs.Prelude.{Contains}
 use Rattle.std.specs.List.{AllByRecursion}
 use Rattle.std.specs.Cmp.{both_ways}
 use Rattle.std.proofs.lemmas.List.Elements.{Contains-push, Contains-append_cases}
@@ -20,7 +20,7 @@ pub settled : (before batch added waiting : List Entry) → Adds before batch ad
 settled before batch added waiting adds e c = elim (true_or_false (holds (before ++ added) e.id)) [
   | inl held ↦ inl held
   | inr lacks ↦ inr (of_each (λ x. lacking (before ++ added) x ≢ None) waiting e adds.stuck
-    (subst (λ (l : List Entry). Contains l e) (sym adds.rest) (contains_filter (λ (x : Entry). not (holds (before ++ added) x.id)) batch e c (ap not lacks))))
+      (subst (λ (l : List Entry). Contains l e) (sym adds.rest) (contains_filter (λ (x : Entry). not (holds (before ++ added) x.id)) batch e c (ap not lacks))))
 ]
 
 -- so each that can be added in some order is held

@@ -1,5 +1,5 @@
 -- A map that notes attempts under ids.
-use Rattle.std.proofs.Common.{◌≡◌, ◌⊎◌, inl, inr, ℕ, Bool, true, false, cond, List, [], ◌∷◌, ◌++◌, Option, Some, None, map, refl, sym, ap, subst, ◌∙◌}
+use Rattle.std.proofs.Common.{◌≡◌, ◌⊎◌, inl, inr, ℕ, ◌+◌, ◌<◌, arith, false, cond, List, [], ◌∷◌, ◌++◌, Some, None, sym, ap, subst, ◌∙◌}
 use Rattle.std.specs.Prelude.{Contains, Vec}
 use Rattle.std.specs.BTreeMap.{get, BTreeMap}
 use Rattle.std.specs.declared.alloc.Global.{Global}
@@ -58,3 +58,16 @@ noted mid new id attempts now attempt items updates = (
   updates id ∙ ap (λ b. cond b (Some now) (get id_cmp mid id)) (same_id-refl id),
   subst (λ (l : List ℕ). Contains l attempt.place) (sym (ap places_of items ∙ places-append attempts.items (attempt ∷ []))) (Contains-push (places_of attempts.items) attempt.place),
 )
+
+below_or_last : (i n : ℕ) → i < n + 1 → (i < n) ⊎ (i ≡ n)
+below_or_last i n lt = grind arith
+
+-- one more place is to be tried
+pub one_more : (attempts more : List Attempt) (attempt : Attempt) → more ≡ attempts ++ attempt ∷ [] → ((i : ℕ) → i < attempt.place → Contains (places_of attempts) i)
+    → (i : ℕ) → i < attempt.place + 1 → Contains (places_of more) i
+one_more attempts more attempt is below i lt =
+    subst (λ (l : List ℕ). Contains l i) (sym (ap places_of is ∙ places-append attempts (attempt ∷ [])))
+    (elim (below_or_last i attempt.place lt) [
+      | inl before ↦ Contains-append_left (places_of attempts) (attempt.place ∷ []) i (below i before)
+      | inr last ↦ subst (Contains (places_of attempts ++ attempt.place ∷ [])) (sym last) (Contains-push (places_of attempts) attempt.place)
+    ])

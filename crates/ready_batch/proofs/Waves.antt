@@ -1,10 +1,9 @@
 -- Wave after wave.
-use Rattle.std.proofs.Common.{◌≡◌, ◌⊎◌, inl, inr, ℕ, ◌+◌, ◌<◌, ◌≤◌, List, [], ◌∷◌, ◌++◌, length, Option, map, refl, sym, ap, subst, ◌∙◌, append_assoc, append-nil, length-append, arith}
+use Rattle.std.proofs.Common.{◌≡◌, ◌⊎◌, inl, inr, ◌<◌, ◌≤◌, List, [], ◌++◌, length, Option, sym, ap, ◌∙◌, append_assoc, append-nil, length-append, arith}
 use Rattle.std.specs.Prelude.{Contains}
-use Rattle.std.specs.List.{AllByRecursion}
 use Rattle.update_model.specs.Entry.{Entry}
 use Rattle.ready_batch.specs.Ready.{IsBehind}
-use Rattle.ready_batch.specs.Steps.{KeepsSlots, AddsFrom, IsOverSome}
+use Rattle.ready_batch.specs.Steps.{KeepsSlots, AddsFrom}
 use Rattle.ready_batch.proofs.Elements.{each_append}
 
 pub behind_same : {M : Type 0} (graph : List M) → IsBehind graph graph

@@ -31,6 +31,7 @@ pub fn add_ready<M: Member + Drop>(
     let wave = all_attempts(alloc, batch.len())?;
     let mut slots = slots_of(alloc, batch)?;
     add_waves(alloc, graph, &mut slots, wave)?;
+    graph.len();
     Ok(left_over(alloc, graph, slots)?)
 }
 

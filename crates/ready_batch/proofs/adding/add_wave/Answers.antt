@@ -1,4 +1,4 @@
-use Rattle.std.proofs.Common.{◌≡◌, ◌++◌, ◌∷◌, ◌+◌, List, ℕ, drop, map, subst}
+use Rattle.std.proofs.Common.{◌++◌, ◌+◌, List, drop, map, subst}
 use Rattle.std.proofs.lemmas.List.{drop_more, drop_all}
 use Rattle.ready_batch.specs.declared.attempt.Attempt.{Attempt}
 use Rattle.ready_batch.specs.Steps.{AllPlaced, places_of}

@@ -1,4 +1,4 @@
-use Rattle.std.proofs.Common.{◌≡◌, List, map, sym, subst}
+use Rattle.std.proofs.Common.{List, map, sym, subst}
 use Rattle.ready_batch.specs.declared.attempt.Attempt.{Attempt}
 use Rattle.ready_batch.specs.Steps.{AllPlaced, places_of}
 use Rattle.ready_batch.proofs.Waves.{behind_then, from_then}

@@ -1,4 +1,4 @@
-use Rattle.std.proofs.Common.{◌≡◌, ◌+◌, ◌-◌, ◌*◌, List, length, min, map}
+use Rattle.std.proofs.Common.{◌+◌, ◌-◌, ◌*◌, List, length, min, map}
 use Rattle.update_model.specs.declared.limits.TheConstants.{MAX_MEMBERS}
 use Rattle.ready_batch.specs.Ready.{IsBehind}
 use Rattle.ready_batch.specs.Steps.{AreSlots, AllPlaced, IsAllOf, KeepsSlots, AddsFrom, places_of}

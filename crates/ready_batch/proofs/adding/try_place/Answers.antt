@@ -1,8 +1,6 @@
-use Rattle.std.proofs.Common.{◌≡◌, ◌++◌, ◌∙◌, List, Some, map, sym, ap, subst}
-use Rattle.std.specs.Prelude.{Contains}
-use Rattle.update_model.specs.Graph.{holds}
+use Rattle.std.proofs.Common.{◌++◌, ◌∙◌, List, map, sym, ap}
 use Rattle.ready_batch.specs.declared.attempt.Attempt.{Attempt}
-use Rattle.ready_batch.specs.Steps.{left_at, places_of, AllPlaced}
+use Rattle.ready_batch.specs.Steps.{places_of}
 use Rattle.ready_batch.proofs.Parking.{places-append}
 use Rattle.ready_batch.proofs.Placing.{of_batch, added_slots, added_from, placed_added, placed_parked, passed_over, put_back, map_last, taken_other, taken_gone}
 use Rattle.ready_batch.proofs.adding.try_place.Goals as goal

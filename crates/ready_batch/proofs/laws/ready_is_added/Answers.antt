@@ -1,4 +1,3 @@
-use Rattle.ready_batch.proofs.Completion.{too_much}
 use Rattle.ready_batch.proofs.Orders.{ready_added}
 use Rattle.ready_batch.proofs.laws.ready_is_added.Goals as goal
 
