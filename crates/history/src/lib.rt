@@ -1,6 +1,0 @@
-//! stub
-#![tactic(auto)]
-
-mod history;
-
-pub use history::{AddFault, History, NoHistory};
