@@ -1,7 +1,9 @@
+pub mod StoreAnswers
 pub mod Texts
 pub mod Outcome
+pub mod Outside
 pub mod Heads
 pub mod Verdict
 pub mod Bundle
-pub mod Commands
+pub mod Comes
 pub mod Run

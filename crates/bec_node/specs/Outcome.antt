@@ -9,9 +9,20 @@ use Rattle.bec_bytes.specs.declared.read_error.ReadError.{ReadError}
 use Rattle.bec_bytes.specs.declared.read_error.ReadError.TheVariants as read_errors
 use Rattle.update_stream.specs.declared.record_fault.RecordFault.TheVariants.{Check, Lacks, Full}
 use Rattle.bec_node.specs.declared.refusal.Refusal.{Refusal}
-use Rattle.bec_node.specs.declared.refusal.Refusal.TheVariants.{Words, Record, CutSchema, Schema, NotConfluent, Stream, Memory}
-use Rattle.bec_node.specs.declared.status.TheConstants.{DONE, REFUSED, NO_COMMAND, STREAM_FAULT, OUT_OF_MEMORY, FULL}
-use Rattle.bec_node.specs.Texts.{record_text, refused_text, schema_text}
+use Rattle.bec_node.specs.declared.refusal.Refusal.TheVariants.{Words, Record, CutSchema, Schema, NotConfluent, Transaction, Invalid, AuthorNotListed, UpdateTooLong, IdTaken, KeySpent, Heads, NoStore, StoreThere, BadStore, NoKey, KeyThere, BadKey, StoreFault, Stream, Memory}
+use Rattle.bec_node.specs.declared.refusal.Refusal.TheVariants as refusals
+use Rattle.lms_tree.specs.LmsKind.{leaf_count}
+use Rattle.lms_tree.specs.SecretKey.{SecretData}
+use Rattle.replica.specs.declared.make_fault.MakeFault.{MakeFault}
+use Rattle.replica.specs.declared.make_fault.MakeFault.TheVariants as make_faults
+use Rattle.store_directory.specs.declared.key_refusal.KeyRefusal.{KeyRefusal}
+use Rattle.store_directory.specs.declared.key_refusal.KeyRefusal.TheVariants as key_refusals
+use Rattle.store_directory.specs.declared.store_refusal.StoreRefusal.{StoreRefusal}
+use Rattle.store_directory.specs.declared.store_refusal.StoreRefusal.TheVariants as store_refusals
+use Rattle.txn_text.specs.declared.fault.TextError.{TextError}
+use Rattle.txn_text.specs.declared.fault.TextError.TheVariants as text_errors
+use Rattle.bec_node.specs.declared.status.TheConstants.{DONE, REFUSED, NO_COMMAND, STORE_FAULT, STREAM_FAULT, OUT_OF_MEMORY, FULL, STORE}
+use Rattle.bec_node.specs.Texts.{invalid_text, many_heads_text, record_text, refused_text, schema_text, spent_text, transaction_text}
 
 -- A command is done and prints a text, or it is refused.
 abbrev pub Outcome : Type 0
@@ -26,6 +37,21 @@ status_for (Record n Full) = FULL
 status_for CutSchema = REFUSED
 status_for (Schema fault) = REFUSED
 status_for (NotConfluent schema which example) = REFUSED
+status_for (Transaction fault) = REFUSED
+status_for (Invalid reason operation) = REFUSED
+status_for AuthorNotListed = REFUSED
+status_for UpdateTooLong = REFUSED
+status_for IdTaken = REFUSED
+status_for refusals.Full = FULL
+status_for (KeySpent count) = FULL
+status_for (Heads count) = FULL
+status_for NoStore = STORE
+status_for StoreThere = STORE
+status_for BadStore = STORE
+status_for NoKey = STORE
+status_for KeyThere = STORE
+status_for BadKey = STORE
+status_for StoreFault = STORE_FAULT
 status_for Stream = STREAM_FAULT
 status_for Memory = OUT_OF_MEMORY
 
@@ -36,6 +62,21 @@ text_for (Record n fault) = record_text n fault
 text_for CutSchema = codes "! schema cut\n"
 text_for (Schema fault) = schema_text fault
 text_for (NotConfluent schema which example) = refused_text schema.tables which example
+text_for (Transaction fault) = transaction_text fault
+text_for (Invalid reason operation) = invalid_text reason operation
+text_for AuthorNotListed = codes "! author not listed\n"
+text_for UpdateTooLong = codes "! update too long\n"
+text_for IdTaken = codes "! id taken\n"
+text_for refusals.Full = codes "! full\n"
+text_for (KeySpent count) = spent_text count
+text_for (Heads count) = many_heads_text count
+text_for NoStore = codes "! no store\n"
+text_for StoreThere = codes "! store there\n"
+text_for BadStore = codes "! bad store\n"
+text_for NoKey = codes "! no key\n"
+text_for KeyThere = codes "! key there\n"
+text_for BadKey = codes "! bad key\n"
+text_for StoreFault = codes "! store fault\n"
 text_for Stream = codes "! stream fault\n"
 text_for Memory = []
 
@@ -62,6 +103,34 @@ from_reading read_errors.Memory = Memory
 abbrev pub from_schema : SchemaError → Refusal
 from_schema (schema_errors.Fault fault) = Schema fault
 from_schema schema_errors.Memory = Memory
+
+abbrev pub from_store : StoreRefusal → Refusal
+from_store store_refusals.NoStore = NoStore
+from_store store_refusals.BadStore = BadStore
+from_store store_refusals.DiskFault = StoreFault
+from_store store_refusals.Memory = Memory
+
+abbrev pub from_key : KeyRefusal → Refusal
+from_key key_refusals.NoKey = NoKey
+from_key key_refusals.BadKey = BadKey
+from_key key_refusals.DiskFault = StoreFault
+from_key key_refusals.Memory = Memory
+
+abbrev pub from_text : TextError → Refusal
+from_text (text_errors.Fault fault) = Transaction fault
+from_text text_errors.Memory = Memory
+
+-- of a key that has so many indices
+abbrev pub from_make : SecretData → MakeFault → Refusal
+from_make secret make_faults.NotListed = AuthorNotListed
+from_make secret (make_faults.TooManyHeads count) = Heads count
+from_make secret (make_faults.Invalid reason operation) = Invalid reason operation
+from_make secret (make_faults.TooLong len) = UpdateTooLong
+from_make secret make_faults.Full = refusals.Full
+from_make secret make_faults.Spent = KeySpent (leaf_count secret.lms)
+from_make secret (make_faults.Taken id) = IdTaken
+from_make secret (make_faults.DiskFault side) = StoreFault
+from_make secret make_faults.Memory = Memory
 
 -- What may come in place of an answer: memory ran out, or the source failed, whose count of faults rose.
 abbrev pub IsFault : ℕ → ℕ → Refusal → Type 0

@@ -43,6 +43,33 @@ pub fn refuse<K: Sink>(alloc: Global, out: &mut K, refusal: &Refusal) -> Result<
             let lines = refused_lines(alloc, schema, which, example)?;
             Ok(put(out, &lines, status))
         }
+        Refusal::Transaction(fault) => {
+            let line = format!(in alloc; "! transaction {fault}\n")?;
+            Ok(put(out, line.as_bytes(), status))
+        }
+        Refusal::Invalid { reason, operation } => {
+            let line = invalid_line(alloc, *reason, *operation)?;
+            Ok(put(out, line.as_bytes(), status))
+        }
+        Refusal::KeySpent(count) => {
+            let line = format!(in alloc; "! key spent {count}\n")?;
+            Ok(put(out, line.as_bytes(), status))
+        }
+        Refusal::Heads(count) => {
+            let line = format!(in alloc; "! heads {count}\n")?;
+            Ok(put(out, line.as_bytes(), status))
+        }
+        Refusal::AuthorNotListed => Ok(put(out, b"! author not listed\n", status)),
+        Refusal::UpdateTooLong => Ok(put(out, b"! update too long\n", status)),
+        Refusal::IdTaken => Ok(put(out, b"! id taken\n", status)),
+        Refusal::Full => Ok(put(out, b"! full\n", status)),
+        Refusal::NoStore => Ok(put(out, b"! no store\n", status)),
+        Refusal::StoreThere => Ok(put(out, b"! store there\n", status)),
+        Refusal::BadStore => Ok(put(out, b"! bad store\n", status)),
+        Refusal::NoKey => Ok(put(out, b"! no key\n", status)),
+        Refusal::KeyThere => Ok(put(out, b"! key there\n", status)),
+        Refusal::BadKey => Ok(put(out, b"! bad key\n", status)),
+        Refusal::StoreFault => Ok(put(out, b"! store fault\n", status)),
         Refusal::Stream => Ok(put(out, b"! stream fault\n", status)),
         Refusal::Memory => Err(AllocError),
     }
