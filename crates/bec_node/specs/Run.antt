@@ -12,7 +12,7 @@ use Rattle.bec_node.specs.Bundle.{DumpAnswer}
 use Rattle.bec_node.specs.Comes.{Inits, MakesKey, MakesUpdate, ReadsSource, ReadsStoreOnly, readings}
 use Rattle.bec_node.specs.Heads.{HeadsAnswer}
 use Rattle.bec_node.specs.Outcome.{Outcome, Says, status_of}
-use Rattle.bec_node.specs.Outside.{Outside}
+use Rattle.bec_node.specs.Outside.{IsUntouched, Outside, SinkState}
 use Rattle.bec_node.specs.StoreAnswers.{ApplyAnswer, HasNewKey, InitAnswer, JoinAnswer, KeygenAnswer, Readings, ReadsStore, ShowsHeads, ShowsRecords, ShowsTables, next_bytes}
 use Rattle.bec_node.specs.Verdict.{CheckAnswer}
 
@@ -27,12 +27,6 @@ IsNoCommand words = (request : RequestText) → IsCommand request words → ⊥
 -- the first word is this one
 abbrev pub HasFirstWord : List ℕ → List (String Global) → Type 0
 HasFirstWord word words = slice_get (map string_bytes words) 0 ≡ Some word
-
--- The source, the shelf and the generator are as they were.
-pub record IsUntouched {S H R : Type 0} (before after : Outside S H R) : Type 0 where
-  pub source : after.source ≡ before.source
-  pub shelf : after.shelf ≡ before.shelf
-  pub random : after.random ≡ before.random
 
 -- What a request comes to.
 abbrev pub Comes : {S H R : Type 0} → RequestText → Outside S H R → Outside S H R → Outcome → Type 0
@@ -82,8 +76,8 @@ AnswersOnly (export dir updates_only) before status = StoreOnly (ReadsStore (Sho
 AnswersOnly (merge first second) before status = Unit {0}
 
 -- A run of the program: the words and what stands outside ask for an outcome, the sink is told it, and the status is its own.
-pub record Runs {S H R : Type 0} (words : List (String Global)) (before after : Outside S H R) (status : ℕ) : Type 0 where
+pub record Runs {S H R : Type 0} (words : List (String Global)) (before after : Outside S H R) (sink sink_new : SinkState) (status : ℕ) : Type 0 where
   pub outcome : Outcome
   pub asked : AsksFor words before after outcome
-  pub said : Says before.sink_faults after.sink_faults before.held after.held outcome status
+  pub said : Says sink.faults sink_new.faults sink.held sink_new.held outcome status
   pub only : (request : RequestText) → IsCommand request words → AnswersOnly request before status

@@ -1,0 +1,95 @@
+ghost use Rattle.std.specs.Prelude.{◌≡◌, IsTrue, codes};
+ghost use Rattle.bec_node.specs.Comes.{MakesUpdate};
+ghost use Rattle.bec_node.specs.Outside.{outside};
+ghost use Rattle.bec_node.specs.Run.{HasFirstWord, Runs};
+ghost use Rattle.bec_node.specs.StoreAnswers.{ApplyAnswer};
+ghost use Rattle.store_directory.specs.Stores.{IsHome};
+
+use crate::printed_id::IdLine;
+use crate::program::run;
+use crate::refusal::Refusal;
+use crate::text_input::read_text;
+use bec_bytes::{Sink, Source};
+use bec_disk::{Disk, Shelf};
+use key_index::KeyStore;
+use rand_core::Rng;
+use replica::Replica;
+use row_check::{Luhn, Native};
+use std::alloc::Global;
+use store_directory::{OpenStore, put_key, put_store, take_key, take_store};
+use txn_text::{MAX_TRANSACTION_BYTES, read_txn};
+
+/// The command `apply DIR`: makes an update of the transaction that it reads, by the key of the directory, adds it to the directory's store, and prints
+/// its id. The first word has to be `apply`.
+///
+/// Its clause is that of [`run`](crate::run) for these words.
+pub fn command_apply<H: Shelf, R: Rng, S: Source, K: Sink>(
+    alloc: Global,
+    words: &[String],
+    shelf: &mut H,
+    random: &mut R,
+    input: &mut S,
+    out: &mut K,
+) -> u8
+    requires first { HasFirstWord (codes "apply") words.now }
+    requires home { IsTrue (H.state shelf.old).tells → IsHome (H.state shelf.old) }
+    ensures { Runs words.now
+        (outside S.left S.faults H.state H.faults R.stream input.old shelf.old random.old) (outside S.left S.faults H.state H.faults R.stream input.new shelf.new random.new)
+        (record { held = K.held out.old; faults = K.faults out.old }) (record { held = K.held out.new; faults = K.faults out.new }) result }
+{
+    run(alloc, words, shelf, random, input, out)
+}
+
+/// Makes an update in the store of a directory, and answers the line that is printed.
+pub fn apply_in<H: Shelf, R: Rng, S: Source>(
+    alloc: Global,
+    shelf: &mut H,
+    dir: &str,
+    random: &mut R,
+    input: &mut S,
+) -> Result<Vec<u8>, Refusal>
+    requires { IsTrue (H.state shelf.old).tells → IsHome (H.state shelf.old) }
+    ensures { MakesUpdate (ApplyAnswer (S.left input.old) (S.left input.new) (R.stream random.old)) dir.now
+        (outside S.left S.faults H.state H.faults R.stream input.old shelf.old random.old) (outside S.left S.faults H.state H.faults R.stream input.new shelf.new random.new) result }
+{
+    let mut store = take_store(alloc, shelf, dir, Native::new(Luhn))?;
+    let outcome = apply_to(alloc, shelf, dir, &mut store, random, input);
+    put_store(shelf, dir, store);
+    outcome
+}
+
+/// The same over the store, which is open.
+fn apply_to<H: Shelf, R: Rng, S: Source>(
+    alloc: Global,
+    shelf: &mut H,
+    dir: &str,
+    store: &mut OpenStore<H::D, Luhn, Luhn>,
+    random: &mut R,
+    input: &mut S,
+) -> Result<Vec<u8>, Refusal>
+{
+    let mut key = take_key(alloc, shelf, dir)?;
+    let outcome = apply_by(alloc, &mut store.replica, &mut key, random, input);
+    put_key(shelf, dir, key);
+    outcome
+}
+
+/// The same over the store and the key, which are open.
+fn apply_by<D: Disk, R: Rng, S: Source>(
+    alloc: Global,
+    replica: &mut Replica<D, Luhn, Luhn>,
+    key: &mut KeyStore<D>,
+    random: &mut R,
+    input: &mut S,
+) -> Result<Vec<u8>, Refusal>
+{
+    let text = read_text(alloc, input, MAX_TRANSACTION_BYTES)?;
+    let ops = read_txn(alloc, replica.schema(), &text)?;
+    let line = IdLine::new(alloc)?;
+    let mut c = [0; 32];
+    random.fill_bytes(&mut c);
+    match replica.make(alloc, ops, key, &c) {
+        Ok(id) => Ok(line.of(&id)),
+        Err(fault) => Err(refusal_for(key, fault)),
+    }
+}
