@@ -1,5 +1,10 @@
 //! The commands, each in a file of its own.
 
+pub mod apply;
 pub mod check;
 pub mod dump;
+pub mod export;
 pub mod heads;
+pub mod init;
+pub mod join;
+pub mod keygen;

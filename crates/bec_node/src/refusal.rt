@@ -165,3 +165,20 @@ impl From<TextError> for Refusal {
         }
     }
 }
+
+/// Why no update was made by a key.
+pub fn made_refusal<D: Disk>(key: &KeyStore<D>, fault: MakeFault) -> Refusal
+    ensures { result ≡ from_make key.now.secret fault }
+{
+    match fault {
+        MakeFault::NotListed => Refusal::AuthorNotListed,
+        MakeFault::TooManyHeads(count) => Refusal::Heads(count),
+        MakeFault::Invalid { reason, operation } => Refusal::Invalid { reason, operation },
+        MakeFault::TooLong(_) => Refusal::UpdateTooLong,
+        MakeFault::Full => Refusal::Full,
+        MakeFault::Spent => Refusal::KeySpent(leaf_count_of(&key.public())),
+        MakeFault::Taken(_) => Refusal::IdTaken,
+        MakeFault::DiskFault(_) => Refusal::StoreFault,
+        MakeFault::Memory => Refusal::Memory,
+    }
+}

@@ -1,13 +1,13 @@
-ghost use Rattle.std.specs.Prelude.{◌≡◌, IsTrue, codes};
+ghost use Rattle.std.specs.Prelude.{◌≡◌, ◌≤◌, IsTrue, IfOk, codes};
 ghost use Rattle.bec_node.specs.Comes.{MakesUpdate};
 ghost use Rattle.bec_node.specs.Outside.{outside};
 ghost use Rattle.bec_node.specs.Run.{HasFirstWord, Runs};
 ghost use Rattle.bec_node.specs.StoreAnswers.{ApplyAnswer};
 ghost use Rattle.store_directory.specs.Stores.{IsHome};
 
-use crate::printed_id::IdLine;
+use crate::printed_lines::{id_line, room_for_id};
 use crate::program::run;
-use crate::refusal::Refusal;
+use crate::refusal::{Refusal, made_refusal};
 use crate::text_input::read_text;
 use bec_bytes::{Sink, Source};
 use bec_disk::{Disk, Shelf};
@@ -19,8 +19,8 @@ use std::alloc::Global;
 use store_directory::{OpenStore, put_key, put_store, take_key, take_store};
 use txn_text::{MAX_TRANSACTION_BYTES, read_txn};
 
-/// The command `apply DIR`: makes an update of the transaction that it reads, by the key of the directory, adds it to the directory's store, and prints
-/// its id. The first word has to be `apply`.
+/// The command `apply DIR`: makes an update of the transaction that it reads, by the key of the directory, adds it to the
+/// directory's store, and prints its id. The first word has to be `apply`.
 ///
 /// Its clause is that of [`run`](crate::run) for these words.
 pub fn command_apply<H: Shelf, R: Rng, S: Source, K: Sink>(
@@ -66,30 +66,28 @@ fn apply_to<H: Shelf, R: Rng, S: Source>(
     store: &mut OpenStore<H::D, Luhn, Luhn>,
     random: &mut R,
     input: &mut S,
-) -> Result<Vec<u8>, Refusal>
-{
+) -> Result<Vec<u8>, Refusal> {
     let mut key = take_key(alloc, shelf, dir)?;
     let outcome = apply_by(alloc, &mut store.replica, &mut key, random, input);
     put_key(shelf, dir, key);
     outcome
 }
 
-/// The same over the store and the key, which are open.
+/// The same over the store and the key, which are open. The memory for what is printed is taken before the update is made.
 fn apply_by<D: Disk, R: Rng, S: Source>(
     alloc: Global,
     replica: &mut Replica<D, Luhn, Luhn>,
     key: &mut KeyStore<D>,
     random: &mut R,
     input: &mut S,
-) -> Result<Vec<u8>, Refusal>
-{
+) -> Result<Vec<u8>, Refusal> {
     let text = read_text(alloc, input, MAX_TRANSACTION_BYTES)?;
     let ops = read_txn(alloc, replica.schema(), &text)?;
-    let line = IdLine::new(alloc)?;
+    let room = room_for_id(alloc)?;
     let mut c = [0; 32];
     random.fill_bytes(&mut c);
     match replica.make(alloc, ops, key, &c) {
-        Ok(id) => Ok(line.of(&id)),
-        Err(fault) => Err(refusal_for(key, fault)),
+        Ok(id) => Ok(id_line(room, &id)),
+        Err(fault) => Err(made_refusal(key, fault)),
     }
 }

@@ -15,31 +15,29 @@ use bec_bytes::{Sink, Source};
 use row_check::{Luhn, Native};
 use std::alloc::Global;
 
-/// The command `dump`: reads a bundle, which is a schema and an update stream, and prints the tables of the updates, each
-/// visible row on a line, and the updates that do nothing; or the line for what is refused first: the schema, an invariant
-/// of it that does not survive merging, or a record. `words` are all the words of the command line; a second one makes them
-/// no command.
+/// The command `dump [DIR]`: prints the tables of the bundle that it reads, or of the directory's store, each visible row on a line, and the updates that do
+/// nothing; or the line for what is refused. The first word has to be `dump`.
 ///
 /// Its clause is that of [`run`](crate::run) for these words.
-pub fn command_dump<S: Source, K: Sink>(
+pub fn command_dump<H: Shelf, R: Rng, S: Source, K: Sink>(
     alloc: Global,
     words: &[String],
+    shelf: &mut H,
+    random: &mut R,
     input: &mut S,
     out: &mut K,
 ) -> u8
-    requires { HasFirstWord Dump words.now }
-    ensures { Runs words.now (outside S.left S.faults K.held K.faults input.old out.old) (outside S.left S.faults K.held K.faults input.new out.new) result }
+    requires first { HasFirstWord (codes "dump") words.now }
+    requires home { IsTrue (H.state shelf.old).tells → IsHome (H.state shelf.old) }
+    ensures { Runs words.now
+        (outside S.left S.faults H.state H.faults R.stream input.old shelf.old random.old) (outside S.left S.faults H.state H.faults R.stream input.new shelf.new random.new)
+        (record { held = K.held out.old; faults = K.faults out.old }) (record { held = K.held out.new; faults = K.faults out.new }) result }
 {
-    one_answer();
-    if words.len() > 1 {
-        return no_command(out);
-    }
-    let outcome = bundle_tables(alloc, input);
-    finish(alloc, out, outcome)
+    run(alloc, words, shelf, random, input, out)
 }
 
 /// The tables of a bundle, as they are printed.
-fn bundle_tables<S: Source>(alloc: Global, input: &mut S) -> Result<Vec<u8>, Refusal>
+pub fn bundle_tables<S: Source>(alloc: Global, input: &mut S) -> Result<Vec<u8>, Refusal>
     ensures { ComesTo DumpAnswer (S.left input.old) (S.left input.new) (S.faults input.old) (S.faults input.new) result }
 {
     let native: Native<Luhn, Luhn> = Native::new(Luhn);
@@ -49,4 +47,22 @@ fn bundle_tables<S: Source>(alloc: Global, input: &mut S) -> Result<Vec<u8>, Ref
     let graph = read_graph(alloc, &rule, input)?;
     let text = printed_tables(alloc, &schema, &native, &graph)?;
     Ok(text)
+}
+
+/// The tables of the store of a directory, as they are printed.
+pub fn dump_in<H: Shelf>(alloc: Global, shelf: &mut H, dir: &str) -> Result<Vec<u8>, Refusal> {
+    let store = take_store(alloc, shelf, dir, Native::new(Luhn))?;
+    let text = replica_tables(alloc, &store.replica);
+    put_store(shelf, dir, store);
+    Ok(text?)
+}
+
+/// The tables of a store, as they are printed.
+fn replica_tables<D: Disk>(
+    alloc: Global,
+    replica: &Replica<D, Luhn, Luhn>,
+) -> Result<Vec<u8>, AllocError>
+    ensures { IfOk result (λ text. PrintsTables replica.now.history.schema replica.now.history.members text.items) }
+{
+    tables_text(alloc, replica.schema(), replica.tables())
 }

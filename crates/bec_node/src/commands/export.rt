@@ -1,8 +1,78 @@
-/// The bundle of the store of a directory, or its update stream alone.
-pub fn export_in<H: Shelf>(alloc: Global, shelf: &mut H, dir: &str, updates_only: bool) -> Result<Vec<u8>, Refusal>
+ghost use Rattle.std.specs.Prelude.{◌≡◌, ◌≤◌, IsTrue, IfOk, codes};
+ghost use Rattle.bec_node.specs.Comes.{ReadsStoreOnly};
+ghost use Rattle.bec_node.specs.Outside.{outside};
+ghost use Rattle.bec_node.specs.Run.{HasFirstWord, Runs};
+ghost use Rattle.bec_node.specs.StoreAnswers.{ReadsStore, ShowsRecords};
+ghost use Rattle.store_directory.specs.Stores.{IsHome};
+
+use crate::program::run;
+use crate::refusal::Refusal;
+use bec_bytes::{Sink, Source};
+use bec_disk::{Disk, Shelf};
+use rand_core::Rng;
+use replica::Replica;
+use row_check::{Luhn, Native};
+use std::alloc::{AllocError, Global};
+use store_directory::{put_store, take_store};
+use update_check::Checked;
+use update_model::Member;
+
+/// The command `export DIR [--updates]`: prints the bundle of the directory's store, its schema and its updates in the order of arrival, or the
+/// updates alone. The first word has to be `export`.
+///
+/// Its clause is that of [`run`](crate::run) for these words.
+pub fn command_export<H: Shelf, R: Rng, S: Source, K: Sink>(
+    alloc: Global,
+    words: &[String],
+    shelf: &mut H,
+    random: &mut R,
+    input: &mut S,
+    out: &mut K,
+) -> u8
+    requires first { HasFirstWord (codes "export") words.now }
+    requires home { IsTrue (H.state shelf.old).tells → IsHome (H.state shelf.old) }
+    ensures { Runs words.now
+        (outside S.left S.faults H.state H.faults R.stream input.old shelf.old random.old) (outside S.left S.faults H.state H.faults R.stream input.new shelf.new random.new)
+        (record { held = K.held out.old; faults = K.faults out.old }) (record { held = K.held out.new; faults = K.faults out.new }) result }
 {
+    run(alloc, words, shelf, random, input, out)
+}
+
+/// The bundle of the store of a directory, or its update stream alone.
+pub fn export_in<H: Shelf>(
+    alloc: Global,
+    shelf: &mut H,
+    dir: &str,
+    updates_only: bool,
+) -> Result<Vec<u8>, Refusal> {
     let store = take_store(alloc, shelf, dir, Native::new(Luhn))?;
-    let text = exported(alloc, &store.replica, updates_only);
+    let bytes = exported(alloc, &store.replica, updates_only);
     put_store(shelf, dir, store);
-    Ok(text?)
+    Ok(bytes?)
+}
+
+/// The bundle of a store, or its update stream alone.
+fn exported<D: Disk>(
+    alloc: Global,
+    replica: &Replica<D, Luhn, Luhn>,
+    updates_only: bool,
+) -> Result<Vec<u8>, AllocError> {
+    let mut bytes = Vec::new(alloc);
+    if !updates_only {
+        push_framed(&mut bytes, replica.schema().text())?;
+    }
+    for position in 0..replica.len() {
+        push_framed(&mut bytes, replica.update_at(position).bytes())?;
+    }
+    Ok(bytes)
+}
+
+/// Adds a piece behind its length.
+fn push_framed(bytes: &mut Vec<u8>, piece: &[u8]) -> Result<(), AllocError>
+    requires { length piece.now < 2 ^ 32 }
+    ensures { OnOk result (bytes.new.items ≡ bytes.old.items ++ framed piece.now) }
+{
+    bytes.extend_from_slice(&(piece.len() as u32).to_be_bytes())?;
+    bytes.extend_from_slice(piece)?;
+    Ok(())
 }

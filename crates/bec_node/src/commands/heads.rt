@@ -15,36 +15,54 @@ use bec_bytes::{Sink, Source};
 use std::alloc::{AllocError, Global};
 use update_model::UpdateId;
 
-/// The command `heads`: reads an update stream and prints the ids of its heads, rising, one per line in
-/// lower-case hexadecimal, or the line for the first record that is refused. `words` are all the words of the
-/// command line; a second one makes them no command.
+/// The command `heads [DIR]`: prints the ids of the heads of the update stream that it reads, or of the directory's store, rising, one per line in
+/// lower-case hexadecimal; or the line for what is refused. The first word has to be `heads`.
 ///
 /// Its clause is that of [`run`](crate::run) for these words.
-pub fn command_heads<S: Source, K: Sink>(
+pub fn command_heads<H: Shelf, R: Rng, S: Source, K: Sink>(
     alloc: Global,
     words: &[String],
+    shelf: &mut H,
+    random: &mut R,
     input: &mut S,
     out: &mut K,
 ) -> u8
-    requires { HasFirstWord Heads words.now }
-    ensures { Runs words.now (outside S.left S.faults K.held K.faults input.old out.old) (outside S.left S.faults K.held K.faults input.new out.new) result }
+    requires first { HasFirstWord (codes "heads") words.now }
+    requires home { IsTrue (H.state shelf.old).tells → IsHome (H.state shelf.old) }
+    ensures { Runs words.now
+        (outside S.left S.faults H.state H.faults R.stream input.old shelf.old random.old) (outside S.left S.faults H.state H.faults R.stream input.new shelf.new random.new)
+        (record { held = K.held out.old; faults = K.faults out.old }) (record { held = K.held out.new; faults = K.faults out.new }) result }
 {
-    one_answer();
-    if words.len() > 1 {
-        return no_command(out);
-    }
-    let outcome = stream_heads(alloc, input);
-    finish(alloc, out, outcome)
+    run(alloc, words, shelf, random, input, out)
 }
 
 /// The heads of a stream, as they are printed.
-fn stream_heads<S: Source>(alloc: Global, input: &mut S) -> Result<Vec<u8>, Refusal>
+pub fn stream_heads<S: Source>(alloc: Global, input: &mut S) -> Result<Vec<u8>, Refusal>
     ensures { ComesTo HeadsAnswer (S.left input.old) (S.left input.new) (S.faults input.old) (S.faults input.new) result }
 {
     let graph = read_graph(alloc, &None, input)?;
     let heads = heads_of(alloc, &graph)?.list(alloc)?;
     let text = heads_text(alloc, &heads)?;
     Ok(text)
+}
+
+/// The heads of the store of a directory, as they are printed.
+pub fn heads_in<H: Shelf>(alloc: Global, shelf: &mut H, dir: &str) -> Result<Vec<u8>, Refusal> {
+    let store = take_store(alloc, shelf, dir, Native::new(Luhn))?;
+    let text = replica_heads(alloc, &store.replica);
+    put_store(shelf, dir, store);
+    Ok(text?)
+}
+
+/// The heads of a store, as they are printed.
+fn replica_heads<D: Disk>(
+    alloc: Global,
+    replica: &Replica<D, Luhn, Luhn>,
+) -> Result<Vec<u8>, AllocError>
+    ensures { IfOk result (λ text. (heads : List Id) × AreHeads (map entry_of replica.now.history.members) heads × (text.items ≡ printed heads)) }
+{
+    let heads = replica.heads(alloc)?;
+    heads_text(alloc, &heads)
 }
 
 /// The ids, one per line in lower-case hexadecimal.
