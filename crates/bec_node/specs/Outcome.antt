@@ -3,24 +3,14 @@ use Rattle.std.specs.Prelude.{◌≡◌, ◌≢◌, ◌⊎◌, ℕ, ◌≤◌, L
 use Rattle.std.specs.declared.alloc.Global.{Global}
 use Rattle.std.specs.Io.KnownBytes.{Appends}
 use Rattle.bec_bytes.specs.Causes.{Rose}
-use Rattle.schema.specs.declared.fault.SchemaError.{SchemaError}
-use Rattle.schema.specs.declared.fault.SchemaError.TheVariants as schema_errors
+use Rattle.confluence_test.specs.declared.refusal.SchemaRefusal.{SchemaRefusal}
+use Rattle.confluence_test.specs.declared.refusal.SchemaRefusal.TheVariants as taking
 use Rattle.bec_bytes.specs.declared.read_error.ReadError.{ReadError}
 use Rattle.bec_bytes.specs.declared.read_error.ReadError.TheVariants as read_errors
 use Rattle.update_stream.specs.declared.record_fault.RecordFault.TheVariants.{Check, Lacks, Full}
 use Rattle.bec_node.specs.declared.refusal.Refusal.{Refusal}
 use Rattle.bec_node.specs.declared.refusal.Refusal.TheVariants.{Words, Record, CutSchema, Schema, NotConfluent, Transaction, Invalid, AuthorNotListed, UpdateTooLong, IdTaken, KeySpent, Heads, NoStore, StoreThere, BadStore, NoKey, KeyThere, BadKey, StoreFault, Stream, Memory}
 use Rattle.bec_node.specs.declared.refusal.Refusal.TheVariants as refusals
-use Rattle.lms_tree.specs.LmsKind.{leaf_count}
-use Rattle.lms_tree.specs.SecretKey.{SecretData}
-use Rattle.replica.specs.declared.make_fault.MakeFault.{MakeFault}
-use Rattle.replica.specs.declared.make_fault.MakeFault.TheVariants as make_faults
-use Rattle.store_directory.specs.declared.key_refusal.KeyRefusal.{KeyRefusal}
-use Rattle.store_directory.specs.declared.key_refusal.KeyRefusal.TheVariants as key_refusals
-use Rattle.store_directory.specs.declared.store_refusal.StoreRefusal.{StoreRefusal}
-use Rattle.store_directory.specs.declared.store_refusal.StoreRefusal.TheVariants as store_refusals
-use Rattle.txn_text.specs.declared.fault.TextError.{TextError}
-use Rattle.txn_text.specs.declared.fault.TextError.TheVariants as text_errors
 use Rattle.bec_node.specs.declared.status.TheConstants.{DONE, REFUSED, NO_COMMAND, STORE_FAULT, STREAM_FAULT, OUT_OF_MEMORY, FULL, STORE}
 use Rattle.bec_node.specs.Texts.{invalid_text, many_heads_text, record_text, refused_text, schema_text, spent_text, transaction_text}
 
@@ -100,37 +90,10 @@ abbrev pub from_reading : ReadError → Refusal
 from_reading read_errors.Failed = Stream
 from_reading read_errors.Memory = Memory
 
-abbrev pub from_schema : SchemaError → Refusal
-from_schema (schema_errors.Fault fault) = Schema fault
-from_schema schema_errors.Memory = Memory
-
-abbrev pub from_store : StoreRefusal → Refusal
-from_store store_refusals.NoStore = NoStore
-from_store store_refusals.BadStore = BadStore
-from_store store_refusals.DiskFault = StoreFault
-from_store store_refusals.Memory = Memory
-
-abbrev pub from_key : KeyRefusal → Refusal
-from_key key_refusals.NoKey = NoKey
-from_key key_refusals.BadKey = BadKey
-from_key key_refusals.DiskFault = StoreFault
-from_key key_refusals.Memory = Memory
-
-abbrev pub from_text : TextError → Refusal
-from_text (text_errors.Fault fault) = Transaction fault
-from_text text_errors.Memory = Memory
-
--- of a key that has so many indices
-abbrev pub from_make : SecretData → MakeFault → Refusal
-from_make secret make_faults.NotListed = AuthorNotListed
-from_make secret (make_faults.TooManyHeads count) = Heads count
-from_make secret (make_faults.Invalid reason operation) = Invalid reason operation
-from_make secret (make_faults.TooLong len) = UpdateTooLong
-from_make secret make_faults.Full = refusals.Full
-from_make secret make_faults.Spent = KeySpent (leaf_count secret.lms)
-from_make secret (make_faults.Taken id) = IdTaken
-from_make secret (make_faults.DiskFault side) = StoreFault
-from_make secret make_faults.Memory = Memory
+abbrev pub from_taking : SchemaRefusal → Refusal
+from_taking (taking.Schema fault) = Schema fault
+from_taking (taking.NotConfluent schema which example) = NotConfluent schema which example
+from_taking taking.Memory = Memory
 
 -- What may come in place of an answer: memory ran out, or the source failed, whose count of faults rose.
 abbrev pub IsFault : ℕ → ℕ → Refusal → Type 0
@@ -153,7 +116,12 @@ abbrev pub Says : ℕ → ℕ → Option (List ℕ) → Option (List ℕ) → Ou
 Says old new held held_new (Err Memory) status = (status ≡ OUT_OF_MEMORY) × Appends held held_new []
 Says old new held held_new outcome status = Puts old new held held_new (status_of outcome) (text_of outcome) status
 
--- An outcome is said, or want of memory is said in its place; that words are no command is always said.
+-- The lines of a refusal may lack memory, but not the line for words that are no command.
+abbrev pub MayLackMemory : Outcome → Type 0
+MayLackMemory (Ok text) = ⊥
+MayLackMemory (Err refusal) = refusal ≢ Words
+
+-- An outcome is said, or want of memory is said in place of a refusal.
 abbrev pub Ends : ℕ → ℕ → Option (List ℕ) → Option (List ℕ) → Outcome → ℕ → Type 0
 Ends old new held held_new outcome status =
-    Says old new held held_new outcome status ⊎ ((outcome ≢ Err Words) × Says old new held held_new (Err Memory) status)
+    Says old new held held_new outcome status ⊎ (MayLackMemory outcome × Says old new held held_new (Err Memory) status)

@@ -1,19 +1,15 @@
 -- What a run of the program does.
-use Rattle.std.specs.Prelude.{◌≡◌, ◌⊎◌, ℕ, List, [], ◌∷◌, map, IsTrue, IfSome, Err, String, slice_get, Some, None}
+use Rattle.std.specs.Prelude.{◌≡◌, ◌⊎◌, ℕ, List, map, IfSome, Err, String, slice_get, Some, None}
 use Rattle.std.specs.declared.alloc.Global.{Global}
 use Rattle.std.specs.declared.option.Option.{Option}
 use Rattle.std.specs.String.{string_bytes}
-use Rattle.bec_disk.specs.Shelf.{ShelfState}
 use Rattle.command_words.specs.Requests.{Asks, RequestText, heads, check, dump, init, keygen, apply, join, export, merge}
-use Rattle.schema.specs.declared.limits.TheConstants.{MAX_SCHEMA_BYTES}
 use Rattle.bec_node.specs.declared.refusal.Refusal.TheVariants.{Memory, Words}
 use Rattle.bec_node.specs.declared.status.TheConstants.{STORE_FAULT, STREAM_FAULT, OUT_OF_MEMORY}
 use Rattle.bec_node.specs.Bundle.{DumpAnswer}
-use Rattle.bec_node.specs.Comes.{Inits, MakesKey, MakesUpdate, ReadsSource, ReadsStoreOnly, readings}
 use Rattle.bec_node.specs.Heads.{HeadsAnswer}
-use Rattle.bec_node.specs.Outcome.{Outcome, Says, status_of}
+use Rattle.bec_node.specs.Outcome.{ComesTo, Outcome, Says, status_of}
 use Rattle.bec_node.specs.Outside.{IsUntouched, Outside, SinkState}
-use Rattle.bec_node.specs.StoreAnswers.{ApplyAnswer, HasNewKey, InitAnswer, JoinAnswer, KeygenAnswer, Readings, ReadsStore, ShowsHeads, ShowsRecords, ShowsTables, next_bytes}
 use Rattle.bec_node.specs.Verdict.{CheckAnswer}
 
 -- the words ask for this
@@ -28,19 +24,30 @@ IsNoCommand words = (request : RequestText) → IsCommand request words → ⊥
 abbrev pub HasFirstWord : List ℕ → List (String Global) → Type 0
 HasFirstWord word words = slice_get (map string_bytes words) 0 ≡ Some word
 
+-- A command over the source alone.
+pub record ReadsSource {S H R : Type 0} (Answer : Option (List ℕ) → Option (List ℕ) → Outcome → Type 0) (before after : Outside S H R) (outcome : Outcome) : Type 0 where
+  pub comes : ComesTo Answer before.left after.left before.source_faults after.source_faults outcome
+  pub shelf : after.shelf ≡ before.shelf
+  pub random : after.random ≡ before.random
+
+-- A command that the program does not do: its words are answered as ones that are no command.
+pub record IsLeftOut {S H R : Type 0} (before after : Outside S H R) (outcome : Outcome) : Type 0 where
+  pub words : outcome ≡ Err Words
+  pub untouched : IsUntouched before after
+
 -- What a request comes to.
 abbrev pub Comes : {S H R : Type 0} → RequestText → Outside S H R → Outside S H R → Outcome → Type 0
 Comes (heads None) before after outcome = ReadsSource HeadsAnswer before after outcome
-Comes (heads (Some dir)) before after outcome = ReadsStoreOnly (ReadsStore ShowsHeads) dir before after outcome
+Comes (heads (Some dir)) before after outcome = IsLeftOut before after outcome
 Comes check before after outcome = ReadsSource CheckAnswer before after outcome
 Comes (dump None) before after outcome = ReadsSource DumpAnswer before after outcome
-Comes (dump (Some dir)) before after outcome = ReadsStoreOnly (ReadsStore ShowsTables) dir before after outcome
-Comes (init dir) before after outcome = Inits (InitAnswer MAX_SCHEMA_BYTES before.left after.left) (next_bytes before.stream) dir before after outcome
-Comes (keygen dir lms ots) before after outcome = MakesKey (KeygenAnswer lms ots before.stream) (HasNewKey lms ots before.stream dir) dir before after outcome
-Comes (apply dir) before after outcome = MakesUpdate (ApplyAnswer before.left after.left before.stream) dir before after outcome
-Comes (join dir) before after outcome = MakesUpdate (JoinAnswer before.stream) dir before after outcome × (after.source ≡ before.source)
-Comes (export dir updates_only) before after outcome = ReadsStoreOnly (ReadsStore (ShowsRecords updates_only)) dir before after outcome
-Comes (merge first second) before after outcome = (outcome ≡ Err Words) × IsUntouched before after
+Comes (dump (Some dir)) before after outcome = IsLeftOut before after outcome
+Comes (init dir) before after outcome = IsLeftOut before after outcome
+Comes (keygen dir lms ots) before after outcome = IsLeftOut before after outcome
+Comes (apply dir) before after outcome = IsLeftOut before after outcome
+Comes (join dir) before after outcome = IsLeftOut before after outcome
+Comes (export dir updates_only) before after outcome = IsLeftOut before after outcome
+Comes (merge first second) before after outcome = IsLeftOut before after outcome
 
 -- Words that ask for something come to what that comes to; other words leave all as it was; and so does want of memory for reading the words.
 pub data AsksFor {S H R : Type 0} (words : List (String Global)) (before after : Outside S H R) (outcome : Outcome) : Type 0 where
@@ -56,23 +63,18 @@ ComesAs status own = (status ≡ own) ⊎ ((status ≡ STORE_FAULT) ⊎ ((status
 abbrev pub SourceOnly : (Option (List ℕ) → Option (List ℕ) → Outcome → Type 0) → Option (List ℕ) → ℕ → Type 0
 SourceOnly Answer before status = IfSome before (λ input. (after : Option (List ℕ)) (outcome : Outcome) → Answer (Some input) after outcome → ComesAs status (status_of outcome))
 
--- Each answer to what the parts of a directory read as comes with its status.
-abbrev pub StoreOnly : {S H R : Type 0} → (Readings → List (List ℕ) → Outcome → Type 0) → List ℕ → Outside S H R → ℕ → Type 0
-StoreOnly Answer dir before status = IsTrue before.store.tells → (added : List (List ℕ)) (outcome : Outcome) → Answer (readings before.store dir) added outcome → ComesAs status (status_of outcome)
-
 -- Each answer that a request has to what stands outside comes with its status, unless a disk or a stream failed or memory ran out.
 abbrev pub AnswersOnly : {S H R : Type 0} → RequestText → Outside S H R → ℕ → Type 0
 AnswersOnly (heads None) before status = SourceOnly HeadsAnswer before.left status
-AnswersOnly (heads (Some dir)) before status = StoreOnly (ReadsStore ShowsHeads) dir before status
+AnswersOnly (heads (Some dir)) before status = Unit {0}
 AnswersOnly check before status = SourceOnly CheckAnswer before.left status
 AnswersOnly (dump None) before status = SourceOnly DumpAnswer before.left status
-AnswersOnly (dump (Some dir)) before status = StoreOnly (ReadsStore ShowsTables) dir before status
-AnswersOnly (init dir) before status =
-    IfSome before.left (λ input. (after : Option (List ℕ)) → StoreOnly (λ parts added outcome. InitAnswer MAX_SCHEMA_BYTES (Some input) after parts outcome) dir before status)
-AnswersOnly (keygen dir lms ots) before status = StoreOnly (λ parts added outcome. KeygenAnswer lms ots before.stream parts outcome) dir before status
-AnswersOnly (apply dir) before status = IfSome before.left (λ input. (after : Option (List ℕ)) → StoreOnly (ApplyAnswer (Some input) after before.stream) dir before status)
-AnswersOnly (join dir) before status = StoreOnly (JoinAnswer before.stream) dir before status
-AnswersOnly (export dir updates_only) before status = StoreOnly (ReadsStore (ShowsRecords updates_only)) dir before status
+AnswersOnly (dump (Some dir)) before status = Unit {0}
+AnswersOnly (init dir) before status = Unit {0}
+AnswersOnly (keygen dir lms ots) before status = Unit {0}
+AnswersOnly (apply dir) before status = Unit {0}
+AnswersOnly (join dir) before status = Unit {0}
+AnswersOnly (export dir updates_only) before status = Unit {0}
 AnswersOnly (merge first second) before status = Unit {0}
 
 -- A run of the program: the words and what stands outside ask for an outcome, the sink is told it, and the status is its own.

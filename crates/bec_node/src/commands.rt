@@ -1,10 +1,5 @@
-//! The commands, each in a file of its own.
+//! The commands.
 
-pub mod apply;
 pub mod check;
 pub mod dump;
-pub mod export;
 pub mod heads;
-pub mod init;
-pub mod join;
-pub mod keygen;

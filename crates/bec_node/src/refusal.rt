@@ -1,14 +1,14 @@
 ghost use Rattle.std.specs.Prelude.{◌≡◌};
 ghost use Rattle.bec_node.specs.declared.refusal.Refusal.TheVariants.{Memory};
-ghost use Rattle.bec_node.specs.Outcome.{status_for, from_key, from_reading, from_schema, from_store, from_text};
+ghost use Rattle.bec_node.specs.Outcome.{status_for, from_reading, from_taking};
 
 use crate::status::{FULL, NO_COMMAND, OUT_OF_MEMORY, REFUSED, STORE, STORE_FAULT, STREAM_FAULT};
 use bec_bytes::ReadError;
-use schema::{Schema, SchemaError, SchemaFault};
+use confluence_test::SchemaRefusal;
+use schema::{Schema, SchemaFault};
 use std::alloc::AllocError;
-use store_directory::{KeyRefusal, StoreRefusal};
 use table_model::{Counterexample, Invariant};
-use txn_text::{TextError, TextFault};
+use txn_text::TextFault;
 use update_stream::RecordFault;
 
 /// Why a command is not done.
@@ -118,67 +118,22 @@ impl From<ReadError> for Refusal {
     }
 }
 
-impl From<SchemaError> for Refusal {
-    ghost from_gives = { λ error refusal. refusal ≡ from_schema error };
+impl From<SchemaRefusal> for Refusal {
+    ghost from_gives = { λ why refusal. refusal ≡ from_taking why };
 
-    fn from(error: SchemaError) -> Refusal {
-        match error {
-            SchemaError::Fault(fault) => Refusal::Schema(fault),
-            SchemaError::Memory => Refusal::Memory,
+    fn from(why: SchemaRefusal) -> Refusal {
+        match why {
+            SchemaRefusal::Schema(fault) => Refusal::Schema(fault),
+            SchemaRefusal::NotConfluent {
+                schema,
+                which,
+                example,
+            } => Refusal::NotConfluent {
+                schema,
+                which,
+                example,
+            },
+            SchemaRefusal::Memory => Refusal::Memory,
         }
-    }
-}
-
-impl From<StoreRefusal> for Refusal {
-    ghost from_gives = { λ refused refusal. refusal ≡ from_store refused };
-
-    fn from(refused: StoreRefusal) -> Refusal {
-        match refused {
-            StoreRefusal::NoStore => Refusal::NoStore,
-            StoreRefusal::BadStore => Refusal::BadStore,
-            StoreRefusal::DiskFault => Refusal::StoreFault,
-            StoreRefusal::Memory => Refusal::Memory,
-        }
-    }
-}
-
-impl From<KeyRefusal> for Refusal {
-    ghost from_gives = { λ refused refusal. refusal ≡ from_key refused };
-
-    fn from(refused: KeyRefusal) -> Refusal {
-        match refused {
-            KeyRefusal::NoKey => Refusal::NoKey,
-            KeyRefusal::BadKey => Refusal::BadKey,
-            KeyRefusal::DiskFault => Refusal::StoreFault,
-            KeyRefusal::Memory => Refusal::Memory,
-        }
-    }
-}
-
-impl From<TextError> for Refusal {
-    ghost from_gives = { λ error refusal. refusal ≡ from_text error };
-
-    fn from(error: TextError) -> Refusal {
-        match error {
-            TextError::Fault(fault) => Refusal::Transaction(fault),
-            TextError::Memory => Refusal::Memory,
-        }
-    }
-}
-
-/// Why no update was made by a key.
-pub fn made_refusal<D: Disk>(key: &KeyStore<D>, fault: MakeFault) -> Refusal
-    ensures { result ≡ from_make key.now.secret fault }
-{
-    match fault {
-        MakeFault::NotListed => Refusal::AuthorNotListed,
-        MakeFault::TooManyHeads(count) => Refusal::Heads(count),
-        MakeFault::Invalid { reason, operation } => Refusal::Invalid { reason, operation },
-        MakeFault::TooLong(_) => Refusal::UpdateTooLong,
-        MakeFault::Full => Refusal::Full,
-        MakeFault::Spent => Refusal::KeySpent(leaf_count_of(&key.public())),
-        MakeFault::Taken(_) => Refusal::IdTaken,
-        MakeFault::DiskFault(_) => Refusal::StoreFault,
-        MakeFault::Memory => Refusal::Memory,
     }
 }

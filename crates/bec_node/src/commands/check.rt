@@ -1,25 +1,23 @@
-ghost use Rattle.std.specs.Prelude.{◌≡◌, ◌≤◌, IfOk, IfErr};
-ghost use Rattle.bec_bytes.specs.Causes.{Rose};
-ghost use Rattle.bec_bytes.specs.declared.read_error.ReadError.TheVariants.{Failed as StreamFailed};
-ghost use Rattle.bec_node.specs.declared.command.Command.TheVariants.{Check};
+ghost use Rattle.std.specs.Prelude.{codes};
 ghost use Rattle.bec_node.specs.Outcome.{ComesTo};
-ghost use Rattle.bec_node.specs.Run.{HasFirstWord, Runs, outside};
-ghost use Rattle.bec_node.specs.Verdict.{CheckAnswer, ReadsText};
+ghost use Rattle.bec_node.specs.Outside.{outside};
+ghost use Rattle.bec_node.specs.Run.{HasFirstWord, Runs};
+ghost use Rattle.bec_node.specs.Verdict.{CheckAnswer};
 
-use crate::laws::one_answer;
-use crate::lines::no_command;
+use crate::program::run;
 use crate::refusal::Refusal;
-use crate::reply::finish;
-use crate::schema_text::take_schema;
-use bec_bytes::{ReadError, Sink, Source, read_full};
+use crate::text_input::read_text;
+use bec_bytes::{Sink, Source};
+use bec_disk::Shelf;
+use confluence_test::take_schema;
+use rand_core::Rng;
 use row_check::{Luhn, Native};
+use schema::MAX_SCHEMA_BYTES;
 use std::alloc::Global;
 
-/// How many bytes of a text are read at most: one more than a schema may have, which shows that it is too long.
-const READ_LIMIT: usize = 65_537;
-
-/// The command `check`: reads the text of a schema, and prints `confluent` where each invariant survives merging, or the line for its first fault, or the
-/// lines for the first invariant that does not survive, with a history that breaks it. The first word has to be `check`.
+/// The command `check`: reads the text of a schema, and prints `confluent` where each invariant survives merging, or the
+/// line for its first fault, or the lines for the first invariant that does not survive, with a history that breaks it. The
+/// first word has to be `check`.
 ///
 /// Its clause is that of [`run`](crate::run) for these words.
 pub fn command_check<H: Shelf, R: Rng, S: Source, K: Sink>(
@@ -30,8 +28,7 @@ pub fn command_check<H: Shelf, R: Rng, S: Source, K: Sink>(
     input: &mut S,
     out: &mut K,
 ) -> u8
-    requires first { HasFirstWord (codes "check") words.now }
-    requires home { IsTrue (H.state shelf.old).tells → IsHome (H.state shelf.old) }
+    requires { HasFirstWord (codes "check") words.now }
     ensures { Runs words.now
         (outside S.left S.faults H.state H.faults R.stream input.old shelf.old random.old) (outside S.left S.faults H.state H.faults R.stream input.new shelf.new random.new)
         (record { held = K.held out.old; faults = K.faults out.old }) (record { held = K.held out.new; faults = K.faults out.new }) result }
@@ -44,7 +41,7 @@ pub fn verdict<S: Source>(alloc: Global, input: &mut S) -> Result<Vec<u8>, Refus
     ensures { ComesTo CheckAnswer (S.left input.old) (S.left input.new) (S.faults input.old) (S.faults input.new) result }
 {
     let native: Native<Luhn, Luhn> = Native::new(Luhn);
-    let text = read_text(alloc, input)?;
+    let text = read_text(alloc, input, MAX_SCHEMA_BYTES)?;
     let _schema = take_schema(alloc, &text, &native)?;
     let verdict = Vec::from_slice(alloc, b"confluent\n")?;
     Ok(verdict)

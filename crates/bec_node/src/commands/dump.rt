@@ -1,21 +1,22 @@
-ghost use Rattle.bec_node.specs.declared.command.Command.TheVariants.{Dump};
+ghost use Rattle.std.specs.Prelude.{codes};
 ghost use Rattle.bec_node.specs.Bundle.{DumpAnswer};
 ghost use Rattle.bec_node.specs.Outcome.{ComesTo};
-ghost use Rattle.bec_node.specs.Run.{HasFirstWord, Runs, outside};
+ghost use Rattle.bec_node.specs.Outside.{outside};
+ghost use Rattle.bec_node.specs.Run.{HasFirstWord, Runs};
 
 use crate::bundle::bundle_schema;
 use crate::graph_tables::printed_tables;
-use crate::laws::one_answer;
-use crate::lines::no_command;
+use crate::program::run;
 use crate::refusal::Refusal;
-use crate::reply::finish;
-use crate::schema_text::take_schema;
 use crate::stream::read_graph;
 use bec_bytes::{Sink, Source};
+use bec_disk::Shelf;
+use confluence_test::take_schema;
+use rand_core::Rng;
 use row_check::{Luhn, Native};
 use std::alloc::Global;
 
-/// The command `dump [DIR]`: prints the tables of the bundle that it reads, or of the directory's store, each visible row on a line, and the updates that do
+/// The command `dump`: prints the tables of the bundle that it reads, each visible row on a line, and the updates that do
 /// nothing; or the line for what is refused. The first word has to be `dump`.
 ///
 /// Its clause is that of [`run`](crate::run) for these words.
@@ -27,8 +28,7 @@ pub fn command_dump<H: Shelf, R: Rng, S: Source, K: Sink>(
     input: &mut S,
     out: &mut K,
 ) -> u8
-    requires first { HasFirstWord (codes "dump") words.now }
-    requires home { IsTrue (H.state shelf.old).tells → IsHome (H.state shelf.old) }
+    requires { HasFirstWord (codes "dump") words.now }
     ensures { Runs words.now
         (outside S.left S.faults H.state H.faults R.stream input.old shelf.old random.old) (outside S.left S.faults H.state H.faults R.stream input.new shelf.new random.new)
         (record { held = K.held out.old; faults = K.faults out.old }) (record { held = K.held out.new; faults = K.faults out.new }) result }
@@ -47,22 +47,4 @@ pub fn bundle_tables<S: Source>(alloc: Global, input: &mut S) -> Result<Vec<u8>,
     let graph = read_graph(alloc, &rule, input)?;
     let text = printed_tables(alloc, &schema, &native, &graph)?;
     Ok(text)
-}
-
-/// The tables of the store of a directory, as they are printed.
-pub fn dump_in<H: Shelf>(alloc: Global, shelf: &mut H, dir: &str) -> Result<Vec<u8>, Refusal> {
-    let store = take_store(alloc, shelf, dir, Native::new(Luhn))?;
-    let text = replica_tables(alloc, &store.replica);
-    put_store(shelf, dir, store);
-    Ok(text?)
-}
-
-/// The tables of a store, as they are printed.
-fn replica_tables<D: Disk>(
-    alloc: Global,
-    replica: &Replica<D, Luhn, Luhn>,
-) -> Result<Vec<u8>, AllocError>
-    ensures { IfOk result (λ text. PrintsTables replica.now.history.schema replica.now.history.members text.items) }
-{
-    tables_text(alloc, replica.schema(), replica.tables())
 }

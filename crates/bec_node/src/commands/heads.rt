@@ -1,21 +1,21 @@
-ghost use Rattle.std.specs.Prelude.{◌≡◌, ◌++◌, IfOk, OnOk};
-ghost use Rattle.bec_node.specs.declared.command.Command.TheVariants.{Heads};
+ghost use Rattle.std.specs.Prelude.{◌≡◌, ◌++◌, IfOk, OnOk, codes};
 ghost use Rattle.bec_node.specs.Heads.{HeadsAnswer};
 ghost use Rattle.bec_node.specs.Outcome.{ComesTo};
-ghost use Rattle.bec_node.specs.Run.{HasFirstWord, Runs, outside};
+ghost use Rattle.bec_node.specs.Outside.{outside};
+ghost use Rattle.bec_node.specs.Run.{HasFirstWord, Runs};
 ghost use Rattle.bec_node.specs.Texts.{line_of, printed};
 
 use crate::heads::heads_of;
-use crate::laws::one_answer;
-use crate::lines::no_command;
+use crate::program::run;
 use crate::refusal::Refusal;
-use crate::reply::finish;
 use crate::stream::read_graph;
 use bec_bytes::{Sink, Source};
+use bec_disk::Shelf;
+use rand_core::Rng;
 use std::alloc::{AllocError, Global};
 use update_model::UpdateId;
 
-/// The command `heads [DIR]`: prints the ids of the heads of the update stream that it reads, or of the directory's store, rising, one per line in
+/// The command `heads`: prints the ids of the heads of the update stream that it reads, rising, one per line in
 /// lower-case hexadecimal; or the line for what is refused. The first word has to be `heads`.
 ///
 /// Its clause is that of [`run`](crate::run) for these words.
@@ -27,8 +27,7 @@ pub fn command_heads<H: Shelf, R: Rng, S: Source, K: Sink>(
     input: &mut S,
     out: &mut K,
 ) -> u8
-    requires first { HasFirstWord (codes "heads") words.now }
-    requires home { IsTrue (H.state shelf.old).tells → IsHome (H.state shelf.old) }
+    requires { HasFirstWord (codes "heads") words.now }
     ensures { Runs words.now
         (outside S.left S.faults H.state H.faults R.stream input.old shelf.old random.old) (outside S.left S.faults H.state H.faults R.stream input.new shelf.new random.new)
         (record { held = K.held out.old; faults = K.faults out.old }) (record { held = K.held out.new; faults = K.faults out.new }) result }
@@ -44,25 +43,6 @@ pub fn stream_heads<S: Source>(alloc: Global, input: &mut S) -> Result<Vec<u8>, 
     let heads = heads_of(alloc, &graph)?.list(alloc)?;
     let text = heads_text(alloc, &heads)?;
     Ok(text)
-}
-
-/// The heads of the store of a directory, as they are printed.
-pub fn heads_in<H: Shelf>(alloc: Global, shelf: &mut H, dir: &str) -> Result<Vec<u8>, Refusal> {
-    let store = take_store(alloc, shelf, dir, Native::new(Luhn))?;
-    let text = replica_heads(alloc, &store.replica);
-    put_store(shelf, dir, store);
-    Ok(text?)
-}
-
-/// The heads of a store, as they are printed.
-fn replica_heads<D: Disk>(
-    alloc: Global,
-    replica: &Replica<D, Luhn, Luhn>,
-) -> Result<Vec<u8>, AllocError>
-    ensures { IfOk result (λ text. (heads : List Id) × AreHeads (map entry_of replica.now.history.members) heads × (text.items ≡ printed heads)) }
-{
-    let heads = replica.heads(alloc)?;
-    heads_text(alloc, &heads)
 }
 
 /// The ids, one per line in lower-case hexadecimal.
