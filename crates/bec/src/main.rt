@@ -8,6 +8,7 @@ use std::alloc::AllocError;
 use std::env;
 use std::io::ErrorKind;
 use std::process::ExitCode;
+use std::random::RandomSource;
 
 fn main(rt: HostRuntime) -> ExitCode {
     let Ok(words) = words(&rt) else {
@@ -17,7 +18,11 @@ fn main(rt: HostRuntime) -> ExitCode {
     if rt.fill_bytes(&mut key).is_err() {
         return ExitCode::from(STREAM_FAULT);
     }
-    let (Ok(files), Ok(mut input)) = (rt.clone(), HostSource::new(rt.alloc(), rt.stdin())) else {
+    let files: Result<_, _> = rt.clone();
+    let Ok(files) = files else {
+        return ExitCode::from(OUT_OF_MEMORY);
+    };
+    let Ok(mut input) = HostSource::new(rt.alloc(), rt.stdin()) else {
         return ExitCode::from(OUT_OF_MEMORY);
     };
     let mut random = HashRng::new(key);

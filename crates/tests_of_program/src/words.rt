@@ -9,7 +9,14 @@ use std::test::Fail;
 #[test]
 fn words_that_are_no_command(rt: HostRuntime) -> Result<(), Fail> {
     let alloc = rt.alloc();
-    for line in ["", "check dump", "heads a b", "Heads", "merge a a", "keygen"] {
+    for line in [
+        "",
+        "check dump",
+        "heads a b",
+        "Heads",
+        "merge a a",
+        "keygen",
+    ] {
         assert!(rt;
             answers(
                 alloc,
