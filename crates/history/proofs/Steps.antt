@@ -73,7 +73,7 @@ views_taken ask schema members i bytes old new id preds closed at ids names are 
 -- ---- fewer
 
 -- the places of nodes behind newer ones stand in front
-behind : (place : UpdateId → Option ℕ) (newer older : List NodeData) → (more : List (List ℕ)) × (places_of place (newer ++ older) ≡ places_of place older ++ more)
+pub behind : (place : UpdateId → Option ℕ) (newer older : List NodeData) → (more : List (List ℕ)) × (places_of place (newer ++ older) ≡ places_of place older ++ more)
 unfolding places_of
 behind place [] older = ([], sym (append-nil (places_of place older)))
 behind place (n ∷ newer) older =
