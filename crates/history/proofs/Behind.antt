@@ -1,5 +1,5 @@
 -- What is new to whoever has some members, by positions and by ids.
-use Rattle.std.proofs.Common.{nat_lt, ◌≡◌, ◌⊎◌, inl, inr, ℕ, zero, suc, ◌+◌, ◌<◌, ◌≤◌, ◌==◌, Bool, true, false, cond, ◌||◌, List, [], ◌∷◌, ◌++◌, length, map, take, drop, refl, sym, ap, subst, ◌∙◌, arith, Contains, IsTrue, All, Option, Some, None, slice_get, get_or}
+use Rattle.std.proofs.Common.{nat_lt, ◌≡◌, inl, inr, ℕ, zero, suc, ◌<◌, ◌≤◌, ◌==◌, Bool, true, false, cond, ◌||◌, List, [], ◌∷◌, ◌++◌, length, map, take, refl, sym, ap, subst, ◌∙◌, arith, All, Option, Some, None, slice_get}
 use Rattle.std.specs.List.{cons_option, filter_map, list_any, AllByRecursion}
 use Rattle.std.specs.List.Sorted.{IsStrictlySortedBy}
 use Rattle.std.specs.Ordering.{nat_cmp}
@@ -11,7 +11,7 @@ use Rattle.std.proofs.lemmas.List.Elements.{All-cons, All-head, All-nil, All-tai
 use Rattle.std.proofs.lemmas.Option.{slice_get-get_or, slice_get_within}
 use Rattle.update_model.specs.declared.update_id.UpdateId.{UpdateId}
 use Rattle.update_model.specs.Entry.{Entry, same_id}
-use Rattle.update_model.specs.Graph.{has, position_of, IsAncestor, IsClosed}
+use Rattle.update_model.specs.Graph.{has, position_of, IsClosed}
 use Rattle.update_model.specs.Since.{AreSince, IsBehind, Picks}
 use Rattle.update_model.proofs.Ids.{id_from_same, same_id-refl}
 use Rattle.update_codec.specs.Parts.{entry_of}
