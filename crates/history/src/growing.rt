@@ -102,9 +102,7 @@ pub fn grow_by_one<L: Relation, C: Checks<L>>(
     ensures views { AreViewsOf L.answer schema.now graph.new (length graph.new) views.new }
 {
     let len = graph.len();
-    let Ok(Added::New(_)) = graph.add(update) else {
-        return Err(AllocError);
-    };
+    add_last(graph, update)?;
     graph.len();
     match views.take(alloc, schema, native, graph, len) {
         Ok(verdict) => Ok(verdict),
@@ -113,4 +111,17 @@ pub fn grow_by_one<L: Relation, C: Checks<L>>(
             Err(full)
         }
     }
+}
+
+/// Adds an update behind all others. After want of memory, or where it may not stand next, nothing has changed.
+fn add_last(graph: &mut Graph<Checked>, update: Checked) -> Result<(), AllocError>
+    ensures added { OnOk result (graph.new ≡ graph.old ++ update ∷ []) }
+    ensures same { OnErr result (graph.new ≡ graph.old) }
+{
+    match graph.add(update) {
+        Ok(Added::New(_)) => return Ok(()),
+        Ok(Added::Known(_)) => return Err(AllocError),
+        Err(_) => {}
+    }
+    Err(AllocError)
 }

@@ -6,10 +6,10 @@ use Rattle.history.proofs.Steps.{members_grown, same_history}
 use Rattle.history.proofs.history.History.add_batch.Goals as goal
 
 pub grow-requires-clause-unlimited : goal.grow-requires-clause-unlimited
-grow-requires-clause-unlimited g c = c.accepted_is_unlimited.ensures (rules_with g.L.Relation.answer c.self.inside.schema.tables) c.self.invariant.is.taken.accepted
+grow-requires-clause-unlimited g c κs within = c.accepted_is_unlimited.ensures (rules_with g.L.Relation.answer c.self.inside.schema.tables) c.self.invariant.is.taken.accepted
 
 pub grow-requires-clause-views : goal.grow-requires-clause-views
-grow-requires-clause-views g c = c.self.invariant.are
+grow-requires-clause-views g c κs within = c.self.invariant.are
 
 pub invariant_of-self : goal.invariant_of-self
 invariant_of-self g c =

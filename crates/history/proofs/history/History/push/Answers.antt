@@ -6,10 +6,10 @@ use Rattle.history.proofs.Steps.{members_pushed, pushed_history, same_history, v
 use Rattle.history.proofs.history.History.push.Goals as goal
 
 pub grow_by_one-requires-clause-unlimited : goal.grow_by_one-requires-clause-unlimited
-grow_by_one-requires-clause-unlimited g c = c.accepted_is_unlimited.ensures (rules_with g.L.Relation.answer c.self.inside.schema.tables) c.self.invariant.is.taken.accepted
+grow_by_one-requires-clause-unlimited g c κs within = c.accepted_is_unlimited.ensures (rules_with g.L.Relation.answer c.self.inside.schema.tables) c.self.invariant.is.taken.accepted
 
 pub grow_by_one-requires-clause-views : goal.grow_by_one-requires-clause-views
-grow_by_one-requires-clause-views g c = c.self.invariant.are
+grow_by_one-requires-clause-views g c κs within = c.self.invariant.are
 
 pub invariant_of-self : goal.invariant_of-self
 invariant_of-self g c =
