@@ -17,3 +17,9 @@ pub record DeclaresStore (ask : Meaning) (part : List ℕ) (node : List ℕ) (sc
 pub record DeclaresNone (ask : Meaning) (part : List ℕ) : Type 0 where
   pub there : gated_of part ≢ Absent
   pub none : (node : List ℕ) (schema : SchemaData) → DeclaresStore ask part node schema → ⊥
+
+-- A payload is the id of a node, of 32 bytes, and the text of this schema.
+pub record DeclaresBoth (ask : Meaning) (payload : List ℕ) (node : List ℕ) (schema : SchemaData) : Type 0 where
+  pub payload_is : payload ≡ node ++ schema.text
+  pub size : length node ≡ 32
+  pub taken : TakesSchema ask schema.text schema

@@ -41,4 +41,4 @@ KeyAfter old (Err Memory) new = (new ≡ old) ⊎ SignsAtLeast old new
 abbrev pub KeyAfterJoin : KeyState → Result (Option UpdateId) MakeFault → KeyState → Type 0
 KeyAfterJoin old (Ok None) new = new ≡ old
 KeyAfterJoin old (Ok (Some id)) new = SignsAtLeast old new
-KeyAfterJoin old (Err why) new = KeyAfter {UpdateId} old (Err why) new
+KeyAfterJoin old (Err why) new = KeyAfter {T = UpdateId} old (Err why) new
