@@ -1,5 +1,5 @@
 -- Creating a store.
-use Rattle.std.proofs.Common.{◌≡◌, ◌⊎◌, inl, inr, ℕ, ◌+◌, ◌<◌, ◌≤◌, true, List, [], ◌∷◌, ◌++◌, length, take, drop, map, All, refl, sym, ap, subst, ◌∙◌, IsTrue, arith}
+use Rattle.std.proofs.Common.{◌≡◌, ◌⊎◌, inl, inr, ⊎_elim, ℕ, ◌+◌, ◌<◌, ◌≤◌, true, List, [], ◌∷◌, ◌++◌, length, take, drop, map, All, refl, sym, ap, subst, ◌∙◌, IsTrue, arith}
 use Rattle.bec_bytes.specs.Framed.{stream_of}
 use Rattle.bec_disk.specs.Disk.{DiskState, IsSameDisk, IsSettled, LeavesOnly}
 use Rattle.bec_disk.specs.Gated.{IsOldOrNew}
@@ -9,7 +9,15 @@ use Rattle.update_model.specs.Rule.{RuleData}
 use Rattle.update_check.specs.Members.{AreMembers}
 use Rattle.update_log.specs.Log.{IsClean}
 use Rattle.update_log.specs.Logset.{IsLogset}
-use Rattle.replica.specs.Opening.{Creating}
+use Rattle.schema.specs.Schemas.{Meaning}
+use Rattle.confluence_test.specs.Taking.{RefusesSchema}
+use Rattle.confluence_test.specs.declared.refusal.SchemaRefusal.{SchemaRefusal}
+use Rattle.confluence_test.specs.declared.refusal.SchemaRefusal.TheVariants.{Memory, NotConfluent, Schema}
+use Rattle.bec_disk.specs.Gated.{gated_of}
+use Rattle.bec_disk.specs.declared.gated.Gated.TheVariants.{Absent}
+use Rattle.replica.specs.Opening.{Creating, IsCreateCause, IsTextCause, refusal_kind}
+use Rattle.replica.specs.declared.create_fault.CreateKind.{CreateKind}
+use Rattle.replica.specs.declared.create_fault.CreateKind.TheVariants as creating
 
 -- the part Schema is left alone
 pub creating_untouched : (schema schema_new updates updates_new : DiskState) (payload : List ℕ) → (IsTrue schema.tells → IsSettled schema) → schema_new ≡ schema → IsSameDisk updates updates_new
@@ -41,9 +49,27 @@ no_members rule = record { checked = λ k d few. absurd (omega arith); closed = 
 pub empty_logset : (rule : RuleData) (bytes : List ℕ) (members : List (List ℕ))
     → ((rule : RuleData) (bytes : List ℕ) (members others : List (List ℕ)) → IsLogset rule bytes members → IsLogset rule bytes others → members ≡ others)
     → ((rule : RuleData) (members : List (List ℕ)) → AreMembers rule members → IsLogset rule (stream_of members) members) → bytes ≡ [] → IsLogset rule bytes members → members ≡ []
+unfolding stream_of
 empty_logset rule bytes members one whole none is =
     one rule [] members [] (subst (λ (l : List ℕ). IsLogset rule l members) none is) (whole rule [] (no_members rule))
 
 pub no_bytes : (xs : List ℕ) → length xs ≤ 0 → xs ≡ []
 no_bytes [] e = refl
 no_bytes (x ∷ xs) e = absurd (omega arith)
+
+memory_only : (ask : Meaning) (text : List ℕ) (refusal : SchemaRefusal) → (refusal ≡ Memory → ⊥) → (RefusesSchema ask text refusal ⊎ (refusal ≡ Memory)) → RefusesSchema ask text refusal
+memory_only ask text refusal other why = ⊎_elim (λ refused. refused) (λ memory. absurd (other memory)) why
+
+-- a text that is refused is why
+pub text_refused : (ask : Meaning) (text : List ℕ) (refusal : SchemaRefusal) → (RefusesSchema ask text refusal ⊎ (refusal ≡ Memory)) → IsTextCause ask text (refusal_kind refusal)
+text_refused ask text (Schema fault) why = memory_only ask text (Schema fault) (λ e. cc) why
+text_refused ask text (NotConfluent schema which example) why = memory_only ask text (NotConfluent schema which example) (λ e. cc) why
+text_refused ask text Memory why = tt
+
+-- where the part is absent, the text is why
+pub text_cause : (ask : Meaning) (part : DiskState) (text : List ℕ) (why : CreateKind) → (IsTrue part.tells → gated_of part.seen ≡ Absent) → IsTextCause ask text why → IsCreateCause ask part text why
+text_cause ask part text creating.NotEmpty absent cause = absurd cause
+text_cause ask part text (creating.BadSchema fault) absent cause = (absent, cause)
+text_cause ask part text (creating.NotConfluent declared which example) absent cause = (absent, cause)
+text_cause ask part text creating.DiskFault absent cause = absurd cause
+text_cause ask part text creating.Memory absent cause = tt

@@ -7,6 +7,7 @@ use Rattle.bec_disk.specs.declared.gated.Gated.TheVariants.{Absent}
 use Rattle.bec_disk.specs.declared.disk_error.DiskError.{DiskError}
 use Rattle.bec_disk.specs.declared.disk_error.DiskError.TheVariants as disk_errors
 use Rattle.confluence_test.specs.Taking.{RefusesSchema, TakesSchema}
+use Rattle.confluence_test.specs.declared.refusal.SchemaRefusal.{SchemaRefusal}
 use Rattle.confluence_test.specs.declared.refusal.SchemaRefusal.TheVariants as refusals
 use Rattle.schema.specs.Schemas.{Meaning, SchemaData}
 use Rattle.update_log.specs.Log.{IsClean}
@@ -81,6 +82,12 @@ creating_kind opening.DiskFault = creating.DiskFault
 creating_kind opening.NoStore = creating.Memory
 creating_kind opening.BadSchema = creating.Memory
 creating_kind opening.Memory = creating.Memory
+
+-- what a refusal of a text is here
+abbrev pub refusal_kind : SchemaRefusal → CreateKind
+refusal_kind (refusals.Schema fault) = creating.BadSchema fault
+refusal_kind (refusals.NotConfluent declared which example) = creating.NotConfluent declared which example
+refusal_kind refusals.Memory = creating.Memory
 
 -- why a text is no store's
 abbrev pub IsTextCause : Meaning → List ℕ → CreateKind → Type 0

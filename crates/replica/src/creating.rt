@@ -6,7 +6,7 @@ ghost use Rattle.bec_disk.specs.Disk.{IsSameDisk, IsSettled};
 ghost use Rattle.bec_disk.specs.Gated.{gated_of};
 ghost use Rattle.confluence_test.specs.Taking.{TakesSchema};
 ghost use Rattle.update_log.specs.Log.{IsClean};
-ghost use Rattle.replica.specs.Opening.{Creating, IsCreateCause, IsCreated, IsTextCause, WritesNothing, creating_kind};
+ghost use Rattle.replica.specs.Opening.{Creating, IsCreateCause, IsCreated, IsTextCause, WritesNothing, creating_kind, refusal_kind};
 ghost use Rattle.replica.specs.declared.create_fault.CreateKind.TheVariants.{DiskFault as DiskFailed};
 
 use crate::create_fault::{CreateFault, CreateKind};
@@ -106,12 +106,11 @@ fn plan_store<D: Disk, L: Relation, C: Checks<L>>(
     ensures failed { IfErr result (λ why. why ≡ DiskFailed → Rose (D.faults part.old) (D.faults part.new)) }
 {
     match read_gated(alloc, part) {
-        Ok(Gated::Absent) => {}
-        Ok(_) => return Err(CreateKind::NotEmpty),
-        Err(DiskError::DiskFault) => return Err(CreateKind::DiskFault),
-        Err(DiskError::Memory) => return Err(CreateKind::Memory),
+        Ok(Gated::Absent) => plan_for(alloc, node, text, native),
+        Ok(_) => Err(CreateKind::NotEmpty),
+        Err(DiskError::DiskFault) => Err(CreateKind::DiskFault),
+        Err(DiskError::Memory) => Err(CreateKind::Memory),
     }
-    plan_for(alloc, node, text, native)
 }
 
 /// What a store of this text is to be.
@@ -128,19 +127,7 @@ fn plan_for<L: Relation, C: Checks<L>>(
 {
     let schema = match take_schema(alloc, text, native) {
         Ok(schema) => schema,
-        Err(SchemaRefusal::Schema(fault)) => return Err(CreateKind::BadSchema(fault)),
-        Err(SchemaRefusal::NotConfluent {
-            schema,
-            which,
-            example,
-        }) => {
-            return Err(CreateKind::NotConfluent {
-                schema,
-                which,
-                example,
-            });
-        }
-        Err(SchemaRefusal::Memory) => return Err(CreateKind::Memory),
+        Err(refusal) => return Err(kind_of_refusal(refusal)),
     };
     match payload_of(alloc, &node, text) {
         Ok(payload) => Ok(Plan {
@@ -204,5 +191,24 @@ fn kind_of(why: OpenKind) -> CreateKind
     match why {
         OpenKind::DiskFault => CreateKind::DiskFault,
         _ => CreateKind::Memory,
+    }
+}
+
+/// What a refusal of a text is here.
+fn kind_of_refusal(refusal: SchemaRefusal) -> CreateKind
+    ensures { result ≡ refusal_kind refusal }
+{
+    match refusal {
+        SchemaRefusal::Schema(fault) => CreateKind::BadSchema(fault),
+        SchemaRefusal::NotConfluent {
+            schema,
+            which,
+            example,
+        } => CreateKind::NotConfluent {
+            schema,
+            which,
+            example,
+        },
+        SchemaRefusal::Memory => CreateKind::Memory,
     }
 }

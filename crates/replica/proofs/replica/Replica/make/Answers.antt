@@ -8,5 +8,5 @@ use Rattle.replica.proofs.replica.Replica.make.Goals as goal
 
 pub returns-clause-any_moment : goal.returns-clause-any_moment
 returns-clause-any_moment g c =
-    subst (λ (r : ReplicaState). LeavesOnly r.log.disk c.self.inside.log.disk (BeginsWith (stream_of r.history.members))) c.self.view_is
+    subst (λ (r : ReplicaState). LeavesOnly r.log.disk r.log.disk (BeginsWith (stream_of r.history.members))) c.self.view_is
     (log_stays c.self.inside.history.members c.self.inside.log c.self.invariant.log c.is_unsure.ensures.kept)
