@@ -1,6 +1,6 @@
 //! Adding updates that came from elsewhere.
 
-ghost use Rattle.std.specs.Prelude.{◌≡◌, ◌≤◌, ℕ, List, All, IsTrue, IfOk, OnOk, OnErr, IsErrOf, drop, length, map, take};
+ghost use Rattle.std.specs.Prelude.{◌≡◌, ◌≤◌, ℕ, List, All, IsTrue, IfOk, OnOk, OnErr, IsErrOf, drop, false, length, map, take};
 ghost use Rattle.bec_bytes.specs.Causes.{HasCause, Rose};
 ghost use Rattle.bec_bytes.specs.Framed.{stream_of};
 ghost use Rattle.bec_disk.specs.Disk.{LeavesOnly};
@@ -39,12 +39,14 @@ impl<D: Disk, L: Relation, C: Checks<L>> Replica<D, L, C> {
         ensures any_moment { LeavesOnly self.old.log.disk self.new.log.disk (BeginsWith (stream_of self.old.history.members)) }
         ensures later { self.old.log.faults ≤ self.new.log.faults }
     {
+        self.log.is_unsure(); // what is acknowledged stands in front
         let len = self.history.len();
         let waiting = match self.history.add_batch(alloc, batch) {
             Ok(waiting) => waiting,
             Err(AddFault::Full) => return Err(CommitFault::Full),
             Err(AddFault::Memory) => return Err(CommitFault::Memory),
         };
+        self.history.len(); // what was added is within the limits
         match write_tail(alloc, &mut self.log, &self.history, len) {
             Ok(added) => Ok(Committed {
                 added,
@@ -77,6 +79,7 @@ pub fn write_tail<D: Disk, L: Relation, C: Checks<L>>(
     ensures failed { IsErrOf result CommitFault.DiskFault → Rose log.old.faults log.new.faults }
     ensures fits { IsErrOf result CommitFault.Full → ⊥ }
 {
+    log.is_unsure(); // what is acknowledged stands in front
     let Ok(ids) = ids_of(alloc, history.tail(from)) else {
         return Err(CommitFault::Memory);
     };
@@ -101,9 +104,7 @@ fn settle_and_append<D: Disk, L: Relation, C: Checks<L>>(
     ensures cause { HasCause log.old.faults log.new.faults result }
 {
     settle(log)?;
-    if from == history.len() {
-        return Ok(());
-    }
+    history.len(); // what holds of every history
     log.append(history.tail(from))
 }
 

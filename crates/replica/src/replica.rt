@@ -39,15 +39,19 @@ use update_model::{OpList, UpdateId};
 /// heads, ancestors and tables are those of this list, and that a crash at this moment leaves a log that begins with it.
 #[derive(Drop)]
 pub struct Replica<D: Disk, L: Relation, C: Checks<L>> {
-    node: [u8; 32],
-    history: History<L, C>,
-    log: Log<D>,
+    pub(crate) node: [u8; 32],
+    pub(crate) history: History<L, C>,
+    pub(crate) log: Log<D>,
 }
 
 impl<D: Disk, L: Relation, C: Checks<L>> Model for Replica<D, L, C> {
+    ghost use Rattle.schema.specs.Checks.{coded_tree};
+    ghost use Rattle.std.specs.Coded.{codes};
     ghost use Rattle.replica.specs.Replicas.{IsReplica, ReplicaState};
 
     ghost Value = { ReplicaState };
+
+    ghost coded = { Prim.hlevel (codes, coded_tree) };
 
     ghost view = { λ r. record { node = r.node; history = r.history; log = r.log } };
 
