@@ -1,1 +1,4 @@
 pub mod Handing
+pub mod Places
+pub mod Putting
+pub mod TakingKeys

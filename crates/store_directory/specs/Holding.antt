@@ -34,7 +34,7 @@ pub record TakesStore (ask : Meaning) (before : ShelfState) (dir : List ℕ) (op
 pub record LetsGo (ask : Meaning) (before : ShelfState) (dir : List ℕ) (after : ShelfState) : Type 0 where
   pub tells : after.tells ≡ before.tells
   pub run : IsTrue before.tells → StoreRun ask before after dir [] false
-  pub others : KeepsAllBut (Schema ∷ Updates ∷ []) dir before after
+  pub others : IsTrue before.tells → KeepsAllBut (Schema ∷ Updates ∷ []) dir before after
   pub home : IsTrue before.tells → IsHome before → IsHome after
 
 -- Why no store was taken of two parts, by what they read as.
@@ -64,11 +64,11 @@ pub record LetsUpdatesGo (ask : Meaning) (before : ShelfState) (dir : List ℕ) 
   pub list : IsTrue before.tells → IsTrue schema.tells → (store : StoreData) → ReadsAs ask (Some schema.seen) (reading (part_in before dir Updates)) store
       → KeepsList store [] (part_in before dir Updates) (part_in after dir Updates)
   pub in_place : IsTrue before.tells → part_in after dir Updates ≢ out
-  pub others : KeepsOthers before (slot dir Updates) after
+  pub others : IsTrue before.tells → KeepsOthers before (slot dir Updates) after
 
 -- Both parts stand in their places again, as these disks.
 pub record PutsStore (before : ShelfState) (dir : List ℕ) (schema updates : DiskState) (after : ShelfState) : Type 0 where
   pub tells : after.tells ≡ before.tells
   pub schema_back : IsTrue before.tells → part_in after dir Schema ≡ stands schema
   pub updates_back : IsTrue before.tells → part_in after dir Updates ≡ stands updates
-  pub others : KeepsAllBut (Schema ∷ Updates ∷ []) dir before after
+  pub others : IsTrue before.tells → KeepsAllBut (Schema ∷ Updates ∷ []) dir before after

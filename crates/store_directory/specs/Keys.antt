@@ -50,7 +50,7 @@ pub record LetsKeyGo (before : ShelfState) (dir : List ℕ) (after : ShelfState)
   pub tells : after.tells ≡ before.tells
   pub key_part : IsTrue before.tells → IsUntouched (part_in before dir Key) (part_in after dir Key)
   pub used_part : IsTrue before.tells → IsUntouched (part_in before dir Used) (part_in after dir Used)
-  pub others : KeepsAllBut (Key ∷ Used ∷ []) dir before after
+  pub others : IsTrue before.tells → KeepsAllBut (Key ∷ Used ∷ []) dir before after
 
 -- Why no key was taken of two parts, by what they read as.
 abbrev pub IsKeyRefusalCause : Option (List ℕ) → Option (List ℕ) → KeyRefusal → Type 0
@@ -68,7 +68,7 @@ pub record PutsKey (before : ShelfState) (dir : List ℕ) (parts : KeyParts) (af
   pub tells : after.tells ≡ before.tells
   pub key_back : IsTrue before.tells → part_in after dir Key ≡ stands parts.key
   pub used_back : IsTrue before.tells → part_in after dir Used ≡ stands parts.used
-  pub others : KeepsAllBut (Key ∷ Used ∷ []) dir before after
+  pub others : IsTrue before.tells → KeepsAllBut (Key ∷ Used ∷ []) dir before after
 
 -- What a run that tries at most one index does to the part Used: it reads as before, or the byte of one index alone was written; and an index
 -- that each crash left used stays so at each moment.
