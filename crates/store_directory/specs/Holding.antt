@@ -1,10 +1,14 @@
 -- A store that is taken from a shelf, and put back.
-use Rattle.std.specs.Prelude.{◌≡◌, ◌≢◌, ℕ, List, [], ◌∷◌, false, IsTrue, Option, Some}
-use Rattle.bec_disk.specs.Disk.{DiskState, handed_out}
+use Rattle.std.specs.Prelude.{◌≡◌, ◌≢◌, ℕ, Bool, true, false, List, [], ◌∷◌, ◌++◌, IsTrue, Option, Some}
+use Rattle.bec_bytes.specs.Framed.{stream_of}
+use Rattle.bec_disk.specs.Disk.{DiskState, EveryImage, LeavesOnly, handed_out}
 use Rattle.bec_disk.specs.declared.part.Part.TheVariants.{Schema, Updates}
 use Rattle.bec_disk.specs.Shelf.{KeepsOthers, ShelfState, out, stands}
 use Rattle.bec_disk.specs.Slot.{slot}
 use Rattle.schema.specs.Schemas.{Meaning}
+use Rattle.update_check.specs.Members.{AreMembers}
+use Rattle.update_log.specs.Log.{IsClean, IsLogOf}
+use Rattle.update_log.specs.Logset.{BeginsWith}
 use Rattle.replica.specs.Opening.{IsOpened, KeepsStore}
 use Rattle.replica.specs.Replicas.{ReplicaState}
 use Rattle.store_directory.specs.declared.store_refusal.StoreRefusal.{StoreRefusal}
@@ -29,6 +33,17 @@ pub record TakesStore (ask : Meaning) (before : ShelfState) (dir : List ℕ) (op
   pub schema_out : IsTrue before.tells → part_in after dir Schema ≡ out
   pub updates_out : IsTrue before.tells → part_in after dir Updates ≡ out
   pub others : KeepsAllBut (Schema ∷ Updates ∷ []) dir before after
+
+-- What calls on a store that was taken have done by now: these updates were added behind its list, which a crash at each moment of them left in
+-- front, and one now leaves with them. Where they are done, the log has nothing else.
+pub record WorksOn (taken : OpenData) (now : ReplicaState) (added : List (List ℕ)) (is_done : Bool) : Type 0 where
+  pub schema : now.history.schema ≡ taken.replica.history.schema
+  pub members : now.history.members ≡ taken.replica.history.members ++ added
+  pub closed : AreMembers now.history.schema.rule now.history.members
+  pub any_moment : LeavesOnly taken.replica.log.disk now.log.disk (BeginsWith (stream_of taken.replica.history.members))
+  pub on_disk : IsTrue now.log.disk.tells → EveryImage now.log.disk.now (BeginsWith (stream_of now.history.members))
+  pub log : is_done ≡ true → IsLogOf now.history.members now.log
+  pub clean : is_done ≡ true → IsTrue now.log.disk.tells → IsClean now.log.end now.log.disk
 
 -- No store was taken: every part is in its place, and what the directory had is kept.
 pub record LetsGo (ask : Meaning) (before : ShelfState) (dir : List ℕ) (after : ShelfState) : Type 0 where

@@ -1,6 +1,6 @@
 -- The key of a directory, as it is taken from a shelf and put back.
 use Rattle.std.specs.Prelude.{◌≡◌, ◌≢◌, ◌⊎◌, ℕ, ◌+◌, List, [], ◌∷◌, IsTrue, Option, Some, None}
-use Rattle.bec_disk.specs.Disk.{DiskState, EveryImage, LeavesSince, handed_out}
+use Rattle.bec_disk.specs.Disk.{DiskState, EveryImage, LeavesOnly, LeavesSince, handed_out}
 use Rattle.bec_disk.specs.Images.{IsTorn}
 use Rattle.bec_disk.specs.Gated.{gated_of}
 use Rattle.bec_disk.specs.declared.gated.Gated.TheVariants.{Absent}
@@ -9,6 +9,7 @@ use Rattle.bec_disk.specs.Shelf.{PartState, ShelfState, moments_of, out, stands}
 use Rattle.bec_disk.specs.Slot.{slot}
 use Rattle.key_index.specs.KeyState.{KeyParts, KeyState}
 use Rattle.key_index.specs.Opening.{AreOfKey, AreOfNoKey}
+use Rattle.key_index.specs.Reserving.{Tries}
 use Rattle.key_index.specs.Used.{IsUsed, used_in}
 use Rattle.lms_tree.specs.SecretKey.{SecretData}
 use Rattle.store_directory.specs.declared.key_refusal.KeyRefusal.{KeyRefusal}
@@ -71,7 +72,14 @@ pub record PutsKey (before : ShelfState) (dir : List ℕ) (parts : KeyParts) (af
   pub others : IsTrue before.tells → KeepsAllBut (Key ∷ Used ∷ []) dir before after
 
 -- What a run that tries at most one index does to the part Used: it reads as before, or the byte of one index alone was written; and an index
--- that each crash left used stays so at each moment.
+-- that reads as used stays so, whatever a crash leaves at each moment.
 pub record KeepsUsed (old new : PartState) : Type 0 where
   pub reads : IsUntouched old new ⊎ IfStands old (λ before. IfStands new (λ after. (index : ℕ) × IsTorn index (index + 1) before.seen after.seen))
-  pub used : (index : ℕ) → IfStands old (λ before. EveryImage before.now (IsUsed index)) → LeavesSince (moments_of old) (moments_of new) (IsUsed index)
+  pub used : (index : ℕ) → IfStands old (λ before. IsUsed index before.seen)
+      → LeavesSince (moments_of old) (moments_of new) (IsUsed index) × IfStands new (λ after. IsUsed index after.seen)
+
+-- What calls that sign at most once have done to a key that was taken: nothing, or one index was tried. An index that each crash left used
+-- stays so at each moment.
+pub record WorksWith (taken now : KeyState) : Type 0 where
+  pub tried : (now ≡ taken) ⊎ ((index : ℕ) × Tries taken index now)
+  pub used : (index : ℕ) → (IsTrue taken.parts.used.tells → EveryImage taken.parts.used.now (IsUsed index)) → LeavesOnly taken.parts.used now.parts.used (IsUsed index)

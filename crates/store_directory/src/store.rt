@@ -20,7 +20,7 @@ use std::marker::Model;
 #[derive(Drop)]
 pub struct OpenStore<D: Disk, L: Relation, C: Checks<L>> {
     /// The disk of the part Schema.
-    schema: D,
+    pub(crate) schema: D,
     /// The store.
     pub replica: Replica<D, L, C>,
 }

@@ -10,7 +10,7 @@ pub put_back-requires-2 : goal.put_back-requires-2
 put_back-requires-2 g c tells =
     let before = g.H.Shelf.state c.args.shelf.now in
     let mid = g.H.Shelf.state c.put_back.new.self in
-    let t = told mid.tells before.tells (sym c.put_back.ensures.tells) tells in
+    let t = told mid.tells before.tells (sym {a = mid.tells} {b = before.tells} c.put_back.ensures.tells) tells in
     let of_used = ap (λ (p : KeyParts). p.used.slot) c.into_disks-key.ensures ∙ (c.requires.used_of t).0 in
     (
       slot c.args.dir.now Key,
