@@ -5,6 +5,12 @@ use Rattle.std.specs.Io.KnownBytes.{Appends}
 use Rattle.bec_bytes.specs.Causes.{Rose}
 use Rattle.confluence_test.specs.declared.refusal.SchemaRefusal.{SchemaRefusal}
 use Rattle.confluence_test.specs.declared.refusal.SchemaRefusal.TheVariants as taking
+use Rattle.bec_disk.specs.declared.disk_error.DiskError.{DiskError}
+use Rattle.bec_disk.specs.declared.disk_error.DiskError.TheVariants as disk_errors
+use Rattle.key_index.specs.declared.faults.CreateKeyKind.{CreateKeyKind}
+use Rattle.key_index.specs.declared.faults.CreateKeyKind.TheVariants as key_kinds
+use Rattle.replica.specs.declared.create_fault.CreateKind.{CreateKind}
+use Rattle.replica.specs.declared.create_fault.CreateKind.TheVariants as create_kinds
 use Rattle.bec_bytes.specs.declared.read_error.ReadError.{ReadError}
 use Rattle.bec_bytes.specs.declared.read_error.ReadError.TheVariants as read_errors
 use Rattle.update_stream.specs.declared.record_fault.RecordFault.TheVariants.{Check, Lacks, Full}
@@ -97,6 +103,22 @@ from_store store_refusals.NoStore = NoStore
 from_store store_refusals.BadStore = BadStore
 from_store store_refusals.DiskFault = StoreFault
 from_store store_refusals.Memory = Memory
+
+abbrev pub from_disk : DiskError → Refusal
+from_disk disk_errors.DiskFault = StoreFault
+from_disk disk_errors.Memory = Memory
+
+abbrev pub from_create : CreateKind → Refusal
+from_create create_kinds.NotEmpty = StoreThere
+from_create (create_kinds.BadSchema fault) = Schema fault
+from_create (create_kinds.NotConfluent schema which example) = NotConfluent schema which example
+from_create create_kinds.DiskFault = StoreFault
+from_create create_kinds.Memory = Memory
+
+abbrev pub from_create_key : CreateKeyKind → Refusal
+from_create_key key_kinds.KeyThere = KeyThere
+from_create_key key_kinds.DiskFault = StoreFault
+from_create_key key_kinds.Memory = Memory
 
 abbrev pub from_taking : SchemaRefusal → Refusal
 from_taking (taking.Schema fault) = Schema fault
