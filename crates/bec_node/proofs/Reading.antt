@@ -1,6 +1,15 @@
 -- Commands that only read the store of a directory.
-use Rattle.std.proofs.Common.{◌≡◌, ◌≢◌, inl, inr, ℕ, ◌<◌, ◌^◌, true, false, List, [], ◌∷◌, ◌++◌, append-nil, length, refl, sym, ap, subst, ◌∙◌, map, IsTrue, Option, Some, None, Ok, Err, Vec, Result, IfOk, All, arith}
+use Rattle.std.proofs.Common.{◌≡◌, ◌≢◌, ◌⊎◌, inl, inr, ℕ, ◌<◌, ◌^◌, Bool, true, false, List, [], ◌∷◌, ◌++◌, append-nil, length, refl, sym, ap, subst, ◌∙◌, map, IsTrue, Option, Some, None, Ok, Err, Vec, Result, IfOk, All, arith}
 use Rattle.std.specs.declared.alloc.Global.{Global}
+use Rattle.std.proofs.Common.{◌≤◌, ◌+◌, add-one, append_assoc, get_or, slice_get, suc, take}
+use Rattle.std.proofs.lemmas.List.Elements.{All-get_or}
+use Rattle.std.proofs.lemmas.Option.{slice_get_cases}
+use Rattle.bec_bytes.specs.Framed.{framed}
+use Rattle.bec_bytes.proofs.Frames.{stream_of-push}
+use Rattle.replay.proofs.Arriving.{take_next}
+use Rattle.update_check.specs.Members.{AreMembers}
+use Rattle.update_check.specs.Signed.{IsChecked}
+use Rattle.update_model.specs.Rule.{RuleData}
 use Rattle.row_check.specs.Checksum.{is_luhn}
 use Rattle.bec_bytes.specs.Causes.{Rose}
 use Rattle.bec_bytes.specs.Framed.{stream_of}
@@ -51,8 +60,8 @@ module _ (Shows : StoreData → List ℕ → Type 0) (dir : List ℕ) (before af
 
   -- where one was taken, read and put back
   module _ (one : OneSchema) (opened : ShelfState) (taken : OpenData) (home : IsTrue before.tells → IsHome before) (takes : TakesStore is_luhn before dir taken opened)
-    (puts : PutsStore opened dir taken.schema taken.replica.log.disk after) (stands : Stands taken.replica) where
-    works : (done : _) → IsTrue before.tells → WorksOn taken taken.replica [] done
+      (puts : PutsStore opened dir taken.schema taken.replica.log.disk after) (stands : Stands taken.replica) where
+    works : (done : Bool) → IsTrue before.tells → WorksOn taken taken.replica [] done
     works done tells =
         let members = taken.replica.history.members in record {
           schema = refl;
@@ -67,7 +76,7 @@ module _ (Shows : StoreData → List ℕ → Type 0) (dir : List ℕ) (before af
     opened_tells : IsTrue before.tells → IsTrue opened.tells
     opened_tells tells = told before.tells opened.tells takes.tells tells
 
-    runs : (done : _) → IsTrue before.tells → StoreRun is_luhn before after dir [] done
+    runs : (done : Bool) → IsTrue before.tells → StoreRun is_luhn before after dir [] done
     runs done tells = worked_run one is_luhn before opened opened after dir taken taken.replica [] done tells (opened_tells tells) takes (works done tells) puts
 
     others : IsTrue before.tells → KeepsAllBut (Schema ∷ Updates ∷ []) dir before after
@@ -105,6 +114,29 @@ read_without_memory Shows dir before after old new refusal runs = record {
   home = runs.home;
 }
   where
-    none : _ → IsTrue before.tells → runs.added ≡ []
+    none : (IsTrue before.tells → ReadsStore Shows (readings before dir) runs.added (Err refusal)) ⊎ (IsShelfFault old new (Err refusal) × (runs.added ≡ [])) → IsTrue before.tells → runs.added ≡ []
     none (inl answers) tells = none_of_refused Shows dir before runs.added refusal (answers tells)
     none (inr fault) tells = fault.1
+
+-- ---- records
+
+-- each update of a store is short
+pub member_short : (rule : RuleData) (members : List (List ℕ)) (i : ℕ) (bytes : List ℕ) → AreMembers rule members → slice_get members i ≡ Some bytes → length bytes < 2 ^ 32
+member_short rule members i bytes are at =
+    let is = (slice_get_cases members i).1 in
+    by is
+  where
+    by : ((x : List ℕ) × (i < length members) × (slice_get members i ≡ Some x) × (get_or members i x ≡ x)) ⊎ ((length members ≤ i) × (slice_get members i ≡ None)) → length bytes < 2 ^ 32
+    by (inl there) =
+        let same : there.0 ≡ bytes = (let a = there.2 in cc) in
+        let checked : IsChecked rule bytes = subst (IsChecked rule) (there.3 ∙ same) (All-get_or (IsChecked rule) members i there.0 there.1 are.checked) in
+        let short = checked.1.spells.short in
+        omega (arith, short)
+    by (inr past) = absurd (let a = past.1 in cc)
+
+-- one record more
+pub one_record : (items old : List ℕ) (members : List (List ℕ)) (i : ℕ) (bytes : List ℕ) → slice_get members i ≡ Some bytes → items ≡ old ++ stream_of (take i members)
+    → items ++ framed bytes ≡ old ++ stream_of (take (i + 1) members)
+one_record items old members i bytes at is =
+    ap (λ (w : List ℕ). w ++ framed bytes) is ∙ append_assoc old (stream_of (take i members)) (framed bytes)
+    ∙ ap (λ (w : List ℕ). old ++ w) (sym (stream_of-push (take i members) bytes) ∙ ap stream_of (sym (take_next members i bytes at) ∙ ap (λ (n : ℕ). take n members) (sym (add-one i))))
