@@ -60,7 +60,7 @@ module _ (Shows : StoreData → List ℕ → Type 0) (dir : List ℕ) (before af
 
   -- where one was taken, read and put back
   module _ (one : OneSchema) (opened : ShelfState) (taken : OpenData) (home : IsTrue before.tells → IsHome before) (takes : TakesStore is_luhn before dir taken opened)
-    (puts : PutsStore opened dir taken.schema taken.replica.log.disk after) (stands : Stands taken.replica) where
+      (puts : PutsStore opened dir taken.schema taken.replica.log.disk after) (stands : Stands taken.replica) where
     works : (done : Bool) → IsTrue before.tells → WorksOn taken taken.replica [] done
     works done tells =
         let members = taken.replica.history.members in record {

@@ -8,9 +8,9 @@ ghost use Rattle.update_check.specs.Members.{AreMembers};
 ghost use Rattle.bec_node.specs.Bundle.{AreShown, PrintsTables, ShowsState, nodes_of};
 ghost use Rattle.bec_node.specs.Verdict.{rules_of};
 
-use confluence_test::accepted_is_unlimited;
 use crate::standing::each_stands;
 use bec_disk::Disk;
+use confluence_test::accepted_is_unlimited;
 use hash_graph::Graph;
 use head_set::equal_heads_mean_equal_sets;
 use replay::replay;

@@ -4,4 +4,8 @@ use Rattle.bec_node.proofs.commands.export.push_framed.Goals as goal
 
 pub returns : goal.returns
 unfolding framed
-returns c = let a = c.in_ok-extend_from_slice-2.ensures.items in let b = c.in_ok-extend_from_slice.ensures.items in let d = c.to_be_bytes.ensures in ?
+returns c =
+    let old = c.args.bytes.now.items in
+    let piece = c.args.piece.now in
+    c.in_ok-extend_from_slice-2.ensures.items ∙ ap (λ (w : List ℕ). w ++ piece) c.in_ok-extend_from_slice.ensures.items ∙ append_assoc old c.to_be_bytes.result piece
+    ∙ ap (λ (t : List ℕ). old ++ (t ++ piece)) c.to_be_bytes.ensures
