@@ -14,7 +14,7 @@ use Rattle.bec_node.specs.Outcome.{ComesTo, Ends, MayLackMemory, Outcome, Puts, 
 use Rattle.bec_node.specs.Outside.{IsUntouched, Outside, SinkState}
 use Rattle.bec_node.specs.Run.{AnswersOnly, Comes, IsCommand, IsLeftOut, IsNoCommand, named, none, ReadsSource, Runs, SourceOnly, unread}
 use Rattle.store_directory.specs.Stores.{StoreData}
-use Rattle.bec_node.specs.Comes.{ReadsStoreOnly}
+use Rattle.bec_node.specs.Comes.{InitsBy, ReadsStoreOnly}
 use Rattle.bec_node.specs.StoreAnswers.{ReadsStore, ShowsHeads, ShowsRecords, ShowsTables}
 use Rattle.bec_node.proofs.Reading.{read_without_memory}
 use Rattle.bec_node.proofs.Answer.{IsOneAnswer, OneAnswer}
@@ -90,13 +90,17 @@ module _ {S H R : Type 0} (before after : Outside S H R) where
   store_lacks Shows dir (Err refusal) lacks comes =
       record { runs = read_without_memory Shows dir before.store after.store before.shelf_faults after.shelf_faults refusal comes.runs; source = comes.source; random = comes.random }
 
+  init_lacks : (dir : List ℕ) (outcome : Outcome) → MayLackMemory outcome → InitsBy dir before after outcome → InitsBy dir before after (Err Memory)
+  init_lacks dir (Ok text) lacks comes = absurd lacks
+  init_lacks dir (Err refusal) lacks comes = record { comes = inr (inr (inl refl)); done = λ tells no. absurd cc; kept = comes.kept; others = comes.others; home = comes.home }
+
   comes_lacking : (request : RequestText) (outcome : Outcome) → MayLackMemory outcome → Comes request before after outcome → Comes request before after (Err Memory)
   comes_lacking (heads None) outcome lacks comes = source_lacks HeadsAnswer outcome comes
   comes_lacking (heads (Some dir)) outcome lacks comes = store_lacks ShowsHeads dir outcome lacks comes
   comes_lacking check outcome lacks comes = source_lacks CheckAnswer outcome comes
   comes_lacking (dump None) outcome lacks comes = source_lacks DumpAnswer outcome comes
   comes_lacking (dump (Some dir)) outcome lacks comes = store_lacks ShowsTables dir outcome lacks comes
-  comes_lacking (init dir) outcome lacks comes = left_out_lacks outcome (Err Memory) lacks comes
+  comes_lacking (init dir) outcome lacks comes = init_lacks dir outcome lacks comes
   comes_lacking (keygen dir lms ots) outcome lacks comes = left_out_lacks outcome (Err Memory) lacks comes
   comes_lacking (apply dir) outcome lacks comes = left_out_lacks outcome (Err Memory) lacks comes
   comes_lacking (join dir) outcome lacks comes = left_out_lacks outcome (Err Memory) lacks comes

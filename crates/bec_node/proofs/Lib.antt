@@ -5,5 +5,6 @@ pub mod Tables
 pub mod Answer
 pub mod Answering
 pub mod Reading
+pub mod NewStores
 pub mod Ending
 pub mod Bundles

@@ -5,11 +5,11 @@ use Rattle.bec_bytes.specs.Causes.{Rose}
 use Rattle.bec_disk.specs.declared.part.Part.{Part}
 use Rattle.bec_disk.specs.declared.part.Part.TheVariants.{Schema, Updates, Key, Used}
 use Rattle.bec_disk.specs.Shelf.{ShelfState}
-use Rattle.store_directory.specs.Stores.{IsHome, KeepsAllBut, StoreRun, part_in, reading}
-use Rattle.bec_node.specs.declared.refusal.Refusal.TheVariants.{Memory, StoreFault}
+use Rattle.store_directory.specs.Stores.{IsHome, IsStore, IsUntouched, KeepsAllBut, StoreData, StoreRun, part_in, reading}
+use Rattle.bec_node.specs.declared.refusal.Refusal.TheVariants.{Memory, StoreFault, Stream}
 use Rattle.bec_node.specs.Outcome.{Outcome}
 use Rattle.bec_node.specs.Outside.{Outside}
-use Rattle.bec_node.specs.StoreAnswers.{Readings}
+use Rattle.bec_node.specs.StoreAnswers.{InitAnswer, IsNewStore, Readings, next_bytes}
 
 -- what the parts of a directory read as
 abbrev pub readings : ShelfState → List ℕ → Readings
@@ -42,3 +42,22 @@ pub record ReadsStoreOnly {S H R : Type 0} (Answer : Readings → List (List ℕ
   pub runs : ReadsShelf Answer dir before.store after.store before.shelf_faults after.shelf_faults outcome
   pub source : after.source ≡ before.source
   pub random : after.random ≡ before.random
+
+-- The same, or the source failed, whose count of faults rose.
+abbrev pub IsAnyFault : ℕ → ℕ → ℕ → ℕ → Outcome → Type 0
+IsAnyFault source_old source_new old new outcome = ((outcome ≡ Err Stream) × Rose source_old source_new) ⊎ IsShelfFault old new outcome
+
+-- A command that makes a store in a directory. Where it is done, the directory has a new one. A store that is there is left as it is.
+pub record Inits (Fault : Outcome → Type 0) (Answer : Readings → Outcome → Type 0) (IsNew : StoreData → Type 0) (dir : List ℕ) (before after : ShelfState) (outcome : Outcome) : Type 0 where
+  pub comes : (IsTrue before.tells → Answer (readings before dir) outcome) ⊎ Fault outcome
+  pub done : IsTrue before.tells → is_done outcome ≡ true → (store : StoreData) × IsStore is_luhn after dir store × IsNew store
+  pub kept : IsTrue before.tells → (store : StoreData) → IsStore is_luhn before dir store
+      → IsUntouched (part_in before dir Schema) (part_in after dir Schema) × IsUntouched (part_in before dir Updates) (part_in after dir Updates)
+  pub others : IsTrue before.tells → KeepsAllBut (Schema ∷ Updates ∷ []) dir before after
+  pub home : IsTrue before.tells → IsHome after
+
+-- `init`: the store has the 32 bytes that the generator gives next as its node's id, and the text that the source has as its schema's.
+abbrev pub InitsBy : {S H R : Type 0} → List ℕ → Outside S H R → Outside S H R → Outcome → Type 0
+InitsBy dir before after outcome =
+    Inits (IsAnyFault before.source_faults after.source_faults before.shelf_faults after.shelf_faults) (InitAnswer before.left after.left)
+    (IsNewStore (next_bytes before.stream) before.left) dir before.store after.store outcome

@@ -1,16 +1,22 @@
 -- What commands answer over the store of a directory, by what its parts read as at entry.
-use Rattle.std.specs.Prelude.{◌≡◌, ℕ, List, [], ◌++◌, map, Bool, cond, Err, Option}
+use Rattle.std.specs.Prelude.{◌≡◌, ℕ, List, [], ◌++◌, map, Bool, cond, Err, Option, IfSome}
+use Rattle.rand_core.specs.Stream.{Stream, fill_bytes}
 use Rattle.row_check.specs.Checksum.{is_luhn}
+use Rattle.confluence_test.specs.Taking.{RefusesSchema, TakesSchema}
+use Rattle.confluence_test.specs.declared.refusal.SchemaRefusal.{SchemaRefusal}
+use Rattle.schema.specs.Schemas.{SchemaData}
+use Rattle.schema.specs.declared.limits.TheConstants.{MAX_SCHEMA_BYTES}
 use Rattle.bec_bytes.specs.Framed.{framed, stream_of}
 use Rattle.update_model.specs.declared.update_id.UpdateId.{UpdateId}
 use Rattle.update_model.specs.Graph.{AreHeads}
 use Rattle.update_codec.specs.Parts.{entry_of}
 use Rattle.store_directory.specs.Stores.{IsBadStore, IsNoStore, ReadsAs, StoreData}
 use Rattle.bec_node.specs.declared.refusal.Refusal.{Refusal}
-use Rattle.bec_node.specs.declared.refusal.Refusal.TheVariants.{NoStore, BadStore}
+use Rattle.bec_node.specs.declared.refusal.Refusal.TheVariants.{NoStore, BadStore, StoreThere}
 use Rattle.bec_node.specs.Bundle.{PrintsTables}
-use Rattle.bec_node.specs.Outcome.{Outcome, Prints}
-use Rattle.bec_node.specs.Texts.{printed}
+use Rattle.bec_node.specs.Inputs.{IsWholeText}
+use Rattle.bec_node.specs.Outcome.{Outcome, Prints, from_taking}
+use Rattle.bec_node.specs.Texts.{database_text, printed}
 
 -- what the parts of a directory read as, where they are there
 pub record Readings : Type 0 where
@@ -44,3 +50,21 @@ ShowsTables store text = PrintsTables store.schema store.members text
 -- `export` shows the text of its schema behind its length, and then the records of its updates in the order of arrival; or these alone.
 abbrev pub ShowsRecords : Bool → StoreData → List ℕ → Type 0
 ShowsRecords updates_only store text = text ≡ cond updates_only (stream_of store.members) (framed store.schema.text ++ stream_of store.members)
+
+-- the 32 bytes that a generator gives next
+abbrev pub next_bytes : Stream → List ℕ
+next_bytes stream = (fill_bytes 32 stream).0
+
+-- What `init` answers. Where there is a store already it reads no text.
+pub data InitAnswer (before after : Option (List ℕ)) (parts : Readings) (outcome : Outcome) : Type 0 where
+  there : (IsNoStore parts.schema → ⊥) → after ≡ before → outcome ≡ Err StoreThere → InitAnswer before after parts outcome
+  refused : (text : List ℕ) (why : SchemaRefusal) → IsNoStore parts.schema → IsWholeText MAX_SCHEMA_BYTES before after text → RefusesSchema is_luhn text why
+      → outcome ≡ Err (from_taking why) → InitAnswer before after parts outcome
+  created : (text : List ℕ) (schema : SchemaData) → IsNoStore parts.schema → IsWholeText MAX_SCHEMA_BYTES before after text → TakesSchema is_luhn text schema
+      → Prints outcome (database_text schema.rule.database) → InitAnswer before after parts outcome
+
+-- A store without updates, by this node and the text that the source had.
+pub record IsNewStore (node : List ℕ) (input : Option (List ℕ)) (store : StoreData) : Type 0 where
+  pub node_is : store.node ≡ node
+  pub none : store.members ≡ []
+  pub text_is : IfSome input (λ text. store.schema.text ≡ text)

@@ -9,6 +9,7 @@
 //! bec check < schema        whether what a schema declares survives merging, and what is wrong first
 //! bec dump < bundle         the tables of a schema and an update stream, and the updates that do nothing
 //!
+//! bec init DIR < schema     makes a store in a directory
 //! bec heads DIR             the same of the store in a directory
 //! bec dump DIR
 //! bec export DIR            the bundle of the store, or with `--updates` its update stream alone
@@ -38,6 +39,7 @@ pub use commands::check::command_check;
 pub use commands::dump::command_dump;
 pub use commands::export::command_export;
 pub use commands::heads::command_heads;
+pub use commands::init::command_init;
 pub use heads::heads_of;
 pub use laws::one_answer;
 pub use program::run;
