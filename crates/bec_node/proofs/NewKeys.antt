@@ -36,7 +36,7 @@ use Rattle.bec_node.specs.declared.refusal.Refusal.{Refusal}
 use Rattle.bec_node.specs.declared.refusal.Refusal.TheVariants as refusals
 use Rattle.bec_node.specs.Comes.{readings}
 use Rattle.bec_node.specs.Creating.{DrawsKey, HasKeyPart, drawn, there as key_there}
-use Rattle.bec_node.specs.Outcome.{from_create_key}
+use Rattle.bec_node.specs.Outcome.{from_creating_key}
 use Rattle.bec_node.specs.Texts.{key_text}
 
 -- ---- digits
@@ -115,7 +115,7 @@ module _ (lms : LmsType) (ots : OtsType) (stream : Stream) (dir : List ℕ) (bef
         (same.0, untouched_by (part_in before dir Used) (part_in after dir Used) same.1)
 
     pub key_refused : (why : CreateKeyKind) → (IsTrue before.tells → IsNewKeyCause (reading (part_in before dir Key)) why) → (why ≡ key_kinds.DiskFault → Rose old new)
-        → DrawsKey lms ots stream dir before after old new (Err (from_create_key why))
+        → DrawsKey lms ots stream dir before after old new (Err (from_creating_key why))
     key_refused key_kinds.KeyThere cause failed =
         record { comes = inl (λ tells. key_there (cause tells) refl); kept = kept; others = lets.others; home = λ tells. lets.home tells (home tells) }
     key_refused key_kinds.DiskFault cause failed = record { comes = inr (inr (refl, failed refl)); kept = kept; others = lets.others; home = λ tells. lets.home tells (home tells) }

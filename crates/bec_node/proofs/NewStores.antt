@@ -34,20 +34,17 @@ use Rattle.store_directory.proofs.Working.{home_after_store}
 use Rattle.bec_node.specs.declared.refusal.Refusal.{Refusal}
 use Rattle.bec_node.specs.declared.refusal.Refusal.TheVariants as refusals
 use Rattle.bec_node.specs.Comes.{readings}
-use Rattle.bec_node.specs.Creating.{HasSchema, InitAnswer, Inits, IsInitFault, IsRefused, created, drawn_node, refused, there as store_there}
+use Rattle.bec_node.specs.Creating.{HasSchema, InitAnswer, Inits, IsInitFault, IsRefused, created, refused, there as store_there}
 use Rattle.bec_node.specs.Inputs.{IsWholeText, ReadsText}
-use Rattle.bec_node.specs.Outcome.{Outcome, Prints, from_create, from_disk, from_taking}
+use Rattle.bec_node.specs.Outcome.{Outcome, Prints, from_creating, from_disk, from_taking}
 use Rattle.bec_node.specs.Outside.{Outside}
+use Rattle.bec_node.specs.StoreAnswers.{next_bytes}
 use Rattle.bec_node.specs.Texts.{database_text}
 use Rattle.bec_node.proofs.Checking.{whole_refused, whole_taken}
 
 -- a text has no reason to be refused that is taken
 abbrev pub TakenOrRefused : Type 0
 TakenOrRefused = (ask : Meaning) (text : List ℕ) (schema : SchemaData) (refusal : SchemaRefusal) → TakesSchema ask text schema → RefusesSchema ask text refusal → ⊥
-
--- a count that rose since a later moment rose since an earlier one
-pub rose_since : (old mid new : ℕ) → old ≤ mid → Rose mid new → Rose old new
-rose_since old mid new later rose = omega (arith, later, rose)
 
 only_first : (x : Bool) → x ≡ false → x || false ≡ false
 only_first true e = e
@@ -98,8 +95,8 @@ module _ {S H R : Type 0} (dir : List ℕ) (before after : Outside S H R) (home 
     }
 
     pub init_unlooked : (why : DiskError) → after.source ≡ before.source → (why ≡ disk_errors.DiskFault → Rose before.shelf_faults after.shelf_faults) → Inits dir before after (Err (from_disk why))
-    init_unlooked disk_errors.DiskFault same failed = init_looked (Err refusals.StoreFault) (inr (inl (inr (refl, failed refl)))) (λ tells there. same)
-    init_unlooked disk_errors.Memory same failed = init_looked (Err refusals.Memory) (inr (inl (inl refl))) (λ tells there. same)
+    init_unlooked disk_errors.DiskFault same failed = init_looked (Err refusals.StoreFault) (inr (inr (inr (refl, failed refl)))) (λ tells there. same)
+    init_unlooked disk_errors.Memory same failed = init_looked (Err refusals.Memory) (inr (inr (inl refl))) (λ tells there. same)
 
     pub init_there : after.source ≡ before.source → (IsTrue before.store.tells → HasSchema (readings before.store dir)) → Inits dir before after (Err refusals.StoreThere)
     init_there same has = init_looked (Err refusals.StoreThere) (inl (λ tells. store_there (has tells) refl)) (λ tells there. same)
@@ -110,10 +107,10 @@ module _ {S H R : Type 0} (dir : List ℕ) (before after : Outside S H R) (home 
       never tells there = absurd (there (none tells))
 
       pub init_failed : Rose before.source_faults after.source_faults → Inits dir before after (Err refusals.Stream)
-      init_failed rose = init_looked (Err refusals.Stream) (inr (inr (refl, rose))) never
+      init_failed rose = init_looked (Err refusals.Stream) (inr (inl (refl, rose))) never
 
       pub init_lacked : Inits dir before after (Err refusals.Memory)
-      init_lacked = init_looked (Err refusals.Memory) (inr (inl (inl refl))) never
+      init_lacked = init_looked (Err refusals.Memory) (inr (inr (inl refl))) never
 
       pub init_refused : (read : List ℕ) (why : SchemaRefusal) → ReadsText 65536 before.left after.left read → RefusesSchema is_luhn read why ⊎ (why ≡ taking.Memory) → Inits dir before after (Err (from_taking why))
       init_refused read why reads (inr memory) = subst (λ (w : SchemaRefusal). Inits dir before after (Err (from_taking w))) (sym memory) init_lacked
@@ -139,7 +136,7 @@ module _ {S H R : Type 0} (dir : List ℕ) (before after : Outside S H R) (home 
 
     pub init_not_made : TakenOrRefused → (payload filling : List ℕ) (why : CreateKind) → LetsNewGo Schema Updates payload filling mid dir after.store
         → (IsTrue mid.tells → IsNewStoreCause is_luhn (reading (part_in mid dir Schema)) read why) → (why ≡ create_kinds.DiskFault → Rose before.shelf_faults after.shelf_faults)
-        → Inits dir before after (Err (from_create why))
+        → Inits dir before after (Err (from_creating why))
     init_not_made either payload filling why lets cause failed = by why cause failed
       where
         Untouched : Type 0
@@ -163,7 +160,7 @@ module _ {S H R : Type 0} (dir : List ℕ) (before after : Outside S H R) (home 
         still_none tells = none_still (part_in before.store dir Schema) (part_in mid dir Schema) (untouched tells) (none tells)
 
         by : (kind : CreateKind) → (IsTrue mid.tells → IsNewStoreCause is_luhn (reading (part_in mid dir Schema)) read kind) → (kind ≡ create_kinds.DiskFault → Rose before.shelf_faults after.shelf_faults)
-            → Inits dir before after (Err (from_create kind))
+            → Inits dir before after (Err (from_creating kind))
         by create_kinds.NotEmpty why_so rose = so (Err refusals.StoreThere) (inl (λ tells. absurd (why_so (mid_told tells) (still_none tells)))) (λ tells is. why_so (mid_told tells) (still_none tells))
         by (create_kinds.BadSchema fault) why_so rose =
             let never : IsTrue before.store.tells → ⊥ = λ tells. either is_luhn read schema (taking.Schema fault) takes (why_so (mid_told tells)).1 in
@@ -171,10 +168,10 @@ module _ {S H R : Type 0} (dir : List ℕ) (before after : Outside S H R) (home 
         by (create_kinds.NotConfluent declared which example) why_so rose =
             let never : IsTrue before.store.tells → ⊥ = λ tells. either is_luhn read schema (taking.NotConfluent declared which example) takes (why_so (mid_told tells)).1 in
             so (Err (refusals.NotConfluent declared which example)) (inl (λ tells. absurd (never tells))) (λ tells is. never tells)
-        by create_kinds.DiskFault why_so rose = so (Err refusals.StoreFault) (inr (inl (inr (refl, rose refl)))) (λ tells is. is)
-        by create_kinds.Memory why_so rose = so (Err refusals.Memory) (inr (inl (inl refl))) (λ tells is. is)
+        by create_kinds.DiskFault why_so rose = so (Err refusals.StoreFault) (inr (inr (inr (refl, rose refl)))) (λ tells is. is)
+        by create_kinds.Memory why_so rose = so (Err refusals.Memory) (inr (inr (inl refl))) (λ tells is. is)
 
-    pub init_made : OneSchema → (opened : ShelfState) (node : List ℕ) (store : OpenData) → node ≡ drawn_node before.stream → length node ≡ 32 → MakesStore is_luhn mid dir node read store opened
+    pub init_made : OneSchema → (opened : ShelfState) (node : List ℕ) (store : OpenData) → node ≡ next_bytes before.stream → length node ≡ 32 → MakesStore is_luhn mid dir node read store opened
         → AreMembers store.replica.history.schema.rule store.replica.history.members → PutsStore opened dir store.schema store.replica.log.disk after.store → ReadsText 65536 before.left after.left read
         → (line : Vec ℕ Global) → line.items ≡ database_text schema.rule.database → Inits dir before after (Ok line)
     init_made one opened node store drawn size makes closed puts reads line printed = record {
@@ -202,13 +199,13 @@ module _ {S H R : Type 0} (dir : List ℕ) (before after : Outside S H R) (home 
         same : IsTrue before.store.tells → store.replica.history.schema ≡ schema
         same tells = one is_luhn read store.replica.history.schema schema (makes.created (mid_told tells)).4.taken.declares takes.declares
 
-        has : IsTrue before.store.tells → IsStore is_luhn after.store dir (empty_store (drawn_node before.stream) schema)
+        has : IsTrue before.store.tells → IsStore is_luhn after.store dir (empty_store (next_bytes before.stream) schema)
         has tells =
             subst (λ (n : List ℕ). IsStore is_luhn after.store dir (empty_store n schema)) drawn
             (subst (λ (s : SchemaData). IsStore is_luhn after.store dir (empty_store node s)) (same tells)
             (made_is_store is_luhn mid opened opened after.store dir node read store size (mid_told tells) (opened_told tells) makes closed puts))
 
-        by : (left : Option (List ℕ)) → ReadsText 65536 left after.left read → IsNoStore (reading (part_in before.store dir Schema)) → IsStore is_luhn after.store dir (empty_store (drawn_node before.stream) schema)
+        by : (left : Option (List ℕ)) → ReadsText 65536 left after.left read → IsNoStore (reading (part_in before.store dir Schema)) → IsStore is_luhn after.store dir (empty_store (next_bytes before.stream) schema)
             → InitAnswer left after.left before.stream (readings before.store dir) (readings after.store dir) (Ok line)
         by None told_so gone here = created read schema gone tt takes here printed
         by (Some input) told_so gone here = created input schema gone (refl, told_so.1) (whole_taken input schema (subst (λ (t : List ℕ). TakesSchema is_luhn t schema) told_so.0 takes)) here printed
@@ -226,7 +223,7 @@ made_slots mid opened dir node text store makes tells =
 -- ---- want of memory in place of a refusal
 
 pub init_without_memory : {S H R : Type 0} (dir : List ℕ) (before after : Outside S H R) (refusal : Refusal) → Inits dir before after (Err refusal) → Inits dir before after (Err refusals.Memory)
-init_without_memory dir before after refusal inits = record { comes = inr (inl (inl refl)); unread = inits.unread; kept = λ tells. kept tells; others = inits.others; home = inits.home }
+init_without_memory dir before after refusal inits = record { comes = inr (inr (inl refl)); unread = inits.unread; kept = λ tells. kept tells; others = inits.others; home = inits.home }
   where
     kept : IsTrue before.store.tells → HasSchema (readings before.store dir) ⊎ IsRefused (Err refusals.Memory)
         → IsUntouched (part_in before.store dir Schema) (part_in after.store dir Schema) × IsUntouched (part_in before.store dir Updates) (part_in after.store dir Updates)

@@ -1,8 +1,7 @@
 -- What the commands that make a store or a key answer, and what they leave.
 use Rattle.std.specs.Prelude.{◌≡◌, ◌⊎◌, ℕ, List, [], ◌∷◌, IsTrue, Ok, Err, Option, Some}
-use Rattle.rand_core.specs.Stream.{Stream, fill_bytes}
+use Rattle.rand_core.specs.Stream.{Stream}
 use Rattle.row_check.specs.Checksum.{is_luhn}
-use Rattle.bec_bytes.specs.Causes.{Rose}
 use Rattle.bec_disk.specs.Gated.{whole_of}
 use Rattle.bec_disk.specs.declared.part.Part.TheVariants.{Schema, Updates, Key, Used}
 use Rattle.bec_disk.specs.Shelf.{ShelfState}
@@ -20,12 +19,11 @@ use Rattle.confluence_test.specs.declared.refusal.SchemaRefusal.{SchemaRefusal}
 use Rattle.store_directory.specs.Keys.{IsNoKey}
 use Rattle.store_directory.specs.Stores.{IsHome, IsNoStore, IsUntouched, KeepsAllBut, part_in}
 use Rattle.bec_node.specs.declared.refusal.Refusal.TheVariants.{KeyThere, Memory, StoreFault, StoreThere}
-use Rattle.bec_node.specs.declared.refusal.Refusal.TheVariants as refusals
-use Rattle.bec_node.specs.Comes.{IsShelfFault, readings}
+use Rattle.bec_node.specs.Comes.{IsAnyFault, IsShelfFault, readings}
 use Rattle.bec_node.specs.Inputs.{IsWholeText}
 use Rattle.bec_node.specs.Outcome.{Outcome, Prints, from_taking}
 use Rattle.bec_node.specs.Outside.{Outside}
-use Rattle.bec_node.specs.StoreAnswers.{HasStore, Readings}
+use Rattle.bec_node.specs.StoreAnswers.{HasStore, Readings, next_bytes}
 use Rattle.bec_node.specs.Texts.{database_text, key_text}
 
 -- There is a part Schema, and it is not absent behind its gate.
@@ -36,10 +34,6 @@ HasSchema parts = IsNoStore parts.schema → ⊥
 abbrev pub HasKeyPart : Readings → Type 0
 HasKeyPart parts = IsNoKey parts.key → ⊥
 
--- the id of a node that a generator gives next, of 32 bytes
-abbrev pub drawn_node : Stream → List ℕ
-drawn_node stream = (fill_bytes 32 stream).0
-
 -- What `init` answers, by what the source has left before and after, what the generator gives, and what the parts of the directory read as before
 -- and after. A text that is taken becomes a store without updates, and the id of its database is printed.
 pub data InitAnswer (before after : Option (List ℕ)) (stream : Stream) (parts later : Readings) (outcome : Outcome) : Type 0 where
@@ -47,12 +41,12 @@ pub data InitAnswer (before after : Option (List ℕ)) (stream : Stream) (parts 
   refused : (text : List ℕ) (why : SchemaRefusal) → IsNoStore parts.schema → IsWholeText MAX_SCHEMA_BYTES before after text → RefusesSchema is_luhn text why
       → outcome ≡ Err (from_taking why) → InitAnswer before after stream parts later outcome
   created : (text : List ℕ) (schema : SchemaData) → IsNoStore parts.schema → IsWholeText MAX_SCHEMA_BYTES before after text → TakesSchema is_luhn text schema
-      → HasStore later (record { node = drawn_node stream; schema = schema; members = [] }) → Prints outcome (database_text schema.rule.database)
+      → HasStore later (record { node = next_bytes stream; schema = schema; members = [] }) → Prints outcome (database_text schema.rule.database)
       → InitAnswer before after stream parts later outcome
 
 -- What may come in place of its answer: memory ran out, or the shelf failed, or the source, whose count of faults rose.
 abbrev pub IsInitFault : {S H R : Type 0} → Outside S H R → Outside S H R → Outcome → Type 0
-IsInitFault before after outcome = IsShelfFault before.shelf_faults after.shelf_faults outcome ⊎ ((outcome ≡ Err refusals.Stream) × Rose before.source_faults after.source_faults)
+IsInitFault before after outcome = IsAnyFault before.source_faults after.source_faults before.shelf_faults after.shelf_faults outcome
 
 -- A command was refused by what it read, or by the source, and not by the shelf or for want of memory.
 abbrev pub IsRefused : Outcome → Type 0

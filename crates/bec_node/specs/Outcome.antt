@@ -5,15 +5,15 @@ use Rattle.std.specs.Io.KnownBytes.{Appends}
 use Rattle.bec_bytes.specs.Causes.{Rose}
 use Rattle.confluence_test.specs.declared.refusal.SchemaRefusal.{SchemaRefusal}
 use Rattle.confluence_test.specs.declared.refusal.SchemaRefusal.TheVariants as taking
-use Rattle.bec_disk.specs.declared.disk_error.DiskError.{DiskError}
-use Rattle.bec_disk.specs.declared.disk_error.DiskError.TheVariants as disk_errors
-use Rattle.key_index.specs.declared.faults.CreateKeyKind.{CreateKeyKind}
-use Rattle.key_index.specs.declared.faults.CreateKeyKind.TheVariants as key_kinds
-use Rattle.replica.specs.declared.create_fault.CreateKind.{CreateKind}
-use Rattle.replica.specs.declared.create_fault.CreateKind.TheVariants as create_kinds
 use Rattle.bec_bytes.specs.declared.read_error.ReadError.{ReadError}
 use Rattle.bec_bytes.specs.declared.read_error.ReadError.TheVariants as read_errors
 use Rattle.update_stream.specs.declared.record_fault.RecordFault.TheVariants.{Check, Lacks, Full}
+use Rattle.bec_disk.specs.declared.disk_error.DiskError.{DiskError}
+use Rattle.bec_disk.specs.declared.disk_error.DiskError.TheVariants as disk_errors
+use Rattle.key_index.specs.declared.faults.CreateKeyKind.{CreateKeyKind}
+use Rattle.key_index.specs.declared.faults.CreateKeyKind.TheVariants as creating_key
+use Rattle.replica.specs.declared.create_fault.CreateKind.{CreateKind}
+use Rattle.replica.specs.declared.create_fault.CreateKind.TheVariants as creating
 use Rattle.store_directory.specs.declared.store_refusal.StoreRefusal.{StoreRefusal}
 use Rattle.store_directory.specs.declared.store_refusal.StoreRefusal.TheVariants as store_refusals
 use Rattle.bec_node.specs.declared.refusal.Refusal.{Refusal}
@@ -108,17 +108,17 @@ abbrev pub from_disk : DiskError → Refusal
 from_disk disk_errors.DiskFault = StoreFault
 from_disk disk_errors.Memory = Memory
 
-abbrev pub from_create : CreateKind → Refusal
-from_create create_kinds.NotEmpty = StoreThere
-from_create (create_kinds.BadSchema fault) = Schema fault
-from_create (create_kinds.NotConfluent schema which example) = NotConfluent schema which example
-from_create create_kinds.DiskFault = StoreFault
-from_create create_kinds.Memory = Memory
+abbrev pub from_creating : CreateKind → Refusal
+from_creating creating.NotEmpty = StoreThere
+from_creating (creating.BadSchema fault) = Schema fault
+from_creating (creating.NotConfluent schema which example) = NotConfluent schema which example
+from_creating creating.DiskFault = StoreFault
+from_creating creating.Memory = Memory
 
-abbrev pub from_create_key : CreateKeyKind → Refusal
-from_create_key key_kinds.KeyThere = KeyThere
-from_create_key key_kinds.DiskFault = StoreFault
-from_create_key key_kinds.Memory = Memory
+abbrev pub from_creating_key : CreateKeyKind → Refusal
+from_creating_key creating_key.KeyThere = KeyThere
+from_creating_key creating_key.DiskFault = StoreFault
+from_creating_key creating_key.Memory = Memory
 
 abbrev pub from_taking : SchemaRefusal → Refusal
 from_taking (taking.Schema fault) = Schema fault

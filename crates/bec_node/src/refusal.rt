@@ -1,6 +1,6 @@
 ghost use Rattle.std.specs.Prelude.{◌≡◌};
 ghost use Rattle.bec_node.specs.declared.refusal.Refusal.TheVariants.{Memory};
-ghost use Rattle.bec_node.specs.Outcome.{status_for, from_create, from_create_key, from_disk, from_reading, from_store, from_taking};
+ghost use Rattle.bec_node.specs.Outcome.{status_for, from_creating, from_creating_key, from_disk, from_reading, from_store, from_taking};
 
 use crate::status::{FULL, NO_COMMAND, OUT_OF_MEMORY, REFUSED, STORE, STORE_FAULT, STREAM_FAULT};
 use bec_bytes::ReadError;
@@ -122,51 +122,6 @@ impl From<ReadError> for Refusal {
     }
 }
 
-impl From<DiskError> for Refusal {
-    ghost from_gives = { λ error refusal. refusal ≡ from_disk error };
-
-    fn from(error: DiskError) -> Refusal {
-        match error {
-            DiskError::DiskFault => Refusal::StoreFault,
-            DiskError::Memory => Refusal::Memory,
-        }
-    }
-}
-
-impl From<CreateKind> for Refusal {
-    ghost from_gives = { λ why refusal. refusal ≡ from_create why };
-
-    fn from(why: CreateKind) -> Refusal {
-        match why {
-            CreateKind::NotEmpty => Refusal::StoreThere,
-            CreateKind::BadSchema(fault) => Refusal::Schema(fault),
-            CreateKind::NotConfluent {
-                schema,
-                which,
-                example,
-            } => Refusal::NotConfluent {
-                schema,
-                which,
-                example,
-            },
-            CreateKind::DiskFault => Refusal::StoreFault,
-            CreateKind::Memory => Refusal::Memory,
-        }
-    }
-}
-
-impl From<CreateKeyKind> for Refusal {
-    ghost from_gives = { λ why refusal. refusal ≡ from_create_key why };
-
-    fn from(why: CreateKeyKind) -> Refusal {
-        match why {
-            CreateKeyKind::KeyThere => Refusal::KeyThere,
-            CreateKeyKind::DiskFault => Refusal::StoreFault,
-            CreateKeyKind::Memory => Refusal::Memory,
-        }
-    }
-}
-
 impl From<SchemaRefusal> for Refusal {
     ghost from_gives = { λ why refusal. refusal ≡ from_taking why };
 
@@ -196,6 +151,51 @@ impl From<StoreRefusal> for Refusal {
             StoreRefusal::BadStore => Refusal::BadStore,
             StoreRefusal::DiskFault => Refusal::StoreFault,
             StoreRefusal::Memory => Refusal::Memory,
+        }
+    }
+}
+
+impl From<DiskError> for Refusal {
+    ghost from_gives = { λ error refusal. refusal ≡ from_disk error };
+
+    fn from(error: DiskError) -> Refusal {
+        match error {
+            DiskError::DiskFault => Refusal::StoreFault,
+            DiskError::Memory => Refusal::Memory,
+        }
+    }
+}
+
+impl From<CreateKeyKind> for Refusal {
+    ghost from_gives = { λ why refusal. refusal ≡ from_creating_key why };
+
+    fn from(why: CreateKeyKind) -> Refusal {
+        match why {
+            CreateKeyKind::KeyThere => Refusal::KeyThere,
+            CreateKeyKind::DiskFault => Refusal::StoreFault,
+            CreateKeyKind::Memory => Refusal::Memory,
+        }
+    }
+}
+
+impl From<CreateKind> for Refusal {
+    ghost from_gives = { λ why refusal. refusal ≡ from_creating why };
+
+    fn from(why: CreateKind) -> Refusal {
+        match why {
+            CreateKind::NotEmpty => Refusal::StoreThere,
+            CreateKind::BadSchema(fault) => Refusal::Schema(fault),
+            CreateKind::NotConfluent {
+                schema,
+                which,
+                example,
+            } => Refusal::NotConfluent {
+                schema,
+                which,
+                example,
+            },
+            CreateKind::DiskFault => Refusal::StoreFault,
+            CreateKind::Memory => Refusal::Memory,
         }
     }
 }

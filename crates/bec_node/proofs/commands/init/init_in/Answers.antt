@@ -7,12 +7,13 @@ use Rattle.confluence_test.specs.Taking.{TakesSchema}
 use Rattle.store_directory.specs.Holding.{OpenData}
 use Rattle.store_directory.specs.Making.{IsNewStoreCause, MakesStore}
 use Rattle.store_directory.specs.Stores.{IsNoStore, part_in, reading}
-use Rattle.bec_node.specs.Creating.{drawn_node}
+use Rattle.bec_node.specs.StoreAnswers.{next_bytes}
 use Rattle.bec_node.specs.Inputs.{ReadsText}
 use Rattle.bec_node.specs.Outside.{outside}
 use Rattle.bec_node.specs.Standing.{Stands}
 use Rattle.bec_node.specs.Texts.{database_text}
-use Rattle.bec_node.proofs.NewStores.{init_failed, init_lacked, init_made, init_not_made, init_refused, init_there, init_unlooked, made_slots, rose_since}
+use Rattle.bec_node.proofs.Answering.{rose_later}
+use Rattle.bec_node.proofs.NewStores.{init_failed, init_lacked, init_made, init_not_made, init_refused, init_there, init_unlooked, made_slots}
 use Rattle.bec_node.proofs.commands.init.init_in.Goals as goal
 
 pub put_store-requires-clause-schema_of : goal.put_store-requires-clause-schema_of
@@ -44,7 +45,7 @@ returns-in_err-store g c =
     c.in_ok-text.text.items c.in_ok-schema.schema (subst (λ (t : List ℕ). TakesSchema is_luhn t c.in_ok-schema.schema) c.deref.ensures.value c.in_ok-schema.ensures.taken)
     c.taken_or_refused.ensures _ _ c.in_err-store.field-0.0 e.lets_go
     (λ tells. subst (λ (t : List ℕ). IsNewStoreCause is_luhn (reading (part_in (g.H.Shelf.state c.is_there.new.shelf) c.args.dir.now Schema)) t c.in_err-store.field-0.0) c.deref-2.ensures.value (e.refused tells))
-    (λ is. rose_since (g.H.Counted.faults c.args.shelf.now) (g.H.Counted.faults c.is_there.new.shelf) (g.H.Counted.faults c.new_store.new.shelf) c.is_there.ensures.later (e.failed is)))
+    (λ is. rose_later (g.H.Counted.faults c.args.shelf.now) (g.H.Counted.faults c.is_there.new.shelf) (g.H.Counted.faults c.new_store.new.shelf) c.is_there.ensures.later (e.failed is)))
 
 pub returns : goal.returns
 returns g c =
@@ -53,7 +54,7 @@ returns g c =
     let none : IsTrue (g.H.Shelf.state c.args.shelf.now).tells → IsNoStore (reading (part_in (g.H.Shelf.state c.args.shelf.now) c.args.dir.now Schema)) = search rules in
     let same : c.store.inside.replica ≡ c.in_ok-store.store.replica = ap (λ (o : OpenData). o.replica) c.store.view_is in
     let stands : Stands c.in_ok-store.store.replica = subst Stands same c.each_stands.ensures in
-    let drawn : c.fill_bytes.new.dst ≡ drawn_node (g.R.Rng.stream c.args.random.now) = search rules in
+    let drawn : c.fill_bytes.new.dst ≡ next_bytes (g.R.Rng.stream c.args.random.now) = search rules in
     let size : length c.fill_bytes.new.dst ≡ 32 = search rules in
     let makes : MakesStore is_luhn (g.H.Shelf.state c.is_there.new.shelf) c.args.dir.now c.fill_bytes.new.dst c.in_ok-text.text.items c.in_ok-store.store (g.H.Shelf.state c.new_store.new.shelf) =
     subst (λ (t : List ℕ). MakesStore is_luhn (g.H.Shelf.state c.is_there.new.shelf) c.args.dir.now c.fill_bytes.new.dst t c.in_ok-store.store (g.H.Shelf.state c.new_store.new.shelf)) c.deref-2.ensures.value c.in_ok-store.ensures.makes in
