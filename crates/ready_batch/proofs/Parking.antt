@@ -15,6 +15,10 @@ use Rattle.ready_batch.proofs.Holding.{true_or_false}
 pub places-append : (xs ys : List Attempt) → places_of (xs ++ ys) ≡ places_of xs ++ places_of ys
 places-append xs ys = map-append (λ (a : Attempt). a.place) xs ys
 
+-- what is to be tried next, once what was noted is there too
+pub places_next : (next after lent released : List Attempt) → after ≡ next ++ lent → lent ≡ released → places_of after ≡ places_of next ++ places_of released
+places_next next after lent released is same = ap places_of (is ∙ ap (λ (l : List Attempt). next ++ l) same) ∙ places-append next released
+
 -- What is noted is handed out, or stays.
 pub released_some : (old new : BTreeMap UpdateId (Vec Attempt Global)) (id : UpdateId) (attempts : Vec Attempt Global) (q : UpdateId) (i : ℕ) → get id_cmp old id ≡ Some attempts
     → ((k : UpdateId) → get id_cmp new k ≡ cond (same_id id k) None (get id_cmp old k))

@@ -106,17 +106,6 @@ slots_gone {M} entry graph graph' batch slots slots' place m are is long same go
         let one = its_member entry graph batch slots place m x are is (ap (slice_get batch) (sym here) ∙ at) in
         ap (λ (y : M). holds graph' (entry y).id) one ∙ held
 
--- what is left is as it was
-pub slots_same : {M : Type 0} (entry : M → Entry) (graph : List Entry) (batch : List M) (slots slots' : List (Option M)) → AreSlots entry graph batch slots
-    → length slots' ≡ length slots → ((i : ℕ) → left_at slots' i ≡ left_at slots i) → AreSlots entry graph batch slots'
-slots_same entry graph batch slots slots' are long same = record {
-  long = long ∙ are.long;
-  each = λ i x at. elim (are.each i x at) [
-    | inl there ↦ inl (same i ∙ there)
-    | inr gone ↦ inr (same i ∙ gone.0, gone.1)
-  ];
-}
-
 -- a member that is put back, and noted under a predecessor
 pub placed_parked : {M : Type 0} (entry : M → Entry) (graph : List Entry) (batch : List M) (slots slots' : List (Option M)) (parked parked' : BTreeMap UpdateId (Vec Attempt Global)) (place : ℕ) (others next : List ℕ) (member : M) (id : UpdateId)
     → AreSlots entry graph batch slots → left_at slots place ≡ Some member → ((i : ℕ) → left_at slots' i ≡ left_at slots i)

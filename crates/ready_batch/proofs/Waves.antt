@@ -1,22 +1,16 @@
 -- Wave after wave.
-use Rattle.std.proofs.Common.{◌≡◌, ◌⊎◌, inl, inr, ◌<◌, ◌≤◌, List, [], ◌++◌, length, Option, sym, ap, ◌∙◌, append_assoc, append-nil, length-append, arith}
+use Rattle.std.proofs.Common.{◌≡◌, ◌⊎◌, inl, inr, ◌<◌, ◌≤◌, List, [], ◌++◌, length, Option, ap, ◌∙◌, append_assoc, length-append, arith}
 use Rattle.std.specs.Prelude.{Contains}
 use Rattle.update_model.specs.Entry.{Entry}
 use Rattle.ready_batch.specs.Ready.{IsBehind}
 use Rattle.ready_batch.specs.Steps.{KeepsSlots, AddsFrom}
 use Rattle.ready_batch.proofs.Elements.{each_append}
 
-pub behind_same : {M : Type 0} (graph : List M) → IsBehind graph graph
-behind_same graph = ([], sym (append-nil graph))
-
 pub behind_then : {M : Type 0} (a b c : List M) → IsBehind a b → IsBehind b c → IsBehind a c
 behind_then {M} a b c ab bc = (ab.0 ++ bc.0, bc.1 ∙ ap (λ (l : List M). l ++ bc.0) ab.1 ∙ append_assoc a ab.0 bc.0)
 
 pub behind_longer : {M : Type 0} (a b : List M) → IsBehind a b → length a ≤ length b
 behind_longer a b ab = omega (arith, ap length ab.1, length-append a ab.0)
-
-pub from_same : {M : Type 0} (entry : M → Entry) (graph : List M) (slots : List (Option M)) → AddsFrom entry graph slots graph
-from_same entry graph slots batch are = ([], sym (append-nil graph), tt)
 
 pub from_then : {M : Type 0} (entry : M → Entry) (a b c : List M) (slots slots' : List (Option M)) → KeepsSlots entry a slots b slots' → AddsFrom entry a slots b → AddsFrom entry b slots' c → AddsFrom entry a slots c
 from_then {M} entry a b c slots slots' keeps ab bc batch are =

@@ -1,7 +1,6 @@
-use Rattle.std.proofs.Common.{◌++◌, ◌∙◌, List, map, sym, ap}
-use Rattle.ready_batch.specs.declared.attempt.Attempt.{Attempt}
+use Rattle.std.proofs.Common.{◌∙◌, map, sym}
 use Rattle.ready_batch.specs.Steps.{places_of}
-use Rattle.ready_batch.proofs.Parking.{places-append}
+use Rattle.ready_batch.proofs.Parking.{places_next}
 use Rattle.ready_batch.proofs.Placing.{of_batch, added_slots, added_from, placed_added, placed_parked, passed_over, put_back, map_last, taken_other, taken_gone}
 use Rattle.ready_batch.proofs.adding.try_place.Goals as goal
 
@@ -55,7 +54,7 @@ returns-in_ok-extend_from_slice-in-Added-clause-placed g c batch others are plac
     (places_of c.args.next.now.items) (places_of c.extend_from_slice.new.self.items) (places_of c.release-released.result.items) c.in-Some.member c.in-Added.id
     (taken_other slots taken place c.take_left.ensures.gone) (taken_gone slots taken place c.in-Some.member there c.take_left.ensures.gone)
     placed (map_last g.M.Member.entry c.args.graph.now c.try_member.new.graph c.in-Some.member tells.0) tells.1
-    (ap places_of (c.in_ok-extend_from_slice-in-Added.ensures.items ∙ ap (λ (l : List Attempt). c.args.next.now.items ++ l) c.deref.ensures.value) ∙ places-append c.args.next.now.items c.release-released.result.items)
+    (places_next c.args.next.now.items c.extend_from_slice.new.self.items c.deref.result.now c.release-released.result.items c.in_ok-extend_from_slice-in-Added.ensures.items c.deref.ensures.value)
     c.release-released.ensures
 
 pub returns-in_ok-park-in-Lacks-clause-placed : goal.returns-in_ok-park-in-Lacks-clause-placed
