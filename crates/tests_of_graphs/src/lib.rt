@@ -4,4 +4,6 @@
 #[cfg(test)]
 mod ancestors;
 #[cfg(test)]
+mod batches;
+#[cfg(test)]
 mod heads;
