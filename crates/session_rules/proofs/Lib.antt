@@ -1,0 +1,17 @@
+pub mod AskNew
+pub mod Bounds
+pub mod Covers
+pub mod Ends
+pub mod Exact
+pub mod Example
+pub mod Facts
+pub mod Growth
+pub mod Held
+pub mod ItemStep
+pub mod Needs
+pub mod Phases
+pub mod Pigeons
+pub mod Runs
+pub mod Sends
+pub mod TurnStep
+pub mod Words

@@ -1,0 +1,7 @@
+pub mod Bloom
+pub mod Burst
+pub mod Commit
+pub mod Laws
+pub mod Pair
+pub mod State
+pub mod Steps
