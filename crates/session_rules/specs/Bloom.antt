@@ -12,6 +12,7 @@ number_of bytes = 16777216 * slice_index bytes 0 + 65536 * slice_index bytes 1 +
 abbrev pub position_at : ℕ → UpdateId → ℕ → ℕ
 position_at m id offset = number_of (take 4 (drop offset id.0)) % m
 
+-- where the seven words of an id begin
 abbrev pub offsets : List ℕ
 offsets = 0 ∷ 4 ∷ 8 ∷ 12 ∷ 16 ∷ 20 ∷ 24 ∷ []
 

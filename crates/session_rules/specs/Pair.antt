@@ -1,13 +1,14 @@
 -- Two ends, their holders' lists, and the frames on the way, while both lists may grow from outside.
-use Rattle.std.specs.Prelude.{◌≡◌, ◌≢◌, ℕ, ◌+◌, ◌*◌, ◌≤◌, max, length, not, List, [], ◌∷◌, ◌++◌, map, filter, Option, None, Some}
+use Rattle.std.specs.Prelude.{◌≡◌, ◌≢◌, ℕ, ◌+◌, ◌*◌, ◌≤◌, max, length, List, [], ◌∷◌, ◌++◌, map, Option, None, Some}
 use Rattle.update_model.specs.declared.update_id.UpdateId.{UpdateId}
 use Rattle.update_model.specs.declared.limits.TheConstants.{MAX_MEMBERS}
 use Rattle.update_model.specs.Entry.{Entry}
-use Rattle.update_model.specs.Graph.{holds, IsClosed}
-use Rattle.update_model.specs.Batch.{Limits}
+use Rattle.update_model.specs.Graph.{IsClosed}
+use Rattle.update_model.specs.Batch.{Limits, not_held}
 use Rattle.session_rules.specs.State.{Initiator, Responder, HelloData, TurnData, FrameData, Hello, Item, Turn, PeerFault, Peer, SessionData, OutData}
 use Rattle.session_rules.specs.Steps.{IsHello, begun, Steps}
 
+-- two ends, their holders' lists, and the frames on their way to either
 pub record PairData : Type 0 where
   pub a : SessionData
   pub list_a : List Entry
@@ -20,10 +21,12 @@ pub record PairData : Type 0 where
 abbrev pub swapped : PairData → PairData
 swapped p = record { a = p.b; list_a = p.list_b; b = p.a; list_b = p.list_a; to_a = p.to_b; to_b = p.to_a }
 
+-- the frame of a Hello, where there is one
 abbrev pub hello_frames : Option HelloData → List FrameData
 hello_frames None = []
 hello_frames (Some hello) = Hello hello ∷ []
 
+-- the frame of a Turn, where there is one
 abbrev pub turn_frames : Option TurnData → List FrameData
 turn_frames None = []
 turn_frames (Some turn) = Turn turn ∷ []
@@ -88,12 +91,13 @@ pub record Opens (p : PairData) : Type 0 where
 
 -- the members of the other set that the one lacks
 abbrev pub missing : List Entry → List Entry → List Entry
-missing one other = filter (λ e. not (holds one e.id)) other
+missing one other = not_held one other
 
 -- the turns that a session takes at most
 abbrev pub bound : ℕ → ℕ → ℕ
 bound m n = 2 * max m n + 4
 
+-- the end has found no fault in the other
 abbrev pub IsNoFault : SessionData → Type 0
 IsNoFault s = (fault : PeerFault) → s.ended ≢ Some (Peer fault)
 
