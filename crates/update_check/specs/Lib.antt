@@ -1,4 +1,5 @@
 pub mod Causes
+pub mod Holding
 pub mod Members
 pub mod Signed
 pub mod Words

@@ -15,15 +15,22 @@
 //! Where the rule is to come from the bytes, as the first record of a stream sets it, [`update_codec::spelled`] and
 //! [`check_spelled`] are the two halves of `check`.
 //!
+//! A [`Holder`] is whoever keeps such updates: a closed list under a rule that grows by whole batches. What exchanges updates
+//! between two of them knows only this trait.
+//!
 //! It keeps no graph (`hash_graph`), and does not look at whether predecessors are known.
 #![tactic(auto)]
 
 mod check_error;
+mod checked_list;
 mod checked_update;
 mod checking;
+mod holder;
 mod laws;
 
 pub use check_error::{CheckError, CheckFault};
+pub use checked_list::CheckedList;
 pub use checked_update::Checked;
 pub use checking::{check, check_spelled};
+pub use holder::{CommitFault, Committed, Holder};
 pub use laws::{front_of_members, no_cause, one_cause};
