@@ -1,5 +1,6 @@
 pub mod AskNew
 pub mod Bounds
+pub mod Courses
 pub mod Covers
 pub mod Ends
 pub mod Exact

@@ -1,6 +1,7 @@
 pub mod Bloom
 pub mod Burst
 pub mod Commit
+pub mod Course
 pub mod Laws
 pub mod Pair
 pub mod State
