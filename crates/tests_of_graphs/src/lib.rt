@@ -5,3 +5,5 @@
 mod ancestors;
 #[cfg(test)]
 mod heads;
+#[cfg(test)]
+mod summaries;
