@@ -5,7 +5,7 @@ use Rattle.std.proofs.lemmas.List.Elements.{All-nil}
 use Rattle.update_model.specs.declared.update_id.UpdateId.{UpdateId}
 use Rattle.update_model.specs.Entry.{Entry, same_id, id_cmp}
 use Rattle.update_model.specs.Graph.{holds, AreHeads}
-use Rattle.session_rules.specs.Bloom.{AreBits, is_member}
+use Rattle.bloom_summary.specs.Bloom.{AreBits, is_member}
 use Rattle.update_model.specs.Since.{IsBehind}
 use Rattle.update_model.specs.Batch.{store_limits, Adds}
 use Rattle.session_rules.specs.Commit.{Added}

@@ -13,7 +13,7 @@ use Rattle.std.proofs.lemmas.List.Elements.{filter_agree}
 use Rattle.std.proofs.lemmas.Slice.Eq.{bytes_eq-Decides}
 use Rattle.session_rules.proofs.Sends.{burst_within, burst_few}
 use Rattle.session_rules.specs.Burst.{IsBurst}
-use Rattle.session_rules.specs.Bloom.{is_member}
+use Rattle.bloom_summary.specs.Bloom.{is_member}
 use Rattle.update_model.proofs.Closed.{Follows-front}
 use Rattle.session_rules.proofs.Ends.{Knows, left}
 use Rattle.session_rules.proofs.Phases.{Reads, Over, Goes, reads_on, turns_round, ends, reader_grows, waiter_grows, over_grows_a, over_grows_b}

@@ -9,7 +9,7 @@ use Rattle.update_model.specs.Entry.{Entry, same_id}
 use Rattle.update_model.specs.Graph.{has, holds}
 use Rattle.update_model.specs.Batch.{Limits, Adds}
 use Rattle.session_rules.specs.Commit.{Committed, Added, TooMuch, DiskFault, Commits}
-use Rattle.session_rules.specs.Bloom.{is_member}
+use Rattle.bloom_summary.specs.Bloom.{is_member}
 use Rattle.session_rules.specs.Pair.{PairData, swapped, missing, bound}
 use Rattle.session_rules.specs.State.{Role, Initiator, Responder, HelloData, TurnData, FrameData, Item, Turn, End, Done, Full, Store, PeerFault, TakenBack, OutOfTurn, Reading, Opening, Burst, Answers, SessionData, OutData}
 use Rattle.session_rules.specs.Steps.{is_first, is_empty, heads_in, counted, closing, committed, replied, Steps, Settles, Concludes, Judges, Replies, IsTurn, IsSent, IsBurstFor, turn_fault, takes_turn, due_fault, first_of, late_fault}

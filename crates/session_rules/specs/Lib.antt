@@ -1,4 +1,3 @@
-pub mod Bloom
 pub mod Burst
 pub mod Commit
 pub mod Course

@@ -10,7 +10,7 @@ use Rattle.update_model.specs.declared.update_id.UpdateId.{UpdateId}
 use Rattle.update_model.specs.Entry.{Entry, same_id, id_cmp}
 use Rattle.update_model.specs.Graph.{has, holds, names, is_within, AreHeads}
 use Rattle.session_rules.specs.declared.limits.TheConstants.{MAX_ITEMS, MAX_NEEDS}
-use Rattle.session_rules.specs.Bloom.{AreBits, is_member}
+use Rattle.bloom_summary.specs.Bloom.{AreBits, is_member}
 use Rattle.update_model.specs.Since.{AreSince}
 use Rattle.session_rules.specs.Burst.{IsBurst}
 use Rattle.update_model.specs.Batch.{Limits}
