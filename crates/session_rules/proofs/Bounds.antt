@@ -12,7 +12,7 @@ use Rattle.update_model.specs.Batch.{Limits, Adds, fits}
 use Rattle.session_rules.specs.Commit.{Committed, Added, TooMuch, DiskFault, Commits}
 use Rattle.session_rules.specs.Pair.{Feeds, unfed, fed, grown}
 use Rattle.session_rules.specs.State.{Role, Initiator, Responder, HelloData, TurnData, FrameData, Hello, OtherVersion, Item, BadItem, Turn, NoFrame, End, Done, Peer, Full, Store, PeerFault, OutOfTurn, WrongDatabase, Unanswered, Stalled, Version, BadFrame, Reading, Opening, Burst, Answers, SessionData, OutData}
-use Rattle.session_rules.specs.Steps.{begun, StepsBy, Takes, Unless, Greets, Gathers, gathers, in_burst, after_item, Settles, Concludes, Judges, Replies, IsTurn, AreNeeds, is_wanted, heads_in, committed, replied, counted, Joins, is_empty, is_first, late_fault, hello_fault, takes_hello, item_fault, takes_item, answer_fault, turn_fault, takes_turn, due_fault, first_of, unknown_fault, again_fault}
+use Rattle.session_rules.specs.Steps.{begun, StepsBy, Takes, Unless, Greets, Gathers, gathers, in_burst, after_item, Settles, Concludes, Judges, Replies, IsTurn, AreNeeds, is_wanted, heads_in, committed, refused, replied, counted, Joins, is_empty, is_first, late_fault, hello_fault, takes_hello, item_fault, takes_item, answer_fault, turn_fault, takes_turn, due_fault, first_of, unknown_fault, again_fault}
 use Rattle.session_rules.proofs.Words.{or_cases, or_left, or_right, is_either, and_both}
 use Rattle.session_rules.proofs.Held.{holds_front, holds_append, has_append}
 use Rattle.session_rules.proofs.Needs.{least_passes}
@@ -48,7 +48,8 @@ pub record Bounded (s : SessionData) (list : List Entry) : Type 0 where
   pub start : length s.start ≤ MAX_MEMBERS
   pub rising : IsStrictlySortedBy id_cmp s.asked
   pub rising_peer : IsStrictlySortedBy id_cmp s.peer_asked
-  pub met : (id : UpdateId) → has s.asked id ≡ true → is_met list s.waiting s.gathered (due s.reading) id ≡ true
+  pub met : s.ended ≡ None → (id : UpdateId) → has s.asked id ≡ true → is_met list s.waiting s.gathered (due s.reading) id ≡ true
+  pub asked_few : length s.asked ≤ 2 * MAX_MEMBERS + MAX_NEEDS
   pub theirs : (id : UpdateId) → has s.peer_asked id ≡ true → holds s.start id ≡ true
   pub fresh : takes_hello s.reading ≡ true → s.peer_asked ≡ []
   pub room : length (s.waiting ++ s.gathered) ≤ MAX_MEMBERS
@@ -61,20 +62,21 @@ pub record Bounded (s : SessionData) (list : List Entry) : Type 0 where
 ids_of : List Entry → List UpdateId
 ids_of es = map (λ e. e.id) es
 
-pub few_asked : (s : SessionData) (list : List Entry) → Bounded s list → length s.asked ≤ 266240
-few_asked s list b =
-    let all = pigeons s.asked (map (λ e. e.id) list ++ (map (λ e. e.id) (s.waiting ++ s.gathered) ++ due s.reading)) (rising_distinct s.asked b.rising) among in
+-- distinct ids that are met are no more than what there is
+few_met : (s : SessionData) (list : List Entry) → length list ≤ MAX_MEMBERS → IsStrictlySortedBy id_cmp s.asked → length (s.waiting ++ s.gathered) ≤ MAX_MEMBERS → length (due s.reading) ≤ MAX_NEEDS
+    → ((id : UpdateId) → has s.asked id ≡ true → is_met list s.waiting s.gathered (due s.reading) id ≡ true) → length s.asked ≤ 2 * MAX_MEMBERS + MAX_NEEDS
+few_met s list few rising room few_due met =
+    let all = pigeons s.asked (map (λ e. e.id) list ++ (map (λ e. e.id) (s.waiting ++ s.gathered) ++ due s.reading)) (rising_distinct s.asked rising) among in
     let one = length-map list (λ (e : Entry). e.id) in
     let two = length-map (s.waiting ++ s.gathered) (λ (e : Entry). e.id) in
     let sum = length-append (map (λ (e : Entry). e.id) list) (map (λ (e : Entry). e.id) (s.waiting ++ s.gathered) ++ due s.reading) in
     let sum2 = length-append (map (λ (e : Entry). e.id) (s.waiting ++ s.gathered)) (due s.reading) in
-    let few = b.few in let room = b.room in let few_due = b.due_few in
     omega arith
   where
     among : (id : UpdateId) → has s.asked id ≡ true → has (map (λ e. e.id) list ++ (map (λ e. e.id) (s.waiting ++ s.gathered) ++ due s.reading)) id ≡ true
     among id h = has_append (map (λ e. e.id) list) (map (λ e. e.id) (s.waiting ++ s.gathered) ++ due s.reading) id
         ∙ rw (has_ids list id, has_append (map (λ e. e.id) (s.waiting ++ s.gathered)) (due s.reading) id, has_ids (s.waiting ++ s.gathered) id, holds_append s.waiting s.gathered id)
-        (regroup (holds list id) (holds s.waiting id) (holds s.gathered id) (has (due s.reading) id) (b.met id h))
+        (regroup (holds list id) (holds s.waiting id) (holds s.gathered id) (has (due s.reading) id) (met id h))
       where
         regroup : (x y z w : Bool) → (x || (y || (z || w))) ≡ true → (x || ((y || z) || w)) ≡ true
         regroup true y z w h = refl
@@ -90,7 +92,7 @@ few_peer_asked s list b =
 
 -- The turns of a session stay below 800,000.
 pub few_turns : (s : SessionData) (list : List Entry) → Bounded s list → s.turns < MAX_TURNS
-few_turns s list b = let one = few_asked s list b in let two = few_peer_asked s list b in let turns = b.turns in omega arith
+few_turns s list b = let one = b.asked_few in let two = few_peer_asked s list b in let turns = b.turns in omega arith
 
 pub sorted_none : IsStrictlySortedBy id_cmp []
 unfolding IsStrictlySortedBy
@@ -113,7 +115,8 @@ ended_bounded s list ending b = record {
   start = b.start;
   rising = b.rising;
   rising_peer = b.rising_peer;
-  met = b.met;
+  met = λ h. absurd cc;
+  asked_few = b.asked_few;
   theirs = b.theirs;
   fresh = b.fresh;
   room = b.room;
@@ -127,16 +130,18 @@ counted_turns : (n k : ℕ) (began : Bool) → n ≤ k + cond began 1 0 → n + 
 counted_turns n k true h = omega arith
 counted_turns n k false h = omega arith
 
-counted_bounded : (s : SessionData) (list : List Entry) (ending : End) → s.ended ≡ None → Bounded s list → Bounded (record (counted s) { ended = Some ending }) list
-counted_bounded s list ending running b = record {
+-- a commit was refused
+refused_bounded : (s : SessionData) (list : List Entry) (ending : End) → s.ended ≡ None → Bounded s list → Bounded (refused s ending) list
+refused_bounded s list ending running b = record {
   few = b.few;
   start = b.start;
   rising = b.rising;
   rising_peer = b.rising_peer;
-  met = b.met;
+  met = λ h. absurd cc;
+  asked_few = b.asked_few;
   theirs = b.theirs;
   fresh = b.fresh;
-  room = b.room;
+  room = omega arith;
   due_few = b.due_few;
   turns = let slow = b.slow running in let low = low_base s.role s.reading in
       let now = counted_turns s.turns (paid s.asked s.peer_asked + base s.role s.reading) s.began (omega arith) in omega arith;
@@ -167,7 +172,8 @@ greets_a s list hello role opening running b =
       start = b.start;
       rising = b.rising;
       rising_peer = b.rising_peer;
-      met = λ id h. subst (λ (ids : List UpdateId). is_met list s.waiting s.gathered ids id ≡ true) at.0 (b.met id h);
+      met = λ _ id h. subst (λ (ids : List UpdateId). is_met list s.waiting s.gathered ids id ≡ true) at.0 (b.met running id h);
+      asked_few = b.asked_few;
       theirs = b.theirs;
       fresh = λ h. absurd cc;
       room = b.room;
@@ -187,7 +193,8 @@ greets_b s list hello have role opening running b =
       start = b.few;
       rising = b.rising;
       rising_peer = b.rising_peer;
-      met = λ id h. subst (λ (ids : List UpdateId). is_met list s.waiting s.gathered ids id ≡ true) at.0 (b.met id h);
+      met = λ _ id h. subst (λ (ids : List UpdateId). is_met list s.waiting s.gathered ids id ≡ true) at.0 (b.met running id h);
+      asked_few = b.asked_few;
       theirs = λ id h. absurd (let none = b.fresh opening in let never : has [] id ≡ true = subst (λ (ids : List UpdateId). has ids id ≡ true) none h in cc);
       fresh = λ h. absurd cc;
       room = b.room;
@@ -248,7 +255,8 @@ gathers_bounded s list e none running fits b =
       start = b.start;
       rising = b.rising;
       rising_peer = b.rising_peer;
-      met = λ id h. met_item id d.0 (b.met id h);
+      met = λ _ id h. met_item id d.0 (b.met running id h);
+      asked_few = b.asked_few;
       theirs = b.theirs;
       fresh = λ h. b.fresh (sym d.1 ∙ h);
       room = within_few (s.waiting ++ gathers s e) fits;
@@ -359,7 +367,7 @@ module _ (limits : Limits) (s : SessionData) (list : List Entry) (turn own : Tur
   no_due = turn_due s.role s.reading turn _ none
 
   come : (id : UpdateId) → has s.asked id ≡ true → (holds (list ++ added) id || holds waits id) ≡ true
-  come id h = settled_turn list s.gathered s.waiting added waits id a (subst (λ (ids : List UpdateId). is_met list s.waiting s.gathered ids id ≡ true) no_due.0 (b.met id h))
+  come id h = settled_turn list s.gathered s.waiting added waits id a (subst (λ (ids : List UpdateId). is_met list s.waiting s.gathered ids id ≡ true) no_due.0 (b.met running id h))
 
   waits_few : length (waits ++ []) ≤ MAX_MEMBERS
   waits_few = rw append-nil (rw a.rest (let less = filter_shorter (λ e. not (holds (list ++ added) e.id)) (s.waiting ++ s.gathered) in let room = b.room in omega arith))
@@ -380,7 +388,8 @@ module _ (limits : Limits) (s : SessionData) (list : List Entry) (turn own : Tur
     start = b.start;
     rising = b.rising;
     rising_peer = b.rising_peer;
-    met = λ id h. met_more id (has (due s.reading) id) (come id h);
+    met = λ _ id h. met_more id (has (due s.reading) id) (come id h);
+    asked_few = b.asked_few;
     theirs = b.theirs;
     fresh = b.fresh;
     room = waits_few;
@@ -431,23 +440,30 @@ module _ (limits : Limits) (s : SessionData) (list : List Entry) (turn own : Tur
         by_have (inl has_all) = by_first has_all (is_either (is_first s.role s.reading))
         by_have (inr lacks) = let more = own_new lacks in let two = longer_peer in let now = turns_now in let below = base_below s.role s.reading own.needs in omega arith
 
+    replied_met : (id : UpdateId) → has asked id ≡ true → is_met (list ++ added) waits [] own.needs id ≡ true
+    replied_met id h = elim (or_cases (has s.asked id) (has own.needs id) (sym (joins.exact id) ∙ h)) [
+      | inl was ↦ met_more id (has own.needs id) (come id was)
+      | inr new ↦ or_right (holds (list ++ added) id) (holds waits id || has own.needs id) (or_right (holds waits id) (has own.needs id) new)
+    ]
+
+    few_needs : length own.needs ≤ MAX_NEEDS
+    few_needs = needs_few own.have (is_wanted (heads_in s.peer) (list ++ added) waits s.asked) own.needs is_turn.needs
+
     replied_bounded : Bounded (replied (committed s turn added waits) turn own asked peer_asked) (list ++ added)
     replied_bounded = record {
       few = few_now;
       start = b.start;
       rising = joins.rising;
       rising_peer = joins_peer.rising;
-      met = λ id h. elim (or_cases (has s.asked id) (has own.needs id) (sym (joins.exact id) ∙ h)) [
-        | inl was ↦ met_more id (has own.needs id) (come id was)
-        | inr new ↦ or_right (holds (list ++ added) id) (holds waits id || has own.needs id) (or_right (holds waits id) (has own.needs id) new)
-      ];
+      met = λ _. replied_met;
+      asked_few = few_met (replied (committed s turn added waits) turn own asked peer_asked) (list ++ added) few_now joins.rising waits_few few_needs replied_met;
       theirs = λ id h. elim (or_cases (has s.peer_asked id) (has turn.needs id) (sym (joins_peer.exact id) ∙ h)) [
         | inl was ↦ b.theirs id was
         | inr new ↦ known id (found_none (λ i. not (holds s.start i)) turn.needs (unknown_none (find (λ i. not (holds s.start i)) turn.needs) parts.1) id new)
       ];
       fresh = λ h. absurd cc;
       room = waits_few;
-      due_few = needs_few own.have (is_wanted (heads_in s.peer) (list ++ added) waits s.asked) own.needs is_turn.needs;
+      due_few = few_needs;
       turns = let now = turns_now in let low = low_base s.role s.reading in let one = longer in let two = longer_peer in omega arith;
       slow = λ h. slow_now (not_ended (own.have && turn.have) h);
     }
@@ -491,8 +507,8 @@ module _ (limits : Limits) (small : limits.updates ≤ MAX_MEMBERS) (s next : Se
   settles_bounded turn (Added added waits) none c g =
       let few : length (list ++ added) ≤ limits.updates = leb-true (length (list ++ added)) limits.updates (and_both _ _ c.1).0 in
       judges_bounded turn g.0 added waits c.0 (omega arith) none (subst (λ (l : List Entry). IsTurn s l waits g.0) c.2 g.1) (late_fault s turn g.0) refl g.2 c.2
-  settles_bounded turn TooMuch none c g = rw (g.0, c.1) (counted_bounded s list Full running b)
-  settles_bounded turn DiskFault none c g = rw (g.0, c) (counted_bounded s list Store running b)
+  settles_bounded turn TooMuch none c g = rw (g.0, c.1) (refused_bounded s list Full running b)
+  settles_bounded turn DiskFault none c g = rw (g.0, c) (refused_bounded s list Store running b)
 
   takes_bounded : (frame : FrameData) → Takes limits s list frame next out after → Bounded next after
   takes_bounded (Hello hello) t = unless_bounded (Greets s.role s list hello next out after) (hello_fault s hello) (hello_fault s hello) refl t (λ none g.
@@ -514,10 +530,11 @@ bounded_grows s list more b few = record {
   start = b.start;
   rising = b.rising;
   rising_peer = b.rising_peer;
-  met = λ id h. elim (or_cases (holds list id) (holds s.waiting id || (holds s.gathered id || has (due s.reading) id)) (b.met id h)) [
+  met = λ runs id h. elim (or_cases (holds list id) (holds s.waiting id || (holds s.gathered id || has (due s.reading) id)) (b.met runs id h)) [
     | inl held ↦ or_left (holds (list ++ more) id) (holds s.waiting id || (holds s.gathered id || has (due s.reading) id)) (holds_front list more id held)
     | inr rest ↦ or_right (holds (list ++ more) id) (holds s.waiting id || (holds s.gathered id || has (due s.reading) id)) rest
   ];
+  asked_few = b.asked_few;
   theirs = b.theirs;
   fresh = b.fresh;
   room = b.room;
@@ -541,7 +558,8 @@ start_a database node old list few = record {
   start = few;
   rising = sorted_none;
   rising_peer = sorted_none;
-  met = λ id h. absurd cc;
+  met = λ _ id h. absurd cc;
+  asked_few = omega arith;
   theirs = λ id h. absurd cc;
   fresh = λ _. refl;
   room = omega arith;
@@ -556,7 +574,8 @@ start_b database node old list few = record {
   start = omega arith;
   rising = sorted_none;
   rising_peer = sorted_none;
-  met = λ id h. absurd cc;
+  met = λ _ id h. absurd cc;
+  asked_few = omega arith;
   theirs = λ id h. absurd cc;
   fresh = λ _. refl;
   room = omega arith;

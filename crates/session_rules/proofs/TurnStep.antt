@@ -12,7 +12,7 @@ use Rattle.session_rules.specs.Commit.{Committed, Added, TooMuch, DiskFault, Com
 use Rattle.bloom_summary.specs.Bloom.{is_member}
 use Rattle.session_rules.specs.Pair.{PairData, swapped, missing, bound}
 use Rattle.session_rules.specs.State.{Role, Initiator, Responder, HelloData, TurnData, FrameData, Item, Turn, End, Done, Full, Store, PeerFault, TakenBack, OutOfTurn, Reading, Opening, Burst, Answers, SessionData, OutData}
-use Rattle.session_rules.specs.Steps.{is_first, is_empty, heads_in, counted, closing, committed, replied, Steps, Settles, Concludes, Judges, Replies, IsTurn, IsSent, IsBurstFor, turn_fault, takes_turn, due_fault, first_of, late_fault}
+use Rattle.session_rules.specs.Steps.{is_first, is_empty, heads_in, closing, committed, refused, replied, Steps, Settles, Concludes, Judges, Replies, IsTurn, IsSent, IsBurstFor, turn_fault, takes_turn, due_fault, first_of, late_fault}
 use Rattle.session_rules.proofs.Words.{or_cases, or_left, or_right, is_either, and_both, each_append, each_weaker, find_none}
 use Rattle.session_rules.proofs.Held.{Within, holds_append}
 use Rattle.session_rules.proofs.Sends.{burst_within, burst_few, answers_ids, answers_within}
@@ -252,7 +252,7 @@ module _ (limits : Limits) (p : PairData) (r : Reads p) (none : r.items ≡ []) 
         ]
 
 module _ (limits : Limits) (p : PairData) (r : Reads p) (none : r.items ≡ []) where
-  stopped : (ending : End) → is_fine ending ≡ true → (ending ≡ Done → ⊥) → Over (stepped p (record (counted p.a) { ended = Some ending }) p.list_a [] (closing ending))
+  stopped : (ending : End) → is_fine ending ≡ true → (ending ≡ Done → ⊥) → Over (stepped p (refused p.a ending) p.list_a [] (closing ending))
   stopped ending fine not_done = record {
     back = ap (λ (fs : List FrameData). fs ++ []) r.back;
     ending = ending;

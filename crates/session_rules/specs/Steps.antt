@@ -249,6 +249,10 @@ committed s turn added waiting = record (counted s) {
   got_have = turn.have;
 }
 
+-- The end whose commit was refused. The batch is given up.
+abbrev pub refused : SessionData → End → SessionData
+refused s ending = record (counted s) { gathered = []; waiting = []; ended = Some ending }
+
 -- the rising list of what is in the one or the other
 pub record Joins (old new both : List UpdateId) : Type 0 where
   pub rising : IsStrictlySortedBy id_cmp both
@@ -286,8 +290,8 @@ Judges None old s turn own next out = Replies (old.sent_have && turn.have) (is_f
 abbrev pub Concludes : Committed → SessionData → TurnData → List Entry → SessionData → OutData → Type 0
 Concludes (Added added waiting) s turn after next out =
     (own : TurnData) × IsTurn s after waiting own × Judges (late_fault s turn own) s (committed s turn added waiting) turn own next out
-Concludes TooMuch s turn after next out = (next ≡ record (counted s) { ended = Some Full }) × (out ≡ closing Full)
-Concludes DiskFault s turn after next out = (next ≡ record (counted s) { ended = Some Store }) × (out ≡ closing Store)
+Concludes TooMuch s turn after next out = (next ≡ refused s Full) × (out ≡ closing Full)
+Concludes DiskFault s turn after next out = (next ≡ refused s Store) × (out ≡ closing Store)
 
 -- A Turn in its place: what waited and what was gathered is committed as one batch. What the commit does not add waits.
 abbrev pub Settles : Limits → SessionData → List Entry → TurnData → SessionData → OutData → List Entry → Type 0
