@@ -70,9 +70,17 @@ fn adds_what_can_be_added(rt: HostRuntime) -> Result<(), Fail> {
     let mut graph = Graph::new(alloc);
     // a batch, who is held then, and who waits
     let steps = [
-        ([(2, 1), (4, 3), (1, 0)].as_slice(), [1, 2].as_slice(), [4].as_slice()),
+        (
+            [(2, 1), (4, 3), (1, 0)].as_slice(),
+            [1, 2].as_slice(),
+            [4].as_slice(),
+        ),
         (&[(5, 4)], &[1, 2], &[5]),
-        (&[(2, 1), (6, 7), (1, 9), (5, 4), (4, 3)], &[1, 2], &[6, 5, 4]),
+        (
+            &[(2, 1), (6, 7), (1, 9), (5, 4), (4, 3)],
+            &[1, 2],
+            &[6, 5, 4],
+        ),
         (&[(5, 4), (4, 3), (6, 7), (3, 2)], &[1, 2, 3, 4, 5], &[6]),
         (&[], &[1, 2, 3, 4, 5], &[]),
     ];
