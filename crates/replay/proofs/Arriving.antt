@@ -48,7 +48,7 @@ length-nodes graph count low =
     length_front [] (suc k) low = absurd (omega arith)
     length_front (x ∷ l) (suc k) low = ap suc (length_front l k (omega arith))
 
-take_next : (graph : List (List ℕ)) (i : ℕ) (bytes : List ℕ) → slice_get graph i ≡ Some bytes → take (suc i) graph ≡ take i graph ++ bytes ∷ []
+pub take_next : (graph : List (List ℕ)) (i : ℕ) (bytes : List ℕ) → slice_get graph i ≡ Some bytes → take (suc i) graph ≡ take i graph ++ bytes ∷ []
 take_next [] i bytes e = absurd (cc)
 take_next (b ∷ graph) zero bytes e = let same : b ≡ bytes = cc in ap (λ x. x ∷ []) same
 take_next (b ∷ graph) (suc i) bytes e = ap (λ l. b ∷ l) (take_next graph i bytes e)
@@ -174,3 +174,29 @@ pub is_next_from : (graph : List (List ℕ)) (i : ℕ) (n : NodeData) → option
     → ((next : List NodeData) → AreNodesOf (map entry_of (take (i + 1) graph)) next → IsClosed (reverse next)) → IsNext (nodes_before graph i) n
 is_next_from graph i n here arrivals =
     let both : IsClosed (n ∷ nodes_before graph i) = subst IsClosed (next_from graph i n here) (arrivals (map node_of (take (i + 1) graph)) (are_nodes (take (i + 1) graph))) in both.0
+
+-- the node of the member that is there
+pub node_there : (graph : List (List ℕ)) (i : ℕ) (bytes : List ℕ) (n : NodeData) → slice_get graph i ≡ Some bytes → option_map node_of (slice_get graph i) ≡ Some n → n ≡ node_of bytes
+node_there graph i bytes n there here =
+    let same : Some n ≡ Some (node_of bytes) = sym here ∙ ap (option_map node_of) there in cc
+
+-- the member at a position
+member_at : (graph : List (List ℕ)) (i : ℕ) → i < length graph → (bytes : List ℕ) × (slice_get graph i ≡ Some bytes)
+member_at [] i low = absurd (omega arith)
+member_at (b ∷ graph) zero low = (b, refl)
+member_at (b ∷ graph) (suc i) low = member_at graph i (omega arith)
+
+pub take_front : (xs ys : List (List ℕ)) → take (length xs) (xs ++ ys) ≡ xs
+take_front [] ys = refl
+take_front (x ∷ xs) ys = ap (λ l. x ∷ l) (take_front xs ys)
+
+-- the positions of the members in front, without the next one
+pub places_in_front : (graph : List (List ℕ)) (i : ℕ) → i < length graph → take i (places_before graph (i + 1)) ≡ places_before graph i
+places_in_front graph i low =
+    let there = member_at graph i low in
+    let own = filter_map (place_in graph) (preds_of there.0) in
+    let few : i ≤ length graph = omega arith in
+    let size : length (places_before graph i) ≡ i = length-before graph i few in
+    ap (take i) (places_next graph i there.0 there.1)
+    ∙ ap (λ k. take k (places_before graph i ++ own ∷ [])) (sym size)
+    ∙ take_front (places_before graph i) (own ∷ [])

@@ -1,7 +1,6 @@
 -- A text has one answer: it declares one schema, whose first invariant that is refused is one, or it has one first fault.
 use Rattle.std.proofs.Common.{◌≡◌, ℕ, Bool, true, false, List, [], ◌∷◌, ◌++◌, sym, ap, subst, ◌∙◌}
 use Rattle.std.proofs.lemmas.Bool.{and_parts}
-use Rattle.row_check.specs.Checksum.{is_luhn}
 use Rattle.table_model.specs.declared.counterexample.Counterexample.{Counterexample}
 use Rattle.schema.specs.declared.fault.SchemaKind.{SchemaKind}
 use Rattle.table_model.specs.declared.invariant.Invariant.{Invariant}
@@ -9,11 +8,11 @@ use Rattle.table_model.specs.Confluence.{accepts, are_accepted}
 use Rattle.table_model.specs.Examples.{example_of}
 use Rattle.table_model.specs.Invariants.{Declared, invariants_of}
 use Rattle.schema.specs.Schemas.{Meaning, SchemaData, Declares, FirstFault}
-use Rattle.table_model.specs.Visible.{Rules}
+use Rattle.table_model.specs.Visible.{Rules, rules_with}
 use Rattle.confluence_test.specs.Tests.{IsRefused}
-use Rattle.bec_node.specs.declared.refusal.Refusal.{Refusal}
-use Rattle.bec_node.specs.declared.refusal.Refusal.TheVariants.{Schema, NotConfluent}
-use Rattle.bec_node.specs.Verdict.{rules_of, TakesSchema, RefusesSchema, fault, not_confluent}
+use Rattle.confluence_test.specs.declared.refusal.SchemaRefusal.{SchemaRefusal}
+use Rattle.confluence_test.specs.declared.refusal.SchemaRefusal.TheVariants.{Schema, NotConfluent}
+use Rattle.confluence_test.specs.Taking.{TakesSchema, RefusesSchema, fault, not_confluent}
 
 -- what is known of schemas: a text declares one, or has one first fault, and not both
 pub record SchemaLaws : Type 0 where
@@ -61,22 +60,22 @@ accepted_or_refused rules which example all r =
     (accepted_middle rules r.earlier r.first.later r.declared (ap (are_accepted rules) (sym r.first.split) ∙ all))
     r.first.refused
 
-pub taken_or_refused : SchemaLaws → (text : List ℕ) (refusal : Refusal) (schema : SchemaData) → TakesSchema text schema → RefusesSchema text refusal → ⊥
-taken_or_refused laws text refusal schema taken (fault first is e) = laws.no_fault is_luhn text schema first.kind first.line taken.declares is
-taken_or_refused laws text refusal schema taken (not_confluent other which example declares refuted e) =
-    let same : schema ≡ other = laws.one_schema is_luhn text schema other taken.declares declares in
-    accepted_or_refused (rules_of other) which example
-    (subst (λ (s : SchemaData). are_accepted (rules_of s) (invariants_of (rules_of s)) ≡ true) same taken.accepted)
+pub taken_or_refused : SchemaLaws → (ask : Meaning) (text : List ℕ) (schema : SchemaData) (refusal : SchemaRefusal) → TakesSchema ask text schema → RefusesSchema ask text refusal → ⊥
+taken_or_refused laws ask text schema refusal taken (fault first is e) = laws.no_fault ask text schema first.kind first.line taken.declares is
+taken_or_refused laws ask text schema refusal taken (not_confluent other which example declares refuted e) =
+    let same : schema ≡ other = laws.one_schema ask text schema other taken.declares declares in
+    accepted_or_refused (rules_with ask other.tables) which example
+    (subst (λ (s : SchemaData). are_accepted (rules_with ask s.tables) (invariants_of (rules_with ask s.tables)) ≡ true) same taken.accepted)
     refuted.refused
 
-pub refuses_once : SchemaLaws → (text : List ℕ) (a b : Refusal) → RefusesSchema text a → RefusesSchema text b → a ≡ b
-refuses_once laws text a b (fault x i e) (fault y j f) =
-    let same = laws.one_fault is_luhn text x.kind y.kind x.line y.line i j in
+pub refuses_once : SchemaLaws → (ask : Meaning) (text : List ℕ) (a b : SchemaRefusal) → RefusesSchema ask text a → RefusesSchema ask text b → a ≡ b
+refuses_once laws ask text a b (fault x i e) (fault y j f) =
+    let same = laws.one_fault ask text x.kind y.kind x.line y.line i j in
     e ∙ (λ k. Schema (record { kind = same.0 k; line = same.1 k })) ∙ sym f
-refuses_once laws text a b (fault x i e) (not_confluent s w c d r f) = absurd (laws.no_fault is_luhn text s x.kind x.line d i)
-refuses_once laws text a b (not_confluent s w c d r f) (fault x i e) = absurd (laws.no_fault is_luhn text s x.kind x.line d i)
-refuses_once laws text a b (not_confluent s w c d r e) (not_confluent t v k g q f) =
-    let same : s ≡ t = laws.one_schema is_luhn text s t d g in
-    let moved : IsRefused (rules_of t) w c = subst (λ (x : SchemaData). IsRefused (rules_of x) w c) same r.refused in
-    let one = refused_once (rules_of t) w v c k moved q.refused in
+refuses_once laws ask text a b (fault x i e) (not_confluent s w c d r f) = absurd (laws.no_fault ask text s x.kind x.line d i)
+refuses_once laws ask text a b (not_confluent s w c d r f) (fault x i e) = absurd (laws.no_fault ask text s x.kind x.line d i)
+refuses_once laws ask text a b (not_confluent s w c d r e) (not_confluent t v k g q f) =
+    let same : s ≡ t = laws.one_schema ask text s t d g in
+    let moved : IsRefused (rules_with ask t.tables) w c = subst (λ (x : SchemaData). IsRefused (rules_with ask x.tables) w c) same r.refused in
+    let one = refused_once (rules_with ask t.tables) w v c k moved q.refused in
     e ∙ (λ i. NotConfluent (same i) (one.0 i) (one.1 i)) ∙ sym f
