@@ -1,11 +1,9 @@
 -- The first members of a list, and what is kept of them.
-use Rattle.std.proofs.Common.{◌≡◌, ℕ, zero, suc, ◌+◌, ◌<◌, ◌≤◌, ◌==◌, Bool, true, List, [], ◌∷◌, ◌++◌, length, map, reverse, take, drop, refl, sym, ◌∙◌, ap, subst, arith, Option, Some, None, slice_get, append-nil}
+use Rattle.std.proofs.Common.{◌≡◌, ℕ, zero, suc, ◌+◌, ◌≤◌, true, List, [], ◌∷◌, ◌++◌, length, map, reverse, take, drop, refl, sym, ◌∙◌, ap, subst, arith, Option, Some, slice_get}
 use Rattle.std.specs.List.{cons_option, filter_map, list_all}
 use Rattle.std.proofs.lemmas.Bool.{and_parts, eqb-true}
-use Rattle.std.proofs.lemmas.List.{length-take-le, map-append, reverse-append, take-append-drop, take-append-le, take_all, take-take}
-use Rattle.std.proofs.lemmas.Option.{slice_get_within}
+use Rattle.std.proofs.lemmas.List.{map-append, reverse-append, take-append-drop, take_all, take-take}
 use Rattle.update_model.specs.declared.update_id.UpdateId.{UpdateId}
-use Rattle.update_model.specs.Entry.{Entry, same_id}
 use Rattle.update_model.specs.Graph.{AreHeads, IsClosed as IsClosedGraph, IsNext as IsNextMember}
 use Rattle.update_model.specs.Node.{NodeData}
 use Rattle.update_model.proofs.Closed.{Follows-at}
@@ -17,12 +15,12 @@ use Rattle.head_set.specs.Present.{present}
 use Rattle.head_set.proofs.HeadSteps.{present_heads}
 use Rattle.schema.specs.Schemas.{Meaning, SchemaData}
 use Rattle.table_model.specs.Nodes.{holds, IsClosed}
-use Rattle.table_model.specs.Visible.{Rules, rules_with}
+use Rattle.table_model.specs.Visible.{rules_with}
 use Rattle.table_model.proofs.Arrivals.{closed_reversed}
 use Rattle.tuple_state.specs.State.{IsStateOf}
 use Rattle.replay.specs.Arrivals.{nodes_before, place_in, places_before, places_of}
 use Rattle.replay.proofs.Ancestors.{IsPlaced, placed_older}
-use Rattle.replay.proofs.Arriving.{are_nodes, front_closed, front_placed, length-before, length-nodes, take_front, take_next}
+use Rattle.replay.proofs.Arriving.{are_nodes, front_closed, front_placed, take_front, take_next}
 use Rattle.replay.proofs.Places.{IsAt, same_place}
 use Rattle.history.specs.declared.views.Views.{Views}
 use Rattle.history.specs.Histories.{nodes_of}

@@ -1,2 +1,4 @@
+mod Behind
 mod Fronts
+mod Numbers
 mod Steps

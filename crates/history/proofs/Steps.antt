@@ -1,8 +1,8 @@
 -- What is kept, step by step: none, one more, and fewer.
-use Rattle.std.proofs.Common.{◌≡◌, ℕ, ◌+◌, ◌<◌, ◌≤◌, false, true, List, [], ◌∷◌, ◌++◌, length, map, reverse, take, drop, refl, sym, ◌∙◌, ap, subst, arith, All, Contains, Option, Some, slice_get, append-nil, append_assoc}
+use Rattle.std.proofs.Common.{◌≡◌, ℕ, ◌+◌, ◌≤◌, false, true, List, [], ◌∷◌, ◌++◌, length, map, reverse, take, drop, refl, sym, ◌∙◌, ap, subst, arith, All, Contains, Option, Some, slice_get, append-nil, append_assoc}
 use Rattle.std.specs.Prelude.{Result, Ok, Err, IfOk, OnErr, OnOk}
 use Rattle.std.specs.List.{AllByRecursion, filter_map, list_any}
-use Rattle.std.proofs.lemmas.List.{length-append, length-map, length-take-le, take-append-drop, take-map, take-take, take_at}
+use Rattle.std.proofs.lemmas.List.{length-map, length-take-le, take-append-drop, take-map, take-take, take_at}
 use Rattle.std.proofs.lemmas.List.Elements.{All-contains, All-cons, All-head, All-nil, All-tail}
 use Rattle.update_model.specs.declared.update_id.UpdateId.{UpdateId}
 use Rattle.update_model.specs.Entry.{Entry}
@@ -19,7 +19,7 @@ use Rattle.schema.specs.Schemas.{Meaning, SchemaData}
 use Rattle.table_model.specs.declared.verdict.Verdict.{Verdict}
 use Rattle.table_model.specs.Verdicts.{judge_next, judged}
 use Rattle.table_model.specs.Visible.{Rules, rules_with}
-use Rattle.tuple_state.specs.State.{IsStateOf, State}
+use Rattle.tuple_state.specs.State.{IsStateOf}
 use Rattle.replay.specs.Arrivals.{IsVerdictAt, nodes_before, place_in, places_before, places_of}
 use Rattle.replay.proofs.Arriving.{front_closed, length-before, take_front}
 use Rattle.history.specs.declared.views.Views.{Views}
@@ -73,7 +73,7 @@ views_taken ask schema members i bytes old new id preds closed at ids names are 
 -- ---- fewer
 
 -- the places of nodes behind newer ones stand in front
-behind : (place : UpdateId → Option ℕ) (newer older : List NodeData) → (more : List (List ℕ)) × (places_of place (newer ++ older) ≡ places_of place older ++ more)
+pub behind : (place : UpdateId → Option ℕ) (newer older : List NodeData) → (more : List (List ℕ)) × (places_of place (newer ++ older) ≡ places_of place older ++ more)
 unfolding places_of
 behind place [] older = ([], sym (append-nil (places_of place older)))
 behind place (n ∷ newer) older =

@@ -3,6 +3,7 @@ ghost use Rattle.update_model.specs.declared.update_id.UpdateId.{UpdateId as Id}
 ghost use Rattle.update_model.specs.Batch.{IsTooMuch, store_limits};
 ghost use Rattle.update_model.specs.Graph.{AreHeads, byte_count, position_of};
 ghost use Rattle.update_codec.specs.Parts.{entry_of};
+ghost use Rattle.update_check.specs.Holding.{ArePositionsSince};
 ghost use Rattle.update_check.specs.Members.{AreMembers};
 ghost use Rattle.update_check.specs.Signed.{IsChecked, node_of};
 ghost use Rattle.table_model.specs.Visible.{rules_with};
@@ -13,6 +14,7 @@ ghost use Rattle.history.specs.Histories.{IsHistory, nodes_of, verdict_after};
 
 use crate::NoHistory;
 use crate::growing::{grow, grow_by_one};
+use crate::since::positions_since;
 use crate::views::Views;
 use confluence_test::accepted_is_unlimited;
 use hash_graph::Graph;
@@ -147,6 +149,15 @@ impl<L: Relation, C: Checks<L>> History<L, C> {
         ensures { IsStateOf (rules_with L.answer self.now.schema.tables) (nodes_of self.now.members) result.now }
     {
         &self.views.tables
+    }
+
+    /// Of the first `below` updates the positions of those that are neither among these ids nor ancestors of one, rising. Ids
+    /// that none of them has are passed over.
+    pub fn since(&self, alloc: Global, below: u32, old: &[UpdateId]) -> Result<Vec<u32>, AllocError>
+        requires { below ≤ length self.now.members }
+        ensures { IfOk result (λ positions. ArePositionsSince self.now.members below old.now positions.items) }
+    {
+        positions_since(alloc, &self.graph, &self.views.ancestry, below, old)
     }
 
     /// Adds each update of a batch that can be added in some order, and hands the rest back in the batch's order.

@@ -9,6 +9,7 @@
 //! let waiting = history.add_batch(alloc, batch)?;          // what lacks predecessors
 //! let verdict = history.push(alloc, update)?;              // of one that may stand next
 //! history.tables();                                        // what the valid ones did
+//! history.since(alloc, history.len(), &ids)?;              // what is new to whoever has these
 //! history.cut(len);                                        // the first `len` updates
 //! ```
 //!
@@ -18,6 +19,7 @@
 mod growing;
 mod history;
 mod no_history;
+mod since;
 mod views;
 
 pub use history::History;

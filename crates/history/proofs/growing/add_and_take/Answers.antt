@@ -1,4 +1,4 @@
-use Rattle.std.proofs.Common.{◌≡◌, ◌∙◌, ◌≤◌, ℕ, List, length, length-append, sym, ap, subst, arith}
+use Rattle.std.proofs.Common.{◌∙◌, ℕ, List, length, length-append, sym, ap, subst, arith}
 use Rattle.history.specs.Kept.{AreViewsOf}
 use Rattle.history.proofs.Fronts.{views_of_longer}
 use Rattle.history.proofs.growing.add_and_take.Goals as goal

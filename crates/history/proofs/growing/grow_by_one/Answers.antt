@@ -1,4 +1,4 @@
-use Rattle.std.proofs.Common.{◌≡◌, ◌∙◌, ℕ, List, [], ◌∷◌, length, take, sym, ap, subst}
+use Rattle.std.proofs.Common.{◌∙◌, ℕ, List, [], ◌∷◌, length, take, sym, ap, subst}
 use Rattle.std.proofs.lemmas.List.{take_at}
 use Rattle.history.specs.declared.views.Views.{Views}
 use Rattle.history.specs.Kept.{AreViewsOf}

@@ -1,6 +1,5 @@
-use Rattle.std.proofs.Common.{◌≡◌, ◌∙◌, ◌≤◌, ◌+◌, ℕ, List, [], ◌∷◌, length, length-append, take, sym, ap, arith}
+use Rattle.std.proofs.Common.{◌≡◌, ◌∙◌, ◌≤◌, ◌+◌, [], ◌∷◌, length, length-append, take, ap, arith}
 use Rattle.std.proofs.lemmas.List.{take_at}
-use Rattle.update_model.specs.declared.update_id.UpdateId.{UpdateId}
 use Rattle.head_set.specs.Present.{present}
 use Rattle.history.proofs.Steps.{heads_count, new_head, views_taken}
 use Rattle.history.proofs.views.Views.take.Goals as goal
