@@ -1,7 +1,9 @@
 -- A stream splits in one way.
-use Rattle.std.proofs.Common.{◌≡◌, ◌⊎◌, inl, inr, ℕ, ◌+◌, ◌<◌, ◌^◌, true, false, ◌&&◌, ◌||◌, ◌==◌, List, [], ◌∷◌, ◌++◌, length, take, drop, refl, sym, ap, ap₂, subst, ◌∙◌, arith, append_assoc, length-append, leb-true, take_at, drop_at}
+use Rattle.std.proofs.Common.{◌≡◌, ◌⊎◌, inl, inr, ℕ, ◌+◌, ◌<◌, ◌≤◌, ◌^◌, true, false, ◌&&◌, ◌||◌, ◌==◌, List, [], ◌∷◌, ◌++◌, length, take, drop, refl, sym, ap, ap₂, subst, ◌∙◌, arith, append_assoc, length-append, leb-true, take_at, drop_at}
+use Rattle.std.proofs.lemmas.List.{take-append-le}
 use Rattle.std.proofs.lemmas.Bool.{or_cases, and_parts}
 use Rattle.std.specs.Prelude.{nat_le}
+use Rattle.std.specs.Int.{w32, from_be_bytes}
 use Rattle.std.proofs.lemmas.Nat.{from_be_bytes-to_be_bytes_4}
 use Rattle.sync_frames.specs.declared.frame.Frame.{Frame}
 use Rattle.sync_frames.specs.Stream.{RawFrame, spelled, is_head, kind_of, length_of, front_of, Says, Spells, AreSpelled, IsBegun, IsBroken, Splits}
@@ -94,3 +96,24 @@ read_again frame bytes stream frames rest spells s = record {
   whole = ap (λ (w : List ℕ). bytes ++ w) s.whole ∙ sym (append_assoc bytes s.front rest);
   last = s.last;
 }
+
+-- what is no frame stays none
+pub faults_stay : (bytes more : List ℕ) → IsBroken bytes → IsBroken (bytes ++ more)
+faults_stay [] more broken = absurd (let enough = broken.enough in omega arith)
+faults_stay (b0 ∷ []) more broken = absurd (let enough = broken.enough in omega arith)
+faults_stay (b0 ∷ b1 ∷ []) more broken = absurd (let enough = broken.enough in omega arith)
+faults_stay (b0 ∷ b1 ∷ b2 ∷ []) more broken = absurd (let enough = broken.enough in omega arith)
+faults_stay (b0 ∷ b1 ∷ b2 ∷ b3 ∷ []) more broken = absurd (let enough = broken.enough in omega arith)
+faults_stay (b0 ∷ b1 ∷ b2 ∷ b3 ∷ b4 ∷ tail) more broken = record { enough = omega arith; wrong = still broken.wrong }
+  where
+    still : (is_head b0 (from_be_bytes w32 (b1 ∷ b2 ∷ b3 ∷ b4 ∷ [])) ≡ false)
+        ⊎ ((5 + from_be_bytes w32 (b1 ∷ b2 ∷ b3 ∷ b4 ∷ []) ≤ length (b0 ∷ b1 ∷ b2 ∷ b3 ∷ b4 ∷ tail)) × ((frame : Frame) → Says (record { kind = b0; payload = take (from_be_bytes w32 (b1 ∷ b2 ∷ b3 ∷ b4 ∷ [])) tail }) frame → ⊥))
+        → (is_head b0 (from_be_bytes w32 (b1 ∷ b2 ∷ b3 ∷ b4 ∷ [])) ≡ false)
+        ⊎ ((5 + from_be_bytes w32 (b1 ∷ b2 ∷ b3 ∷ b4 ∷ []) ≤ length (b0 ∷ b1 ∷ b2 ∷ b3 ∷ b4 ∷ (tail ++ more))) × ((frame : Frame) → Says (record { kind = b0; payload = take (from_be_bytes w32 (b1 ∷ b2 ∷ b3 ∷ b4 ∷ [])) (tail ++ more) }) frame → ⊥))
+    still (inl head) = inl head
+    still (inr body) =
+        let long : from_be_bytes w32 (b1 ∷ b2 ∷ b3 ∷ b4 ∷ []) ≤ length tail = let whole = body.0 in omega arith in
+        inr (
+          let whole = body.0 in omega (arith, length-append tail more),
+          λ frame says. body.1 frame (subst (λ (p : List ℕ). Says (record { kind = b0; payload = p }) frame) (take-append-le (from_be_bytes w32 (b1 ∷ b2 ∷ b3 ∷ b4 ∷ [])) tail more long) says),
+        )

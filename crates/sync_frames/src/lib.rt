@@ -13,7 +13,7 @@
 //! let bytes = write_turn(alloc, &Turn::all_held(alloc))?;
 //! ```
 //!
-//! How a stream is cut into pieces makes no difference: see [`one_split`] and [`pieces_join`]. A fault is told at once
+//! How a stream is cut into pieces makes no difference: see [`one_split`], [`pieces_join`] and [`faults_stay`]. A fault is told at once
 //! where kind or length is wrong, and else when the frame is whole. What a writer wrote is read again.
 //!
 //! It judges no update (see `update_check`) and no order of frames: both are a session's.
@@ -35,7 +35,7 @@ pub use fault::{FeedError, FrameFault};
 pub use frame::Frame;
 pub use frames::Frames;
 pub use hello::Hello;
-pub use laws::{frames_are_read_again, one_split, pieces_join};
+pub use laws::{faults_stay, frames_are_read_again, one_split, pieces_join};
 pub use limits::{MAX_NEEDS, MAX_OLD, PAYLOAD_LIMIT};
 pub use turn::Turn;
 pub use writing::{item_header, write_hello, write_turn};

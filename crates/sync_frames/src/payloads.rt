@@ -26,7 +26,8 @@ fn is_next(last: Option<UpdateId>, id: UpdateId) -> bool
 fn ids_of(alloc: Global, count: usize, bytes: &[u8]) -> Result<(Vec<UpdateId>, &[u8]), ReadError>
     ensures { Gives (λ read. (read.0.items, read.1.now)) result (ids_at count None bytes.now) }
 {
-    let mut ids = Vec::with_capacity(alloc, count)?;
+    // a count may be too large for the bytes, and is then to take no more memory than they do
+    let mut ids = Vec::with_capacity(alloc, count.min(bytes.len() / 32))?;
     let mut last = None;
     let mut rest = bytes;
     for _ in 0..count {
