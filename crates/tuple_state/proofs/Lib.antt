@@ -19,7 +19,6 @@ pub mod Pasts
 pub mod Reaching
 pub mod Regrowth
 pub mod Restricting
-pub mod Rising
 pub mod Shortening
 pub mod Starting
 pub mod Stepping

@@ -3,12 +3,12 @@ use Rattle.std.proofs.Common.{◌≡◌, ℕ, zero, suc, ◌+◌, ◌<◌, Bool,
 use Rattle.std.specs.Prelude.{slice_get, is_some}
 use Rattle.std.specs.List.{list_any, position_from}
 use Rattle.std.proofs.lemmas.List.{reverse-append}
-use Rattle.std.proofs.lemmas.List.Folds.{list_any-append}
 use Rattle.update_model.specs.declared.row_name.RowName.{RowName}
 use Rattle.update_model.specs.Node.{NodeData}
 use Rattle.update_model.proofs.Closed.{is_some-position}
 use Rattle.table_model.specs.Visible.{Rules, TableRow, Effects, same_row, is_visible}
 use Rattle.table_model.specs.Verdicts.{effects_in}
+use Rattle.table_model.proofs.Members.{any_mapped, any_reversed}
 use Rattle.table_model.proofs.Standing.{row_from_same}
 use Rattle.tuple_state.specs.declared.inserted.Inserted.{Inserted}
 use Rattle.tuple_state.specs.State.{IsStateOf, State, done_in, row_of, rules_of}
@@ -18,21 +18,6 @@ use Rattle.tuple_state.proofs.Layers.{SameColumns, same_columns, same_visible, u
 
 pub reverse_cons : {X : Type 0} (x : X) (xs : List X) → reverse (x ∷ xs) ≡ reverse xs ++ x ∷ []
 reverse_cons x xs = reverse-append (x ∷ []) xs
-
-or_turned : (a b : Bool) → (a || (b || false)) ≡ (b || a)
-or_turned true true = refl
-or_turned true false = refl
-or_turned false true = refl
-or_turned false false = refl
-
-pub any_reversed : {X : Type 0} (p : X → Bool) (xs : List X) → list_any p (reverse xs) ≡ list_any p xs
-any_reversed p [] = refl
-any_reversed p (x ∷ xs) =
-    ap (list_any p) (reverse_cons x xs) ∙ list_any-append p (reverse xs) (x ∷ []) ∙ or_turned (list_any p (reverse xs)) (p x) ∙ ap (λ b. p x || b) (any_reversed p xs)
-
-pub any_mapped : {X Y : Type 0} (f : X → Y) (p : Y → Bool) (xs : List X) → list_any p (map f xs) ≡ list_any (λ x. p (f x)) xs
-any_mapped f p [] = refl
-any_mapped f p (x ∷ xs) = ap (λ b. p (f x) || b) (any_mapped f p xs)
 
 -- whether a row has a name, in either order
 pub named_reversed : (rows : List Inserted) (name : RowName) → is_named (reverse (map row_of rows)) name ≡ list_any (λ (it : Inserted). same_row it.name name) rows

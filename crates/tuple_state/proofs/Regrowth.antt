@@ -13,7 +13,8 @@ use Rattle.tuple_state.specs.Kept.{are_layered, is_named}
 use Rattle.tuple_state.specs.Parents.{Continues}
 use Rattle.tuple_state.specs.State.{row_of, rules_with}
 use Rattle.tuple_state.proofs.Growth.{bool_same, all_carry, all_come, all_stay, same_row-symm}
-use Rattle.tuple_state.proofs.Lookups.{any_mapped, any_reversed, get_or_from, reverse_cons, slice_get_mapped}
+use Rattle.table_model.proofs.Members.{any_mapped, any_reversed}
+use Rattle.tuple_state.proofs.Lookups.{get_or_from, reverse_cons, slice_get_mapped}
 use Rattle.tuple_state.proofs.Marking.{slice_get_below}
 
 pub each_back : {X : Type 0} (P : X → Type 0) (xs : List X) → AllByRecursion P (reverse xs) → AllByRecursion P xs

@@ -20,7 +20,6 @@ mod links;
 mod parents;
 mod restricts;
 mod showing;
-mod sorting;
 mod steps;
 mod tables;
 mod voided;

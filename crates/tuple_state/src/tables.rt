@@ -25,7 +25,6 @@ use crate::links::Links;
 use crate::parents::{add_parents, add_places, remark, remove_places, show};
 use crate::restricts::restricts;
 use crate::showing::{copy_rows, listed_among};
-use crate::sorting::{sort_lines, sort_rows};
 use crate::steps::{dropped_by, inserted_by};
 use crate::{At, Dropped, Inserted, Voided};
 use row_check::{Cmp, compare};
@@ -33,7 +32,7 @@ use schema::{Column, ColumnList, Schema};
 use std::alloc::{AllocError, Global};
 use std::collections::{BTreeMap, BTreeSet};
 use std::marker::Model;
-use table_model::{ShownRowList, Verdict, VoidLine, VoidList};
+use table_model::{ShownRowList, Verdict, VoidLine, VoidList, sort_lines, sort_rows};
 use update_model::{Ancestors, Node, RowName, RowsAt, Value};
 
 /// What valid updates did, and which rows are visible for it. A contract sees the [state](mod@crate) of the definitions.
