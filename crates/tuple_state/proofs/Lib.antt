@@ -1,3 +1,4 @@
+pub mod Adding
 pub mod Answering
 pub mod Counting
 pub mod Fronts
@@ -15,7 +16,9 @@ pub mod Listing
 pub mod Lookups
 pub mod Marking
 pub mod Marks
+pub mod Meaning
 pub mod Pasts
+pub mod Raising
 pub mod Reaching
 pub mod Regrowth
 pub mod Restricting

@@ -1,5 +1,5 @@
 -- The rows that a table lists, by what a state holds.
-use Rattle.std.proofs.Common.{◌≡◌, ℕ, zero, suc, Bool, true, false, cond, ◌&&◌, List, [], ◌∷◌, ◌++◌, length, get_or, map, reverse, refl, sym, ap, ◌∙◌, subst, Some, None}
+use Rattle.std.proofs.Common.{◌≡◌, ℕ, zero, suc, Bool, true, false, cond, ◌&&◌, List, [], ◌∷◌, ◌++◌, length, map, reverse, refl, sym, ap, ◌∙◌, subst, None}
 use Rattle.std.specs.Prelude.{filter}
 use Rattle.std.specs.Ordering.{eq_by_cmp}
 use Rattle.std.specs.List.Sorted.{IsPermutation, IsStrictlySortedBy}
@@ -19,14 +19,14 @@ use Rattle.table_model.specs.Invariants.{shown_in}
 use Rattle.table_model.specs.Tables.{AreRowsIn, HasDistinctNames, listed, listed_in, name_cmp}
 use Rattle.table_model.proofs.Rising.{listed_distinct, name_cmp_total, shown_distinct}
 use Rattle.table_model.specs.Verdicts.{in_table}
-use Rattle.table_model.specs.Visible.{Effects, Rules, TableRow, is_visible, same_row, shown, shown_rows, shown_value, shown_values, table_of}
+use Rattle.table_model.specs.Visible.{Effects, Rules, TableRow, is_visible, shown, shown_rows, shown_value, shown_values, table_of}
 use Rattle.tuple_state.specs.declared.inserted.Inserted.{Inserted}
 use Rattle.tuple_state.specs.Kept.{place_of}
 use Rattle.tuple_state.specs.Parents.{columns_at}
 use Rattle.tuple_state.specs.Showing.{shown_by, shown_values_by}
 use Rattle.tuple_state.specs.State.{IsStateOf, State, done_in, row_of, rules_of, rules_with}
 use Rattle.tuple_state.proofs.Layers.{SameColumns, same_visible, unnamed_hidden}
-use Rattle.tuple_state.proofs.Lookups.{columns_same, did_same, get_or_from, reverse_cons, row_found, slice_get_mapped, unnamed_from_none}
+use Rattle.tuple_state.proofs.Lookups.{columns_same, did_same, reverse_cons, unnamed_from_none}
 
 -- ---- what values show
 
@@ -56,14 +56,7 @@ values_lined state it columns values list at of is =
     is ∙ (λ i. shown_values_by (is_visible (rules_of state) (done_in state)) ((at ∙ columns_with state.columns it.entry.table) i) (of i))
     ∙ all_shown (rules_of state) (done_in state) (table_of (rules_of state) it.entry.table).columns it.entry.values
 
--- ---- the mark of a row
-
-pub mark_shown : (state : State) (marks : List Bool) → marks ≡ map (λ (it : Inserted). is_visible (rules_of state) (done_in state) it.name) state.inserted → (name : RowName) (k : ℕ) (b : Bool)
-    → place_of state.inserted name ≡ Some k → b ≡ get_or marks k b → b ≡ is_visible (rules_of state) (done_in state) name
-mark_shown state marks marked name k b found at =
-    let row = row_found state.inserted name k found in
-    let f : Inserted → Bool = λ it. is_visible (rules_of state) (done_in state) it.name in
-    at ∙ ap (λ l. get_or l k b) marked ∙ get_or_from (map f state.inserted) k b (f row.it) (slice_get_mapped f state.inserted k row.it row.at) ∙ ap (is_visible (rules_of state) (done_in state)) row.name_is
+-- ---- a name that no row has
 
 pub none_shown : (state : State) (name : RowName) → place_of state.inserted name ≡ None → false ≡ is_visible (rules_of state) (done_in state) name
 none_shown state name none =

@@ -1,5 +1,5 @@
 -- Rows found by their names.
-use Rattle.std.proofs.Common.{◌≡◌, ℕ, zero, suc, ◌+◌, ◌<◌, Bool, true, false, cond, ◌||◌, List, [], ◌∷◌, ◌++◌, length, get_or, map, reverse, refl, sym, ap, ◌∙◌, Option, Some, None, arith}
+use Rattle.std.proofs.Common.{◌≡◌, ℕ, zero, suc, ◌+◌, ◌<◌, Bool, true, false, cond, List, [], ◌∷◌, ◌++◌, length, get_or, map, reverse, refl, sym, ap, ◌∙◌, Option, Some, None, arith}
 use Rattle.std.specs.Prelude.{slice_get, is_some}
 use Rattle.std.specs.List.{list_any, position_from}
 use Rattle.std.proofs.lemmas.List.{reverse-append}
@@ -14,7 +14,7 @@ use Rattle.tuple_state.specs.declared.inserted.Inserted.{Inserted}
 use Rattle.tuple_state.specs.State.{IsStateOf, State, done_in, row_of, rules_of}
 use Rattle.tuple_state.specs.Kept.{is_named, place_of}
 use Rattle.tuple_state.proofs.Effects.{did_is, columns_are}
-use Rattle.tuple_state.proofs.Layers.{SameColumns, same_columns, same_visible, unnamed_hidden}
+use Rattle.tuple_state.proofs.Layers.{SameColumns, same_columns, same_visible}
 
 pub reverse_cons : {X : Type 0} (x : X) (xs : List X) → reverse (x ∷ xs) ≡ reverse xs ++ x ∷ []
 reverse_cons x xs = reverse-append (x ∷ []) xs
@@ -89,18 +89,3 @@ pub visible_now : (rules : Rules) (nodes : List NodeData) (state : State) → Is
     → is_visible (rules_of state) (done_in state) name ≡ is_visible rules (effects_in rules nodes) name
 visible_now rules nodes state held name =
     same_visible (columns_same rules nodes state held) (done_in state) name ∙ ap (λ (g : Effects). is_visible rules g name) (did_same rules nodes state held)
-
--- a name that no row has is not visible
-pub hidden_now : (rules : Rules) (nodes : List NodeData) (state : State) → IsStateOf rules nodes state → (name : RowName) → place_of state.inserted name ≡ None
-    → false ≡ is_visible rules (effects_in rules nodes) name
-hidden_now rules nodes state held name none =
-    sym (unnamed_hidden (rules_of state) (done_in state) name (unnamed_from_none state.inserted name none) (length (done_in state).inserted)) ∙ visible_now rules nodes state held name
-
--- the mark of a row that is found
-pub mark_now : (rules : Rules) (nodes : List NodeData) (state : State) (shown : List Bool) → IsStateOf rules nodes state
-    → shown ≡ map (λ (it : Inserted). is_visible (rules_of state) (done_in state) it.name) state.inserted → (name : RowName) (k : ℕ) (b : Bool) → place_of state.inserted name ≡ Some k
-    → b ≡ get_or shown k b → b ≡ is_visible rules (effects_in rules nodes) name
-mark_now rules nodes state shown held marked name k b found at =
-    let row = row_found state.inserted name k found in
-    let f : Inserted → Bool = λ it. is_visible (rules_of state) (done_in state) it.name in
-    at ∙ ap (λ l. get_or l k b) marked ∙ get_or_from (map f state.inserted) k b (f row.it) (slice_get_mapped f state.inserted k row.it row.at) ∙ ap (is_visible (rules_of state) (done_in state)) row.name_is ∙ visible_now rules nodes state held name

@@ -10,6 +10,8 @@
 #![tactic(auto)]
 
 mod at;
+mod causes;
+mod children;
 mod columns;
 mod cutting;
 mod deleters;
