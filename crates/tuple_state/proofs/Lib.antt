@@ -17,6 +17,7 @@ pub mod Lookups
 pub mod Marking
 pub mod Marks
 pub mod Meaning
+pub mod Once
 pub mod Pasts
 pub mod Raising
 pub mod Reaching

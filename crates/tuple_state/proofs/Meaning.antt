@@ -29,10 +29,10 @@ use Rattle.tuple_state.proofs.Regrowth.{row_has}
 
 -- ---- counts
 
-count_cons : {X : Type 0} (f : X → Bool) (x : X) (xs : List X) → count_by f (x ∷ xs) ≡ unit (f x) + count_by f xs
+pub count_cons : {X : Type 0} (f : X → Bool) (x : X) (xs : List X) → count_by f (x ∷ xs) ≡ unit (f x) + count_by f xs
 count_cons f x xs = sum_by-cons (λ y. cond (f y) 1 0) x xs
 
-none_counted : {X : Type 0} (f : X → Bool) (xs : List X) → (count_by f xs == 0) ≡ not (list_any f xs)
+pub none_counted : {X : Type 0} (f : X → Bool) (xs : List X) → (count_by f xs == 0) ≡ not (list_any f xs)
 none_counted f [] = refl
 none_counted f (x ∷ xs) =
     let step : (b : Bool) → (unit b + count_by f xs == 0) ≡ not (b || list_any f xs) =
@@ -60,7 +60,7 @@ count_agree n f g h (x ∷ xs) a =
     let parts = and_parts (n x) _ a in
     count_cons f x xs ∙ (λ i. unit (h x parts.0 i) + count_agree n f g h xs parts.1 i) ∙ sym (count_cons g x xs)
 
-count_append : {X : Type 0} (f : X → Bool) (xs ys : List X) → count_by f (xs ++ ys) ≡ count_by f xs + count_by f ys
+pub count_append : {X : Type 0} (f : X → Bool) (xs ys : List X) → count_by f (xs ++ ys) ≡ count_by f xs + count_by f ys
 count_append f xs ys = sum_by-append (λ x. cond (f x) 1 0) xs ys
 
 -- ---- the updates that delete a row

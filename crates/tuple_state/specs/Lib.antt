@@ -1,3 +1,4 @@
+pub mod Absence
 pub mod Causes
 pub mod Kept
 pub mod Links

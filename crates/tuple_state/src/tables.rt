@@ -1,4 +1,4 @@
-ghost use Rattle.std.specs.Prelude.{◌≡◌, ℕ, ◌+◌, ◌*◌, ◌<◌, ◌≤◌, Bool, List, [], ◌∷◌, ◌++◌, IfOk, OnOk, MatchResult, length, slice_get, vec_len, Some, true, ◌&&◌};
+ghost use Rattle.std.specs.Prelude.{◌≡◌, ℕ, ◌+◌, ◌*◌, ◌<◌, ◌≤◌, Bool, List, [], ◌∷◌, ◌++◌, IfOk, OnOk, MatchResult, length, slice_get, vec_len, Contains, Some, true, ◌&&◌};
 ghost use Rattle.std.specs.List.{list_all, list_any};
 ghost use Rattle.std.specs.Vec.{vec_capacity};
 ghost use Rattle.table_model.specs.declared.verdict.Verdict.TheVariants.{Valid};
@@ -9,11 +9,12 @@ ghost use Rattle.row_check.specs.Meaning.{value_at};
 ghost use Rattle.update_model.specs.Node.{NodeData};
 ghost use Rattle.table_model.specs.Tables.{AreRowsIn, AreVoidsIn};
 ghost use Rattle.table_model.specs.Verdicts.{effects_in, in_table};
-ghost use Rattle.table_model.specs.Visible.{Rules, cascade_refs, is_deleted, is_visible, refs, same_row};
+ghost use Rattle.table_model.specs.Visible.{Rules, TableRow, cascade_refs, is_deleted, is_visible, refs, same_row};
 ghost use Rattle.schema.specs.Columns.{is_restrict};
 ghost use Rattle.validity.specs.Answers.{AreAnswers};
 ghost use Rattle.tuple_state.specs.Past.{IsNextVerdict, IsPastOf, StandsAt, done_then, effects_before};
-ghost use Rattle.tuple_state.specs.Kept.{are_layered, place_of};
+ghost use Rattle.tuple_state.specs.Absence.{causes_of};
+ghost use Rattle.tuple_state.specs.Kept.{are_layered, is_named, place_of};
 ghost use Rattle.tuple_state.specs.Parents.{columns_at, passes_place};
 ghost use Rattle.tuple_state.specs.State.{IsCut, IsStateOf, after, done_in, row_of, rules_of, voided_at};
 ghost use Rattle.tuple_state.specs.declared.inserted.Inserted.{Inserted as Row};
@@ -311,6 +312,18 @@ impl Tables {
         ensures { (rules : Rules) (nodes : List NodeData) → IsStateOf rules nodes self.now → result ≡ is_visible rules (effects_in rules nodes) row.now }
     {
         self.is_shown(row)
+    }
+
+    /// The number of causes for which a row is absent that a valid update inserted: of the valid updates that delete it, and
+    /// of its `CASCADE` columns that name a row which is not visible. It takes no memory, and logarithmic time.
+    pub fn causes(&self, row: &RowName) -> &u32
+        requires { is_named (done_in self.now).inserted row.now ≡ true }
+        ensures { (rules : Rules) (nodes : List NodeData) → IsStateOf rules nodes self.now → (it : TableRow) → Contains (effects_in rules nodes).inserted it → it.name ≡ row.now → result.now ≡ causes_of rules nodes it }
+    {
+        match self.places.get(row) {
+            Some(place) => &self.causes[*place],
+            None => &0,
+        }
     }
 
     /// The same answer, told of what the tables hold.
