@@ -1,0 +1,4 @@
+pub mod Creates
+pub mod Declaring
+pub mod Logs
+pub mod Outcomes

@@ -1,0 +1,11 @@
+-- What is said of answers.
+use Rattle.std.proofs.Common.{◌≡◌, Result, Ok, Err}
+use Rattle.std.specs.Prelude.{IfOk, IfErr}
+
+pub if_ok_map : {T E : Type 0} (result : Result T E) (P Q : T → Type 0) → ((x : T) → P x → Q x) → IfOk result P → IfOk result Q
+if_ok_map (Ok x) P Q f is = f x is
+if_ok_map (Err e) P Q f is = tt
+
+pub if_err_map : {T E : Type 0} (result : Result T E) (P Q : E → Type 0) → ((e : E) → P e → Q e) → IfErr result P → IfErr result Q
+if_err_map (Ok x) P Q f is = tt
+if_err_map (Err e) P Q f is = f e is

@@ -1,0 +1,17 @@
+use Rattle.std.proofs.Common.{◌≡◌, List, ℕ, ◌++◌, take, drop, subst, sym, ap, ◌∙◌}
+use Rattle.std.proofs.lemmas.List.{take-append-drop}
+use Rattle.update_check.specs.Members.{AreMembers}
+use Rattle.replica.proofs.Logs.{log_follows}
+use Rattle.replica.proofs.commit.settle_and_append.Goals as goal
+
+pub append-requires-clause-next : goal.append-requires-clause-next
+append-requires-clause-next g c =
+    let members = c.args.history.now.members in
+    let front = take c.args.from members in
+    let all : members ≡ front ++ c.tail.result.now = sym (take-append-drop c.args.from members) ∙ ap (λ (l : List (List ℕ)). front ++ l) (sym c.tail.ensures) in
+    (c.args.history.now.schema.rule, (front, c.settle.ensures.kept front c.requires.log, subst (AreMembers c.args.history.now.schema.rule) all c.len.ensures.kept.members))
+
+pub returns-clause-any_moment : goal.returns-clause-any_moment
+returns-clause-any_moment g c =
+    let front = take c.args.from c.args.history.now.members in
+    log_follows front c.args.log.now c.settle.new.log c.append.new.self (c.settle.ensures.any_moment front c.requires.log) (c.settle.ensures.kept front c.requires.log) c.append.ensures.any_moment

@@ -1,0 +1,5 @@
+pub mod Making
+pub mod Opening
+pub mod Payload
+pub mod Replicas
+pub mod Signing

