@@ -1,18 +1,20 @@
 -- The key of a directory, as it is taken from a shelf and put back.
-use Rattle.std.specs.Prelude.{◌≡◌, ◌≢◌, ◌⊎◌, ℕ, List, [], ◌∷◌, false, IsTrue, Option, Some, None, slice_set}
-use Rattle.bec_disk.specs.Disk.{DiskState, EveryImage, LeavesSince, handed_out, moments}
+use Rattle.std.specs.Prelude.{◌≡◌, ◌≢◌, ◌⊎◌, ℕ, ◌+◌, List, [], ◌∷◌, IsTrue, Option, Some, None}
+use Rattle.bec_disk.specs.Disk.{DiskState, EveryImage, LeavesOnly, LeavesSince, handed_out}
+use Rattle.bec_disk.specs.Images.{IsTorn}
 use Rattle.bec_disk.specs.Gated.{gated_of}
 use Rattle.bec_disk.specs.declared.gated.Gated.TheVariants.{Absent}
 use Rattle.bec_disk.specs.declared.part.Part.TheVariants.{Key, Used}
-use Rattle.bec_disk.specs.Shelf.{PartState, ShelfState, absent, moments_of, out, stands}
+use Rattle.bec_disk.specs.Shelf.{PartState, ShelfState, moments_of, out, stands}
 use Rattle.bec_disk.specs.Slot.{slot}
 use Rattle.key_index.specs.KeyState.{KeyParts, KeyState}
 use Rattle.key_index.specs.Opening.{AreOfKey, AreOfNoKey}
+use Rattle.key_index.specs.Reserving.{Tries}
 use Rattle.key_index.specs.Used.{IsUsed, used_in}
 use Rattle.lms_tree.specs.SecretKey.{SecretData}
 use Rattle.store_directory.specs.declared.key_refusal.KeyRefusal.{KeyRefusal}
 use Rattle.store_directory.specs.declared.key_refusal.KeyRefusal.TheVariants.{NoKey, BadKey, DiskFault, Memory}
-use Rattle.store_directory.specs.Stores.{IfStands, IsHome, IsUntouched, KeepsAllBut, part_in, reading}
+use Rattle.store_directory.specs.Stores.{IfStands, IsUntouched, KeepsAllBut, part_in, reading}
 
 -- The two parts read as this key.
 abbrev pub ReadsAsKey : Option (List ℕ) → Option (List ℕ) → SecretData → Type 0
@@ -49,24 +51,35 @@ pub record LetsKeyGo (before : ShelfState) (dir : List ℕ) (after : ShelfState)
   pub tells : after.tells ≡ before.tells
   pub key_part : IsTrue before.tells → IsUntouched (part_in before dir Key) (part_in after dir Key)
   pub used_part : IsTrue before.tells → IsUntouched (part_in before dir Used) (part_in after dir Used)
-  pub others : KeepsAllBut (Key ∷ Used ∷ []) dir before after
+  pub others : IsTrue before.tells → KeepsAllBut (Key ∷ Used ∷ []) dir before after
 
--- Why no key was taken, by what the parts read as.
+-- Why no key was taken of two parts, by what they read as.
+abbrev pub IsKeyRefusalCause : Option (List ℕ) → Option (List ℕ) → KeyRefusal → Type 0
+IsKeyRefusalCause key used NoKey = IsNoKey key
+IsKeyRefusalCause key used BadKey = IsBadKey key used
+IsKeyRefusalCause key used DiskFault = Unit {0}
+IsKeyRefusalCause key used Memory = Unit {0}
+
+-- Why no key was taken of a directory.
 abbrev pub IsKeyCause : ShelfState → List ℕ → KeyRefusal → Type 0
-IsKeyCause shelf dir NoKey = IsNoKey (reading (part_in shelf dir Key))
-IsKeyCause shelf dir BadKey = IsBadKey (reading (part_in shelf dir Key)) (reading (part_in shelf dir Used))
-IsKeyCause shelf dir DiskFault = Unit {0}
-IsKeyCause shelf dir Memory = Unit {0}
+IsKeyCause shelf dir why = IsKeyRefusalCause (reading (part_in shelf dir Key)) (reading (part_in shelf dir Used)) why
 
 -- Both parts stand in their places again, as these disks.
 pub record PutsKey (before : ShelfState) (dir : List ℕ) (parts : KeyParts) (after : ShelfState) : Type 0 where
   pub tells : after.tells ≡ before.tells
   pub key_back : IsTrue before.tells → part_in after dir Key ≡ stands parts.key
   pub used_back : IsTrue before.tells → part_in after dir Used ≡ stands parts.used
-  pub others : KeepsAllBut (Key ∷ Used ∷ []) dir before after
+  pub others : IsTrue before.tells → KeepsAllBut (Key ∷ Used ∷ []) dir before after
 
--- What a run that signs at most once does to the part Used: it reads as before, or with one index used besides; and an index that each crash
--- left used stays so at each moment.
+-- What a run that tries at most one index does to the part Used: it reads as before, or the byte of one index alone was written; and an index
+-- that reads as used stays so, whatever a crash leaves at each moment.
 pub record KeepsUsed (old new : PartState) : Type 0 where
-  pub reads : IsUntouched old new ⊎ IfStands old (λ before. IfStands new (λ after. (index : ℕ) × (after.seen ≡ slice_set before.seen index 1)))
-  pub used : (index : ℕ) → IfStands old (λ before. EveryImage before.now (IsUsed index)) → LeavesSince (moments_of old) (moments_of new) (IsUsed index)
+  pub reads : IsUntouched old new ⊎ IfStands old (λ before. IfStands new (λ after. (index : ℕ) × IsTorn index (index + 1) before.seen after.seen))
+  pub used : (index : ℕ) → IfStands old (λ before. IsUsed index before.seen)
+      → LeavesSince (moments_of old) (moments_of new) (IsUsed index) × IfStands new (λ after. IsUsed index after.seen)
+
+-- What calls that sign at most once have done to a key that was taken: nothing, or one index was tried. An index that each crash left used
+-- stays so at each moment.
+pub record WorksWith (taken now : KeyState) : Type 0 where
+  pub tried : (now ≡ taken) ⊎ ((index : ℕ) × Tries taken index now)
+  pub used : (index : ℕ) → (IsTrue taken.parts.used.tells → EveryImage taken.parts.used.now (IsUsed index)) → LeavesOnly taken.parts.used now.parts.used (IsUsed index)

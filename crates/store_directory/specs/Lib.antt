@@ -1,4 +1,5 @@
 pub mod Holding
 pub mod Keys
+pub mod Making
 pub mod Refusals
 pub mod Stores

@@ -1,12 +1,12 @@
 //! The key of a directory.
 
-ghost use Rattle.std.specs.Prelude.{◌≡◌, ◌≢◌, ◌≤◌, ◌<◌, Some, IsTrue, IfOk, IfErr, IsErrOf};
+ghost use Rattle.std.specs.Prelude.{◌≡◌, ◌≢◌, ◌≤◌, ◌<◌, ◌⊎◌, Some, IsTrue, IfOk, IfErr, OnErr, IsErrOf};
 ghost use Rattle.bec_bytes.specs.Causes.{Rose};
 ghost use Rattle.bec_disk.specs.declared.part.Part.TheVariants.{Key, Used};
-ghost use Rattle.bec_disk.specs.Shelf.{out};
+ghost use Rattle.bec_disk.specs.Shelf.{HandsOut, out};
 ghost use Rattle.bec_disk.specs.Slot.{slot};
-ghost use Rattle.store_directory.specs.Keys.{IsKeyCause, LetsKeyGo, PutsKey, TakesKey};
-ghost use Rattle.store_directory.specs.Stores.{part_in};
+ghost use Rattle.store_directory.specs.Keys.{IsKeyCause, IsKeyRefusalCause, LetsKeyGo, PutsKey, TakesKey};
+ghost use Rattle.store_directory.specs.Stores.{part_in, reading};
 
 use crate::key_refusal::KeyRefusal;
 use bec_disk::{Gated, Part, Shelf, read_gated};
@@ -30,11 +30,20 @@ pub fn take_key<H: Shelf>(
     let Some(mut key) = shelf.find(dir, Part::Key)? else {
         return Err(KeyRefusal::NoKey);
     };
-    match take_used(alloc, shelf, dir, &mut key) {
-        Ok(used) => open_both(alloc, shelf, key, used),
+    let used = match take_used(alloc, shelf, dir, &mut key) {
+        Ok(used) => used,
         Err(why) => {
             shelf.put_back(key);
-            Err(why)
+            return Err(why);
+        }
+    };
+    match KeyStore::open_key(alloc, key, used) {
+        Ok(store) => Ok(store),
+        Err(fault) => {
+            let KeyFault { why, key, used } = fault;
+            shelf.put_back(used);
+            shelf.put_back(key);
+            Err(KeyRefusal::from(why))
         }
     }
 }
@@ -47,6 +56,15 @@ fn take_used<H: Shelf>(
     key: &mut H::D,
 ) -> Result<H::D, KeyRefusal>
     requires used_in { IsTrue (H.state shelf.old).tells → part_in (H.state shelf.old) dir.now Used ≢ out }
+    ensures finds { IfOk result (λ used. HandsOut (H.state shelf.old) (slot dir.now Used) (H.D.state used) (H.state shelf.new)) }
+    ensures clean { IfOk result (λ used. H.D.faults used ≡ 0) }
+    ensures unchanged { OnErr result (H.state shelf.new ≡ H.state shelf.old) }
+    ensures refused { IfErr result (λ why. IsTrue (H.state shelf.old).tells → IsTrue (H.D.state key.old).tells
+        → IsKeyRefusalCause (Some (H.D.state key.old).seen) (reading (part_in (H.state shelf.old) dir.now Used)) why) }
+    ensures same { H.D.state key.new ≡ H.D.state key.old }
+    ensures later { H.faults shelf.old ≤ H.faults shelf.new }
+    ensures key_later { H.D.faults key.old ≤ H.D.faults key.new }
+    ensures failed { IsErrOf result KeyRefusal.DiskFault → Rose (H.faults shelf.old) (H.faults shelf.new) ⊎ Rose (H.D.faults key.old) (H.D.faults key.new) }
 {
     if let Gated::Absent = read_gated(alloc, key)? {
         return Err(KeyRefusal::NoKey);
@@ -54,25 +72,6 @@ fn take_used<H: Shelf>(
     match shelf.find(dir, Part::Used)? {
         Some(used) => Ok(used),
         None => Err(KeyRefusal::BadKey),
-    }
-}
-
-/// Opens the key of two parts that are handed out, or puts both back.
-fn open_both<H: Shelf>(
-    alloc: Global,
-    shelf: &mut H,
-    key: H::D,
-    used: H::D,
-) -> Result<KeyStore<H::D>, KeyRefusal>
-{
-    match KeyStore::open_key(alloc, key, used) {
-        Ok(store) => Ok(store),
-        Err(fault) => {
-            let KeyFault { why, key, used } = fault;
-            shelf.put_back(used);
-            shelf.put_back(key);
-            Err(KeyRefusal::from(why))
-        }
     }
 }
 

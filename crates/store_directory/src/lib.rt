@@ -13,12 +13,19 @@
 //! Its definitions say what a run leaves of a directory: the list of its store with what was added, at each moment, and every other part as it was.
 #![tactic(auto)]
 
+mod finding;
 mod key;
 mod key_refusal;
+mod laws;
+mod making_key;
+mod making_store;
 mod store;
 mod store_refusal;
 
 pub use key::{put_key, take_key};
 pub use key_refusal::KeyRefusal;
+pub use laws::{key_or_not, one_key, one_store, store_or_not};
+pub use making_key::new_key;
+pub use making_store::{is_there, new_store};
 pub use store::{OpenStore, put_store, take_store};
 pub use store_refusal::StoreRefusal;

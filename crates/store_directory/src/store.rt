@@ -1,13 +1,13 @@
 //! The store of a directory.
 
-ghost use Rattle.std.specs.Prelude.{◌≡◌, ◌≢◌, ◌≤◌, ◌<◌, ◌⊎◌, false, Some, IsTrue, IfOk, IfErr, IsErrOf};
+ghost use Rattle.std.specs.Prelude.{◌≡◌, ◌≢◌, ◌≤◌, ◌<◌, ◌⊎◌, Some, IsTrue, IfOk, IfErr, IsErrOf};
 ghost use Rattle.bec_bytes.specs.Causes.{Rose};
 ghost use Rattle.bec_disk.specs.declared.part.Part.TheVariants.{Schema, Updates};
 ghost use Rattle.bec_disk.specs.Disk.{IsSettled};
 ghost use Rattle.bec_disk.specs.Shelf.{out};
 ghost use Rattle.bec_disk.specs.Slot.{slot};
-ghost use Rattle.store_directory.specs.Holding.{IsStoreCause, LetsGo, PutsStore, TakesStore};
-ghost use Rattle.store_directory.specs.Stores.{part_in};
+ghost use Rattle.store_directory.specs.Holding.{IsRefusalCause, IsStoreCause, LetsGo, LetsUpdatesGo, PutsStore, TakesStore, TakesUpdates};
+ghost use Rattle.store_directory.specs.Stores.{part_in, reading};
 
 use crate::store_refusal::StoreRefusal;
 use bec_disk::{Disk, Gated, Part, Shelf, read_gated};
@@ -20,15 +20,19 @@ use std::marker::Model;
 #[derive(Drop)]
 pub struct OpenStore<D: Disk, L: Relation, C: Checks<L>> {
     /// The disk of the part Schema.
-    schema: D,
+    pub(crate) schema: D,
     /// The store.
     pub replica: Replica<D, L, C>,
 }
 
 impl<D: Disk, L: Relation, C: Checks<L>> Model for OpenStore<D, L, C> {
+    ghost use Rattle.schema.specs.Checks.{coded_tree};
+    ghost use Rattle.std.specs.Coded.{codes};
     ghost use Rattle.store_directory.specs.Holding.{OpenData};
 
     ghost Value = { OpenData };
+
+    ghost coded = { Prim.hlevel (codes, coded_tree) };
 
     ghost view = { λ o. record { schema = D.state o.schema; schema_faults = D.faults o.schema; replica = o.replica } };
 }
@@ -70,6 +74,14 @@ fn take_updates<H: Shelf, L: Relation, C: Checks<L>>(
 ) -> Result<Replica<H::D, L, C>, StoreRefusal>
     requires updates_in { IsTrue (H.state shelf.old).tells → part_in (H.state shelf.old) dir.now Updates ≢ out }
     requires settled { IsTrue (H.D.state schema.old).tells → IsSettled (H.D.state schema.old) }
+    ensures takes { IfOk result (λ replica. TakesUpdates L.answer (H.state shelf.old) dir.now (H.D.state schema.old) replica (H.state shelf.new)) }
+    ensures lets_go { IfErr result (λ _. LetsUpdatesGo L.answer (H.state shelf.old) dir.now (H.D.state schema.old) (H.state shelf.new)) }
+    ensures refused { IfErr result (λ why. IsTrue (H.state shelf.old).tells → IsTrue (H.D.state schema.old).tells
+        → IsRefusalCause L.answer (Some (H.D.state schema.old).seen) (reading (part_in (H.state shelf.old) dir.now Updates)) why) }
+    ensures same { H.D.state schema.new ≡ H.D.state schema.old }
+    ensures later { H.faults shelf.old ≤ H.faults shelf.new }
+    ensures schema_later { H.D.faults schema.old ≤ H.D.faults schema.new }
+    ensures failed { IsErrOf result StoreRefusal.DiskFault → Rose (H.faults shelf.old) (H.faults shelf.new) ⊎ Rose (H.D.faults schema.old) (H.D.faults schema.new) }
 {
     if let Gated::Absent = read_gated(alloc, schema)? {
         return Err(StoreRefusal::NoStore);
@@ -92,7 +104,7 @@ pub fn put_store<H: Shelf, L: Relation, C: Checks<L>>(
     shelf: &mut H,
     dir: &str,
     store: OpenStore<H::D, L, C>,
-) 
+)
     requires schema_of { IsTrue (H.state shelf.old).tells → (store.schema.slot ≡ Some (slot dir.now Schema)) × (part_in (H.state shelf.old) dir.now Schema ≡ out) }
     requires updates_of { IsTrue (H.state shelf.old).tells → (store.replica.log.disk.slot ≡ Some (slot dir.now Updates)) × (part_in (H.state shelf.old) dir.now Updates ≡ out) }
     ensures puts { PutsStore (H.state shelf.old) dir.now store.schema store.replica.log.disk (H.state shelf.new) }
