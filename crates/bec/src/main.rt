@@ -1,23 +1,41 @@
 //! The program `bec`: it makes the real objects, calls [`bec_node::run`], and ends with its status.
 #![tactic(auto)]
 
-use bec_host::{HostSink, HostSource};
+use bec_host::{FileShelf, HashRng, HostSink, HostSource};
 use bec_node::run;
-use bec_node::status::OUT_OF_MEMORY;
+use bec_node::status::{OUT_OF_MEMORY, STREAM_FAULT};
 use std::alloc::AllocError;
 use std::env;
 use std::io::ErrorKind;
 use std::process::ExitCode;
+use std::random::RandomSource;
 
 fn main(rt: HostRuntime) -> ExitCode {
     let Ok(words) = words(&rt) else {
         return ExitCode::from(OUT_OF_MEMORY);
     };
+    let mut key = [0; 32];
+    if rt.fill_bytes(&mut key).is_err() {
+        return ExitCode::from(STREAM_FAULT);
+    }
+    let files: Result<_, _> = rt.clone();
+    let Ok(files) = files else {
+        return ExitCode::from(OUT_OF_MEMORY);
+    };
     let Ok(mut input) = HostSource::new(rt.alloc(), rt.stdin()) else {
         return ExitCode::from(OUT_OF_MEMORY);
     };
+    let mut random = HashRng::new(key);
+    let mut shelf = FileShelf::new(files, rt.stderr());
     let mut output = HostSink::new(rt.stdout());
-    ExitCode::from(run(rt.alloc(), &words, &mut input, &mut output))
+    ExitCode::from(run(
+        rt.alloc(),
+        &words,
+        &mut shelf,
+        &mut random,
+        &mut input,
+        &mut output,
+    ))
 }
 
 /// The words of the command line, without the program's own name. Words of which one is no UTF-8 are no command, as no

@@ -18,14 +18,13 @@ use Rattle.table_text.specs.Tables.{tables_text}
 use Rattle.bec_node.specs.declared.refusal.Refusal.{Refusal}
 use Rattle.bec_node.specs.declared.refusal.Refusal.TheVariants.{Record}
 use Rattle.bec_node.specs.Bundle.{DumpAnswer, holds as holds_text, lacks, HoldsText, IsCutSchema, LacksText, RecordsAnswer, whole, stopped, TextAnswer, taken, refused as text_refused, nodes_of}
-use Rattle.bec_node.specs.Commands.{AnswerTo}
 use Rattle.bec_node.specs.Heads.{HeadsAnswer, done, refused}
-use Rattle.bec_node.specs.Outcome.{Outcome, Prints, status_for, status_of, text_for, text_of}
+use Rattle.bec_node.specs.Outcome.{Outcome, Prints, from_taking, status_for, status_of, text_for, text_of}
 use Rattle.bec_node.specs.Texts.{printed}
-use Rattle.bec_node.specs.Verdict.{CheckAnswer, confluent, refused as check_refused, RefusesSchema, TakesSchema, rules_of}
-use Rattle.bec_node.specs.declared.command.Command.{Command}
-use Rattle.bec_node.specs.declared.command.Command.TheVariants.{Heads, Check, Dump}
-use Rattle.bec_node.proofs.Refusals.{SchemaLaws, refuses_once, taken_or_refused}
+use Rattle.schema.specs.Schemas.{Declares, Meaning}
+use Rattle.confluence_test.specs.Taking.{RefusesSchema, TakesSchema}
+use Rattle.confluence_test.specs.declared.refusal.SchemaRefusal.{SchemaRefusal}
+use Rattle.bec_node.specs.Verdict.{CheckAnswer, confluent, refused as check_refused, rules_of}
 use Rattle.bec_node.proofs.Tables.{TableLaws, tables_once}
 
 heads_once : (members others : List (List ℕ)) (heads again : List UpdateId) → members ≡ others → AreHeads (map entry_of members) heads → AreHeads (map entry_of others) again → heads ≡ again
@@ -43,6 +42,12 @@ pub record StreamLaws : Type 0 where
       → IsRefused given input rest m fault → IsRefused given input other n another → (m ≡ n) × (fault ≡ another)
   pub whole_or_refused : (given : Option RuleData) (input rest : List ℕ) (members : List (List ℕ)) (n : ℕ) (fault : RecordFault)
       → IsWhole given input members → IsRefused given input rest n fault → ⊥
+
+-- what is known of schemas: a text declares one, or is refused for one reason, and not both
+pub record SchemaLaws : Type 0 where
+  pub one_schema : (relation : Meaning) (text : List ℕ) (schema other : SchemaData) → Declares relation text schema → Declares relation text other → schema ≡ other
+  pub taken_or_refused : (ask : Meaning) (text : List ℕ) (schema : SchemaData) (refusal : SchemaRefusal) → TakesSchema ask text schema → RefusesSchema ask text refusal → ⊥
+  pub refused_once : (ask : Meaning) (text : List ℕ) (refusal other : SchemaRefusal) → RefusesSchema ask text refusal → RefusesSchema ask text other → refusal ≡ other
 
 -- the outcomes are told apart by nobody: one status and one text
 abbrev pub Same : Outcome → Outcome → Type 0
@@ -67,12 +72,18 @@ module _ (streams : StreamLaws) where
   heads_answered input after other a b (refused n g s f) (done ms hs r h p) = absurd (streams.whole_or_refused None input s.0 ms n g r.2.0 s.2)
   heads_answered input after other a b (refused m f r e) (refused n g s h) = same_refused a b (Record m f) (Record n g) (same_stop None input r.0 s.0 m n f g r.2 s.2) e h
 
+-- a text that is taken is not refused
+not_both : SchemaLaws → (input t u : List ℕ) (schema : SchemaData) (why : SchemaRefusal) → t ≡ input → u ≡ input → TakesSchema is_luhn t schema → RefusesSchema is_luhn u why → ⊥
+not_both laws input t u schema why here there takes refuses =
+    laws.taken_or_refused is_luhn input schema why (subst (λ (w : List ℕ). TakesSchema is_luhn w schema) here takes) (subst (λ (w : List ℕ). RefusesSchema is_luhn w why) there refuses)
+
 check_answered : SchemaLaws → (input : List ℕ) (after other : Option (List ℕ)) (a b : Outcome) → CheckAnswer (Some input) after a → CheckAnswer (Some input) other b → Same a b
 check_answered laws input after other a b (confluent t x h take p) (confluent u y k takes q) = same_prints a b _ _ refl p q
-check_answered laws input after other a b (confluent t x h take p) (check_refused u r k not f) = absurd (taken_or_refused laws input r x (subst (λ (w : List ℕ). TakesSchema w x) h.0 take) (subst (λ (w : List ℕ). RefusesSchema w r) k.0 not))
-check_answered laws input after other a b (check_refused u r k not f) (confluent t x h take p) = absurd (taken_or_refused laws input r x (subst (λ (w : List ℕ). TakesSchema w x) h.0 take) (subst (λ (w : List ℕ). RefusesSchema w r) k.0 not))
+check_answered laws input after other a b (confluent t x h take p) (check_refused u r k not f) = absurd (not_both laws input t u x r h.0 k.0 take not)
+check_answered laws input after other a b (check_refused u r k not f) (confluent t x h take p) = absurd (not_both laws input t u x r h.0 k.0 take not)
 check_answered laws input after other a b (check_refused t r h one e) (check_refused u s k two f) =
-    same_refused a b r s (refuses_once laws input r s (subst (λ (w : List ℕ). RefusesSchema w r) h.0 one) (subst (λ (w : List ℕ). RefusesSchema w s) k.0 two)) e f
+    let same : r ≡ s = laws.refused_once is_luhn input r s (subst (λ (w : List ℕ). RefusesSchema is_luhn w r) h.0 one) (subst (λ (w : List ℕ). RefusesSchema is_luhn w s) k.0 two) in
+    same_refused a b (from_taking r) (from_taking s) (ap from_taking same) e f
 
 -- ---- bundles
 
@@ -115,9 +126,9 @@ module _ (streams : StreamLaws) (schemas : SchemaLaws) (laws : TableLaws) where
   text_answered declared more after other a b (taken x t r) (taken y u s) =
       let same : x ≡ y = schemas.one_schema is_luhn declared x y t.declares u.declares in
       records_answered y more after other a b (subst (λ (z : SchemaData). RecordsAnswer z (Some more) after a) same r) s
-  text_answered declared more after other a b (taken x t r) (text_refused s not same f) = absurd (taken_or_refused schemas declared s x t not)
-  text_answered declared more after other a b (text_refused s not same f) (taken x t r) = absurd (taken_or_refused schemas declared s x t not)
-  text_answered declared more after other a b (text_refused r one same e) (text_refused s two again f) = same_refused a b r s (refuses_once schemas declared r s one two) e f
+  text_answered declared more after other a b (taken x t r) (text_refused s not same f) = absurd (schemas.taken_or_refused is_luhn declared x s t not)
+  text_answered declared more after other a b (text_refused s not same f) (taken x t r) = absurd (schemas.taken_or_refused is_luhn declared x s t not)
+  text_answered declared more after other a b (text_refused r one same e) (text_refused s two again f) = same_refused a b (from_taking r) (from_taking s) (ap from_taking (schemas.refused_once is_luhn declared r s one two)) e f
 
   held_answered : (input d e : List ℕ) (m n after other : Option (List ℕ)) (a b : Outcome) → HoldsText (Some input) m d → HoldsText (Some input) n e → TextAnswer d m after a → TextAnswer e n other b → Same a b
   held_answered input d e m n after other a b h i t u =
@@ -132,11 +143,15 @@ module _ (streams : StreamLaws) (schemas : SchemaLaws) (laws : TableLaws) where
   dump_answered input after other a b (lacks r l e) (holds_text d m h t) = absurd (lacks_or_holds input d after m r l h)
   dump_answered input after other a b (lacks r l e) (lacks s k f) = same_refused a b r s (lacks_once input after other r s l k) e f
 
--- what a source has left has one answer to a command
-abbrev pub OneAnswer : Type 0
-OneAnswer = (command : Command) (input : List ℕ) (after other : Option (List ℕ)) (a b : Outcome) → AnswerTo command (Some input) after a → AnswerTo command (Some input) other b → Same a b
+-- what a source has left has one answer
+abbrev pub IsOneAnswer : (Option (List ℕ) → Option (List ℕ) → Outcome → Type 0) → Type 0
+IsOneAnswer Answer = (input : List ℕ) (after other : Option (List ℕ)) (a b : Outcome) → Answer (Some input) after a → Answer (Some input) other b → Same a b
+
+-- so it is of each command
+pub record OneAnswer : Type 0 where
+  pub heads : IsOneAnswer HeadsAnswer
+  pub check : IsOneAnswer CheckAnswer
+  pub dump : IsOneAnswer DumpAnswer
 
 pub answered : StreamLaws → SchemaLaws → TableLaws → OneAnswer
-answered streams schemas laws Heads input after other a b = heads_answered streams input after other a b
-answered streams schemas laws Check input after other a b = check_answered schemas input after other a b
-answered streams schemas laws Dump input after other a b = dump_answered streams schemas laws input after other a b
+answered streams schemas laws = record { heads = heads_answered streams; check = check_answered schemas; dump = dump_answered streams schemas laws }

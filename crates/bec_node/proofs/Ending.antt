@@ -1,71 +1,21 @@
--- How a command ends.
-use Rattle.std.proofs.Common.{◌≡◌, ◌⊎◌, inl, inr, ℕ, ◌<◌, ◌≤◌, ◌+◌, ◌*◌, ◌==◌, List, [], ◌∷◌, find, length, codes, refl, sym, ap, subst, ◌∙◌, Option, Some, None, Ok, Err, String, slice_get, arith}
+-- How a run ends.
+use Rattle.std.proofs.Common.{◌≡◌, ◌⊎◌, inl, inr, ℕ, List, [], ◌++◌, append-nil, codes, refl, sym, ap, subst, ◌∙◌, map, Option, Some, None, Ok, Err, String}
 use Rattle.std.specs.declared.alloc.Global.{Global}
 use Rattle.std.specs.String.{string_bytes}
-use Rattle.bec_node.specs.declared.command.Command.{Command}
-use Rattle.bec_node.specs.declared.command.Command.TheVariants.{Heads, Check, Dump}
+use Rattle.std.specs.Io.KnownBytes.{Appends}
+use Rattle.command_words.specs.Requests.{Asks, RequestText, heads, check, dump, init, keygen, apply, join, export, merge}
+use Rattle.bec_node.specs.declared.refusal.Refusal.{Refusal}
 use Rattle.bec_node.specs.declared.refusal.Refusal.TheVariants.{Words, Memory}
-use Rattle.bec_node.specs.declared.status.TheConstants.{NO_COMMAND, STREAM_FAULT}
-use Rattle.bec_node.specs.Commands.{AnswerTo, word_of}
-use Rattle.bec_node.specs.Outcome.{ComesTo, Ends, Outcome, Puts, Says, status_for, status_of}
-use Rattle.bec_node.specs.Run.{IsCommand, IsNoCommand, HasFirstWord, Outside, named, none, AnswersOnly, Runs}
-use Rattle.bec_node.proofs.Answer.{OneAnswer}
+use Rattle.bec_node.specs.declared.status.TheConstants.{NO_COMMAND, OUT_OF_MEMORY, STREAM_FAULT}
+use Rattle.bec_node.specs.Bundle.{DumpAnswer}
+use Rattle.bec_node.specs.Heads.{HeadsAnswer}
+use Rattle.bec_node.specs.Verdict.{CheckAnswer}
+use Rattle.bec_node.specs.Outcome.{ComesTo, Ends, MayLackMemory, Outcome, Puts, Says, status_for, status_of}
+use Rattle.bec_node.specs.Outside.{IsUntouched, Outside, SinkState}
+use Rattle.bec_node.specs.Run.{AnswersOnly, Comes, IsCommand, IsLeftOut, IsNoCommand, named, none, ReadsSource, Runs, SourceOnly, unread}
+use Rattle.bec_node.proofs.Answer.{IsOneAnswer, OneAnswer}
 
--- ---- words
-
-pub one_word : (command : Command) (words : List (String Global)) → HasFirstWord command words → length words ≤ 1 → IsCommand command words
-one_word command [] first few = absurd cc
-one_word command (word ∷ []) first few = let is : string_bytes word ≡ word_of command = cc in ap (λ (w : List ℕ). w ∷ []) is
-one_word command (word ∷ other ∷ words) first few = absurd (omega arith)
-
-pub more_words : (words : List (String Global)) → 1 < length words → IsNoCommand words
-more_words [] many command is = absurd (omega arith)
-more_words (word ∷ []) many command is = absurd (omega arith)
-more_words (word ∷ other ∷ words) many command is = cc
-
-pub first_word : (command : Command) (words : List (String Global)) (word : String Global) → slice_get words 0 ≡ Some word → string_bytes word ≡ word_of command → HasFirstWord command words
-first_word command [] word at is = absurd cc
-first_word command (w ∷ words) word at is = let same : w ≡ word = cc in ap (λ (t : String Global). Some (string_bytes t)) same ∙ ap Some is
-
--- the first word is the one word
-first_is : (command other : Command) (words : List (String Global)) → HasFirstWord command words → IsCommand other words → word_of command ≡ word_of other
-first_is command other [] first is = absurd cc
-first_is command other (word ∷ []) first is = let a : string_bytes word ≡ word_of command = cc in let b : string_bytes word ≡ word_of other = cc in sym a ∙ b
-first_is command other (word ∷ more ∷ words) first is = absurd cc
-
--- a number of a word, and the command that it is of
-abbrev code : List ℕ → ℕ
-code [] = 0
-code (x ∷ xs) = x + 256 * code xs
-
-abbrev command_of : List ℕ → Option Command
-command_of word = find (λ c. code (word_of c) == code word) (Heads ∷ Check ∷ Dump ∷ [])
-
-of_word : (command : Command) → command_of (word_of command) ≡ Some command
-of_word Heads = refl
-of_word Check = refl
-of_word Dump = refl
-
--- commands with one word are one
-one_word_of : (command other : Command) → word_of command ≡ word_of other → other ≡ command
-one_word_of command other same = let is : Some other ≡ Some command = sym (of_word other) ∙ ap command_of (sym same) ∙ of_word command in cc
-
--- the words of two commands
-pub one_command : (command other : Command) (words : List (String Global)) → HasFirstWord command words → IsCommand other words → other ≡ command
-one_command command other words first is = one_word_of command other (first_is command other words first is)
-
-pub other_first : (words : List (String Global)) (word : String Global) → slice_get words 0 ≡ Some word → ((command : Command) → string_bytes word ≡ word_of command → ⊥) → IsNoCommand words
-other_first [] word at other command is = absurd cc
-other_first (w ∷ words) word at other command is =
-    let same : w ≡ word = cc in
-    let named : string_bytes w ≡ word_of command = cc in
-    other command (ap (λ (t : String Global). string_bytes t) (sym same) ∙ named)
-
-pub no_first : (words : List (String Global)) → slice_get words 0 ≡ None → IsNoCommand words
-no_first [] at command is = cc
-no_first (w ∷ words) at command is = cc
-
--- ---- outcomes
+-- ---- statuses
 
 -- the status is the outcome's own, or a stream fault's
 status_said : (old new : ℕ) (held held_new : Option (List ℕ)) (outcome : Outcome) (status : ℕ) → Says old new held held_new outcome status → (status ≡ status_of outcome) ⊎ (status ≡ STREAM_FAULT)
@@ -73,37 +23,108 @@ status_said old new held held_new (Err Memory) status said = inl said.0
 status_said old new held held_new outcome status (inl whole) = inl whole.0
 status_said old new held held_new outcome status (inr front) = inr front.0
 
+-- a stream fault or want of memory comes in the place of each answer
+abbrev IsFaultStatus : ℕ → Type 0
+IsFaultStatus status = (status ≡ STREAM_FAULT) ⊎ (status ≡ OUT_OF_MEMORY)
+
+source_fault : (Answer : Option (List ℕ) → Option (List ℕ) → Outcome → Type 0) (before : Option (List ℕ)) (status : ℕ) → IsFaultStatus status → SourceOnly Answer before status
+source_fault Answer None status fault = tt
+source_fault Answer (Some input) status fault = λ after outcome answer. inr (inr fault)
+
 -- an answer comes with its status, or a fault with its own
-only_said : OneAnswer → (command : Command) (before after : Option (List ℕ)) (old new : ℕ) (outcome : Outcome) (status : ℕ) → ComesTo (AnswerTo command) before after old new outcome
-    → (status ≡ status_of outcome) ⊎ (status ≡ STREAM_FAULT) → AnswersOnly command before status
-only_said one command None after old new outcome status comes said = tt
-only_said one command (Some input) after old new outcome status comes (inr fault) = λ other p answer. inr (inl fault)
-only_said one command (Some input) after old new (Ok text) status comes (inl own) = λ other p answer. inl (own ∙ (one command input after other (Ok text) p comes answer).0)
-only_said one command (Some input) after old new (Err refusal) status (inl is) (inl own) = λ other p answer. inl (own ∙ (one command input after other (Err refusal) p is answer).0)
-only_said one command (Some input) after old new (Err refusal) status (inr (inl memory)) (inl own) = λ other p answer. inr (inr (own ∙ ap status_for memory))
-only_said one command (Some input) after old new (Err refusal) status (inr (inr failed)) (inl own) = λ other p answer. inr (inl (own ∙ ap status_for failed.0))
+source_said : (Answer : Option (List ℕ) → Option (List ℕ) → Outcome → Type 0) → IsOneAnswer Answer → (before after : Option (List ℕ)) (old new : ℕ) (outcome : Outcome) (status : ℕ)
+    → ComesTo Answer before after old new outcome → (status ≡ status_of outcome) ⊎ (status ≡ STREAM_FAULT) → SourceOnly Answer before status
+source_said Answer one before after old new outcome status comes (inr fault) = source_fault Answer before status (inl fault)
+source_said Answer one None after old new outcome status comes (inl own) = tt
+source_said Answer one (Some input) after old new (Ok text) status comes (inl own) = λ other p answer. inl (own ∙ (one input after other (Ok text) p comes answer).0)
+source_said Answer one (Some input) after old new (Err refusal) status (inl is) (inl own) = λ other p answer. inl (own ∙ (one input after other (Err refusal) p is answer).0)
+source_said Answer one (Some input) after old new (Err refusal) status (inr (inl memory)) (inl own) = λ other p answer. inr (inr (inr (own ∙ ap status_for memory)))
+source_said Answer one (Some input) after old new (Err refusal) status (inr (inr failed)) (inl own) = λ other p answer. inr (inr (inl (own ∙ ap status_for failed.0)))
+
+-- want of memory comes in place of each answer
+only_memory : {S H R : Type 0} (request : RequestText) (before : Outside S H R) (status : ℕ) → status ≡ OUT_OF_MEMORY → AnswersOnly request before status
+only_memory (heads None) before status is = source_fault HeadsAnswer before.left status (inr is)
+only_memory (heads (Some dir)) before status is = tt
+only_memory check before status is = source_fault CheckAnswer before.left status (inr is)
+only_memory (dump None) before status is = source_fault DumpAnswer before.left status (inr is)
+only_memory (dump (Some dir)) before status is = tt
+only_memory (init dir) before status is = tt
+only_memory (keygen dir lms ots) before status is = tt
+only_memory (apply dir) before status is = tt
+only_memory (join dir) before status is = tt
+only_memory (export dir updates_only) before status is = tt
+only_memory (merge first second) before status is = tt
+
+-- ---- a request
+
+module _ {S H R : Type 0} (one : OneAnswer) (before after : Outside S H R) (status : ℕ) where
+  only_said : (request : RequestText) (outcome : Outcome) → Comes request before after outcome → (status ≡ status_of outcome) ⊎ (status ≡ STREAM_FAULT) → AnswersOnly request before status
+  only_said (heads None) outcome comes said = source_said HeadsAnswer one.heads before.left after.left before.source_faults after.source_faults outcome status comes.comes said
+  only_said (heads (Some dir)) outcome comes said = tt
+  only_said check outcome comes said = source_said CheckAnswer one.check before.left after.left before.source_faults after.source_faults outcome status comes.comes said
+  only_said (dump None) outcome comes said = source_said DumpAnswer one.dump before.left after.left before.source_faults after.source_faults outcome status comes.comes said
+  only_said (dump (Some dir)) outcome comes said = tt
+  only_said (init dir) outcome comes said = tt
+  only_said (keygen dir lms ots) outcome comes said = tt
+  only_said (apply dir) outcome comes said = tt
+  only_said (join dir) outcome comes said = tt
+  only_said (export dir updates_only) outcome comes said = tt
+  only_said (merge first second) outcome comes said = tt
+
+-- want of memory in place of a refusal
+module _ {S H R : Type 0} (before after : Outside S H R) where
+  source_lacks : (Answer : Option (List ℕ) → Option (List ℕ) → Outcome → Type 0) (outcome : Outcome) → ReadsSource Answer before after outcome → ReadsSource Answer before after (Err Memory)
+  source_lacks Answer outcome comes = record { comes = inr (inl refl); shelf = comes.shelf; random = comes.random }
+
+  left_out_lacks : (outcome other : Outcome) → MayLackMemory outcome → IsLeftOut before after outcome → IsLeftOut before after other
+  left_out_lacks (Ok text) other lacks comes = absurd lacks
+  left_out_lacks (Err refusal) other lacks comes = let is = comes.words in let same : refusal ≡ Words = cc in absurd (lacks same)
+
+  comes_lacking : (request : RequestText) (outcome : Outcome) → MayLackMemory outcome → Comes request before after outcome → Comes request before after (Err Memory)
+  comes_lacking (heads None) outcome lacks comes = source_lacks HeadsAnswer outcome comes
+  comes_lacking (heads (Some dir)) outcome lacks comes = left_out_lacks outcome (Err Memory) lacks comes
+  comes_lacking check outcome lacks comes = source_lacks CheckAnswer outcome comes
+  comes_lacking (dump None) outcome lacks comes = source_lacks DumpAnswer outcome comes
+  comes_lacking (dump (Some dir)) outcome lacks comes = left_out_lacks outcome (Err Memory) lacks comes
+  comes_lacking (init dir) outcome lacks comes = left_out_lacks outcome (Err Memory) lacks comes
+  comes_lacking (keygen dir lms ots) outcome lacks comes = left_out_lacks outcome (Err Memory) lacks comes
+  comes_lacking (apply dir) outcome lacks comes = left_out_lacks outcome (Err Memory) lacks comes
+  comes_lacking (join dir) outcome lacks comes = left_out_lacks outcome (Err Memory) lacks comes
+  comes_lacking (export dir updates_only) outcome lacks comes = left_out_lacks outcome (Err Memory) lacks comes
+  comes_lacking (merge first second) outcome lacks comes = left_out_lacks outcome (Err Memory) lacks comes
 
 -- ---- runs
 
--- words that are a command, whatever it is
-module _ {S : Type 0} (one : OneAnswer) (command : Command) (words : List (String Global)) (first : HasFirstWord command words) (few : length words ≤ 1) (before after : Outside S) (status : ℕ) where
-  told : (outcome : Outcome) → ComesTo (AnswerTo command) before.left after.left before.source_faults after.source_faults outcome
-      → Says before.sink_faults after.sink_faults before.held after.held outcome status → Runs words before after status
-  told outcome comes said = record {
+appends_none : (held : Option (List ℕ)) → Appends held held []
+appends_none None = tt
+appends_none (Some bytes) = sym (append-nil bytes)
+
+-- words ask for one thing
+abbrev pub OneRequest : Type 0
+OneRequest = (words : List (List ℕ)) (request other : RequestText) → Asks words request → Asks words other → request ≡ other
+
+module _ {S H R : Type 0} (words : List (String Global)) (before after : Outside S H R) (sink sink_new : SinkState) (status : ℕ) where
+  told : OneAnswer → OneRequest → (request : RequestText) → IsCommand request words → (outcome : Outcome) → Comes request before after outcome
+      → Says sink.faults sink_new.faults sink.held sink_new.held outcome status → Runs words before after sink sink_new status
+  told one unique request asks outcome comes said = record {
     outcome = outcome;
-    asked = named command (one_word command words first few) comes;
+    asked = named request asks comes;
     said = said;
-    only = λ other is. subst (λ (c : Command). AnswersOnly c before.left status) (sym (one_command command other words first is))
-        (only_said one command before.left after.left before.source_faults after.source_faults outcome status comes
-        (status_said before.sink_faults after.sink_faults before.held after.held outcome status said));
+    only = λ other is. subst (λ (q : RequestText). AnswersOnly q before status) (unique (map string_bytes words) request other asks is)
+        (only_said one before after status request outcome comes (status_said sink.faults sink_new.faults sink.held sink_new.held outcome status said));
   }
 
-  pub runs : (outcome : Outcome) → ComesTo (AnswerTo command) before.left after.left before.source_faults after.source_faults outcome
-      → Ends before.sink_faults after.sink_faults before.held after.held outcome status → Runs words before after status
-  runs outcome comes (inl said) = told outcome comes said
-  runs outcome comes (inr lacked) = told (Err Memory) (inr (inl refl)) lacked.1
+  -- words that ask for something
+  pub runs : OneAnswer → OneRequest → (request : RequestText) → IsCommand request words → (outcome : Outcome) → Comes request before after outcome
+      → Ends sink.faults sink_new.faults sink.held sink_new.held outcome status → Runs words before after sink sink_new status
+  runs one unique request asks outcome comes (inl said) = told one unique request asks outcome comes said
+  runs one unique request asks outcome comes (inr lacked) = told one unique request asks (Err Memory) (comes_lacking before after request outcome lacked.0 comes) lacked.1
 
--- words that are none
-pub runs_none : {S : Type 0} (words : List (String Global)) (before after : Outside S) (status : ℕ) → IsNoCommand words → after.source ≡ before.source
-    → Puts before.sink_faults after.sink_faults before.held after.held NO_COMMAND (codes "! words\n") status → Runs words before after status
-runs_none words before after status other same put = record { outcome = Err Words; asked = none other same refl; said = put; only = λ command is. absurd (other command is) }
+  -- words that are none
+  pub runs_none : IsNoCommand words → IsUntouched before after → Puts sink.faults sink_new.faults sink.held sink_new.held NO_COMMAND (codes "! words\n") status
+      → Runs words before after sink sink_new status
+  runs_none no_request same put = record { outcome = Err Words; asked = none no_request same refl; said = put; only = λ request is. absurd (no_request request is) }
+
+  -- words that were not read
+  pub runs_unread : IsUntouched before after → sink_new ≡ sink → status ≡ OUT_OF_MEMORY → Runs words before after sink sink_new status
+  runs_unread same kept is = let held : Appends sink.held sink_new.held [] = subst (λ (s : SinkState). Appends sink.held s.held []) (sym kept) (appends_none sink.held) in record { outcome = Err Memory; asked = unread same refl; said = (is, held); only = λ request asks. only_memory request before status is }

@@ -1,10 +1,7 @@
 pub mod HeadSteps
 pub mod Checking
 pub mod Orders
-pub mod Refusals
 pub mod Tables
-pub mod Unlimited
-pub mod Taking
 pub mod Answer
 pub mod Answering
 pub mod Ending

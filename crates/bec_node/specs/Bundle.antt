@@ -26,8 +26,11 @@ use Rattle.table_model.specs.Visible.{Rules, table_of}
 use Rattle.table_text.specs.Tables.{tables_text}
 use Rattle.bec_node.specs.declared.refusal.Refusal.{Refusal}
 use Rattle.bec_node.specs.declared.refusal.Refusal.TheVariants.{CutSchema, Record, Schema}
-use Rattle.bec_node.specs.Outcome.{Outcome, Prints}
-use Rattle.bec_node.specs.Verdict.{RefusesSchema, TakesSchema, rules_of}
+use Rattle.row_check.specs.Checksum.{is_luhn}
+use Rattle.confluence_test.specs.Taking.{RefusesSchema, TakesSchema}
+use Rattle.confluence_test.specs.declared.refusal.SchemaRefusal.{SchemaRefusal}
+use Rattle.bec_node.specs.Outcome.{Outcome, Prints, from_taking}
+use Rattle.bec_node.specs.Verdict.{rules_of}
 
 -- what tables see of the members of a graph, newest first
 abbrev pub nodes_of : List (List ℕ) → List NodeData
@@ -75,8 +78,8 @@ pub data RecordsAnswer (schema : SchemaData) (before after : Option (List ℕ)) 
 
 -- The text of a schema is taken, and what follows is answered; or it is refused, and no more is read.
 pub data TextAnswer (declared : List ℕ) (before after : Option (List ℕ)) (outcome : Outcome) : Type 0 where
-  taken : (schema : SchemaData) → TakesSchema declared schema → RecordsAnswer schema before after outcome → TextAnswer declared before after outcome
-  refused : (refusal : Refusal) → RefusesSchema declared refusal → after ≡ before → outcome ≡ Err refusal → TextAnswer declared before after outcome
+  taken : (schema : SchemaData) → TakesSchema is_luhn declared schema → RecordsAnswer schema before after outcome → TextAnswer declared before after outcome
+  refused : (why : SchemaRefusal) → RefusesSchema is_luhn declared why → after ≡ before → outcome ≡ Err (from_taking why) → TextAnswer declared before after outcome
 
 -- A bundle holds the text of a schema, which is answered with what follows it; or it lacks one.
 pub data DumpAnswer (before after : Option (List ℕ)) (outcome : Outcome) : Type 0 where

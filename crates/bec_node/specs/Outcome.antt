@@ -3,15 +3,16 @@ use Rattle.std.specs.Prelude.{◌≡◌, ◌≢◌, ◌⊎◌, ℕ, ◌≤◌, L
 use Rattle.std.specs.declared.alloc.Global.{Global}
 use Rattle.std.specs.Io.KnownBytes.{Appends}
 use Rattle.bec_bytes.specs.Causes.{Rose}
-use Rattle.schema.specs.declared.fault.SchemaError.{SchemaError}
-use Rattle.schema.specs.declared.fault.SchemaError.TheVariants as schema_errors
+use Rattle.confluence_test.specs.declared.refusal.SchemaRefusal.{SchemaRefusal}
+use Rattle.confluence_test.specs.declared.refusal.SchemaRefusal.TheVariants as taking
 use Rattle.bec_bytes.specs.declared.read_error.ReadError.{ReadError}
 use Rattle.bec_bytes.specs.declared.read_error.ReadError.TheVariants as read_errors
 use Rattle.update_stream.specs.declared.record_fault.RecordFault.TheVariants.{Check, Lacks, Full}
 use Rattle.bec_node.specs.declared.refusal.Refusal.{Refusal}
-use Rattle.bec_node.specs.declared.refusal.Refusal.TheVariants.{Words, Record, CutSchema, Schema, NotConfluent, Stream, Memory}
-use Rattle.bec_node.specs.declared.status.TheConstants.{DONE, REFUSED, NO_COMMAND, STREAM_FAULT, OUT_OF_MEMORY, FULL}
-use Rattle.bec_node.specs.Texts.{record_text, refused_text, schema_text}
+use Rattle.bec_node.specs.declared.refusal.Refusal.TheVariants.{Words, Record, CutSchema, Schema, NotConfluent, Transaction, Invalid, AuthorNotListed, UpdateTooLong, IdTaken, KeySpent, Heads, NoStore, StoreThere, BadStore, NoKey, KeyThere, BadKey, StoreFault, Stream, Memory}
+use Rattle.bec_node.specs.declared.refusal.Refusal.TheVariants as refusals
+use Rattle.bec_node.specs.declared.status.TheConstants.{DONE, REFUSED, NO_COMMAND, STORE_FAULT, STREAM_FAULT, OUT_OF_MEMORY, FULL, STORE}
+use Rattle.bec_node.specs.Texts.{invalid_text, many_heads_text, record_text, refused_text, schema_text, spent_text, transaction_text}
 
 -- A command is done and prints a text, or it is refused.
 abbrev pub Outcome : Type 0
@@ -26,6 +27,21 @@ status_for (Record n Full) = FULL
 status_for CutSchema = REFUSED
 status_for (Schema fault) = REFUSED
 status_for (NotConfluent schema which example) = REFUSED
+status_for (Transaction fault) = REFUSED
+status_for (Invalid reason operation) = REFUSED
+status_for AuthorNotListed = REFUSED
+status_for UpdateTooLong = REFUSED
+status_for IdTaken = REFUSED
+status_for refusals.Full = FULL
+status_for (KeySpent count) = FULL
+status_for (Heads count) = FULL
+status_for NoStore = STORE
+status_for StoreThere = STORE
+status_for BadStore = STORE
+status_for NoKey = STORE
+status_for KeyThere = STORE
+status_for BadKey = STORE
+status_for StoreFault = STORE_FAULT
 status_for Stream = STREAM_FAULT
 status_for Memory = OUT_OF_MEMORY
 
@@ -36,6 +52,21 @@ text_for (Record n fault) = record_text n fault
 text_for CutSchema = codes "! schema cut\n"
 text_for (Schema fault) = schema_text fault
 text_for (NotConfluent schema which example) = refused_text schema.tables which example
+text_for (Transaction fault) = transaction_text fault
+text_for (Invalid reason operation) = invalid_text reason operation
+text_for AuthorNotListed = codes "! author not listed\n"
+text_for UpdateTooLong = codes "! update too long\n"
+text_for IdTaken = codes "! id taken\n"
+text_for refusals.Full = codes "! full\n"
+text_for (KeySpent count) = spent_text count
+text_for (Heads count) = many_heads_text count
+text_for NoStore = codes "! no store\n"
+text_for StoreThere = codes "! store there\n"
+text_for BadStore = codes "! bad store\n"
+text_for NoKey = codes "! no key\n"
+text_for KeyThere = codes "! key there\n"
+text_for BadKey = codes "! bad key\n"
+text_for StoreFault = codes "! store fault\n"
 text_for Stream = codes "! stream fault\n"
 text_for Memory = []
 
@@ -59,9 +90,10 @@ abbrev pub from_reading : ReadError → Refusal
 from_reading read_errors.Failed = Stream
 from_reading read_errors.Memory = Memory
 
-abbrev pub from_schema : SchemaError → Refusal
-from_schema (schema_errors.Fault fault) = Schema fault
-from_schema schema_errors.Memory = Memory
+abbrev pub from_taking : SchemaRefusal → Refusal
+from_taking (taking.Schema fault) = Schema fault
+from_taking (taking.NotConfluent schema which example) = NotConfluent schema which example
+from_taking taking.Memory = Memory
 
 -- What may come in place of an answer: memory ran out, or the source failed, whose count of faults rose.
 abbrev pub IsFault : ℕ → ℕ → Refusal → Type 0
@@ -84,7 +116,12 @@ abbrev pub Says : ℕ → ℕ → Option (List ℕ) → Option (List ℕ) → Ou
 Says old new held held_new (Err Memory) status = (status ≡ OUT_OF_MEMORY) × Appends held held_new []
 Says old new held held_new outcome status = Puts old new held held_new (status_of outcome) (text_of outcome) status
 
--- An outcome is said, or want of memory is said in its place; that words are no command is always said.
+-- The lines of a refusal may lack memory, but not the line for words that are no command.
+abbrev pub MayLackMemory : Outcome → Type 0
+MayLackMemory (Ok text) = ⊥
+MayLackMemory (Err refusal) = refusal ≢ Words
+
+-- An outcome is said, or want of memory is said in place of a refusal.
 abbrev pub Ends : ℕ → ℕ → Option (List ℕ) → Option (List ℕ) → Outcome → ℕ → Type 0
 Ends old new held held_new outcome status =
-    Says old new held held_new outcome status ⊎ ((outcome ≢ Err Words) × Says old new held held_new (Err Memory) status)
+    Says old new held held_new outcome status ⊎ (MayLackMemory outcome × Says old new held held_new (Err Memory) status)

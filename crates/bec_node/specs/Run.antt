@@ -1,57 +1,85 @@
 -- What a run of the program does.
-use Rattle.std.specs.Prelude.{◌≡◌, ◌⊎◌, ℕ, List, [], ◌∷◌, map, Some, IfSome, Err, String, slice_get}
+use Rattle.std.specs.Prelude.{◌≡◌, ◌⊎◌, ℕ, List, map, IfSome, Err, String, slice_get, Some, None}
 use Rattle.std.specs.declared.alloc.Global.{Global}
 use Rattle.std.specs.declared.option.Option.{Option}
 use Rattle.std.specs.String.{string_bytes}
-use Rattle.bec_node.specs.declared.command.Command.{Command}
-use Rattle.bec_node.specs.declared.refusal.Refusal.TheVariants.{Words}
-use Rattle.bec_node.specs.declared.status.TheConstants.{STREAM_FAULT, OUT_OF_MEMORY}
-use Rattle.bec_node.specs.Commands.{AnswerTo, word_of}
+use Rattle.command_words.specs.Requests.{Asks, RequestText, heads, check, dump, init, keygen, apply, join, export, merge}
+use Rattle.bec_node.specs.declared.refusal.Refusal.TheVariants.{Memory, Words}
+use Rattle.bec_node.specs.declared.status.TheConstants.{STORE_FAULT, STREAM_FAULT, OUT_OF_MEMORY}
+use Rattle.bec_node.specs.Bundle.{DumpAnswer}
+use Rattle.bec_node.specs.Heads.{HeadsAnswer}
 use Rattle.bec_node.specs.Outcome.{ComesTo, Outcome, Says, status_of}
+use Rattle.bec_node.specs.Outside.{IsUntouched, Outside, SinkState}
+use Rattle.bec_node.specs.Verdict.{CheckAnswer}
 
--- the one word is the command
-abbrev pub IsCommand : Command → List (String Global) → Type 0
-IsCommand command words = map string_bytes words ≡ word_of command ∷ []
+-- the words ask for this
+abbrev pub IsCommand : RequestText → List (String Global) → Type 0
+IsCommand request words = Asks (map string_bytes words) request
 
 -- the words are no command
 abbrev pub IsNoCommand : List (String Global) → Type 0
-IsNoCommand words = (command : Command) → IsCommand command words → ⊥
+IsNoCommand words = (request : RequestText) → IsCommand request words → ⊥
 
--- the first word is the command
-abbrev pub HasFirstWord : Command → List (String Global) → Type 0
-HasFirstWord command words = slice_get (map string_bytes words) 0 ≡ Some (word_of command)
+-- the first word is this one
+abbrev pub HasFirstWord : List ℕ → List (String Global) → Type 0
+HasFirstWord word words = slice_get (map string_bytes words) 0 ≡ Some word
 
--- What stands outside of a run: the source, with what it has left and its count of faults, and of the sink what it holds and its count.
--- A source or a sink that stands for a real stream does not tell its bytes.
-pub record Outside (S : Type 0) : Type 0 where
-  pub source : S
-  pub left : Option (List ℕ)
-  pub source_faults : ℕ
-  pub held : Option (List ℕ)
-  pub sink_faults : ℕ
+-- A command over the source alone.
+pub record ReadsSource {S H R : Type 0} (Answer : Option (List ℕ) → Option (List ℕ) → Outcome → Type 0) (before after : Outside S H R) (outcome : Outcome) : Type 0 where
+  pub comes : ComesTo Answer before.left after.left before.source_faults after.source_faults outcome
+  pub shelf : after.shelf ≡ before.shelf
+  pub random : after.random ≡ before.random
 
--- this source and this sink, seen so
-abbrev pub outside : {S K : Type 0} → (S → Option (List ℕ)) → (S → ℕ) → (K → Option (List ℕ)) → (K → ℕ) → S → K → Outside S
-outside left source_faults held sink_faults source sink =
-    record { source = source; left = left source; source_faults = source_faults source; held = held sink; sink_faults = sink_faults sink }
+-- A command that the program does not do: its words are answered as ones that are no command.
+pub record IsLeftOut {S H R : Type 0} (before after : Outside S H R) (outcome : Outcome) : Type 0 where
+  pub words : outcome ≡ Err Words
+  pub untouched : IsUntouched before after
 
--- Words that are a command come to its answer to the source, or to a fault; other words leave the source as it was.
-pub data AsksFor {S : Type 0} (words : List (String Global)) (before after : Outside S) (outcome : Outcome) : Type 0 where
-  named : (command : Command) → IsCommand command words
-      → ComesTo (AnswerTo command) before.left after.left before.source_faults after.source_faults outcome → AsksFor words before after outcome
-  none : IsNoCommand words → after.source ≡ before.source → outcome ≡ Err Words → AsksFor words before after outcome
+-- What a request comes to.
+abbrev pub Comes : {S H R : Type 0} → RequestText → Outside S H R → Outside S H R → Outcome → Type 0
+Comes (heads None) before after outcome = ReadsSource HeadsAnswer before after outcome
+Comes (heads (Some dir)) before after outcome = IsLeftOut before after outcome
+Comes check before after outcome = ReadsSource CheckAnswer before after outcome
+Comes (dump None) before after outcome = ReadsSource DumpAnswer before after outcome
+Comes (dump (Some dir)) before after outcome = IsLeftOut before after outcome
+Comes (init dir) before after outcome = IsLeftOut before after outcome
+Comes (keygen dir lms ots) before after outcome = IsLeftOut before after outcome
+Comes (apply dir) before after outcome = IsLeftOut before after outcome
+Comes (join dir) before after outcome = IsLeftOut before after outcome
+Comes (export dir updates_only) before after outcome = IsLeftOut before after outcome
+Comes (merge first second) before after outcome = IsLeftOut before after outcome
 
--- the status, or one of a stream fault or want of memory in its place
+-- Words that ask for something come to what that comes to; other words leave all as it was; and so does want of memory for reading the words.
+pub data AsksFor {S H R : Type 0} (words : List (String Global)) (before after : Outside S H R) (outcome : Outcome) : Type 0 where
+  named : (request : RequestText) → IsCommand request words → Comes request before after outcome → AsksFor words before after outcome
+  none : IsNoCommand words → IsUntouched before after → outcome ≡ Err Words → AsksFor words before after outcome
+  unread : IsUntouched before after → outcome ≡ Err Memory → AsksFor words before after outcome
+
+-- the status, or one of a fault of the store or of a stream, or of want of memory, in its place
 abbrev pub ComesAs : ℕ → ℕ → Type 0
-ComesAs status own = (status ≡ own) ⊎ ((status ≡ STREAM_FAULT) ⊎ (status ≡ OUT_OF_MEMORY))
+ComesAs status own = (status ≡ own) ⊎ ((status ≡ STORE_FAULT) ⊎ ((status ≡ STREAM_FAULT) ⊎ (status ≡ OUT_OF_MEMORY)))
 
--- Each answer that a command has to what the source tells comes with its status, unless a stream failed or memory ran out.
-abbrev pub AnswersOnly : Command → Option (List ℕ) → ℕ → Type 0
-AnswersOnly command before status = IfSome before (λ input. (after : Option (List ℕ)) (outcome : Outcome) → AnswerTo command (Some input) after outcome → ComesAs status (status_of outcome))
+-- Each answer to what the source tells comes with its status.
+abbrev pub SourceOnly : (Option (List ℕ) → Option (List ℕ) → Outcome → Type 0) → Option (List ℕ) → ℕ → Type 0
+SourceOnly Answer before status = IfSome before (λ input. (after : Option (List ℕ)) (outcome : Outcome) → Answer (Some input) after outcome → ComesAs status (status_of outcome))
 
--- A run of the program: the words and the source ask for an outcome, the sink is told it, and the status is its own.
-pub record Runs {S : Type 0} (words : List (String Global)) (before after : Outside S) (status : ℕ) : Type 0 where
+-- Each answer that a request has to what stands outside comes with its status, unless a disk or a stream failed or memory ran out.
+abbrev pub AnswersOnly : {S H R : Type 0} → RequestText → Outside S H R → ℕ → Type 0
+AnswersOnly (heads None) before status = SourceOnly HeadsAnswer before.left status
+AnswersOnly (heads (Some dir)) before status = Unit {0}
+AnswersOnly check before status = SourceOnly CheckAnswer before.left status
+AnswersOnly (dump None) before status = SourceOnly DumpAnswer before.left status
+AnswersOnly (dump (Some dir)) before status = Unit {0}
+AnswersOnly (init dir) before status = Unit {0}
+AnswersOnly (keygen dir lms ots) before status = Unit {0}
+AnswersOnly (apply dir) before status = Unit {0}
+AnswersOnly (join dir) before status = Unit {0}
+AnswersOnly (export dir updates_only) before status = Unit {0}
+AnswersOnly (merge first second) before status = Unit {0}
+
+-- A run of the program: the words and what stands outside ask for an outcome, the sink is told it, and the status is its own.
+pub record Runs {S H R : Type 0} (words : List (String Global)) (before after : Outside S H R) (sink sink_new : SinkState) (status : ℕ) : Type 0 where
   pub outcome : Outcome
   pub asked : AsksFor words before after outcome
-  pub said : Says before.sink_faults after.sink_faults before.held after.held outcome status
-  pub only : (command : Command) → IsCommand command words → AnswersOnly command before.left status
+  pub said : Says sink.faults sink_new.faults sink.held sink_new.held outcome status
+  pub only : (request : RequestText) → IsCommand request words → AnswersOnly request before status

@@ -4,7 +4,11 @@ use Rattle.std.specs.List.{flat_map}
 use Rattle.std.specs.Fmt.{decimal}
 use Rattle.hex.specs.Hex.{encode_lower}
 use Rattle.update_model.specs.declared.update_id.UpdateId.{UpdateId}
+use Rattle.txn_text.specs.declared.fault.TextFault.{TextFault}
+use Rattle.txn_text.specs.Words.{fault_words as transaction_words}
 use Rattle.update_check.specs.Words.{check_words}
+use Rattle.update_codec.specs.Spelling.{author}
+use Rattle.update_model.specs.declared.author_key.AuthorKey.{AuthorKey}
 use Rattle.schema.specs.Words.{fault_words}
 use Rattle.table_model.specs.declared.counterexample.Counterexample.{Counterexample}
 use Rattle.schema.specs.declared.fault.SchemaFault.{SchemaFault}
@@ -35,3 +39,27 @@ schema_text fault = codes "! schema " ++ (fault_words fault ++ 10 ∷ [])
 -- the lines for the first invariant that does not survive merging: where it stands, and the counterexample
 abbrev pub refused_text : List TableDef → Invariant → Counterexample → List ℕ
 refused_text tables which example = codes "! not confluent line " ++ decimal which.line ++ (10 ∷ example_text tables example)
+
+-- the line for a transaction with this fault
+abbrev pub transaction_text : TextFault → List ℕ
+transaction_text fault = codes "! transaction " ++ (transaction_words fault ++ 10 ∷ [])
+
+-- the line for an update that is not valid
+abbrev pub invalid_text : ℕ → ℕ → List ℕ
+invalid_text reason operation = codes "! invalid reason " ++ decimal reason ++ (codes " operation " ++ (decimal operation ++ 10 ∷ []))
+
+-- the line for a key of so many indices that are all used
+abbrev pub spent_text : ℕ → List ℕ
+spent_text count = codes "! key spent " ++ (decimal count ++ 10 ∷ [])
+
+-- the line for so many heads
+abbrev pub many_heads_text : ℕ → List ℕ
+many_heads_text count = codes "! heads " ++ (decimal count ++ 10 ∷ [])
+
+-- the line for a store that was made of a database with this id
+abbrev pub database_text : List ℕ → List ℕ
+database_text database = codes "database " ++ (encode_lower database ++ 10 ∷ [])
+
+-- the line for a public key
+abbrev pub key_text : AuthorKey → List ℕ
+key_text key = encode_lower (author key) ++ 10 ∷ []

@@ -1,4 +1,4 @@
-//! The commands, each in a file of its own.
+//! The commands.
 
 pub mod check;
 pub mod dump;

@@ -12,6 +12,7 @@ ghost use Rattle.update_check.specs.Members.{AreMembers};
 ghost use Rattle.bec_node.specs.Bundle.{AreShown, PrintsTables, nodes_of};
 ghost use Rattle.bec_node.specs.Verdict.{rules_of};
 
+use confluence_test::accepted_is_unlimited;
 use hash_graph::Graph;
 use head_set::equal_heads_mean_equal_sets;
 use replay::replay;
@@ -56,6 +57,7 @@ fn graph_text(
     ensures { IfOk result (λ text. (tables : List (List Row)) × ((voids : List VoidLine)
         × AreTablesOf (rules_of schema.now) (nodes_of graph.now) tables voids × (text.items ≡ tables_text schema.now.tables tables voids))) }
 {
+    accepted_is_unlimited();
     let tables = replay(alloc, schema, native, graph)?;
     let lists = shown_lists(alloc, schema, &tables)?;
     let voids = tables.voids(alloc)?;

@@ -2,26 +2,31 @@
 
 ghost use Rattle.std.specs.Prelude.{◌≡◌, ℕ, List, Some};
 ghost use Rattle.std.specs.declared.option.Option.{Option as Told};
-ghost use Rattle.bec_node.specs.declared.command.Command.{Command};
-ghost use Rattle.bec_node.specs.Commands.{AnswerTo};
+ghost use Rattle.bec_node.specs.Bundle.{DumpAnswer};
+ghost use Rattle.bec_node.specs.Heads.{HeadsAnswer};
 ghost use Rattle.bec_node.specs.Outcome.{Outcome, status_of, text_of};
+ghost use Rattle.bec_node.specs.Verdict.{CheckAnswer};
 
-use schema::{declared_is_sound, no_fault, one_fault, one_schema};
+use confluence_test::{refused_once, taken_or_refused};
+use schema::one_schema;
 use table_model::{arrivals_are_closed, tables_are_of_the_set};
 use update_stream::{one_graph, one_refusal, whole_or_refused};
 
 /// An input has one answer to a command, so each status and each text comes exactly where its cause stands.
 pub fn one_answer()
-    ensures { (command : Command) (input : List ℕ) (after other : Told (List ℕ)) (outcome another : Outcome)
-        → AnswerTo command (Some input) after outcome → AnswerTo command (Some input) other another
-        → (status_of outcome ≡ status_of another) × (text_of outcome ≡ text_of another) }
+    ensures heads { (input : List ℕ) (after other : Told (List ℕ)) (outcome another : Outcome)
+        → HeadsAnswer (Some input) after outcome → HeadsAnswer (Some input) other another → (status_of outcome ≡ status_of another) × (text_of outcome ≡ text_of another) }
+    ensures check { (input : List ℕ) (after other : Told (List ℕ)) (outcome another : Outcome)
+        → CheckAnswer (Some input) after outcome → CheckAnswer (Some input) other another → (status_of outcome ≡ status_of another) × (text_of outcome ≡ text_of another) }
+    ensures dump { (input : List ℕ) (after other : Told (List ℕ)) (outcome another : Outcome)
+        → DumpAnswer (Some input) after outcome → DumpAnswer (Some input) other another → (status_of outcome ≡ status_of another) × (text_of outcome ≡ text_of another) }
 {
+    arrivals_are_closed();
     one_graph();
     one_refusal();
-    whole_or_refused();
     one_schema();
-    one_fault();
-    no_fault();
-    arrivals_are_closed();
+    refused_once();
+    taken_or_refused();
     tables_are_of_the_set();
+    whole_or_refused();
 }

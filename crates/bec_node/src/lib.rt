@@ -1,8 +1,8 @@
-//! What the program `bec` does: [`run`] takes the words of a command line, a source and a sink, and answers an
-//! exit status.
+//! What the program `bec` does: [`run`] takes the words of a command line, a shelf of directories, a generator of random
+//! words, a source and a sink, and answers an exit status.
 //!
-//! Each command has a function of its own, and [`run`] calls it where the first word is the command. The program
-//! itself makes the real objects and calls [`run`]; tests call it over sources and sinks in memory.
+//! The program itself makes the real objects and calls [`run`]; tests call it over objects in memory. Each command has a
+//! function of its own, for a caller that knows the first word.
 //!
 //! ```text
 //! bec heads < stream        the ids of the heads of an update stream, rising, one per line
@@ -17,7 +17,6 @@
 #![tactic(auto)]
 
 mod bundle;
-mod command;
 mod commands;
 mod graph_tables;
 mod heads;
@@ -26,11 +25,10 @@ mod lines;
 mod program;
 mod refusal;
 mod reply;
-mod schema_text;
 pub mod status;
 mod stream;
+mod text_input;
 
-pub use command::Command;
 pub use commands::check::command_check;
 pub use commands::dump::command_dump;
 pub use commands::heads::command_heads;

@@ -1,10 +1,10 @@
 //! Every line that begins with `! `, and what follows it.
 
-ghost use Rattle.std.specs.Prelude.{◌≡◌, ◌≢◌, IfOk, IfErr, OnErr, codes, Err};
+ghost use Rattle.std.specs.Prelude.{◌≡◌, ◌≢◌, IfOk, IfErr, IfSome, IfNone, OnErr, codes, Err};
 ghost use Rattle.std.specs.String.{string_bytes};
-ghost use Rattle.bec_node.specs.declared.refusal.Refusal.TheVariants.{Words};
-ghost use Rattle.bec_node.specs.Texts.{record_text, refused_text, schema_text};
-ghost use Rattle.bec_node.specs.Outcome.{Puts, Says};
+ghost use Rattle.bec_node.specs.declared.refusal.Refusal.TheVariants.{Memory, Words};
+ghost use Rattle.bec_node.specs.Texts.{invalid_text, many_heads_text, record_text, refused_text, schema_text, spent_text, transaction_text};
+ghost use Rattle.bec_node.specs.Outcome.{Puts, Says, text_for};
 
 use crate::refusal::Refusal;
 use crate::reply::put;
@@ -14,6 +14,7 @@ use schema::{Schema, SchemaFault};
 use std::alloc::{AllocError, Global};
 use table_model::{Counterexample, Invariant};
 use table_text::push_counterexample;
+use txn_text::TextFault;
 use update_stream::RecordFault;
 
 /// Writes the lines of a refusal and answers its exit status. Where memory runs out nothing is written; that words are no
@@ -24,28 +25,11 @@ pub fn refuse<K: Sink>(alloc: Global, out: &mut K, refusal: &Refusal) -> Result<
     ensures made { IfErr result (λ _. refusal.now ≢ Words) }
 {
     let status = refusal.status();
-    match refusal {
-        Refusal::Words => Ok(no_command(out)),
-        Refusal::Record { number, fault } => {
-            let line = record_line(alloc, *number, fault)?;
-            Ok(put(out, line.as_bytes(), status))
-        }
-        Refusal::CutSchema => Ok(put(out, b"! schema cut\n", status)),
-        Refusal::Schema(fault) => {
-            let line = schema_line(alloc, fault)?;
-            Ok(put(out, line.as_bytes(), status))
-        }
-        Refusal::NotConfluent {
-            schema,
-            which,
-            example,
-        } => {
-            let lines = refused_lines(alloc, schema, which, example)?;
-            Ok(put(out, &lines, status))
-        }
-        Refusal::Stream => Ok(put(out, b"! stream fault\n", status)),
-        Refusal::Memory => Err(AllocError),
+    if let Some(line) = plain_line(refusal) {
+        return Ok(put(out, line, status));
     }
+    let lines = told_lines(alloc, refusal)?;
+    Ok(put(out, &lines, status))
 }
 
 /// Writes the line for words that are no command.
@@ -53,6 +37,52 @@ pub fn no_command<K: Sink>(out: &mut K) -> u8
     ensures { Puts (K.faults out.old) (K.faults out.new) (K.held out.old) (K.held out.new) NO_COMMAND (codes "! words\n") result }
 {
     put(out, b"! words\n", NO_COMMAND)
+}
+
+/// The line of a refusal that has always the same one.
+fn plain_line(refusal: &Refusal) -> Option<&'static [u8]>
+    ensures line { IfSome result (λ line. (line.now ≡ text_for refusal.now) × (refusal.now ≢ Memory)) }
+    ensures other { IfNone result (refusal.now ≢ Words) }
+{
+    match refusal {
+        Refusal::Words => Some(b"! words\n"),
+        Refusal::CutSchema => Some(b"! schema cut\n"),
+        Refusal::AuthorNotListed => Some(b"! author not listed\n"),
+        Refusal::UpdateTooLong => Some(b"! update too long\n"),
+        Refusal::IdTaken => Some(b"! id taken\n"),
+        Refusal::Full => Some(b"! full\n"),
+        Refusal::NoStore => Some(b"! no store\n"),
+        Refusal::StoreThere => Some(b"! store there\n"),
+        Refusal::BadStore => Some(b"! bad store\n"),
+        Refusal::NoKey => Some(b"! no key\n"),
+        Refusal::KeyThere => Some(b"! key there\n"),
+        Refusal::BadKey => Some(b"! bad key\n"),
+        Refusal::StoreFault => Some(b"! store fault\n"),
+        Refusal::Stream => Some(b"! stream fault\n"),
+        _ => None,
+    }
+}
+
+/// The lines of a refusal that tell what it has: numbers, ids, texts. No other has any.
+fn told_lines(alloc: Global, refusal: &Refusal) -> Result<Vec<u8>, AllocError>
+    ensures { IfOk result (λ lines. (lines.items ≡ text_for refusal.now) × (refusal.now ≢ Memory)) }
+{
+    match refusal {
+        Refusal::Record { number, fault } => Ok(record_line(alloc, *number, fault)?.into_bytes()),
+        Refusal::Schema(fault) => Ok(schema_line(alloc, fault)?.into_bytes()),
+        Refusal::NotConfluent {
+            schema,
+            which,
+            example,
+        } => refused_lines(alloc, schema, which, example),
+        Refusal::Transaction(fault) => Ok(transaction_line(alloc, fault)?.into_bytes()),
+        Refusal::Invalid { reason, operation } => {
+            Ok(invalid_line(alloc, *reason, *operation)?.into_bytes())
+        }
+        Refusal::KeySpent(count) => Ok(spent_line(alloc, *count)?.into_bytes()),
+        Refusal::Heads(count) => Ok(many_heads_line(alloc, *count)?.into_bytes()),
+        _ => Err(AllocError),
+    }
 }
 
 /// The line for a refused record, which is counted from 1.
@@ -90,4 +120,32 @@ fn refused_lines(
     let mut lines = format!(in alloc; "! not confluent line {line}\n")?.into_bytes();
     push_counterexample(&mut lines, schema, example)?;
     Ok(lines)
+}
+
+/// The line for the first fault of a transaction's text.
+fn transaction_line(alloc: Global, fault: &TextFault) -> Result<String, AllocError>
+    ensures { IfOk result (λ line. string_bytes line ≡ transaction_text fault.now) }
+{
+    format!(in alloc; "! transaction {fault}\n")
+}
+
+/// The line for an update that would not be valid.
+fn invalid_line(alloc: Global, reason: u8, operation: u16) -> Result<String, AllocError>
+    ensures { IfOk result (λ line. string_bytes line ≡ invalid_text reason operation) }
+{
+    format!(in alloc; "! invalid reason {reason} operation {operation}\n")
+}
+
+/// The line for a key of so many indices that are all used.
+fn spent_line(alloc: Global, count: u32) -> Result<String, AllocError>
+    ensures { IfOk result (λ line. string_bytes line ≡ spent_text count) }
+{
+    format!(in alloc; "! key spent {count}\n")
+}
+
+/// The line for so many heads.
+fn many_heads_line(alloc: Global, count: u32) -> Result<String, AllocError>
+    ensures { IfOk result (λ line. string_bytes line ≡ many_heads_text count) }
+{
+    format!(in alloc; "! heads {count}\n")
 }

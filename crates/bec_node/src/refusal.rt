@@ -1,12 +1,14 @@
 ghost use Rattle.std.specs.Prelude.{◌≡◌};
 ghost use Rattle.bec_node.specs.declared.refusal.Refusal.TheVariants.{Memory};
-ghost use Rattle.bec_node.specs.Outcome.{status_for, from_reading, from_schema};
+ghost use Rattle.bec_node.specs.Outcome.{status_for, from_reading, from_taking};
 
-use crate::status::{FULL, NO_COMMAND, OUT_OF_MEMORY, REFUSED, STREAM_FAULT};
+use crate::status::{FULL, NO_COMMAND, OUT_OF_MEMORY, REFUSED, STORE, STORE_FAULT, STREAM_FAULT};
 use bec_bytes::ReadError;
-use schema::{Schema, SchemaError, SchemaFault};
+use confluence_test::SchemaRefusal;
+use schema::{Schema, SchemaFault};
 use std::alloc::AllocError;
 use table_model::{Counterexample, Invariant};
+use txn_text::TextFault;
 use update_stream::RecordFault;
 
 /// Why a command is not done.
@@ -34,6 +36,41 @@ pub enum Refusal {
         /// A history that breaks it.
         example: Counterexample,
     },
+    /// The text of a transaction has this fault first.
+    Transaction(TextFault),
+    /// The update would not be valid: for this reason, at the operation with this number, from 0.
+    Invalid {
+        /// One of the constants of `table_model::reason`.
+        reason: u8,
+        /// The number of the operation.
+        operation: u16,
+    },
+    /// The schema lists authors, and not the key.
+    AuthorNotListed,
+    /// The update would have too many bytes.
+    UpdateTooLong,
+    /// The update that was signed has the id of one that is held.
+    IdTaken,
+    /// One more update would pass a limit of the store.
+    Full,
+    /// Every index of the key is used, of which there are so many.
+    KeySpent(u32),
+    /// There are so many heads, more than an update may name.
+    Heads(u32),
+    /// The directory has no store.
+    NoStore,
+    /// The directory has a store.
+    StoreThere,
+    /// The store of the directory is damaged.
+    BadStore,
+    /// The directory has no key.
+    NoKey,
+    /// The directory has a key.
+    KeyThere,
+    /// The key of the directory is damaged.
+    BadKey,
+    /// The shelf failed, or one of its disks.
+    StoreFault,
     /// The source failed.
     Stream,
     /// Memory ran out.
@@ -51,6 +88,10 @@ impl Refusal {
                 fault: RecordFault::Full,
                 ..
             } => FULL,
+            Refusal::Full | Refusal::KeySpent(_) | Refusal::Heads(_) => FULL,
+            Refusal::NoStore | Refusal::StoreThere | Refusal::BadStore => STORE,
+            Refusal::NoKey | Refusal::KeyThere | Refusal::BadKey => STORE,
+            Refusal::StoreFault => STORE_FAULT,
             Refusal::Stream => STREAM_FAULT,
             Refusal::Memory => OUT_OF_MEMORY,
             _ => REFUSED,
@@ -77,13 +118,22 @@ impl From<ReadError> for Refusal {
     }
 }
 
-impl From<SchemaError> for Refusal {
-    ghost from_gives = { λ error refusal. refusal ≡ from_schema error };
+impl From<SchemaRefusal> for Refusal {
+    ghost from_gives = { λ why refusal. refusal ≡ from_taking why };
 
-    fn from(error: SchemaError) -> Refusal {
-        match error {
-            SchemaError::Fault(fault) => Refusal::Schema(fault),
-            SchemaError::Memory => Refusal::Memory,
+    fn from(why: SchemaRefusal) -> Refusal {
+        match why {
+            SchemaRefusal::Schema(fault) => Refusal::Schema(fault),
+            SchemaRefusal::NotConfluent {
+                schema,
+                which,
+                example,
+            } => Refusal::NotConfluent {
+                schema,
+                which,
+                example,
+            },
+            SchemaRefusal::Memory => Refusal::Memory,
         }
     }
 }

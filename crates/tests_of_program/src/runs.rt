@@ -1,7 +1,9 @@
-//! Runs of the program over bytes in memory.
+//! Runs of the program over bytes in memory, an empty shelf and words that are known.
 
-use bec_bytes::{MemSink, MemSource};
+use bec_bytes::{MemSink, MemSource, Sink, Source};
+use bec_disk::MemShelf;
 use bec_node::run;
+use rand_pcg::Pcg32;
 use std::alloc::{AllocError, Global};
 use std::test::Fail;
 
@@ -24,6 +26,18 @@ pub fn answers(
 ) -> Result<bool, Fail> {
     let mut input = MemSource::new(bytes, Vec::new(alloc));
     let mut out = MemSink::new(alloc, Vec::new(alloc));
-    let got = run(alloc, &words(alloc, line)?, &mut input, &mut out);
+    let got = run_alone(alloc, &words(alloc, line)?, &mut input, &mut out);
     Ok(got == status && out.bytes() == text.as_bytes())
+}
+
+/// Runs the program over a shelf on which nothing is.
+pub fn run_alone<S: Source, K: Sink>(
+    alloc: Global,
+    words: &[String],
+    input: &mut S,
+    out: &mut K,
+) -> u8 {
+    let mut shelf = MemShelf::new(alloc);
+    let mut random = Pcg32::new(42, 54);
+    run(alloc, words, &mut shelf, &mut random, input, out)
 }

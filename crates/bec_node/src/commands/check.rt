@@ -1,63 +1,48 @@
-ghost use Rattle.std.specs.Prelude.{◌≡◌, ◌≤◌, IfOk, IfErr};
-ghost use Rattle.bec_bytes.specs.Causes.{Rose};
-ghost use Rattle.bec_bytes.specs.declared.read_error.ReadError.TheVariants.{Failed as StreamFailed};
-ghost use Rattle.bec_node.specs.declared.command.Command.TheVariants.{Check};
+ghost use Rattle.std.specs.Prelude.{codes};
 ghost use Rattle.bec_node.specs.Outcome.{ComesTo};
-ghost use Rattle.bec_node.specs.Run.{HasFirstWord, Runs, outside};
-ghost use Rattle.bec_node.specs.Verdict.{CheckAnswer, ReadsText};
+ghost use Rattle.bec_node.specs.Outside.{outside};
+ghost use Rattle.bec_node.specs.Run.{HasFirstWord, Runs};
+ghost use Rattle.bec_node.specs.Verdict.{CheckAnswer};
 
-use crate::laws::one_answer;
-use crate::lines::no_command;
+use crate::program::run;
 use crate::refusal::Refusal;
-use crate::reply::finish;
-use crate::schema_text::take_schema;
-use bec_bytes::{ReadError, Sink, Source, read_full};
+use crate::text_input::read_text;
+use bec_bytes::{Sink, Source};
+use bec_disk::Shelf;
+use confluence_test::take_schema;
+use rand_core::Rng;
 use row_check::{Luhn, Native};
+use schema::MAX_SCHEMA_BYTES;
 use std::alloc::Global;
 
-/// How many bytes of a text are read at most: one more than a schema may have, which shows that it is too long.
-const READ_LIMIT: usize = 65_537;
-
 /// The command `check`: reads the text of a schema, and prints `confluent` where each invariant survives merging, or the
-/// line for its first fault, or the line for the first invariant that does not survive, with a history that breaks it.
-/// `words` are all the words of the command line; a second one makes them no command.
+/// line for its first fault, or the lines for the first invariant that does not survive, with a history that breaks it. The
+/// first word has to be `check`.
 ///
 /// Its clause is that of [`run`](crate::run) for these words.
-pub fn command_check<S: Source, K: Sink>(
+pub fn command_check<H: Shelf, R: Rng, S: Source, K: Sink>(
     alloc: Global,
     words: &[String],
+    shelf: &mut H,
+    random: &mut R,
     input: &mut S,
     out: &mut K,
 ) -> u8
-    requires { HasFirstWord Check words.now }
-    ensures { Runs words.now (outside S.left S.faults K.held K.faults input.old out.old) (outside S.left S.faults K.held K.faults input.new out.new) result }
+    requires { HasFirstWord (codes "check") words.now }
+    ensures { Runs words.now
+        (outside S.left S.faults H.state H.faults R.stream input.old shelf.old random.old) (outside S.left S.faults H.state H.faults R.stream input.new shelf.new random.new)
+        (record { held = K.held out.old; faults = K.faults out.old }) (record { held = K.held out.new; faults = K.faults out.new }) result }
 {
-    one_answer();
-    if words.len() > 1 {
-        return no_command(out);
-    }
-    let outcome = verdict(alloc, input);
-    finish(alloc, out, outcome)
+    run(alloc, words, shelf, random, input, out)
 }
 
 /// What is said of a schema whose invariants all survive merging.
-fn verdict<S: Source>(alloc: Global, input: &mut S) -> Result<Vec<u8>, Refusal>
+pub fn verdict<S: Source>(alloc: Global, input: &mut S) -> Result<Vec<u8>, Refusal>
     ensures { ComesTo CheckAnswer (S.left input.old) (S.left input.new) (S.faults input.old) (S.faults input.new) result }
 {
     let native: Native<Luhn, Luhn> = Native::new(Luhn);
-    let text = read_text(alloc, input)?;
+    let text = read_text(alloc, input, MAX_SCHEMA_BYTES)?;
     let _schema = take_schema(alloc, &text, &native)?;
     let verdict = Vec::from_slice(alloc, b"confluent\n")?;
     Ok(verdict)
-}
-
-/// Reads the text of a schema, and one byte more where it is too long.
-fn read_text<S: Source>(alloc: Global, input: &mut S) -> Result<Vec<u8>, ReadError>
-    ensures text { IfOk result (λ text. ReadsText (S.left input.old) (S.left input.new) text.items) }
-    ensures failed { IfErr result (λ e. e ≡ StreamFailed → Rose (S.faults input.old) (S.faults input.new)) }
-{
-    let mut text = vec![in alloc; 0u8; READ_LIMIT]?;
-    let count = read_full(input, &mut text)?;
-    text.truncate(count);
-    Ok(text)
 }

@@ -1,44 +1,42 @@
-ghost use Rattle.std.specs.Prelude.{◌≡◌, ◌++◌, IfOk, OnOk};
-ghost use Rattle.bec_node.specs.declared.command.Command.TheVariants.{Heads};
+ghost use Rattle.std.specs.Prelude.{◌≡◌, ◌++◌, IfOk, OnOk, codes};
 ghost use Rattle.bec_node.specs.Heads.{HeadsAnswer};
 ghost use Rattle.bec_node.specs.Outcome.{ComesTo};
-ghost use Rattle.bec_node.specs.Run.{HasFirstWord, Runs, outside};
+ghost use Rattle.bec_node.specs.Outside.{outside};
+ghost use Rattle.bec_node.specs.Run.{HasFirstWord, Runs};
 ghost use Rattle.bec_node.specs.Texts.{line_of, printed};
 
 use crate::heads::heads_of;
-use crate::laws::one_answer;
-use crate::lines::no_command;
+use crate::program::run;
 use crate::refusal::Refusal;
-use crate::reply::finish;
 use crate::stream::read_graph;
 use bec_bytes::{Sink, Source};
+use bec_disk::Shelf;
+use rand_core::Rng;
 use std::alloc::{AllocError, Global};
 use update_model::UpdateId;
 
-/// The command `heads`: reads an update stream and prints the ids of its heads, rising, one per line in
-/// lower-case hexadecimal, or the line for the first record that is refused. `words` are all the words of the
-/// command line; a second one makes them no command.
+/// The command `heads`: prints the ids of the heads of the update stream that it reads, rising, one per line in
+/// lower-case hexadecimal; or the line for what is refused. The first word has to be `heads`.
 ///
 /// Its clause is that of [`run`](crate::run) for these words.
-pub fn command_heads<S: Source, K: Sink>(
+pub fn command_heads<H: Shelf, R: Rng, S: Source, K: Sink>(
     alloc: Global,
     words: &[String],
+    shelf: &mut H,
+    random: &mut R,
     input: &mut S,
     out: &mut K,
 ) -> u8
-    requires { HasFirstWord Heads words.now }
-    ensures { Runs words.now (outside S.left S.faults K.held K.faults input.old out.old) (outside S.left S.faults K.held K.faults input.new out.new) result }
+    requires { HasFirstWord (codes "heads") words.now }
+    ensures { Runs words.now
+        (outside S.left S.faults H.state H.faults R.stream input.old shelf.old random.old) (outside S.left S.faults H.state H.faults R.stream input.new shelf.new random.new)
+        (record { held = K.held out.old; faults = K.faults out.old }) (record { held = K.held out.new; faults = K.faults out.new }) result }
 {
-    one_answer();
-    if words.len() > 1 {
-        return no_command(out);
-    }
-    let outcome = stream_heads(alloc, input);
-    finish(alloc, out, outcome)
+    run(alloc, words, shelf, random, input, out)
 }
 
 /// The heads of a stream, as they are printed.
-fn stream_heads<S: Source>(alloc: Global, input: &mut S) -> Result<Vec<u8>, Refusal>
+pub fn stream_heads<S: Source>(alloc: Global, input: &mut S) -> Result<Vec<u8>, Refusal>
     ensures { ComesTo HeadsAnswer (S.left input.old) (S.left input.new) (S.faults input.old) (S.faults input.new) result }
 {
     let graph = read_graph(alloc, &None, input)?;

@@ -5,11 +5,10 @@ use Rattle.table_text.specs.Tables.{tables_text}
 use Rattle.bec_node.specs.Bundle.{nodes_of}
 use Rattle.bec_node.specs.Verdict.{rules_of}
 use Rattle.bec_node.proofs.Bundles.{tables_shown}
-use Rattle.bec_node.proofs.Unlimited.{unlimited_from}
 use Rattle.bec_node.proofs.graph_tables.graph_text.Goals as goal
 
 pub replay-requires-after_bounds : goal.replay-requires-after_bounds
-replay-requires-after_bounds c κs = unlimited_from (rules_of c.args.schema.now) 0 c.args.schema.now.tables c.requires
+replay-requires-after_bounds c κs = c.accepted_is_unlimited.ensures (rules_of c.args.schema.now) c.requires
 
 pub returns : goal.returns
 returns c =

@@ -1,17 +1,32 @@
-use Rattle.std.proofs.Common.{◌∙◌, refl, sym, ap}
-use Rattle.std.specs.Option.{option_copied}
-use Rattle.bec_node.specs.Run.{outside}
-use Rattle.bec_node.proofs.Ending.{other_first, no_first, runs_none}
+use Rattle.std.proofs.Common.{refl}
+use Rattle.command_words.specs.Seen.{request_seen}
+use Rattle.bec_node.specs.Outside.{SinkState, outside}
+use Rattle.bec_node.proofs.Answer.{OneAnswer}
+use Rattle.bec_node.proofs.Ending.{runs, runs_none, runs_unread}
 use Rattle.bec_node.proofs.program.run.Goals as goal
 
 pub returns-in_default : goal.returns-in_default
 returns-in_default g c =
-    runs_none c.args.words.now (outside g.S.Source.left g.S.Counted.faults g.K.Sink.held g.K.Counted.faults c.args.input.now c.args.out.now)
-    (outside g.S.Source.left g.S.Counted.faults g.K.Sink.held g.K.Counted.faults c.args.input.now c.no_command.new.out) c.no_command.result
-    (no_first c.args.words.now (sym c.first.ensures.value ∙ ap option_copied c.in_default.is)) refl c.no_command.ensures
+    let seen = outside g.S.Source.left g.S.Counted.faults g.H.Shelf.state g.H.Counted.faults g.R.Rng.stream c.args.input.now c.args.shelf.now c.args.random.now in
+    let sink : SinkState = record { held = g.K.Sink.held c.args.out.now; faults = g.K.Counted.faults c.args.out.now } in
+    runs_unread c.args.words.now seen seen sink sink 5 (record { source = refl; shelf = refl; random = refl }) refl refl
 
-pub returns-in-None : goal.returns-in-None
-returns-in-None g c =
-    runs_none c.args.words.now (outside g.S.Source.left g.S.Counted.faults g.K.Sink.held g.K.Counted.faults c.args.input.now c.args.out.now)
-    (outside g.S.Source.left g.S.Counted.faults g.K.Sink.held g.K.Counted.faults c.args.input.now c.no_command-in-None.new.out) c.no_command-in-None.result
-    (other_first c.args.words.now c.in-Some.word.now (sym c.in-Some.ensures.value) (λ command is. c.in-None.ensures.none command (c.deref.ensures ∙ is))) refl c.no_command-in-None.ensures
+pub returns-in_default-asked : goal.returns-in_default-asked
+returns-in_default-asked g c =
+    let seen = outside g.S.Source.left g.S.Counted.faults g.H.Shelf.state g.H.Counted.faults g.R.Rng.stream c.args.input.now c.args.shelf.now c.args.random.now in
+    let sink : SinkState = record { held = g.K.Sink.held c.args.out.now; faults = g.K.Counted.faults c.args.out.now } in
+    let sink_new : SinkState = record { held = g.K.Sink.held c.no_command.new.out; faults = g.K.Counted.faults c.no_command.new.out } in
+    let no_request = rw c.in_default-asked.is at c.in-Ok.ensures in
+    runs_none c.args.words.now seen seen sink sink_new c.no_command.result no_request (record { source = refl; shelf = refl; random = refl }) c.no_command.ensures
+
+pub returns : goal.returns
+returns g c =
+    let seen = outside g.S.Source.left g.S.Counted.faults g.H.Shelf.state g.H.Counted.faults g.R.Rng.stream c.args.input.now c.args.shelf.now c.args.random.now in
+    let then = outside g.S.Source.left g.S.Counted.faults g.H.Shelf.state g.H.Counted.faults g.R.Rng.stream c.outcome_of-outcome.new.input c.outcome_of-outcome.new.shelf c.outcome_of-outcome.new.random in
+    let sink : SinkState = record { held = g.K.Sink.held c.args.out.now; faults = g.K.Counted.faults c.args.out.now } in
+    let sink_new : SinkState = record { held = g.K.Sink.held c.finish.new.out; faults = g.K.Counted.faults c.finish.new.out } in
+    let asks = rw c.in-Some.is at c.in-Ok.ensures in
+    let laws = c.one_answer.ensures in
+    let one : OneAnswer = record { heads = laws.heads; check = laws.check; dump = laws.dump } in
+    runs c.args.words.now seen then sink sink_new c.finish.result one c.one_request.ensures (request_seen c.in-Some.request) asks
+    c.outcome_of-outcome.result c.outcome_of-outcome.ensures c.finish.ensures
