@@ -1,10 +1,10 @@
 -- Creating a store.
-use Rattle.std.proofs.Common.{◌≡◌, ◌⊎◌, inl, inr, ⊎_elim, ℕ, ◌+◌, ◌<◌, ◌≤◌, true, List, [], ◌∷◌, ◌++◌, length, take, drop, map, All, refl, sym, ap, subst, ◌∙◌, IsTrue, arith}
+use Rattle.std.proofs.Common.{◌≡◌, ◌⊎◌, inl, inr, ⊎_elim, ℕ, ◌≤◌, List, [], ◌∷◌, length, refl, subst, IsTrue, arith}
 use Rattle.bec_bytes.specs.Framed.{stream_of}
 use Rattle.bec_disk.specs.Disk.{DiskState, IsSameDisk, IsSettled, LeavesOnly}
 use Rattle.bec_disk.specs.Gated.{IsOldOrNew}
 use Rattle.bec_disk.proofs.Images.{settled_image}
-use Rattle.bec_disk.proofs.Moments.{same_disk, stays, then_same}
+use Rattle.bec_disk.proofs.Moments.{same_disk, stays}
 use Rattle.update_model.specs.Rule.{RuleData}
 use Rattle.update_check.specs.Members.{AreMembers}
 use Rattle.update_log.specs.Log.{IsClean}

@@ -1,6 +1,6 @@
 -- What a payload declares.
-use Rattle.std.proofs.Common.{◌≡◌, ◌⊎◌, inl, inr, ℕ, ◌+◌, ◌<◌, ◌≤◌, List, [], ◌∷◌, ◌++◌, length, take, drop, refl, sym, ap, subst, ◌∙◌, ⊎_elim, IsTrue, arith, length-append}
-use Rattle.std.proofs.lemmas.List.{take_at, drop_at, take-append-drop}
+use Rattle.std.proofs.Common.{◌≡◌, ◌⊎◌, ℕ, List, ◌++◌, length, take, drop, refl, sym, ap, subst, ◌∙◌, ⊎_elim, IsTrue}
+use Rattle.std.proofs.lemmas.List.{drop_at, take-append-drop}
 use Rattle.bec_bytes.specs.Framed.{stream_of}
 use Rattle.bec_disk.specs.Disk.{DiskState, IsSettled}
 use Rattle.bec_disk.specs.Gated.{gated_of}
@@ -68,6 +68,7 @@ damaged_none ask part damaged = record {
   where
     damaged_absent : Damaged ≡ Absent → ⊥
     damaged_absent same = cc
+
     damaged_whole : (payload : List ℕ) → Damaged ≡ Whole payload → ⊥
     damaged_whole payload same = cc
 

@@ -1,10 +1,9 @@
 -- What the log of a replica keeps.
-use Rattle.std.proofs.Common.{◌≡◌, ℕ, List, [], ◌∷◌, ◌++◌, length, map, take, drop, refl, sym, ap, subst, ◌∙◌, IsTrue, arith}
-use Rattle.std.proofs.lemmas.List.{take_at, drop_at}
+use Rattle.std.proofs.Common.{◌≡◌, ℕ, List, ◌++◌, length, map, drop, refl, sym, ap, subst, ◌∙◌, IsTrue}
+use Rattle.std.proofs.lemmas.List.{drop_at}
 use Rattle.bec_bytes.specs.Framed.{stream_of}
 use Rattle.bec_disk.specs.Disk.{EveryImage, LeavesOnly}
 use Rattle.bec_disk.proofs.Moments.{stays, weakened, followed_by}
-use Rattle.update_codec.specs.Parts.{id_of}
 use Rattle.update_log.specs.Log.{LogState, IsLogOf, acknowledged}
 use Rattle.update_log.specs.Logset.{BeginsWith}
 

@@ -1,5 +1,5 @@
 -- What opening and creating a store answers and leaves.
-use Rattle.std.specs.Prelude.{◌≡◌, ◌≢◌, ◌⊎◌, ℕ, List, [], ◌++◌, IsTrue, OnOk, Result}
+use Rattle.std.specs.Prelude.{◌≡◌, ◌≢◌, ◌⊎◌, ℕ, List, [], ◌++◌, IsTrue}
 use Rattle.bec_bytes.specs.Framed.{stream_of}
 use Rattle.bec_disk.specs.Disk.{DiskState, IsSameDisk, IsSettled, LeavesOnly}
 use Rattle.bec_disk.specs.Gated.{IsOldOrNew, gated_of, whole_of}

@@ -1,10 +1,9 @@
 -- What the parts of a store stand for.
-use Rattle.std.specs.Prelude.{◌≡◌, ◌≢◌, ◌⊎◌, ℕ, ◌<◌, List, ◌++◌, length, take, drop}
+use Rattle.std.specs.Prelude.{◌≡◌, ◌≢◌, ℕ, List, ◌++◌, length}
 use Rattle.bec_disk.specs.Gated.{gated_of}
-use Rattle.bec_disk.specs.declared.gated.Gated.TheVariants.{Absent, Damaged, Whole}
+use Rattle.bec_disk.specs.declared.gated.Gated.TheVariants.{Absent, Whole}
 use Rattle.schema.specs.Schemas.{Meaning, SchemaData}
 use Rattle.confluence_test.specs.Taking.{TakesSchema}
-use Rattle.update_log.specs.Logset.{IsLogset}
 
 -- The part Schema is whole, and its payload is the id of a node, of 32 bytes, and the text of a schema whose invariants all
 -- survive merging.

@@ -1,10 +1,9 @@
 -- What making an update does to the key.
 use Rattle.std.specs.Prelude.{◌≡◌, ◌⊎◌, ℕ, IsTrue, Option, None, Some, Result, Ok, Err}
 use Rattle.update_model.specs.declared.update_id.UpdateId.{UpdateId}
-use Rattle.bec_disk.specs.Disk.{EveryImage}
 use Rattle.key_index.specs.KeyState.{KeyState}
 use Rattle.key_index.specs.Reserving.{IsReserved, Tries}
-use Rattle.key_index.specs.Used.{IsUsed, least_unused}
+use Rattle.key_index.specs.Used.{least_unused}
 use Rattle.replica.specs.declared.make_fault.MakeFault.{MakeFault}
 use Rattle.replica.specs.declared.make_fault.MakeFault.TheVariants.{NotListed, TooManyHeads, Invalid, TooLong, Full, Spent, Taken, DiskFault, Memory}
 use Rattle.replica.specs.declared.make_fault.Side.TheVariants.{Key, Log}

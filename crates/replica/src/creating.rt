@@ -56,11 +56,13 @@ pub fn create<D: Disk, L: Relation, C: Checks<L>>(
     };
     let replica = match open_empty(alloc, declared, updates, native) {
         Ok(replica) => replica,
-        Err(OpenFault {
-            why,
-            updates,
-            native,
-        }) => {
+        Err(
+            OpenFault {
+                why,
+                updates,
+                native,
+            },
+        ) => {
             return Err(CreateFault {
                 why: kind_of(why),
                 updates,

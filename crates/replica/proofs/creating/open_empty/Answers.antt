@@ -1,4 +1,3 @@
-use Rattle.std.proofs.Common.{◌≡◌, List, ℕ, []}
 use Rattle.bec_disk.proofs.Moments.{told}
 use Rattle.replica.proofs.Creates.{empty_logset}
 use Rattle.replica.proofs.creating.open_empty.Goals as goal

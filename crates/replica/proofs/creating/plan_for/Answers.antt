@@ -1,4 +1,4 @@
-use Rattle.std.proofs.Common.{◌≡◌, subst, sym}
+use Rattle.std.proofs.Common.{subst, sym}
 use Rattle.replica.specs.Opening.{IsTextCause}
 use Rattle.replica.proofs.Creates.{text_refused}
 use Rattle.replica.proofs.creating.plan_for.Goals as goal

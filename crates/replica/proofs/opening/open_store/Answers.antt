@@ -1,4 +1,3 @@
-use Rattle.std.proofs.Common.{◌≡◌}
 use Rattle.update_log.specs.Log.{KeepsLogset}
 use Rattle.replica.specs.Opening.{KeepsStore}
 use Rattle.replica.proofs.Declaring.{keeps_store}

@@ -1,4 +1,4 @@
-use Rattle.std.proofs.Common.{◌≡◌, List, ℕ, All, map, subst, sym, ◌∙◌}
+use Rattle.std.proofs.Common.{List, ℕ, All, map, subst, sym, ◌∙◌}
 use Rattle.bec_bytes.specs.Framed.{stream_of}
 use Rattle.bec_disk.specs.Disk.{LeavesOnly}
 use Rattle.update_model.specs.Batch.{Adds, store_limits}
