@@ -1,4 +1,5 @@
 pub mod Handing
+pub mod Made
 pub mod Making
 pub mod Places
 pub mod Putting

@@ -77,24 +77,28 @@ lets_first_go gated filled payload filling before after dir apart may = record {
   tells = may.tells;
   any_moment = λ tells. alone_since (slot dir gated) (part_in before dir gated) (part_in after dir gated) payload (may.part tells);
   order = λ tells. inl (may.part tells);
+  there = λ tells full. may.others (slot dir filled) apart;
   others = λ tells other away. may.others other (neither (same_slot (slot dir gated) other) (same_slot (slot dir filled) other) away).0;
   home = λ tells home. home_again gated filled dir after (alone_in (slot dir gated) (part_in before dir gated) (part_in after dir gated) (may.part tells) (home (slot dir gated)))
-  (subst (λ (p : PartState). p ≢ out) (sym (may.others (slot dir filled) apart)) (home (slot dir filled)))
-  (λ other away. subst (λ (p : PartState). p ≢ out) (sym (may.others other (neither (same_slot (slot dir gated) other) (same_slot (slot dir filled) other) away).0)) (home other));
+      (subst (λ (p : PartState). p ≢ out) (sym (may.others (slot dir filled) apart)) (home (slot dir filled)))
+      (λ other away. subst (λ (p : PartState). p ≢ out) (sym (may.others other (neither (same_slot (slot dir gated) other) (same_slot (slot dir filled) other) away).0)) (home other));
 }
 
 -- Where the second was not.
 pub lets_second_go : (gated filled : Part) (payload filling : List ℕ) (before mid done after : ShelfState) (dir : List ℕ) (first disk : DiskState) → same_slot (slot dir gated) (slot dir filled) ≡ false
-    → HandsOutAny before (slot dir gated) first mid → MayMakeAny mid (slot dir filled) done → disk ≡ first → after.tells ≡ done.tells → PutsAny done disk after → LetsNewGo gated filled payload filling before dir after
-lets_second_go gated filled payload filling before mid done after dir first disk apart hands may same t3 puts = record {
+    → HandsOutAny before (slot dir gated) first mid → MayMakeAny mid (slot dir filled) done → (IsTrue first.tells → gated_of first.seen ≢ Absent → done ≡ mid) → disk ≡ first → after.tells ≡ done.tells → PutsAny done disk after → LetsNewGo gated filled payload filling before dir after
+lets_second_go gated filled payload filling before mid done after dir first disk apart hands may kept same t3 puts = record {
   tells = t3 ∙ may.tells ∙ hands.tells;
   any_moment = λ tells. alone_since (slot dir gated) (part_in before dir gated) (part_in after dir gated) payload (alone tells);
   order = λ tells. inl (alone tells);
+  there = λ tells full. (put tells).others (slot dir filled) apart
+      ∙ ap (λ (s : ShelfState). part_in s dir filled) (kept (told before.tells first.tells hands.disk_tells tells) (λ gone. full (ap gated_of (sym (handed_seen (slot dir gated) (part_in before dir gated) first (hands.part tells))) ∙ gone)))
+      ∙ hands.others (slot dir filled) apart;
   others = λ tells other away. elsewhere tells other away;
   home = λ tells home. home_again gated filled dir after (stands-not-out (part_in after dir gated) disk (back tells))
-  (subst (λ (p : PartState). p ≢ out) (sym ((put tells).others (slot dir filled) apart))
-  (alone_in (slot dir filled) (part_in mid dir filled) (part_in done dir filled) (may.part (told_mid tells)) (subst (λ (p : PartState). p ≢ out) (sym (hands.others (slot dir filled) apart)) (home (slot dir filled)))))
-  (λ other away. subst (λ (p : PartState). p ≢ out) (sym (elsewhere tells other away)) (home other));
+      (subst (λ (p : PartState). p ≢ out) (sym ((put tells).others (slot dir filled) apart))
+      (alone_in (slot dir filled) (part_in mid dir filled) (part_in done dir filled) (may.part (told_mid tells)) (subst (λ (p : PartState). p ≢ out) (sym (hands.others (slot dir filled) apart)) (home (slot dir filled)))))
+      (λ other away. subst (λ (p : PartState). p ≢ out) (sym (elsewhere tells other away)) (home other));
 }
   where
     told_mid : IsTrue before.tells → IsTrue mid.tells
@@ -120,16 +124,17 @@ lets_second_go gated filled payload filling before mid done after dir first disk
 -- Where both were handed out, and are put back after what was written.
 pub lets_both_new_go : (gated filled : Part) (payload filling : List ℕ) (before mid taken between after : ShelfState) (dir : List ℕ) (first first_new second second_new : DiskState)
     → same_slot (slot dir gated) (slot dir filled) ≡ false → same_slot (slot dir filled) (slot dir gated) ≡ false
-    → HandsOutAny before (slot dir gated) first mid → HandsOutAny mid (slot dir filled) second taken
+    → HandsOutAny before (slot dir gated) first mid → HandsOutAny mid (slot dir filled) second taken → (IsTrue first.tells → gated_of first.seen ≡ Absent)
     → LeavesOnly first first_new (IsOldOrNew first.seen payload) → second_new.slot ≡ second.slot → (IsTrue second.tells → (first_new ≡ first) ⊎ IsOnDisk filling second_new)
     → between.tells ≡ taken.tells → after.tells ≡ between.tells → PutsAny taken second_new between → PutsAny between first_new after → LetsNewGo gated filled payload filling before dir after
-lets_both_new_go gated filled payload filling before mid taken between after dir first first_new second second_new apart apart' h1 h2 leaves same_slot_of order t3 t4 p1 p2 = record {
+lets_both_new_go gated filled payload filling before mid taken between after dir first first_new second second_new apart apart' h1 h2 gone leaves same_slot_of order t3 t4 p1 p2 = record {
   tells = t4 ∙ t3 ∙ h2.tells ∙ h1.tells;
   any_moment = λ tells. gated_since (slot dir gated) (part_in before dir gated) (part_in after dir gated) first first_new payload (h1.part tells) (back tells) leaves;
+  there = λ tells full. absurd (full (ap gated_of (sym (handed_seen (slot dir gated) (part_in before dir gated) first (h1.part tells))) ∙ gone (told before.tells first.tells h1.disk_tells tells)));
   order = λ tells. by tells (order (told mid.tells second.tells h2.disk_tells (told_mid tells)));
   others = λ tells other away. elsewhere tells other away;
   home = λ tells home. home_again gated filled dir after (stands-not-out (part_in after dir gated) first_new (back tells)) (stands-not-out (part_in after dir filled) second_new (back_filled tells))
-  (λ other away. subst (λ (p : PartState). p ≢ out) (sym (elsewhere tells other away)) (home other));
+      (λ other away. subst (λ (p : PartState). p ≢ out) (sym (elsewhere tells other away)) (home other));
 }
   where
     told_mid : IsTrue before.tells → IsTrue mid.tells
@@ -167,8 +172,7 @@ pub first_still_out : (gated filled : Part) (before mid taken between : ShelfSta
 first_still_out gated filled before mid taken between dir first first_new second second_new apart h1 h2 same same' t3 p1 tells =
     let t2 : IsTrue mid.tells = told between.tells mid.tells (sym (t3 ∙ h2.tells)) tells in
     let t1 : IsTrue before.tells = told mid.tells before.tells (sym h1.tells) t2 in
-    let of_filled = same' ∙ handed_slot (slot dir filled) (part_in mid dir filled) second (h2.part t2) in
-    (
+    let of_filled = same' ∙ handed_slot (slot dir filled) (part_in mid dir filled) second (h2.part t2) in (
       slot dir gated,
       same ∙ handed_slot (slot dir gated) (part_in before dir gated) first (h1.part t1),
       (p1 (slot dir filled) of_filled).others (slot dir gated) apart ∙ h2.others (slot dir gated) apart ∙ h1.is_out t1,
@@ -221,8 +225,8 @@ makes_store ask before mid after dir node text schema updates store h1 h2 create
   schema_out = λ tells. h2.others (slot dir Schema) refl ∙ h1.is_out tells;
   updates_out = λ tells. h2.is_out (told before.tells mid.tells h1.tells tells);
   others = λ other away.
-  let two = neither (same_slot (slot dir Schema) other) (same_slot (slot dir Updates) other) away in
-  h2.others other two.1 ∙ h1.others other two.0;
+      let two = neither (same_slot (slot dir Schema) other) (same_slot (slot dir Updates) other) away in
+      h2.others other two.1 ∙ h1.others other two.0;
 }
 
 -- Both parts were handed out, and a key was created of them.
@@ -241,8 +245,8 @@ makes_key secret before mid after dir parts store h1 h2 creates = record {
   key_out = λ tells. h2.others (slot dir Key) refl ∙ h1.is_out tells;
   used_out = λ tells. h2.is_out (told before.tells mid.tells h1.tells tells);
   others = λ other away.
-  let two = neither (same_slot (slot dir Key) other) (same_slot (slot dir Used) other) away in
-  h2.others other two.1 ∙ h1.others other two.0;
+      let two = neither (same_slot (slot dir Key) other) (same_slot (slot dir Used) other) away in
+      h2.others other two.1 ∙ h1.others other two.0;
 }
 
 not_it : (x : Bool) → x || false ≡ false → x ≡ false

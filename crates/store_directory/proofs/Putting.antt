@@ -35,8 +35,8 @@ puts_store before mid after dir schema updates of_schema of_updates t1 t2 a b = 
   schema_back = λ tells. (b (slot dir Schema) (of_schema tells)).part (told before.tells mid.tells t1 tells);
   updates_back = λ tells. (b (slot dir Schema) (of_schema tells)).others (slot dir Updates) refl ∙ (a (slot dir Updates) (of_updates tells)).part tells;
   others = λ tells other away.
-  let two = neither (same_slot (slot dir Schema) other) (same_slot (slot dir Updates) other) away in
-  (b (slot dir Schema) (of_schema tells)).others other two.0 ∙ (a (slot dir Updates) (of_updates tells)).others other two.1;
+      let two = neither (same_slot (slot dir Schema) other) (same_slot (slot dir Updates) other) away in
+      (b (slot dir Schema) (of_schema tells)).others other two.0 ∙ (a (slot dir Updates) (of_updates tells)).others other two.1;
 }
 
 pub puts_key : (before mid after : ShelfState) (dir : List ℕ) (parts : KeyParts) → (IsTrue before.tells → parts.key.slot ≡ Some (slot dir Key)) → (IsTrue before.tells → parts.used.slot ≡ Some (slot dir Used))
@@ -46,8 +46,8 @@ puts_key before mid after dir parts of_key of_used t1 t2 a b = record {
   key_back = λ tells. (b (slot dir Key) (of_key tells)).part (told before.tells mid.tells t1 tells);
   used_back = λ tells. (b (slot dir Key) (of_key tells)).others (slot dir Used) refl ∙ (a (slot dir Used) (of_used tells)).part tells;
   others = λ tells other away.
-  let two = neither (same_slot (slot dir Key) other) (same_slot (slot dir Used) other) away in
-  (b (slot dir Key) (of_key tells)).others other two.0 ∙ (a (slot dir Used) (of_used tells)).others other two.1;
+      let two = neither (same_slot (slot dir Key) other) (same_slot (slot dir Used) other) away in
+      (b (slot dir Key) (of_key tells)).others other two.0 ∙ (a (slot dir Used) (of_used tells)).others other two.1;
 }
 
 -- what is left where the first of two parts is put back behind the second
@@ -60,11 +60,11 @@ pub lets_updates_go : (ask : Meaning) (before mid after : ShelfState) (dir : Lis
 lets_updates_go ask before mid after dir schema updates disk hands keeps t2 puts = record {
   tells = t2 ∙ hands.tells;
   list = λ tells schema_tells store reads.
-  let there = (hands.part tells).1 in
-  subst (λ (p : PartState). KeepsList store [] p (part_in after dir Updates)) (sym there)
-  (subst (λ (p : PartState). KeepsList store [] (stands (hands.part tells).0) p) (sym (back tells))
-  (list_after_opening ask (slot dir Updates) schema (hands.part tells).0 updates disk store (hands.part tells).2 keeps schema_tells
-  (subst (λ (r : Option (List ℕ)). ReadsAs ask (Some schema.seen) r store) (ap reading there) reads)));
+      let there = (hands.part tells).1 in
+      subst (λ (p : PartState). KeepsList store [] p (part_in after dir Updates)) (sym there)
+      (subst (λ (p : PartState). KeepsList store [] (stands (hands.part tells).0) p) (sym (back tells))
+      (list_after_opening ask (slot dir Updates) schema (hands.part tells).0 updates disk store (hands.part tells).2 keeps schema_tells
+      (subst (λ (r : Option (List ℕ)). ReadsAs ask (Some schema.seen) r store) (ap reading there) reads)));
   in_place = λ tells. stands-not-out (part_in after dir Updates) disk (back tells);
   others = λ tells other away. (puts (slot dir Updates) (of_updates tells)).others other away ∙ hands.others other away;
 }
@@ -87,8 +87,8 @@ lets_store_go ask before out_schema done after dir schema disk hands go same t3 
   };
   others = λ tells other away. elsewhere tells other away;
   home = λ tells home. home_again Schema Updates dir after (stands-not-out (part_in after dir Schema) disk (back tells))
-  (subst (λ (p : PartState). p ≢ out) (sym (updates_kept tells)) (go.in_place (told before.tells out_schema.tells hands.tells tells)))
-  (λ other away. subst (λ (p : PartState). p ≢ out) (sym (elsewhere tells other away)) (home other));
+      (subst (λ (p : PartState). p ≢ out) (sym (updates_kept tells)) (go.in_place (told before.tells out_schema.tells hands.tells tells)))
+      (λ other away. subst (λ (p : PartState). p ≢ out) (sym (elsewhere tells other away)) (home other));
 }
   where
     put : IsTrue before.tells → PutsBack done (slot dir Schema) disk after

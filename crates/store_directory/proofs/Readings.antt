@@ -42,7 +42,7 @@ is_absent Absent = Unit {0}
 is_absent Damaged = ⊥
 is_absent (Whole payload) = ⊥
 
-whole-not-absent : (part payload : List ℕ) → gated_of part ≡ Whole payload → gated_of part ≡ Absent → ⊥
+pub whole-not-absent : (part payload : List ℕ) → gated_of part ≡ Whole payload → gated_of part ≡ Absent → ⊥
 unfolding is_absent
 whole-not-absent part payload whole gone = subst is_absent (sym gone ∙ whole) (tt {0})
 

@@ -33,8 +33,11 @@ used_reads place part taken now is image works = by works.tried
         let index = tries.0 in
         let only : LeavesOnly (handed_out place part) now.parts.used (IsTornFrom (handed_out place part).now index (index + 1)) =
         subst (λ (d : DiskState). LeavesOnly d now.parts.used (IsTornFrom d.now index (index + 1))) is tries.1.only in
-        inr (index, torn_settled (handed_out place part) index (index + 1) now.parts.used.seen refl
-        (leaves_now (handed_out place part) now.parts.used (IsTornFrom (handed_out place part).now index (index + 1)) only refl now.parts.used.seen image))
+        inr (
+          index,
+          torn_settled (handed_out place part) index (index + 1) now.parts.used.seen refl
+              (leaves_now (handed_out place part) now.parts.used (IsTornFrom (handed_out place part).now index (index + 1)) only refl now.parts.used.seen image),
+        )
 
 -- What a run that took a key and put it back leaves of the part Used.
 pub keeps_used : (before opened closing after : ShelfState) (dir : List ℕ) (taken now : KeyState) → IsTrue before.tells → IsTrue closing.tells → TakesKey before dir taken opened → WorksWith taken now

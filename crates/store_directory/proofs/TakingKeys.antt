@@ -18,11 +18,11 @@ pub lets_key_go : (before mid done after : ShelfState) (dir : List ℕ) (key dis
 lets_key_go before mid done after dir key disk hands unchanged same t3 puts = record {
   tells = t3 ∙ ap (λ (s : ShelfState). s.tells) unchanged ∙ hands.tells;
   key_part = λ tells. put_untouched (slot dir Key) (hands.part tells).0 disk (part_in before dir Key) (part_in after dir Key) (hands.part tells).1 (same ∙ (hands.part tells).2)
-  ((put tells).part (told mid.tells done.tells (ap (λ (s : ShelfState). s.tells) unchanged) (told before.tells mid.tells hands.tells tells)));
+      ((put tells).part (told mid.tells done.tells (ap (λ (s : ShelfState). s.tells) unchanged) (told before.tells mid.tells hands.tells tells)));
   used_part = λ tells. untouched_by (part_in before dir Used) (part_in after dir Used) ((put tells).others (slot dir Used) refl ∙ ap (λ (s : ShelfState). part_in s dir Used) unchanged ∙ hands.others (slot dir Used) refl);
   others = λ tells other away.
-  let two = neither (same_slot (slot dir Key) other) (same_slot (slot dir Used) other) away in
-  (put tells).others other two.0 ∙ ap (λ (s : ShelfState). s.parts other) unchanged ∙ hands.others other two.0;
+      let two = neither (same_slot (slot dir Key) other) (same_slot (slot dir Used) other) away in
+      (put tells).others other two.0 ∙ ap (λ (s : ShelfState). s.parts other) unchanged ∙ hands.others other two.0;
 }
   where
     put : IsTrue before.tells → PutsBack done (slot dir Key) disk after
@@ -35,10 +35,10 @@ lets_both_go before mid taken back after dir key used parts h1 h2 same_key same_
   tells = puts.tells ∙ h2.tells ∙ h1.tells;
   key_part = λ tells. put_untouched (slot dir Key) (h1.part tells).0 parts.key (part_in before dir Key) (part_in after dir Key) (h1.part tells).1 (same_key ∙ (h1.part tells).2) (puts.key_back (told_taken tells));
   used_part = λ tells. put_untouched (slot dir Used) (h2.part (told_mid tells)).0 parts.used (part_in before dir Used) (part_in after dir Used) (sym (h1.others (slot dir Used) refl) ∙ (h2.part (told_mid tells)).1)
-  (same_used ∙ (h2.part (told_mid tells)).2) (puts.used_back (told_taken tells));
+      (same_used ∙ (h2.part (told_mid tells)).2) (puts.used_back (told_taken tells));
   others = λ tells other away.
-  let two = neither (same_slot (slot dir Key) other) (same_slot (slot dir Used) other) away in
-  puts.others (told_taken tells) other away ∙ h2.others other two.1 ∙ h1.others other two.0;
+      let two = neither (same_slot (slot dir Key) other) (same_slot (slot dir Used) other) away in
+      puts.others (told_taken tells) other away ∙ h2.others other two.1 ∙ h1.others other two.0;
 }
   where
     told_mid : IsTrue before.tells → IsTrue mid.tells
@@ -59,8 +59,7 @@ pub key_still_out : (before mid taken back : ShelfState) (dir : List ℕ) (key u
 key_still_out before mid taken back dir key used key_disk used_disk h1 h2 same_key same_used t3 p1 tells =
     let t2 : IsTrue mid.tells = told back.tells mid.tells (sym (t3 ∙ h2.tells)) tells in
     let t1 : IsTrue before.tells = told mid.tells before.tells (sym h1.tells) t2 in
-    let of_used = ap (λ (d : DiskState). d.slot) same_used ∙ slot_of (slot dir Used) (h2.part t2).0 used (h2.part t2).2 in
-    (
+    let of_used = ap (λ (d : DiskState). d.slot) same_used ∙ slot_of (slot dir Used) (h2.part t2).0 used (h2.part t2).2 in (
       slot dir Key,
       ap (λ (d : DiskState). d.slot) same_key ∙ slot_of (slot dir Key) (h1.part t1).0 key (h1.part t1).2,
       (p1 (slot dir Used) of_used).others (slot dir Key) refl ∙ h2.others (slot dir Key) refl ∙ h1.is_out t1,
@@ -75,18 +74,18 @@ takes_key before mid after dir parts store h1 h2 opens = record {
   key_part = λ tells. ((h1.part tells).0, (h1.part tells).1, opens.same.key_same ∙ (h1.part tells).2);
   used_part = λ tells. ((h2.part (told_mid tells)).0, used_there tells, opens.same.used_same ∙ (h2.part (told_mid tells)).2);
   reads = λ tells.
-  let of_key : AreOfKey parts.key.seen parts.used.seen store.secret = record { holds = opens.holds (told before.tells parts.key.tells h1.disk_tells tells); size = opens.size (used_told tells) } in
-  let as_used : ReadsAsKey (Some parts.key.seen) (reading (part_in before dir Used)) store.secret =
-  subst (λ (r : Option (List ℕ)). ReadsAsKey (Some parts.key.seen) r store.secret)
-  (sym (reads_handed (slot dir Used) (h2.part (told_mid tells)).0 parts.used (part_in before dir Used) (used_there tells) (h2.part (told_mid tells)).2)) of_key in
-  subst (λ (r : Option (List ℕ)). ReadsAsKey r (reading (part_in before dir Used)) store.secret)
-  (sym (reads_handed (slot dir Key) (h1.part tells).0 parts.key (part_in before dir Key) (h1.part tells).1 (h1.part tells).2)) as_used;
+      let of_key : AreOfKey parts.key.seen parts.used.seen store.secret = record { holds = opens.holds (told before.tells parts.key.tells h1.disk_tells tells); size = opens.size (used_told tells) } in
+      let as_used : ReadsAsKey (Some parts.key.seen) (reading (part_in before dir Used)) store.secret =
+      subst (λ (r : Option (List ℕ)). ReadsAsKey (Some parts.key.seen) r store.secret)
+      (sym (reads_handed (slot dir Used) (h2.part (told_mid tells)).0 parts.used (part_in before dir Used) (used_there tells) (h2.part (told_mid tells)).2)) of_key in
+      subst (λ (r : Option (List ℕ)). ReadsAsKey r (reading (part_in before dir Used)) store.secret)
+      (sym (reads_handed (slot dir Key) (h1.part tells).0 parts.key (part_in before dir Key) (h1.part tells).1 (h1.part tells).2)) as_used;
   taken = λ tells. opens.taken (used_told tells) ∙ ap (λ (d : DiskState). used_in d.seen) (sym opens.same.used_same);
   key_out = λ tells. h2.others (slot dir Key) refl ∙ h1.is_out tells;
   used_out = λ tells. h2.is_out (told_mid tells);
   others = λ other away.
-  let two = neither (same_slot (slot dir Key) other) (same_slot (slot dir Used) other) away in
-  h2.others other two.1 ∙ h1.others other two.0;
+      let two = neither (same_slot (slot dir Key) other) (same_slot (slot dir Used) other) away in
+      h2.others other two.1 ∙ h1.others other two.0;
 }
   where
     told_mid : IsTrue before.tells → IsTrue mid.tells

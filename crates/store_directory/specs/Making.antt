@@ -1,7 +1,8 @@
 -- Stores and keys that are made in a directory.
-use Rattle.std.specs.Prelude.{◌≡◌, ◌⊎◌, ℕ, List, [], ◌∷◌, ◌++◌, IsTrue, Option}
+use Rattle.std.specs.Prelude.{◌≡◌, ◌≢◌, ◌⊎◌, ℕ, List, [], ◌∷◌, ◌++◌, IsTrue, Option}
 use Rattle.bec_disk.specs.Disk.{DiskState, LeavesSince, handed_out, made_part}
-use Rattle.bec_disk.specs.Gated.{IsOldOrNew}
+use Rattle.bec_disk.specs.Gated.{IsOldOrNew, gated_of}
+use Rattle.bec_disk.specs.declared.gated.Gated.TheVariants.{Absent}
 use Rattle.bec_disk.specs.declared.part.Part.{Part}
 use Rattle.bec_disk.specs.declared.part.Part.TheVariants.{Key, Schema, Updates, Used}
 use Rattle.bec_disk.specs.Shelf.{KeepsOthers, PartState, ShelfState, absent, moments_of, out, stands}
@@ -67,12 +68,13 @@ pub record MakesStore (ask : Meaning) (before : ShelfState) (dir node text : Lis
 
 -- Nothing new was made of two parts: the one behind whose gate it would stand, and the one that is filled first. A crash at a moment of the
 -- run leaves the first standing for what it stood for, or absent, or whole with the new payload; and it was left alone, or the second is on
--- the disk as it was to be filled. Every part is in its place.
+-- the disk as it was to be filled. Where the first was not absent, the second is as it was. Every part is in its place.
 pub record LetsNewGo (gated filled : Part) (payload filling : List ℕ) (before : ShelfState) (dir : List ℕ) (after : ShelfState) : Type 0 where
   pub tells : after.tells ≡ before.tells
   pub any_moment : IsTrue before.tells → LeavesSince (moments_of (part_in before dir gated)) (moments_of (part_in after dir gated)) (IsOldOrNew (seen_in (part_in before dir gated)) payload)
   pub order : IsTrue before.tells → IsLeftAlone (slot dir gated) (part_in before dir gated) (part_in after dir gated)
       ⊎ ((disk : DiskState) × (part_in after dir filled ≡ stands disk) × IsOnDisk filling disk)
+  pub there : IsTrue before.tells → gated_of (seen_in (part_in before dir gated)) ≢ Absent → part_in after dir filled ≡ part_in before dir filled
   pub others : IsTrue before.tells → KeepsAllBut (gated ∷ filled ∷ []) dir before after
   pub home : IsTrue before.tells → IsHome before → IsHome after
 

@@ -2,6 +2,7 @@
 
 ghost use Rattle.std.specs.Prelude.{◌≡◌, ◌≢◌, ◌≤◌, ◌<◌, ◌⊎◌, Some, IsTrue, IfOk, IfErr, OnErr, IsErrOf};
 ghost use Rattle.bec_bytes.specs.Causes.{Rose};
+ghost use Rattle.bec_disk.specs.Disk.{IsImage};
 ghost use Rattle.bec_disk.specs.declared.part.Part.TheVariants.{Key, Used};
 ghost use Rattle.bec_disk.specs.Shelf.{HandsOut, out};
 ghost use Rattle.bec_disk.specs.Slot.{slot};
@@ -80,6 +81,7 @@ pub fn put_key<H: Shelf>(shelf: &mut H, dir: &str, key: KeyStore<H::D>)
     requires key_of { IsTrue (H.state shelf.old).tells → (key.parts.key.slot ≡ Some (slot dir.now Key)) × (part_in (H.state shelf.old) dir.now Key ≡ out) }
     requires used_of { IsTrue (H.state shelf.old).tells → (key.parts.used.slot ≡ Some (slot dir.now Used)) × (part_in (H.state shelf.old) dir.now Used ≡ out) }
     ensures puts { PutsKey (H.state shelf.old) dir.now key.parts (H.state shelf.new) }
+    ensures reads { IsTrue key.parts.used.tells → IsImage key.parts.used.now key.parts.used.seen }
     ensures later { H.faults shelf.old ≤ H.faults shelf.new }
     ensures key_faulted { 0 < key.parts.key_faults → Rose (H.faults shelf.old) (H.faults shelf.new) }
     ensures used_faulted { 0 < key.parts.used_faults → Rose (H.faults shelf.old) (H.faults shelf.new) }

@@ -1,6 +1,6 @@
 //! Making the key of a directory.
 
-ghost use Rattle.std.specs.Prelude.{◌≡◌, ◌≢◌, ◌≤◌, ◌⊎◌, IsTrue, IfOk, IfErr, OnErr, IsErrOf};
+ghost use Rattle.std.specs.Prelude.{◌≡◌, ◌≢◌, ◌≤◌, ◌⊎◌, IsTrue, IfOk, IfErr, OnErr, OnOk, IsErrOf};
 ghost use Rattle.bec_bytes.specs.Causes.{Rose};
 ghost use Rattle.bec_disk.specs.Gated.{gated_of};
 ghost use Rattle.bec_disk.specs.declared.gated.Gated.TheVariants.{Absent};
@@ -74,6 +74,8 @@ fn used_beside<H: Shelf>(
     ensures hands { IfOk result (λ used. HandsOutAny (H.state shelf.old) (slot dir.now Used) (H.D.state used) (H.state shelf.new)) }
     ensures clean { IfOk result (λ used. H.D.faults used ≡ 0) }
     ensures may_make { OnErr result (MayMakeAny (H.state shelf.old) (slot dir.now Used) (H.state shelf.new)) }
+    ensures absent { IsTrue (H.D.state key.old).tells → OnOk result (gated_of (H.D.state key.old).seen ≡ Absent) }
+    ensures there { IsTrue (H.D.state key.old).tells → gated_of (H.D.state key.old).seen ≢ Absent → H.state shelf.new ≡ H.state shelf.old }
     ensures refused { IfErr result (λ why. IsTrue (H.D.state key.old).tells → why ≡ CreateKeyKind.KeyThere → gated_of (H.D.state key.old).seen ≢ Absent) }
     ensures same { H.D.state key.new ≡ H.D.state key.old }
     ensures later { H.faults shelf.old ≤ H.faults shelf.new }

@@ -1,7 +1,9 @@
 //! Making the store of a directory.
 
-ghost use Rattle.std.specs.Prelude.{◌≡◌, ◌≢◌, ◌≤◌, ◌⊎◌, ◌++◌, ◌∷◌, [], ℕ, List, Some, IsTrue, IfOk, IfErr, OnErr, IsErrOf, MatchBool};
+ghost use Rattle.std.specs.Prelude.{◌≡◌, ◌≢◌, ◌≤◌, ◌⊎◌, ◌++◌, ◌∷◌, [], ℕ, List, Some, IsTrue, IfOk, IfErr, OnErr, OnOk, IsErrOf, MatchBool};
 ghost use Rattle.bec_bytes.specs.Causes.{Rose};
+ghost use Rattle.bec_disk.specs.Gated.{gated_of};
+ghost use Rattle.bec_disk.specs.declared.gated.Gated.TheVariants.{Absent};
 ghost use Rattle.bec_disk.specs.declared.part.Part.TheVariants.{Schema, Updates};
 ghost use Rattle.bec_disk.specs.Shelf.{out};
 ghost use Rattle.bec_disk.specs.Slot.{slot};
@@ -89,6 +91,8 @@ fn updates_beside<H: Shelf>(
     ensures hands { IfOk result (λ updates. HandsOutAny (H.state shelf.old) (slot dir.now Updates) (H.D.state updates) (H.state shelf.new)) }
     ensures clean { IfOk result (λ updates. H.D.faults updates ≡ 0) }
     ensures may_make { OnErr result (MayMakeAny (H.state shelf.old) (slot dir.now Updates) (H.state shelf.new)) }
+    ensures absent { IsTrue (H.D.state schema.old).tells → OnOk result (gated_of (H.D.state schema.old).seen ≡ Absent) }
+    ensures there { IsTrue (H.D.state schema.old).tells → gated_of (H.D.state schema.old).seen ≢ Absent → H.state shelf.new ≡ H.state shelf.old }
     ensures refused { IfErr result (λ why. IsTrue (H.D.state schema.old).tells → (ask : Meaning) (text : List ℕ) → IsNewStoreCause ask (Some (H.D.state schema.old).seen) text why) }
     ensures same { H.D.state schema.new ≡ H.D.state schema.old }
     ensures later { H.faults shelf.old ≤ H.faults shelf.new }

@@ -113,7 +113,7 @@ pub fn put_store<H: Shelf, L: Relation, C: Checks<L>>(
     ensures log_faulted { 0 < store.replica.log.faults → Rose (H.faults shelf.old) (H.faults shelf.new) }
 {
     let OpenStore { schema, replica } = store;
-    let (updates, _native) = replica.into_parts();
-    shelf.put_back(updates);
+    let (log, _native) = replica.into_parts();
+    shelf.put_back(log);
     shelf.put_back(schema);
 }

@@ -11,8 +11,7 @@ put_back-requires-2 g c tells =
     let before = g.H.Shelf.state c.args.shelf.now in
     let mid = g.H.Shelf.state c.put_back.new.self in
     let t = told mid.tells before.tells (sym {a = mid.tells} {b = before.tells} c.put_back.ensures.tells) tells in
-    let of_used = ap (λ (p : KeyParts). p.used.slot) c.into_disks-key.ensures ∙ (c.requires.used_of t).0 in
-    (
+    let of_used = ap (λ (p : KeyParts). p.used.slot) c.into_disks-key.ensures ∙ (c.requires.used_of t).0 in (
       slot c.args.dir.now Key,
       ap (λ (p : KeyParts). p.key.slot) c.into_disks-key.ensures ∙ (c.requires.key_of t).0,
       out_still before mid (g.H.D.Disk.state c.into_disks-key.result.1) (slot c.args.dir.now Used) (slot c.args.dir.now Key) of_used refl c.put_back.ensures.puts (c.requires.key_of t).1,

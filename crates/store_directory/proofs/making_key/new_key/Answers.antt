@@ -1,6 +1,8 @@
-use Rattle.std.proofs.Common.{refl, sym, subst}
+use Rattle.std.proofs.Common.{◌≡◌, IsTrue, refl, sym, subst}
 use Rattle.bec_disk.specs.declared.part.Part.TheVariants.{Key, Used}
 use Rattle.bec_disk.specs.Disk.{DiskState}
+use Rattle.bec_disk.specs.Gated.{gated_of}
+use Rattle.bec_disk.specs.declared.gated.Gated.TheVariants.{Absent}
 use Rattle.bec_disk.specs.Slot.{slot}
 use Rattle.lms_tree.specs.LmsKind.{leaf_count}
 use Rattle.key_index.specs.Creating.{drawn_key}
@@ -20,7 +22,7 @@ pub returns-in-Err-clause-lets_go : goal.returns-in-Err-clause-lets_go
 returns-in-Err-clause-lets_go g c =
     lets_second_go Key Used (payload_of (drawn_key c.args.lms c.args.ots (g.R.Rng.stream c.args.random.now))) (none_used (leaf_count c.args.lms))
     (g.H.Shelf.state c.args.shelf.now) (g.H.Shelf.state c.find_or_make.new.shelf) (g.H.Shelf.state c.used_beside.new.shelf) (g.H.Shelf.state c.put_back.new.self)
-    c.args.dir.now (g.H.D.Disk.state c.in-Ok.key) (g.H.D.Disk.state c.used_beside.new.key) refl c.in-Ok.ensures.hands c.in-Err.ensures.may_make c.in-Err.ensures.same c.put_back.ensures.tells c.put_back.ensures.puts
+    c.args.dir.now (g.H.D.Disk.state c.in-Ok.key) (g.H.D.Disk.state c.used_beside.new.key) refl c.in-Ok.ensures.hands c.in-Err.ensures.may_make c.in-Err.ensures.there c.in-Err.ensures.same c.put_back.ensures.tells c.put_back.ensures.puts
 
 pub put_back-requires-in-Err-create-2 : goal.put_back-requires-in-Err-create-2
 put_back-requires-in-Err-create-2 g c =
@@ -49,5 +51,6 @@ returns-in-Err-create-clause-lets_go g c =
     before mid (g.H.Shelf.state c.used_beside.new.shelf) (g.H.Shelf.state c.put_back-in-Err-create.new.self) (g.H.Shelf.state c.put_back-in-Err-create-2.new.self)
     c.args.dir.now (g.H.D.Disk.state c.used_beside.new.key) (g.H.D.Disk.state c.in-Err-create.refused.key) (g.H.D.Disk.state c.in-Ok-used_beside.used) (g.H.D.Disk.state c.in-Err-create.refused.used) refl refl
     (subst (λ (d : DiskState). HandsOutAny before (slot c.args.dir.now Key) d mid) (sym c.in-Ok-used_beside.ensures.same) c.in-Ok.ensures.hands)
-    c.in-Ok-used_beside.ensures.hands c.in-Err-create.ensures.creates.creating.any_moment c.in-Err-create.ensures.creates.creating.used_disk.slot c.in-Err-create.ensures.creates.creating.order
+    c.in-Ok-used_beside.ensures.hands
+    (subst (λ (d : DiskState). IsTrue d.tells → gated_of d.seen ≡ Absent) (sym c.in-Ok-used_beside.ensures.same) c.in-Ok-used_beside.ensures.absent) c.in-Err-create.ensures.creates.creating.any_moment c.in-Err-create.ensures.creates.creating.used_disk.slot c.in-Err-create.ensures.creates.creating.order
     c.put_back-in-Err-create.ensures.tells c.put_back-in-Err-create-2.ensures.tells c.put_back-in-Err-create.ensures.puts c.put_back-in-Err-create-2.ensures.puts

@@ -1,6 +1,8 @@
-use Rattle.std.proofs.Common.{◌++◌, List, [], ℕ, refl, sym, subst}
+use Rattle.std.proofs.Common.{◌≡◌, IsTrue, ◌++◌, List, [], ℕ, refl, sym, subst}
 use Rattle.bec_disk.specs.declared.part.Part.TheVariants.{Schema, Updates}
 use Rattle.bec_disk.specs.Disk.{DiskState}
+use Rattle.bec_disk.specs.Gated.{gated_of}
+use Rattle.bec_disk.specs.declared.gated.Gated.TheVariants.{Absent}
 use Rattle.bec_disk.specs.Slot.{slot}
 use Rattle.store_directory.specs.Making.{HandsOutAny}
 use Rattle.store_directory.specs.Stores.{part_in}
@@ -15,7 +17,7 @@ returns-in_default-clause-lets_go g c =
 pub returns-in-Err-clause-lets_go : goal.returns-in-Err-clause-lets_go
 returns-in-Err-clause-lets_go g c =
     lets_second_go Schema Updates (c.args.node ++ c.args.text.now) [] (g.H.Shelf.state c.args.shelf.now) (g.H.Shelf.state c.find_or_make.new.shelf) (g.H.Shelf.state c.updates_beside.new.shelf) (g.H.Shelf.state c.put_back.new.self)
-    c.args.dir.now (g.H.D.Disk.state c.in-Ok.schema) (g.H.D.Disk.state c.updates_beside.new.schema) refl c.in-Ok.ensures.hands c.in-Err.ensures.may_make c.in-Err.ensures.same c.put_back.ensures.tells c.put_back.ensures.puts
+    c.args.dir.now (g.H.D.Disk.state c.in-Ok.schema) (g.H.D.Disk.state c.updates_beside.new.schema) refl c.in-Ok.ensures.hands c.in-Err.ensures.may_make c.in-Err.ensures.there c.in-Err.ensures.same c.put_back.ensures.tells c.put_back.ensures.puts
 
 pub returns-in-Err-clause-refused : goal.returns-in-Err-clause-refused
 returns-in-Err-clause-refused g c tells =
@@ -55,7 +57,8 @@ returns-in-Err-create-clause-lets_go g c =
     lets_both_new_go Schema Updates (c.args.node ++ c.args.text.now) [] before mid (g.H.Shelf.state c.updates_beside.new.shelf) (g.H.Shelf.state c.put_back-in-Err-create.new.self) (g.H.Shelf.state c.put_back-in-Err-create-2.new.self)
     c.args.dir.now schema schema_new updates updates_new refl refl
     (subst (λ (d : DiskState). HandsOutAny before (slot c.args.dir.now Schema) d mid) (sym c.in-Ok-updates_beside.ensures.same) c.in-Ok.ensures.hands)
-    c.in-Ok-updates_beside.ensures.hands c.in-Err-create.ensures.creating_err.schema_moments c.in-Err-create.ensures.creating_err.updates_disk.slot
+    c.in-Ok-updates_beside.ensures.hands
+    (subst (λ (d : DiskState). IsTrue d.tells → gated_of d.seen ≡ Absent) (sym c.in-Ok-updates_beside.ensures.same) c.in-Ok-updates_beside.ensures.absent) c.in-Err-create.ensures.creating_err.schema_moments c.in-Err-create.ensures.creating_err.updates_disk.slot
     (order_of schema schema_new updates updates_new c.in-Err-create.ensures.creating_err.order)
     c.put_back-in-Err-create.ensures.tells c.put_back-in-Err-create-2.ensures.tells c.put_back-in-Err-create.ensures.puts c.put_back-in-Err-create-2.ensures.puts
 
