@@ -13,7 +13,7 @@ ghost use Rattle.table_model.specs.Visible.{rules_with};
 ghost use Rattle.tuple_state.specs.State.{IsStateOf};
 ghost use Rattle.history.specs.Histories.{IsHistory, nodes_of};
 ghost use Rattle.key_index.specs.Used.{IsUsed};
-ghost use Rattle.update_log.specs.Log.{IsClean};
+ghost use Rattle.update_log.specs.Log.{IsLogOf};
 ghost use Rattle.update_log.specs.Logset.{BeginsWith};
 ghost use Rattle.replica.specs.Making.{IsJoinCause, IsMakeCause, JoinsTo, Makes};
 ghost use Rattle.replica.specs.Replicas.{IsSameStore};
@@ -70,6 +70,7 @@ impl<D: Disk, L: Relation, C: Checks<L>> Replica<D, L, C> {
     pub fn len(&self) -> u32
         ensures value { result ≡ length self.now.history.members }
         ensures history { IsHistory L.answer self.now.history }
+        ensures log { IsLogOf self.now.history.members self.now.log }
         ensures on_disk { IsTrue self.now.log.disk.tells → EveryImage self.now.log.disk.now (BeginsWith (stream_of self.now.history.members)) }
     {
         self.log.is_unsure(); // what is acknowledged stands in front
