@@ -13,6 +13,10 @@ use Rattle.bec_node.specs.Verdict.{CheckAnswer}
 use Rattle.bec_node.specs.Outcome.{ComesTo, Ends, MayLackMemory, Outcome, Puts, Says, status_for, status_of}
 use Rattle.bec_node.specs.Outside.{IsUntouched, Outside, SinkState}
 use Rattle.bec_node.specs.Run.{AnswersOnly, Comes, IsCommand, IsLeftOut, IsNoCommand, named, none, ReadsSource, Runs, SourceOnly, unread}
+use Rattle.store_directory.specs.Stores.{StoreData}
+use Rattle.bec_node.specs.Comes.{ReadsStoreOnly}
+use Rattle.bec_node.specs.StoreAnswers.{ReadsStore, ShowsHeads, ShowsRecords, ShowsTables}
+use Rattle.bec_node.proofs.Reading.{read_without_memory}
 use Rattle.bec_node.proofs.Answer.{IsOneAnswer, OneAnswer}
 
 -- ---- statuses
@@ -80,17 +84,23 @@ module _ {S H R : Type 0} (before after : Outside S H R) where
   left_out_lacks (Ok text) other lacks comes = absurd lacks
   left_out_lacks (Err refusal) other lacks comes = let is = comes.words in let same : refusal ≡ Words = cc in absurd (lacks same)
 
+  store_lacks : (Shows : StoreData → List ℕ → Type 0) (dir : List ℕ) (outcome : Outcome) → MayLackMemory outcome → ReadsStoreOnly (ReadsStore Shows) dir before after outcome
+      → ReadsStoreOnly (ReadsStore Shows) dir before after (Err Memory)
+  store_lacks Shows dir (Ok text) lacks comes = absurd lacks
+  store_lacks Shows dir (Err refusal) lacks comes =
+      record { runs = read_without_memory Shows dir before.store after.store before.shelf_faults after.shelf_faults refusal comes.runs; source = comes.source; random = comes.random }
+
   comes_lacking : (request : RequestText) (outcome : Outcome) → MayLackMemory outcome → Comes request before after outcome → Comes request before after (Err Memory)
   comes_lacking (heads None) outcome lacks comes = source_lacks HeadsAnswer outcome comes
-  comes_lacking (heads (Some dir)) outcome lacks comes = left_out_lacks outcome (Err Memory) lacks comes
+  comes_lacking (heads (Some dir)) outcome lacks comes = store_lacks ShowsHeads dir outcome lacks comes
   comes_lacking check outcome lacks comes = source_lacks CheckAnswer outcome comes
   comes_lacking (dump None) outcome lacks comes = source_lacks DumpAnswer outcome comes
-  comes_lacking (dump (Some dir)) outcome lacks comes = left_out_lacks outcome (Err Memory) lacks comes
+  comes_lacking (dump (Some dir)) outcome lacks comes = store_lacks ShowsTables dir outcome lacks comes
   comes_lacking (init dir) outcome lacks comes = left_out_lacks outcome (Err Memory) lacks comes
   comes_lacking (keygen dir lms ots) outcome lacks comes = left_out_lacks outcome (Err Memory) lacks comes
   comes_lacking (apply dir) outcome lacks comes = left_out_lacks outcome (Err Memory) lacks comes
   comes_lacking (join dir) outcome lacks comes = left_out_lacks outcome (Err Memory) lacks comes
-  comes_lacking (export dir updates_only) outcome lacks comes = left_out_lacks outcome (Err Memory) lacks comes
+  comes_lacking (export dir updates_only) outcome lacks comes = store_lacks (ShowsRecords updates_only) dir outcome lacks comes
   comes_lacking (merge first second) outcome lacks comes = left_out_lacks outcome (Err Memory) lacks comes
 
 -- ---- runs

@@ -4,5 +4,6 @@ pub mod Orders
 pub mod Tables
 pub mod Answer
 pub mod Answering
+pub mod Reading
 pub mod Ending
 pub mod Bundles

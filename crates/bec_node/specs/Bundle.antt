@@ -70,6 +70,10 @@ LacksText before after refusal =
 abbrev pub PrintsTables : SchemaData → List (List ℕ) → List ℕ → Type 0
 PrintsTables schema members text = (tables : List (List ShownRow)) × ((voids : List VoidLine) × HasTables schema members tables voids × (text ≡ tables_text schema.tables tables voids))
 
+-- This is the text of tables of these nodes.
+abbrev pub ShowsState : SchemaData → List NodeData → List ℕ → Type 0
+ShowsState schema nodes text = (tables : List (List ShownRow)) × ((voids : List VoidLine) × AreTablesOf (rules_of schema) nodes tables voids × (text ≡ tables_text schema.tables tables voids))
+
 -- What follows a schema is a stream under its rule, and the tables of its graph are printed; or a record of it is refused.
 pub data RecordsAnswer (schema : SchemaData) (before after : Option (List ℕ)) (outcome : Outcome) : Type 0 where
   whole : (members : List (List ℕ)) (text : List ℕ) → Reads (Some schema.rule) before after (Whole members) → (AreMembers schema.rule members → PrintsTables schema members text)

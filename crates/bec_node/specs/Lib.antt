@@ -5,4 +5,7 @@ pub mod Inputs
 pub mod Heads
 pub mod Verdict
 pub mod Bundle
+pub mod Standing
+pub mod StoreAnswers
+pub mod Comes
 pub mod Run

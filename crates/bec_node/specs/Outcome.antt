@@ -8,6 +8,8 @@ use Rattle.confluence_test.specs.declared.refusal.SchemaRefusal.TheVariants as t
 use Rattle.bec_bytes.specs.declared.read_error.ReadError.{ReadError}
 use Rattle.bec_bytes.specs.declared.read_error.ReadError.TheVariants as read_errors
 use Rattle.update_stream.specs.declared.record_fault.RecordFault.TheVariants.{Check, Lacks, Full}
+use Rattle.store_directory.specs.declared.store_refusal.StoreRefusal.{StoreRefusal}
+use Rattle.store_directory.specs.declared.store_refusal.StoreRefusal.TheVariants as store_refusals
 use Rattle.bec_node.specs.declared.refusal.Refusal.{Refusal}
 use Rattle.bec_node.specs.declared.refusal.Refusal.TheVariants.{Words, Record, CutSchema, Schema, NotConfluent, Transaction, Invalid, AuthorNotListed, UpdateTooLong, IdTaken, KeySpent, Heads, NoStore, StoreThere, BadStore, NoKey, KeyThere, BadKey, StoreFault, Stream, Memory}
 use Rattle.bec_node.specs.declared.refusal.Refusal.TheVariants as refusals
@@ -89,6 +91,12 @@ Prints (Err refusal) bytes = ⊥
 abbrev pub from_reading : ReadError → Refusal
 from_reading read_errors.Failed = Stream
 from_reading read_errors.Memory = Memory
+
+abbrev pub from_store : StoreRefusal → Refusal
+from_store store_refusals.NoStore = NoStore
+from_store store_refusals.BadStore = BadStore
+from_store store_refusals.DiskFault = StoreFault
+from_store store_refusals.Memory = Memory
 
 abbrev pub from_taking : SchemaRefusal → Refusal
 from_taking (taking.Schema fault) = Schema fault

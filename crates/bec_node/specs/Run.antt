@@ -7,9 +7,11 @@ use Rattle.command_words.specs.Requests.{Asks, RequestText, heads, check, dump, 
 use Rattle.bec_node.specs.declared.refusal.Refusal.TheVariants.{Memory, Words}
 use Rattle.bec_node.specs.declared.status.TheConstants.{STORE_FAULT, STREAM_FAULT, OUT_OF_MEMORY}
 use Rattle.bec_node.specs.Bundle.{DumpAnswer}
+use Rattle.bec_node.specs.Comes.{ReadsStoreOnly}
 use Rattle.bec_node.specs.Heads.{HeadsAnswer}
 use Rattle.bec_node.specs.Outcome.{ComesTo, Outcome, Says, status_of}
 use Rattle.bec_node.specs.Outside.{IsUntouched, Outside, SinkState}
+use Rattle.bec_node.specs.StoreAnswers.{ReadsStore, ShowsHeads, ShowsRecords, ShowsTables}
 use Rattle.bec_node.specs.Verdict.{CheckAnswer}
 
 -- the words ask for this
@@ -38,15 +40,15 @@ pub record IsLeftOut {S H R : Type 0} (before after : Outside S H R) (outcome : 
 -- What a request comes to.
 abbrev pub Comes : {S H R : Type 0} → RequestText → Outside S H R → Outside S H R → Outcome → Type 0
 Comes (heads None) before after outcome = ReadsSource HeadsAnswer before after outcome
-Comes (heads (Some dir)) before after outcome = IsLeftOut before after outcome
+Comes (heads (Some dir)) before after outcome = ReadsStoreOnly (ReadsStore ShowsHeads) dir before after outcome
 Comes check before after outcome = ReadsSource CheckAnswer before after outcome
 Comes (dump None) before after outcome = ReadsSource DumpAnswer before after outcome
-Comes (dump (Some dir)) before after outcome = IsLeftOut before after outcome
+Comes (dump (Some dir)) before after outcome = ReadsStoreOnly (ReadsStore ShowsTables) dir before after outcome
 Comes (init dir) before after outcome = IsLeftOut before after outcome
 Comes (keygen dir lms ots) before after outcome = IsLeftOut before after outcome
 Comes (apply dir) before after outcome = IsLeftOut before after outcome
 Comes (join dir) before after outcome = IsLeftOut before after outcome
-Comes (export dir updates_only) before after outcome = IsLeftOut before after outcome
+Comes (export dir updates_only) before after outcome = ReadsStoreOnly (ReadsStore (ShowsRecords updates_only)) dir before after outcome
 Comes (merge first second) before after outcome = IsLeftOut before after outcome
 
 -- Words that ask for something come to what that comes to; other words leave all as it was; and so does want of memory for reading the words.

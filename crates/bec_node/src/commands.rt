@@ -2,4 +2,5 @@
 
 pub mod check;
 pub mod dump;
+pub mod export;
 pub mod heads;

@@ -1,23 +1,22 @@
 ghost use Rattle.std.specs.Prelude.{◌≡◌, [], List, IfOk, IsTrue, length};
-ghost use Rattle.table_model.specs.declared.shown_row.ShownRow.{ShownRow as Row};
-ghost use Rattle.table_model.specs.declared.void_line.VoidLine.{VoidLine};
 ghost use Rattle.table_model.specs.Confluence.{are_accepted};
 ghost use Rattle.table_model.specs.Invariants.{invariants_of};
 ghost use Rattle.schema.specs.Sound.{AreTables};
-ghost use Rattle.table_model.specs.Tables.{AreTablesOf};
-ghost use Rattle.table_text.specs.Tables.{tables_text};
 ghost use Rattle.update_model.specs.Node.{NodeData};
 ghost use Rattle.tuple_state.specs.State.{IsStateOf};
 ghost use Rattle.update_check.specs.Members.{AreMembers};
-ghost use Rattle.bec_node.specs.Bundle.{AreShown, PrintsTables, nodes_of};
+ghost use Rattle.bec_node.specs.Bundle.{AreShown, PrintsTables, ShowsState, nodes_of};
 ghost use Rattle.bec_node.specs.Verdict.{rules_of};
 
+use crate::standing::each_stands;
+use bec_disk::Disk;
 use confluence_test::accepted_is_unlimited;
 use hash_graph::Graph;
 use head_set::equal_heads_mean_equal_sets;
 use replay::replay;
+use replica::Replica;
 use row_check::{Luhn, Native};
-use schema::Schema;
+use schema::{Schema, declared_is_sound};
 use std::alloc::{AllocError, Global};
 use table_model::{
     ShownRowList, accepted_holds, arrivals_are_closed, shown_rows_fit, tables_are_of_the_set,
@@ -46,7 +45,25 @@ pub fn printed_tables(
     Ok(text)
 }
 
-/// The same, without the laws of tables.
+/// The printed tables of a store.
+pub fn replica_tables<D: Disk>(
+    alloc: Global,
+    replica: &Replica<D, Luhn, Luhn>,
+) -> Result<Vec<u8>, AllocError>
+    ensures { IfOk result (λ text. PrintsTables replica.now.history.schema replica.now.history.members text.items) }
+{
+    accepted_holds();
+    arrivals_are_closed();
+    declared_is_sound();
+    equal_heads_mean_equal_sets();
+    shown_rows_fit();
+    tables_are_of_the_set();
+    each_stands(replica);
+    let text = state_text(alloc, replica.schema(), replica.tables())?;
+    Ok(text)
+}
+
+/// The printed tables of a graph, without the laws of tables.
 fn graph_text(
     alloc: Global,
     schema: &Schema,
@@ -54,12 +71,19 @@ fn graph_text(
     graph: &Graph<Checked>,
 ) -> Result<Vec<u8>, AllocError>
     requires { IsTrue (are_accepted (rules_of schema.now) (invariants_of (rules_of schema.now))) }
-    ensures { IfOk result (λ text. (tables : List (List Row)) × ((voids : List VoidLine)
-        × AreTablesOf (rules_of schema.now) (nodes_of graph.now) tables voids × (text.items ≡ tables_text schema.now.tables tables voids))) }
+    ensures { IfOk result (λ text. ShowsState schema.now (nodes_of graph.now) text.items) }
 {
     accepted_is_unlimited();
     let tables = replay(alloc, schema, native, graph)?;
-    let lists = shown_lists(alloc, schema, &tables)?;
+    let text = state_text(alloc, schema, &tables)?;
+    Ok(text)
+}
+
+/// What tables show, as it is printed.
+fn state_text(alloc: Global, schema: &Schema, tables: &Tables) -> Result<Vec<u8>, AllocError>
+    ensures { IfOk result (λ text. (nodes : List NodeData) → IsStateOf (rules_of schema.now) nodes tables.now → ShowsState schema.now nodes text.items) }
+{
+    let lists = shown_lists(alloc, schema, tables)?;
     let voids = tables.voids(alloc)?;
     let mut text = Vec::new(alloc);
     push_tables(&mut text, schema, &lists, voids.as_slice())?;

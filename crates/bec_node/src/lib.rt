@@ -8,6 +8,10 @@
 //! bec heads < stream        the ids of the heads of an update stream, rising, one per line
 //! bec check < schema        whether what a schema declares survives merging, and what is wrong first
 //! bec dump < bundle         the tables of a schema and an update stream, and the updates that do nothing
+//!
+//! bec heads DIR             the same of the store in a directory
+//! bec dump DIR
+//! bec export DIR            the bundle of the store, or with `--updates` its update stream alone
 //! ```
 //!
 //! A command comes to an outcome: the text that it prints, or a [`Refusal`], which says why it is not done. The exit
@@ -25,12 +29,14 @@ mod lines;
 mod program;
 mod refusal;
 mod reply;
+mod standing;
 pub mod status;
 mod stream;
 mod text_input;
 
 pub use commands::check::command_check;
 pub use commands::dump::command_dump;
+pub use commands::export::command_export;
 pub use commands::heads::command_heads;
 pub use heads::heads_of;
 pub use laws::one_answer;

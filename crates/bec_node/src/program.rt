@@ -1,10 +1,13 @@
+ghost use Rattle.std.specs.Prelude.{IsTrue};
 ghost use Rattle.bec_node.specs.Outside.{outside};
 ghost use Rattle.bec_node.specs.Run.{Comes, Runs};
 ghost use Rattle.command_words.specs.Seen.{request_seen};
+ghost use Rattle.store_directory.specs.Stores.{IsHome};
 
 use crate::commands::check::verdict;
-use crate::commands::dump::bundle_tables;
-use crate::commands::heads::stream_heads;
+use crate::commands::dump::{bundle_tables, dump_in};
+use crate::commands::export::export_in;
+use crate::commands::heads::{heads_in, stream_heads};
 use crate::laws::one_answer;
 use crate::lines::no_command;
 use crate::refusal::Refusal;
@@ -17,11 +20,11 @@ use rand_core::Rng;
 use std::alloc::Global;
 
 /// Does what the words of a command line ask for, over a shelf of directories, a generator of random words, a source and a
-/// sink, and answers the exit status.
+/// sink, and answers the exit status. No part of the shelf may be handed out, and none is afterwards.
 ///
 /// Words that ask for something come to an outcome: it is done and prints a text, or it is refused, and why is printed. Each
-/// outcome has its cause in the words and in what the source has left; only where the source failed, or memory ran out,
-/// another one comes in its place. The outcome is written whole, with its status; or the sink failed, and a front of it is
+/// outcome has its cause in the words, in what the source has left and in what the parts of a directory read as; only where
+/// the source or the shelf failed, or memory ran out, another one comes in its place. The outcome is written whole, with its status; or the sink failed, and a front of it is
 /// written, with the status of a stream fault.
 pub fn run<H: Shelf, R: Rng, S: Source, K: Sink>(
     alloc: Global,
@@ -31,6 +34,7 @@ pub fn run<H: Shelf, R: Rng, S: Source, K: Sink>(
     input: &mut S,
     out: &mut K,
 ) -> u8
+    requires { IsTrue (H.state shelf.old).tells → IsHome (H.state shelf.old) }
     ensures { Runs words.now
         (outside S.left S.faults H.state H.faults R.stream input.old shelf.old random.old) (outside S.left S.faults H.state H.faults R.stream input.new shelf.new random.new)
         (record { held = K.held out.old; faults = K.faults out.old }) (record { held = K.held out.new; faults = K.faults out.new }) result }
@@ -55,13 +59,21 @@ fn outcome_of<H: Shelf, R: Rng, S: Source>(
     random: &mut R,
     input: &mut S,
 ) -> Result<Vec<u8>, Refusal>
+    requires { IsTrue (H.state shelf.old).tells → IsHome (H.state shelf.old) }
     ensures { Comes (request_seen request.now) (outside S.left S.faults H.state H.faults R.stream input.old shelf.old random.old)
         (outside S.left S.faults H.state H.faults R.stream input.new shelf.new random.new) result }
 {
     match request {
         Request::Heads { directory: None } => stream_heads(alloc, input),
+        Request::Heads {
+            directory: Some(directory),
+        } => heads_in(alloc, shelf, directory),
         Request::Check => verdict(alloc, input),
         Request::Dump { directory: None } => bundle_tables(alloc, input),
+        Request::Dump {
+            directory: Some(directory),
+        } => dump_in(alloc, shelf, directory),
+        Request::Export { directory, updates } => export_in(alloc, shelf, directory, *updates),
         _ => Err(Refusal::Words),
     }
 }

@@ -1,12 +1,13 @@
 ghost use Rattle.std.specs.Prelude.{◌≡◌};
 ghost use Rattle.bec_node.specs.declared.refusal.Refusal.TheVariants.{Memory};
-ghost use Rattle.bec_node.specs.Outcome.{status_for, from_reading, from_taking};
+ghost use Rattle.bec_node.specs.Outcome.{status_for, from_reading, from_store, from_taking};
 
 use crate::status::{FULL, NO_COMMAND, OUT_OF_MEMORY, REFUSED, STORE, STORE_FAULT, STREAM_FAULT};
 use bec_bytes::ReadError;
 use confluence_test::SchemaRefusal;
 use schema::{Schema, SchemaFault};
 use std::alloc::AllocError;
+use store_directory::StoreRefusal;
 use table_model::{Counterexample, Invariant};
 use txn_text::TextFault;
 use update_stream::RecordFault;
@@ -134,6 +135,19 @@ impl From<SchemaRefusal> for Refusal {
                 example,
             },
             SchemaRefusal::Memory => Refusal::Memory,
+        }
+    }
+}
+
+impl From<StoreRefusal> for Refusal {
+    ghost from_gives = { λ refused refusal. refusal ≡ from_store refused };
+
+    fn from(refused: StoreRefusal) -> Refusal {
+        match refused {
+            StoreRefusal::NoStore => Refusal::NoStore,
+            StoreRefusal::BadStore => Refusal::BadStore,
+            StoreRefusal::DiskFault => Refusal::StoreFault,
+            StoreRefusal::Memory => Refusal::Memory,
         }
     }
 }

@@ -1,4 +1,5 @@
-ghost use Rattle.std.specs.Prelude.{codes};
+ghost use Rattle.std.specs.Prelude.{IsTrue, codes};
+ghost use Rattle.store_directory.specs.Stores.{IsHome};
 ghost use Rattle.bec_node.specs.Outcome.{ComesTo};
 ghost use Rattle.bec_node.specs.Outside.{outside};
 ghost use Rattle.bec_node.specs.Run.{HasFirstWord, Runs};
@@ -28,7 +29,8 @@ pub fn command_check<H: Shelf, R: Rng, S: Source, K: Sink>(
     input: &mut S,
     out: &mut K,
 ) -> u8
-    requires { HasFirstWord (codes "check") words.now }
+    requires first { HasFirstWord (codes "check") words.now }
+    requires home { IsTrue (H.state shelf.old).tells → IsHome (H.state shelf.old) }
     ensures { Runs words.now
         (outside S.left S.faults H.state H.faults R.stream input.old shelf.old random.old) (outside S.left S.faults H.state H.faults R.stream input.new shelf.new random.new)
         (record { held = K.held out.old; faults = K.faults out.old }) (record { held = K.held out.new; faults = K.faults out.new }) result }
