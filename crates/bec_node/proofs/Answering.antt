@@ -42,7 +42,7 @@ dump_refused before after old new declared why held (inl refuses) = inl (holds d
 dump_refused before after old new declared why held (inr memory) = inr (inl (ap from_taking memory))
 
 -- a count that rose since a later moment rose since an earlier one
-rose_later : (old mid new : ℕ) → old ≤ mid → Rose mid new → Rose old new
+pub rose_later : (old mid new : ℕ) → old ≤ mid → Rose mid new → Rose old new
 rose_later old mid new later rose = omega (arith, later, rose)
 
 pub dump_stopped : (before mid after : Option (List ℕ)) (old between new : ℕ) (declared : List ℕ) (schema : SchemaData) (given : Option RuleData) (r : Refusal) → HoldsText before mid declared

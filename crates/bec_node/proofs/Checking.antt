@@ -40,7 +40,7 @@ text_read limit (Some xs) (Some ys) n buf size came fits ends =
 
 -- ---- a text that is too long shows it in what is read
 
-no_longer : (input : List ℕ) → length (take 65537 input) ≤ 65536 → take 65537 input ≡ input
+pub no_longer : (input : List ℕ) → length (take 65537 input) ≤ 65536 → take 65537 input ≡ input
 no_longer input fits = by_case (nat_lt 65537 (length input)) refl
   where
     by_case : (b : Bool) → nat_lt 65537 (length input) ≡ b → take 65537 input ≡ input

@@ -3,6 +3,8 @@ use Rattle.std.proofs.Common.{◌≡◌, ◌⊎◌, inl, inr, ℕ, List, [], ◌
 use Rattle.std.specs.declared.alloc.Global.{Global}
 use Rattle.std.specs.String.{string_bytes}
 use Rattle.std.specs.Io.KnownBytes.{Appends}
+use Rattle.lm_ots.specs.declared.ots_type.OtsType.{OtsType}
+use Rattle.lms_tree.specs.declared.lms_type.LmsType.{LmsType}
 use Rattle.command_words.specs.Requests.{Asks, RequestText, heads, check, dump, init, keygen, apply, join, export, merge}
 use Rattle.bec_node.specs.declared.refusal.Refusal.{Refusal}
 use Rattle.bec_node.specs.declared.refusal.Refusal.TheVariants.{Words, Memory}
@@ -16,6 +18,9 @@ use Rattle.bec_node.specs.Run.{AnswersOnly, Comes, IsCommand, IsLeftOut, IsNoCom
 use Rattle.store_directory.specs.Stores.{StoreData}
 use Rattle.bec_node.specs.Comes.{ReadsStoreOnly}
 use Rattle.bec_node.specs.StoreAnswers.{ReadsStore, ShowsHeads, ShowsRecords, ShowsTables}
+use Rattle.bec_node.specs.Creating.{DrawsKeyOnly, Inits}
+use Rattle.bec_node.proofs.NewKeys.{key_without_memory}
+use Rattle.bec_node.proofs.NewStores.{init_without_memory}
 use Rattle.bec_node.proofs.Reading.{read_without_memory}
 use Rattle.bec_node.proofs.Answer.{IsOneAnswer, OneAnswer}
 
@@ -90,14 +95,23 @@ module _ {S H R : Type 0} (before after : Outside S H R) where
   store_lacks Shows dir (Err refusal) lacks comes =
       record { runs = read_without_memory Shows dir before.store after.store before.shelf_faults after.shelf_faults refusal comes.runs; source = comes.source; random = comes.random }
 
+  init_lacks : (dir : List ℕ) (outcome : Outcome) → MayLackMemory outcome → Inits dir before after outcome → Inits dir before after (Err Memory)
+  init_lacks dir (Ok text) lacks comes = absurd lacks
+  init_lacks dir (Err refusal) lacks comes = init_without_memory dir before after refusal comes
+
+  keygen_lacks : (lms : LmsType) (ots : OtsType) (dir : List ℕ) (outcome : Outcome) → MayLackMemory outcome → DrawsKeyOnly lms ots dir before after outcome → DrawsKeyOnly lms ots dir before after (Err Memory)
+  keygen_lacks lms ots dir (Ok text) lacks comes = absurd lacks
+  keygen_lacks lms ots dir (Err refusal) lacks comes =
+      record { draws = key_without_memory lms ots before.stream dir before.store after.store before.shelf_faults after.shelf_faults refusal comes.draws; source = comes.source }
+
   comes_lacking : (request : RequestText) (outcome : Outcome) → MayLackMemory outcome → Comes request before after outcome → Comes request before after (Err Memory)
   comes_lacking (heads None) outcome lacks comes = source_lacks HeadsAnswer outcome comes
   comes_lacking (heads (Some dir)) outcome lacks comes = store_lacks ShowsHeads dir outcome lacks comes
   comes_lacking check outcome lacks comes = source_lacks CheckAnswer outcome comes
   comes_lacking (dump None) outcome lacks comes = source_lacks DumpAnswer outcome comes
   comes_lacking (dump (Some dir)) outcome lacks comes = store_lacks ShowsTables dir outcome lacks comes
-  comes_lacking (init dir) outcome lacks comes = left_out_lacks outcome (Err Memory) lacks comes
-  comes_lacking (keygen dir lms ots) outcome lacks comes = left_out_lacks outcome (Err Memory) lacks comes
+  comes_lacking (init dir) outcome lacks comes = init_lacks dir outcome lacks comes
+  comes_lacking (keygen dir lms ots) outcome lacks comes = keygen_lacks lms ots dir outcome lacks comes
   comes_lacking (apply dir) outcome lacks comes = left_out_lacks outcome (Err Memory) lacks comes
   comes_lacking (join dir) outcome lacks comes = left_out_lacks outcome (Err Memory) lacks comes
   comes_lacking (export dir updates_only) outcome lacks comes = store_lacks (ShowsRecords updates_only) dir outcome lacks comes

@@ -5,5 +5,7 @@ pub mod Tables
 pub mod Answer
 pub mod Answering
 pub mod Reading
+pub mod NewKeys
+pub mod NewStores
 pub mod Ending
 pub mod Bundles

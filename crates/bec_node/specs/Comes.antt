@@ -6,7 +6,7 @@ use Rattle.bec_disk.specs.declared.part.Part.{Part}
 use Rattle.bec_disk.specs.declared.part.Part.TheVariants.{Schema, Updates, Key, Used}
 use Rattle.bec_disk.specs.Shelf.{ShelfState}
 use Rattle.store_directory.specs.Stores.{IsHome, KeepsAllBut, StoreRun, part_in, reading}
-use Rattle.bec_node.specs.declared.refusal.Refusal.TheVariants.{Memory, StoreFault}
+use Rattle.bec_node.specs.declared.refusal.Refusal.TheVariants.{Memory, StoreFault, Stream}
 use Rattle.bec_node.specs.Outcome.{Outcome}
 use Rattle.bec_node.specs.Outside.{Outside}
 use Rattle.bec_node.specs.StoreAnswers.{Readings}
@@ -42,3 +42,7 @@ pub record ReadsStoreOnly {S H R : Type 0} (Answer : Readings → List (List ℕ
   pub runs : ReadsShelf Answer dir before.store after.store before.shelf_faults after.shelf_faults outcome
   pub source : after.source ≡ before.source
   pub random : after.random ≡ before.random
+
+-- The same, or the source failed, whose count of faults rose.
+abbrev pub IsAnyFault : ℕ → ℕ → ℕ → ℕ → Outcome → Type 0
+IsAnyFault source_old source_new old new outcome = ((outcome ≡ Err Stream) × Rose source_old source_new) ⊎ IsShelfFault old new outcome

@@ -8,4 +8,5 @@ pub mod Bundle
 pub mod Standing
 pub mod StoreAnswers
 pub mod Comes
+pub mod Creating
 pub mod Run

@@ -8,6 +8,12 @@ use Rattle.confluence_test.specs.declared.refusal.SchemaRefusal.TheVariants as t
 use Rattle.bec_bytes.specs.declared.read_error.ReadError.{ReadError}
 use Rattle.bec_bytes.specs.declared.read_error.ReadError.TheVariants as read_errors
 use Rattle.update_stream.specs.declared.record_fault.RecordFault.TheVariants.{Check, Lacks, Full}
+use Rattle.bec_disk.specs.declared.disk_error.DiskError.{DiskError}
+use Rattle.bec_disk.specs.declared.disk_error.DiskError.TheVariants as disk_errors
+use Rattle.key_index.specs.declared.faults.CreateKeyKind.{CreateKeyKind}
+use Rattle.key_index.specs.declared.faults.CreateKeyKind.TheVariants as creating_key
+use Rattle.replica.specs.declared.create_fault.CreateKind.{CreateKind}
+use Rattle.replica.specs.declared.create_fault.CreateKind.TheVariants as creating
 use Rattle.store_directory.specs.declared.store_refusal.StoreRefusal.{StoreRefusal}
 use Rattle.store_directory.specs.declared.store_refusal.StoreRefusal.TheVariants as store_refusals
 use Rattle.bec_node.specs.declared.refusal.Refusal.{Refusal}
@@ -97,6 +103,22 @@ from_store store_refusals.NoStore = NoStore
 from_store store_refusals.BadStore = BadStore
 from_store store_refusals.DiskFault = StoreFault
 from_store store_refusals.Memory = Memory
+
+abbrev pub from_disk : DiskError → Refusal
+from_disk disk_errors.DiskFault = StoreFault
+from_disk disk_errors.Memory = Memory
+
+abbrev pub from_creating : CreateKind → Refusal
+from_creating creating.NotEmpty = StoreThere
+from_creating (creating.BadSchema fault) = Schema fault
+from_creating (creating.NotConfluent schema which example) = NotConfluent schema which example
+from_creating creating.DiskFault = StoreFault
+from_creating creating.Memory = Memory
+
+abbrev pub from_creating_key : CreateKeyKind → Refusal
+from_creating_key creating_key.KeyThere = KeyThere
+from_creating_key creating_key.DiskFault = StoreFault
+from_creating_key creating_key.Memory = Memory
 
 abbrev pub from_taking : SchemaRefusal → Refusal
 from_taking (taking.Schema fault) = Schema fault

@@ -8,6 +8,7 @@ use Rattle.bec_node.specs.declared.refusal.Refusal.TheVariants.{Memory, Words}
 use Rattle.bec_node.specs.declared.status.TheConstants.{STORE_FAULT, STREAM_FAULT, OUT_OF_MEMORY}
 use Rattle.bec_node.specs.Bundle.{DumpAnswer}
 use Rattle.bec_node.specs.Comes.{ReadsStoreOnly}
+use Rattle.bec_node.specs.Creating.{DrawsKeyOnly, Inits}
 use Rattle.bec_node.specs.Heads.{HeadsAnswer}
 use Rattle.bec_node.specs.Outcome.{ComesTo, Outcome, Says, status_of}
 use Rattle.bec_node.specs.Outside.{IsUntouched, Outside, SinkState}
@@ -44,8 +45,8 @@ Comes (heads (Some dir)) before after outcome = ReadsStoreOnly (ReadsStore Shows
 Comes check before after outcome = ReadsSource CheckAnswer before after outcome
 Comes (dump None) before after outcome = ReadsSource DumpAnswer before after outcome
 Comes (dump (Some dir)) before after outcome = ReadsStoreOnly (ReadsStore ShowsTables) dir before after outcome
-Comes (init dir) before after outcome = IsLeftOut before after outcome
-Comes (keygen dir lms ots) before after outcome = IsLeftOut before after outcome
+Comes (init dir) before after outcome = Inits dir before after outcome
+Comes (keygen dir lms ots) before after outcome = DrawsKeyOnly lms ots dir before after outcome
 Comes (apply dir) before after outcome = IsLeftOut before after outcome
 Comes (join dir) before after outcome = IsLeftOut before after outcome
 Comes (export dir updates_only) before after outcome = ReadsStoreOnly (ReadsStore (ShowsRecords updates_only)) dir before after outcome

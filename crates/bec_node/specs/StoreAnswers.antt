@@ -1,5 +1,6 @@
 -- What commands answer over the store of a directory, by what its parts read as at entry.
 use Rattle.std.specs.Prelude.{◌≡◌, ℕ, List, [], ◌++◌, map, Bool, cond, Err, Option}
+use Rattle.rand_core.specs.Stream.{Stream, fill_bytes}
 use Rattle.row_check.specs.Checksum.{is_luhn}
 use Rattle.bec_bytes.specs.Framed.{framed, stream_of}
 use Rattle.update_model.specs.declared.update_id.UpdateId.{UpdateId}
@@ -44,3 +45,7 @@ ShowsTables store text = PrintsTables store.schema store.members text
 -- `export` shows the text of its schema behind its length, and then the records of its updates in the order of arrival; or these alone.
 abbrev pub ShowsRecords : Bool → StoreData → List ℕ → Type 0
 ShowsRecords updates_only store text = text ≡ cond updates_only (stream_of store.members) (framed store.schema.text ++ stream_of store.members)
+
+-- the 32 bytes that a generator gives next
+abbrev pub next_bytes : Stream → List ℕ
+next_bytes stream = (fill_bytes 32 stream).0

@@ -4,3 +4,5 @@ pub mod check;
 pub mod dump;
 pub mod export;
 pub mod heads;
+pub mod init;
+pub mod keygen;

@@ -11,6 +11,8 @@
 //!
 //! bec heads DIR             the same of the store in a directory
 //! bec dump DIR
+//! bec init DIR < schema     makes a store of a schema in a directory that has none, and prints the id of its database
+//! bec keygen DIR            draws a key for a directory that has none, and prints its public key
 //! bec export DIR            the bundle of the store, or with `--updates` its update stream alone
 //! ```
 //!
@@ -38,6 +40,8 @@ pub use commands::check::command_check;
 pub use commands::dump::command_dump;
 pub use commands::export::command_export;
 pub use commands::heads::command_heads;
+pub use commands::init::command_init;
+pub use commands::keygen::command_keygen;
 pub use heads::heads_of;
 pub use laws::one_answer;
 pub use program::run;

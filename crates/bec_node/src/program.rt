@@ -8,6 +8,8 @@ use crate::commands::check::verdict;
 use crate::commands::dump::{bundle_tables, dump_in};
 use crate::commands::export::export_in;
 use crate::commands::heads::{heads_in, stream_heads};
+use crate::commands::init::init_in;
+use crate::commands::keygen::keygen_in;
 use crate::laws::one_answer;
 use crate::lines::no_command;
 use crate::refusal::Refusal;
@@ -73,6 +75,12 @@ fn outcome_of<H: Shelf, R: Rng, S: Source>(
         Request::Dump {
             directory: Some(directory),
         } => dump_in(alloc, shelf, directory),
+        Request::Init { directory } => init_in(alloc, shelf, directory, random, input),
+        Request::Keygen {
+            directory,
+            height,
+            width,
+        } => keygen_in(alloc, shelf, directory, *height, *width, random),
         Request::Export { directory, updates } => export_in(alloc, shelf, directory, *updates),
         _ => Err(Refusal::Words),
     }

@@ -1,10 +1,13 @@
 ghost use Rattle.std.specs.Prelude.{◌≡◌};
 ghost use Rattle.bec_node.specs.declared.refusal.Refusal.TheVariants.{Memory};
-ghost use Rattle.bec_node.specs.Outcome.{status_for, from_reading, from_store, from_taking};
+ghost use Rattle.bec_node.specs.Outcome.{status_for, from_creating, from_creating_key, from_disk, from_reading, from_store, from_taking};
 
 use crate::status::{FULL, NO_COMMAND, OUT_OF_MEMORY, REFUSED, STORE, STORE_FAULT, STREAM_FAULT};
 use bec_bytes::ReadError;
+use bec_disk::DiskError;
 use confluence_test::SchemaRefusal;
+use key_index::CreateKeyKind;
+use replica::CreateKind;
 use schema::{Schema, SchemaFault};
 use std::alloc::AllocError;
 use store_directory::StoreRefusal;
@@ -148,6 +151,51 @@ impl From<StoreRefusal> for Refusal {
             StoreRefusal::BadStore => Refusal::BadStore,
             StoreRefusal::DiskFault => Refusal::StoreFault,
             StoreRefusal::Memory => Refusal::Memory,
+        }
+    }
+}
+
+impl From<DiskError> for Refusal {
+    ghost from_gives = { λ error refusal. refusal ≡ from_disk error };
+
+    fn from(error: DiskError) -> Refusal {
+        match error {
+            DiskError::DiskFault => Refusal::StoreFault,
+            DiskError::Memory => Refusal::Memory,
+        }
+    }
+}
+
+impl From<CreateKeyKind> for Refusal {
+    ghost from_gives = { λ why refusal. refusal ≡ from_creating_key why };
+
+    fn from(why: CreateKeyKind) -> Refusal {
+        match why {
+            CreateKeyKind::KeyThere => Refusal::KeyThere,
+            CreateKeyKind::DiskFault => Refusal::StoreFault,
+            CreateKeyKind::Memory => Refusal::Memory,
+        }
+    }
+}
+
+impl From<CreateKind> for Refusal {
+    ghost from_gives = { λ why refusal. refusal ≡ from_creating why };
+
+    fn from(why: CreateKind) -> Refusal {
+        match why {
+            CreateKind::NotEmpty => Refusal::StoreThere,
+            CreateKind::BadSchema(fault) => Refusal::Schema(fault),
+            CreateKind::NotConfluent {
+                schema,
+                which,
+                example,
+            } => Refusal::NotConfluent {
+                schema,
+                which,
+                example,
+            },
+            CreateKind::DiskFault => Refusal::StoreFault,
+            CreateKind::Memory => Refusal::Memory,
         }
     }
 }

@@ -24,7 +24,7 @@ use Rattle.replica.specs.declared.create_fault.CreateKind.TheVariants.{BadSchema
 use Rattle.store_directory.specs.Holding.{OpenData}
 use Rattle.store_directory.specs.Making.{HandsOutAny, IsHanded, IsLeftAlone, IsNewKeyCause, IsNewStoreCause, LetsNewGo, MakesKey, MakesStore, MayMakeAny, seen_in}
 use Rattle.store_directory.specs.Stores.{IsHome, IsUntouched, KeepsAllBut, part_in, reading}
-use Rattle.store_directory.proofs.Handing.{handed_since, put_untouched}
+use Rattle.store_directory.proofs.Handing.{handed_since, put_untouched, untouched_by}
 use Rattle.store_directory.proofs.Places.{home_again, neither, stands-not-out}
 use Rattle.store_directory.proofs.Putting.{PutsAny, slot_of, told}
 
@@ -71,13 +71,19 @@ alone_in : (place : Slot) (old new : PartState) → IsLeftAlone place old new �
 alone_in place old new (inl same) not_out e = not_out (sym same ∙ e)
 alone_in place old new (inr put) not_out e = stands-not-out new put.0 put.1 e
 
+alone_untouched : (place : Slot) (old new : PartState) → IsLeftAlone place old new → gated_of (seen_in old) ≢ Absent → IsUntouched old new
+alone_untouched place old new (inl same) full = untouched_by old new same
+alone_untouched place absent new (inr put) full = absurd (full refl)
+alone_untouched place out new (inr put) full = absurd put.2
+alone_untouched place (stands part) new (inr put) full = put_untouched place part put.0 (stands part) new refl put.2 put.1
+
 -- Where the first part was not handed out.
 pub lets_first_go : (gated filled : Part) (payload filling : List ℕ) (before after : ShelfState) (dir : List ℕ) → same_slot (slot dir gated) (slot dir filled) ≡ false → MayMakeAny before (slot dir gated) after → LetsNewGo gated filled payload filling before dir after
 lets_first_go gated filled payload filling before after dir apart may = record {
   tells = may.tells;
   any_moment = λ tells. alone_since (slot dir gated) (part_in before dir gated) (part_in after dir gated) payload (may.part tells);
   order = λ tells. inl (may.part tells);
-  there = λ tells full. may.others (slot dir filled) apart;
+  there = λ tells full. (alone_untouched (slot dir gated) (part_in before dir gated) (part_in after dir gated) (may.part tells) full, may.others (slot dir filled) apart);
   others = λ tells other away. may.others other (neither (same_slot (slot dir gated) other) (same_slot (slot dir filled) other) away).0;
   home = λ tells home. home_again gated filled dir after (alone_in (slot dir gated) (part_in before dir gated) (part_in after dir gated) (may.part tells) (home (slot dir gated)))
       (subst (λ (p : PartState). p ≢ out) (sym (may.others (slot dir filled) apart)) (home (slot dir filled)))
@@ -91,9 +97,12 @@ lets_second_go gated filled payload filling before mid done after dir first disk
   tells = t3 ∙ may.tells ∙ hands.tells;
   any_moment = λ tells. alone_since (slot dir gated) (part_in before dir gated) (part_in after dir gated) payload (alone tells);
   order = λ tells. inl (alone tells);
-  there = λ tells full. (put tells).others (slot dir filled) apart
-      ∙ ap (λ (s : ShelfState). part_in s dir filled) (kept (told before.tells first.tells hands.disk_tells tells) (λ gone. full (ap gated_of (sym (handed_seen (slot dir gated) (part_in before dir gated) first (hands.part tells))) ∙ gone)))
-      ∙ hands.others (slot dir filled) apart;
+  there = λ tells full. (
+    alone_untouched (slot dir gated) (part_in before dir gated) (part_in after dir gated) (alone tells) full,
+    (put tells).others (slot dir filled) apart
+    ∙ ap (λ (s : ShelfState). part_in s dir filled) (kept (told before.tells first.tells hands.disk_tells tells) (λ gone. full (ap gated_of (sym (handed_seen (slot dir gated) (part_in before dir gated) first (hands.part tells))) ∙ gone)))
+    ∙ hands.others (slot dir filled) apart,
+  );
   others = λ tells other away. elsewhere tells other away;
   home = λ tells home. home_again gated filled dir after (stands-not-out (part_in after dir gated) disk (back tells))
       (subst (λ (p : PartState). p ≢ out) (sym ((put tells).others (slot dir filled) apart))

@@ -20,7 +20,7 @@ use Rattle.replica.specs.declared.create_fault.CreateKind.{CreateKind}
 use Rattle.replica.specs.declared.create_fault.CreateKind.TheVariants as creating
 use Rattle.store_directory.specs.Holding.{OpenData}
 use Rattle.store_directory.specs.Keys.{IsNoKey}
-use Rattle.store_directory.specs.Stores.{IsHome, IsNoStore, KeepsAllBut, part_in}
+use Rattle.store_directory.specs.Stores.{IsHome, IsNoStore, IsUntouched, KeepsAllBut, part_in}
 
 -- The part that stood in a place is handed out as this disk, or none stood there and it was made.
 abbrev pub IsHanded : Slot → PartState → DiskState → Type 0
@@ -68,13 +68,13 @@ pub record MakesStore (ask : Meaning) (before : ShelfState) (dir node text : Lis
 
 -- Nothing new was made of two parts: the one behind whose gate it would stand, and the one that is filled first. A crash at a moment of the
 -- run leaves the first standing for what it stood for, or absent, or whole with the new payload; and it was left alone, or the second is on
--- the disk as it was to be filled. Where the first was not absent, the second is as it was. Every part is in its place.
+-- the disk as it was to be filled. Where the first was not absent, it was at most read, and the second is as it was. Every part is in its place.
 pub record LetsNewGo (gated filled : Part) (payload filling : List ℕ) (before : ShelfState) (dir : List ℕ) (after : ShelfState) : Type 0 where
   pub tells : after.tells ≡ before.tells
   pub any_moment : IsTrue before.tells → LeavesSince (moments_of (part_in before dir gated)) (moments_of (part_in after dir gated)) (IsOldOrNew (seen_in (part_in before dir gated)) payload)
   pub order : IsTrue before.tells → IsLeftAlone (slot dir gated) (part_in before dir gated) (part_in after dir gated)
       ⊎ ((disk : DiskState) × (part_in after dir filled ≡ stands disk) × IsOnDisk filling disk)
-  pub there : IsTrue before.tells → gated_of (seen_in (part_in before dir gated)) ≢ Absent → part_in after dir filled ≡ part_in before dir filled
+  pub there : IsTrue before.tells → gated_of (seen_in (part_in before dir gated)) ≢ Absent → IsUntouched (part_in before dir gated) (part_in after dir gated) × (part_in after dir filled ≡ part_in before dir filled)
   pub others : IsTrue before.tells → KeepsAllBut (gated ∷ filled ∷ []) dir before after
   pub home : IsTrue before.tells → IsHome before → IsHome after
 
