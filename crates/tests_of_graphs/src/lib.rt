@@ -7,3 +7,5 @@ mod ancestors;
 mod batches;
 #[cfg(test)]
 mod heads;
+#[cfg(test)]
+mod summaries;

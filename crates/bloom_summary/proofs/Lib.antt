@@ -1,0 +1,2 @@
+mod SetBits
+mod Summaries

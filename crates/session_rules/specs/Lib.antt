@@ -1,0 +1,7 @@
+pub mod Burst
+pub mod Commit
+pub mod Course
+pub mod Laws
+pub mod Pair
+pub mod State
+pub mod Steps
