@@ -1,12 +1,12 @@
 -- What is handed out, and what putting it back leaves.
-use Rattle.std.proofs.Common.{◌≡◌, inl, inr, ℕ, Bool, List, [], ◌∷◌, ◌++◌, refl, sym, ◌∙◌, ap, subst, IsTrue, Some, None, Option}
+use Rattle.std.proofs.Common.{◌≡◌, inl, inr, ℕ, List, [], ◌++◌, refl, sym, ◌∙◌, ap, subst, IsTrue, Some, None, Option}
 use Rattle.std.proofs.lemmas.List.{append-nil}
 use Rattle.bec_bytes.specs.Framed.{stream_of}
-use Rattle.bec_disk.specs.Disk.{DiskState, EveryImage, IsSettled, LeavesOnly, LeavesSince, handed_out, moments}
+use Rattle.bec_disk.specs.Disk.{DiskState, EveryImage, LeavesOnly, LeavesSince, handed_out, moments}
 use Rattle.bec_disk.specs.Shelf.{PartState, absent, moments_of, out, stands}
 use Rattle.bec_disk.specs.Slot.{Slot}
 use Rattle.bec_disk.proofs.Images.{image-synced}
-use Rattle.bec_disk.proofs.Moments.{leaves_now, no_moment, one_moment, since_then, told}
+use Rattle.bec_disk.proofs.Moments.{leaves_now, no_moment, one_moment, since_then}
 use Rattle.schema.specs.Schemas.{Meaning}
 use Rattle.update_check.specs.Members.{AreMembers}
 use Rattle.update_log.specs.Logset.{BeginsWith}

@@ -1,10 +1,10 @@
 -- What a directory has once a store or a key that was made is put back.
-use Rattle.std.proofs.Common.{◌≡◌, ◌⊎◌, inl, inr, ℕ, ◌+◌, ◌<◌, ◌^◌, List, [], ◌++◌, length, refl, sym, ◌∙◌, ap, subst, arith, IsTrue, Some, Option, length-append}
+use Rattle.std.proofs.Common.{◌≡◌, ◌⊎◌, inl, inr, ℕ, ◌<◌, ◌^◌, List, [], ◌++◌, length, refl, sym, ◌∙◌, ap, subst, arith, IsTrue, Some, Option, length-append}
 use Rattle.std.proofs.lemmas.List.{length-replicate}
 use Rattle.std.specs.Int.{w32, to_be_bytes}
 use Rattle.bec_bytes.specs.Framed.{stream_of}
-use Rattle.bec_disk.specs.declared.gated.Gated.TheVariants.{Absent, Whole}
-use Rattle.bec_disk.specs.declared.part.Part.TheVariants.{Key, Schema, Updates, Used}
+use Rattle.bec_disk.specs.declared.gated.Gated.TheVariants.{Whole}
+use Rattle.bec_disk.specs.declared.part.Part.TheVariants.{Key, Updates, Used}
 use Rattle.bec_disk.specs.Disk.{DiskState}
 use Rattle.bec_disk.specs.Gated.{gated_of, whole_of}
 use Rattle.bec_disk.specs.Shelf.{ShelfState}
@@ -18,7 +18,7 @@ use Rattle.lm_ots.specs.OtsKind as ots_kind
 use Rattle.lms_tree.specs.LmsKind.{leaf_count, type_word}
 use Rattle.lms_tree.specs.SecretKey.{SecretData}
 use Rattle.key_index.specs.KeyState.{KeyState}
-use Rattle.key_index.specs.Opening.{AreOfKey, Holds}
+use Rattle.key_index.specs.Opening.{AreOfKey}
 use Rattle.key_index.specs.Payload.{payload_of}
 use Rattle.replica.specs.Opening.{Creating, IsCreated}
 use Rattle.replica.specs.Payload.{DeclaresStore}

@@ -1,11 +1,11 @@
 -- Making what stands in two parts of a directory.
-use Rattle.std.proofs.Common.{◌≡◌, ◌≢◌, ◌⊎◌, inl, inr, ℕ, Bool, true, false, List, [], ◌∷◌, ◌++◌, refl, sym, ◌∙◌, ap, subst, IsTrue, Some, Option}
+use Rattle.std.proofs.Common.{◌≡◌, ◌≢◌, ◌⊎◌, inl, inr, ℕ, Bool, true, false, List, [], ◌∷◌, ◌++◌, refl, sym, ◌∙◌, ap, subst, IsTrue, Some}
 use Rattle.std.specs.Prelude.{◌||◌}
 use Rattle.std.proofs.lemmas.Bool.{true≢false}
 use Rattle.bec_disk.specs.declared.gated.Gated.TheVariants.{Absent}
 use Rattle.bec_disk.specs.declared.part.Part.{Part}
 use Rattle.bec_disk.specs.declared.part.Part.TheVariants.{Key, Schema, Updates, Used}
-use Rattle.bec_disk.specs.Disk.{DiskState, EveryImage, IsSettled, LeavesOnly, LeavesSince, handed_out, made_part, moments}
+use Rattle.bec_disk.specs.Disk.{DiskState, IsSettled, LeavesOnly, LeavesSince, made_part, moments}
 use Rattle.bec_disk.specs.Gated.{IsOldOrNew, gated_of}
 use Rattle.bec_disk.specs.Shelf.{HandsOut, IsOfOut, PartState, PutsBack, ShelfState, absent, moments_of, out, stands}
 use Rattle.bec_disk.specs.Slot.{Slot, same_slot, slot}
@@ -23,7 +23,7 @@ use Rattle.replica.specs.declared.create_fault.CreateKind.{CreateKind}
 use Rattle.replica.specs.declared.create_fault.CreateKind.TheVariants.{BadSchema, DiskFault, Memory, NotConfluent, NotEmpty}
 use Rattle.store_directory.specs.Holding.{OpenData}
 use Rattle.store_directory.specs.Making.{HandsOutAny, IsHanded, IsLeftAlone, IsNewKeyCause, IsNewStoreCause, LetsNewGo, MakesKey, MakesStore, MayMakeAny, seen_in}
-use Rattle.store_directory.specs.Stores.{IsHome, IsUntouched, KeepsAllBut, part_in, reading}
+use Rattle.store_directory.specs.Stores.{IsUntouched, KeepsAllBut, part_in, reading}
 use Rattle.store_directory.proofs.Handing.{handed_since, put_untouched, untouched_by}
 use Rattle.store_directory.proofs.Places.{home_again, neither, stands-not-out}
 use Rattle.store_directory.proofs.Putting.{PutsAny, slot_of, told}
@@ -100,8 +100,8 @@ lets_second_go gated filled payload filling before mid done after dir first disk
   there = λ tells full. (
     alone_untouched (slot dir gated) (part_in before dir gated) (part_in after dir gated) (alone tells) full,
     (put tells).others (slot dir filled) apart
-    ∙ ap (λ (s : ShelfState). part_in s dir filled) (kept (told before.tells first.tells hands.disk_tells tells) (λ gone. full (ap gated_of (sym (handed_seen (slot dir gated) (part_in before dir gated) first (hands.part tells))) ∙ gone)))
-    ∙ hands.others (slot dir filled) apart,
+        ∙ ap (λ (s : ShelfState). part_in s dir filled) (kept (told before.tells first.tells hands.disk_tells tells) (λ gone. full (ap gated_of (sym (handed_seen (slot dir gated) (part_in before dir gated) first (hands.part tells))) ∙ gone)))
+        ∙ hands.others (slot dir filled) apart,
   );
   others = λ tells other away. elsewhere tells other away;
   home = λ tells home. home_again gated filled dir after (stands-not-out (part_in after dir gated) disk (back tells))

@@ -1,7 +1,6 @@
 -- Taking two parts of a directory, and putting them back.
 use Rattle.std.proofs.Common.{◌≡◌, ◌≢◌, ℕ, Bool, false, List, [], ◌∷◌, refl, sym, ◌∙◌, ap, subst, IsTrue, Some, Option, Ok}
 use Rattle.std.proofs.lemmas.Bool.{false≢true}
-use Rattle.bec_disk.specs.declared.part.Part.{Part}
 use Rattle.bec_disk.specs.declared.part.Part.TheVariants.{Key, Schema, Updates, Used}
 use Rattle.bec_disk.specs.Disk.{DiskState, handed_out}
 use Rattle.bec_disk.specs.Shelf.{Finds, HandsOut, PartState, PutsBack, ShelfState, out, stands}

@@ -1,5 +1,5 @@
 -- Two parts read as one store or as one key, as none, or as a bad one.
-use Rattle.std.proofs.Common.{◌≡◌, ◌≢◌, ℕ, ◌+◌, ◌<◌, ◌^◌, zero, suc, List, [], ◌∷◌, ◌++◌, length, take, drop, refl, sym, ◌∙◌, ap, subst, arith, Some, None, Option}
+use Rattle.std.proofs.Common.{◌≡◌, ℕ, ◌<◌, ◌^◌, zero, suc, List, [], ◌++◌, length, take, refl, sym, ◌∙◌, ap, subst, arith, Some, None, Option}
 use Rattle.std.proofs.Math.Seq.{take-append_seam}
 use Rattle.std.proofs.lemmas.List.{append_cancel_left}
 use Rattle.std.proofs.lemmas.Nat.{from_be_bytes-to_be_bytes_4}
@@ -19,7 +19,6 @@ use Rattle.lms_tree.specs.declared.lms_type.LmsType.{LmsType}
 use Rattle.lms_tree.specs.declared.lms_type.LmsType.TheVariants.{H5, H10, H15}
 use Rattle.key_index.specs.Payload.{payload_of}
 use Rattle.key_index.specs.Opening.{Holds}
-use Rattle.replica.specs.Payload.{DeclaresStore}
 use Rattle.store_directory.specs.Keys.{IsBadKey, IsNoKey, ReadsAsKey}
 use Rattle.store_directory.specs.Stores.{IsBadStore, IsNoStore, ReadsAs, StoreData}
 

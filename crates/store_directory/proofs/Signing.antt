@@ -2,9 +2,9 @@
 use Rattle.std.proofs.Common.{◌≡◌, ◌≢◌, ◌⊎◌, inl, inr, ℕ, ◌+◌, List, [], ◌∷◌, refl, sym, ◌∙◌, ap, subst, IsTrue, false, Option, None, Some, Result, Ok, Err}
 use Rattle.std.specs.List.{list_any}
 use Rattle.bec_disk.specs.declared.part.Part.TheVariants.{Key, Used}
-use Rattle.bec_disk.specs.Disk.{DiskState, EveryImage, IsImage, LeavesOnly, LeavesSince, handed_out}
+use Rattle.bec_disk.specs.Disk.{DiskState, EveryImage, IsImage, LeavesOnly, handed_out}
 use Rattle.bec_disk.specs.Images.{IsTorn, IsTornFrom}
-use Rattle.bec_disk.specs.Shelf.{PartState, ShelfState, moments_of, out, stands}
+use Rattle.bec_disk.specs.Shelf.{PartState, ShelfState, out, stands}
 use Rattle.bec_disk.specs.Slot.{Slot, same_slot, slot}
 use Rattle.bec_disk.proofs.Images.{settled_image, torn_settled}
 use Rattle.bec_disk.proofs.Moments.{leaves_now}
@@ -17,10 +17,9 @@ use Rattle.replica.specs.declared.make_fault.MakeFault.{MakeFault}
 use Rattle.replica.specs.declared.make_fault.MakeFault.TheVariants.{NotListed, TooManyHeads, Invalid, TooLong, Full, Spent, Taken, DiskFault, Memory}
 use Rattle.replica.specs.declared.make_fault.Side.TheVariants.{Key as KeySide, Log as LogSide}
 use Rattle.store_directory.specs.Keys.{KeepsUsed, PutsKey, TakesKey, WorksWith}
-use Rattle.store_directory.specs.Stores.{IfStands, IsHome, IsUntouched, part_in}
+use Rattle.store_directory.specs.Stores.{IsHome, IsUntouched, part_in}
 use Rattle.store_directory.proofs.Handing.{handed_since, put_untouched}
 use Rattle.store_directory.proofs.Places.{home_again, stands-not-out}
-use Rattle.store_directory.proofs.Putting.{told}
 
 -- what the part Used reads as after a run that tried at most one index
 used_reads : (place : Slot) (part : DiskState) (taken now : KeyState) → taken.parts.used ≡ handed_out place part → IsImage now.parts.used.now now.parts.used.seen → WorksWith taken now

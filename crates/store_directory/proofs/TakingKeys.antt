@@ -1,8 +1,8 @@
 -- Taking the two parts of a key, and putting them back where they open as none.
-use Rattle.std.proofs.Common.{◌≡◌, ℕ, Bool, List, [], ◌∷◌, refl, sym, ◌∙◌, ap, subst, IsTrue, Some, Option}
+use Rattle.std.proofs.Common.{◌≡◌, ℕ, List, refl, sym, ◌∙◌, ap, subst, IsTrue, Some, Option}
 use Rattle.bec_disk.specs.declared.part.Part.TheVariants.{Key, Used}
 use Rattle.bec_disk.specs.Disk.{DiskState}
-use Rattle.bec_disk.specs.Shelf.{HandsOut, IsOfOut, PutsBack, ShelfState, out, stands}
+use Rattle.bec_disk.specs.Shelf.{HandsOut, IsOfOut, PutsBack, ShelfState, stands}
 use Rattle.bec_disk.specs.Slot.{same_slot, slot}
 use Rattle.key_index.specs.KeyState.{KeyParts, KeyState}
 use Rattle.key_index.specs.Opening.{AreOfKey, OpensKey}

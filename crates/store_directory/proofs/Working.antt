@@ -1,9 +1,8 @@
 -- What a run over a store leaves of its directory.
-use Rattle.std.proofs.Common.{◌≡◌, ◌≢◌, inl, inr, ℕ, Bool, true, false, List, [], ◌∷◌, ◌++◌, length, take, refl, sym, ◌∙◌, ap, subst, IsTrue, Some, Option, arith}
+use Rattle.std.proofs.Common.{◌≡◌, ◌≢◌, inr, ℕ, Bool, true, false, List, [], ◌∷◌, ◌++◌, refl, sym, ◌∙◌, ap, subst, IsTrue, Some, Option, arith}
 use Rattle.std.specs.List.{list_any}
 use Rattle.std.proofs.lemmas.List.{take_all}
 use Rattle.bec_bytes.specs.Framed.{stream_of}
-use Rattle.bec_disk.specs.declared.part.Part.{Part}
 use Rattle.bec_disk.specs.declared.part.Part.TheVariants.{Schema, Updates}
 use Rattle.bec_disk.specs.Disk.{DiskState, EveryImage, LeavesOnly, handed_out}
 use Rattle.bec_disk.specs.Shelf.{PartState, ShelfState, out, stands}

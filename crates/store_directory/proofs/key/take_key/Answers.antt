@@ -1,5 +1,5 @@
-use Rattle.std.proofs.Common.{◌≡◌, sym, ◌∙◌, ap, subst}
-use Rattle.bec_disk.specs.declared.part.Part.TheVariants.{Key, Used}
+use Rattle.std.proofs.Common.{sym, ◌∙◌, subst}
+use Rattle.bec_disk.specs.declared.part.Part.TheVariants.{Key}
 use Rattle.bec_disk.specs.Disk.{DiskState}
 use Rattle.bec_disk.specs.Shelf.{HandsOut}
 use Rattle.bec_disk.specs.Slot.{slot}

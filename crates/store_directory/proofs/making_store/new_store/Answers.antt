@@ -1,4 +1,4 @@
-use Rattle.std.proofs.Common.{◌≡◌, IsTrue, ◌++◌, List, [], ℕ, refl, sym, subst}
+use Rattle.std.proofs.Common.{◌≡◌, IsTrue, ◌++◌, [], refl, sym, subst}
 use Rattle.bec_disk.specs.declared.part.Part.TheVariants.{Schema, Updates}
 use Rattle.bec_disk.specs.Disk.{DiskState}
 use Rattle.bec_disk.specs.Gated.{gated_of}
