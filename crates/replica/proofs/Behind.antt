@@ -1,5 +1,5 @@
 -- An update that is made, behind all others.
-use Rattle.std.proofs.Common.{◌≡◌, ◌⊎◌, inl, inr, ℕ, suc, ◌+◌, ◌*◌, ◌≤◌, ◌<◌, Bool, true, false, cond, ◌&&◌, List, [], ◌∷◌, ◌++◌, IsTrue, length, map, All, Result, Ok, Err, refl, sym, ap, subst, ◌∙◌, arith, length-append}
+use Rattle.std.proofs.Common.{◌≡◌, ℕ, suc, ◌+◌, ◌≤◌, ◌<◌, Bool, true, false, ◌&&◌, List, [], ◌∷◌, ◌++◌, length, map, All, sym, ap, subst, ◌∙◌, arith, length-append}
 use Rattle.std.specs.Prelude.{nat_le}
 use Rattle.std.specs.Int.{w32, to_be_bytes}
 use Rattle.std.proofs.lemmas.List.{map-append, length-map}
@@ -20,7 +20,7 @@ use Rattle.update_check.specs.Members.{AreMembers}
 use Rattle.update_check.specs.Signed.{IsChecked}
 use Rattle.lms_tree.specs.SecretKey.{SecretData, public_key}
 use Rattle.history.specs.Histories.{HistoryData}
-use Rattle.replica.specs.Making.{HasLength, HasRoom, IsMadeBy, body_by, update_by}
+use Rattle.replica.specs.Making.{HasLength, IsMadeBy, body_by, update_by}
 
 -- how long a spelling is
 spelled_length : (bytes : List ℕ) (update : UpdateData) → Spells bytes update → length bytes ≡ signed_length update.body

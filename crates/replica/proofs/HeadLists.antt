@@ -1,5 +1,5 @@
 -- Heads as the predecessors of an update.
-use Rattle.std.proofs.Common.{◌≡◌, ℕ, zero, suc, Bool, true, false, List, [], ◌∷◌, ◌++◌, ◌&&◌, ◌||◌, not, Option, None, Some, map, reverse, take, refl, sym, ap, subst, ◌∙◌, All, Contains}
+use Rattle.std.proofs.Common.{◌≡◌, ℕ, zero, suc, Bool, true, false, List, [], ◌∷◌, ◌&&◌, ◌||◌, not, None, Some, map, reverse, take, refl, sym, ap, ◌∙◌, All, Contains}
 use Rattle.std.specs.List.{list_any, list_all, AllByRecursion}
 use Rattle.std.specs.List.Sorted.{IsStrictlySortedBy}
 use Rattle.std.specs.Ordering.{is_lt}
@@ -10,7 +10,7 @@ use Rattle.std.proofs.lemmas.List.Folds.{list_any-append}
 use Rattle.update_model.specs.declared.update_id.UpdateId.{UpdateId}
 use Rattle.update_model.specs.Entry.{Entry, id_cmp, same_id}
 use Rattle.update_model.specs.Form.{AreRising}
-use Rattle.update_model.specs.Graph.{AreHeads, has, holds, names}
+use Rattle.update_model.specs.Graph.{AreHeads, holds, names}
 use Rattle.update_model.specs.Node.{NodeData}
 use Rattle.update_model.proofs.Heads.{any_from_member, heads_same}
 use Rattle.update_model.proofs.Ids.{same_id-refl}

@@ -1,11 +1,11 @@
 -- What a reservation does to a key.
-use Rattle.std.proofs.Common.{◌≡◌, ◌≢◌, ℕ, Option, None, Some, Ok, Err, refl, subst, sym, inl, inr}
+use Rattle.std.proofs.Common.{◌≡◌, ℕ, Option, Ok, Err, subst, sym, inr}
 use Rattle.std.specs.Prelude.{MatchOption, Result}
 use Rattle.std.specs.Result.{IsErrAnd}
 use Rattle.key_index.specs.KeyState.{KeyState}
 use Rattle.key_index.specs.Reserving.{Reserves, Tries}
-use Rattle.replica.specs.Making.{IsAddCause, IsPlanCause}
-use Rattle.replica.specs.Signing.{KeyAfter, KeyAfterJoin, SignsAtLeast}
+use Rattle.replica.specs.Making.{IsAddCause}
+use Rattle.replica.specs.Signing.{KeyAfter, SignsAtLeast}
 use Rattle.replica.specs.declared.make_fault.MakeFault.{MakeFault}
 use Rattle.replica.specs.declared.make_fault.MakeFault.TheVariants.{NotListed, TooManyHeads, Invalid, TooLong, Full, Spent, Taken, DiskFault, Memory}
 use Rattle.replica.specs.declared.make_fault.Side.TheVariants.{Key, Log}

@@ -1,5 +1,5 @@
 -- What a replica makes of operations, and why it makes nothing.
-use Rattle.std.specs.Prelude.{◌≡◌, ℕ, ◌+◌, ◌<◌, ◌≤◌, ◌||◌, Bool, true, false, IsTrue, List, [], ◌∷◌, ◌++◌, length, map, take, Option, Some, None}
+use Rattle.std.specs.Prelude.{◌≡◌, ℕ, ◌+◌, ◌<◌, ◌≤◌, Bool, true, false, IsTrue, List, [], ◌∷◌, ◌++◌, length, map, take, Option, Some, None}
 use Rattle.std.specs.Int.{w32, to_be_bytes}
 use Rattle.std.specs.List.{list_any}
 use Rattle.update_model.specs.declared.author_key.AuthorKey.{AuthorKey}
@@ -14,7 +14,7 @@ use Rattle.update_model.specs.Form.{BodyData, UpdateData, signature_length}
 use Rattle.update_model.specs.Block.{IsBlock}
 use Rattle.update_model.specs.Graph.{AreHeads, byte_count, holds}
 use Rattle.update_model.specs.Node.{NodeData}
-use Rattle.update_model.specs.Rule.{IsListed, RuleData}
+use Rattle.update_model.specs.Rule.{IsListed}
 use Rattle.update_codec.specs.declared.limits.TheConstants.{UPDATE_LIMIT}
 use Rattle.update_codec.specs.Parts.{entry_of, id_of}
 use Rattle.update_codec.specs.Spelling.{Spells, message, signed_length}

@@ -1,4 +1,4 @@
-use Rattle.std.proofs.Common.{rules, ◌≡◌, ◌≤◌, IsTrue, length, map, sym, ap, subst, ◌∙◌, arith}
+use Rattle.std.proofs.Common.{rules, ◌≡◌, IsTrue, length, map, sym, ap, subst, ◌∙◌, arith}
 use Rattle.update_model.specs.declared.author_key.AuthorKey.{AuthorKey}
 use Rattle.update_model.specs.Rule.{IsListed, RuleData}
 use Rattle.update_codec.specs.Parts.{entry_of}

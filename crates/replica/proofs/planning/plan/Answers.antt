@@ -1,4 +1,4 @@
-use Rattle.std.proofs.Common.{◌≡◌, true, All, List, map, sym, subst}
+use Rattle.std.proofs.Common.{◌≡◌, true, All, map, sym, subst}
 use Rattle.update_model.specs.declared.update_id.UpdateId.{UpdateId}
 use Rattle.update_model.specs.Graph.{holds}
 use Rattle.update_codec.specs.Parts.{entry_of}

@@ -1,4 +1,4 @@
-use Rattle.std.proofs.Common.{◌≡◌, false, map, ap, sym, ◌∙◌}
+use Rattle.std.proofs.Common.{map, ap, sym, ◌∙◌}
 use Rattle.std.specs.Option.{is_some}
 use Rattle.update_model.specs.Graph.{holds}
 use Rattle.update_model.proofs.Closed.{position_of-held}

@@ -1,10 +1,10 @@
-use Rattle.std.proofs.Common.{rules, ◌≡◌, ℕ, ◌+◌, ◌≤◌, List, length, subst, sym, ap, ◌∙◌, arith}
+use Rattle.std.proofs.Common.{rules, ◌≡◌, ℕ, ◌+◌, List, length, subst, sym, ap, ◌∙◌}
 use Rattle.update_model.specs.Form.{BodyData, IsBody, signature_length}
 use Rattle.update_model.specs.Rule.{RuleData}
 use Rattle.update_codec.specs.Spelling.{message, signed_length}
 use Rattle.schema.specs.Schemas.{SchemaData}
 use Rattle.lms_tree.specs.SecretKey.{public_key}
-use Rattle.replica.specs.Making.{AreSignedBy, HasLength, HasRoom, IsMadeBy, IsNewCause, IsSignCause, body_by}
+use Rattle.replica.specs.Making.{AreSignedBy, HasRoom, IsMadeBy, IsNewCause, IsSignCause, body_by}
 use Rattle.replica.proofs.MadeBy.{body_is, has_length, made_by, new_cause}
 use Rattle.replica.proofs.Outcomes.{if_err_map, if_ok_map}
 use Rattle.replica.specs.declared.make_fault.MakeFault.{MakeFault}

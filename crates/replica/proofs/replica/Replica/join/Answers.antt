@@ -1,4 +1,4 @@
-use Rattle.std.proofs.Common.{rules, ◌≡◌, ◌⊎◌, ℕ, ◌≤◌, ◌<◌, IsTrue, true, false, None, All, List, [], length, map, take, sym, ap, subst, refl, ◌∙◌, arith, length-take}
+use Rattle.std.proofs.Common.{rules, ◌≡◌, ◌⊎◌, ℕ, ◌≤◌, IsTrue, true, false, None, All, List, [], length, map, take, sym, ap, subst, refl, ◌∙◌, arith, length-take}
 use Rattle.std.specs.Prelude.{IfErr}
 use Rattle.std.proofs.lemmas.Bool.{false≢true}
 use Rattle.std.proofs.lemmas.List.Elements.{All-take}
@@ -12,7 +12,6 @@ use Rattle.update_model.specs.Rule.{IsListed, RuleData}
 use Rattle.update_codec.specs.Parts.{entry_of}
 use Rattle.schema.specs.Schemas.{SchemaData}
 use Rattle.lms_tree.specs.SecretKey.{public_key}
-use Rattle.history.specs.Histories.{HistoryData}
 use Rattle.replica.specs.Making.{AddsMade, AfterLeastHeads, IsAddCause, IsJoinCause, IsSignCause, Joins, body_by}
 use Rattle.replica.specs.Replicas.{ReplicaState}
 use Rattle.replica.specs.declared.make_fault.MakeFault.{MakeFault}

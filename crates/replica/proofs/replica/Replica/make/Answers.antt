@@ -1,4 +1,4 @@
-use Rattle.std.proofs.Common.{◌≡◌, true, None, All, List, ℕ, map, sym, subst}
+use Rattle.std.proofs.Common.{◌≡◌, true, None, All, map, sym, subst}
 use Rattle.update_model.specs.declared.update_id.UpdateId.{UpdateId}
 use Rattle.update_model.specs.Form.{AreRising}
 use Rattle.update_model.specs.Graph.{holds}
