@@ -68,7 +68,7 @@ none_still out new same none = subst (λ (p : PartState). IsNoStore (reading p))
 
 -- what the part Schema was looked at for
 module _ (dir : List ℕ) (before after : ShelfState) (home : IsTrue before.tells → IsHome before) (untouched : IsTrue before.tells → IsUntouched (part_in before dir Schema) (part_in after dir Schema))
-  (others : IsTrue before.tells → KeepsAllBut (Schema ∷ []) dir before after) where
+    (others : IsTrue before.tells → KeepsAllBut (Schema ∷ []) dir before after) where
   looked_kept : IsTrue before.tells → IsUntouched (part_in before dir Schema) (part_in after dir Schema) × IsUntouched (part_in before dir Updates) (part_in after dir Updates)
   looked_kept tells = (untouched tells, untouched_by (part_in before dir Updates) (part_in after dir Updates) (others tells (slot dir Updates) refl))
 
@@ -123,8 +123,8 @@ module _ {S H R : Type 0} (dir : List ℕ) (before after : Outside S H R) (home 
 
   -- where a store was to be made, at a shelf whose part Schema was looked at
   module _ (mid : ShelfState) (looked_tells : mid.tells ≡ before.store.tells) (untouched : IsTrue before.store.tells → IsUntouched (part_in before.store dir Schema) (part_in mid dir Schema))
-    (others : IsTrue before.store.tells → KeepsAllBut (Schema ∷ []) dir before.store mid) (none : IsTrue before.store.tells → IsNoStore (reading (part_in before.store dir Schema)))
-    (read : List ℕ) (schema : SchemaData) (takes : TakesSchema is_luhn read schema) where
+      (others : IsTrue before.store.tells → KeepsAllBut (Schema ∷ []) dir before.store mid) (none : IsTrue before.store.tells → IsNoStore (reading (part_in before.store dir Schema)))
+      (read : List ℕ) (schema : SchemaData) (takes : TakesSchema is_luhn read schema) where
     mid_told : IsTrue before.store.tells → IsTrue mid.tells
     mid_told tells = told before.store.tells mid.tells looked_tells tells
 
