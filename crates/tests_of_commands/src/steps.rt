@@ -1,0 +1,126 @@
+//! Runs of the program one after another over one shelf in memory.
+
+ghost use Rattle.bec_disk.specs.Shelved.{shelf_of};
+ghost use Rattle.store_directory.specs.Stores.{IsHome};
+
+use bec_bytes::{MemSink, MemSource};
+use bec_disk::MemShelf;
+use bec_node::run;
+use rand_pcg::Pcg32;
+use std::alloc::{AllocError, Global};
+
+/// A run: its words, its input, and the status and the text that it answers. An answer `ID` stands for any id, which is
+/// remembered, and `#n` in later texts for the id that was remembered as number n, counted from 0.
+pub type Step<'a> = (&'a str, &'a str, u8, &'a str);
+
+/// What a run answers.
+#[derive(Drop)]
+pub struct Said {
+    /// Its status.
+    pub status: u8,
+    /// What it prints.
+    pub bytes: Vec<u8>,
+}
+
+/// The words of a command line.
+fn words(alloc: Global, line: &str) -> Result<Vec<String>, AllocError> {
+    let mut words = Vec::new(alloc);
+    for word in line.split_whitespace() {
+        words.push(String::from_str(alloc, word)?)?;
+    }
+    Ok(words)
+}
+
+/// Runs the program over a shelf.
+pub fn answer(
+    alloc: Global,
+    shelf: &mut MemShelf,
+    line: &str,
+    input: &[u8],
+) -> Result<Said, AllocError>
+    requires home { IsHome (shelf_of shelf.old) }
+    ensures home { IsHome (shelf_of shelf.new) }
+{
+    let words = words(alloc, line)?;
+    let mut random = Pcg32::new(42, 54);
+    let mut input = MemSource::new(Vec::from_slice(alloc, input)?, Vec::new(alloc));
+    let mut out = MemSink::new(alloc, Vec::new(alloc));
+    let status = run(alloc, &words, shelf, &mut random, &mut input, &mut out);
+    let bytes = out.bytes().to_vec(alloc)?;
+    Ok(Said { status, bytes })
+}
+
+/// Whether these are 64 hexadecimal digits and the end of a line.
+fn is_id_line(bytes: &[u8]) -> bool {
+    bytes.len() == 65 && is_hex_line(bytes)
+}
+
+/// Whether these are hexadecimal digits and the end of a line.
+pub fn is_hex_line(bytes: &[u8]) -> bool {
+    match bytes.split_last() {
+        Some((last, digits)) => {
+            *last == b'\n'
+                && digits
+                    .iter()
+                    .all(|digit| b"0123456789abcdef".contains(digit))
+        }
+        None => false,
+    }
+}
+
+/// A text in which `#n` stands for the id of number n.
+fn told(alloc: Global, ids: &[String], text: &str) -> Result<String, AllocError> {
+    let mut told = String::from_str(alloc, text)?;
+    for (number, id) in ids.iter().enumerate() {
+        let place = format!(in alloc; "#{number}")?;
+        told = told.replace(alloc, place.as_str(), id.as_str())?;
+    }
+    Ok(told)
+}
+
+/// Whether an answer is the one that is wanted. An id that may be any is remembered.
+fn is_wanted(
+    alloc: Global,
+    ids: &mut Vec<String>,
+    wanted: &str,
+    bytes: &[u8],
+) -> Result<bool, AllocError> {
+    if wanted != "ID\n" {
+        return Ok(told(alloc, ids, wanted)?.as_bytes() == bytes);
+    }
+    let Ok(text) = str::from_utf8(bytes) else {
+        return Ok(false);
+    };
+    ids.push(String::from_str(alloc, text.trim_end())?)?;
+    Ok(is_id_line(bytes))
+}
+
+/// Whether a step goes as it says.
+fn plays_one(
+    alloc: Global,
+    shelf: &mut MemShelf,
+    ids: &mut Vec<String>,
+    step: &Step<'_>,
+) -> Result<bool, AllocError>
+    requires home { IsHome (shelf_of shelf.old) }
+    ensures home { IsHome (shelf_of shelf.new) }
+{
+    let line = told(alloc, ids, step.0)?;
+    let input = told(alloc, ids, step.1)?;
+    let answer = answer(alloc, shelf, &line, input.as_bytes())?;
+    Ok(is_wanted(alloc, ids, step.3, &answer.bytes)? && answer.status == step.2)
+}
+
+/// How many steps go as they say, one after another, up to the first that does not.
+pub fn played(alloc: Global, shelf: &mut MemShelf, steps: &[Step<'_>]) -> Result<usize, AllocError>
+    requires home { IsHome (shelf_of shelf.old) }
+    ensures home { IsHome (shelf_of shelf.new) }
+{
+    let mut ids = Vec::new(alloc);
+    for (number, step) in steps.iter().enumerate() {
+        if !plays_one(alloc, shelf, &mut ids, step)? {
+            return Ok(number);
+        }
+    }
+    Ok(steps.len())
+}
