@@ -1,0 +1,138 @@
+-- What a session keeps, and how the code's values are seen by the rules.
+use Rattle.std.specs.Prelude.{◌≡◌, ◌≤◌, ◌<◌, ◌⊎◌, ℕ, ◌+◌, Bool, true, false, not, ◌&&◌, ◌||◌, if◌then◌else◌, List, [], ◌∷◌, ◌++◌, length, map, take, filter_map, slice_get, All, Contains, Option, Some, None, option_map}
+use Rattle.std.specs.VecDeque.{deque_items}
+use Rattle.update_codec.specs.Parts.{entry_of}
+use Rattle.update_check.specs.Signed.{IsChecked}
+use Rattle.update_check.specs.declared.check_error.CheckFault.{CheckFault}
+use Rattle.update_check.specs.declared.check_error.CheckFault.TheVariants as check_faults
+use Rattle.update_model.specs.declared.update_id.UpdateId.{UpdateId}
+use Rattle.update_model.specs.Batch.{Limits}
+use Rattle.update_model.specs.Entry.{Entry}
+use Rattle.update_model.specs.Graph.{has, holds, names}
+use Rattle.update_model.specs.Rule.{RuleData}
+use Rattle.session_rules.specs.declared.limits.TheConstants.{MAX_ITEMS, MAX_NEEDS, MAX_TURNS}
+use Rattle.session_rules.specs.Course.{Continues}
+use Rattle.session_rules.specs.declared.role.Role.{Role}
+use Rattle.session_rules.specs.declared.end.End.{End}
+use Rattle.session_rules.specs.declared.peer_fault.PeerFault.{PeerFault}
+use Rattle.session_rules.specs.declared.peer_fault.PeerFault.TheVariants.{OutOfTurn, TakenBack}
+use Rattle.session_rules.specs.State.{Reading as ReadingData, HelloData, TurnData, FrameData, SessionData, OutData}
+use Rattle.session_rules.specs.State as state
+use Rattle.session_rules.specs.Steps.{AreLeast, after_item, counted, due_fault, first_of, silent, takes_turn, Steps}
+use Rattle.sync_session.specs.Payload as payload
+use Rattle.sync_session.specs.Pending.{PendingData}
+use Rattle.sync_session.specs.declared.checked_frame.CheckedFrame.{CheckedFrame}
+use Rattle.sync_session.specs.declared.checked_frame.CheckedFrame.TheVariants as frames
+use Rattle.sync_session.specs.declared.out.Out.{Out}
+use Rattle.sync_session.specs.declared.reading.Reading.{Reading}
+use Rattle.sync_session.specs.declared.reading.Reading.TheVariants.{Opening, Burst, Answers}
+
+-- ---- values of the code
+
+-- what may come next
+abbrev pub reading_of : Reading → ReadingData
+reading_of Opening = state.Opening
+reading_of Burst = state.Burst
+reading_of (Answers ids) = state.Answers (deque_items ids)
+
+-- what a Hello says
+abbrev pub hello_of : payload.HelloData → HelloData
+hello_of hello = record { database = hello.database; node = hello.node; heads = hello.heads; old = hello.old; filter = hello.filter }
+
+-- what a Turn says
+abbrev pub turn_of : payload.TurnData → TurnData
+turn_of turn = record { have = turn.have; needs = turn.needs }
+
+-- the number of a fault of the check of updates
+abbrev pub number_of : CheckFault → ℕ
+number_of (check_faults.Codec fault) = 1
+number_of check_faults.WrongDatabase = 2
+number_of check_faults.AuthorNotListed = 3
+number_of check_faults.BadSignature = 4
+
+-- a frame as the rules see it
+abbrev pub frame_of : CheckedFrame → FrameData
+frame_of (frames.Hello hello) = state.Hello (hello_of hello)
+frame_of (frames.OtherVersion version) = state.OtherVersion
+frame_of (frames.Item update) = state.Item (entry_of update)
+frame_of (frames.BadItem fault) = state.BadItem (number_of fault)
+frame_of (frames.Turn turn) = state.Turn (turn_of turn)
+frame_of (frames.BadFrame place) = state.NoFrame place
+
+-- An Item is under the rule.
+abbrev pub IsFrameUnder : RuleData → CheckedFrame → Type 0
+IsFrameUnder rule (frames.Hello hello) = Unit {0}
+IsFrameUnder rule (frames.OtherVersion version) = Unit {0}
+IsFrameUnder rule (frames.Item update) = IsChecked rule update
+IsFrameUnder rule (frames.BadItem fault) = Unit {0}
+IsFrameUnder rule (frames.Turn turn) = Unit {0}
+IsFrameUnder rule (frames.BadFrame place) = Unit {0}
+
+-- what is handed out, by the holder's list
+abbrev pub out_of : List Entry → Out → OutData
+out_of list out = record { hello = option_map hello_of out.hello; send = filter_map (slice_get list) out.send; turn = option_map turn_of out.turn; end = out.end }
+
+-- ---- the state of a session
+
+-- The state but for the start set, which is the first `below` members of its holder's list; the updates that its holder does
+-- not have; the heads of the own Hello; and whether memory ran out in an earlier call, after which a session is over.
+pub record Kept : Type 0 where
+  pub state : SessionData
+  pub below : ℕ
+  pub pending : PendingData
+  pub heads : List UpdateId
+  pub failed : Bool
+
+-- the state with its start set
+abbrev pub whole : List Entry → Kept → SessionData
+whole start k = record k.state { start = start }
+
+-- the state over its holder's list
+abbrev pub seen : List (List ℕ) → Kept → SessionData
+seen members k = whole (take k.below (map entry_of members)) k
+
+-- the updates that its holder does not have
+abbrev pub updates_in : Kept → List (List ℕ)
+updates_in k = k.pending.waiting ++ k.pending.gathered
+
+-- the session ended so
+abbrev pub with_end : End → Kept → Kept
+with_end ending k = record k { state = record k.state { ended = Some ending } }
+
+-- one more Item was read, and this is gathered now
+abbrev pub with_item : Kept → PendingData → Kept
+with_item k pending = record k { state = record (counted k.state) { items = k.state.items + 1; reading = after_item k.state.reading; gathered = map entry_of pending.gathered }; pending = pending }
+
+-- an end that has not ended has read fewer turns than a word counts
+pub record IsRunning (k : Kept) : Type 0 where
+  pub running : k.state.ended ≡ None
+  pub turns : k.state.turns < MAX_TURNS
+
+-- The state is what the rules have made of it, over this list, of which the first `below` members are its start set. The heads
+-- are those of the start set, and what it has gathered and what waits is under the rule.
+pub record Belongs (limits : Limits) (rule : RuleData) (k : Kept) (members : List (List ℕ)) : Type 0 where
+  pub below : k.below ≤ length members
+  pub continues : Continues limits (seen members k) (map entry_of members)
+  pub heads : (id : UpdateId) → has k.heads id ≡ (holds (take k.below (map entry_of members)) id && not (names (take k.below (map entry_of members)) id))
+  pub under : All (IsChecked rule) (updates_in k)
+
+-- A session whose memory ran out is over, and belongs anywhere.
+abbrev pub BelongsTo : Limits → RuleData → Kept → List (List ℕ) → Type 0
+BelongsTo limits rule k members = k.failed ≡ false → Belongs limits rule k members
+
+-- the fault that a Turn shows before its commit
+abbrev pub turn_fault_at : Role → ReadingData → Bool → TurnData → Option PeerFault
+turn_fault_at role reading got_have turn =
+    if takes_turn role reading turn.needs
+    then first_of (due_fault reading) (if got_have && not turn.have then Some TakenBack else None)
+    else Some OutOfTurn
+
+-- A frame that comes to a session that is over changes nothing. To any other it does what the rules say.
+abbrev pub StepsBy : Bool → Limits → Kept → List (List ℕ) → CheckedFrame → Kept → Out → List (List ℕ) → Type 0
+StepsBy true limits k before frame next out after = (next ≡ k) × (out_of (map entry_of after) out ≡ silent) × (after ≡ before)
+StepsBy false limits k before frame next out after =
+    Steps limits (seen before k) (map entry_of before) (frame_of frame) (seen after next) (out_of (map entry_of after) out) (map entry_of after)
+
+-- one frame to a session
+abbrev pub StepsTo : Limits → Kept → List (List ℕ) → CheckedFrame → Kept → Out → List (List ℕ) → Type 0
+StepsTo limits k before frame next out after = StepsBy k.failed limits k before frame next out after × (next.failed ≡ k.failed)

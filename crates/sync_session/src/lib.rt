@@ -1,0 +1,15 @@
+//! One end of a session.
+#![tactic(auto)]
+
+mod checked_frame;
+mod frames;
+mod ids;
+mod lookup;
+mod needs;
+mod out;
+mod pending;
+mod reading;
+
+pub use checked_frame::CheckedFrame;
+pub use frames::{Hello, Turn};
+pub use out::Out;
