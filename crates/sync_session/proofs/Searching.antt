@@ -1,6 +1,7 @@
 -- Searches through lists, one element after another.
 use Rattle.std.proofs.Common.{◌≡◌, ℕ, zero, suc, ◌+◌, ◌<◌, ◌≤◌, Bool, true, false, not, cond, ◌&&◌, ◌||◌, List, [], ◌∷◌, ◌++◌, length, get_or, take, drop, find, filter_map, slice_get, Option, Some, None, is_some, refl, sym, ap, subst, ◌∙◌, arith, drop-cons, add-one, append-nil, inl, inr}
-use Rattle.std.specs.List.{list_all, position_from, cons_option}
+use Rattle.std.specs.List.{list_all, list_any, position_from, cons_option}
+use Rattle.std.proofs.lemmas.List.Folds.{list_any-append}
 use Rattle.std.proofs.lemmas.List.Elements.{filter_map-append}
 use Rattle.std.proofs.lemmas.List.{take-append-drop, take_more}
 use Rattle.session_rules.proofs.Words.{is_either, and_both}
@@ -133,3 +134,23 @@ answers_none graph n positions ids i d low at was =
 -- what no position says of holding
 pub unheld_by : (graph : List Entry) (id : UpdateId) (o : Option ℕ) (r b : Bool) → o ≡ position_of graph id → is_some o ≡ not r → r ≡ b → holds graph id ≡ not b
 unheld_by graph id o r b is none same = sym (position_of-held graph id) ∙ ap is_some (sym is) ∙ none ∙ ap not same
+
+-- ---- some element passes
+
+pub any_at : {X : Type 0} (p : X → Bool) (xs : List X) (i : ℕ) (d : X) → i < length xs → p (get_or xs i d) ≡ true → list_any p xs ≡ true
+any_at p xs i d low passes = ap (list_any p) (split_at xs i d low) ∙ list_any-append p (take i xs) (get_or xs i d ∷ drop (i + 1) xs)
+    ∙ ap (λ b. list_any p (take i xs) || (b || list_any p (drop (i + 1) xs))) passes ∙ or_true (list_any p (take i xs))
+  where
+    or_true : (b : Bool) → (b || true) ≡ true
+    or_true true = refl
+    or_true false = refl
+
+pub any_none_more : {X : Type 0} (p : X → Bool) (xs : List X) (i : ℕ) (d : X) → i < length xs → list_any p (take i xs) ≡ false → p (get_or xs i d) ≡ false → list_any p (take (i + 1) xs) ≡ false
+any_none_more p xs i d low none fails = ap (list_any p) (take_more xs i d low) ∙ list_any-append p (take i xs) (get_or xs i d ∷ [])
+    ∙ ap (λ b. b || (p (get_or xs i d) || false)) none ∙ ap (λ b. b || false) fails
+
+-- one more of what positions stand for
+pub at_more : {X : Type 0} (xs : List X) (ps : List ℕ) (i p d : ℕ) (x : X) → p ≡ get_or ps i d → i < length ps → slice_get xs p ≡ Some x
+    → filter_map (slice_get xs) (take (i + 1) ps) ≡ filter_map (slice_get xs) (take i ps) ++ x ∷ []
+at_more xs ps i p d x is low there = ap (filter_map (slice_get xs)) (take_more ps i d low ∙ ap (λ q. take i ps ++ q ∷ []) (sym is))
+    ∙ filter_map-append (slice_get xs) (take i ps) (p ∷ []) ∙ ap (λ (o : Option _). filter_map (slice_get xs) (take i ps) ++ cons_option o []) there

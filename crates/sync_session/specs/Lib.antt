@@ -2,3 +2,5 @@ pub mod Kept
 pub mod Payload
 pub mod Pending
 pub mod Wants
+pub mod Greeting
+pub mod Form

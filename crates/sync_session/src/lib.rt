@@ -3,13 +3,17 @@
 
 mod checked_frame;
 mod frames;
+mod greeting;
+mod hello;
 mod ids;
 mod lookup;
 mod needs;
 mod out;
 mod pending;
 mod reading;
+mod session;
 
 pub use checked_frame::CheckedFrame;
 pub use frames::{Hello, Turn};
 pub use out::Out;
+pub use session::Session;

@@ -81,7 +81,9 @@ impl Pending {
 
     /// Takes all out: what waits, and then what was gathered.
     pub fn take(&mut self, alloc: Global) -> Result<Vec<Checked>, AllocError>
-        ensures { IfOk result (λ batch. (batch.items ≡ self.old.waiting ++ self.old.gathered) × (self.new ≡ nothing)) }
+        ensures batch { IfOk result (λ batch. batch.items ≡ self.old.waiting ++ self.old.gathered) }
+        ensures state { OnOk result (self.new ≡ nothing) }
+        ensures within { is_within (entries_in self.old) ≡ true }
     {
         self.waiting.append(&mut self.gathered)?;
         let batch = mem::replace(&mut self.waiting, Vec::new(alloc));
