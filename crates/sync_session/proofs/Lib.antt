@@ -6,3 +6,6 @@ pub mod Wanting
 pub mod Items
 pub mod Standing
 pub mod Hellos
+pub mod Bursts
+pub mod BurstSteps
+pub mod Turning

@@ -22,7 +22,7 @@ use Rattle.session_rules.specs.declared.peer_fault.PeerFault.{PeerFault}
 use Rattle.session_rules.specs.declared.peer_fault.PeerFault.TheVariants.{OutOfTurn, Stalled, TakenBack, WrongDatabase}
 use Rattle.session_rules.specs.State.{Reading as ReadingData, HelloData, TurnData, FrameData, SessionData, OutData}
 use Rattle.session_rules.specs.State as state
-use Rattle.session_rules.specs.Steps.{begun, IsHello, after_item, again_fault, counted, due_fault, first_of, is_empty, silent, takes_hello, takes_turn, unknown_fault, Steps}
+use Rattle.session_rules.specs.Steps.{begun, is_wanted, AreNeeds, IsHello, after_item, again_fault, counted, due_fault, first_of, is_empty, silent, takes_hello, takes_turn, unknown_fault, Steps}
 use Rattle.sync_session.specs.Payload as payload
 use Rattle.sync_session.specs.Pending.{PendingData, nothing}
 use Rattle.sync_session.specs.declared.checked_frame.CheckedFrame.{CheckedFrame}
@@ -164,6 +164,11 @@ emptied k = record k { pending = nothing }
 -- a commit was refused
 abbrev pub with_refusal : End → Kept → Kept
 with_refusal ending k = record k { state = record (counted k.state) { ended = Some ending }; pending = nothing }
+
+-- The Turn of an end that is to have these heads, and that asked for these ids before.
+pub record TurnsFor (heads : List UpdateId) (held waiting : List Entry) (asked : List UpdateId) (own : TurnData) : Type 0 where
+  pub have : own.have ≡ list_all (holds held) heads
+  pub needs : AreNeeds own.have (is_wanted heads held waiting asked) own.needs
 
 -- the fault that a Hello shows
 abbrev pub hello_fault_at : List ℕ → ReadingData → List ℕ → Option PeerFault

@@ -4,3 +4,4 @@ pub mod Pending
 pub mod Wants
 pub mod Greeting
 pub mod Form
+pub mod Turns

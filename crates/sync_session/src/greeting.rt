@@ -3,7 +3,7 @@
 ghost use Rattle.std.specs.Prelude.{◌≡◌, ◌≤◌, ◌<◌, ◌||◌, not, All, map, take, length, filter_map, slice_get, IfOk};
 ghost use Rattle.std.specs.BTreeSet.{keys};
 ghost use Rattle.std.specs.List.{list_any};
-ghost use Rattle.update_model.specs.Graph.{has};
+ghost use Rattle.update_model.specs.Graph.{has, IsClosed};
 ghost use Rattle.std.specs.List.Sorted.{IsStrictlySortedBy};
 ghost use Rattle.bloom_summary.specs.Bloom.{is_member};
 ghost use Rattle.session_rules.specs.Burst.{IsBurst};
@@ -65,7 +65,8 @@ pub(crate) fn burst<H: Holder>(
     below: u32,
     peer: &Hello,
 ) -> Result<Vec<u32>, AllocError>
-    requires { below ≤ length (H.members holder.now) }
+    requires within { below ≤ length (H.members holder.now) }
+    requires closed { IsClosed (map entry_of (H.members holder.now)) }
     ensures { IfOk result (λ positions. IsBurst (take below (map entry_of (H.members holder.now))) peer.now.old (is_member peer.now.filter)
         (filter_map (slice_get (map entry_of (H.members holder.now))) positions.items)) }
 {

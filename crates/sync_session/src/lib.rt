@@ -12,6 +12,8 @@ mod out;
 mod pending;
 mod reading;
 mod session;
+mod settle;
+mod turn;
 
 pub use checked_frame::CheckedFrame;
 pub use frames::{Hello, Turn};
