@@ -9,3 +9,4 @@ pub mod Hellos
 pub mod Bursts
 pub mod BurstSteps
 pub mod Turning
+pub mod Settling

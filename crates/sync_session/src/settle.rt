@@ -5,7 +5,7 @@ ghost use Rattle.session_rules.specs.declared.end.End.TheVariants.{Done as done}
 ghost use Rattle.session_rules.specs.declared.limits.TheConstants.{MAX_TURNS};
 ghost use Rattle.update_check.specs.Holding.{IsHeld};
 ghost use Rattle.update_codec.specs.Parts.{entry_of};
-ghost use Rattle.update_model.specs.Graph.{is_within};
+ghost use Rattle.update_model.specs.Graph.{is_within, IsClosed};
 ghost use Rattle.sync_session.specs.Kept.{turn_of, IsRunning, Stands};
 ghost use Rattle.sync_session.specs.Turns.{RepliesTo, SettlesTo, TakesTurn, IsOrdered};
 
@@ -61,13 +61,14 @@ impl Session {
     ) -> Result<Out, AllocError>
         requires running { IsRunning self.old }
         requires within { is_within (map entry_of committed.waiting) ≡ true }
+        requires closed { IsClosed (map entry_of (H.members holder.now)) }
         requires fits { self.old.state.gained + length committed.added < 2 ^ 32 }
         requires below { self.old.below ≤ length (H.members holder.now) }
         requires rising { IsOrdered self.old }
         ensures { IfOk result (λ out. SettlesTo (map entry_of (H.members holder.now)) (length committed.added) committed.waiting (turn_of turn) self.old self.new out) }
     {
         let first = is_first(self.role, &self.reading);
-        let both = self.sent_have && turn.have;
+        let both = have_both(self.sent_have, turn.have);
         self.keep(alloc, committed, turn.have)?;
         let own = self.own_turn(alloc, holder)?;
         let fault = late_fault(holder, self.below, &self.peer_asked, first, &turn, &own);
@@ -90,11 +91,11 @@ impl Session {
         own: Turn,
     ) -> Result<Out, AllocError>
         requires turns { self.old.state.turns ≤ MAX_TURNS }
+        requires closed { IsClosed (map entry_of (H.members holder.now)) }
         requires below { self.old.below ≤ length (H.members holder.now) }
         requires rising { IsOrdered self.old }
         ensures { IfOk result (λ out. RepliesTo (map entry_of (H.members holder.now)) first (turn_of turn) (turn_of own) self.old self.new out) }
     {
-        let len = holder.len();
         let send = self.sent(alloc, holder, first, &turn)?;
         join(&mut self.asked, own.needs.as_slice())?;
         join(&mut self.peer_asked, turn.needs.as_slice())?;
@@ -121,5 +122,12 @@ impl Session {
 fn ending(own: bool, peer: bool) -> Option<End>
     ensures { result ≡ (if own && peer then Some done else None) }
 {
-    if own && peer { Some(End::Done) } else { None }
+    if have_both(own, peer) { Some(End::Done) } else { None }
+}
+
+/// Whether both ends have all.
+fn have_both(own: bool, peer: bool) -> bool
+    ensures { result ≡ (own && peer) }
+{
+    own && peer
 }
