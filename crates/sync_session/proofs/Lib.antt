@@ -10,3 +10,4 @@ pub mod Bursts
 pub mod BurstSteps
 pub mod Turning
 pub mod Settling
+pub mod TurnTaking

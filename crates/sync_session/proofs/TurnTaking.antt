@@ -1,0 +1,76 @@
+-- A Turn, from its commit to what it leaves.
+use Rattle.std.proofs.Common.{◌≡◌, ◌≤◌, ◌<◌, ℕ, ◌+◌, Bool, true, false, not, ◌&&◌, List, [], ◌∷◌, ◌++◌, All, Contains, length, map, filter, take, Option, Some, None, refl, sym, ap, subst, ◌∙◌, arith, length-append, leb-true, le-leb}
+use Rattle.std.proofs.lemmas.List.{length-map, map-append, take-append-le}
+use Rattle.std.specs.List.{AllByRecursion}
+use Rattle.update_check.specs.Holding.{IsAdded}
+use Rattle.update_check.specs.Signed.{IsChecked}
+use Rattle.update_check.specs.declared.holder.Committed.{Committed as Answer}
+use Rattle.update_codec.specs.Parts.{entry_of}
+use Rattle.update_model.specs.declared.update_id.UpdateId.{UpdateId}
+use Rattle.update_model.specs.Batch.{Limits, Adds, not_held, fits}
+use Rattle.update_model.specs.Entry.{Entry}
+use Rattle.update_model.specs.Graph.{holds, is_within, IsClosed}
+use Rattle.update_model.specs.Rule.{RuleData}
+use Rattle.update_model.proofs.Closed.{Follows-join}
+use Rattle.session_rules.specs.declared.peer_fault.PeerFault.{PeerFault}
+use Rattle.session_rules.specs.Commit.{Added}
+use Rattle.session_rules.specs.State.{TurnData, OutData, SessionData, Turn}
+use Rattle.session_rules.specs.Steps.{turn_fault, late_fault, IsTurn, Judges, Unless, Takes}
+use Rattle.session_rules.specs.Steps as rules
+use Rattle.sync_session.specs.declared.out.Out.{Out}
+use Rattle.sync_session.specs.Kept.{Kept, emptied, out_of, seen, whole, with_commit}
+use Rattle.sync_session.specs.Turns.{SettlesTo, Stays, TakesTurn}
+
+-- the first part of a list stays as the list grows
+pub front_stays : (before added after : List (List ℕ)) (n : ℕ) → after ≡ before ++ added → n ≤ length before → take n (map entry_of after) ≡ take n (map entry_of before)
+front_stays before added after n is low =
+    let same = length-map before entry_of in
+    let within : n ≤ length (map entry_of before) = omega arith in
+    ap (λ (xs : List (List ℕ)). take n (map entry_of xs)) is ∙ ap (take n) (map-append entry_of before added) ∙ (rw take-append-le refl)
+
+-- a closed list stays closed
+pub closed_after : (limits : Limits) (before batch : List (List ℕ)) (committed : Answer) (after : List (List ℕ)) → IsAdded limits before batch committed after → IsClosed (map entry_of before) → IsClosed (map entry_of after)
+closed_after limits before batch committed after a closed =
+    subst IsClosed (sym (ap (map entry_of) a.behind ∙ map-append entry_of before a.added)) (Follows-join [] (map entry_of before) (map entry_of a.added) closed a.adds.next)
+
+judges_like : (start : List Entry) (k : Kept) (f : Option PeerFault) (s next : SessionData) (turn own : TurnData) (out : OutData) → Judges f (whole start (emptied k)) s turn own next out → Judges f (whole start k) s turn own next out
+judges_like start k (Some f) s next turn own out j = j
+judges_like start k None s next turn own out j = j
+
+-- a Turn whose commit added what could be added
+pub turn_taken : (limits : Limits) (k next : Kept) (before batch after : List (List ℕ)) (committed : Answer) (turn : TurnData) (out : Out) → turn_fault (seen before k) turn ≡ None → k.below ≤ length before
+    → batch ≡ k.pending.waiting ++ k.pending.gathered → IsAdded limits before batch committed after
+    → SettlesTo (map entry_of after) (length committed.added) committed.waiting turn (emptied k) next out → TakesTurn limits k before turn next out after
+turn_taken limits k next before batch after committed turn out none low batch_is a s =
+    subst (λ (f : Option PeerFault). Unless f (seen before k) (map entry_of before) (seen after next) (out_of (map entry_of after) out) (map entry_of after)
+        (rules.Settles limits (seen before k) (map entry_of before) turn (seen after next) (out_of (map entry_of after) out) (map entry_of after))) (sym none)
+      (Added (map entry_of a.added) (map entry_of committed.waiting), (adds, fit, behind), (s.own, is_turn, judges))
+  where
+    behind : map entry_of after ≡ map entry_of before ++ map entry_of a.added
+    behind = ap (map entry_of) a.behind ∙ map-append entry_of before a.added
+
+    adds : Adds (map entry_of before) (map entry_of k.pending.waiting ++ map entry_of k.pending.gathered) (map entry_of a.added) (map entry_of committed.waiting)
+    adds = subst (λ (es : List Entry). Adds (map entry_of before) es (map entry_of a.added) (map entry_of committed.waiting)) (ap (map entry_of) batch_is ∙ map-append entry_of k.pending.waiting k.pending.gathered) a.adds
+
+    fit : fits limits (map entry_of before ++ map entry_of a.added) ≡ true
+    fit = subst (λ (es : List Entry). fits limits es ≡ true) behind a.fit
+
+    same_start : take k.below (map entry_of after) ≡ take k.below (map entry_of before)
+    same_start = front_stays before a.added after k.below a.behind low
+
+    is_turn : IsTurn (seen before k) (map entry_of after) (map entry_of committed.waiting) s.own
+    is_turn = record { have = s.is_turn.have; needs = s.is_turn.needs }
+
+    many : length committed.added ≡ length (map entry_of a.added)
+    many = ap length a.ids ∙ length-map a.added _ ∙ sym (length-map a.added entry_of)
+
+    judges : Judges (late_fault (seen before k) turn s.own) (seen before k) (rules.committed (seen before k) turn (map entry_of a.added) (map entry_of committed.waiting)) turn s.own (seen after next) (out_of (map entry_of after) out)
+    judges =
+        subst (λ (b : ℕ). Judges (late_fault (seen before k) turn s.own) (seen before k) (rules.committed (seen before k) turn (map entry_of a.added) (map entry_of committed.waiting)) turn s.own (whole (take b (map entry_of after)) next) (out_of (map entry_of after) out))
+          (sym s.stays.below)
+          (subst (λ (n : ℕ). Judges (late_fault (seen before k) turn s.own) (seen before k) (whole (take k.below (map entry_of before)) (with_commit n committed.waiting turn.have (emptied k))) turn s.own (whole (take k.below (map entry_of after)) next) (out_of (map entry_of after) out))
+            many
+            (subst (λ (start : List Entry). Judges (late_fault (whole start k) turn s.own) (whole start k) (whole start (with_commit (length committed.added) committed.waiting turn.have (emptied k))) turn s.own (whole (take k.below (map entry_of after)) next) (out_of (map entry_of after) out))
+              same_start
+              (judges_like (take k.below (map entry_of after)) k (late_fault (whole (take k.below (map entry_of after)) k) turn s.own) (whole (take k.below (map entry_of after)) (with_commit (length committed.added) committed.waiting turn.have (emptied k)))
+                (whole (take k.below (map entry_of after)) next) turn s.own (out_of (map entry_of after) out) s.judges)))
