@@ -1,7 +1,7 @@
 -- A Turn, from its commit to what it leaves.
-use Rattle.std.proofs.Common.{◌≡◌, ◌≤◌, ◌<◌, ℕ, ◌+◌, Bool, true, false, not, ◌&&◌, List, [], ◌∷◌, ◌++◌, All, Contains, length, map, filter, take, Option, Some, None, refl, sym, ap, subst, ◌∙◌, arith, length-append, leb-true, le-leb}
+use Rattle.std.proofs.Common.{◌≡◌, ◌≤◌, ◌<◌, ℕ, suc, ◌+◌, cond, Bool, true, false, not, ◌&&◌, List, [], ◌∷◌, ◌++◌, All, Contains, length, map, filter, take, Option, Some, None, refl, sym, ap, subst, ◌∙◌, arith, length-append, leb-true, le-leb}
 use Rattle.std.proofs.lemmas.List.{length-map, map-append, take-append-le}
-use Rattle.std.specs.List.{AllByRecursion}
+use Rattle.std.proofs.lemmas.List.Sums.{sum_by-append}
 use Rattle.update_check.specs.Holding.{IsAdded}
 use Rattle.update_check.specs.Signed.{IsChecked}
 use Rattle.update_check.specs.declared.holder.Committed.{Committed as Answer}
@@ -9,10 +9,12 @@ use Rattle.update_codec.specs.Parts.{entry_of}
 use Rattle.update_model.specs.declared.update_id.UpdateId.{UpdateId}
 use Rattle.update_model.specs.Batch.{Limits, Adds, not_held, fits}
 use Rattle.update_model.specs.Entry.{Entry}
-use Rattle.update_model.specs.Graph.{holds, is_within, IsClosed}
+use Rattle.update_model.specs.Graph.{holds, is_within, byte_count, IsClosed}
 use Rattle.update_model.specs.Rule.{RuleData}
 use Rattle.update_model.proofs.Closed.{Follows-join}
 use Rattle.session_rules.specs.declared.peer_fault.PeerFault.{PeerFault}
+use Rattle.session_rules.proofs.Words.{and_both, and_join}
+use Rattle.update_model.specs.declared.limits.TheConstants.{MAX_BYTES, MAX_MEMBERS}
 use Rattle.session_rules.specs.Commit.{Added}
 use Rattle.session_rules.specs.State.{TurnData, OutData, SessionData, Turn}
 use Rattle.session_rules.specs.Steps.{turn_fault, late_fault, IsTurn, Judges, Unless, Takes}
@@ -74,3 +76,26 @@ turn_taken limits k next before batch after committed turn out none low batch_is
               same_start
               (judges_like (take k.below (map entry_of after)) k (late_fault (whole (take k.below (map entry_of after)) k) turn s.own) (whole (take k.below (map entry_of after)) (with_commit (length committed.added) committed.waiting turn.have (emptied k)))
                 (whole (take k.below (map entry_of after)) next) turn s.own (out_of (map entry_of after) out) s.judges)))
+
+byte_fewer : (p : Entry → Bool) (es : List Entry) → (length (filter p es) ≤ length es) × (byte_count (filter p es) ≤ byte_count es)
+byte_fewer p [] = (omega arith, omega arith)
+byte_fewer p (e ∷ es) =
+    let rest = byte_fewer p es in let few = rest.0 in let small = rest.1 in
+    let kept = sum_by-append (λ (m : Entry). length m.bytes) (e ∷ []) (filter p es) in
+    let all = sum_by-append (λ (m : Entry). length m.bytes) (e ∷ []) es in
+    elim (p e) as (λ b. (length (cond b (e ∷ filter p es) (filter p es)) ≤ suc (length es)) × (byte_count (cond b (e ∷ filter p es) (filter p es)) ≤ byte_count (e ∷ es))) [
+      | true ↦ (omega arith, let more : byte_count (e ∷ filter p es) ≤ byte_count (e ∷ es) = omega arith in more)
+      | false ↦ (omega arith, let more : byte_count (filter p es) ≤ byte_count (e ∷ es) = omega arith in more)
+    ]
+
+-- what waits of a batch is within the limits where the batch is
+pub waits_within : (limits : Limits) (before batch w g : List (List ℕ)) (committed : Answer) (after : List (List ℕ)) → IsAdded limits before batch committed after → batch ≡ w ++ g
+    → is_within (map entry_of w ++ map entry_of g) ≡ true → is_within (map entry_of committed.waiting) ≡ true
+waits_within limits before batch w g committed after a is within =
+    let whole_batch : map entry_of batch ≡ map entry_of w ++ map entry_of g = ap (map entry_of) is ∙ map-append entry_of w g in
+    let parts = and_both _ _ (subst (λ (es : List Entry). is_within es ≡ true) (sym whole_batch) within) in
+    let fewer = byte_fewer (λ e. not (holds (map entry_of before ++ map entry_of a.added) e.id)) (map entry_of batch) in
+    let members = leb-true (length (map entry_of batch)) MAX_MEMBERS parts.0 in
+    let bytes = leb-true (byte_count (map entry_of batch)) MAX_BYTES parts.1 in
+    let few = fewer.0 in let small = fewer.1 in
+    subst (λ (es : List Entry). is_within es ≡ true) (sym a.adds.rest) (and_join _ _ (le-leb (length (not_held (map entry_of before ++ map entry_of a.added) (map entry_of batch))) MAX_MEMBERS (omega arith)) (le-leb (byte_count (not_held (map entry_of before ++ map entry_of a.added) (map entry_of batch))) MAX_BYTES (omega arith)))
