@@ -11,3 +11,4 @@ pub mod BurstSteps
 pub mod Turning
 pub mod Settling
 pub mod TurnTaking
+pub mod Stepping

@@ -13,6 +13,7 @@ mod pending;
 mod reading;
 mod session;
 mod settle;
+mod step;
 mod turn;
 
 pub use checked_frame::CheckedFrame;

@@ -120,6 +120,7 @@ impl Session {
         ensures takes { IfOk result (λ out. (limits : Limits) (start list : List Entry) →
             Takes limits (whole start self.old) list (item (entry_of update)) (whole start self.new) (out_of list out) list) }
         ensures stands { OnOk result ((rule : RuleData) (members : List (List ℕ)) → IsChecked rule update → Stands rule self.old members → Stands rule self.new members) }
+        ensures below { OnOk result (self.new.below ≡ self.old.below) }
         ensures failed { OnOk result (self.new.failed ≡ self.old.failed) }
     {
         let id = update.id();
@@ -142,6 +143,7 @@ impl Session {
         ensures takes { (limits : Limits) (start list : List Entry) →
             Takes limits (whole start self.old) list (bad_item (number_of fault)) (whole start self.new) (out_of list result) list }
         ensures stands { (rule : RuleData) (members : List (List ℕ)) → Stands rule self.old members → Stands rule self.new members }
+        ensures below { self.new.below ≡ self.old.below }
         ensures failed { self.new.failed ≡ self.old.failed }
     {
         if takes_item(&self.reading, self.items) {
