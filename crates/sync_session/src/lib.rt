@@ -1,6 +1,7 @@
 //! One end of a session.
 #![tactic(auto)]
 
+mod answers;
 mod checked_frame;
 mod frames;
 mod greeting;
@@ -13,6 +14,7 @@ mod pending;
 mod reading;
 mod session;
 mod settle;
+mod start;
 mod step;
 mod turn;
 
