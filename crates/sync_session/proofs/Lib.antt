@@ -12,3 +12,4 @@ pub mod Turning
 pub mod Settling
 pub mod TurnTaking
 pub mod Stepping
+pub mod Starting
