@@ -9,3 +9,6 @@ mod Paths
 mod Scans
 mod Askings
 mod Restricts
+mod Refusals
+mod Taken
+mod Unlimited

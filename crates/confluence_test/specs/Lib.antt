@@ -1,3 +1,5 @@
 pub mod Findings
 pub mod Plans
+pub mod Refusing
+pub mod Taking
 pub mod Tests

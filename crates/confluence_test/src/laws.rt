@@ -1,17 +1,21 @@
 //! Laws of the test. Each function does nothing: its contract is a theorem for callers to cite.
 
-ghost use Rattle.std.specs.Prelude.{ℕ, List, [], IsTrue};
+ghost use Rattle.std.specs.Prelude.{◌≡◌, ℕ, List, [], IsTrue};
+ghost use Rattle.std.specs.List.{list_all};
 ghost use Rattle.table_model.specs.declared.counterexample.Counterexample.{Counterexample};
 ghost use Rattle.table_model.specs.declared.invariant.Invariant.{Invariant};
-ghost use Rattle.table_model.specs.Confluence.{confirms};
+ghost use Rattle.table_model.specs.Confluence.{are_accepted, confirms};
 ghost use Rattle.schema.specs.Samples.{SamplesPass};
-ghost use Rattle.table_model.specs.Invariants.{claims_of};
+ghost use Rattle.table_model.specs.Invariants.{claims_of, invariants_of};
 ghost use Rattle.schema.specs.Schemas.{Declares, Meaning, SchemaData};
 ghost use Rattle.schema.specs.Sound.{AreTables};
 ghost use Rattle.table_model.specs.Visible.{Rules, rules_with};
+ghost use Rattle.table_model.specs.Verdicts.{is_unlimited};
+ghost use Rattle.confluence_test.specs.declared.refusal.SchemaRefusal.{SchemaRefusal};
+ghost use Rattle.confluence_test.specs.Taking.{RefusesSchema, TakesSchema};
 ghost use Rattle.confluence_test.specs.Tests.{IsRefused};
 
-use schema::{declared_is_sound, declared_samples_pass};
+use schema::{declared_is_sound, declared_samples_pass, no_fault, one_fault, one_schema};
 use table_model::first_refused_is_confirmed;
 
 /// The counterexample of a refusal confirms, whatever native checks mean, as long as the samples pass: both of its sides are
@@ -34,4 +38,27 @@ pub fn declared_refusal_is_confirmed()
     declared_is_sound();
     declared_samples_pass();
     refused_is_confirmed();
+}
+
+/// Where every invariant is accepted, no table has a `UNIQUE` or an `ATMOST`.
+pub fn accepted_is_unlimited()
+    ensures { (rules : Rules) → IsTrue (are_accepted rules (invariants_of rules)) → IsTrue (list_all is_unlimited rules.tables) }
+{}
+
+/// A text that is taken is not refused.
+pub fn taken_or_refused()
+    ensures { (ask : Meaning) (text : List ℕ) (schema : SchemaData) (refusal : SchemaRefusal) → TakesSchema ask text schema → RefusesSchema ask text refusal → ⊥ }
+{
+    no_fault();
+    one_fault();
+    one_schema();
+}
+
+/// A text is refused for one reason.
+pub fn refused_once()
+    ensures { (ask : Meaning) (text : List ℕ) (refusal other : SchemaRefusal) → RefusesSchema ask text refusal → RefusesSchema ask text other → refusal ≡ other }
+{
+    no_fault();
+    one_fault();
+    one_schema();
 }

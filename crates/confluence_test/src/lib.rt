@@ -10,6 +10,8 @@
 //! module `needs`). For a `RESTRICT` it has also a path: rows along which a row vanishes when the one at the end is
 //! deleted (`path`).
 //!
+//! [`take_schema`] reads the text of a schema and tests what it declares.
+//!
 //! ```text
 //! match test(alloc, &schema)? {
 //!     Tested::Accepted => ..,
@@ -28,10 +30,17 @@ mod needs;
 mod nodes;
 mod path;
 mod permanence;
+mod refusal;
 mod scanning;
+mod taking;
 mod tested;
 mod testing;
 
-pub use laws::{declared_refusal_is_confirmed, refused_is_confirmed};
+pub use laws::{
+    accepted_is_unlimited, declared_refusal_is_confirmed, refused_is_confirmed, refused_once,
+    taken_or_refused,
+};
+pub use refusal::SchemaRefusal;
+pub use taking::take_schema;
 pub use tested::Tested;
 pub use testing::test;

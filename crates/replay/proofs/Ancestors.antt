@@ -21,7 +21,7 @@ use Rattle.replay.proofs.Places.{IsAt, at_below, at_held, other_id, same_place}
 pub record IsPlaced (place : UpdateId → Option ℕ) (ns : List NodeData) : Type 0 where
   pub at : (id : UpdateId) → holds ns id ≡ true → (k : ℕ) × (place id ≡ Some k) × IsAt ns id k
 
-placed_older : (place : UpdateId → Option ℕ) (n : NodeData) (older : List NodeData) → IsNext older n → IsPlaced place (n ∷ older) → IsPlaced place older
+pub placed_older : (place : UpdateId → Option ℕ) (n : NodeData) (older : List NodeData) → IsNext older n → IsPlaced place (n ∷ older) → IsPlaced place older
 placed_older place n older next p = record {
   at = λ id held.
       let there = p.at id (or_right (same_id id n.id) _ held) in (

@@ -1,4 +1,3 @@
-mod Ancestors
-mod Arriving
-mod Places
-mod Results
+pub mod Ancestors
+pub mod Arriving
+pub mod Places

@@ -1,9 +1,9 @@
-ghost use Rattle.std.specs.Prelude.{◌≡◌, ◌+◌, ◌<◌, length, map, option_map, reverse, slice_get, Some, IsTrue, IfOk, OnOk};
+ghost use Rattle.std.specs.Prelude.{◌≡◌, ◌+◌, ◌<◌, length, map, option_map, reverse, slice_get, Some, IsTrue, IfOk, OnErr, OnOk};
 ghost use Rattle.std.specs.List.{filter_map, list_all};
 ghost use Rattle.update_check.specs.Signed.{node_of};
 ghost use Rattle.table_model.specs.Verdicts.{is_unlimited, judge_next, judged};
 ghost use Rattle.tuple_state.specs.State.{IsStateOf};
-ghost use Rattle.replay.specs.Arrivals.{nodes_before, place_in, places_before};
+ghost use Rattle.replay.specs.Arrivals.{IsVerdictAt, nodes_before, place_in, places_before};
 
 use ancestry::Ancestry;
 use hash_graph::Graph;
@@ -45,8 +45,9 @@ pub fn replay<L: Relation, C: Checks<L>>(
     Ok(tables)
 }
 
-/// Takes the member at this position, where those before it are taken.
-fn take_next<L: Relation, C: Checks<L>>(
+/// Takes the member at this position, where those before it are taken, and answers the verdict on it. After want of memory
+/// nothing has changed.
+pub fn take_next<L: Relation, C: Checks<L>>(
     alloc: Global,
     schema: &Schema,
     native: &Native<L, C>,
@@ -54,15 +55,45 @@ fn take_next<L: Relation, C: Checks<L>>(
     position: u32,
     tables: &mut Tables,
     ancestry: &mut Ancestry,
-) -> Result<(), AllocError>
+) -> Result<Verdict, AllocError>
     requires unlimited { IsTrue (list_all is_unlimited schema.now.tables) }
     requires low { position < length graph.now }
     requires state { IsStateOf (record { tables = schema.now.tables; ask = L.answer }) (nodes_before graph.now position) tables.old }
     requires places { ancestry.old ≡ places_before graph.now position }
     ensures state { OnOk result (IsStateOf (record { tables = schema.now.tables; ask = L.answer }) (nodes_before graph.now (position + 1)) tables.new) }
     ensures places { OnOk result (ancestry.new ≡ places_before graph.now (position + 1)) }
+    ensures verdict { IfOk result (IsVerdictAt (record { tables = schema.now.tables; ask = L.answer }) graph.now position) }
+    ensures same_state { OnErr result (tables.new ≡ tables.old) }
+    ensures same_places { OnErr result (ancestry.new ≡ ancestry.old) }
 {
     take_places(alloc, graph, position, ancestry)?;
+    match take_verdict(alloc, schema, native, graph, position, tables, ancestry) {
+        Ok(verdict) => Ok(verdict),
+        Err(full) => {
+            ancestry.cut(position);
+            Err(full)
+        }
+    }
+}
+
+/// Judges the member at this position, whose predecessors' positions are taken, and applies it to the tables.
+fn take_verdict<L: Relation, C: Checks<L>>(
+    alloc: Global,
+    schema: &Schema,
+    native: &Native<L, C>,
+    graph: &Graph<Checked>,
+    position: u32,
+    tables: &mut Tables,
+    ancestry: &Ancestry,
+) -> Result<Verdict, AllocError>
+    requires unlimited { IsTrue (list_all is_unlimited schema.now.tables) }
+    requires low { position < length graph.now }
+    requires state { IsStateOf (record { tables = schema.now.tables; ask = L.answer }) (nodes_before graph.now position) tables.old }
+    requires places { ancestry.now ≡ places_before graph.now (position + 1) }
+    ensures state { OnOk result (IsStateOf (record { tables = schema.now.tables; ask = L.answer }) (nodes_before graph.now (position + 1)) tables.new) }
+    ensures verdict { IfOk result (IsVerdictAt (record { tables = schema.now.tables; ask = L.answer }) graph.now position) }
+    ensures same { OnErr result (tables.new ≡ tables.old) }
+{
     let node = graph.at(position).node(alloc)?;
     let verdict = judge_next(
         alloc, schema, native, graph, position, &node, tables, ancestry,
@@ -70,7 +101,10 @@ fn take_next<L: Relation, C: Checks<L>>(
     arrivals_are_closed();
     applied_is_next();
     graph.len();
-    tables.apply(node, verdict)
+    match tables.apply(node, verdict) {
+        Ok(()) => Ok(verdict),
+        Err(full) => Err(full),
+    }
 }
 
 /// Takes the positions of the predecessors of the member at this position.
@@ -82,7 +116,8 @@ fn take_places(
 ) -> Result<(), AllocError>
     requires low { position < length graph.now }
     requires places { ancestry.old ≡ places_before graph.now position }
-    ensures { OnOk result (ancestry.new ≡ places_before graph.now (position + 1)) }
+    ensures places { OnOk result (ancestry.new ≡ places_before graph.now (position + 1)) }
+    ensures same { OnErr result (ancestry.new ≡ ancestry.old) }
 {
     arrivals_are_closed();
     graph.len();

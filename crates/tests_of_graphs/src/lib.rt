@@ -4,6 +4,8 @@
 #[cfg(test)]
 mod ancestors;
 #[cfg(test)]
+mod batches;
+#[cfg(test)]
 mod heads;
 #[cfg(test)]
 mod summaries;

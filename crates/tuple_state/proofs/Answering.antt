@@ -50,7 +50,7 @@ each_filtered P p (x ∷ xs) h =
     let rest = each_filtered P p xs h.1 in
     elim (p x) as (λ b. AllByRecursion P (cond b (x ∷ filter p xs) (filter p xs))) [ true ↦ (h.0, rest) | false ↦ rest ]
 
-at_member : {X : Type 0} (P : X → Type 0) (xs : List X) (x : X) → AllByRecursion P xs → Contains xs x → P x
+pub at_member : {X : Type 0} (P : X → Type 0) (xs : List X) (x : X) → AllByRecursion P xs → Contains xs x → P x
 at_member P xs x h m = All-contains P xs x (All-from_recursion P xs h) m
 
 pub visible_once : (rules : Rules) (g : Effects) → are_layered rules g.inserted ≡ true → (a b : TableRow) → Contains (visible_rows rules g) a → Contains (visible_rows rules g) b

@@ -27,7 +27,7 @@ count_of_kept t k (x ∷ xs) =
     ] in
     step (k x) ∙ sym (sum_by-cons (λ y. cond (k y && t y) 1 0) x xs)
 
-count_reversed : {X : Type 0} (t : X → Bool) (xs : List X) → count_by t (reverse xs) ≡ count_by t xs
+pub count_reversed : {X : Type 0} (t : X → Bool) (xs : List X) → count_by t (reverse xs) ≡ count_by t xs
 count_reversed t [] = refl
 count_reversed t (x ∷ xs) =
     let pushed : count_by t (reverse (x ∷ xs)) ≡ count_by t (reverse xs) + cond (t x) 1 0 = ap (count_by t) (reverse_cons x xs) ∙ sum_by_push (λ y. cond (t y) 1 0) (reverse xs) x in
@@ -35,7 +35,7 @@ count_reversed t (x ∷ xs) =
     let rest = count_reversed t xs in
     omega (arith, pushed, front, rest)
 
-count_mapped : {X Y : Type 0} (f : X → Y) (t : Y → Bool) (xs : List X) → count_by t (map f xs) ≡ count_by (λ x. t (f x)) xs
+pub count_mapped : {X Y : Type 0} (f : X → Y) (t : Y → Bool) (xs : List X) → count_by t (map f xs) ≡ count_by (λ x. t (f x)) xs
 count_mapped f t [] = refl
 count_mapped f t (x ∷ xs) =
     sum_by-cons (λ y. cond (t y) 1 0) (f x) (map f xs) ∙ ap (λ n. cond (t (f x)) 1 0 + n) (count_mapped f t xs) ∙ sym (sum_by-cons (λ y. cond (t (f y)) 1 0) x xs)

@@ -1,6 +1,6 @@
 -- The updates that delete a row are found by its place.
-use Rattle.std.proofs.Common.{◌≡◌, ℕ, zero, suc, ◌+◌, ◌<◌, ◌≤◌, ◌==◌, Bool, true, false, cond, ◌&&◌, ◌||◌, List, [], ◌∷◌, ◌++◌, length, get_or, map, reverse, take, refl, sym, ap, ◌∙◌, subst, Option, Some, None, nat_lt, inl, inr, arith}
-use Rattle.std.specs.Prelude.{slice_get, is_some, Result, Ok, Err, is_err, MatchResult}
+use Rattle.std.proofs.Common.{◌≡◌, ℕ, zero, suc, ◌+◌, ◌<◌, Bool, true, false, cond, ◌&&◌, ◌||◌, List, [], ◌∷◌, ◌++◌, length, get_or, map, reverse, take, refl, sym, ap, ◌∙◌, Option, Some, None, inl, inr, arith}
+use Rattle.std.specs.Prelude.{is_some, Result, Ok, Err, is_err, MatchResult}
 use Rattle.std.specs.List.{list_all, list_any, position_from}
 use Rattle.std.proofs.lemmas.Bool.{and_parts, and_from, both_ways, cases_Bool, eqb-true, eq-eqb, false_from_ne_true}
 use Rattle.std.proofs.lemmas.Bool.Decides.{nat_tests}
@@ -20,12 +20,12 @@ use Rattle.tuple_state.proofs.Linking.{numbers_cons}
 use Rattle.tuple_state.proofs.Lookups.{named_reversed, reverse_cons, row_found}
 
 -- the parts of a link and a deletion side by side
-record IsPair (place : RowName → Option ℕ) (link : Link) (drop : Dropped) (links : List Link) (dropped : List Dropped) : Type 0 where
-  at : Some link.place ≡ place drop.name
-  number : link.number ≡ drop.position
-  rest : pairs_of links ≡ deletes_at place dropped
+pub record IsPair (place : RowName → Option ℕ) (link : Link) (drop : Dropped) (links : List Link) (dropped : List Dropped) : Type 0 where
+  pub at : Some link.place ≡ place drop.name
+  pub number : link.number ≡ drop.position
+  pub rest : pairs_of links ≡ deletes_at place dropped
 
-pair_parts : (place : RowName → Option ℕ) (link : Link) (drop : Dropped) (links : List Link) (dropped : List Dropped) → pairs_of (link ∷ links) ≡ deletes_at place (drop ∷ dropped) → IsPair place link drop links dropped
+pub pair_parts : (place : RowName → Option ℕ) (link : Link) (drop : Dropped) (links : List Link) (dropped : List Dropped) → pairs_of (link ∷ links) ≡ deletes_at place (drop ∷ dropped) → IsPair place link drop links dropped
 pair_parts place link drop links dropped h =
     let T : Type 0 = Option ℕ × ℕ in
     let head : List T → T → T = λ l d. get_or l 0 d in
@@ -46,7 +46,7 @@ and_false false = refl
 
 module _ (rows : List Inserted) (past : ℕ → Bool) (place : ℕ) (name : RowName) (found : place_of rows name ≡ Some place) where
   -- a name at the same place is the same
-  one_name : (other : RowName) → place_of rows other ≡ Some place → name ≡ other
+  pub one_name : (other : RowName) → place_of rows other ≡ Some place → name ≡ other
   one_name other h =
       let a = row_found rows name place found in
       let b = row_found rows other place h in

@@ -17,7 +17,8 @@ use Rattle.tuple_state.specs.Kept.{place_of}
 use Rattle.tuple_state.specs.Parents.{all_parents, columns_at, passes_place}
 use Rattle.tuple_state.specs.Past.{done_then}
 use Rattle.tuple_state.specs.State.{State, row_of, rules_with}
-use Rattle.tuple_state.proofs.Lookups.{any_mapped, any_reversed, get_or_from}
+use Rattle.table_model.proofs.Members.{any_mapped, any_reversed}
+use Rattle.tuple_state.proofs.Lookups.{get_or_from}
 use Rattle.tuple_state.proofs.Marking.{slice_get_from}
 use Rattle.update_model.specs.declared.value.Value.{Value}
 use Rattle.tuple_state.proofs.Marks.{cascade_are}

@@ -1,23 +1,33 @@
 -- Tables before any update.
-use Rattle.std.proofs.Common.{◌≡◌, ℕ, List, [], refl, ap, arith}
+use Rattle.std.proofs.Common.{◌≡◌, ℕ, List, [], length, refl, ap, arith}
+use Rattle.std.specs.Prelude.{count_by}
 use Rattle.std.specs.BTreeMap.{BTreeMap, is_at}
 use Rattle.std.specs.Map.{lookup}
 use Rattle.update_model.specs.declared.row_name.RowName.{RowName}
 use Rattle.schema.specs.declared.column.Column.{Column}
 use Rattle.table_model.specs.Tables.{name_cmp}
+use Rattle.tuple_state.specs.Causes.{absent_times, parents_from}
 use Rattle.tuple_state.specs.Kept.{IsKept, are_layered, pairs_of}
-use Rattle.tuple_state.specs.Links.{Linked}
+use Rattle.tuple_state.specs.Links.{Linked, is_of}
 
-pub kept_new : (columns : List (List Column)) (places : BTreeMap RowName ℕ) (deleters : Linked) → places.entries ≡ [] → deleters ≡ record { size = 0; links = [] }
-    → IsKept (record { columns = columns; count = 0; inserted = []; dropped = []; voids = [] }) places [] deleters
-unfolding are_layered
-kept_new columns places deleters none empty = record {
+pub kept_new : (columns : List (List Column)) (places : BTreeMap RowName ℕ) (children deleters : Linked) → places.entries ≡ [] → children ≡ record { size = 0; links = [] } → deleters ≡ record { size = 0; links = [] }
+    → IsKept (record { columns = columns; count = 0; inserted = []; dropped = []; voids = [] }) places [] children deleters
+unfolding are_layered parents_from
+kept_new columns places children deleters none childless empty = record {
   few = omega arith;
   bounded = λ len. omega arith;
   dated = refl;
   layered = refl;
   placed = λ name. ap (lookup (is_at (name_cmp name))) none;
-  marked = refl;
+  each = refl;
+  counted = λ k.
+      let a = ap (λ (d : Linked). count_by (is_of k) d.links) empty in
+      let b = ap (λ (d : Linked). absent_times d.links [] k) childless in
+      omega (arith, a, b);
+  homes = ap (λ (d : Linked). d.size) childless;
+  named = ap (λ (d : Linked). pairs_of d.links) childless;
   rooms = ap (λ (d : Linked). d.size) empty;
+  few_children = let l = ap (λ (d : Linked). length d.links) childless in omega (arith, l);
+  few_deleters = let l = ap (λ (d : Linked). length d.links) empty in omega (arith, l);
   deleted = ap (λ (d : Linked). pairs_of d.links) empty;
 }

@@ -1,14 +1,13 @@
 -- What the first updates left.
-use Rattle.std.proofs.Common.{◌≡◌, ℕ, zero, suc, ◌+◌, ◌*◌, ◌<◌, ◌≤◌, ◌==◌, ◌⊎◌, Bool, true, false, cond, not, ◌&&◌, List, [], ◌∷◌, ◌++◌, length, get_or, map, reverse, take, drop, refl, sym, ap, ◌∙◌, subst, append_assoc, length-append, Option, Some, None, nat_lt, inl, inr, arith}
-use Rattle.std.specs.Prelude.{count_by, slice_get}
-use Rattle.std.specs.List.{list_all, list_any}
+use Rattle.std.proofs.Common.{◌≡◌, ℕ, zero, suc, ◌+◌, ◌*◌, ◌<◌, ◌≤◌, ◌==◌, ◌⊎◌, Bool, true, false, cond, not, List, [], ◌∷◌, ◌++◌, length, map, reverse, take, drop, refl, sym, ap, ◌∙◌, append_assoc, length-append, nat_lt, inl, inr, arith}
+use Rattle.std.specs.Prelude.{count_by}
+use Rattle.std.specs.List.{list_all}
 use Rattle.std.proofs.lemmas.Bool.{and_parts, and_from, eqb-true, eq-eqb}
 use Rattle.std.proofs.lemmas.Bool.Decides.{nat_tests}
-use Rattle.std.proofs.lemmas.List.{append-nil, length-map}
+use Rattle.std.proofs.lemmas.List.{append-nil}
 use Rattle.std.proofs.lemmas.List.Sums.{sum_by-cons}
 use Rattle.update_model.specs.declared.row_name.RowName.{RowName}
 use Rattle.update_model.specs.Node.{NodeData}
-use Rattle.schema.specs.declared.column.Column.{Column}
 use Rattle.table_model.specs.declared.verdict.Verdict.{Verdict}
 use Rattle.table_model.specs.declared.verdict.Verdict.TheVariants as verdict
 use Rattle.table_model.specs.Nodes.{IsClosed}
@@ -18,7 +17,7 @@ use Rattle.table_model.proofs.Founded.{all-append, all_weaker}
 use Rattle.tuple_state.specs.declared.dropped.Dropped.{Dropped}
 use Rattle.tuple_state.specs.declared.inserted.Inserted.{Inserted}
 use Rattle.tuple_state.specs.declared.voided.Voided.{Voided}
-use Rattle.tuple_state.specs.State.{IsStateOf, State, after, dropped_at, empty_state, inserted_at, state_of}
+use Rattle.tuple_state.specs.State.{State, after, dropped_at, empty_state, inserted_at, state_of}
 use Rattle.tuple_state.proofs.Effects.{count_is}
 
 -- ---- counts of what comes first

@@ -1,10 +1,10 @@
 -- What tables keep after one more update.
-use Rattle.std.proofs.Common.{◌≡◌, ℕ, suc, ◌+◌, ◌<◌, ◌≤◌, Bool, true, false, not, ◌&&◌, ◌⊎◌, List, [], ◌∷◌, ◌++◌, length, get_or, map, reverse, replicate, length-append, refl, ap, ◌∙◌, Some, arith}
-use Rattle.std.specs.Prelude.{is_some, slice_get}
-use Rattle.std.specs.List.{list_any, list_all}
+use Rattle.std.proofs.Common.{◌≡◌, ℕ, zero, suc, ◌+◌, ◌<◌, ◌≤◌, ◌==◌, true, not, ◌&&◌, List, [], ◌∷◌, ◌++◌, length, get_or, map, reverse, replicate, zero-add, refl, sym, ap, ◌∙◌, Some, arith}
+use Rattle.std.specs.Prelude.{count_by, is_some}
+use Rattle.std.specs.List.{list_all}
 use Rattle.std.specs.BTreeMap.{get, BTreeMap}
 use Rattle.std.proofs.lemmas.Bool.{and_parts}
-use Rattle.std.proofs.lemmas.List.{length-map, length-reverse}
+use Rattle.std.proofs.lemmas.List.{length-map, length-reverse, map-append}
 use Rattle.update_model.specs.declared.op.Op.{Op}
 use Rattle.update_model.specs.declared.op.Op.TheVariants.{Insert, Delete}
 use Rattle.update_model.specs.declared.row_name.RowName.{RowName}
@@ -13,22 +13,23 @@ use Rattle.table_model.specs.declared.verdict.Verdict.{Verdict}
 use Rattle.table_model.specs.declared.verdict.Verdict.TheVariants as verdict
 use Rattle.table_model.specs.Tables.{name_cmp}
 use Rattle.table_model.specs.Verdicts.{effects_after, effects_in, effects_of, nothing, row_inserted}
-use Rattle.table_model.specs.Visible.{Effects, Rules, is_visible, same_row, table_of}
+use Rattle.table_model.specs.Visible.{Effects, Rules, same_row, table_of}
 use Rattle.table_model.proofs.Order.{any_weaker}
 use Rattle.table_model.proofs.Founded.{all_weaker, erasable, founded_closed}
 use Rattle.tuple_state.specs.declared.dropped.Dropped.{Dropped}
 use Rattle.tuple_state.specs.declared.inserted.Inserted.{Inserted}
 use Rattle.tuple_state.specs.Kept.{IsKept, are_layered, deletes_at, is_named, pairs_of, place_of}
-use Rattle.tuple_state.specs.Links.{Linked}
-use Rattle.tuple_state.specs.Parents.{Continues}
+use Rattle.tuple_state.specs.Causes.{AreRising, absent_times, parents_from}
+use Rattle.tuple_state.specs.Links.{Linked, are_inside, is_of}
+use Rattle.tuple_state.specs.declared.links.Link.{Link}
 use Rattle.tuple_state.specs.Past.{IsNextVerdict}
 use Rattle.tuple_state.specs.State.{IsStateOf, State, after, done_in, dropped_at, inserted_at, rules_of, state_of}
+use Rattle.tuple_state.proofs.Adding.{NamesRise, all_rise, names_found, news_rise, parents-append, rising_inside, rising_links}
 use Rattle.tuple_state.proofs.Fronts.{bounded_next, dated_next}
 use Rattle.tuple_state.proofs.Deleting.{deleted_next, drops_found}
 use Rattle.tuple_state.proofs.Effects.{count_is}
 use Rattle.tuple_state.proofs.Layers.{layered_founded, same_layered}
 use Rattle.tuple_state.proofs.Lookups.{columns_same, did_same}
-use Rattle.tuple_state.proofs.Regrowth.{continues}
 
 pub state_next : (state : State) (node : NodeData) (v : Verdict) → (next : IsNextVerdict state node v) → IsStateOf next.rules (node ∷ next.nodes) (after state node v)
 unfolding state_of
@@ -57,13 +58,14 @@ few_inserted node number did (Delete name ∷ ops) = let rest = few_inserted nod
 pub count_next : (state : State) (node : NodeData) (v : Verdict) → IsNextVerdict state node v → state.count < 131072
 count_next state node v next = let c = ap (λ (s : State). s.count) next.is.is ∙ count_is next.rules next.nodes in omega (arith, c, next.few)
 
-pub marks_are : (rows : List Inserted) (shown : List Bool) (f : Inserted → Bool) → length shown ≡ length rows → ((k : ℕ) (it : Inserted) → slice_get rows k ≡ Some it → get_or shown k false ≡ f it) → shown ≡ map f rows
-marks_are [] [] f len h = refl
-marks_are [] (b ∷ shown) f len h = absurd (omega (arith, len))
-marks_are (row ∷ rows) [] f len h = absurd (omega (arith, len))
-marks_are (row ∷ rows) (b ∷ shown) f len h = λ i. h 0 row refl i ∷ marks_are rows shown f (omega (arith, len)) (λ k it at. h (suc k) it at) i
+padded : (xs : List ℕ) (m k : ℕ) → get_or (xs ++ replicate m 0) k 0 ≡ get_or xs k 0
+padded [] zero k = refl
+padded [] (suc m) zero = refl
+padded [] (suc m) (suc k) = padded [] m k
+padded (x ∷ xs) m zero = refl
+padded (x ∷ xs) m (suc k) = padded xs m k
 
-module _ (state : State) (node : NodeData) (places : BTreeMap RowName ℕ) (shown : List Bool) (deleters : Linked) (kept : IsKept state places shown deleters) (next : IsNextVerdict state node verdict.Valid) where
+module _ (state : State) (node : NodeData) (places : BTreeMap RowName ℕ) (causes : List ℕ) (children deleters : Linked) (kept : IsKept state places causes children deleters) (next : IsNextVerdict state node verdict.Valid) where
   abbrev news : List Inserted
   news = map (inserted_at state.count) (reverse (effects_of node).inserted)
 
@@ -76,7 +78,7 @@ module _ (state : State) (node : NodeData) (places : BTreeMap RowName ℕ) (show
   count_few : state.count < 131072
   count_few = let c = ap (λ (s : State). s.count) next.is.is ∙ count_is next.rules next.nodes in omega (arith, c, next.few)
 
-  news_few : IsNode node → length news ≤ 256
+  pub news_few : IsNode node → length news ≤ 256
   news_few small =
       let a = length-map (reverse (effects_of node).inserted) (inserted_at state.count) in
       let b = length-reverse (effects_of node).inserted in
@@ -87,25 +89,62 @@ module _ (state : State) (node : NodeData) (places : BTreeMap RowName ℕ) (show
   pub drops_there : list_all (λ (d : Dropped). is_some (place_of (state.inserted ++ news) d.name)) drops ≡ true
   drops_there = drops_found (state.inserted ++ news) state.dropped drops (homed_now next.rules (node ∷ next.nodes) (after state node verdict.Valid) (state_next state node verdict.Valid next))
 
-  -- what is kept after a valid update
-  pub kept_next : IsNode node → (after_places : BTreeMap RowName ℕ) (m : ℕ) (marked : List Bool)
-      → ((name : RowName) → get name_cmp after_places name ≡ place_of (state.inserted ++ news) name)
-      → m ≡ length news
-      → ((test : RowName → Bool) → ((from : ℕ) (hidden : List Bool) → ((from ≡ 0) ⊎ ((from ≡ length state.inserted) × (drops ≡ [])))
-      → ((k : ℕ) (it : Inserted) → slice_get (state.inserted ++ news) k ≡ Some it → get_or hidden k false ≡ (get_or (shown ++ replicate m true) k false && not (list_any (λ (d : Dropped). same_row d.name it.name) drops)))
-      → Continues (rules_of state) (state.inserted ++ news) from hidden test) → (k : ℕ) (it : Inserted) → slice_get (state.inserted ++ news) k ≡ Some it → get_or marked k false ≡ test it.name)
-      → length marked ≡ length (state.inserted ++ news)
-      → (after_deleters : Linked) → after_deleters.size ≡ deleters.size + length news → pairs_of after_deleters.links ≡ pairs_of deleters.links ++ deletes_at (place_of (state.inserted ++ news)) drops
-      → IsKept (after state node verdict.Valid) after_places marked after_deleters
-  kept_next small after_places m marked placed enough marks len after_deleters rooms added = record {
-    few = omega (arith, count_few);
-    bounded = λ len. bounded_next state.inserted (reverse (effects_of node).inserted) state.count len kept.dated kept.bounded (news_few small);
-    dated = dated_next state.inserted (reverse (effects_of node).inserted) state.count kept.dated;
-    layered = layered_next;
-    placed = placed;
-    rooms = let l = length-append state.inserted news in omega (arith, rooms, kept.rooms, l);
-    deleted = deleted_next state.inserted news state.dropped drops deleters.links after_deleters.links kept.deleted added;
-    marked = marks_are (state.inserted ++ news) marked (λ it. is_visible (rules_of state) (done_in (after state node verdict.Valid)) it.name) len
-        (marks (is_visible (rules_of state) (done_in (after state node verdict.Valid)))
-        (λ from hidden start hid. continues state.columns state.inserted news state.dropped drops from m shown hidden layered_next (homed_now next.rules next.nodes state next.is) kept.marked enough hid start));
-  }
+  abbrev whole : List Inserted
+  whole = state.inserted ++ news
+
+  -- the names that the new rows name
+  abbrev parents : List Dropped
+  parents = parents_from (rules_of state) (length state.inserted) news
+
+  parents_rise : NamesRise (place_of whole) (length state.inserted) (length whole) parents
+  parents_rise = news_rise state.columns state.inserted news layered_next
+
+  pub parents_found : list_all (λ (d : Dropped). is_some (place_of whole d.name)) parents ≡ true
+  parents_found = names_found (place_of whole) (length state.inserted) (length whole) parents parents_rise
+
+  pub known_rising : AreRising 0 (length state.inserted) children.links
+  known_rising = rising_links (place_of state.inserted) 0 (length state.inserted) children.links (parents_from (rules_of state) 0 state.inserted) kept.named (all_rise state.columns state.inserted kept.layered)
+
+  pub known_inside : are_inside (length state.inserted) children.links ≡ true
+  known_inside = rising_inside 0 (length state.inserted) children.links known_rising
+
+  -- the counts with those of the new rows, which are 0 at first
+  pub padded_counts : (m k : ℕ) → get_or (causes ++ replicate m 0) k 0 ≡ count_by (is_of k) deleters.links + absent_times children.links (causes ++ replicate m 0) k
+  padded_counts m k =
+      padded causes m k ∙ kept.counted k ∙ (λ i. count_by (is_of k) deleters.links + count_by (λ (link : Link). not (sym (padded causes m link.place) i == 0) && (link.number == k)) children.links)
+
+  module _ (refs : List Link) (refs_are : pairs_of refs ≡ deletes_at (place_of whole) parents) where
+    pub named_next : pairs_of (children.links ++ refs) ≡ deletes_at (place_of whole) (parents_from (rules_of state) 0 whole)
+    named_next =
+        deleted_next state.inserted news (parents_from (rules_of state) 0 state.inserted) parents children.links (children.links ++ refs) kept.named
+        (map-append (λ (l : Link). (Some l.place, l.number)) children.links refs ∙ ap (λ l. pairs_of children.links ++ l) refs_are)
+        ∙ ap (deletes_at (place_of whole)) (ap (λ n. parents_from (rules_of state) 0 state.inserted ++ parents_from (rules_of state) n news) (sym (zero-add (length state.inserted))) ∙ sym (parents-append (rules_of state) 0 state.inserted news))
+
+    pub rising_next : AreRising 0 (length whole) (children.links ++ refs)
+    rising_next = rising_links (place_of whole) 0 (length whole) (children.links ++ refs) (parents_from (rules_of state) 0 whole) named_next (all_rise state.columns whole layered_next)
+
+    pub refs_rising : AreRising (length state.inserted) (length whole) refs
+    refs_rising = rising_links (place_of whole) (length state.inserted) (length whole) refs parents refs_are parents_rise
+
+    -- what is kept after a valid update
+    pub kept_next : IsNode node → (after_places : BTreeMap RowName ℕ) (size : ℕ) (after_causes : List ℕ) (names : List Link)
+        → ((name : RowName) → get name_cmp after_places name ≡ place_of whole name) → pairs_of names ≡ deletes_at (place_of whole) drops → size ≡ length whole → length after_causes ≡ length whole
+        → length (children.links ++ refs) ≤ 536870912 → length (deleters.links ++ names) ≤ 536870912
+        → ((k : ℕ) → get_or after_causes k 0 ≡ count_by (is_of k) (deleters.links ++ names) + absent_times (children.links ++ refs) after_causes k)
+        → IsKept (after state node verdict.Valid) after_places after_causes (record { size = size; links = children.links ++ refs }) (record { size = size; links = deleters.links ++ names })
+    kept_next small after_places size after_causes names placed names_are sized len few_children few_deleters counts = record {
+      few = omega (arith, count_few);
+      bounded = λ len. bounded_next state.inserted (reverse (effects_of node).inserted) state.count len kept.dated kept.bounded (news_few small);
+      dated = dated_next state.inserted (reverse (effects_of node).inserted) state.count kept.dated;
+      layered = layered_next;
+      placed = placed;
+      each = len;
+      counted = counts;
+      homes = sized;
+      named = named_next;
+      rooms = sized;
+      few_children = few_children;
+      few_deleters = few_deleters;
+      deleted = deleted_next state.inserted news state.dropped drops deleters.links (deleters.links ++ names) kept.deleted
+          (map-append (λ (l : Link). (Some l.place, l.number)) deleters.links names ∙ ap (λ l. pairs_of deleters.links ++ l) names_are);
+    }

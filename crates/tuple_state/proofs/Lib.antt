@@ -1,3 +1,4 @@
+pub mod Adding
 pub mod Answering
 pub mod Counting
 pub mod Fronts
@@ -15,11 +16,13 @@ pub mod Listing
 pub mod Lookups
 pub mod Marking
 pub mod Marks
+pub mod Meaning
+pub mod Once
 pub mod Pasts
+pub mod Raising
 pub mod Reaching
 pub mod Regrowth
 pub mod Restricting
-pub mod Rising
 pub mod Shortening
 pub mod Starting
 pub mod Stepping

@@ -1,12 +1,11 @@
 -- The links of a place, from the last one on back.
 use Rattle.std.proofs.Common.{◌≡◌, ◌≢◌, ℕ, zero, suc, ◌+◌, ◌<◌, ◌≤◌, ◌==◌, ◌⊎◌, ◌||◌, Bool, true, false, cond, List, [], ◌∷◌, ◌++◌, length, map, get_or, set, take, replicate, refl, sym, ap, ◌∙◌, subst, Option, Some, None, nat_lt, get_or-set_other, get_or-set_same, arith, inl, inr}
 use Rattle.std.specs.Prelude.{slice_get, filter}
-use Rattle.std.specs.List.{list_all, list_any}
+use Rattle.std.specs.List.{list_any}
 use Rattle.std.proofs.lemmas.Bool.{and_parts, both_ways, cases_Bool, eqb-true, eq-eqb, false_from_ne_true, or_right}
 use Rattle.std.proofs.lemmas.Bool.Decides.{nat_tests}
-use Rattle.std.proofs.lemmas.List.{map-append, take_all, take_more, length-take-le}
+use Rattle.std.proofs.lemmas.List.{take_all, take_more, length-take-le}
 use Rattle.std.proofs.Math.ListN.{length-set}
-use Rattle.std.proofs.lemmas.List.Elements.{filter-append}
 use Rattle.std.proofs.lemmas.List.Folds.{list_any-append}
 use Rattle.table_model.proofs.Founded.{all_weaker, all-append}
 use Rattle.tuple_state.specs.declared.links.Link.{Link}
@@ -160,7 +159,7 @@ pub size_below : (o : Option ℕ) (n : ℕ) → IsBelow o n → size_of o ≤ n
 size_below None n h = omega arith
 size_below (Some k) n h = omega (arith, h)
 
-default_free : {X : Type 0} (xs : List X) (k : ℕ) (d e : X) → k < length xs → get_or xs k d ≡ get_or xs k e
+pub default_free : {X : Type 0} (xs : List X) (k : ℕ) (d e : X) → k < length xs → get_or xs k d ≡ get_or xs k e
 default_free [] k d e h = absurd (omega (arith, h))
 default_free (x ∷ xs) zero d e h = refl
 default_free (x ∷ xs) (suc k) d e h = default_free xs k d e (omega (arith, h))

@@ -1,10 +1,8 @@
 -- The rows that a table lists, by what a state holds.
-use Rattle.std.proofs.Common.{◌≡◌, ℕ, zero, suc, Bool, true, false, cond, ◌&&◌, List, [], ◌∷◌, ◌++◌, length, get_or, map, reverse, refl, sym, ap, ◌∙◌, subst, Some, None}
+use Rattle.std.proofs.Common.{◌≡◌, ℕ, zero, suc, Bool, true, false, cond, ◌&&◌, List, [], ◌∷◌, ◌++◌, length, map, reverse, refl, sym, ap, ◌∙◌, subst, None}
 use Rattle.std.specs.Prelude.{filter}
-use Rattle.std.specs.List.{AllByRecursion, IsDistinct}
 use Rattle.std.specs.Ordering.{eq_by_cmp}
 use Rattle.std.specs.List.Sorted.{IsPermutation, IsStrictlySortedBy}
-use Rattle.std.proofs.lemmas.Bool.{or_parts}
 use Rattle.std.proofs.lemmas.Cmp.{eq_by_cmp_equiv}
 use Rattle.std.proofs.lemmas.List.{map-append}
 use Rattle.std.proofs.lemmas.List.Elements.{filter-append}
@@ -17,20 +15,18 @@ use Rattle.update_model.specs.Node.{NodeData}
 use Rattle.schema.specs.declared.column.Column.{Column}
 use Rattle.schema.specs.declared.column.ColumnKind.{ColumnKind}
 use Rattle.table_model.specs.declared.shown_row.ShownRow.{ShownRow}
-use Rattle.table_model.specs.Tables.{AreRowsIn, listed, listed_in, name_cmp}
+use Rattle.table_model.specs.Invariants.{shown_in}
+use Rattle.table_model.specs.Tables.{AreRowsIn, HasDistinctNames, listed, listed_in, name_cmp}
+use Rattle.table_model.proofs.Rising.{listed_distinct, name_cmp_total, shown_distinct}
 use Rattle.table_model.specs.Verdicts.{in_table}
-use Rattle.table_model.specs.Visible.{Effects, Rules, TableRow, is_visible, same_row, shown, shown_rows, shown_value, shown_values, table_of}
+use Rattle.table_model.specs.Visible.{Effects, Rules, TableRow, is_visible, shown, shown_rows, shown_value, shown_values, table_of}
 use Rattle.tuple_state.specs.declared.inserted.Inserted.{Inserted}
-use Rattle.tuple_state.specs.Kept.{are_layered, is_named, place_of}
+use Rattle.tuple_state.specs.Kept.{place_of}
 use Rattle.tuple_state.specs.Parents.{columns_at}
 use Rattle.tuple_state.specs.Showing.{shown_by, shown_values_by}
-use Rattle.tuple_state.specs.Sorting.{HasDistinctNames}
 use Rattle.tuple_state.specs.State.{IsStateOf, State, done_in, row_of, rules_of, rules_with}
-use Rattle.tuple_state.proofs.Keeping.{layered_now}
-use Rattle.tuple_state.proofs.Layers.{SameColumns, layer_parts, same_visible, unnamed_hidden}
-use Rattle.tuple_state.proofs.Lookups.{columns_same, did_same, get_or_from, reverse_cons, row_found, slice_get_mapped, unnamed_from_none}
-use Rattle.tuple_state.proofs.Marks.{eq_is_same}
-use Rattle.tuple_state.proofs.Rising.{name_cmp_total}
+use Rattle.tuple_state.proofs.Layers.{SameColumns, same_visible, unnamed_hidden}
+use Rattle.tuple_state.proofs.Lookups.{columns_same, did_same, reverse_cons, unnamed_from_none}
 
 -- ---- what values show
 
@@ -60,14 +56,7 @@ values_lined state it columns values list at of is =
     is ∙ (λ i. shown_values_by (is_visible (rules_of state) (done_in state)) ((at ∙ columns_with state.columns it.entry.table) i) (of i))
     ∙ all_shown (rules_of state) (done_in state) (table_of (rules_of state) it.entry.table).columns it.entry.values
 
--- ---- the mark of a row
-
-pub mark_shown : (state : State) (marks : List Bool) → marks ≡ map (λ (it : Inserted). is_visible (rules_of state) (done_in state) it.name) state.inserted → (name : RowName) (k : ℕ) (b : Bool)
-    → place_of state.inserted name ≡ Some k → b ≡ get_or marks k b → b ≡ is_visible (rules_of state) (done_in state) name
-mark_shown state marks marked name k b found at =
-    let row = row_found state.inserted name k found in
-    let f : Inserted → Bool = λ it. is_visible (rules_of state) (done_in state) it.name in
-    at ∙ ap (λ l. get_or l k b) marked ∙ get_or_from (map f state.inserted) k b (f row.it) (slice_get_mapped f state.inserted k row.it row.at) ∙ ap (is_visible (rules_of state) (done_in state)) row.name_is
+-- ---- a name that no row has
 
 pub none_shown : (state : State) (name : RowName) → place_of state.inserted name ≡ None → false ≡ is_visible (rules_of state) (done_in state) name
 none_shown state name none =
@@ -168,63 +157,15 @@ listed_now rules nodes state held table =
     ∙ (λ i. map listed (filter (in_table table) (map (λ row. same_shown same did row i) (filter (λ row. same_visible same did row.name i) did.inserted))))
     ∙ ap (λ (g : Effects). map listed (filter (in_table table) (shown_rows rules g))) (did_same rules nodes state held)
 
--- ---- names of their own
-
-none_named : (name : RowName) (rows : List TableRow) → is_named rows name ≡ false → AllByRecursion (λ n. eq_by_cmp name_cmp name n ≡ false) (map (λ row. row.name) rows)
-none_named name [] h = tt
-none_named name (row ∷ rows) h =
-    let parts = or_parts (same_row row.name name) (is_named rows name) h in
-    ((eq_by_cmp_equiv name_cmp_total).symm name row.name ∙ eq_is_same row.name name ∙ parts.0, none_named name rows parts.1)
-
-layered_distinct : (rules : Rules) (rows : List TableRow) → are_layered rules rows ≡ true → IsDistinct (eq_by_cmp name_cmp) (map (λ row. row.name) rows)
-unfolding IsDistinct
-layered_distinct rules [] h = tt
-layered_distinct rules (row ∷ older) h =
-    let it = layer_parts rules older row h in
-    (none_named row.name older it.new, layered_distinct rules older it.rest)
-
-module _ {X K : Type 0} (key : X → K) (e : K → K → Bool) (p : X → Bool) where
-  each_cond : (k : K) (x : X) (xs : List X) (b : Bool) → e k (key x) ≡ false → AllByRecursion (λ y. e k y ≡ false) (map key xs) → AllByRecursion (λ y. e k y ≡ false) (map key (cond b (x ∷ xs) xs))
-  each_cond k x xs true h rest = (h, rest)
-  each_cond k x xs false h rest = rest
-
-  each_kept : (k : K) (xs : List X) → AllByRecursion (λ y. e k y ≡ false) (map key xs) → AllByRecursion (λ y. e k y ≡ false) (map key (filter p xs))
-  each_kept k [] h = tt
-  each_kept k (x ∷ xs) h = each_cond k x (filter p xs) (p x) h.0 (each_kept k xs h.1)
-
-  distinct_cond : (x : X) (xs : List X) (b : Bool) → AllByRecursion (λ y. e (key x) y ≡ false) (map key xs) → IsDistinct e (map key xs) → IsDistinct e (map key (cond b (x ∷ xs) xs))
-  unfolding IsDistinct
-  distinct_cond x xs true h rest = (h, rest)
-  distinct_cond x xs false h rest = rest
-
-  -- those of some are told apart where those of all are
-  distinct_kept : (xs : List X) → IsDistinct e (map key xs) → IsDistinct e (map key (filter p xs))
-  unfolding IsDistinct
-  distinct_kept [] h = tt
-  distinct_kept (x ∷ xs) h = distinct_cond x (filter p xs) (p x) (each_kept (key x) xs h.0) (distinct_kept xs h.1)
-
-names_lined : (state : State) (rows : List TableRow) → map (λ (line : ShownRow). line.name) (map (line_of state) rows) ≡ map (λ (row : TableRow). row.name) rows
-names_lined state [] = refl
-names_lined state (row ∷ rows) = ap (λ l. row.name ∷ l) (names_lined state rows)
-
--- the rows that a table lists have names of their own
-arrived_distinct : (state : State) (table : ℕ) → are_layered (rules_of state) (done_in state).inserted ≡ true → HasDistinctNames (arrived state table)
-arrived_distinct state table layered =
-    let lines = arrived state table in
-    let kept = filter (is_kept state table) (done_in state).inserted in
-    let all = map (line_of state) kept in
-    let apart : HasDistinctNames all =
-    subst (IsDistinct (eq_by_cmp name_cmp)) (sym (names_lined state kept))
-    (distinct_kept (λ (row : TableRow). row.name) (eq_by_cmp name_cmp) (is_kept state table) (done_in state).inserted (layered_distinct (rules_of state) (done_in state).inserted layered)) in
-    IsDistinct-IsPermutation (eq_by_cmp name_cmp) ((eq_by_cmp_equiv name_cmp_total).symm) (map (λ (l : ShownRow). l.name) all) (map (λ (l : ShownRow). l.name) lines)
-    (IsPermutation-map (λ (l : ShownRow). l.name) all lines (subst (λ (l : List ShownRow). IsPermutation l lines) (arrived_last state table) (IsPermutation-sym lines (reverse lines) (IsPermutation-reverse lines)))) apart
-
 -- those that a state lists, once sorted
 pub rows_now : (rules : Rules) (nodes : List NodeData) (state : State) → IsStateOf rules nodes state → (table : ℕ) (lines sorted : List ShownRow) → lines ≡ arrived state table
     → (HasDistinctNames lines → IsStrictlySortedBy name_cmp (map (λ line. line.name) sorted)) → IsPermutation sorted lines → AreRowsIn rules nodes table sorted
 rows_now rules nodes state held table lines sorted is rising moved =
     let last : reverse lines ≡ listed_in rules nodes table = ap reverse is ∙ listed_now rules nodes state held table in
+    let apart : HasDistinctNames (reverse lines) = listed_distinct (shown_in rules nodes) table (reverse lines) (shown_distinct rules nodes held.closed) last in
+    let turned = IsPermutation-sym lines (reverse lines) (IsPermutation-reverse lines) in
     record {
-      rising = rising (subst (λ (l : List ShownRow). HasDistinctNames l) (sym is) (arrived_distinct state table (layered_now rules nodes state held)));
+      rising = rising (IsDistinct-IsPermutation (eq_by_cmp name_cmp) ((eq_by_cmp_equiv name_cmp_total).symm) (map (λ (l : ShownRow). l.name) (reverse lines)) (map (λ (l : ShownRow). l.name) lines)
+          (IsPermutation-map (λ (l : ShownRow). l.name) (reverse lines) lines turned) apart);
       exact = subst (λ (l : List ShownRow). IsPermutation sorted l) last (IsPermutation-trans sorted lines (reverse lines) moved (IsPermutation-reverse lines));
     }

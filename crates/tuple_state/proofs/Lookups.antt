@@ -1,38 +1,23 @@
 -- Rows found by their names.
-use Rattle.std.proofs.Common.{◌≡◌, ℕ, zero, suc, ◌+◌, ◌<◌, Bool, true, false, cond, ◌||◌, List, [], ◌∷◌, ◌++◌, length, get_or, map, reverse, refl, sym, ap, ◌∙◌, Option, Some, None, arith}
+use Rattle.std.proofs.Common.{◌≡◌, ℕ, zero, suc, ◌+◌, ◌<◌, Bool, true, false, cond, List, [], ◌∷◌, ◌++◌, length, get_or, map, reverse, refl, sym, ap, ◌∙◌, Option, Some, None, arith}
 use Rattle.std.specs.Prelude.{slice_get, is_some}
 use Rattle.std.specs.List.{list_any, position_from}
 use Rattle.std.proofs.lemmas.List.{reverse-append}
-use Rattle.std.proofs.lemmas.List.Folds.{list_any-append}
 use Rattle.update_model.specs.declared.row_name.RowName.{RowName}
 use Rattle.update_model.specs.Node.{NodeData}
 use Rattle.update_model.proofs.Closed.{is_some-position}
 use Rattle.table_model.specs.Visible.{Rules, TableRow, Effects, same_row, is_visible}
 use Rattle.table_model.specs.Verdicts.{effects_in}
+use Rattle.table_model.proofs.Members.{any_mapped, any_reversed}
 use Rattle.table_model.proofs.Standing.{row_from_same}
 use Rattle.tuple_state.specs.declared.inserted.Inserted.{Inserted}
 use Rattle.tuple_state.specs.State.{IsStateOf, State, done_in, row_of, rules_of}
 use Rattle.tuple_state.specs.Kept.{is_named, place_of}
 use Rattle.tuple_state.proofs.Effects.{did_is, columns_are}
-use Rattle.tuple_state.proofs.Layers.{SameColumns, same_columns, same_visible, unnamed_hidden}
+use Rattle.tuple_state.proofs.Layers.{SameColumns, same_columns, same_visible}
 
 pub reverse_cons : {X : Type 0} (x : X) (xs : List X) → reverse (x ∷ xs) ≡ reverse xs ++ x ∷ []
 reverse_cons x xs = reverse-append (x ∷ []) xs
-
-or_turned : (a b : Bool) → (a || (b || false)) ≡ (b || a)
-or_turned true true = refl
-or_turned true false = refl
-or_turned false true = refl
-or_turned false false = refl
-
-pub any_reversed : {X : Type 0} (p : X → Bool) (xs : List X) → list_any p (reverse xs) ≡ list_any p xs
-any_reversed p [] = refl
-any_reversed p (x ∷ xs) =
-    ap (list_any p) (reverse_cons x xs) ∙ list_any-append p (reverse xs) (x ∷ []) ∙ or_turned (list_any p (reverse xs)) (p x) ∙ ap (λ b. p x || b) (any_reversed p xs)
-
-pub any_mapped : {X Y : Type 0} (f : X → Y) (p : Y → Bool) (xs : List X) → list_any p (map f xs) ≡ list_any (λ x. p (f x)) xs
-any_mapped f p [] = refl
-any_mapped f p (x ∷ xs) = ap (λ b. p (f x) || b) (any_mapped f p xs)
 
 -- whether a row has a name, in either order
 pub named_reversed : (rows : List Inserted) (name : RowName) → is_named (reverse (map row_of rows)) name ≡ list_any (λ (it : Inserted). same_row it.name name) rows
@@ -104,18 +89,3 @@ pub visible_now : (rules : Rules) (nodes : List NodeData) (state : State) → Is
     → is_visible (rules_of state) (done_in state) name ≡ is_visible rules (effects_in rules nodes) name
 visible_now rules nodes state held name =
     same_visible (columns_same rules nodes state held) (done_in state) name ∙ ap (λ (g : Effects). is_visible rules g name) (did_same rules nodes state held)
-
--- a name that no row has is not visible
-pub hidden_now : (rules : Rules) (nodes : List NodeData) (state : State) → IsStateOf rules nodes state → (name : RowName) → place_of state.inserted name ≡ None
-    → false ≡ is_visible rules (effects_in rules nodes) name
-hidden_now rules nodes state held name none =
-    sym (unnamed_hidden (rules_of state) (done_in state) name (unnamed_from_none state.inserted name none) (length (done_in state).inserted)) ∙ visible_now rules nodes state held name
-
--- the mark of a row that is found
-pub mark_now : (rules : Rules) (nodes : List NodeData) (state : State) (shown : List Bool) → IsStateOf rules nodes state
-    → shown ≡ map (λ (it : Inserted). is_visible (rules_of state) (done_in state) it.name) state.inserted → (name : RowName) (k : ℕ) (b : Bool) → place_of state.inserted name ≡ Some k
-    → b ≡ get_or shown k b → b ≡ is_visible rules (effects_in rules nodes) name
-mark_now rules nodes state shown held marked name k b found at =
-    let row = row_found state.inserted name k found in
-    let f : Inserted → Bool = λ it. is_visible (rules_of state) (done_in state) it.name in
-    at ∙ ap (λ l. get_or l k b) marked ∙ get_or_from (map f state.inserted) k b (f row.it) (slice_get_mapped f state.inserted k row.it row.at) ∙ ap (is_visible (rules_of state) (done_in state)) row.name_is ∙ visible_now rules nodes state held name

@@ -1,5 +1,5 @@
--- Places and marks of layered rows.
-use Rattle.std.proofs.Common.{◌≡◌, ℕ, zero, suc, ◌+◌, ◌<◌, ◌≤◌, ◌==◌, Bool, true, false, cond, ◌&&◌, ◌||◌, List, [], ◌∷◌, ◌++◌, length, get_or, take, map, reverse, refl, sym, ap, ◌∙◌, subst, append_assoc, Option, Some, None, zero-add, length-append, arith}
+-- Places of layered rows.
+use Rattle.std.proofs.Common.{◌≡◌, ℕ, zero, suc, ◌+◌, ◌<◌, ◌==◌, Bool, true, false, cond, ◌&&◌, ◌||◌, List, [], ◌∷◌, ◌++◌, length, get_or, take, map, reverse, refl, sym, ap, ◌∙◌, subst, append_assoc, Option, Some, None, zero-add, length-append, arith}
 use Rattle.std.specs.Prelude.{slice_get, is_some, filter, unwrap_or, Result, Ok, Err, is_err, OnOk}
 use Rattle.std.specs.declared.cmp.Ordering.{Ordering}
 use Rattle.std.specs.declared.cmp.Ordering.TheVariants.{Less, Equal, Greater}
@@ -25,10 +25,10 @@ use Rattle.table_model.specs.Visible.{Rules, TableRow, RowRef, same_row, refs_in
 use Rattle.table_model.proofs.Standing.{row_from_same, same_row-refl}
 use Rattle.tuple_state.specs.declared.inserted.Inserted.{Inserted}
 use Rattle.tuple_state.specs.Kept.{are_layered, is_named, place_of}
-use Rattle.tuple_state.specs.Parents.{AreFresh, Continues, all_parents, columns_at, mark_at, name_by_cascade, parent_in, passes}
+use Rattle.tuple_state.specs.Parents.{AreFresh, all_parents, columns_at, name_by_cascade, parent_in, passes}
 use Rattle.tuple_state.specs.State.{row_of, rules_with}
 use Rattle.tuple_state.proofs.Layers.{layer_parts}
-use Rattle.tuple_state.proofs.Lookups.{reverse_cons, named_reversed, row_found}
+use Rattle.tuple_state.proofs.Lookups.{reverse_cons, named_reversed}
 
 -- ---- names and their order
 
@@ -230,17 +230,6 @@ named_before columns rows h p q k it at agree =
     let f = found_before (λ (row : Inserted). same_row row.name r.name) 0 s.before (it ∷ s.after) (sym (named_reversed s.before r.name) ∙ there) in
     agree f.0 r.name (ap (λ l. place_of l r.name) s.is ∙ f.1) (omega (arith, f.2, s.len)))
     (cascade_refs (rules_with columns) (row_of it)) layer.refers
-
--- the mark of the next row
-pub mark_step : (columns : List (List Column)) (rows : List Inserted) (from k : ℕ) (it : Inserted) (first shown : List Bool) (get : RowName → Option ℕ) (b : Bool) (test : RowName → Bool)
-    → are_layered (rules_with columns) (reverse (map row_of rows)) ≡ true → ((name : RowName) → get name ≡ place_of rows name) → slice_get rows k ≡ Some it → from ≤ k
-    → Continues (rules_with columns) rows from first test → ((j : ℕ) (row : Inserted) → slice_get rows j ≡ Some row → j < k → get_or shown j false ≡ test row.name) → get_or shown k false ≡ get_or first k false
-    → b ≡ (get_or shown k false && all_parents (λ name. mark_at shown (get name)) (columns_at columns it.entry.table) it.entry.values) → b ≡ test it.name
-mark_step columns rows from k it first shown get b test layered placed at onward continues done same is =
-    is ∙ (λ i. same i && (sym (cascade_are columns it (λ name. mark_at shown (get name)))
-    ∙ named_before columns rows layered (λ name. mark_at shown (get name)) test k it at
-    (λ j name found below. let row = row_found rows name j found in ap (mark_at shown) (placed name ∙ found) ∙ done j row.it row.at below ∙ ap test row.name_is)) i)
-    ∙ sym (continues.onward k it at onward)
 
 -- what holds on `Ok`, where there is no `Err`
 pub ok_gives : {T E P : Type 0} (r : Result T E) → is_err r ≡ false → OnOk r P → P

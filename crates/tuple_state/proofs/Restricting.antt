@@ -18,7 +18,8 @@ use Rattle.tuple_state.specs.Kept.{are_layered}
 use Rattle.tuple_state.specs.Parents.{any_restricts, columns_at, is_row, name_by_restrict, restricts_in}
 use Rattle.tuple_state.specs.Past.{child_then, done_then}
 use Rattle.tuple_state.specs.State.{State, done_in, row_of, rules_of, rules_with}
-use Rattle.tuple_state.proofs.Lookups.{any_mapped, any_reversed, get_or_from}
+use Rattle.table_model.proofs.Members.{any_mapped, any_reversed}
+use Rattle.tuple_state.proofs.Lookups.{get_or_from}
 use Rattle.tuple_state.proofs.Marking.{length_drop}
 use Rattle.tuple_state.proofs.Marks.{columns_there}
 use Rattle.tuple_state.proofs.Reaching.{hidden_row}

@@ -1,86 +1,93 @@
 -- What tables keep after the later updates are taken back.
-use Rattle.std.proofs.Common.{◌≡◌, ℕ, zero, suc, ◌+◌, ◌-◌, ◌<◌, ◌≤◌, ◌⊎◌, Bool, true, false, not, ◌&&◌, List, [], ◌∷◌, ◌++◌, length, get_or, map, reverse, take, drop, refl, sym, ap, ◌∙◌, subst, length-append, Option, Some, None, nat_lt, inl, inr, arith}
-use Rattle.std.specs.Prelude.{count_by, is_some, slice_get}
-use Rattle.std.specs.List.{list_all, list_any}
+use Rattle.std.proofs.Common.{◌≡◌, ℕ, zero, suc, ◌+◌, ◌-◌, ◌<◌, ◌≤◌, true, false, cond, not, List, [], ◌∷◌, ◌++◌, length, get_or, map, reverse, take, drop, refl, sym, ap, ◌∙◌, subst, length-append, zero-add, Option, Some, None, nat_lt, arith}
+use Rattle.std.specs.Prelude.{count_by, is_some}
+use Rattle.std.specs.List.{list_all}
 use Rattle.std.specs.BTreeMap.{get, BTreeMap}
-use Rattle.std.proofs.lemmas.Bool.{and_parts, both_ways}
+use Rattle.std.proofs.lemmas.Bool.{and_from, and_parts}
+use Rattle.std.proofs.lemmas.Bool.Decides.{nat_tests}
+use Rattle.std.proofs.lemmas.List.Sums.{sum_by-cons}
 use Rattle.std.proofs.lemmas.List.{take-map}
 use Rattle.update_model.specs.declared.row_name.RowName.{RowName}
 use Rattle.update_model.specs.Node.{NodeData}
-use Rattle.schema.specs.declared.column.Column.{Column}
-use Rattle.schema.specs.declared.table_def.TableDef.{TableDef}
 use Rattle.table_model.specs.Tables.{name_cmp}
-use Rattle.table_model.specs.Visible.{Effects, Rules, cascade_refs, is_deleted, is_visible, same_row}
+use Rattle.table_model.specs.Visible.{Rules}
 use Rattle.tuple_state.specs.declared.dropped.Dropped.{Dropped}
 use Rattle.tuple_state.specs.declared.inserted.Inserted.{Inserted}
 use Rattle.tuple_state.specs.declared.links.Link.{Link}
 use Rattle.tuple_state.specs.declared.voided.Voided.{Voided}
 use Rattle.tuple_state.specs.Kept.{IsKept, are_layered, deletes_at, pairs_of, place_of}
-use Rattle.tuple_state.specs.Links.{Linked, are_inside}
-use Rattle.tuple_state.specs.Parents.{Continues}
+use Rattle.tuple_state.specs.Causes.{AreRising, absent_times, parents_from}
+use Rattle.tuple_state.specs.Links.{Linked, are_inside, is_of}
 use Rattle.tuple_state.specs.State.{IsStateOf, State, done_in, row_of, rules_of, rules_with, state_of}
-use Rattle.tuple_state.proofs.Deleting.{drops_found, links_inside, place_stays}
+use Rattle.tuple_state.proofs.Adding.{NamesRise, all_rise, names_found, news_rise, parents-append, rising_inside, rising_links}
+use Rattle.tuple_state.proofs.Deleting.{drops_found, links_inside, pair_parts, place_stays}
 use Rattle.tuple_state.proofs.Effects.{columns_are, count_is}
 use Rattle.tuple_state.proofs.Fronts.{Parted, closed_back, count_append, counted, names_parted, rows_parted, sooner, take_front, voids_parted}
-use Rattle.tuple_state.proofs.Keeping.{homed_now, layered_now, marks_are}
-use Rattle.tuple_state.proofs.Layers.{each_stands, row_visible}
+use Rattle.tuple_state.proofs.Keeping.{homed_now, layered_now}
 use Rattle.tuple_state.proofs.Lookups.{row_found}
-use Rattle.tuple_state.proofs.Regrowth.{any_gone, row_has}
+use Rattle.tuple_state.proofs.Raising.{unit}
 
 -- ---- the rest stays
 
-pub kept_places : (state : State) (places after_places : BTreeMap RowName ℕ) (shown : List Bool) (deleters after_deleters : Linked) → IsKept state places shown deleters
-    → ((name : RowName) → get name_cmp after_places name ≡ place_of state.inserted name) → after_deleters ≡ deleters → IsKept state after_places shown after_deleters
-kept_places state places after_places shown deleters after_deleters kept placed same = record {
+pub kept_places : (state : State) (places after_places : BTreeMap RowName ℕ) (causes : List ℕ) (children after_children deleters after_deleters : Linked) → IsKept state places causes children deleters
+    → ((name : RowName) → get name_cmp after_places name ≡ place_of state.inserted name) → after_children ≡ children → after_deleters ≡ deleters → IsKept state after_places causes after_children after_deleters
+kept_places state places after_places causes children after_children deleters after_deleters kept placed alike same = record {
   few = kept.few;
   bounded = kept.bounded;
   dated = kept.dated;
   layered = kept.layered;
   placed = placed;
-  marked = kept.marked;
+  each = kept.each;
+  counted = λ k. kept.counted k ∙ (λ i. count_by (is_of k) (sym same i).links + absent_times (sym alike i).links causes k);
+  homes = ap (λ (d : Linked). d.size) alike ∙ kept.homes;
+  named = ap (λ (d : Linked). pairs_of d.links) alike ∙ kept.named;
   rooms = ap (λ (d : Linked). d.size) same ∙ kept.rooms;
+  few_children = let l = ap (λ (d : Linked). length d.links) alike in omega (arith, l, kept.few_children);
+  few_deleters = let l = ap (λ (d : Linked). length d.links) same in omega (arith, l, kept.few_deleters);
   deleted = ap (λ (d : Linked). pairs_of d.links) same ∙ kept.deleted;
 }
 
-pub kept_void : (state : State) (places : BTreeMap RowName ℕ) (shown : List Bool) (deleters : Linked) (voids : List Voided) → IsKept state places shown deleters → state.count < 131072
-    → IsKept (record state { count = state.count + 1; voids = voids }) places shown deleters
-kept_void state places shown deleters voids kept few = record {
+pub kept_void : (state : State) (places : BTreeMap RowName ℕ) (causes : List ℕ) (children deleters : Linked) (voids : List Voided) → IsKept state places causes children deleters → state.count < 131072
+    → IsKept (record state { count = state.count + 1; voids = voids }) places causes children deleters
+kept_void state places causes children deleters voids kept few = record {
   few = omega (arith, few);
   bounded = kept.bounded;
   dated = sooner (λ (it : Inserted). it.position) state.count (state.count + 1) (omega arith) state.inserted kept.dated;
   layered = kept.layered;
   placed = kept.placed;
-  marked = kept.marked;
+  each = kept.each;
+  counted = kept.counted;
+  homes = kept.homes;
+  named = kept.named;
   rooms = kept.rooms;
+  few_children = kept.few_children;
+  few_deleters = kept.few_deleters;
   deleted = kept.deleted;
 }
 
--- ---- marks found anew
+-- ---- the links of the first rows
 
-turned : (a g b : Bool) → b ≡ true → (a && not g) ≡ ((b && not g) && a)
-turned true true b h = ap (λ x. (x && false) && true) (sym h)
-turned true false b h = ap (λ x. (x && true) && true) (sym h)
-turned false true b h = ap (λ x. (x && false) && false) (sym h)
-turned false false b h = ap (λ x. (x && true) && false) (sym h)
+-- links are counted by the numbers of their names
+numbers_alike : (place : RowName → Option ℕ) (n : ℕ) (links : List Link) (names : List Dropped) → pairs_of links ≡ deletes_at place names → count_by (λ (l : Link). nat_lt l.number n) links ≡ count_by (λ (d : Dropped). nat_lt d.position n) names
+numbers_alike place n [] [] h = refl
+numbers_alike place n [] (d ∷ names) h = absurd (cc)
+numbers_alike place n (link ∷ links) [] h = absurd (cc)
+numbers_alike place n (link ∷ links) (d ∷ names) h =
+    let pair = pair_parts place link d links names h in
+    sum_by-cons (λ (l : Link). cond (nat_lt l.number n) 1 0) link links
+    ∙ (λ i. unit (nat_lt (pair.number i) n) + numbers_alike place n links names pair.rest i)
+    ∙ sym (sum_by-cons (λ (x : Dropped). cond (nat_lt x.position n) 1 0) d names)
 
-below_length : (rows : List Inserted) (k : ℕ) (it : Inserted) → slice_get rows k ≡ Some it → k < length rows
-below_length [] k it h = absurd (cc)
-below_length (row ∷ rows) zero it h = omega arith
-below_length (row ∷ rows) (suc k) it h = let rest = below_length rows k it h in omega (arith, rest)
+rise_below : (place : RowName → Option ℕ) (low high : ℕ) (names : List Dropped) → NamesRise place low high names → list_all (λ (d : Dropped). nat_lt d.position high) names ≡ true
+rise_below place low high [] rise = refl
+rise_below place low high (d ∷ names) rise = let lt = rise.0.below in and_from _ _ (grind (arith, nat_tests)) (rise_below place d.position high names rise.1)
 
-pub marks_anew : (state : State) (shown hidden : List Bool) (from : ℕ) → are_layered (rules_of state) (done_in state).inserted ≡ true → ((k : ℕ) → k < length state.inserted → get_or shown k false ≡ true)
-    → ((from ≡ 0) ⊎ ((from ≡ 0) × (state.dropped ≡ [])))
-    → ((k : ℕ) (it : Inserted) → slice_get state.inserted k ≡ Some it → get_or hidden k false ≡ (get_or shown k false && not (list_any (λ (d : Dropped). same_row d.name it.name) state.dropped)))
-    → Continues (rules_of state) state.inserted from hidden (is_visible (rules_of state) (done_in state))
-marks_anew state shown hidden from layered all start hid = record {
-  before = λ k it at under. absurd (elim start [ inl z ↦ omega (arith, z, under) | inr e ↦ let z = e.0 in omega (arith, z, under) ]);
-  onward = λ k it at over.
-      let stands = row_has _ state.inserted k it (each_stands (rules_of state) (done_in state).inserted layered) at in
-      row_visible (rules_of state) (done_in state) layered (row_of it) stands
-      ∙ ap (λ b. list_all (λ r. is_visible (rules_of state) (done_in state) r.name) (cascade_refs (rules_of state) (row_of it)) && not b) (any_gone state.dropped it.name)
-      ∙ turned (list_all (λ r. is_visible (rules_of state) (done_in state) r.name) (cascade_refs (rules_of state) (row_of it))) _ (get_or shown k false) (all k (below_length state.inserted k it at))
-      ∙ ap (λ b. b && list_all (λ r. is_visible (rules_of state) (done_in state) r.name) (cascade_refs (rules_of state) (row_of it))) (sym (hid k it at));
-}
+rise_beyond : (place : RowName → Option ℕ) (least low high : ℕ) (names : List Dropped) → least ≤ low → NamesRise place low high names → list_all (λ (d : Dropped). not (nat_lt d.position least)) names ≡ true
+rise_beyond place least low high [] le rise = refl
+rise_beyond place least low high (d ∷ names) le rise =
+    let lt = rise.0.least in
+    let far : nat_lt d.position least ≡ false = grind (arith, nat_tests) in
+    and_from _ _ (ap not far) (rise_beyond place least d.position high names (omega (arith, le, lt)) rise.1)
 
 -- ---- the state of the older nodes
 
@@ -107,6 +114,11 @@ deletes_same front later [] h = refl
 deletes_same front later (d ∷ names) h =
     let parts = and_parts (is_some (place_of front d.name)) _ h in
     λ i. (some_same front later d.name parts.0 i, d.position) ∷ deletes_same front later names parts.1 i
+
+pub take_fewer : {X : Type 0} (n : ℕ) (xs : List X) → length (take n xs) ≤ length xs
+take_fewer zero xs = omega arith
+take_fewer (suc n) [] = omega arith
+take_fewer (suc n) (x ∷ xs) = let rest = take_fewer n xs in omega (arith, rest)
 
 module _ (rules : Rules) (newer older : List NodeData) (state : State) (len : ℕ) (held : IsStateOf rules (newer ++ older) state) (at : length older ≡ len) where
   abbrev pub old : State
@@ -164,12 +176,53 @@ module _ (rules : Rules) (newer older : List NodeData) (state : State) (len : �
       links_inside (place_of old.inserted) rows (take n links) old.dropped (deleted_old n links drops so)
       (λ name k found. let row = row_found old.inserted name k found in let size = rows_len rows is in omega (arith, row.below, size))
 
-  pub kept_old : (places after_places : BTreeMap RowName ℕ) (shown marked : List Bool) (deleters : Linked) (rows names : ℕ) → IsKept state places shown deleters
+  abbrev front : List Dropped
+  front = parents_from (rules_of old) 0 old.inserted
+
+  abbrev behind : List Dropped
+  behind = parents_from (rules_of state) (length old.inserted) rows_are.later
+
+  front_rises : NamesRise (place_of old.inserted) 0 (length old.inserted) front
+  front_rises = all_rise old.columns old.inserted layered_old
+
+  -- the names that all rows name are those that the first rows name, and others
+  fronts_are : Parted (λ (d : Dropped). d.position) (length old.inserted) (parents_from (rules_of state) 0 state.inserted) front
+  fronts_are = record {
+    later = behind;
+    is = ap (parents_from (rules_of state) 0) rows_are.is ∙ parents-append (rules_of state) 0 old.inserted rows_are.later
+        ∙ (λ i. parents_from (rules_with (columns_stay i)) 0 old.inserted ++ parents_from (rules_of state) (zero-add (length old.inserted) i) rows_are.later);
+    before = rise_below (place_of old.inserted) 0 (length old.inserted) front front_rises;
+    beyond = rise_beyond (place_of (old.inserted ++ rows_are.later)) (length old.inserted) (length old.inserted) (length (old.inserted ++ rows_are.later)) behind (omega arith)
+        (news_rise state.columns old.inserted rows_are.later (subst (λ (l : List Inserted). are_layered (rules_of state) (reverse (map row_of l)) ≡ true) rows_are.is (layered_now rules (newer ++ older) state held)));
+  }
+
+  module _ (children : List Link) (rows n : ℕ) (so : pairs_of children ≡ deletes_at (place_of state.inserted) (parents_from (rules_of state) 0 state.inserted))
+      (is_rows : rows ≡ count_by (λ (it : Inserted). nat_lt it.position len) state.inserted) (is_n : n ≡ count_by (λ (l : Link). nat_lt l.number rows) children) where
+    front_len : n ≡ length front
+    front_len =
+        is_n ∙ ap (λ m. count_by (λ (l : Link). nat_lt l.number m) children) (rows_len rows is_rows) ∙ numbers_alike (place_of state.inserted) (length old.inserted) children (parents_from (rules_of state) 0 state.inserted) so
+        ∙ counted (λ (d : Dropped). d.position) (length old.inserted) (parents_from (rules_of state) 0 state.inserted) front fronts_are
+
+    pub named_old : pairs_of (take n children) ≡ deletes_at (place_of old.inserted) front
+    unfolding fronts_are
+    named_old =
+        sym (take-map (λ (l : Link). (Some l.place, l.number)) n children) ∙ ap (take n) so ∙ take-map (λ (d : Dropped). (place_of state.inserted d.name, d.position)) n (parents_from (rules_of state) 0 state.inserted)
+        ∙ (λ i. deletes_at (place_of state.inserted) (take (front_len i) (fronts_are.is i))) ∙ ap (deletes_at (place_of state.inserted)) (take_front front behind)
+        ∙ ap (λ l. deletes_at (place_of l) front) rows_are.is ∙ deletes_same old.inserted rows_are.later front (names_found (place_of old.inserted) 0 (length old.inserted) front front_rises)
+
+    pub rising_old : AreRising 0 rows (take n children)
+    rising_old = subst (λ m. AreRising 0 m (take n children)) (sym (rows_len rows is_rows)) (rising_links (place_of old.inserted) 0 (length old.inserted) (take n children) front named_old front_rises)
+
+    pub children_inside : are_inside rows (take n children) ≡ true
+    children_inside = rising_inside 0 rows (take n children) rising_old
+
+  pub kept_old : (places after_places : BTreeMap RowName ℕ) (causes after_causes : List ℕ) (children deleters : Linked) (rows names n : ℕ) → IsKept state places causes children deleters
       → rows ≡ count_by (λ (it : Inserted). nat_lt it.position len) state.inserted → names ≡ count_by (λ (it : Dropped). nat_lt it.position len) state.dropped
-      → ((name : RowName) → get name_cmp after_places name ≡ place_of old.inserted name) → length marked ≡ length old.inserted
-      → ((k : ℕ) (it : Inserted) → slice_get old.inserted k ≡ Some it → get_or marked k false ≡ is_visible (rules_of old) (done_in old) it.name)
-      → IsKept old after_places marked (record { size = rows; links = take names deleters.links })
-  kept_old places after_places shown marked deleters rows names kept is drops placed size marks = record {
+      → n ≡ count_by (λ (l : Link). nat_lt l.number rows) children.links
+      → ((name : RowName) → get name_cmp after_places name ≡ place_of old.inserted name) → length after_causes ≡ length old.inserted
+      → ((k : ℕ) → get_or after_causes k 0 ≡ count_by (is_of k) (take names deleters.links) + absent_times (take n children.links) after_causes k)
+      → IsKept old after_places after_causes (record { size = rows; links = take n children.links }) (record { size = rows; links = take names deleters.links })
+  kept_old places after_places causes after_causes children deleters rows names n kept is drops refs placed size counts = record {
     few = let a = count_is rules older in let b = ap (λ (s : State). s.count) held.is ∙ count_is rules (newer ++ older) in let c = length-append newer older in omega (arith, a, b, c, kept.few);
     bounded = λ n.
         let whole = kept.bounded n in
@@ -178,7 +231,12 @@ module _ (rules : Rules) (newer older : List NodeData) (state : State) (len : �
     dated = ap (λ n. list_all (λ (it : Inserted). nat_lt it.position n) old.inserted) (sym count_old) ∙ rows_are.before;
     layered = layered_old;
     placed = placed;
-    marked = marks_are old.inserted marked (λ it. is_visible (rules_of old) (done_in old) it.name) size marks;
+    each = size;
+    counted = counts;
+    homes = rows_len rows is;
+    named = named_old children.links rows n kept.named is refs;
     rooms = rows_len rows is;
+    few_children = let l = take_fewer n children.links in omega (arith, l, kept.few_children);
+    few_deleters = let l = take_fewer names deleters.links in omega (arith, l, kept.few_deleters);
     deleted = deleted_old names deleters.links drops kept.deleted;
   }

@@ -1,14 +1,15 @@
 -- What tables keep beside their state, so that look-ups are quick.
-use Rattle.std.specs.Prelude.{◌≡◌, ℕ, ◌*◌, ◌≤◌, Bool, true, not, ◌&&◌, List, [], ◌∷◌, length, map, count_by, nat_lt, Option, Some}
+use Rattle.std.specs.Prelude.{◌≡◌, ℕ, ◌+◌, ◌*◌, ◌≤◌, Bool, true, not, ◌&&◌, List, [], ◌∷◌, length, map, count_by, nat_lt, slice_index_or, Option, Some}
 use Rattle.std.specs.List.{list_any, list_all, position_from}
 use Rattle.std.specs.BTreeMap.{get, BTreeMap}
 use Rattle.update_model.specs.declared.row_name.RowName.{RowName}
 use Rattle.table_model.specs.Tables.{name_cmp}
-use Rattle.table_model.specs.Visible.{Rules, TableRow, cascade_refs, is_visible, same_row}
+use Rattle.table_model.specs.Visible.{Rules, TableRow, cascade_refs, same_row}
 use Rattle.tuple_state.specs.declared.dropped.Dropped.{Dropped}
 use Rattle.tuple_state.specs.declared.inserted.Inserted.{Inserted}
 use Rattle.tuple_state.specs.declared.links.Link.{Link}
-use Rattle.tuple_state.specs.Links.{Linked}
+use Rattle.tuple_state.specs.Causes.{absent_times, parents_from}
+use Rattle.tuple_state.specs.Links.{Linked, is_of}
 use Rattle.tuple_state.specs.State.{State, done_in, rules_of}
 
 -- whether one of these rows has this name
@@ -29,18 +30,23 @@ place_of rows name = position_from (λ row. same_row row.name name) 0 rows
 abbrev pub pairs_of : List Link → List (Option ℕ × ℕ)
 pairs_of links = map (λ (link : Link). (Some link.place, link.number)) links
 
--- deleted names as pairs of the row's place and the position of the update that deletes it
+-- names as pairs of the row's place and the number that comes with the name
 abbrev pub deletes_at : (RowName → Option ℕ) → List Dropped → List (Option ℕ × ℕ)
 deletes_at place dropped = map (λ (drop : Dropped). (place drop.name, drop.position)) dropped
 
--- The rows are layered, each is found by its name, each is marked where it is visible, and the updates that delete it are
--- found by its place.
-pub record IsKept (state : State) (places : BTreeMap RowName ℕ) (shown : List Bool) (deleters : Linked) : Type 0 where
+-- The rows are layered and each is found by its name. By its place the updates that delete it are found, and the rows that
+-- name it by CASCADE. Its count is that of the former and of the absent rows that it names.
+pub record IsKept (state : State) (places : BTreeMap RowName ℕ) (causes : List ℕ) (children deleters : Linked) : Type 0 where
   pub few : state.count ≤ 131072
   pub bounded : (len : ℕ) → count_by (λ it. nat_lt it.position len) state.inserted ≤ 256 * len
   pub dated : list_all (λ it. nat_lt it.position state.count) state.inserted ≡ true
   pub layered : are_layered (rules_of state) (done_in state).inserted ≡ true
   pub placed : (name : RowName) → get name_cmp places name ≡ place_of state.inserted name
-  pub marked : shown ≡ map (λ it. is_visible (rules_of state) (done_in state) it.name) state.inserted
+  pub each : length causes ≡ length state.inserted
+  pub counted : (k : ℕ) → slice_index_or causes k 0 ≡ count_by (is_of k) deleters.links + absent_times children.links causes k
+  pub homes : children.size ≡ length state.inserted
+  pub named : pairs_of children.links ≡ deletes_at (place_of state.inserted) (parents_from (rules_of state) 0 state.inserted)
   pub rooms : deleters.size ≡ length state.inserted
+  pub few_children : length children.links ≤ 536870912
+  pub few_deleters : length deleters.links ≤ 536870912
   pub deleted : pairs_of deleters.links ≡ deletes_at (place_of state.inserted) state.dropped

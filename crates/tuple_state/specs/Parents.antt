@@ -1,6 +1,6 @@
 -- The rows that a row names by CASCADE, column by column.
-use Rattle.std.specs.Prelude.{◌≡◌, ℕ, suc, max, ◌<◌, ◌≤◌, Bool, true, false, ◌&&◌, ◌||◌, List, [], ◌∷◌, ◌++◌, slice_get, slice_index_or, unwrap_or, Option, None, Some, if◌then◌else◌}
-use Rattle.std.specs.List.{list_all, list_any}
+use Rattle.std.specs.Prelude.{◌≡◌, ℕ, suc, max, Bool, true, false, ◌&&◌, ◌||◌, List, [], ◌∷◌, ◌++◌, slice_get, unwrap_or, Option, None, Some, if◌then◌else◌}
+use Rattle.std.specs.List.{list_any}
 use Rattle.update_model.specs.declared.row_name.RowName.{RowName}
 use Rattle.update_model.specs.declared.value.Value.{Value}
 use Rattle.update_model.specs.declared.value.Value.TheVariants as value
@@ -8,9 +8,10 @@ use Rattle.schema.specs.declared.action.Action.{Action}
 use Rattle.schema.specs.declared.column.Column.{Column}
 use Rattle.schema.specs.declared.column.ColumnKind.{ColumnKind}
 use Rattle.schema.specs.Columns.{is_restrict, target_of}
-use Rattle.table_model.specs.Visible.{Rules, cascade_refs, is_cascade, same_row}
+use Rattle.table_model.specs.Visible.{is_cascade, same_row}
 use Rattle.tuple_state.specs.declared.inserted.Inserted.{Inserted}
-use Rattle.tuple_state.specs.State.{row_of}
+use Rattle.tuple_state.specs.declared.dropped.Dropped.{Dropped}
+use Rattle.tuple_state.specs.State.{dropped_at}
 
 -- a row's name, where the column is a reference by CASCADE
 abbrev pub name_by_cascade : RowName → Option (ℕ × Action) → Option RowName
@@ -21,6 +22,21 @@ name_by_cascade name (Some target) = if is_cascade target.1 then Some name else 
 abbrev pub parent_in : ColumnKind → Value → Option RowName
 parent_in kind (value.Row name) = name_by_cascade name (target_of kind)
 parent_in kind other = None
+
+-- a name, as the row at this place names it
+abbrev pub name_at : ℕ → Option RowName → List Dropped
+name_at place None = []
+name_at place (Some name) = dropped_at place name ∷ []
+
+-- the name that a value names by CASCADE in a column of this kind
+abbrev pub name_in : ℕ → ColumnKind → Value → List Dropped
+name_in place kind v = name_at place (parent_in kind v)
+
+-- the names that values name by CASCADE
+abbrev pub names_in : ℕ → List Column → List Value → List Dropped
+names_in place [] values = []
+names_in place (column ∷ columns) [] = []
+names_in place (column ∷ columns) (value ∷ values) = name_in place column.kind value ++ names_in place columns values
 
 -- whether a test is true of a row, where there is one
 abbrev pub passes : (RowName → Bool) → Option RowName → Bool
@@ -33,11 +49,6 @@ all_parents test [] values = true
 all_parents test (column ∷ columns) [] = true
 all_parents test (column ∷ columns) (value ∷ values) = passes test (parent_in column.kind value) && all_parents test columns values
 
--- whether the place that is found is marked
-abbrev pub mark_at : List Bool → Option ℕ → Bool
-mark_at shown None = false
-mark_at shown (Some place) = slice_index_or shown place false
-
 -- Each of these rows has a name that none before it has, these ones included.
 unfoldable pub AreFresh : List Inserted → List Inserted → Type 0
 AreFresh rows [] = Unit {0}
@@ -46,13 +57,6 @@ AreFresh rows (it ∷ more) = (list_any (λ row. same_row row.name it.name) rows
 -- the columns of the table with this number, of which one that is not there has none
 abbrev pub columns_at : List (List Column) → ℕ → List Column
 columns_at columns number = unwrap_or (slice_get columns number) []
-
--- What a test says of rows, by their marks: before a place it is the mark, and from there on it is true where the row is
--- marked and it is true of each row that this one names by CASCADE.
-pub record Continues (rules : Rules) (rows : List Inserted) (from : ℕ) (shown : List Bool) (test : RowName → Bool) : Type 0 where
-  pub before : (k : ℕ) (it : Inserted) → slice_get rows k ≡ Some it → k < from → slice_index_or shown k false ≡ test it.name
-  pub onward : (k : ℕ) (it : Inserted) → slice_get rows k ≡ Some it → from ≤ k
-      → test it.name ≡ (slice_index_or shown k false && list_all (λ r. test r.name) (cascade_refs rules (row_of it)))
 
 -- whether a test is true of the place that is found, where one is
 abbrev pub passes_place : (ℕ → Bool) → Option ℕ → Bool

@@ -2,6 +2,7 @@
 
 ghost use Rattle.std.specs.Prelude.{◌≡◌, IfOk, count_by, map, nat_lt};
 
+use crate::links::Link;
 use crate::{Dropped, Inserted, Voided};
 use std::alloc::{AllocError, Global};
 use table_model::VoidLine;
@@ -18,6 +19,16 @@ pub(crate) fn names_before(dropped: &[Dropped], len: u32) -> usize
     ensures { result ≡ count_by (λ drop. nat_lt drop.position len) dropped.now }
 {
     dropped.iter().filter(|drop| drop.position < len).count()
+}
+
+/// How many links have a number below this one.
+pub(crate) fn numbers_before(links: &[Link], number: usize) -> usize
+    ensures { result ≡ count_by (λ link. nat_lt link.number number) links.now }
+{
+    links
+        .iter()
+        .filter(|link| (link.number as usize) < number)
+        .count()
 }
 
 /// How many of the first updates do nothing.

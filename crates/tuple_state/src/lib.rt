@@ -10,6 +10,8 @@
 #![tactic(auto)]
 
 mod at;
+mod causes;
+mod children;
 mod columns;
 mod cutting;
 mod deleters;
@@ -20,7 +22,6 @@ mod links;
 mod parents;
 mod restricts;
 mod showing;
-mod sorting;
 mod steps;
 mod tables;
 mod voided;

@@ -88,6 +88,22 @@ impl Links {
         thread(newest, self.older.as_mut_slice(), self.links.as_slice(), 0);
     }
 
+    /// How many links there are. Each is of one of the places.
+    pub(crate) fn len(&self) -> usize
+        ensures len { result ≡ length self.now.links }
+        ensures inside { are_inside self.now.size self.now.links ≡ true }
+    {
+        self.links.len()
+    }
+
+    /// The links in the order in which they came. Each is of one of the places.
+    pub(crate) fn links(&self) -> &[Link]
+        ensures links { result.now ≡ self.now.links }
+        ensures inside { are_inside self.now.size self.now.links ≡ true }
+    {
+        self.links.as_slice()
+    }
+
     /// Equal links on memory of their own.
     pub(crate) fn copy(&self, alloc: Global) -> Result<Links, AllocError>
         ensures { IfOk result (λ links. links ≡ self.now) }

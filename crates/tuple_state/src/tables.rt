@@ -1,4 +1,4 @@
-ghost use Rattle.std.specs.Prelude.{◌≡◌, ℕ, ◌+◌, ◌*◌, ◌<◌, ◌≤◌, Bool, List, [], ◌∷◌, ◌++◌, IfOk, OnOk, MatchResult, length, slice_get, vec_len, Some, true, ◌&&◌};
+ghost use Rattle.std.specs.Prelude.{◌≡◌, ℕ, ◌+◌, ◌*◌, ◌<◌, ◌≤◌, Bool, List, [], ◌∷◌, ◌++◌, IfOk, OnOk, MatchResult, length, slice_get, vec_len, Contains, Some, true, ◌&&◌};
 ghost use Rattle.std.specs.List.{list_all, list_any};
 ghost use Rattle.std.specs.Vec.{vec_capacity};
 ghost use Rattle.table_model.specs.declared.verdict.Verdict.TheVariants.{Valid};
@@ -9,23 +9,25 @@ ghost use Rattle.row_check.specs.Meaning.{value_at};
 ghost use Rattle.update_model.specs.Node.{NodeData};
 ghost use Rattle.table_model.specs.Tables.{AreRowsIn, AreVoidsIn};
 ghost use Rattle.table_model.specs.Verdicts.{effects_in, in_table};
-ghost use Rattle.table_model.specs.Visible.{Rules, cascade_refs, is_deleted, is_visible, refs, same_row};
+ghost use Rattle.table_model.specs.Visible.{Rules, TableRow, cascade_refs, is_deleted, is_visible, refs, same_row};
 ghost use Rattle.schema.specs.Columns.{is_restrict};
 ghost use Rattle.validity.specs.Answers.{AreAnswers};
 ghost use Rattle.tuple_state.specs.Past.{IsNextVerdict, IsPastOf, StandsAt, done_then, effects_before};
-ghost use Rattle.tuple_state.specs.Kept.{are_layered, place_of};
+ghost use Rattle.tuple_state.specs.Absence.{causes_of};
+ghost use Rattle.tuple_state.specs.Kept.{are_layered, is_named, place_of};
 ghost use Rattle.tuple_state.specs.Parents.{columns_at, passes_place};
 ghost use Rattle.tuple_state.specs.State.{IsCut, IsStateOf, after, done_in, row_of, rules_of, voided_at};
 ghost use Rattle.tuple_state.specs.declared.inserted.Inserted.{Inserted as Row};
 
+use crate::causes::{add_causes, clear, count_numbers, count_places, room_for};
+use crate::children::parents_of;
 use crate::columns::{columns_of, copy_lists};
-use crate::cutting::{lines_of, names_before, rows_before, voids_before};
-use crate::deleters::add_deleters;
+use crate::cutting::{lines_of, names_before, numbers_before, rows_before, voids_before};
+use crate::deleters::grow_links;
 use crate::links::Links;
-use crate::parents::{add_parents, add_places, remark, remove_places, show};
+use crate::parents::{add_parents, add_places, remove_places};
 use crate::restricts::restricts;
 use crate::showing::{copy_rows, listed_among};
-use crate::sorting::{sort_lines, sort_rows};
 use crate::steps::{dropped_by, inserted_by};
 use crate::{At, Dropped, Inserted, Voided};
 use row_check::{Cmp, compare};
@@ -33,7 +35,7 @@ use schema::{Column, ColumnList, Schema};
 use std::alloc::{AllocError, Global};
 use std::collections::{BTreeMap, BTreeSet};
 use std::marker::Model;
-use table_model::{ShownRowList, Verdict, VoidLine, VoidList};
+use table_model::{ShownRowList, Verdict, VoidLine, VoidList, sort_lines, sort_rows};
 use update_model::{Ancestors, Node, RowName, RowsAt, Value};
 
 /// What valid updates did, and which rows are visible for it. A contract sees the [state](mod@crate) of the definitions.
@@ -49,10 +51,13 @@ pub struct Tables {
     rows: Vec<Inserted>,
     /// Each row's place among these by its name. An ordered map, since strangers choose the names.
     places: BTreeMap<RowName, usize>,
-    /// Of each row whether it is visible.
-    shown: Vec<bool>,
+    /// Of each row the number of its causes of absence: the updates that delete it, and its `CASCADE` columns that name an
+    /// absent row. A row is visible where it is 0.
+    causes: Vec<u32>,
     /// The deleted names in order of arrival.
     dropped: Vec<Dropped>,
+    /// To the place of each row the places of the rows that name it by `CASCADE`, once for each column.
+    children: Links,
     /// To the place of each row the positions of the updates that delete it.
     deleters: Links,
     /// The updates that do nothing, in order of arrival.
@@ -68,7 +73,7 @@ impl Model for Tables {
     ghost view = { λ t. record { columns = t.columns.items; count = t.count; inserted = t.rows.items; dropped = t.dropped.items; voids = t.voids.items } };
 
     ghost invariant = { λ t. IsKept (record { columns = t.columns.items; count = t.count; inserted = t.rows.items; dropped = t.dropped.items; voids = t.voids.items })
-        t.places t.shown.items t.deleters };
+        t.places t.causes.items t.children t.deleters };
 }
 
 impl Tables {
@@ -82,8 +87,9 @@ impl Tables {
             count: 0,
             rows: Vec::new(alloc),
             places: BTreeMap::new(alloc),
-            shown: Vec::new(alloc),
+            causes: Vec::new(alloc),
             dropped: Vec::new(alloc),
+            children: Links::new(alloc),
             deleters: Links::new(alloc),
             voids: Vec::new(alloc),
         })
@@ -126,7 +132,7 @@ impl Tables {
         requires { place < length self.now.inserted }
         ensures { (it : Row) → slice_get self.now.inserted place ≡ Some it → result ≡ is_visible (rules_of self.now) (done_in self.now) it.name }
     {
-        self.shown[place]
+        self.causes[place] == 0
     }
 
     /// Whether an ancestor of the update at a position deletes the row at a place.
@@ -215,35 +221,40 @@ impl Tables {
         let mut dropped = dropped_by(self.alloc, self.count, &node)?;
         let mut inserted = inserted_by(self.alloc, self.count, node)?;
         let first = self.rows.len();
+        let more = inserted.len();
+        let columns = self.columns.as_slice();
+        let parents = parents_of(self.alloc, columns, inserted.as_slice(), first)?;
+        let mut pending = room_for(self.alloc, dropped.len(), first + more)?;
         make_room(
             &mut self.rows,
-            &mut self.shown,
+            &mut self.causes,
             &mut self.dropped,
-            inserted.len(),
+            more,
             dropped.len(),
         )?;
         add_places(&mut self.places, self.rows.as_slice(), inserted.as_slice())?;
-        let grown = add_deleters(
+        let grown = grow_links(
             self.alloc,
+            &mut self.children,
             &mut self.deleters,
-            inserted.len(),
-            dropped.as_slice(),
             &self.places,
-        );
-        if grown.is_err() {
-            remove_places(&mut self.places, self.rows.as_slice(), inserted.as_slice());
-            return Err(AllocError);
-        }
-        self.shown.resize(first + inserted.len(), true).unwrap();
-        self.rows.append(&mut inserted).unwrap();
-        remark(
-            self.shown.as_mut_slice(),
             first,
-            self.rows.as_slice(),
-            self.columns.as_slice(),
-            &self.places,
+            more,
+            parents.as_slice(),
             dropped.as_slice(),
         );
+        match grown {
+            Ok(added) => {
+                self.causes.resize(first + more, 0).unwrap();
+                let causes = self.causes.as_mut_slice();
+                add_causes(causes, &mut pending, &self.children, &added);
+            }
+            Err(error) => {
+                remove_places(&mut self.places, self.rows.as_slice(), inserted.as_slice());
+                return Err(error);
+            }
+        }
+        self.rows.append(&mut inserted).unwrap();
         self.dropped.append(&mut dropped).unwrap();
         self.count += 1;
         Ok(())
@@ -262,22 +273,18 @@ impl Tables {
             &self.rows.as_slice()[..rows],
             &self.rows.as_slice()[rows..],
         );
+        let parents = numbers_before(self.children.links(), rows);
         self.deleters.cut(rows, names);
+        self.children.cut(rows, parents);
         self.rows.truncate(rows);
         self.dropped.truncate(names);
         self.voids.truncate(voids);
-        self.shown.truncate(rows);
+        self.causes.truncate(rows);
         self.count = len;
-        let shown = self.shown.as_mut_slice();
-        show(shown);
-        remark(
-            shown,
-            0,
-            self.rows.as_slice(),
-            self.columns.as_slice(),
-            &self.places,
-            self.dropped.as_slice(),
-        );
+        let causes = self.causes.as_mut_slice();
+        clear(causes);
+        count_places(causes, self.deleters.links());
+        count_numbers(causes, self.children.links());
     }
 
     /// Keeps the line of a void update.
@@ -307,12 +314,24 @@ impl Tables {
         self.is_shown(row)
     }
 
+    /// The number of causes for which a row is absent that a valid update inserted: of the valid updates that delete it, and
+    /// of its `CASCADE` columns that name a row which is not visible. It takes no memory, and logarithmic time.
+    pub fn causes(&self, row: &RowName) -> &u32
+        requires { is_named (done_in self.now).inserted row.now ≡ true }
+        ensures { (rules : Rules) (nodes : List NodeData) → IsStateOf rules nodes self.now → (it : TableRow) → Contains (effects_in rules nodes).inserted it → it.name ≡ row.now → result.now ≡ causes_of rules nodes it }
+    {
+        match self.places.get(row) {
+            Some(place) => &self.causes[*place],
+            None => &0,
+        }
+    }
+
     /// The same answer, told of what the tables hold.
     pub(crate) fn is_shown(&self, row: &RowName) -> bool
         ensures { result ≡ is_visible (rules_of self.now) (done_in self.now) row.now }
     {
         match self.places.get(row) {
-            Some(place) => self.shown[*place],
+            Some(place) => self.causes[*place] == 0,
             None => false,
         }
     }
@@ -357,8 +376,9 @@ impl Tables {
             count: self.count,
             rows,
             places,
-            shown: Vec::from_slice(alloc, self.shown.as_slice())?,
+            causes: Vec::from_slice(alloc, self.causes.as_slice())?,
             dropped: Vec::from_slice(alloc, self.dropped.as_slice())?,
+            children: self.children.copy(alloc)?,
             deleters: self.deleters.copy(alloc)?,
             voids: Vec::from_slice(alloc, self.voids.as_slice())?,
         })
@@ -389,19 +409,19 @@ fn equals_column(values: &[Value], column: u8, value: &Value) -> bool
 /// Makes room for more rows and deleted names.
 fn make_room(
     rows: &mut Vec<Inserted>,
-    shown: &mut Vec<bool>,
+    causes: &mut Vec<u32>,
     dropped: &mut Vec<Dropped>,
     more_rows: usize,
     more_names: usize,
 ) -> Result<(), AllocError>
     ensures rows { rows.new.items ≡ rows.old.items }
-    ensures shown { shown.new.items ≡ shown.old.items }
+    ensures causes { causes.new.items ≡ causes.old.items }
     ensures dropped { dropped.new.items ≡ dropped.old.items }
     ensures room_rows { OnOk result (vec_len rows.new + more_rows ≤ vec_capacity rows.new) }
-    ensures room_shown { OnOk result (vec_len shown.new + more_rows ≤ vec_capacity shown.new) }
+    ensures room_causes { OnOk result (vec_len causes.new + more_rows ≤ vec_capacity causes.new) }
     ensures room_dropped { OnOk result (vec_len dropped.new + more_names ≤ vec_capacity dropped.new) }
 {
     rows.reserve(more_rows)?;
-    shown.reserve(more_rows)?;
+    causes.reserve(more_rows)?;
     dropped.reserve(more_names)
 }

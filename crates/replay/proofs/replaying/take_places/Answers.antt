@@ -25,8 +25,8 @@ add-requires-clause-room c =
     let low : c.args.position ≤ length c.args.graph.now = omega arith in
     let size : length c.args.ancestry.now ≡ c.args.position = ap length c.requires.places ∙ length-before c.args.graph.now c.args.position low in omega arith
 
-pub returns : goal.returns
-returns c =
+pub returns-clause-places : goal.returns-clause-places
+returns-clause-places c =
     let graph = c.args.graph.now in
     let bytes = c.at.result.now in
     let places : c.as_slice.result.now ≡ filter_map (place_in graph) (preds_of bytes) =

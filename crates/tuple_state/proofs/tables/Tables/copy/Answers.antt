@@ -1,4 +1,4 @@
-use Rattle.std.proofs.Common.{◌≡◌, Bool, List, [], ap, sym, subst, ◌∙◌}
+use Rattle.std.proofs.Common.{◌≡◌, ℕ, List, [], ap, sym, subst, ◌∙◌}
 use Rattle.std.specs.BTreeMap.{get}
 use Rattle.update_model.specs.declared.row_name.RowName.{RowName}
 use Rattle.table_model.specs.Tables.{name_cmp}
@@ -21,13 +21,13 @@ invariant_of-result c =
     let state : State = record { columns = inside.columns.items; count = inside.count; inserted = inside.rows.items; dropped = inside.dropped.items; voids = inside.voids.items } in
     let columns = c.in_ok-columns.ensures ∙ c.as_slice.ensures.value in
     let rows = c.in_ok-rows.ensures ∙ c.as_slice-2.ensures.value in
-    let shown = c.in_ok-from_slice.ensures.items ∙ c.as_slice-4.ensures.value in
+    let causes = c.in_ok-from_slice.ensures.items ∙ c.as_slice-4.ensures.value in
     let dropped = c.in_ok-from_slice-2.ensures.items ∙ c.as_slice-5.ensures.value in
     let voids = c.in_ok-from_slice-3.ensures.items ∙ c.as_slice-6.ensures.value in
     let whole : ◌≡◌ {A = State} (record { columns = c.in_ok-columns.columns.items; count = inside.count; inserted = c.in_ok-rows.rows.items; dropped = c.in_ok-from_slice-2.field-0.items; voids = c.in_ok-from_slice-3.field-0.items }) state =
     λ i. record { columns = columns i; count = inside.count; inserted = rows i; dropped = dropped i; voids = voids i } in
     let placed : (name : RowName) → get name_cmp c.add_places.new.places name ≡ place_of inside.rows.items name =
     λ name. c.in_ok-add_places.ensures.ok name ∙ ap (λ (l : List Inserted). place_of l name) (c.as_slice-3.ensures.value ∙ rows) in
-    subst (λ (s : State). IsKept s c.add_places.new.places c.in_ok-from_slice.field-0.items c.in_ok-copy.field-0) (sym whole)
-    (subst (λ (l : List Bool). IsKept state c.add_places.new.places l c.in_ok-copy.field-0) (sym shown)
-    (kept_places state inside.places c.add_places.new.places inside.shown.items inside.deleters c.in_ok-copy.field-0 c.self.invariant placed c.in_ok-copy.ensures))
+    subst (λ (s : State). IsKept s c.add_places.new.places c.in_ok-from_slice.field-0.items c.in_ok-copy.field-0 c.in_ok-copy-2.field-0) (sym whole)
+    (subst (λ (l : List ℕ). IsKept state c.add_places.new.places l c.in_ok-copy.field-0 c.in_ok-copy-2.field-0) (sym causes)
+    (kept_places state inside.places c.add_places.new.places inside.causes.items inside.children c.in_ok-copy.field-0 inside.deleters c.in_ok-copy-2.field-0 c.self.invariant placed c.in_ok-copy.ensures c.in_ok-copy-2.ensures))

@@ -1,116 +1,296 @@
-use Rattle.std.proofs.Common.{◌≡◌, ℕ, ◌+◌, ◌-◌, ◌++◌, length, get_or, take, drop, map, reverse, replicate, true, false, not, ◌&&◌, vec_len, length-append, refl, ap, sym, subst, ◌∙◌, inl, inr, arith}
-use Rattle.std.specs.List.{list_any}
+use Rattle.std.proofs.Common.{◌≡◌, ℕ, ◌+◌, ◌-◌, ◌++◌, length, get_or, take, drop, map, reverse, replicate, List, Option, Some, vec_len, length-append, refl, ap, sym, subst, ◌∙◌, inl, inr, arith}
+use Rattle.std.specs.Prelude.{count_by, ◌==◌}
+use Rattle.std.proofs.lemmas.List.Sums.{count_by-le-length}
 use Rattle.std.proofs.lemmas.List.{length-map, length-replicate, take_all, take_at}
 use Rattle.table_model.specs.Verdicts.{effects_of}
-use Rattle.table_model.specs.Visible.{same_row}
 use Rattle.table_model.specs.declared.verdict.Verdict.TheVariants as verdict
 use Rattle.update_model.specs.Node.{IsNode, NodeData}
 use Rattle.tuple_state.specs.Past.{IsNextVerdict}
 use Rattle.tuple_state.specs.declared.dropped.Dropped.{Dropped}
-use Rattle.tuple_state.specs.State.{State, dropped_at, inserted_at}
+use Rattle.tuple_state.specs.State.{State, dropped_at, inserted_at, rules_of, rules_with}
 use Rattle.std.specs.BTreeMap.{get}
 use Rattle.table_model.specs.Tables.{name_cmp}
-use Rattle.tuple_state.specs.Kept.{deletes_at, pairs_of}
-use Rattle.tuple_state.proofs.Deleting.{all_same, match_err, match_ok, pairs_same}
+use Rattle.tuple_state.specs.Causes.{AreRising, absent_times, parents_from}
+use Rattle.tuple_state.specs.Kept.{deletes_at, pairs_of, place_of}
+use Rattle.tuple_state.specs.Links.{Linked, is_of}
+use Rattle.tuple_state.specs.declared.links.Link.{Link}
+use Rattle.tuple_state.proofs.Deleting.{all_same, links_inside, pairs_same}
+use Rattle.tuple_state.proofs.Fronts.{few_rows}
 use Rattle.tuple_state.proofs.Shortening.{kept_places}
-use Rattle.tuple_state.proofs.Keeping.{drops_there, kept_next, layered_next}
+use Rattle.tuple_state.proofs.Keeping.{drops_there, kept_next, known_inside, layered_next, news_few, padded_counts, parents_found, refs_rising, rising_next}
+use Rattle.tuple_state.proofs.Adding.{rising_lower}
+use Rattle.tuple_state.proofs.Raising.{absent_fewer, length_zero}
 use Rattle.tuple_state.proofs.Lookups.{row_found}
-use Rattle.tuple_state.proofs.Marks.{found_layered, fresh_layered}
+use Rattle.tuple_state.proofs.Marks.{fresh_layered}
 use Rattle.tuple_state.proofs.tables.Tables.keep_valid.Goals as goal
+
+pub parents_of-requires : goal.parents_of-requires
+parents_of-requires c =
+    let inside = c.self.inside in
+    let state : State = record { columns = inside.columns.items; count = inside.count; inserted = inside.rows.items; dropped = inside.dropped.items; voids = inside.voids.items } in
+    let next = subst (λ (s : State). IsNextVerdict s c.args.node verdict.Valid) (sym c.self.view_is) c.requires.next in
+    let news = map (inserted_at inside.count) (reverse (effects_of c.args.node).inserted) in
+    let small = subst (λ (n : NodeData). IsNode n) c.node.view_is c.node.invariant in
+    let first : c.len-first.result ≡ length inside.rows.items = omega (arith, c.len-first.ensures) in
+    let few = few_rows inside.rows.items inside.count c.self.invariant.dated c.self.invariant.bounded in
+    let most = c.self.invariant.few in
+    let more = news_few state c.args.node inside.places inside.causes.items inside.children inside.deleters c.self.invariant next small in
+    let slice = ap length (c.as_slice.ensures.value ∙ c.in_ok-inserted.ensures) in
+    record { few = omega (arith, first, few, most, more, slice) }
 
 pub add_places-requires-clause-fresh : goal.add_places-requires-clause-fresh
 add_places-requires-clause-fresh c =
+    let inside = c.self.inside in
+    let state : State = record { columns = inside.columns.items; count = inside.count; inserted = inside.rows.items; dropped = inside.dropped.items; voids = inside.voids.items } in
     let next = subst (λ (s : State). IsNextVerdict s c.args.node verdict.Valid) (sym c.self.view_is) c.requires.next in
-    rw (c.as_slice.ensures.value, c.make_room.ensures.rows, c.as_slice-2.ensures.value, c.in_ok-inserted.ensures)
-    (fresh_layered _ c.self.inside.rows.items _ (layered_next _ c.args.node c.self.inside.places c.self.inside.shown.items c.self.inside.deleters c.self.invariant next))
-
-pub remark-requires-clause-found : goal.remark-requires-clause-found
-remark-requires-clause-found c =
-    let next = subst (λ (s : State). IsNextVerdict s c.args.node verdict.Valid) (sym c.self.view_is) c.requires.next in
-    let rows = rw (c.unwrap-2.ensures, c.make_room.ensures.rows, c.in_ok-inserted.ensures) at c.append.ensures.items in
-    rw (c.as_slice-4.ensures.value, rows)
-    (found_layered _ _ (layered_next _ c.args.node c.self.inside.places c.self.inside.shown.items c.self.inside.deleters c.self.invariant next))
-
-pub remark-requires-clause-layered : goal.remark-requires-clause-layered
-remark-requires-clause-layered c =
-    let next = subst (λ (s : State). IsNextVerdict s c.args.node verdict.Valid) (sym c.self.view_is) c.requires.next in
-    let rows = rw (c.unwrap-2.ensures, c.make_room.ensures.rows, c.in_ok-inserted.ensures) at c.append.ensures.items in
-    rw (c.as_slice-5.ensures.value, c.as_slice-4.ensures.value, rows)
-    (layered_next _ c.args.node c.self.inside.places c.self.inside.shown.items c.self.inside.deleters c.self.invariant next)
-
-pub invariant_of-self-2 : goal.invariant_of-self-2
-invariant_of-self-2 c =
-    let next = subst (λ (s : State). IsNextVerdict s c.args.node verdict.Valid) (sym c.self.view_is) c.requires.next in
-    let small = subst (λ (n : NodeData). IsNode n) c.node.view_is c.node.invariant in
-    let rows = rw (c.unwrap-2.ensures, c.make_room.ensures.rows, c.in_ok-inserted.ensures) at c.append.ensures.items in
-    let names = rw (c.unwrap-3.ensures, c.make_room.ensures.dropped, c.in_ok-dropped.ensures) at c.append-2.ensures.items in
-    let marks = rw (c.unwrap.ensures, c.make_room.ensures.shown) at c.resize.ensures.items in
-    let placed = rw (c.as_slice.ensures.value, c.make_room.ensures.rows, c.as_slice-2.ensures.value, c.in_ok-inserted.ensures) at c.in_ok-add_places.ensures.ok in
-    let found = rw (c.as_slice-5.ensures.value, c.as_slice-4.ensures.value, rows, c.as_slice-6.ensures.value, c.in_ok-dropped.ensures, c.as_mut_slice.ensures.value) at c.remark.ensures in
-    let old_rows = c.self.inside.rows.items in
-    let old_shown = c.self.inside.shown.items in
-    let news = map (inserted_at c.self.inside.count) (reverse (effects_of c.args.node).inserted) in
-    let old_len : length old_shown ≡ length old_rows = ap length c.self.invariant.marked ∙ length-map old_rows _ in
-    let news_len : length c.in_ok-inserted.inserted.items ≡ length news = ap length c.in_ok-inserted.ensures in
-    let room_len = ap length c.make_room.ensures.shown in
-    let more : c.len-first.result + c.len-4.result - vec_len c.make_room.new.shown ≡ length news = omega (arith, c.len-first.ensures, c.len-4.ensures, old_len, news_len, room_len) in
-    let whole : c.resize.new.self.items ≡ old_shown ++ replicate (length news) true =
-    marks ∙ (λ i. take_all (c.len-first.result + c.len-4.result) old_shown (omega (arith, c.len-first.ensures, old_len)) i ++ replicate (more i) true) in
-    let whole_len = ap length whole ∙ length-append old_shown (replicate (length news) true) in
-    let pad_len = length-replicate (length news) true in
-    let all_len = length-append old_rows news in
-    let front : take c.resize.new.self.len (c.remark.new.shown ++ drop (length c.remark.new.shown) c.resize.new.self.items) ≡ c.remark.new.shown =
-    take_at c.remark.new.shown (drop (length c.remark.new.shown) c.resize.new.self.items) c.resize.new.self.len (c.remark.auto.shown ∙ c.as_mut_slice.ensures.len) in
-    let grown = match_ok _ c.add_deleters-grown.result (sym c.is_err.ensures.value ∙ c.if-is_err.false) c.add_deleters-grown.ensures in
-    let start_is : (from : ℕ) → from ≡ c.len-first.result → from ≡ length old_rows = λ from e. omega (arith, e, c.len-first.ensures) in
-    let value = ap length c.as_mut_slice.ensures.value in
-    let end_len : length c.remark.new.shown ≡ length (old_rows ++ news) = omega (arith, c.remark.auto.shown, value, whole_len, pad_len, all_len, old_len) in
-    let state : State = record { columns = c.self.inside.columns.items; count = c.self.inside.count; inserted = old_rows; dropped = c.self.inside.dropped.items; voids = c.self.inside.voids.items } in
-    rw (rows, names, front)
-    (kept_next state c.args.node c.self.inside.places old_shown c.self.inside.deleters c.self.invariant next small c.add_places.new.places (length news) c.remark.new.shown placed refl
-    (λ test so. found test (λ from hidden start hid. so from hidden
-    (elim start [ inl z ↦ inl z | inr e ↦ inr (start_is from e.0, e.1) ])
-    (λ k it at. hid k it at ∙ ap (λ l. get_or l k false && not (list_any (λ (d : Dropped). same_row d.name it.name) (map (dropped_at c.self.inside.count) (reverse (effects_of c.args.node).deleted)))) whole)))
-    end_len c.add_deleters-grown.new.deleters (omega (arith, grown.0, c.len-3.ensures, news_len))
-    (grown.1 ∙ ap (λ l. pairs_of c.self.inside.deleters.links ++ l) (ap (deletes_at (get name_cmp c.add_places.new.places)) (c.as_slice-3.ensures.value ∙ c.in_ok-dropped.ensures)
-    ∙ pairs_same placed (map (dropped_at c.self.inside.count) (reverse (effects_of c.args.node).deleted)))))
-
-pub add_deleters-grown-requires-clause-found : goal.add_deleters-grown-requires-clause-found
-add_deleters-grown-requires-clause-found c =
-    let next = subst (λ (s : State). IsNextVerdict s c.args.node verdict.Valid) (sym c.self.view_is) c.requires.next in
-    let placed = rw (c.as_slice.ensures.value, c.make_room.ensures.rows, c.as_slice-2.ensures.value, c.in_ok-inserted.ensures) at c.in_ok-add_places.ensures.ok in
-    rw (c.as_slice-3.ensures.value, c.in_ok-dropped.ensures)
-    (all_same placed (map (dropped_at c.self.inside.count) (reverse (effects_of c.args.node).deleted))
-    ∙ drops_there _ c.args.node c.self.inside.places c.self.inside.shown.items c.self.inside.deleters c.self.invariant next)
-
-pub add_deleters-grown-requires-clause-inside : goal.add_deleters-grown-requires-clause-inside
-add_deleters-grown-requires-clause-inside c name place at =
-    let placed = rw (c.as_slice.ensures.value, c.make_room.ensures.rows, c.as_slice-2.ensures.value) at c.in_ok-add_places.ensures.ok in
-    let row = row_found (c.self.inside.rows.items ++ c.in_ok-inserted.inserted.items) name place (sym (placed name) ∙ at) in
-    let len = length-append c.self.inside.rows.items c.in_ok-inserted.inserted.items in
-    omega (arith, row.below, len, c.self.invariant.rooms, c.len-3.ensures)
-
-pub remove_places-requires : goal.remove_places-requires
-remove_places-requires c =
-    let next = subst (λ (s : State). IsNextVerdict s c.args.node verdict.Valid) (sym c.self.view_is) c.requires.next in
-    record {
-      placed = rw (c.as_slice-then-is_err.ensures.value, c.as_slice-then-is_err-2.ensures.value) (rw (c.as_slice.ensures.value, c.as_slice-2.ensures.value) at c.in_ok-add_places.ensures.ok);
-      fresh = rw (c.as_slice-then-is_err.ensures.value, c.make_room.ensures.rows, c.as_slice-then-is_err-2.ensures.value, c.in_ok-inserted.ensures)
-          (fresh_layered _ c.self.inside.rows.items _ (layered_next _ c.args.node c.self.inside.places c.self.inside.shown.items c.self.inside.deleters c.self.invariant next));
-    }
+    let news = map (inserted_at inside.count) (reverse (effects_of c.args.node).inserted) in
+    rw (c.as_slice-2.ensures.value, c.make_room.ensures.rows, c.as_slice-3.ensures.value, c.in_ok-inserted.ensures)
+    (fresh_layered _ inside.rows.items _ (layered_next state c.args.node inside.places inside.causes.items inside.children inside.deleters c.self.invariant next))
 
 pub invariant_of-self-in_err-add_places : goal.invariant_of-self-in_err-add_places
 invariant_of-self-in_err-add_places c =
     let inside = c.self.inside in
     let state : State = record { columns = inside.columns.items; count = inside.count; inserted = inside.rows.items; dropped = inside.dropped.items; voids = inside.voids.items } in
-    rw (c.make_room.ensures.rows, c.make_room.ensures.shown, c.make_room.ensures.dropped)
-    (kept_places state inside.places c.add_places.new.places inside.shown.items inside.deleters inside.deleters c.self.invariant
-    (rw (c.as_slice.ensures.value, c.make_room.ensures.rows) at c.in_err-add_places.ensures.err) refl)
+    rw (c.make_room.ensures.rows, c.make_room.ensures.causes, c.make_room.ensures.dropped)
+    (kept_places state inside.places c.add_places.new.places inside.causes.items inside.children inside.children inside.deleters inside.deleters c.self.invariant
+    (rw (c.as_slice-2.ensures.value, c.make_room.ensures.rows) at c.in_err-add_places.ensures.err) refl refl)
 
-pub invariant_of-self-then-is_err : goal.invariant_of-self-then-is_err
-invariant_of-self-then-is_err c =
+pub grow_links-grown-requires-clause-named : goal.grow_links-grown-requires-clause-named
+grow_links-grown-requires-clause-named c =
     let inside = c.self.inside in
     let state : State = record { columns = inside.columns.items; count = inside.count; inserted = inside.rows.items; dropped = inside.dropped.items; voids = inside.voids.items } in
-    rw (c.make_room.ensures.rows, c.make_room.ensures.shown, c.make_room.ensures.dropped)
-    (kept_places state inside.places c.remove_places.new.places inside.shown.items inside.deleters c.add_deleters-grown.new.deleters c.self.invariant
-    (rw (c.as_slice-then-is_err.ensures.value, c.make_room.ensures.rows) at c.remove_places.ensures) (match_err _ c.add_deleters-grown.result (sym c.is_err.ensures.value ∙ c.if-is_err.true) c.add_deleters-grown.ensures))
+    let next = subst (λ (s : State). IsNextVerdict s c.args.node verdict.Valid) (sym c.self.view_is) c.requires.next in
+    let news = map (inserted_at inside.count) (reverse (effects_of c.args.node).inserted) in
+    let first : c.len-first.result ≡ length inside.rows.items = omega (arith, c.len-first.ensures) in
+    let placed = rw (c.as_slice-2.ensures.value, c.make_room.ensures.rows, c.as_slice-3.ensures.value, c.in_ok-inserted.ensures) at c.in_ok-add_places.ensures.ok in
+    let parents_are : c.in_ok-parents.parents.items ≡ parents_from (rules_of state) (length inside.rows.items) news =
+    c.in_ok-parents.ensures ∙ (λ i. parents_from (rules_with (c.as_slice-columns.ensures.value i)) (first i) ((c.as_slice.ensures.value ∙ c.in_ok-inserted.ensures) i)) in
+    rw (c.as_slice-4.ensures.value, parents_are)
+    (all_same placed (parents_from (rules_of state) (length inside.rows.items) news) ∙ parents_found state c.args.node inside.places inside.causes.items inside.children inside.deleters c.self.invariant next)
+
+pub grow_links-grown-requires-clause-found : goal.grow_links-grown-requires-clause-found
+grow_links-grown-requires-clause-found c =
+    let inside = c.self.inside in
+    let state : State = record { columns = inside.columns.items; count = inside.count; inserted = inside.rows.items; dropped = inside.dropped.items; voids = inside.voids.items } in
+    let next = subst (λ (s : State). IsNextVerdict s c.args.node verdict.Valid) (sym c.self.view_is) c.requires.next in
+    let news = map (inserted_at inside.count) (reverse (effects_of c.args.node).inserted) in
+    let placed = rw (c.as_slice-2.ensures.value, c.make_room.ensures.rows, c.as_slice-3.ensures.value, c.in_ok-inserted.ensures) at c.in_ok-add_places.ensures.ok in
+    rw (c.as_slice-5.ensures.value, c.in_ok-dropped.ensures)
+    (all_same placed (map (dropped_at inside.count) (reverse (effects_of c.args.node).deleted)) ∙ drops_there state c.args.node inside.places inside.causes.items inside.children inside.deleters c.self.invariant next)
+
+pub grow_links-grown-requires-clause-inside : goal.grow_links-grown-requires-clause-inside
+grow_links-grown-requires-clause-inside c name place at =
+    let inside = c.self.inside in
+    let state : State = record { columns = inside.columns.items; count = inside.count; inserted = inside.rows.items; dropped = inside.dropped.items; voids = inside.voids.items } in
+    let next = subst (λ (s : State). IsNextVerdict s c.args.node verdict.Valid) (sym c.self.view_is) c.requires.next in
+    let news = map (inserted_at inside.count) (reverse (effects_of c.args.node).inserted) in
+    let first : c.len-first.result ≡ length inside.rows.items = omega (arith, c.len-first.ensures) in
+    let placed = rw (c.as_slice-2.ensures.value, c.make_room.ensures.rows, c.as_slice-3.ensures.value, c.in_ok-inserted.ensures) at c.in_ok-add_places.ensures.ok in
+    let row = row_found (inside.rows.items ++ news) name place (sym (placed name) ∙ at) in
+    let len = length-append inside.rows.items news in
+    let more = ap length c.in_ok-inserted.ensures in
+    omega (arith, row.below, len, more, first, c.len-more.ensures)
+
+pub add_causes-requires-clause-rising : goal.add_causes-requires-clause-rising
+add_causes-requires-clause-rising c =
+    let inside = c.self.inside in
+    let state : State = record { columns = inside.columns.items; count = inside.count; inserted = inside.rows.items; dropped = inside.dropped.items; voids = inside.voids.items } in
+    let next = subst (λ (s : State). IsNextVerdict s c.args.node verdict.Valid) (sym c.self.view_is) c.requires.next in
+    let news = map (inserted_at inside.count) (reverse (effects_of c.args.node).inserted) in
+    let first : c.len-first.result ≡ length inside.rows.items = omega (arith, c.len-first.ensures) in
+    let placed = rw (c.as_slice-2.ensures.value, c.make_room.ensures.rows, c.as_slice-3.ensures.value, c.in_ok-inserted.ensures) at c.in_ok-add_places.ensures.ok in
+    let parents_are : c.in_ok-parents.parents.items ≡ parents_from (rules_of state) (length inside.rows.items) news =
+    c.in_ok-parents.ensures ∙ (λ i. parents_from (rules_with (c.as_slice-columns.ensures.value i)) (first i) ((c.as_slice.ensures.value ∙ c.in_ok-inserted.ensures) i)) in
+    let refs = c.in-Ok.added.parents.items in
+    let refs_are : pairs_of refs ≡ deletes_at (place_of (inside.rows.items ++ news)) (parents_from (rules_of state) (length inside.rows.items) news) =
+    c.in-Ok.ensures.parents ∙ ap (deletes_at (get name_cmp c.add_places.new.places)) (c.as_slice-4.ensures.value ∙ parents_are) ∙ pairs_same placed (parents_from (rules_of state) (length inside.rows.items) news) in
+    let news_len : length c.in_ok-inserted.inserted.items ≡ length news = ap length c.in_ok-inserted.ensures in
+    let room_len = ap length c.make_room.ensures.causes in
+    let marks = rw (c.unwrap.ensures, c.make_room.ensures.causes) at c.resize.ensures.items in
+    let more : c.len-first.result + c.len-more.result - vec_len c.make_room.new.causes ≡ length news = omega (arith, first, c.len-more.ensures, c.self.invariant.each, news_len, room_len) in
+    let whole : c.as_mut_slice-causes.result.now ≡ inside.causes.items ++ replicate (length news) 0 =
+    c.as_mut_slice-causes.ensures.value ∙ marks ∙ (λ i. take_all (c.len-first.result + c.len-more.result) inside.causes.items (omega (arith, first, c.self.invariant.each)) i ++ replicate (more i) 0) in
+    let len : length c.as_mut_slice-causes.result.now ≡ length (inside.rows.items ++ news) =
+    (let a = ap length whole in let b = length-append inside.causes.items (replicate (length news) 0) in let d = length-replicate {A = ℕ} (length news) 0 in let e = length-append inside.rows.items news in
+    omega (arith, a, b, d, e, c.self.invariant.each)) in
+    let children_are : c.grow_links-grown.new.children.links ≡ inside.children.links ++ refs = ap (λ (d : Linked). d.links) c.in-Ok.ensures.children in
+    subst (λ (l : List Link). AreRising 0 (length c.as_mut_slice-causes.result.now) l) (sym children_are)
+    (subst (λ m. AreRising 0 m (inside.children.links ++ refs)) (sym len) (rising_next state c.args.node inside.places inside.causes.items inside.children inside.deleters c.self.invariant next refs refs_are))
+
+pub add_causes-requires-clause-parents : goal.add_causes-requires-clause-parents
+add_causes-requires-clause-parents c =
+    let inside = c.self.inside in
+    let state : State = record { columns = inside.columns.items; count = inside.count; inserted = inside.rows.items; dropped = inside.dropped.items; voids = inside.voids.items } in
+    let next = subst (λ (s : State). IsNextVerdict s c.args.node verdict.Valid) (sym c.self.view_is) c.requires.next in
+    let news = map (inserted_at inside.count) (reverse (effects_of c.args.node).inserted) in
+    let first : c.len-first.result ≡ length inside.rows.items = omega (arith, c.len-first.ensures) in
+    let placed = rw (c.as_slice-2.ensures.value, c.make_room.ensures.rows, c.as_slice-3.ensures.value, c.in_ok-inserted.ensures) at c.in_ok-add_places.ensures.ok in
+    let parents_are : c.in_ok-parents.parents.items ≡ parents_from (rules_of state) (length inside.rows.items) news =
+    c.in_ok-parents.ensures ∙ (λ i. parents_from (rules_with (c.as_slice-columns.ensures.value i)) (first i) ((c.as_slice.ensures.value ∙ c.in_ok-inserted.ensures) i)) in
+    let refs = c.in-Ok.added.parents.items in
+    let refs_are : pairs_of refs ≡ deletes_at (place_of (inside.rows.items ++ news)) (parents_from (rules_of state) (length inside.rows.items) news) =
+    c.in-Ok.ensures.parents ∙ ap (deletes_at (get name_cmp c.add_places.new.places)) (c.as_slice-4.ensures.value ∙ parents_are) ∙ pairs_same placed (parents_from (rules_of state) (length inside.rows.items) news) in
+    let news_len : length c.in_ok-inserted.inserted.items ≡ length news = ap length c.in_ok-inserted.ensures in
+    let room_len = ap length c.make_room.ensures.causes in
+    let marks = rw (c.unwrap.ensures, c.make_room.ensures.causes) at c.resize.ensures.items in
+    let more : c.len-first.result + c.len-more.result - vec_len c.make_room.new.causes ≡ length news = omega (arith, first, c.len-more.ensures, c.self.invariant.each, news_len, room_len) in
+    let whole : c.as_mut_slice-causes.result.now ≡ inside.causes.items ++ replicate (length news) 0 =
+    c.as_mut_slice-causes.ensures.value ∙ marks ∙ (λ i. take_all (c.len-first.result + c.len-more.result) inside.causes.items (omega (arith, first, c.self.invariant.each)) i ++ replicate (more i) 0) in
+    let len : length c.as_mut_slice-causes.result.now ≡ length (inside.rows.items ++ news) =
+    (let a = ap length whole in let b = length-append inside.causes.items (replicate (length news) 0) in let d = length-replicate {A = ℕ} (length news) 0 in let e = length-append inside.rows.items news in
+    omega (arith, a, b, d, e, c.self.invariant.each)) in
+    subst (λ m. AreRising 0 m refs) (sym len)
+    (rising_lower (length inside.rows.items) 0 (length (inside.rows.items ++ news)) refs (omega arith) (refs_rising state c.args.node inside.places inside.causes.items inside.children inside.deleters c.self.invariant next refs refs_are))
+
+pub add_causes-requires-clause-dropped : goal.add_causes-requires-clause-dropped
+add_causes-requires-clause-dropped c =
+    let inside = c.self.inside in
+    let state : State = record { columns = inside.columns.items; count = inside.count; inserted = inside.rows.items; dropped = inside.dropped.items; voids = inside.voids.items } in
+    let next = subst (λ (s : State). IsNextVerdict s c.args.node verdict.Valid) (sym c.self.view_is) c.requires.next in
+    let news = map (inserted_at inside.count) (reverse (effects_of c.args.node).inserted) in
+    let first : c.len-first.result ≡ length inside.rows.items = omega (arith, c.len-first.ensures) in
+    let placed = rw (c.as_slice-2.ensures.value, c.make_room.ensures.rows, c.as_slice-3.ensures.value, c.in_ok-inserted.ensures) at c.in_ok-add_places.ensures.ok in
+    let names = c.in-Ok.added.dropped.items in
+    let drops = map (dropped_at inside.count) (reverse (effects_of c.args.node).deleted) in
+    let names_are : pairs_of names ≡ deletes_at (place_of (inside.rows.items ++ news)) drops =
+    c.in-Ok.ensures.dropped ∙ ap (deletes_at (get name_cmp c.add_places.new.places)) (c.as_slice-5.ensures.value ∙ c.in_ok-dropped.ensures) ∙ pairs_same placed drops in
+    let news_len : length c.in_ok-inserted.inserted.items ≡ length news = ap length c.in_ok-inserted.ensures in
+    let room_len = ap length c.make_room.ensures.causes in
+    let marks = rw (c.unwrap.ensures, c.make_room.ensures.causes) at c.resize.ensures.items in
+    let more : c.len-first.result + c.len-more.result - vec_len c.make_room.new.causes ≡ length news = omega (arith, first, c.len-more.ensures, c.self.invariant.each, news_len, room_len) in
+    let whole : c.as_mut_slice-causes.result.now ≡ inside.causes.items ++ replicate (length news) 0 =
+    c.as_mut_slice-causes.ensures.value ∙ marks ∙ (λ i. take_all (c.len-first.result + c.len-more.result) inside.causes.items (omega (arith, first, c.self.invariant.each)) i ++ replicate (more i) 0) in
+    let len : length c.as_mut_slice-causes.result.now ≡ length (inside.rows.items ++ news) =
+    (let a = ap length whole in let b = length-append inside.causes.items (replicate (length news) 0) in let d = length-replicate {A = ℕ} (length news) 0 in let e = length-append inside.rows.items news in
+    omega (arith, a, b, d, e, c.self.invariant.each)) in
+    links_inside (place_of (inside.rows.items ++ news)) (length c.as_mut_slice-causes.result.now) names drops names_are
+    (λ name k found. let row = row_found (inside.rows.items ++ news) name k found in omega (arith, row.below, len))
+
+pub add_causes-requires-clause-room : goal.add_causes-requires-clause-room
+add_causes-requires-clause-room c =
+    let inside = c.self.inside in
+    let state : State = record { columns = inside.columns.items; count = inside.count; inserted = inside.rows.items; dropped = inside.dropped.items; voids = inside.voids.items } in
+    let next = subst (λ (s : State). IsNextVerdict s c.args.node verdict.Valid) (sym c.self.view_is) c.requires.next in
+    let news = map (inserted_at inside.count) (reverse (effects_of c.args.node).inserted) in
+    let first : c.len-first.result ≡ length inside.rows.items = omega (arith, c.len-first.ensures) in
+    let placed = rw (c.as_slice-2.ensures.value, c.make_room.ensures.rows, c.as_slice-3.ensures.value, c.in_ok-inserted.ensures) at c.in_ok-add_places.ensures.ok in
+    let names = c.in-Ok.added.dropped.items in
+    let drops = map (dropped_at inside.count) (reverse (effects_of c.args.node).deleted) in
+    let names_are : pairs_of names ≡ deletes_at (place_of (inside.rows.items ++ news)) drops =
+    c.in-Ok.ensures.dropped ∙ ap (deletes_at (get name_cmp c.add_places.new.places)) (c.as_slice-5.ensures.value ∙ c.in_ok-dropped.ensures) ∙ pairs_same placed drops in
+    let news_len : length c.in_ok-inserted.inserted.items ≡ length news = ap length c.in_ok-inserted.ensures in
+    let room_len = ap length c.make_room.ensures.causes in
+    let marks = rw (c.unwrap.ensures, c.make_room.ensures.causes) at c.resize.ensures.items in
+    let more : c.len-first.result + c.len-more.result - vec_len c.make_room.new.causes ≡ length news = omega (arith, first, c.len-more.ensures, c.self.invariant.each, news_len, room_len) in
+    let whole : c.as_mut_slice-causes.result.now ≡ inside.causes.items ++ replicate (length news) 0 =
+    c.as_mut_slice-causes.ensures.value ∙ marks ∙ (λ i. take_all (c.len-first.result + c.len-more.result) inside.causes.items (omega (arith, first, c.self.invariant.each)) i ++ replicate (more i) 0) in
+    let len : length c.as_mut_slice-causes.result.now ≡ length (inside.rows.items ++ news) =
+    (let a = ap length whole in let b = length-append inside.causes.items (replicate (length news) 0) in let d = length-replicate {A = ℕ} (length news) 0 in let e = length-append inside.rows.items news in
+    omega (arith, a, b, d, e, c.self.invariant.each)) in
+    let dropped_len = ap length c.in_ok-dropped.ensures in
+    let pair_len = ap length names_are in
+    let made_len = length-map {B = Option ℕ × ℕ} names (λ (link : Link). (Some link.place, link.number)) in
+    let drop_len = length-map {B = Option ℕ × ℕ} drops (λ (drop : Dropped). (place_of (inside.rows.items ++ news) drop.name, drop.position)) in
+    let all_len = length-append inside.rows.items news in
+    elim c.in_ok-pending.ensures.room [
+      | inl none ↦ inl (length_zero names (omega (arith, none, c.len.ensures, dropped_len, pair_len, made_len, drop_len)))
+      | inr room ↦ inr (omega (arith, room, len, all_len, first, news_len, c.len-more.ensures))
+    ]
+
+pub add_causes-requires-clause-few : goal.add_causes-requires-clause-few
+add_causes-requires-clause-few c k =
+    let inside = c.self.inside in
+    let state : State = record { columns = inside.columns.items; count = inside.count; inserted = inside.rows.items; dropped = inside.dropped.items; voids = inside.voids.items } in
+    let next = subst (λ (s : State). IsNextVerdict s c.args.node verdict.Valid) (sym c.self.view_is) c.requires.next in
+    let news = map (inserted_at inside.count) (reverse (effects_of c.args.node).inserted) in
+    let first : c.len-first.result ≡ length inside.rows.items = omega (arith, c.len-first.ensures) in
+    let news_len : length c.in_ok-inserted.inserted.items ≡ length news = ap length c.in_ok-inserted.ensures in
+    let room_len = ap length c.make_room.ensures.causes in
+    let marks = rw (c.unwrap.ensures, c.make_room.ensures.causes) at c.resize.ensures.items in
+    let more : c.len-first.result + c.len-more.result - vec_len c.make_room.new.causes ≡ length news = omega (arith, first, c.len-more.ensures, c.self.invariant.each, news_len, room_len) in
+    let whole : c.as_mut_slice-causes.result.now ≡ inside.causes.items ++ replicate (length news) 0 =
+    c.as_mut_slice-causes.ensures.value ∙ marks ∙ (λ i. take_all (c.len-first.result + c.len-more.result) inside.causes.items (omega (arith, first, c.self.invariant.each)) i ++ replicate (more i) 0) in
+    let len : length c.as_mut_slice-causes.result.now ≡ length (inside.rows.items ++ news) =
+    (let a = ap length whole in let b = length-append inside.causes.items (replicate (length news) 0) in let d = length-replicate {A = ℕ} (length news) 0 in let e = length-append inside.rows.items news in
+    omega (arith, a, b, d, e, c.self.invariant.each)) in
+    let refs = c.in-Ok.added.parents.items in
+    let names = c.in-Ok.added.dropped.items in
+    let children_are : c.grow_links-grown.new.children.links ≡ inside.children.links ++ refs = ap (λ (d : Linked). d.links) c.in-Ok.ensures.children in
+    let deleters_are : c.grow_links-grown.new.deleters.links ≡ inside.deleters.links ++ names = ap (λ (d : Linked). d.links) c.in-Ok.ensures.deleters in
+    let new = c.grow_links-grown.new.children.links in
+    let pad = inside.causes.items ++ replicate (length news) 0 in
+    let count = ap (λ (l : List ℕ). get_or l k 0) whole ∙ padded_counts state c.args.node inside.places inside.causes.items inside.children inside.deleters c.self.invariant next (length news) k in
+    let absent = absent_fewer inside.children.links pad k in
+    let known = count_by-le-length (λ (link : Link). link.number == k) inside.children.links in
+    let added = count_by-le-length (λ (link : Link). link.number == k) refs in
+    let all = count_by-le-length (λ (link : Link). link.number == k) new in
+    let gone = count_by-le-length (is_of k) inside.deleters.links in
+    let going = count_by-le-length (is_of k) names in
+    let child_len = ap length children_are ∙ length-append inside.children.links refs in
+    let gone_len = ap length deleters_are ∙ length-append inside.deleters.links names in
+    omega (arith, count, absent, known, added, all, gone, going, child_len, gone_len, c.grow_links-grown.ensures.few_children, c.grow_links-grown.ensures.few_deleters)
+
+pub remove_places-requires-clause-fresh : goal.remove_places-requires-clause-fresh
+remove_places-requires-clause-fresh c =
+    let inside = c.self.inside in
+    let state : State = record { columns = inside.columns.items; count = inside.count; inserted = inside.rows.items; dropped = inside.dropped.items; voids = inside.voids.items } in
+    let next = subst (λ (s : State). IsNextVerdict s c.args.node verdict.Valid) (sym c.self.view_is) c.requires.next in
+    let news = map (inserted_at inside.count) (reverse (effects_of c.args.node).inserted) in
+    rw (c.as_slice-in-Err.ensures.value, c.make_room.ensures.rows, c.as_slice-in-Err-2.ensures.value, c.in_ok-inserted.ensures)
+    (fresh_layered _ inside.rows.items _ (layered_next state c.args.node inside.places inside.causes.items inside.children inside.deleters c.self.invariant next))
+
+pub invariant_of-self-in-Err : goal.invariant_of-self-in-Err
+invariant_of-self-in-Err c =
+    let inside = c.self.inside in
+    let state : State = record { columns = inside.columns.items; count = inside.count; inserted = inside.rows.items; dropped = inside.dropped.items; voids = inside.voids.items } in
+    rw (c.make_room.ensures.rows, c.make_room.ensures.causes, c.make_room.ensures.dropped)
+    (kept_places state inside.places c.remove_places.new.places inside.causes.items inside.children c.grow_links-grown.new.children inside.deleters c.grow_links-grown.new.deleters c.self.invariant
+    (rw (c.as_slice-in-Err.ensures.value, c.make_room.ensures.rows) at c.remove_places.ensures) c.in-Err.ensures.children c.in-Err.ensures.deleters)
+
+pub invariant_of-self-2 : goal.invariant_of-self-2
+invariant_of-self-2 c =
+    let inside = c.self.inside in
+    let state : State = record { columns = inside.columns.items; count = inside.count; inserted = inside.rows.items; dropped = inside.dropped.items; voids = inside.voids.items } in
+    let next = subst (λ (s : State). IsNextVerdict s c.args.node verdict.Valid) (sym c.self.view_is) c.requires.next in
+    let news = map (inserted_at inside.count) (reverse (effects_of c.args.node).inserted) in
+    let small = subst (λ (n : NodeData). IsNode n) c.node.view_is c.node.invariant in
+    let first : c.len-first.result ≡ length inside.rows.items = omega (arith, c.len-first.ensures) in
+    let placed = rw (c.as_slice-2.ensures.value, c.make_room.ensures.rows, c.as_slice-3.ensures.value, c.in_ok-inserted.ensures) at c.in_ok-add_places.ensures.ok in
+    let parents_are : c.in_ok-parents.parents.items ≡ parents_from (rules_of state) (length inside.rows.items) news =
+    c.in_ok-parents.ensures ∙ (λ i. parents_from (rules_with (c.as_slice-columns.ensures.value i)) (first i) ((c.as_slice.ensures.value ∙ c.in_ok-inserted.ensures) i)) in
+    let refs = c.in-Ok.added.parents.items in
+    let refs_are : pairs_of refs ≡ deletes_at (place_of (inside.rows.items ++ news)) (parents_from (rules_of state) (length inside.rows.items) news) =
+    c.in-Ok.ensures.parents ∙ ap (deletes_at (get name_cmp c.add_places.new.places)) (c.as_slice-4.ensures.value ∙ parents_are) ∙ pairs_same placed (parents_from (rules_of state) (length inside.rows.items) news) in
+    let names = c.in-Ok.added.dropped.items in
+    let drops = map (dropped_at inside.count) (reverse (effects_of c.args.node).deleted) in
+    let names_are : pairs_of names ≡ deletes_at (place_of (inside.rows.items ++ news)) drops =
+    c.in-Ok.ensures.dropped ∙ ap (deletes_at (get name_cmp c.add_places.new.places)) (c.as_slice-5.ensures.value ∙ c.in_ok-dropped.ensures) ∙ pairs_same placed drops in
+    let news_len : length c.in_ok-inserted.inserted.items ≡ length news = ap length c.in_ok-inserted.ensures in
+    let room_len = ap length c.make_room.ensures.causes in
+    let marks = rw (c.unwrap.ensures, c.make_room.ensures.causes) at c.resize.ensures.items in
+    let more : c.len-first.result + c.len-more.result - vec_len c.make_room.new.causes ≡ length news = omega (arith, first, c.len-more.ensures, c.self.invariant.each, news_len, room_len) in
+    let whole : c.as_mut_slice-causes.result.now ≡ inside.causes.items ++ replicate (length news) 0 =
+    c.as_mut_slice-causes.ensures.value ∙ marks ∙ (λ i. take_all (c.len-first.result + c.len-more.result) inside.causes.items (omega (arith, first, c.self.invariant.each)) i ++ replicate (more i) 0) in
+    let len : length c.as_mut_slice-causes.result.now ≡ length (inside.rows.items ++ news) =
+    (let a = ap length whole in let b = length-append inside.causes.items (replicate (length news) 0) in let d = length-replicate {A = ℕ} (length news) 0 in let e = length-append inside.rows.items news in
+    omega (arith, a, b, d, e, c.self.invariant.each)) in
+    let children_are : c.grow_links-grown.new.children.links ≡ inside.children.links ++ refs = ap (λ (d : Linked). d.links) c.in-Ok.ensures.children in
+    let deleters_are : c.grow_links-grown.new.deleters.links ≡ inside.deleters.links ++ names = ap (λ (d : Linked). d.links) c.in-Ok.ensures.deleters in
+    let rows = rw (c.unwrap-2.ensures, c.make_room.ensures.rows, c.in_ok-inserted.ensures) at c.append.ensures.items in
+    let gone = rw (c.unwrap-3.ensures, c.make_room.ensures.dropped, c.in_ok-dropped.ensures) at c.append-2.ensures.items in
+    let front : take c.resize.new.self.len (c.add_causes.new.causes ++ drop (length c.add_causes.new.causes) c.resize.new.self.items) ≡ c.add_causes.new.causes =
+    take_at c.add_causes.new.causes (drop (length c.add_causes.new.causes) c.resize.new.self.items) c.resize.new.self.len (c.add_causes.auto.causes ∙ c.as_mut_slice-causes.ensures.len) in
+    let before : (k : ℕ) → get_or c.as_mut_slice-causes.result.now k 0 ≡ count_by (is_of k) inside.deleters.links + absent_times inside.children.links c.as_mut_slice-causes.result.now k =
+    subst (λ (l : List ℕ). (k : ℕ) → get_or l k 0 ≡ count_by (is_of k) inside.deleters.links + absent_times inside.children.links l k) (sym whole) (padded_counts state c.args.node inside.places inside.causes.items inside.children inside.deleters c.self.invariant next (length news)) in
+    let counts : (k : ℕ) → get_or c.add_causes.new.causes k 0 ≡ count_by (is_of k) (inside.deleters.links ++ names) + absent_times (inside.children.links ++ refs) c.add_causes.new.causes k =
+    λ k.
+    c.add_causes.ensures (length inside.rows.items) inside.children.links inside.deleters.links children_are
+    (subst (λ m. AreRising (length inside.rows.items) m refs) (sym len) (refs_rising state c.args.node inside.places inside.causes.items inside.children inside.deleters c.self.invariant next refs refs_are)) (known_inside state c.args.node inside.places inside.causes.items inside.children inside.deleters c.self.invariant next) before k
+    ∙ ap (λ (l : List Link). count_by (is_of k) (inside.deleters.links ++ names) + absent_times l c.add_causes.new.causes k) children_are in
+    let all_len = length-append inside.rows.items news in
+    let child_len = ap length children_are in
+    let gone_len = ap length deleters_are in
+    rw (rows, gone, front, c.in-Ok.ensures.children, c.in-Ok.ensures.deleters)
+    (kept_next state c.args.node inside.places inside.causes.items inside.children inside.deleters c.self.invariant next refs refs_are small c.add_places.new.places (c.len-first.result + c.len-more.result) c.add_causes.new.causes names placed names_are
+    (omega (arith, first, c.len-more.ensures, news_len, all_len)) (c.add_causes.auto.causes ∙ len)
+    (omega (arith, child_len, c.grow_links-grown.ensures.few_children)) (omega (arith, gone_len, c.grow_links-grown.ensures.few_deleters)) counts)

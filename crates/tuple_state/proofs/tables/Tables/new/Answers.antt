@@ -4,12 +4,12 @@ use Rattle.tuple_state.proofs.tables.Tables.new.Goals as goal
 
 pub invariant_of-result : goal.invariant_of-result
 invariant_of-result c =
-    rw (c.new.ensures.items, c.new-3.ensures.items, c.new-4.ensures.items, c.new-6.ensures.items)
-    (kept_new c.in_ok-columns_of.field-0.items c.new-2.result c.new-5.result c.new-2.ensures.empty c.new-5.ensures)
+    rw (c.new.ensures.items, c.new-3.ensures.items, c.new-4.ensures.items, c.new-7.ensures.items)
+    (kept_new c.in_ok-columns_of.field-0.items c.new-2.result c.new-5.result c.new-6.result c.new-2.ensures.empty c.new-5.ensures c.new-6.ensures)
 
 pub returns : goal.returns
 unfolding state_of
 returns c ask = record {
   closed = tt;
-  is = λ i. record { columns = c.in_ok-columns_of.ensures i; count = 0; inserted = c.new.ensures.items i; dropped = c.new-4.ensures.items i; voids = c.new-6.ensures.items i };
+  is = λ i. record { columns = c.in_ok-columns_of.ensures i; count = 0; inserted = c.new.ensures.items i; dropped = c.new-4.ensures.items i; voids = c.new-7.ensures.items i };
 }

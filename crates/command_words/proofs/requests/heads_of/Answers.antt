@@ -1,0 +1,11 @@
+use Rattle.std.proofs.Common.{◌∙◌, ap, sym, List, Option, Some, option_map, codes}
+use Rattle.clap.specs.Words.{Row, Text, first_of}
+use Rattle.command_words.specs.Requests.{heads}
+use Rattle.command_words.proofs.requests.heads_of.Goals as goal
+
+pub returns-in-Some : goal.returns-in-Some
+returns-in-Some c =
+    ap (λ (d : Option Text). Some (heads d)) c.word.ensures ∙ ap (option_map (λ (rows : List Row). heads (first_of (codes "DIR") rows))) (sym c.in-Some.is ∙ c.in_ok-given.ensures)
+
+pub returns-in-None : goal.returns-in-None
+returns-in-None c = ap (option_map (λ (rows : List Row). heads (first_of (codes "DIR") rows))) (sym c.in-None.is ∙ c.in_ok-given.ensures)

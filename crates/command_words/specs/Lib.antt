@@ -1,0 +1,4 @@
+pub mod Commands
+pub mod Requests
+pub mod Seen
+pub mod Words

@@ -1,0 +1,98 @@
+-- What the words of a command line ask for, by rules.
+use Rattle.std.specs.Prelude.{◌≡◌, ◌≢◌, Bool, true, List, [], ◌∷◌, Option, Some, None, if◌then◌else◌, bytes_eq, codes}
+use Rattle.clap.specs.Words.{App, Text, first_of, matches_of}
+use Rattle.lm_ots.specs.declared.ots_type.OtsType.{OtsType}
+use Rattle.lm_ots.specs.declared.ots_type.OtsType.TheVariants.{W1, W2, W4, W8}
+use Rattle.lms_tree.specs.declared.lms_type.LmsType.{LmsType}
+use Rattle.lms_tree.specs.declared.lms_type.LmsType.TheVariants.{H5, H10, H15}
+use Rattle.command_words.specs.Words.{command_app, flag, is_set, is_taken, needed, position, value}
+
+-- a request, with the words that name directories
+pub data RequestText : Type 0 where
+  heads : Option Text → RequestText
+  check : RequestText
+  dump : Option Text → RequestText
+  init : Text → RequestText
+  keygen : Text → LmsType → OtsType → RequestText
+  apply : Text → RequestText
+  join : Text → RequestText
+  export : Text → Bool → RequestText
+  merge : Text → Text → RequestText
+
+-- ---- the arguments of each command
+
+-- NAME [DIR]
+abbrev pub any_directory_app : Text → App
+any_directory_app name = command_app name (position (codes "DIR") ∷ [])
+
+-- NAME DIR
+abbrev pub directory_app : Text → App
+directory_app name = command_app name (needed (position (codes "DIR")) ∷ [])
+
+-- check
+abbrev pub check_app : App
+check_app = command_app (codes "check") []
+
+-- keygen DIR [--height H] [--width W]
+abbrev pub keygen_app : App
+keygen_app = command_app (codes "keygen") (needed (position (codes "DIR")) ∷ value (codes "height") ∷ value (codes "width") ∷ [])
+
+-- export DIR [--updates]
+abbrev pub export_app : App
+export_app = command_app (codes "export") (needed (position (codes "DIR")) ∷ flag (codes "updates") ∷ [])
+
+-- merge DIR OTHER
+abbrev pub merge_app : App
+merge_app = command_app (codes "merge") (needed (position (codes "DIR")) ∷ needed (position (codes "OTHER")) ∷ [])
+
+-- the height that a word writes: 10 where there is none
+abbrev pub height_of : Option Text → Option LmsType
+height_of None = Some H10
+height_of (Some word) =
+    if bytes_eq word (codes "5") then Some H5
+    else if bytes_eq word (codes "10") then Some H10
+    else if bytes_eq word (codes "15") then Some H15
+    else None
+
+-- the width that a word writes: 4 where there is none
+abbrev pub width_of : Option Text → Option OtsType
+width_of None = Some W4
+width_of (Some word) =
+    if bytes_eq word (codes "1") then Some W1
+    else if bytes_eq word (codes "2") then Some W2
+    else if bytes_eq word (codes "4") then Some W4
+    else if bytes_eq word (codes "8") then Some W8
+    else None
+
+-- ---- the rules
+
+-- The first of the words is this name, and the command takes them all.
+pub record Takes (name : Text) (app : App) (words : List Text) : Type 0 where
+  pub rest : List Text
+  pub named : words ≡ name ∷ rest
+  pub taken : is_taken app words ≡ true
+
+-- the word that is given for an argument, where the command takes the words
+abbrev pub given : App → List Text → Text → Option Text
+given app words name = first_of name (matches_of app words)
+
+-- The words ask for this.
+pub data Asks (words : List Text) : RequestText → Type 0 where
+  for_heads : Takes (codes "heads") (any_directory_app (codes "heads")) words
+      → Asks words (heads (given (any_directory_app (codes "heads")) words (codes "DIR")))
+  for_check : Takes (codes "check") check_app words → Asks words check
+  for_dump : Takes (codes "dump") (any_directory_app (codes "dump")) words
+      → Asks words (dump (given (any_directory_app (codes "dump")) words (codes "DIR")))
+  for_init : (directory : Text) → Takes (codes "init") (directory_app (codes "init")) words
+      → given (directory_app (codes "init")) words (codes "DIR") ≡ Some directory → Asks words (init directory)
+  for_keygen : (directory : Text) (height : LmsType) (width : OtsType) → Takes (codes "keygen") keygen_app words
+      → given keygen_app words (codes "DIR") ≡ Some directory → height_of (given keygen_app words (codes "height")) ≡ Some height
+      → width_of (given keygen_app words (codes "width")) ≡ Some width → Asks words (keygen directory height width)
+  for_apply : (directory : Text) → Takes (codes "apply") (directory_app (codes "apply")) words
+      → given (directory_app (codes "apply")) words (codes "DIR") ≡ Some directory → Asks words (apply directory)
+  for_join : (directory : Text) → Takes (codes "join") (directory_app (codes "join")) words
+      → given (directory_app (codes "join")) words (codes "DIR") ≡ Some directory → Asks words (join directory)
+  for_export : (directory : Text) → Takes (codes "export") export_app words → given export_app words (codes "DIR") ≡ Some directory
+      → Asks words (export directory (is_set (codes "updates") (matches_of export_app words)))
+  for_merge : (first second : Text) → Takes (codes "merge") merge_app words → given merge_app words (codes "DIR") ≡ Some first
+      → given merge_app words (codes "OTHER") ≡ Some second → first ≢ second → Asks words (merge first second)

@@ -1,0 +1,16 @@
+-- What a contract sees of a request.
+use Rattle.std.specs.Prelude.{option_map}
+use Rattle.command_words.specs.Requests.{RequestText, heads, check, dump, init, keygen, apply, join, export, merge}
+use Rattle.command_words.specs.declared.request.Request.{Request}
+use Rattle.command_words.specs.declared.request.Request.TheVariants.{Heads, Check, Dump, Init, Keygen, Apply, Join, Export, Merge}
+
+abbrev pub request_seen : Request → RequestText
+request_seen (Heads directory) = heads (option_map (λ d. d.now) directory)
+request_seen Check = check
+request_seen (Dump directory) = dump (option_map (λ d. d.now) directory)
+request_seen (Init directory) = init directory.now
+request_seen (Keygen directory height width) = keygen directory.now height width
+request_seen (Apply directory) = apply directory.now
+request_seen (Join directory) = join directory.now
+request_seen (Export directory updates) = export directory.now updates
+request_seen (Merge first second) = merge first.now second.now

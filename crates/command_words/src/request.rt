@@ -1,0 +1,45 @@
+use lm_ots::OtsType;
+use lms_tree::LmsType;
+
+/// What the words of a command line ask for. A directory is the word that names it.
+#[derive(Clone, Copy, Debug, PartialEq, Eq, Drop)]
+pub enum Request<'a> {
+    /// `heads`: the heads of a stream of updates, or of the store in a directory.
+    Heads {
+        directory: Option<&'a str>,
+    },
+    /// `check`: whether a schema is confluent.
+    Check,
+    /// `dump`: the tables of a bundle, or of the store in a directory.
+    Dump {
+        directory: Option<&'a str>,
+    },
+    /// `init`: makes a store.
+    Init {
+        directory: &'a str,
+    },
+    /// `keygen`: makes a key of this height and width.
+    Keygen {
+        directory: &'a str,
+        height: LmsType,
+        width: OtsType,
+    },
+    /// `apply`: makes an update of a transaction.
+    Apply {
+        directory: &'a str,
+    },
+    /// `join`: makes an update of no operation over the heads.
+    Join {
+        directory: &'a str,
+    },
+    /// `export`: a store as a bundle, or its stream of updates alone.
+    Export {
+        directory: &'a str,
+        updates: bool,
+    },
+    /// `merge`: reconciles the stores in two directories, whose words differ.
+    Merge {
+        first: &'a str,
+        second: &'a str,
+    },
+}

@@ -1,0 +1,309 @@
+//! What the words of each command ask for.
+
+ghost use Rattle.std.specs.Prelude.{◌≡◌, true, IfOk, MatchOption, map, option_map, string_bytes};
+ghost use Rattle.clap.specs.Words.{is_simple_and_free};
+ghost use Rattle.command_words.specs.Requests.{Asks, RequestText, height_of, width_of, directory_app};
+ghost use Rattle.command_words.specs.Commands.{request_of, request_by, heads_of, check_of, dump_of, init_of, keygen_of, keygen_by, apply_of, join_of, export_of, export_by, merge_of, merge_by, directory_of};
+ghost use Rattle.command_words.specs.Seen.{request_seen};
+
+use crate::argument::{Argument, Form};
+use crate::given::Given;
+use crate::reading::read_words;
+use crate::{Request, requests_are_by_rule};
+use lm_ots::OtsType;
+use lms_tree::LmsType;
+use std::alloc::{AllocError, Global};
+
+/// What these words ask for, or `None` where they are no command. The first word names the command. The one error is want
+/// of memory, after which nothing is known of the words.
+pub fn request_in<'a>(alloc: Global, words: &'a [String]) -> Result<Option<Request<'a>>, AllocError>
+    ensures { IfOk result (λ found. MatchOption found ((request : RequestText) → Asks (map string_bytes words.entry.now) request → ⊥)
+        (λ request. Asks (map string_bytes words.entry.now) (request_seen request))) }
+{
+    requests_are_by_rule();
+    request_of(alloc, words)
+}
+
+/// The same by the first word.
+fn request_of<'a>(alloc: Global, words: &'a [String]) -> Result<Option<Request<'a>>, AllocError>
+    ensures { IfOk result (λ found. option_map request_seen found ≡ request_of (map string_bytes words.entry.now)) }
+{
+    match words.first() {
+        Some(first) => request_by(alloc, first.as_str(), words),
+        None => Ok(None),
+    }
+}
+
+fn request_by<'a>(
+    alloc: Global,
+    first: &str,
+    words: &'a [String],
+) -> Result<Option<Request<'a>>, AllocError>
+    ensures { IfOk result (λ found. option_map request_seen found ≡ request_by first.now (map string_bytes words.entry.now)) }
+{
+    if first == "heads" {
+        return heads_of(alloc, words);
+    }
+    if first == "check" {
+        return check_of(alloc, words);
+    }
+    if first == "dump" {
+        return dump_of(alloc, words);
+    }
+    if first == "init" {
+        return init_of(alloc, words);
+    }
+    if first == "keygen" {
+        return keygen_of(alloc, words);
+    }
+    if first == "apply" {
+        return apply_of(alloc, words);
+    }
+    if first == "join" {
+        return join_of(alloc, words);
+    }
+    if first == "export" {
+        return export_of(alloc, words);
+    }
+    if first == "merge" {
+        return merge_of(alloc, words);
+    }
+    Ok(None)
+}
+
+/// A directory that need not be there.
+static ANY_DIRECTORY: [Argument<'static>; 1] = [Argument {
+    name: "DIR",
+    form: Form::Position,
+    required: false,
+}];
+
+/// A directory.
+static DIRECTORY: [Argument<'static>; 1] = [Argument {
+    name: "DIR",
+    form: Form::Position,
+    required: true,
+}];
+
+/// `heads [DIR]`
+fn heads_of<'a>(alloc: Global, words: &'a [String]) -> Result<Option<Request<'a>>, AllocError>
+    ensures { IfOk result (λ found. option_map request_seen found ≡ heads_of (map string_bytes words.entry.now)) }
+{
+    match read_words(alloc, "heads", &ANY_DIRECTORY, words)? {
+        Some(given) => Ok(Some(Request::Heads {
+            directory: given.word("DIR"),
+        })),
+        None => Ok(None),
+    }
+}
+
+/// `check`
+fn check_of<'a>(alloc: Global, words: &'a [String]) -> Result<Option<Request<'a>>, AllocError>
+    ensures { IfOk result (λ found. option_map request_seen found ≡ check_of (map string_bytes words.entry.now)) }
+{
+    match read_words(alloc, "check", &[], words)? {
+        Some(_) => Ok(Some(Request::Check)),
+        None => Ok(None),
+    }
+}
+
+/// `dump [DIR]`
+fn dump_of<'a>(alloc: Global, words: &'a [String]) -> Result<Option<Request<'a>>, AllocError>
+    ensures { IfOk result (λ found. option_map request_seen found ≡ dump_of (map string_bytes words.entry.now)) }
+{
+    match read_words(alloc, "dump", &ANY_DIRECTORY, words)? {
+        Some(given) => Ok(Some(Request::Dump {
+            directory: given.word("DIR"),
+        })),
+        None => Ok(None),
+    }
+}
+
+/// The directory of a command that takes nothing else.
+fn directory_of<'a>(
+    alloc: Global,
+    name: &'a str,
+    words: &'a [String],
+) -> Result<Option<&'a str>, AllocError>
+    requires { is_simple_and_free (directory_app name.now) ≡ true }
+    ensures { IfOk result (λ found. option_map (λ directory. directory.now) found ≡ directory_of name.entry.now (map string_bytes words.entry.now)) }
+{
+    match read_words(alloc, name, &DIRECTORY, words)? {
+        Some(given) => Ok(given.word("DIR")),
+        None => Ok(None),
+    }
+}
+
+/// `init DIR`
+fn init_of<'a>(alloc: Global, words: &'a [String]) -> Result<Option<Request<'a>>, AllocError>
+    ensures { IfOk result (λ found. option_map request_seen found ≡ init_of (map string_bytes words.entry.now)) }
+{
+    match directory_of(alloc, "init", words)? {
+        Some(directory) => Ok(Some(Request::Init { directory })),
+        None => Ok(None),
+    }
+}
+
+/// `apply DIR`
+fn apply_of<'a>(alloc: Global, words: &'a [String]) -> Result<Option<Request<'a>>, AllocError>
+    ensures { IfOk result (λ found. option_map request_seen found ≡ apply_of (map string_bytes words.entry.now)) }
+{
+    match directory_of(alloc, "apply", words)? {
+        Some(directory) => Ok(Some(Request::Apply { directory })),
+        None => Ok(None),
+    }
+}
+
+/// `join DIR`
+fn join_of<'a>(alloc: Global, words: &'a [String]) -> Result<Option<Request<'a>>, AllocError>
+    ensures { IfOk result (λ found. option_map request_seen found ≡ join_of (map string_bytes words.entry.now)) }
+{
+    match directory_of(alloc, "join", words)? {
+        Some(directory) => Ok(Some(Request::Join { directory })),
+        None => Ok(None),
+    }
+}
+
+static KEYGEN: [Argument<'static>; 3] = [
+    Argument {
+        name: "DIR",
+        form: Form::Position,
+        required: true,
+    },
+    Argument {
+        name: "height",
+        form: Form::Value,
+        required: false,
+    },
+    Argument {
+        name: "width",
+        form: Form::Value,
+        required: false,
+    },
+];
+
+/// `keygen DIR [--height 5,10,15] [--width 1,2,4,8]`
+fn keygen_of<'a>(alloc: Global, words: &'a [String]) -> Result<Option<Request<'a>>, AllocError>
+    ensures { IfOk result (λ found. option_map request_seen found ≡ keygen_of (map string_bytes words.entry.now)) }
+{
+    match read_words(alloc, "keygen", &KEYGEN, words)? {
+        Some(given) => Ok(keygen_by(&given)),
+        None => Ok(None),
+    }
+}
+
+fn keygen_by<'a>(given: &Given<'a>) -> Option<Request<'a>>
+    ensures { option_map request_seen result ≡ keygen_by given.now }
+{
+    let directory = given.word("DIR")?;
+    let height = height_of(given.word("height"))?;
+    let width = width_of(given.word("width"))?;
+    Some(Request::Keygen {
+        directory,
+        height,
+        width,
+    })
+}
+
+/// The height that a word writes, which is 10 where there is none.
+fn height_of(word: Option<&str>) -> Option<LmsType>
+    ensures { result ≡ height_of (option_map (λ w. w.now) word.entry) }
+{
+    let Some(word) = word else {
+        return Some(LmsType::H10);
+    };
+    if word == "5" {
+        Some(LmsType::H5)
+    } else if word == "10" {
+        Some(LmsType::H10)
+    } else if word == "15" {
+        Some(LmsType::H15)
+    } else {
+        None
+    }
+}
+
+/// The width that a word writes, which is 4 where there is none.
+fn width_of(word: Option<&str>) -> Option<OtsType>
+    ensures { result ≡ width_of (option_map (λ w. w.now) word.entry) }
+{
+    let Some(word) = word else {
+        return Some(OtsType::W4);
+    };
+    if word == "1" {
+        Some(OtsType::W1)
+    } else if word == "2" {
+        Some(OtsType::W2)
+    } else if word == "4" {
+        Some(OtsType::W4)
+    } else if word == "8" {
+        Some(OtsType::W8)
+    } else {
+        None
+    }
+}
+
+static EXPORT: [Argument<'static>; 2] = [
+    Argument {
+        name: "DIR",
+        form: Form::Position,
+        required: true,
+    },
+    Argument {
+        name: "updates",
+        form: Form::Flag,
+        required: false,
+    },
+];
+
+/// `export DIR [--updates]`
+fn export_of<'a>(alloc: Global, words: &'a [String]) -> Result<Option<Request<'a>>, AllocError>
+    ensures { IfOk result (λ found. option_map request_seen found ≡ export_of (map string_bytes words.entry.now)) }
+{
+    match read_words(alloc, "export", &EXPORT, words)? {
+        Some(given) => Ok(export_by(&given)),
+        None => Ok(None),
+    }
+}
+
+fn export_by<'a>(given: &Given<'a>) -> Option<Request<'a>>
+    ensures { option_map request_seen result ≡ export_by given.now }
+{
+    let directory = given.word("DIR")?;
+    let updates = given.is_set("updates");
+    Some(Request::Export { directory, updates })
+}
+
+static MERGE: [Argument<'static>; 2] = [
+    Argument {
+        name: "DIR",
+        form: Form::Position,
+        required: true,
+    },
+    Argument {
+        name: "OTHER",
+        form: Form::Position,
+        required: true,
+    },
+];
+
+/// `merge DIR DIR`
+fn merge_of<'a>(alloc: Global, words: &'a [String]) -> Result<Option<Request<'a>>, AllocError>
+    ensures { IfOk result (λ found. option_map request_seen found ≡ merge_of (map string_bytes words.entry.now)) }
+{
+    match read_words(alloc, "merge", &MERGE, words)? {
+        Some(given) => Ok(merge_by(&given)),
+        None => Ok(None),
+    }
+}
+
+fn merge_by<'a>(given: &Given<'a>) -> Option<Request<'a>>
+    ensures { option_map request_seen result ≡ merge_by given.now }
+{
+    let first = given.word("DIR")?;
+    let second = given.word("OTHER")?;
+    if first == second {
+        return None;
+    }
+    Some(Request::Merge { first, second })
+}

@@ -1,0 +1,9 @@
+pub mod Answering
+pub mod Completion
+pub mod Elements
+pub mod Ending
+pub mod Holding
+pub mod Orders
+pub mod Parking
+pub mod Placing
+pub mod Waves

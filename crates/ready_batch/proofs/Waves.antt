@@ -1,0 +1,28 @@
+-- Wave after wave.
+use Rattle.std.proofs.Common.{◌≡◌, ◌⊎◌, inl, inr, ◌<◌, ◌≤◌, List, [], ◌++◌, length, Option, ap, ◌∙◌, append_assoc, length-append, arith}
+use Rattle.std.specs.Prelude.{Contains}
+use Rattle.update_model.specs.Entry.{Entry}
+use Rattle.ready_batch.specs.Ready.{IsBehind}
+use Rattle.ready_batch.specs.Steps.{KeepsSlots, AddsFrom}
+use Rattle.ready_batch.proofs.Elements.{each_append}
+
+pub behind_then : {M : Type 0} (a b c : List M) → IsBehind a b → IsBehind b c → IsBehind a c
+behind_then {M} a b c ab bc = (ab.0 ++ bc.0, bc.1 ∙ ap (λ (l : List M). l ++ bc.0) ab.1 ∙ append_assoc a ab.0 bc.0)
+
+pub behind_longer : {M : Type 0} (a b : List M) → IsBehind a b → length a ≤ length b
+behind_longer a b ab = omega (arith, ap length ab.1, length-append a ab.0)
+
+pub from_then : {M : Type 0} (entry : M → Entry) (a b c : List M) (slots slots' : List (Option M)) → KeepsSlots entry a slots b slots' → AddsFrom entry a slots b → AddsFrom entry b slots' c → AddsFrom entry a slots c
+from_then {M} entry a b c slots slots' keeps ab bc batch are =
+    let first = ab batch are in
+    let second = bc batch (keeps batch are) in (
+      first.0 ++ second.0,
+      second.1 ∙ ap (λ (l : List M). l ++ second.0) first.1 ∙ append_assoc a first.0 second.0,
+      each_append (Contains batch) first.0 second.0 first.2 second.2,
+    )
+
+-- what is to be tried grows only where the graph does
+pub further_then : {M X : Type 0} (next next' : List X) (a b c : List M) → IsBehind a b → IsBehind b c → (next ≡ []) ⊎ (length a < length b) → (next' ≡ next) ⊎ (length b < length c) → (next' ≡ []) ⊎ (length a < length c)
+further_then next next' a b c ab bc (inl none) (inl same) = inl (same ∙ none)
+further_then next next' a b c ab bc (inl none) (inr grew) = inr (let le = behind_longer a b ab in omega (arith, le, grew))
+further_then next next' a b c ab bc (inr grew) later = inr (let le = behind_longer b c bc in omega (arith, le, grew))

@@ -1,0 +1,8 @@
+/// A member that is to be looked at.
+#[derive(Clone, Copy, Debug, PartialEq, Eq)]
+pub struct Attempt {
+    /// Its place in the batch, from 0.
+    pub place: usize,
+    /// How many of its predecessors, from the first on, were found held.
+    pub found: usize,
+}

@@ -1,0 +1,10 @@
+mod Again
+mod AtFront
+mod Loops
+mod Pieces
+mod Rising
+mod Splitting
+mod Steps
+mod Takes
+mod Telling
+mod Written

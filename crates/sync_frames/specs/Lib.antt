@@ -1,0 +1,4 @@
+pub mod Fed
+pub mod Payload
+pub mod Reading
+pub mod Stream

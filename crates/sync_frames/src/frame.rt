@@ -1,0 +1,15 @@
+use crate::{Hello, Turn};
+use update_model::ByteList;
+
+/// A frame, and what it says.
+#[derive(Debug, Drop)]
+pub enum Frame {
+    /// How the other end greets this one.
+    Hello(Hello),
+    /// A Hello of another version than 1, which this is.
+    OtherVersion(u8),
+    /// The bytes of an update, which nothing here judges.
+    Item(ByteList),
+    /// The end of a turn.
+    Turn(Turn),
+}

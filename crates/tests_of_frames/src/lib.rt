@@ -1,0 +1,5 @@
+//! Tests of frames: bytes that are known from outside, and faults at each cut.
+#![tactic(auto)]
+
+#[cfg(test)]
+mod frames;

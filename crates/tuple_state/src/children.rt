@@ -1,0 +1,76 @@
+//! The rows that name a row by `CASCADE`, by its place.
+
+ghost use Rattle.std.specs.Prelude.{◌≡◌, ◌+◌, ◌<◌, ◌^◌, ◌++◌, IfOk, OnOk, length};
+ghost use Rattle.tuple_state.specs.Causes.{parents_from};
+ghost use Rattle.tuple_state.specs.Parents.{name_in, names_in};
+ghost use Rattle.tuple_state.specs.State.{rules_with};
+
+use crate::parents::parent_of;
+use crate::{Dropped, Inserted};
+use schema::{Column, ColumnList};
+use std::alloc::{AllocError, Global};
+use update_model::Value;
+
+/// Adds the names that values name by `CASCADE`, each with this place.
+fn push_names(
+    names: &mut Vec<Dropped>,
+    columns: &[Column],
+    values: &[Value],
+    place: u32,
+) -> Result<(), AllocError>
+    ensures { OnOk result (names.new.items ≡ names.old.items ++ names_in place columns.now values.now) }
+{
+    match columns {
+        [] => Ok(()),
+        [column, columns @ ..] => match values {
+            [] => Ok(()),
+            [value, values @ ..] => {
+                push_name(names, column, value, place)?;
+                push_names(names, columns, values, place)
+            }
+        },
+    }
+}
+
+/// Adds the name that a value names by `CASCADE`, if it does.
+fn push_name(
+    names: &mut Vec<Dropped>,
+    column: &Column,
+    value: &Value,
+    place: u32,
+) -> Result<(), AllocError>
+    ensures { OnOk result (names.new.items ≡ names.old.items ++ name_in place column.now.kind value.now) }
+{
+    if let Some(name) = parent_of(column, value) {
+        names.push(Dropped {
+            position: place,
+            name,
+        })?;
+    }
+    Ok(())
+}
+
+/// The names that these rows name by `CASCADE`, each with the place of the row that names it. Places number from a first one.
+pub(crate) fn parents_of(
+    alloc: Global,
+    columns: &[ColumnList],
+    rows: &[Inserted],
+    first: usize,
+) -> Result<Vec<Dropped>, AllocError>
+    requires few { first + length rows.now < 2 ^ 32 }
+    ensures { IfOk result (λ names. names.items ≡ parents_from (rules_with columns.now) first rows.now) }
+{
+    let mut names = Vec::new(alloc);
+    for number in 0..rows.len() {
+        let entry = &rows[number].entry;
+        if let Some(columns) = columns.get(usize::from(entry.table)) {
+            push_names(
+                &mut names,
+                columns.as_slice(),
+                entry.values.as_slice(),
+                (first + number) as u32,
+            )?;
+        }
+    }
+    Ok(names)
+}

@@ -1,0 +1,5 @@
+mod Lines
+mod Tables
+mod Texts
+mod Unique
+mod Writing

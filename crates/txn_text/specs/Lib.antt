@@ -1,0 +1,5 @@
+pub mod Operations
+pub mod Outcome
+pub mod Transactions
+pub mod Values
+pub mod Words
