@@ -19,7 +19,7 @@ use Rattle.update_model.specs.Graph.{has, holds, names, AreHeads}
 use Rattle.update_model.specs.Rule.{RuleData}
 use Rattle.update_model.specs.Since.{IsBehind, AreSince}
 use Rattle.sync_session.specs.Greeting.{IsHelloOver}
-use Rattle.sync_session.specs.Payload as payload
+use Rattle.sync_frames.specs.Payload as payload
 use Rattle.sync_session.proofs.Searching.{at_more}
 
 -- one more id

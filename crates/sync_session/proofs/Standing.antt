@@ -8,7 +8,7 @@ use Rattle.std.proofs.lemmas.List.{length-map}
 use Rattle.update_codec.specs.Parts.{entry_of}
 use Rattle.update_model.specs.Graph.{has}
 use Rattle.sync_session.specs.declared.out.Out.{Out}
-use Rattle.sync_session.specs.Payload as payload
+use Rattle.sync_frames.specs.Payload as payload
 use Rattle.sync_session.specs.Kept.{Kept, GreetsOver, Stands, updates_in, with_end, with_hello, with_item}
 use Rattle.sync_session.specs.Pending.{PendingData}
 

@@ -20,7 +20,7 @@ use Rattle.sync_session.specs.declared.out.Out.{Out}
 use Rattle.sync_session.specs.Greeting.{IsHelloOver}
 use Rattle.sync_session.specs.Kept.{Kept, Belongs, BelongsTo, Stands, hello_of, seen}
 use Rattle.sync_session.specs.Pending.{nothing}
-use Rattle.sync_session.specs.Payload as payload
+use Rattle.sync_frames.specs.Payload as payload
 use Rattle.sync_session.specs.Starts.{before_hello, StartsAs}
 use Rattle.sync_session.proofs.Hellos.{members_few}
 

@@ -25,7 +25,7 @@ use Rattle.session_rules.specs.State.{TurnData, OutData, SessionData, Turn}
 use Rattle.session_rules.specs.Steps.{closing, turn_fault, late_fault, IsTurn, Judges, Unless, Takes}
 use Rattle.session_rules.specs.Steps as rules
 use Rattle.sync_session.specs.declared.out.Out.{Out}
-use Rattle.sync_session.specs.Payload as payload
+use Rattle.sync_frames.specs.Payload as payload
 use Rattle.sync_session.specs.Kept.{Kept, Stands, emptied, out_of, seen, turn_fault_at, turn_of, whole, with_commit, with_refusal}
 use Rattle.sync_session.specs.Turns.{SettlesTo, Stays, TakesTurn}
 

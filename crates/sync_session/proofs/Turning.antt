@@ -9,7 +9,7 @@ use Rattle.update_model.specs.Entry.{id_cmp}
 use Rattle.session_rules.specs.declared.limits.TheConstants.{MAX_NEEDS}
 use Rattle.session_rules.specs.Steps.{AreLeast}
 use Rattle.session_rules.proofs.Bounds.{sorted_none}
-use Rattle.sync_session.specs.Payload.{IsTurn}
+use Rattle.sync_frames.specs.Payload.{IsTurn}
 
 each_take : (P : UpdateId → Type 0) (n : ℕ) (xs : List UpdateId) → AllByRecursion P xs → AllByRecursion P (take n xs)
 each_take P zero xs all = tt

@@ -23,7 +23,7 @@ use Rattle.session_rules.specs.declared.peer_fault.PeerFault.TheVariants.{OutOfT
 use Rattle.session_rules.specs.State.{Reading as ReadingData, HelloData, TurnData, FrameData, SessionData, OutData}
 use Rattle.session_rules.specs.State as state
 use Rattle.session_rules.specs.Steps.{begun, is_wanted, AreNeeds, IsHello, after_item, again_fault, counted, due_fault, first_of, is_empty, silent, takes_hello, takes_turn, unknown_fault, Steps}
-use Rattle.sync_session.specs.Payload as payload
+use Rattle.sync_frames.specs.Payload as payload
 use Rattle.sync_session.specs.Pending.{PendingData, nothing}
 use Rattle.sync_session.specs.declared.checked_frame.CheckedFrame.{CheckedFrame}
 use Rattle.sync_session.specs.declared.checked_frame.CheckedFrame.TheVariants as frames

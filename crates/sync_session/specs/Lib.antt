@@ -1,5 +1,4 @@
 pub mod Kept
-pub mod Payload
 pub mod Pending
 pub mod Wants
 pub mod Greeting

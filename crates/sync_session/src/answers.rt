@@ -8,10 +8,11 @@ ghost use Rattle.sync_session.specs.Kept.{hello_of};
 ghost use Rattle.sync_session.specs.Starts.{RemembersBy, node_of};
 
 use crate::ids::{join, least};
-use crate::{Hello, Session};
+use crate::Session;
 use session_rules::End;
 use std::alloc::{AllocError, Global};
 use std::collections::BTreeSet;
+use sync_frames::Hello;
 use update_model::{IdList, UpdateId};
 
 impl Session {

@@ -1,4 +1,4 @@
-use crate::{Hello, Turn};
+use sync_frames::{Hello, Turn};
 use update_check::{CheckFault, Checked};
 
 /// A frame of the peer, with what the check of updates said of it.

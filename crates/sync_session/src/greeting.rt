@@ -13,10 +13,10 @@ ghost use Rattle.update_check.specs.Holding.{at_positions};
 ghost use Rattle.update_model.specs.Entry.{id_cmp};
 ghost use Rattle.sync_session.specs.Greeting.{IsHelloOver};
 
-use crate::Hello;
 use bloom_summary::Summary;
 use std::alloc::{AllocError, Global};
 use std::collections::BTreeSet;
+use sync_frames::Hello;
 use update_check::Holder;
 use update_model::{ByteList, IdList, UpdateId};
 
@@ -36,13 +36,13 @@ pub(crate) fn own_hello<H: Holder>(
     let ids = ids_at(alloc, holder, positions.as_slice())?;
     let summary = Summary::of(alloc, ids.as_slice())?;
     let heads = holder.heads(alloc)?;
-    Ok(Hello {
+    Ok(Hello::new(
         database,
         node,
-        heads: IdList::from_vec(heads),
-        old: IdList::from_vec(Vec::from_slice(alloc, old)?),
-        filter: ByteList::from_vec(Vec::from_slice(alloc, summary.bytes())?),
-    })
+        IdList::from_vec(heads),
+        IdList::from_vec(Vec::from_slice(alloc, old)?),
+        ByteList::from_vec(Vec::from_slice(alloc, summary.bytes())?),
+    ))
 }
 
 /// The ids of the updates at these positions.

@@ -12,9 +12,10 @@ ghost use Rattle.sync_session.specs.Kept.{hello_fault_at, hello_of, out_of, read
 use crate::greeting::{burst, own_hello};
 use crate::lookup::has_all;
 use crate::reading::{Reading, fresh, takes_hello};
-use crate::{Hello, Out, Session, Turn};
+use crate::{Out, Session};
 use session_rules::{End, PeerFault, Role};
 use std::alloc::{AllocError, Global};
+use sync_frames::{Hello, Turn};
 use update_check::Holder;
 use update_model::{IdList, PositionList};
 
@@ -82,12 +83,20 @@ impl Session {
         Ok(Out {
             hello: Some(own),
             send: PositionList::from_vec(send),
-            turn: Some(Turn {
-                have,
-                needs: IdList::from_vec(Vec::new(alloc)),
-            }),
+            turn: Some(first_turn(alloc, have)),
             end: None,
         })
+    }
+}
+
+/// The first Turn of a responder, which asks for nothing.
+fn first_turn(alloc: Global, have: bool) -> Turn
+    ensures { result ≡ record { have = have; needs = [] } }
+{
+    if have {
+        Turn::all_held(alloc)
+    } else {
+        Turn::asking(IdList::from_vec(Vec::new(alloc)))
     }
 }
 

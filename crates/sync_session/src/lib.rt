@@ -3,7 +3,6 @@
 
 mod answers;
 mod checked_frame;
-mod frames;
 mod greeting;
 mod hello;
 mod ids;
@@ -19,6 +18,5 @@ mod step;
 mod turn;
 
 pub use checked_frame::CheckedFrame;
-pub use frames::{Hello, Turn};
 pub use out::Out;
 pub use session::Session;

@@ -3,9 +3,9 @@ ghost use Rattle.update_model.specs.Entry.{Entry};
 ghost use Rattle.session_rules.specs.Steps.{silent, closing};
 ghost use Rattle.sync_session.specs.Kept.{out_of};
 
-use crate::{Hello, Turn};
 use session_rules::End;
 use std::alloc::Global;
+use sync_frames::{Hello, Turn};
 use update_model::PositionList;
 
 /// What a step hands out: what is to be sent to the peer, in this order, and how the session ended.

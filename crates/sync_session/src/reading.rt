@@ -4,9 +4,9 @@ ghost use Rattle.session_rules.specs.declared.limits.TheConstants.{MAX_ITEMS};
 ghost use Rattle.session_rules.specs.Steps.{after_item, answer_fault, in_burst, is_first, takes_hello, takes_item};
 ghost use Rattle.sync_session.specs.Kept.{reading_of, turn_fault_at, turn_of};
 
-use crate::Turn;
 use session_rules::{MAX_ITEMS, PeerFault, Role};
 use std::collections::VecDeque;
+use sync_frames::Turn;
 use update_model::UpdateId;
 
 /// Which frames may come next.

@@ -14,11 +14,12 @@ ghost use Rattle.sync_session.specs.Pending.{entries_in, has_room_for};
 
 use crate::pending::Pending;
 use crate::reading::{Reading, advance, fresh, is_burst, item_fault, takes_item};
-use crate::{Hello, Out};
+use crate::Out;
 use session_rules::{End, PeerFault, Role};
 use std::alloc::{AllocError, Global};
 use std::collections::BTreeSet;
 use std::marker::Model;
+use sync_frames::Hello;
 use update_check::{CheckFault, Checked};
 use update_model::{IdList, Member, UpdateId};
 

@@ -12,10 +12,11 @@ ghost use Rattle.sync_session.specs.Turns.{RepliesTo, SettlesTo, TakesTurn, IsOr
 use crate::ids::join;
 use crate::reading::{Reading, is_first, turn_fault};
 use crate::turn::late_fault;
-use crate::{Out, Session, Turn};
+use crate::{Out, Session};
 use session_rules::End;
 use std::alloc::{AllocError, Global};
 use std::collections::VecDeque;
+use sync_frames::Turn;
 use update_check::{CommitFault, Committed, Holder};
 use update_model::PositionList;
 

@@ -14,10 +14,11 @@ use crate::lookup::{first_unknown, has_all, positions_of};
 use crate::needs::{first_again, needs};
 use crate::pending::{Pending, waiting_after};
 use crate::reading::fresh;
-use crate::{Out, Session, Turn};
+use crate::{Out, Session};
 use session_rules::{End, PeerFault};
 use std::alloc::{AllocError, Global};
 use std::collections::BTreeSet;
+use sync_frames::Turn;
 use update_check::{Committed, Holder};
 use update_model::{IdList, UpdateId};
 
@@ -56,10 +57,7 @@ impl Session {
         ensures { IfOk result (λ own. (start : List Entry) → IsTurn (whole start self.now) (map entry_of (H.members holder.now)) (map entry_of self.now.pending.waiting) (turn_of own)) }
     {
         match &self.peer {
-            None => Ok(Turn {
-                have: true,
-                needs: IdList::from_vec(Vec::new(alloc)),
-            }),
+            None => Ok(Turn::all_held(alloc)),
             Some(peer) => turn_for(alloc, holder, peer.heads.as_slice(), &self.pending, &self.asked),
         }
     }
@@ -92,16 +90,10 @@ fn turn_for<H: Holder>(
     ensures { IfOk result (λ own. TurnsFor heads.now (map entry_of (H.members holder.now)) (map entry_of pending.now.waiting) (keys asked.now) (turn_of own)) }
 {
     if has_all(holder, heads) {
-        return Ok(Turn {
-            have: true,
-            needs: IdList::from_vec(Vec::new(alloc)),
-        });
+        return Ok(Turn::all_held(alloc));
     }
     let ids = needs(alloc, holder, heads, pending, asked)?;
-    Ok(Turn {
-        have: false,
-        needs: IdList::from_vec(ids),
-    })
+    Ok(Turn::asking(IdList::from_vec(ids)))
 }
 
 /// Which fault a Turn shows after its commit, where this end then has this Turn to send.

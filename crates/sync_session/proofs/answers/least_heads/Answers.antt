@@ -5,7 +5,7 @@ use Rattle.update_model.specs.Graph.{has}
 use Rattle.session_rules.specs.declared.limits.TheConstants.{MAX_NEEDS}
 use Rattle.session_rules.specs.Steps.{heads_in, AreLeast, Joins}
 use Rattle.sync_session.specs.Kept.{hello_of}
-use Rattle.sync_session.specs.Payload as payload
+use Rattle.sync_frames.specs.Payload as payload
 use Rattle.sync_session.proofs.Starting.{least_of_both, least_of_one}
 use Rattle.sync_session.proofs.answers.least_heads.Goals as goal
 use Rattle.sync_session.proofs.answers.least_heads.Goals.{in-Some+in_ok-join-2, in_default}

@@ -6,7 +6,7 @@ use Rattle.update_check.specs.Holding.{ArePositionsSince}
 use Rattle.update_model.specs.declared.update_id.UpdateId.{UpdateId as Id}
 use Rattle.update_model.specs.Entry.{same_id}
 use Rattle.update_model.specs.Graph.{has}
-use Rattle.sync_session.specs.Payload.{HelloData}
+use Rattle.sync_frames.specs.Payload.{HelloData}
 use Rattle.sync_session.proofs.BurstSteps.{Sends, sends_none, sends_in, sends_over, burst_is}
 use Rattle.sync_session.proofs.greeting.burst.Goals as goal
 use Rattle.sync_session.proofs.greeting.burst.Goals.{then-is_unknown+in_ok-insert+in_ok-push, else-is_unknown}

@@ -6,7 +6,7 @@ use Rattle.session_rules.specs.declared.end.End.TheVariants.{Done}
 use Rattle.update_model.specs.declared.update_id.UpdateId.{UpdateId as Id}
 use Rattle.session_rules.specs.State.{Answers, TurnData as Rules}
 use Rattle.sync_session.specs.Kept.{Kept, turn_of, whole}
-use Rattle.sync_session.specs.Payload.{TurnData}
+use Rattle.sync_frames.specs.Payload.{TurnData}
 use Rattle.sync_session.specs.Turns.{RepliesTo}
 use Rattle.sync_session.proofs.Settling.{replied_to, joins_at}
 use Rattle.sync_session.proofs.session.Session.reply.Goals as goal

@@ -3,7 +3,7 @@ use Rattle.std.proofs.lemmas.Result.{IfOk-weaker}
 use Rattle.update_codec.specs.Parts.{entry_of}
 use Rattle.session_rules.specs.Steps.{is_first}
 use Rattle.sync_session.specs.Kept.{Kept, turn_of, with_commit, late_fault_at}
-use Rattle.sync_session.specs.Payload.{TurnData}
+use Rattle.sync_frames.specs.Payload.{TurnData}
 use Rattle.sync_session.specs.Turns.{RepliesTo, SettlesTo}
 use Rattle.sync_session.proofs.Settling.{Settles, settled_fault, settled_done, settled_reply}
 use Rattle.sync_session.proofs.session.Session.settle.Goals as goal

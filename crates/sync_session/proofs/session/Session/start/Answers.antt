@@ -1,6 +1,6 @@
 use Rattle.std.proofs.Common.{◌≡◌, ◌∙◌, ap, sym}
 use Rattle.sync_session.specs.Kept.{Kept}
-use Rattle.sync_session.specs.Payload as payload
+use Rattle.sync_frames.specs.Payload as payload
 use Rattle.sync_session.proofs.Starting.{initiator_belongs, initiator_starts, responder_belongs}
 use Rattle.sync_session.proofs.session.Session.start.Goals as goal
 
