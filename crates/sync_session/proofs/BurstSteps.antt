@@ -34,7 +34,7 @@ pub since_over : (members : List (List ℕ)) (below : ℕ) (old : List UpdateId)
     → AreSince (take below (map entry_of members)) old (filter_map (slice_get (map entry_of members)) ps)
 since_over members below old ps s =
     subst (λ (g : List Entry). AreSince g old (filter_map (slice_get (map entry_of members)) ps)) (sym (take-map entry_of below members))
-      (subst (λ (es : List Entry). AreSince (map entry_of (take below members)) old es) (sym (at_map members ps)) s.exact)
+    (subst (λ (es : List Entry). AreSince (map entry_of (take below members)) old es) (sym (at_map members ps)) s.exact)
 
 -- the first part is closed
 pub front_closed : (list : List Entry) (n : ℕ) → IsClosed list → IsClosed (take n list)
@@ -88,27 +88,27 @@ module _ (members : List (List ℕ)) (below : ℕ) (closed : IsClosed (map entry
       (filter_map (slice_get (map entry_of members)) (positions ++ p ∷ []))
   sends_more is =
       let one : filter_map (slice_get (map entry_of members)) (positions ++ p ∷ []) ≡ filter_map (slice_get (map entry_of members)) positions ++ x.0 ∷ [] =
-          filter_map-append (slice_get (map entry_of members)) positions (p ∷ []) ∙ ap (λ (o : Option Entry). filter_map (slice_get (map entry_of members)) positions ++ cons_option o []) x.1 in
+      filter_map-append (slice_get (map entry_of members)) positions (p ∷ []) ∙ ap (λ (o : Option Entry). filter_map (slice_get (map entry_of members)) positions ++ cons_option o []) x.1 in
       rw (more, one) (picks_in (IsUnknown (take below (map entry_of members)) known (filter_map (slice_get (map entry_of members)) ps)) (filter_map (slice_get (map entry_of members)) (take i ps)) (filter_map (slice_get (map entry_of members)) positions) x.0 picks
-        (passes (take below (map entry_of members)) (front_closed (map entry_of members) below closed) old known (filter_map (slice_get (map entry_of members)) ps) (since_over members below old ps s)
-          (filter_map (slice_get (map entry_of members)) (take i ps)) (filter_map (slice_get (map entry_of members)) (drop (i + 1) ps)) (filter_map (slice_get (map entry_of members)) positions) x.0 split picks (test ∙ is)))
+      (passes (take below (map entry_of members)) (front_closed (map entry_of members) below closed) old known (filter_map (slice_get (map entry_of members)) ps) (since_over members below old ps s)
+      (filter_map (slice_get (map entry_of members)) (take i ps)) (filter_map (slice_get (map entry_of members)) (drop (i + 1) ps)) (filter_map (slice_get (map entry_of members)) positions) x.0 split picks (test ∙ is)))
 
   -- or it is not
   passes_over : r ≡ false → Picks (IsUnknown (take below (map entry_of members)) known (filter_map (slice_get (map entry_of members)) ps)) (filter_map (slice_get (map entry_of members)) (take (i + 1) ps))
       (filter_map (slice_get (map entry_of members)) positions)
   passes_over is =
       rw more (picks_out (IsUnknown (take below (map entry_of members)) known (filter_map (slice_get (map entry_of members)) ps)) (filter_map (slice_get (map entry_of members)) (take i ps)) (filter_map (slice_get (map entry_of members)) positions) x.0 picks
-        (fails (take below (map entry_of members)) (front_closed (map entry_of members) below closed) old known (filter_map (slice_get (map entry_of members)) ps) (since_over members below old ps s)
-          (filter_map (slice_get (map entry_of members)) (take i ps)) (filter_map (slice_get (map entry_of members)) (drop (i + 1) ps)) (filter_map (slice_get (map entry_of members)) positions) x.0 split picks (test ∙ is)))
+      (fails (take below (map entry_of members)) (front_closed (map entry_of members) below closed) old known (filter_map (slice_get (map entry_of members)) ps) (since_over members below old ps s)
+      (filter_map (slice_get (map entry_of members)) (take i ps)) (filter_map (slice_get (map entry_of members)) (drop (i + 1) ps)) (filter_map (slice_get (map entry_of members)) positions) x.0 split picks (test ∙ is)))
 
   -- what is sent is found by id
   held_more : (unknown' : BTreeSet UpdateId) → ((q : UpdateId) → has (keys unknown') q ≡ cond (same_id id q) true (has (keys unknown) q))
       → (q : UpdateId) → has (keys unknown') q ≡ holds (filter_map (slice_get (map entry_of members)) (positions ++ p ∷ [])) q
   held_more unknown' put q =
       put q ∙ ap (cond (same_id id q) true) (held q) ∙ one_more (same_id id q) (holds (filter_map (slice_get (map entry_of members)) positions) q)
-        ∙ ap (λ b. holds (filter_map (slice_get (map entry_of members)) positions) q || (b || false)) (same_id-symm id q ∙ ap (same_id q) (sym x.2))
-        ∙ sym (list_any-append (λ (e : Entry). same_id q e.id) (filter_map (slice_get (map entry_of members)) positions) (x.0 ∷ []))
-        ∙ ap (λ (es : List Entry). holds es q) (sym (filter_map-append (slice_get (map entry_of members)) positions (p ∷ []) ∙ ap (λ (o : Option Entry). filter_map (slice_get (map entry_of members)) positions ++ cons_option o []) x.1))
+      ∙ ap (λ b. holds (filter_map (slice_get (map entry_of members)) positions) q || (b || false)) (same_id-symm id q ∙ ap (same_id q) (sym x.2))
+      ∙ sym (list_any-append (λ (e : Entry). same_id q e.id) (filter_map (slice_get (map entry_of members)) positions) (x.0 ∷ []))
+      ∙ ap (λ (es : List Entry). holds es q) (sym (filter_map-append (slice_get (map entry_of members)) positions (p ∷ []) ∙ ap (λ (o : Option Entry). filter_map (slice_get (map entry_of members)) positions ++ cons_option o []) x.1))
     where
       one_more : (same h : Bool) → cond same true h ≡ (h || (same || false))
       one_more true true = refl
@@ -137,10 +137,10 @@ pub sends_over : (members : List (List ℕ)) (below : ℕ) → IsClosed (map ent
     → (positions' : List ℕ) (unknown' : BTreeSet UpdateId) → positions' ≡ positions → unknown' ≡ unknown → Sends members below bits ps (i + 1) positions' unknown'
 sends_over members below closed old bits ps s i p here low positions id preds has_id has_preds unknown sends r tests is positions' unknown' same_positions same_unknown =
     subst (λ (qs : List ℕ). Sends members below bits ps (i + 1) qs unknown') (sym same_positions)
-      (subst (λ (u : BTreeSet UpdateId). Sends members below bits ps (i + 1) positions u) (sym same_unknown) (record {
-        held = sends.held;
-        picks = passes_over members below closed old (is_member bits) ps s i p here low positions id preds has_id has_preds unknown sends.held sends.picks r tests is;
-      }))
+    (subst (λ (u : BTreeSet UpdateId). Sends members below bits ps (i + 1) positions u) (sym same_unknown) (record {
+      held = sends.held;
+      picks = passes_over members below closed old (is_member bits) ps s i p here low positions id preds has_id has_preds unknown sends.held sends.picks r tests is;
+    }))
 
 -- none so far
 pub sends_none : (members : List (List ℕ)) (below : ℕ) (bits ps positions : List ℕ) (unknown : BTreeSet UpdateId) → positions ≡ [] → keys unknown ≡ [] → Sends members below bits ps 0 positions unknown
@@ -152,6 +152,8 @@ pub burst_is : (members : List (List ℕ)) (below : ℕ) (old old' : List Update
     → IsBurst (take below (map entry_of members)) old' (is_member bits') out
 burst_is members below old old' bits bits' ps i out s same_old same_bits all picks =
     subst (λ (o : List UpdateId). IsBurst (take below (map entry_of members)) o (is_member bits') out) same_old
-      (subst (λ (b : List ℕ). IsBurst (take below (map entry_of members)) old (is_member b) out) same_bits
-        (filter_map (slice_get (map entry_of members)) ps, since_over members below old ps s,
-         subst (λ (qs : List ℕ). Picks (IsUnknown (take below (map entry_of members)) (is_member bits) (filter_map (slice_get (map entry_of members)) ps)) (filter_map (slice_get (map entry_of members)) qs) out) (take_all i ps all) picks))
+    (subst (λ (b : List ℕ). IsBurst (take below (map entry_of members)) old (is_member b) out) same_bits (
+      filter_map (slice_get (map entry_of members)) ps,
+      since_over members below old ps s,
+      subst (λ (qs : List ℕ). Picks (IsUnknown (take below (map entry_of members)) (is_member bits) (filter_map (slice_get (map entry_of members)) ps)) (filter_map (slice_get (map entry_of members)) qs) out) (take_all i ps all) picks,
+    ))

@@ -61,9 +61,9 @@ no_later P before (e ∷ es) since f (inl k) [] post x split m c h =
     let early : holds before m.id ≡ true = each_member (λ p. holds before p ≡ true) e.preds m.id preds (has_witness e.preds m.id (subst (λ (y : Entry). has y.preds m.id ≡ true) (sym same) h)) in
     let y = held_witness before m.id early in
     let inside : Contains (e ∷ es) m = elim (cons_cases x post m c) [
-        | inl is ↦ subst (λ (z : Entry). Contains (e ∷ es) z) (same ∙ is) (first_member e es)
-        | inr later ↦ later_member e es m (each_member (Contains es) k.1.0 m (picks_within P es k.1.0 k.1.2) (subst (λ (zs : List Entry). Contains zs m) (sym tail) later))
-      ] in
+      | inl is ↦ subst (λ (z : Entry). Contains (e ∷ es) z) (same ∙ is) (first_member e es)
+      | inr later ↦ later_member e es m (each_member (Contains es) k.1.0 m (picks_within P es k.1.0 k.1.2) (subst (λ (zs : List Entry). Contains zs m) (sym tail) later))
+    ] in
     later_differs before (e ∷ es) y.0 m f y.1 inside (subst (λ (i : UpdateId). same_id m.id i ≡ true) y.2 (same_id-refl m.id))
 no_later P before (e ∷ es) since f (inl k) (z ∷ pre) post x split m c h =
     let both : e ∷ k.1.0 ≡ z ∷ (pre ++ x ∷ post) = sym k.1.1 ∙ split in

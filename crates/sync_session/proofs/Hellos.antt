@@ -32,7 +32,7 @@ ids_more members ps i p id ids is low there was = by_case (slice_get members p) 
     by_case (Some u) at h =
         let same : id_of u ≡ id = cc in
         ap (λ (xs : List UpdateId). xs ++ id ∷ []) was ∙ ap (λ (x : UpdateId). map id_of (at_positions members (take i ps)) ++ x ∷ []) (sym same)
-          ∙ sym (map-append id_of (at_positions members (take i ps)) (u ∷ [])) ∙ ap (map id_of) (sym (at_more members ps i p 0 u is low at))
+        ∙ sym (map-append id_of (at_positions members (take i ps)) (u ∷ [])) ∙ ap (map id_of) (sym (at_more members ps i p 0 u is low at))
 
 -- a holder has no more members than any store
 pub members_few : (limits : Limits) (rule : RuleData) (members : List (List ℕ)) → IsHeld limits rule members → length members ≤ MAX_MEMBERS

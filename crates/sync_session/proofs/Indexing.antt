@@ -26,9 +26,9 @@ pub put : (before after : BTreeSet UpdateId) (gathered waiting : List (List ℕ)
     → has (keys after) q ≡ (holds (map entry_of (gathered ++ u ∷ [])) q || holds (map entry_of waiting) q)
 put before after gathered waiting u q new old =
     new ∙ ap (cond (same_id (id_of u) q) true) old ∙ one_more (same_id (id_of u) q) (holds (map entry_of gathered) q) (holds (map entry_of waiting) q)
-      ∙ ap (λ s. (holds (map entry_of gathered) q || (s || false)) || holds (map entry_of waiting) q) (same_id-symm (id_of u) q)
-      ∙ ap (λ b. b || holds (map entry_of waiting) q) (sym (list_any-append (λ (m : Entry). same_id q m.id) (map entry_of gathered) (entry_of u ∷ [])))
-      ∙ ap (λ es. holds es q || holds (map entry_of waiting) q) (sym (map-append entry_of gathered (u ∷ [])))
+    ∙ ap (λ s. (holds (map entry_of gathered) q || (s || false)) || holds (map entry_of waiting) q) (same_id-symm (id_of u) q)
+    ∙ ap (λ b. b || holds (map entry_of waiting) q) (sym (list_any-append (λ (m : Entry). same_id q m.id) (map entry_of gathered) (entry_of u ∷ [])))
+    ∙ ap (λ es. holds es q || holds (map entry_of waiting) q) (sym (map-append entry_of gathered (u ∷ [])))
 
 -- how many bytes there are with one more
 pub byte_more : (es : List (List ℕ)) (u : List ℕ) → byte_count (map entry_of (es ++ u ∷ [])) ≡ byte_count (map entry_of es) + length u
@@ -84,7 +84,7 @@ pub put_front : (before after : BTreeSet UpdateId) (es : List (List ℕ)) (i : �
     → has (keys after) q ≡ holds (map entry_of (take (i + 1) es)) q
 put_front before after es i u q is low new old =
     put before after (take i es) [] u q new (old ∙ or_false (holds (map entry_of (take i es)) q))
-      ∙ sym (or_false (holds (map entry_of (take i es ++ u ∷ [])) q)) ∙ ap (λ (xs : List (List ℕ)). holds (map entry_of xs) q) (sym (front_more es i u is low))
+    ∙ sym (or_false (holds (map entry_of (take i es ++ u ∷ [])) q)) ∙ ap (λ (xs : List (List ℕ)). holds (map entry_of xs) q) (sym (front_more es i u is low))
   where
     or_false : (b : Bool) → b ≡ (b || false)
     or_false true = refl

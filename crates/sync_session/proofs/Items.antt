@@ -21,7 +21,7 @@ pub item_ends : (limits : Limits) (start list : List Entry) (k k' : Kept) (e : E
     → k' ≡ with_end (Peer fault) k → ((list : List Entry) → out_of list out ≡ closing (Peer fault)) → Takes limits (whole start k) list (Item e) (whole start k') (out_of list out) list
 item_ends limits start list k k' e out fault is ended says =
     subst (λ (f : Option PeerFault). Unless f (whole start k) list (whole start k') (out_of list out) list (Gathers (is_within ((whole start k).waiting ++ gathers (whole start k) e)) (whole start k) list e (whole start k') (out_of list out) list)) (sym is)
-      (ap (whole start) ended, says list, refl)
+    (ap (whole start) ended, says list, refl)
 
 -- none: it goes on by what is gathered
 pub item_goes : (limits : Limits) (start list : List Entry) (k k' : Kept) (e : Entry) (out : Out) (fits : Bool) → item_fault (whole start k) e ≡ None
@@ -29,14 +29,14 @@ pub item_goes : (limits : Limits) (start list : List Entry) (k k' : Kept) (e : E
     → Gathers fits (whole start k) list e (whole start k') (out_of list out) list → Takes limits (whole start k) list (Item e) (whole start k') (out_of list out) list
 item_goes limits start list k k' e out fits none is g =
     subst (λ (f : Option PeerFault). Unless f (whole start k) list (whole start k') (out_of list out) list (Gathers (is_within (map entry_of k.pending.waiting ++ gathers (whole start k) e)) (whole start k) list e (whole start k') (out_of list out) list)) (sym none)
-      (subst (λ (b : Bool). Gathers b (whole start k) list e (whole start k') (out_of list out) list) (sym is) g)
+    (subst (λ (b : Bool). Gathers b (whole start k) list e (whole start k') (out_of list out) list) (sym is) g)
 
 -- the fault that the code finds
 pub fault_from : (start : List Entry) (k v : Kept) (e : Entry) (r : Option PeerFault) (id : UpdateId) → v ≡ k → id ≡ e.id
     → r ≡ (if takes_item v.state.reading v.state.items then answer_fault v.state.reading id else Some OutOfTurn) → item_fault (whole start k) e ≡ r
 fault_from start k v e r id same is says =
     subst (λ (w : Kept). item_fault (whole start w) e ≡ r) same
-      (sym (subst (λ (i : UpdateId). r ≡ (if takes_item v.state.reading v.state.items then answer_fault v.state.reading i else Some OutOfTurn)) is says))
+    (sym (subst (λ (i : UpdateId). r ≡ (if takes_item v.state.reading v.state.items then answer_fault v.state.reading i else Some OutOfTurn)) is says))
 
 -- an update that was there already
 pub item_again : (limits : Limits) (start list : List Entry) (k k' : Kept) (e : Entry) (out : Out) → item_fault (whole start k) e ≡ None → is_within (entries_in k.pending) ≡ true
@@ -51,10 +51,13 @@ pub item_new : (limits : Limits) (start list : List Entry) (k k' : Kept) (u : Li
     → k' ≡ with_item k (record { waiting = k.pending.waiting; gathered = k.pending.gathered ++ u ∷ [] }) → ((list : List Entry) → out_of list out ≡ silent)
     → Takes limits (whole start k) list (Item (entry_of u)) (whole start k') (out_of list out) list
 item_new limits start list k k' u out none room fresh counts says =
-    item_goes limits start list k k' (entry_of u) out true none (rw fresh room)
-      (ap (whole start) counts
-        ∙ ap (λ (g : List Entry). record (counted (whole start k)) { items = k.state.items + 1; reading = after_item k.state.reading; gathered = g }) (map-append entry_of k.pending.gathered (u ∷ []))
-        ∙ ap (λ (b : Bool). record (counted (whole start k)) { items = k.state.items + 1; reading = after_item k.state.reading; gathered = if b then map entry_of k.pending.gathered else map entry_of k.pending.gathered ++ entry_of u ∷ [] }) (sym fresh), says list, refl)
+    item_goes limits start list k k' (entry_of u) out true none (rw fresh room) (
+      ap (whole start) counts
+          ∙ ap (λ (g : List Entry). record (counted (whole start k)) { items = k.state.items + 1; reading = after_item k.state.reading; gathered = g }) (map-append entry_of k.pending.gathered (u ∷ []))
+          ∙ ap (λ (b : Bool). record (counted (whole start k)) { items = k.state.items + 1; reading = after_item k.state.reading; gathered = if b then map entry_of k.pending.gathered else map entry_of k.pending.gathered ++ entry_of u ∷ [] }) (sym fresh),
+      says list,
+      refl,
+    )
 
 pub item_full : (limits : Limits) (start list : List Entry) (k k' : Kept) (u : List ℕ) (out : Out) → item_fault (whole start k) (entry_of u) ≡ None → has_room_for k.pending u ≡ false
     → (in_burst k.state.reading && (holds (map entry_of k.pending.gathered) (entry_of u).id || holds (map entry_of k.pending.waiting) (entry_of u).id)) ≡ false

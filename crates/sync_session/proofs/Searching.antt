@@ -119,8 +119,8 @@ pub answers_found : (graph : List Entry) (n : ℕ) (positions : List ℕ) (ids :
     → filter_map (slice_get graph) (positions ++ p ∷ []) ≡ answers (take n graph) (take (i + 1) ids)
 answers_found graph n positions ids i p d low at was =
     filter_map-append (slice_get graph) positions (p ∷ []) ∙ ap (λ es. es ++ cons_option (slice_get graph p) []) was
-      ∙ ap (λ (o : Option Entry). answers (take n graph) (take i ids) ++ cons_option o []) (get_found (λ (e : Entry). same_id (get_or ids i d) e.id) 0 p graph [] n at p (omega arith))
-      ∙ sym (ap (answers (take n graph)) (take_more ids i d low) ∙ filter_map-append (λ id. find (λ (e : Entry). same_id id e.id) (take n graph)) (take i ids) (get_or ids i d ∷ []))
+    ∙ ap (λ (o : Option Entry). answers (take n graph) (take i ids) ++ cons_option o []) (get_found (λ (e : Entry). same_id (get_or ids i d) e.id) 0 p graph [] n at p (omega arith))
+    ∙ sym (ap (answers (take n graph)) (take_more ids i d low) ∙ filter_map-append (λ id. find (λ (e : Entry). same_id id e.id) (take n graph)) (take i ids) (get_or ids i d ∷ []))
 
 -- and one that is not found
 pub answers_none : (graph : List Entry) (n : ℕ) (positions : List ℕ) (ids : List UpdateId) (i : ℕ) (d : UpdateId) → i < length ids
@@ -128,8 +128,8 @@ pub answers_none : (graph : List Entry) (n : ℕ) (positions : List ℕ) (ids : 
     → filter_map (slice_get graph) positions ≡ answers (take n graph) (take (i + 1) ids)
 answers_none graph n positions ids i d low at was =
     was ∙ sym (append-nil (answers (take n graph) (take i ids)))
-      ∙ ap (λ (o : Option Entry). answers (take n graph) (take i ids) ++ cons_option o []) (sym (find_none_from (λ (e : Entry). same_id (get_or ids i d) e.id) 0 (take n graph) at))
-      ∙ sym (ap (answers (take n graph)) (take_more ids i d low) ∙ filter_map-append (λ id. find (λ (e : Entry). same_id id e.id) (take n graph)) (take i ids) (get_or ids i d ∷ []))
+    ∙ ap (λ (o : Option Entry). answers (take n graph) (take i ids) ++ cons_option o []) (sym (find_none_from (λ (e : Entry). same_id (get_or ids i d) e.id) 0 (take n graph) at))
+    ∙ sym (ap (answers (take n graph)) (take_more ids i d low) ∙ filter_map-append (λ id. find (λ (e : Entry). same_id id e.id) (take n graph)) (take i ids) (get_or ids i d ∷ []))
 
 -- what no position says of holding
 pub unheld_by : (graph : List Entry) (id : UpdateId) (o : Option ℕ) (r b : Bool) → o ≡ position_of graph id → is_some o ≡ not r → r ≡ b → holds graph id ≡ not b

@@ -53,10 +53,10 @@ by_judging : (list : List Entry) (n : ℕ) (w : List (List ℕ)) (turn own : Tur
     → Judges fault (whole (take k.below list) k) (whole (take k.below list) kk) turn own (whole (take k.below list) next) (out_of list gives) → Stays kk next → SettlesTo list n w turn k next gives
 by_judging list n w turn own k kk next gives first fault s judged stays =
     settled list n w turn own k next gives first fault
-      (subst (λ (x : Kept). (start : List Entry) → IsTurn (whole start x) list (map entry_of x.pending.waiting) own) s.kept s.is_turn) s.first_is
-      (subst (λ (x : Kept). fault ≡ late_fault_at first (take x.below list) x.state.peer_asked turn own) s.kept s.fault_is)
-      (subst (λ (x : Kept). Judges fault (whole (take k.below list) k) (whole (take k.below list) x) turn own (whole (take k.below list) next) (out_of list gives)) s.kept judged)
-      (subst (λ (x : Kept). Stays x next) s.kept stays)
+    (subst (λ (x : Kept). (start : List Entry) → IsTurn (whole start x) list (map entry_of x.pending.waiting) own) s.kept s.is_turn) s.first_is
+    (subst (λ (x : Kept). fault ≡ late_fault_at first (take x.below list) x.state.peer_asked turn own) s.kept s.fault_is)
+    (subst (λ (x : Kept). Judges fault (whole (take k.below list) k) (whole (take k.below list) x) turn own (whole (take k.below list) next) (out_of list gives)) s.kept judged)
+    (subst (λ (x : Kept). Stays x next) s.kept stays)
 
 stays_end : (ending : End) (kk next : Kept) → next ≡ with_end ending kk → Stays kk next
 stays_end ending kk next is = rw is (record { below = refl; heads = refl; pending = refl; failed = refl })
@@ -72,18 +72,18 @@ pub settled_done : (list : List Entry) (n : ℕ) (w : List (List ℕ)) (turn own
     → both ≡ (k.state.sent_have && turn.have) → both ≡ true → next ≡ with_end Done kk → ((es : List Entry) → out_of es gives ≡ closing Done) → SettlesTo list n w turn k next gives
 settled_done list n w turn own k kk next gives first both s both_is yes_both is says =
     by_judging list n w turn own k kk next gives first None s
-      (subst (λ (b : Bool). Replies b (is_first k.state.role k.state.reading) (whole (take k.below list) kk) turn own (whole (take k.below list) next) (out_of list gives)) (sym yes_both ∙ both_is) (ap (whole (take k.below list)) is, says list))
-      (stays_end Done kk next is)
+    (subst (λ (b : Bool). Replies b (is_first k.state.role k.state.reading) (whole (take k.below list) kk) turn own (whole (take k.below list) next) (out_of list gives)) (sym yes_both ∙ both_is) (ap (whole (take k.below list)) is, says list))
+    (stays_end Done kk next is)
 
 -- the session goes on
 pub settled_reply : (list : List Entry) (n : ℕ) (w : List (List ℕ)) (turn own : TurnData) (k kk next : Kept) (gives : Out) (first both : Bool) → Settles list n w turn own k kk first None
     → both ≡ (k.state.sent_have && turn.have) → both ≡ false → RepliesTo list first turn own kk next gives → SettlesTo list n w turn k next gives
 settled_reply list n w turn own k kk next gives first both s both_is not_both r =
     by_judging list n w turn own k kk next gives first None s
-      (subst (λ (b : Bool). Replies b (is_first k.state.role k.state.reading) (whole (take k.below list) kk) turn own (whole (take k.below list) next) (out_of list gives)) (sym not_both ∙ both_is)
-        (subst (λ (f : Bool). Replies false f (whole (take k.below list) kk) turn own (whole (take k.below list) next) (out_of list gives)) s.first_is
-          (subst (λ (b : ℕ). Replies false first (whole (take b list) kk) turn own (whole (take b list) next) (out_of list gives)) (ap (λ (x : Kept). x.below) s.kept) r.replies)))
-      r.stays
+    (subst (λ (b : Bool). Replies b (is_first k.state.role k.state.reading) (whole (take k.below list) kk) turn own (whole (take k.below list) next) (out_of list gives)) (sym not_both ∙ both_is)
+    (subst (λ (f : Bool). Replies false f (whole (take k.below list) kk) turn own (whole (take k.below list) next) (out_of list gives)) s.first_is
+    (subst (λ (b : ℕ). Replies false first (whole (take b list) kk) turn own (whole (take b list) next) (out_of list gives)) (ap (λ (x : Kept). x.below) s.kept) r.replies)))
+    r.stays
 
 -- the same sets
 pub joins_at : (a b ids named both : List UpdateId) → Joins a ids both → a ≡ b → ids ≡ named → Joins b named both

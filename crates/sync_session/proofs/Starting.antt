@@ -32,7 +32,11 @@ belongs_first : (limits : Limits) (rule : RuleData) (role : Role) (database node
 belongs_first limits rule role database node old members k held is stands _ = record {
   stands = stands;
   continues = record {
-    role = role; database = database; node = node; old = old; first = map entry_of members;
+    role = role;
+    database = database;
+    node = node;
+    old = old;
+    first = map entry_of members;
     few = let most = members_few limits rule members held in let same = length-map members entry_of in omega arith;
     feeds = unfed (seen members k) (map entry_of members) is refl;
   };
@@ -46,8 +50,8 @@ pub responder_belongs : (limits : Limits) (rule : RuleData) (role : Role) (datab
     → k ≡ before_hello role database node old → BelongsTo limits rule k members
 responder_belongs limits rule role database node old members k held responds is =
     subst (λ (x : Kept). BelongsTo limits rule x members) (sym (is ∙ ap (λ (r : Role). before_hello r database node old) responds))
-      (belongs_first limits rule Responder database node old members (before_hello Responder database node old) held refl
-        (record { below = omega arith; heads = λ id. refl; under = nothing_under rule }))
+    (belongs_first limits rule Responder database node old members (before_hello Responder database node old) held refl
+    (record { below = omega arith; heads = λ id. refl; under = nothing_under rule }))
 
 -- an initiator once its Hello is made
 abbrev pub with_own : Role → List ℕ → List ℕ → List UpdateId → ℕ → List UpdateId → Kept
@@ -78,12 +82,12 @@ pub initiator_belongs : (limits : Limits) (rule : RuleData) (role : Role) (datab
     → BelongsTo limits rule k members
 initiator_belongs limits rule role database node old asked members k below heads own held begins all same_heads hello is =
     subst (λ (x : Kept). BelongsTo limits rule x members) (sym (is ∙ ap (λ (r : Role). with_own r database node old below heads) begins))
-      (belongs_first limits rule Initiator database node old members (with_own Initiator database node old below heads) held (own_seen database node old members below heads all)
-        (record {
-          below = omega arith;
-          heads = λ id. rw (take_all below (map entry_of members) (let long = length-map members entry_of in omega arith)) (ap (λ (ids : List UpdateId). has ids id) same_heads ∙ hello.heads.exact id);
-          under = nothing_under rule;
-        }))
+    (belongs_first limits rule Initiator database node old members (with_own Initiator database node old below heads) held (own_seen database node old members below heads all)
+    (record {
+      below = omega arith;
+      heads = λ id. rw (take_all below (map entry_of members) (let long = length-map members entry_of in omega arith)) (ap (λ (ids : List UpdateId). has ids id) same_heads ∙ hello.heads.exact id);
+      under = nothing_under rule;
+    }))
 
 -- ---- what is remembered
 

@@ -31,7 +31,7 @@ pub take_seen : (limits : Limits) (members : List (List ℕ)) (k next : Kept) (f
     → Takes limits (seen members k) (map entry_of members) frame (seen members next) (out_of (map entry_of members) out) (map entry_of members)
 take_seen limits members k next frame out same t =
     subst (λ (b : ℕ). Takes limits (seen members k) (map entry_of members) frame (whole (take b (map entry_of members)) next) (out_of (map entry_of members) out) (map entry_of members)) (sym same)
-      (t (take k.below (map entry_of members)) (map entry_of members))
+    (t (take k.below (map entry_of members)) (map entry_of members))
 
 -- the same of what a call answers
 pub answer_seen : (limits : Limits) (members : List (List ℕ)) (k next : Kept) (frame : FrameData) (r : Result Out AllocError) → OnOk r (next.below ≡ k.below)
@@ -117,7 +117,12 @@ stays_belonging limits rule k next before after frame out runs b t stands _ =
     record {
       stands = stands;
       continues = record {
-        role = c.role; database = c.database; node = c.node; old = c.old; first = c.first; few = c.few;
+        role = c.role;
+        database = c.database;
+        node = c.node;
+        old = c.old;
+        first = c.first;
+        few = c.few;
         feeds = fed (seen before k) (seen after next) (map entry_of before) (map entry_of after) (frame_of frame) (out_of (map entry_of after) out) c.feeds (steps_from limits k next before after frame out fine.1 t);
       };
     }

@@ -51,8 +51,8 @@ pub turn_taken : (limits : Limits) (k next : Kept) (before batch after : List (L
     → SettlesTo (map entry_of after) (length committed.added) committed.waiting turn (emptied k) next out → TakesTurn limits k before turn next out after
 turn_taken limits k next before batch after committed turn out none low batch_is a s =
     subst (λ (f : Option PeerFault). Unless f (seen before k) (map entry_of before) (seen after next) (out_of (map entry_of after) out) (map entry_of after)
-        (rules.Settles limits (seen before k) (map entry_of before) turn (seen after next) (out_of (map entry_of after) out) (map entry_of after))) (sym none)
-      (Added (map entry_of a.added) (map entry_of committed.waiting), (adds, fit, behind), (s.own, is_turn, judges))
+    (rules.Settles limits (seen before k) (map entry_of before) turn (seen after next) (out_of (map entry_of after) out) (map entry_of after))) (sym none)
+    (Added (map entry_of a.added) (map entry_of committed.waiting), (adds, fit, behind), (s.own, is_turn, judges))
   where
     behind : map entry_of after ≡ map entry_of before ++ map entry_of a.added
     behind = ap (map entry_of) a.behind ∙ map-append entry_of before a.added
@@ -75,13 +75,13 @@ turn_taken limits k next before batch after committed turn out none low batch_is
     judges : Judges (late_fault (seen before k) turn s.own) (seen before k) (rules.committed (seen before k) turn (map entry_of a.added) (map entry_of committed.waiting)) turn s.own (seen after next) (out_of (map entry_of after) out)
     judges =
         subst (λ (b : ℕ). Judges (late_fault (seen before k) turn s.own) (seen before k) (rules.committed (seen before k) turn (map entry_of a.added) (map entry_of committed.waiting)) turn s.own (whole (take b (map entry_of after)) next) (out_of (map entry_of after) out))
-          (sym s.stays.below)
-          (subst (λ (n : ℕ). Judges (late_fault (seen before k) turn s.own) (seen before k) (whole (take k.below (map entry_of before)) (with_commit n committed.waiting turn.have (emptied k))) turn s.own (whole (take k.below (map entry_of after)) next) (out_of (map entry_of after) out))
-            many
-            (subst (λ (start : List Entry). Judges (late_fault (whole start k) turn s.own) (whole start k) (whole start (with_commit (length committed.added) committed.waiting turn.have (emptied k))) turn s.own (whole (take k.below (map entry_of after)) next) (out_of (map entry_of after) out))
-              same_start
-              (judges_like (take k.below (map entry_of after)) k (late_fault (whole (take k.below (map entry_of after)) k) turn s.own) (whole (take k.below (map entry_of after)) (with_commit (length committed.added) committed.waiting turn.have (emptied k)))
-                (whole (take k.below (map entry_of after)) next) turn s.own (out_of (map entry_of after) out) s.judges)))
+        (sym s.stays.below)
+        (subst (λ (n : ℕ). Judges (late_fault (seen before k) turn s.own) (seen before k) (whole (take k.below (map entry_of before)) (with_commit n committed.waiting turn.have (emptied k))) turn s.own (whole (take k.below (map entry_of after)) next) (out_of (map entry_of after) out))
+        many
+        (subst (λ (start : List Entry). Judges (late_fault (whole start k) turn s.own) (whole start k) (whole start (with_commit (length committed.added) committed.waiting turn.have (emptied k))) turn s.own (whole (take k.below (map entry_of after)) next) (out_of (map entry_of after) out))
+        same_start
+        (judges_like (take k.below (map entry_of after)) k (late_fault (whole (take k.below (map entry_of after)) k) turn s.own) (whole (take k.below (map entry_of after)) (with_commit (length committed.added) committed.waiting turn.have (emptied k)))
+        (whole (take k.below (map entry_of after)) next) turn s.own (out_of (map entry_of after) out) s.judges)))
 
 byte_fewer : (p : Entry → Bool) (es : List Entry) → (length (filter p es) ≤ length es) × (byte_count (filter p es) ≤ byte_count es)
 byte_fewer p [] = (omega arith, omega arith)
@@ -123,10 +123,10 @@ pub turn_refused : (limits : Limits) (k next : Kept) (before after : List (List 
     → ((es : List Entry) → out_of es out ≡ closing Store) → TakesTurn limits k before turn next out after
 turn_refused limits k next before after turn out none same is says =
     subst (λ (x : List (List ℕ)). TakesTurn limits k before turn next out x) (sym same)
-      (subst (λ (n : Kept). TakesTurn limits k before turn n out before) (sym is)
-        (subst (λ (f : Option PeerFault). Unless f (seen before k) (map entry_of before) (seen before (with_refusal Store k)) (out_of (map entry_of before) out) (map entry_of before)
-            (rules.Settles limits (seen before k) (map entry_of before) turn (seen before (with_refusal Store k)) (out_of (map entry_of before) out) (map entry_of before))) (sym none)
-          (DiskFault, refl, (refl, says (map entry_of before)))))
+    (subst (λ (n : Kept). TakesTurn limits k before turn n out before) (sym is)
+    (subst (λ (f : Option PeerFault). Unless f (seen before k) (map entry_of before) (seen before (with_refusal Store k)) (out_of (map entry_of before) out) (map entry_of before)
+    (rules.Settles limits (seen before k) (map entry_of before) turn (seen before (with_refusal Store k)) (out_of (map entry_of before) out) (map entry_of before))) (sym none)
+    (DiskFault, refl, (refl, says (map entry_of before)))))
 
 bytes_back : (us : List (List ℕ)) → map (λ (e : Entry). e.bytes) (map entry_of us) ≡ us
 bytes_back [] = refl
@@ -136,9 +136,9 @@ bytes_back (u ∷ us) = ap (λ (xs : List (List ℕ)). u ∷ xs) (bytes_back us)
 waits_under : (rule : RuleData) (held : List Entry) (batch waiting : List (List ℕ)) → map entry_of waiting ≡ not_held held (map entry_of batch) → All (IsChecked rule) batch → All (IsChecked rule) waiting
 waits_under rule held batch waiting rest all =
     subst (All (IsChecked rule)) (bytes_back waiting)
-      (All-map (IsChecked rule) (λ (e : Entry). e.bytes) (map entry_of waiting)
-        (subst (All (λ (e : Entry). IsChecked rule e.bytes)) (sym rest)
-          (All-filter (λ e. not (holds held e.id)) (λ (e : Entry). IsChecked rule e.bytes) (map entry_of batch) (All-map (λ (e : Entry). IsChecked rule e.bytes) entry_of batch all))))
+    (All-map (IsChecked rule) (λ (e : Entry). e.bytes) (map entry_of waiting)
+    (subst (All (λ (e : Entry). IsChecked rule e.bytes)) (sym rest)
+    (All-filter (λ e. not (holds held e.id)) (λ (e : Entry). IsChecked rule e.bytes) (map entry_of batch) (All-map (λ (e : Entry). IsChecked rule e.bytes) entry_of batch all))))
 
 -- what a session stands on after a Turn
 turn_stands : (limits : Limits) (rule : RuleData) (k next : Kept) (before batch after : List (List ℕ)) (committed : Answer) (turn : TurnData) (out : Out) → batch ≡ k.pending.waiting ++ k.pending.gathered
@@ -161,8 +161,8 @@ pub answers_turn : (limits : Limits) (k v next : Kept) (before batch after : Lis
     → IfOk r (λ out. SettlesTo (map entry_of after) (length committed.added) committed.waiting (turn_of t) v next out) → IfOk r (λ out. TakesTurn limits k before (turn_of turn) next out after)
 answers_turn limits k v next before batch after committed t turn (Ok out) same_state same_turn none low batch_is a s =
     turn_taken limits k next before batch after committed (turn_of turn) out none low batch_is a
-      (subst (λ (x : Kept). SettlesTo (map entry_of after) (length committed.added) committed.waiting (turn_of turn) x next out) same_state
-        (subst (λ (x : payload.TurnData). SettlesTo (map entry_of after) (length committed.added) committed.waiting (turn_of x) v next out) same_turn s))
+    (subst (λ (x : Kept). SettlesTo (map entry_of after) (length committed.added) committed.waiting (turn_of turn) x next out) same_state
+    (subst (λ (x : payload.TurnData). SettlesTo (map entry_of after) (length committed.added) committed.waiting (turn_of x) v next out) same_turn s))
 answers_turn limits k v next before batch after committed t turn (Err e) same_state same_turn none low batch_is a s = tt
 
 pub answers_stands : (limits : Limits) (rule : RuleData) (k v next : Kept) (before batch after : List (List ℕ)) (committed : Answer) (t : TurnData) (r : Result Out AllocError) → v ≡ emptied k
@@ -170,5 +170,5 @@ pub answers_stands : (limits : Limits) (rule : RuleData) (k v next : Kept) (befo
     → IfOk r (λ out. SettlesTo (map entry_of after) (length committed.added) committed.waiting t v next out) → OnOk r (Stands rule next after)
 answers_stands limits rule k v next before batch after committed t (Ok out) same_state batch_is a stands s =
     turn_stands limits rule k next before batch after committed t out batch_is a stands
-      (subst (λ (x : Kept). SettlesTo (map entry_of after) (length committed.added) committed.waiting t x next out) same_state s)
+    (subst (λ (x : Kept). SettlesTo (map entry_of after) (length committed.added) committed.waiting t x next out) same_state s)
 answers_stands limits rule k v next before batch after committed t (Err e) same_state batch_is a stands s = tt

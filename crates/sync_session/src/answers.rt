@@ -7,8 +7,8 @@ ghost use Rattle.update_model.specs.Graph.{has};
 ghost use Rattle.sync_session.specs.Kept.{hello_of};
 ghost use Rattle.sync_session.specs.Starts.{RemembersBy, node_of};
 
-use crate::ids::{join, least};
 use crate::Session;
+use crate::ids::{join, least};
 use session_rules::End;
 use std::alloc::{AllocError, Global};
 use std::collections::BTreeSet;
@@ -56,7 +56,11 @@ impl Session {
 }
 
 /// The least of these heads and of those of the peer's Hello, as many as are remembered.
-fn least_heads(alloc: Global, heads: &[UpdateId], peer: &Option<Hello>) -> Result<IdList, AllocError>
+fn least_heads(
+    alloc: Global,
+    heads: &[UpdateId],
+    peer: &Option<Hello>,
+) -> Result<IdList, AllocError>
     ensures { IfOk result (AreLeast (λ id. has heads.now id || has (heads_in (option_map hello_of peer.now)) id) MAX_NEEDS) }
 {
     let mut ids = BTreeSet::new(alloc);

@@ -46,7 +46,11 @@ pub(crate) fn own_hello<H: Holder>(
 }
 
 /// The ids of the updates at these positions.
-fn ids_at<H: Holder>(alloc: Global, holder: &H, positions: &[u32]) -> Result<Vec<UpdateId>, AllocError>
+fn ids_at<H: Holder>(
+    alloc: Global,
+    holder: &H,
+    positions: &[u32],
+) -> Result<Vec<UpdateId>, AllocError>
     requires { All (λ p. p < length (H.members holder.now)) positions.now }
     ensures { IfOk result (λ ids. ids.items ≡ map id_of (at_positions (H.members holder.now) positions.now)) }
 {
@@ -85,7 +89,12 @@ pub(crate) fn burst<H: Holder>(
 }
 
 /// Whether an update is new to a peer with this summary: it lacks the id, or one of the predecessors is new to it.
-fn is_unknown(filter: &Summary, unknown: &BTreeSet<UpdateId>, id: &UpdateId, preds: &[UpdateId]) -> bool
+fn is_unknown(
+    filter: &Summary,
+    unknown: &BTreeSet<UpdateId>,
+    id: &UpdateId,
+    preds: &[UpdateId],
+) -> bool
     ensures { result ≡ (not (is_member filter.now id.now) || list_any (has (keys unknown.now)) preds.now) }
 {
     !filter.member(id) || names_one(unknown, preds)

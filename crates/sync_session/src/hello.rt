@@ -31,7 +31,7 @@ impl Session {
         requires stands { Stands (H.rule holder.now) self.old (H.members holder.now) }
         ensures takes { IfOk result (λ out. (limits : Limits) →
             Takes limits (seen (H.members holder.now) self.old) (map entry_of (H.members holder.now)) (hello_frame (hello_of hello))
-                (seen (H.members holder.now) self.new) (out_of (map entry_of (H.members holder.now)) out) (map entry_of (H.members holder.now))) }
+            (seen (H.members holder.now) self.new) (out_of (map entry_of (H.members holder.now)) out) (map entry_of (H.members holder.now))) }
         ensures stands { OnOk result (Stands (H.rule holder.now) self.new (H.members holder.now)) }
         ensures failed { OnOk result (self.new.failed ≡ self.old.failed) }
     {
@@ -58,7 +58,12 @@ impl Session {
     }
 
     /// The responder takes the initiator's Hello, and sends its own, its burst and its first Turn.
-    fn greet<H: Holder>(&mut self, alloc: Global, holder: &H, hello: Hello) -> Result<Out, AllocError>
+    fn greet<H: Holder>(
+        &mut self,
+        alloc: Global,
+        holder: &H,
+        hello: Hello,
+    ) -> Result<Out, AllocError>
         requires running { IsRunning self.old }
         requires stands { Stands (H.rule holder.now) self.old (H.members holder.now) }
         ensures greets { IfOk result (λ out. GreetsOver (map entry_of (H.members holder.now)) hello self.old self.new out) }

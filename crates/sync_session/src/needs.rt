@@ -76,7 +76,12 @@ fn want<H: Holder>(
 }
 
 /// Whether an id is neither held nor waits and was not asked for.
-fn is_open<H: Holder>(holder: &H, id: &UpdateId, pending: &Pending, asked: &BTreeSet<UpdateId>) -> bool
+fn is_open<H: Holder>(
+    holder: &H,
+    id: &UpdateId,
+    pending: &Pending,
+    asked: &BTreeSet<UpdateId>,
+) -> bool
     requires { pending.now.gathered ≡ [] }
     ensures { result ≡ is_open (map entry_of (H.members holder.now)) (map entry_of pending.now.waiting) (keys asked.now) id.now }
 {

@@ -92,7 +92,12 @@ pub(crate) fn advance(reading: &mut Reading)
 }
 
 /// Which fault a Turn shows here before its commit.
-pub(crate) fn turn_fault(role: Role, reading: &Reading, got_have: bool, turn: &Turn) -> Option<PeerFault>
+pub(crate) fn turn_fault(
+    role: Role,
+    reading: &Reading,
+    got_have: bool,
+    turn: &Turn,
+) -> Option<PeerFault>
     ensures { result ≡ turn_fault_at role (reading_of reading.now) got_have (turn_of turn.now) }
 {
     match reading {

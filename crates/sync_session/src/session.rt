@@ -12,9 +12,9 @@ ghost use Rattle.update_model.specs.Rule.{RuleData};
 ghost use Rattle.sync_session.specs.Kept.{whole, out_of, number_of, with_end, with_item, IsRunning, Stands};
 ghost use Rattle.sync_session.specs.Pending.{entries_in, has_room_for};
 
+use crate::Out;
 use crate::pending::Pending;
 use crate::reading::{Reading, advance, fresh, is_burst, item_fault, takes_item};
-use crate::Out;
 use session_rules::{End, PeerFault, Role};
 use std::alloc::{AllocError, Global};
 use std::collections::BTreeSet;
@@ -56,14 +56,30 @@ impl Model for Session {
     ghost Value = { Kept };
 
     ghost view = { λ s. record {
-        state = record {
-            role = s.role; database = s.database; node = s.node; old = s.recalled; start = []; peer = option_map hello_of s.peer;
-            reading = reading_of s.reading; began = s.began; items = s.items;
-            gathered = []; waiting = [];
-            asked = keys s.asked; peer_asked = keys s.peer_asked; sent_have = s.sent_have; got_have = s.got_have;
-            turns = s.turns; gained = s.gained; ended = s.ended;
-        };
-        below = s.below; pending = s.pending; heads = s.heads; failed = s.failed;
+      state = record {
+        role = s.role;
+        database = s.database;
+        node = s.node;
+        old = s.recalled;
+        start = [];
+        peer = option_map hello_of s.peer;
+        reading = reading_of s.reading;
+        began = s.began;
+        items = s.items;
+        gathered = [];
+        waiting = [];
+        asked = keys s.asked;
+        peer_asked = keys s.peer_asked;
+        sent_have = s.sent_have;
+        got_have = s.got_have;
+        turns = s.turns;
+        gained = s.gained;
+        ended = s.ended;
+      };
+      below = s.below;
+      pending = s.pending;
+      heads = s.heads;
+      failed = s.failed;
     } };
 
     ghost invariant = { λ s. IsInForm s.items s.recalled };

@@ -123,7 +123,11 @@ impl Session {
 fn ending(own: bool, peer: bool) -> Option<End>
     ensures { result ≡ (if own && peer then Some done else None) }
 {
-    if have_both(own, peer) { Some(End::Done) } else { None }
+    if have_both(own, peer) {
+        Some(End::Done)
+    } else {
+        None
+    }
 }
 
 /// Whether both ends have all.

@@ -59,7 +59,13 @@ impl Session {
     }
 
     /// A session before its own Hello.
-    fn fresh(alloc: Global, role: Role, database: [u8; 32], node: [u8; 32], recalled: IdList) -> Session
+    fn fresh(
+        alloc: Global,
+        role: Role,
+        database: [u8; 32],
+        node: [u8; 32],
+        recalled: IdList,
+    ) -> Session
         requires few { length recalled ≤ MAX_NEEDS }
         requires rising { IsStrictlySortedBy id_cmp recalled }
         ensures { result ≡ before_hello role database node recalled }

@@ -80,7 +80,10 @@ impl Session {
             CheckedFrame::Item(update) => self.take_item(alloc, update),
             CheckedFrame::BadItem(fault) => Ok(self.take_bad_item(alloc, fault)),
             CheckedFrame::Turn(turn) => self.take_turn(alloc, holder, turn),
-            CheckedFrame::BadFrame(place) => Ok(self.end(alloc, End::Peer(PeerFault::BadFrame(place)))),
+            CheckedFrame::BadFrame(place) => Ok(self.end(
+                alloc,
+                End::Peer(PeerFault::BadFrame(place)),
+            )),
         }
     }
 }

@@ -24,7 +24,12 @@ use update_model::{IdList, UpdateId};
 
 impl Session {
     /// Keeps what a commit answered.
-    pub(crate) fn keep(&mut self, alloc: Global, committed: Committed, have: bool) -> Result<(), AllocError>
+    pub(crate) fn keep(
+        &mut self,
+        alloc: Global,
+        committed: Committed,
+        have: bool,
+    ) -> Result<(), AllocError>
         requires running { IsRunning self.old }
         requires within { is_within (map entry_of committed.waiting) ≡ true }
         requires fits { self.old.state.gained + length committed.added < 2 ^ 32 }
@@ -58,12 +63,24 @@ impl Session {
     {
         match &self.peer {
             None => Ok(Turn::all_held(alloc)),
-            Some(peer) => turn_for(alloc, holder, peer.heads.as_slice(), &self.pending, &self.asked),
+            Some(peer) => turn_for(
+                alloc,
+                holder,
+                peer.heads.as_slice(),
+                &self.pending,
+                &self.asked,
+            ),
         }
     }
 
     /// What the next turn begins with: the burst after turn 1, and else what the peer asked for.
-    pub(crate) fn sent<H: Holder>(&self, alloc: Global, holder: &H, first: bool, turn: &Turn) -> Result<Vec<u32>, AllocError>
+    pub(crate) fn sent<H: Holder>(
+        &self,
+        alloc: Global,
+        holder: &H,
+        first: bool,
+        turn: &Turn,
+    ) -> Result<Vec<u32>, AllocError>
         requires within { self.now.below ≤ length (H.members holder.now) }
         requires closed { IsClosed (map entry_of (H.members holder.now)) }
         ensures { IfOk result (λ positions. IsSent first (seen (H.members holder.now) self.now) (turn_of turn.now) (filter_map (slice_get (map entry_of (H.members holder.now))) positions.items)) }

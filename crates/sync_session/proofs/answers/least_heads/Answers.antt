@@ -14,11 +14,11 @@ pub returns : goal.returns
 returns c = elim c.match-peer.branch [
   | in-Some+in_ok-join-2 w ↦
       subst (λ (p : Option payload.HelloData). AreLeast (λ id. has c.args.heads.now id || has (heads_in (option_map hello_of p)) id) MAX_NEEDS c.from_vec.result) (sym w.in-Some.is)
-        (least_of_both (keys c.new-ids.result) c.args.heads.now (keys c.join.new.set) w.in-Some.hello.heads (keys w.join-in-Some.new.set) c.from_vec.result c.new-ids.ensures.empty c.in_ok-join.ensures
-          (subst (λ (ids : List UpdateId). Joins (keys c.join.new.set) ids (keys w.join-in-Some.new.set)) (w.as_slice.ensures ∙ ap (λ (h : payload.HelloData). h.heads) w.hello.view_is) w.in_ok-join-2.ensures)
-          (c.from_vec.ensures ∙ c.in_ok-least.ensures ∙ ap (λ (s : BTreeSet UpdateId). take MAX_NEEDS (keys s)) w.ids-is))
+      (least_of_both (keys c.new-ids.result) c.args.heads.now (keys c.join.new.set) w.in-Some.hello.heads (keys w.join-in-Some.new.set) c.from_vec.result c.new-ids.ensures.empty c.in_ok-join.ensures
+      (subst (λ (ids : List UpdateId). Joins (keys c.join.new.set) ids (keys w.join-in-Some.new.set)) (w.as_slice.ensures ∙ ap (λ (h : payload.HelloData). h.heads) w.hello.view_is) w.in_ok-join-2.ensures)
+      (c.from_vec.ensures ∙ c.in_ok-least.ensures ∙ ap (λ (s : BTreeSet UpdateId). take MAX_NEEDS (keys s)) w.ids-is))
   | in_default w ↦
       subst (λ (p : Option payload.HelloData). AreLeast (λ id. has c.args.heads.now id || has (heads_in (option_map hello_of p)) id) MAX_NEEDS c.from_vec.result) (sym w.in_default.is)
-        (least_of_one (keys c.new-ids.result) c.args.heads.now (keys c.join.new.set) c.from_vec.result c.new-ids.ensures.empty c.in_ok-join.ensures
-          (c.from_vec.ensures ∙ c.in_ok-least.ensures ∙ ap (λ (s : BTreeSet UpdateId). take MAX_NEEDS (keys s)) w.ids-is))
+      (least_of_one (keys c.new-ids.result) c.args.heads.now (keys c.join.new.set) c.from_vec.result c.new-ids.ensures.empty c.in_ok-join.ensures
+      (c.from_vec.ensures ∙ c.in_ok-least.ensures ∙ ap (λ (s : BTreeSet UpdateId). take MAX_NEEDS (keys s)) w.ids-is))
 ]

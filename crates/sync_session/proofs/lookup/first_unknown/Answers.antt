@@ -10,11 +10,11 @@ returns-then-is_none g c =
     let none : Id = record { 0 = [] } in
     let graph = take c.args.below (map entry_of (g.H.Holder.members c.args.holder.now)) in
     sym (found_at (λ (id : Id). not (holds graph id)) c.args.ids.now c.loop-id.id-index none c.loop-id-test.true c.loop-id.invariant
-      (ap not (unheld_by graph _ c.position_below.result c.is_none.result true c.position_below.ensures c.is_none.ensures c.if-is_none.true)))
+    (ap not (unheld_by graph _ c.position_below.result c.is_none.result true c.position_below.ensures c.is_none.ensures c.if-is_none.true)))
 
 pub loop-id-preserved : goal.loop-id-preserved
 loop-id-preserved g c =
     let none : Id = record { 0 = [] } in
     let graph = take c.args.below (map entry_of (g.H.Holder.members c.args.holder.now)) in
     none_more (λ (id : Id). not (holds graph id)) c.args.ids.now c.loop-id.id-index none c.loop-id-test.true c.loop-id.invariant
-      (ap not (unheld_by graph _ c.position_below.result c.is_none.result false c.position_below.ensures c.is_none.ensures c.if-is_none.false))
+    (ap not (unheld_by graph _ c.position_below.result c.is_none.result false c.position_below.ensures c.is_none.ensures c.if-is_none.false))

@@ -11,6 +11,6 @@ loop-id-preserved g c =
     let none : Id = record { 0 = [] } in
     let graph = map entry_of (g.H.Holder.members c.args.holder.now) in
     elim c.match-position_below.branch [
-      in-Some+in_ok-push w ↦ rw (w.positions-is, w.in_ok-push.ensures.items) (answers_found graph c.args.below c.loop-id.positions.items c.args.ids.now c.loop-id.id-index w.in-Some.position none c.loop-id-test.true (sym w.in-Some.ensures) c.loop-id.invariant)
-    | in_default w ↦ rw w.positions-is (answers_none graph c.args.below c.loop-id.positions.items c.args.ids.now c.loop-id.id-index none c.loop-id-test.true (sym w.in_default.ensures) c.loop-id.invariant)
+      | in-Some+in_ok-push w ↦ rw (w.positions-is, w.in_ok-push.ensures.items) (answers_found graph c.args.below c.loop-id.positions.items c.args.ids.now c.loop-id.id-index w.in-Some.position none c.loop-id-test.true (sym w.in-Some.ensures) c.loop-id.invariant)
+      | in_default w ↦ rw w.positions-is (answers_none graph c.args.below c.loop-id.positions.items c.args.ids.now c.loop-id.id-index none c.loop-id-test.true (sym w.in_default.ensures) c.loop-id.invariant)
     ]

@@ -10,17 +10,17 @@ pub returns-then-is_some : goal.returns-then-is_some
 returns-then-is_some g c =
     let graph = map entry_of (g.H.Holder.members c.args.holder.now) in
     shut_held (holds graph c.args.id.now) (holds (map entry_of c.args.pending.now.waiting) c.args.id.now) (has (keys c.args.asked.now) c.args.id.now)
-      (held_by graph c.args.id.now c.position.result true c.position.ensures (sym c.is_some.ensures ∙ c.if-is_some.true))
+    (held_by graph c.args.id.now c.position.result true c.position.ensures (sym c.is_some.ensures ∙ c.if-is_some.true))
 
 pub returns-then-contains : goal.returns-then-contains
 returns-then-contains g c =
     let graph = map entry_of (g.H.Holder.members c.args.holder.now) in
     shut_waiting (holds graph c.args.id.now) (holds (map entry_of c.args.pending.now.waiting) c.args.id.now) (has (keys c.args.asked.now) c.args.id.now)
-      (waits_by c.args.pending.now.waiting c.args.pending.now.gathered c.args.id.now c.contains.result true c.requires c.contains.ensures.found c.if-contains.true)
+    (waits_by c.args.pending.now.waiting c.args.pending.now.gathered c.args.id.now c.contains.result true c.requires c.contains.ensures.found c.if-contains.true)
 
 pub returns : goal.returns
 returns g c =
     let graph = map entry_of (g.H.Holder.members c.args.holder.now) in
     open_unasked (holds graph c.args.id.now) (holds (map entry_of c.args.pending.now.waiting) c.args.id.now) (has (keys c.args.asked.now) c.args.id.now) c.contains-2.result
-      (held_by graph c.args.id.now c.position.result false c.position.ensures (sym c.is_some.ensures ∙ c.if-is_some.false))
-      (waits_by c.args.pending.now.waiting c.args.pending.now.gathered c.args.id.now c.contains.result false c.requires c.contains.ensures.found c.if-contains.false) c.contains-2.ensures
+    (held_by graph c.args.id.now c.position.result false c.position.ensures (sym c.is_some.ensures ∙ c.if-is_some.false))
+    (waits_by c.args.pending.now.waiting c.args.pending.now.gathered c.args.id.now c.contains.result false c.requires c.contains.ensures.found c.if-contains.false) c.contains-2.ensures

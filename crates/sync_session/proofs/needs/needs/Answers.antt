@@ -16,5 +16,5 @@ returns g c =
     let waiting = map entry_of c.args.pending.now.waiting in
     let one = subst (λ (none : List Id). Wants none (has c.args.heads.now) (is_open now waiting (keys c.args.asked.now)) (keys c.want.new.wanted)) c.new-wanted.ensures.empty c.in_ok-want.ensures in
     IfOk-weaker c.least.result (λ ids. ids.items ≡ take MAX_NEEDS (keys c.want_for.new.wanted)) (λ ids. AreLeast (is_wanted c.args.heads.now now waiting (keys c.args.asked.now)) MAX_NEEDS ids.items)
-      (λ ids front. least_wanted c.args.heads.now (keys c.want.new.wanted) (keys c.want_for.new.wanted) ids.items now waiting (keys c.args.asked.now) one c.in_ok-want_for.ensures front)
-      c.least.ensures
+    (λ ids front. least_wanted c.args.heads.now (keys c.want.new.wanted) (keys c.want_for.new.wanted) ids.items now waiting (keys c.args.asked.now) one c.in_ok-want_for.ensures front)
+    c.least.ensures

@@ -13,7 +13,7 @@ loop-id-preserved g c =
     let none : Id = record { 0 = [] } in
     let open_ids = is_open (map entry_of (g.H.Holder.members c.args.holder.now)) (map entry_of c.args.pending.now.waiting) (keys c.args.asked.now) in
     elim c.if-is_open.branch [
-      then-is_open+in_ok-insert w ↦ rw w.wanted-is (want_in (keys c.args.wanted.now) (keys c.loop-id.wanted) (keys w.insert.new.self) c.args.ids.now open_ids c.loop-id.id-index none c.loop-id-test.true c.loop-id.invariant
-        w.in_ok-insert.ensures.ordered w.in_ok-insert.ensures.updates.0 (sym c.is_open.ensures ∙ w.if-is_open.true))
-    | else-is_open w ↦ rw w.wanted-is (want_out (keys c.args.wanted.now) (keys c.loop-id.wanted) c.args.ids.now open_ids c.loop-id.id-index none c.loop-id-test.true c.loop-id.invariant (sym c.is_open.ensures ∙ w.if-is_open.false))
+      | then-is_open+in_ok-insert w ↦ rw w.wanted-is (want_in (keys c.args.wanted.now) (keys c.loop-id.wanted) (keys w.insert.new.self) c.args.ids.now open_ids c.loop-id.id-index none c.loop-id-test.true c.loop-id.invariant
+          w.in_ok-insert.ensures.ordered w.in_ok-insert.ensures.updates.0 (sym c.is_open.ensures ∙ w.if-is_open.true))
+      | else-is_open w ↦ rw w.wanted-is (want_out (keys c.args.wanted.now) (keys c.loop-id.wanted) c.args.ids.now open_ids c.loop-id.id-index none c.loop-id-test.true c.loop-id.invariant (sym c.is_open.ensures ∙ w.if-is_open.false))
     ]

@@ -15,7 +15,7 @@ pub overflow_add-self : goal.overflow_add-self
 overflow_add-self c =
     let room = subst (λ (p : PendingData). has_room_for p c.args.update ≡ true) (sym c.self.view_is) c.requires in
     let all = indexed_more c.self.inside.waiting.items c.self.inside.gathered.items c.self.inside.ids c.insert.new.self c.self.inside.bytes c.args.update c.self.invariant
-        (λ q. subst (λ (i : UpdateId). has (keys c.insert.new.self) q ≡ cond (same_id i q) true (has (keys c.self.inside.ids) q)) c.id.ensures (c.in_ok-insert.ensures.updates.0 q)) room in
+    (λ q. subst (λ (i : UpdateId). has (keys c.insert.new.self) q ≡ cond (same_id i q) true (has (keys c.self.inside.ids) q)) c.id.ensures (c.in_ok-insert.ensures.updates.0 q)) room in
     let few = bytes_fit _ _ _ _ all in
     let long = ap length c.bytes.ensures in
     omega arith
@@ -24,6 +24,6 @@ pub invariant_of-self-2 : goal.invariant_of-self-2
 invariant_of-self-2 c =
     let room = subst (λ (p : PendingData). has_room_for p c.args.update ≡ true) (sym c.self.view_is) c.requires in
     let all = indexed_more c.self.inside.waiting.items c.self.inside.gathered.items c.self.inside.ids c.insert.new.self c.self.inside.bytes c.args.update c.self.invariant
-        (λ q. subst (λ (i : UpdateId). has (keys c.insert.new.self) q ≡ cond (same_id i q) true (has (keys c.self.inside.ids) q)) c.id.ensures (c.in_ok-insert.ensures.updates.0 q)) room in
+    (λ q. subst (λ (i : UpdateId). has (keys c.insert.new.self) q ≡ cond (same_id i q) true (has (keys c.self.inside.ids) q)) c.id.ensures (c.in_ok-insert.ensures.updates.0 q)) room in
     let added = rw (c.unwrap.ensures, c.reserve.ensures.items) at c.push.ensures.items in
     rw (added, c.bytes.ensures) all

@@ -28,4 +28,4 @@ take-requires-clause-rising g c =
 pub returns-in-Ok-clause-belongs : goal.returns-in-Ok-clause-belongs
 returns-in-Ok-clause-belongs g c =
     stays_belonging (g.H.Holder.limits c.args.holder.now) (g.H.Holder.rule c.args.holder.now) c.args.self.now c.take.new.self (g.H.Holder.members c.args.holder.now) (g.H.Holder.members c.take.new.holder) c.args.frame c.in-Ok.out
-      (sym c.is_over.ensures ∙ c.if-is_over.false) c.requires.belongs c.in-Ok.ensures.takes c.in-Ok.ensures.stands
+    (sym c.is_over.ensures ∙ c.if-is_over.false) c.requires.belongs c.in-Ok.ensures.takes c.in-Ok.ensures.stands

@@ -15,8 +15,8 @@ returns-in-Hello-clause-takes g c =
     let members = g.H.Holder.members c.args.holder.now in
     subst (λ (f : CheckedFrame). IfOk c.take_hello.result (λ out. Takes (g.H.Holder.limits c.args.holder.now) (seen members c.args.self.now) (map entry_of members) (frame_of f) (seen members c.take_hello.new.self) (out_of (map entry_of members) out) (map entry_of members))) (sym c.in-Hello.is)
     (IfOk-weaker c.take_hello.result (λ out. (limits : Limits) → Takes limits (seen members c.args.self.now) (map entry_of members) (state.Hello (hello_of c.in-Hello.hello)) (seen members c.take_hello.new.self) (out_of (map entry_of members) out) (map entry_of members))
-      (λ out. Takes (g.H.Holder.limits c.args.holder.now) (seen members c.args.self.now) (map entry_of members) (state.Hello (hello_of c.in-Hello.hello)) (seen members c.take_hello.new.self) (out_of (map entry_of members) out) (map entry_of members))
-      (λ out t. t (g.H.Holder.limits c.args.holder.now)) c.take_hello.ensures.takes)
+    (λ out. Takes (g.H.Holder.limits c.args.holder.now) (seen members c.args.self.now) (map entry_of members) (state.Hello (hello_of c.in-Hello.hello)) (seen members c.take_hello.new.self) (out_of (map entry_of members) out) (map entry_of members))
+    (λ out t. t (g.H.Holder.limits c.args.holder.now)) c.take_hello.ensures.takes)
 
 pub returns-in-OtherVersion-clause-stands : goal.returns-in-OtherVersion-clause-stands
 returns-in-OtherVersion-clause-stands g c = stands_end _ c.args.self.now c.end.new.self c.end.ensures.state _ _ c.requires.stands
@@ -36,7 +36,7 @@ returns-in-BadItem-clause-takes g c =
     let members = g.H.Holder.members c.args.holder.now in
     subst (λ (f : CheckedFrame). Takes (g.H.Holder.limits c.args.holder.now) (seen members c.args.self.now) (map entry_of members) (frame_of f) (seen members c.take_bad_item.new.self) (out_of (map entry_of members) c.take_bad_item.result) (map entry_of members)) (sym c.in-BadItem.is)
     (take_seen (g.H.Holder.limits c.args.holder.now) (g.H.Holder.members c.args.holder.now) c.args.self.now c.take_bad_item.new.self (state.BadItem (number_of c.in-BadItem.fault)) c.take_bad_item.result c.take_bad_item.ensures.below
-      (c.take_bad_item.ensures.takes (g.H.Holder.limits c.args.holder.now)))
+    (c.take_bad_item.ensures.takes (g.H.Holder.limits c.args.holder.now)))
 
 pub returns-in-BadItem-clause-stands : goal.returns-in-BadItem-clause-stands
 returns-in-BadItem-clause-stands g c = c.take_bad_item.ensures.stands (g.H.Holder.rule c.args.holder.now) (g.H.Holder.members c.args.holder.now) c.requires.stands

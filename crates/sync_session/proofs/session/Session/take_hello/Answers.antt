@@ -13,6 +13,6 @@ returns-in-Initiator-clause-stands g c = stands_hello c.args.hello c.args.self.n
 pub returns-in-Responder-clause-stands : goal.returns-in-Responder-clause-stands
 returns-in-Responder-clause-stands g c =
     on_both c.greet.result (λ out. GreetsOver (map entry_of (g.H.Holder.members c.args.holder.now)) c.args.hello c.args.self.now c.greet.new.self out) (c.greet.new.self.below ≡ length (g.H.Holder.members c.args.holder.now))
-      (Stands (g.H.Holder.rule c.args.holder.now) c.greet.new.self (g.H.Holder.members c.args.holder.now))
-      (λ out greets all. stands_greeting c.args.hello c.args.self.now c.greet.new.self out (g.H.Holder.rule c.args.holder.now) (g.H.Holder.members c.args.holder.now) greets all c.requires.stands)
-      c.greet.ensures.greets c.greet.ensures.below
+    (Stands (g.H.Holder.rule c.args.holder.now) c.greet.new.self (g.H.Holder.members c.args.holder.now))
+    (λ out greets all. stands_greeting c.args.hello c.args.self.now c.greet.new.self out (g.H.Holder.rule c.args.holder.now) (g.H.Holder.members c.args.holder.now) greets all c.requires.stands)
+    c.greet.ensures.greets c.greet.ensures.below
