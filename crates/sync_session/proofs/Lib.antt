@@ -1,0 +1,15 @@
+pub mod IdSets
+pub mod Indexing
+pub mod Faults
+pub mod Searching
+pub mod Wanting
+pub mod Items
+pub mod Standing
+pub mod Hellos
+pub mod Bursts
+pub mod BurstSteps
+pub mod Turning
+pub mod Settling
+pub mod TurnTaking
+pub mod Stepping
+pub mod Starting

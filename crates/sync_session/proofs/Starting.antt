@@ -1,0 +1,119 @@
+-- How a session begins, and what it remembers.
+use Rattle.std.proofs.Common.{◌≡◌, ◌≤◌, ℕ, zero, Bool, true, false, ◌||◌, ◌&&◌, not, List, [], ◌∷◌, All, length, map, take, take_all, Option, Some, None, refl, sym, ap, subst, ◌∙◌, arith}
+use Rattle.std.proofs.lemmas.List.{length-map}
+use Rattle.std.proofs.lemmas.List.Elements.{All-nil}
+use Rattle.update_check.specs.Holding.{IsHeld}
+use Rattle.update_check.specs.Signed.{IsChecked}
+use Rattle.update_codec.specs.Parts.{entry_of}
+use Rattle.update_model.specs.declared.update_id.UpdateId.{UpdateId}
+use Rattle.update_model.specs.Batch.{Limits}
+use Rattle.update_model.specs.Entry.{Entry}
+use Rattle.update_model.specs.Graph.{has, holds, names}
+use Rattle.update_model.specs.Rule.{RuleData}
+use Rattle.session_rules.specs.declared.limits.TheConstants.{MAX_NEEDS}
+use Rattle.session_rules.specs.declared.role.Role.{Role}
+use Rattle.session_rules.specs.declared.role.Role.TheVariants.{Initiator, Responder}
+use Rattle.session_rules.specs.Course.{opened}
+use Rattle.session_rules.specs.Pair.{unfed}
+use Rattle.session_rules.specs.Steps.{begun, AreLeast, IsHello, Joins}
+use Rattle.sync_session.specs.declared.out.Out.{Out}
+use Rattle.sync_session.specs.Greeting.{IsHelloOver}
+use Rattle.sync_session.specs.Kept.{Kept, Belongs, BelongsTo, Stands, hello_of, seen}
+use Rattle.sync_session.specs.Pending.{nothing}
+use Rattle.sync_frames.specs.Payload as payload
+use Rattle.sync_session.specs.Starts.{before_hello, StartsAs}
+use Rattle.sync_session.proofs.Hellos.{members_few}
+
+-- ---- the beginning
+
+-- what begins over a list that a holder has belongs there
+belongs_first : (limits : Limits) (rule : RuleData) (role : Role) (database node : List ℕ) (old : List UpdateId) (members : List (List ℕ)) (k : Kept) → IsHeld limits rule members
+    → seen members k ≡ opened role database node old (map entry_of members) → Stands rule k members → BelongsTo limits rule k members
+belongs_first limits rule role database node old members k held is stands _ = record {
+  stands = stands;
+  continues = record {
+    role = role;
+    database = database;
+    node = node;
+    old = old;
+    first = map entry_of members;
+    few = let most = members_few limits rule members held in let same = length-map members entry_of in omega arith;
+    feeds = unfed (seen members k) (map entry_of members) is refl;
+  };
+}
+
+nothing_under : (rule : RuleData) → All (IsChecked rule) []
+nothing_under rule = All-nil (IsChecked rule)
+
+-- a responder
+pub responder_belongs : (limits : Limits) (rule : RuleData) (role : Role) (database node : List ℕ) (old : List UpdateId) (members : List (List ℕ)) (k : Kept) → IsHeld limits rule members → role ≡ Responder
+    → k ≡ before_hello role database node old → BelongsTo limits rule k members
+responder_belongs limits rule role database node old members k held responds is =
+    subst (λ (x : Kept). BelongsTo limits rule x members) (sym (is ∙ ap (λ (r : Role). before_hello r database node old) responds))
+    (belongs_first limits rule Responder database node old members (before_hello Responder database node old) held refl
+    (record { below = omega arith; heads = λ id. refl; under = nothing_under rule }))
+
+-- an initiator once its Hello is made
+abbrev pub with_own : Role → List ℕ → List ℕ → List UpdateId → ℕ → List UpdateId → Kept
+with_own role database node old below heads = record (before_hello role database node old) { state = record (begun role database node old []) { turns = 1 }; below = below; heads = heads }
+
+own_seen : (database node : List ℕ) (old : List UpdateId) (members : List (List ℕ)) (below : ℕ) (heads : List UpdateId) → below ≡ length members
+    → seen members (with_own Initiator database node old below heads) ≡ opened Initiator database node old (map entry_of members)
+own_seen database node old members below heads all =
+    ap (λ (start : List Entry). record (begun Initiator database node old start) { turns = 1 }) (take_all below (map entry_of members) (let same = length-map members entry_of in omega arith))
+
+pub initiator_starts : (role : Role) (database node : List ℕ) (old asked : List UpdateId) (members : List (List ℕ)) (k : Kept) (below : ℕ) (heads : List UpdateId) (own : payload.HelloData) (send : List ℕ)
+    → role ≡ Initiator → below ≡ length members → asked ≡ old → IsHelloOver database node asked (map entry_of members) own → k ≡ with_own role database node old below heads → send ≡ []
+    → StartsAs role database node old members k (record { hello = Some own; send = send; turn = None; end = None })
+initiator_starts role database node old asked members k below heads own send begins all same hello is none =
+    rw (is, begins, none) (record {
+      state = own_seen database node old members below heads all;
+      greets = (hello_of own, over_list, refl);
+      failed = refl;
+    })
+  where
+    over_list : IsHello (seen members (with_own Initiator database node old below heads)) (hello_of own)
+    over_list = rw (take_all below (map entry_of members) (let long = length-map members entry_of in omega arith))
+        (let h = subst (λ (ids : List UpdateId). IsHelloOver database node ids (map entry_of members) own) same hello in
+        record { database = h.database; node = h.node; heads = h.heads; old = h.old; since = h.since; are_since = h.are_since; filter = h.filter })
+
+pub initiator_belongs : (limits : Limits) (rule : RuleData) (role : Role) (database node : List ℕ) (old asked : List UpdateId) (members : List (List ℕ)) (k : Kept) (below : ℕ) (heads : List UpdateId) (own : payload.HelloData)
+    → IsHeld limits rule members → role ≡ Initiator → below ≡ length members → heads ≡ own.heads → IsHelloOver database node asked (map entry_of members) own → k ≡ with_own role database node old below heads
+    → BelongsTo limits rule k members
+initiator_belongs limits rule role database node old asked members k below heads own held begins all same_heads hello is =
+    subst (λ (x : Kept). BelongsTo limits rule x members) (sym (is ∙ ap (λ (r : Role). with_own r database node old below heads) begins))
+    (belongs_first limits rule Initiator database node old members (with_own Initiator database node old below heads) held (own_seen database node old members below heads all)
+    (record {
+      below = omega arith;
+      heads = λ id. rw (take_all below (map entry_of members) (let long = length-map members entry_of in omega arith)) (ap (λ (ids : List UpdateId). has ids id) same_heads ∙ hello.heads.exact id);
+      under = nothing_under rule;
+    }))
+
+-- ---- what is remembered
+
+or_none : (b : Bool) → b ≡ (b || false)
+or_none true = refl
+or_none false = refl
+
+-- the least of some ids
+pub least_of_one : (start heads all ids : List UpdateId) → start ≡ [] → Joins start heads all → ids ≡ take MAX_NEEDS all → AreLeast (λ id. has heads id || false) MAX_NEEDS ids
+least_of_one start heads all ids none j front = record {
+  all = all;
+  rising = j.rising;
+  exact = λ id. j.exact id ∙ ap (λ (xs : List UpdateId). has xs id || has heads id) none ∙ or_none (has heads id);
+  front = front;
+}
+
+-- and of some and others
+pub least_of_both : (start heads first peers all ids : List UpdateId) → start ≡ [] → Joins start heads first → Joins first peers all → ids ≡ take MAX_NEEDS all
+    → AreLeast (λ id. has heads id || has peers id) MAX_NEEDS ids
+least_of_both start heads first peers all ids none j j2 front = record {
+  all = all;
+  rising = j2.rising;
+  exact = λ id. j2.exact id ∙ ap (λ (b : Bool). b || has peers id) (j.exact id ∙ ap (λ (xs : List UpdateId). has xs id || has heads id) none);
+  front = front;
+}
+
+-- the same ids, found otherwise
+pub least_same : (p q : UpdateId → Bool) (ids : List UpdateId) → ((id : UpdateId) → p id ≡ q id) → AreLeast p MAX_NEEDS ids → AreLeast q MAX_NEEDS ids
+least_same p q ids same least = record { all = least.all; rising = least.rising; exact = λ id. least.exact id ∙ same id; front = least.front }

@@ -1,0 +1,45 @@
+use Rattle.std.proofs.Common.{◌≡◌, sym, subst, map, IfOk}
+use Rattle.std.proofs.lemmas.Result.{IfOk-weaker, on_ok_weaker}
+use Rattle.update_codec.specs.Parts.{entry_of}
+use Rattle.update_model.specs.Batch.{Limits}
+use Rattle.session_rules.specs.Steps.{Takes}
+use Rattle.session_rules.specs.State as state
+use Rattle.sync_session.specs.declared.checked_frame.CheckedFrame.{CheckedFrame}
+use Rattle.sync_session.specs.Kept.{IsFrameUnder, frame_of, hello_of, number_of, out_of, seen}
+use Rattle.sync_session.proofs.Standing.{stands_end}
+use Rattle.sync_session.proofs.Stepping.{answer_seen, take_seen}
+use Rattle.sync_session.proofs.session.Session.take.Goals as goal
+
+pub returns-in-Hello-clause-takes : goal.returns-in-Hello-clause-takes
+returns-in-Hello-clause-takes g c =
+    let members = g.H.Holder.members c.args.holder.now in
+    subst (λ (f : CheckedFrame). IfOk c.take_hello.result (λ out. Takes (g.H.Holder.limits c.args.holder.now) (seen members c.args.self.now) (map entry_of members) (frame_of f) (seen members c.take_hello.new.self) (out_of (map entry_of members) out) (map entry_of members))) (sym c.in-Hello.is)
+    (IfOk-weaker c.take_hello.result (λ out. (limits : Limits) → Takes limits (seen members c.args.self.now) (map entry_of members) (state.Hello (hello_of c.in-Hello.hello)) (seen members c.take_hello.new.self) (out_of (map entry_of members) out) (map entry_of members))
+    (λ out. Takes (g.H.Holder.limits c.args.holder.now) (seen members c.args.self.now) (map entry_of members) (state.Hello (hello_of c.in-Hello.hello)) (seen members c.take_hello.new.self) (out_of (map entry_of members) out) (map entry_of members))
+    (λ out t. t (g.H.Holder.limits c.args.holder.now)) c.take_hello.ensures.takes)
+
+pub returns-in-OtherVersion-clause-stands : goal.returns-in-OtherVersion-clause-stands
+returns-in-OtherVersion-clause-stands g c = stands_end _ c.args.self.now c.end.new.self c.end.ensures.state _ _ c.requires.stands
+
+pub returns-in-Item-clause-takes : goal.returns-in-Item-clause-takes
+returns-in-Item-clause-takes g c =
+    let members = g.H.Holder.members c.args.holder.now in
+    subst (λ (f : CheckedFrame). IfOk c.take_item.result (λ out. Takes (g.H.Holder.limits c.args.holder.now) (seen members c.args.self.now) (map entry_of members) (frame_of f) (seen members c.take_item.new.self) (out_of (map entry_of members) out) (map entry_of members))) (sym c.in-Item.is)
+    (answer_seen (g.H.Holder.limits c.args.holder.now) (g.H.Holder.members c.args.holder.now) c.args.self.now c.take_item.new.self (state.Item (entry_of c.in-Item.update)) c.take_item.result c.take_item.ensures.below c.take_item.ensures.takes)
+
+pub returns-in-Item-clause-stands : goal.returns-in-Item-clause-stands
+returns-in-Item-clause-stands g c =
+    on_ok_weaker c.take_item.result (λ f. f (g.H.Holder.rule c.args.holder.now) (g.H.Holder.members c.args.holder.now) (subst (IsFrameUnder (g.H.Holder.rule c.args.holder.now)) c.in-Item.is c.requires.under) c.requires.stands) c.take_item.ensures.stands
+
+pub returns-in-BadItem-clause-takes : goal.returns-in-BadItem-clause-takes
+returns-in-BadItem-clause-takes g c =
+    let members = g.H.Holder.members c.args.holder.now in
+    subst (λ (f : CheckedFrame). Takes (g.H.Holder.limits c.args.holder.now) (seen members c.args.self.now) (map entry_of members) (frame_of f) (seen members c.take_bad_item.new.self) (out_of (map entry_of members) c.take_bad_item.result) (map entry_of members)) (sym c.in-BadItem.is)
+    (take_seen (g.H.Holder.limits c.args.holder.now) (g.H.Holder.members c.args.holder.now) c.args.self.now c.take_bad_item.new.self (state.BadItem (number_of c.in-BadItem.fault)) c.take_bad_item.result c.take_bad_item.ensures.below
+    (c.take_bad_item.ensures.takes (g.H.Holder.limits c.args.holder.now)))
+
+pub returns-in-BadItem-clause-stands : goal.returns-in-BadItem-clause-stands
+returns-in-BadItem-clause-stands g c = c.take_bad_item.ensures.stands (g.H.Holder.rule c.args.holder.now) (g.H.Holder.members c.args.holder.now) c.requires.stands
+
+pub returns-in-BadFrame-clause-stands : goal.returns-in-BadFrame-clause-stands
+returns-in-BadFrame-clause-stands g c = stands_end _ c.args.self.now c.end-in-BadFrame.new.self c.end-in-BadFrame.ensures.state _ _ c.requires.stands

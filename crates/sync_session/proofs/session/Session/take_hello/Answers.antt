@@ -1,0 +1,18 @@
+use Rattle.std.proofs.Common.{◌≡◌, length, map}
+use Rattle.update_codec.specs.Parts.{entry_of}
+use Rattle.sync_session.specs.Kept.{GreetsOver, Stands}
+use Rattle.sync_session.proofs.Standing.{stands_end, stands_hello, stands_greeting, on_both}
+use Rattle.sync_session.proofs.session.Session.take_hello.Goals as goal
+
+pub returns-in-Some-clause-stands : goal.returns-in-Some-clause-stands
+returns-in-Some-clause-stands g c = stands_end _ c.args.self.now c.end.new.self c.end.ensures.state _ _ c.requires.stands
+
+pub returns-in-Initiator-clause-stands : goal.returns-in-Initiator-clause-stands
+returns-in-Initiator-clause-stands g c = stands_hello c.args.hello c.args.self.now c.hear.new.self c.hear.ensures.state _ _ c.requires.stands
+
+pub returns-in-Responder-clause-stands : goal.returns-in-Responder-clause-stands
+returns-in-Responder-clause-stands g c =
+    on_both c.greet.result (λ out. GreetsOver (map entry_of (g.H.Holder.members c.args.holder.now)) c.args.hello c.args.self.now c.greet.new.self out) (c.greet.new.self.below ≡ length (g.H.Holder.members c.args.holder.now))
+    (Stands (g.H.Holder.rule c.args.holder.now) c.greet.new.self (g.H.Holder.members c.args.holder.now))
+    (λ out greets all. stands_greeting c.args.hello c.args.self.now c.greet.new.self out (g.H.Holder.rule c.args.holder.now) (g.H.Holder.members c.args.holder.now) greets all c.requires.stands)
+    c.greet.ensures.greets c.greet.ensures.below

@@ -1,0 +1,42 @@
+use Rattle.std.proofs.Common.{◌≡◌, ◌∙◌, ◌++◌, refl, sym, ap, subst, map, List, All}
+use Rattle.update_check.specs.Signed.{IsChecked}
+use Rattle.sync_session.specs.Pending.{PendingData}
+use Rattle.session_rules.specs.declared.end.End.TheVariants.{Store}
+use Rattle.sync_session.specs.Kept.{Kept, turn_of, updates_in, with_refusal}
+use Rattle.sync_session.proofs.Standing.{stands_end}
+use Rattle.sync_session.proofs.TurnTaking.{answers_stands, answers_turn, closed_after, fault_at, refused_stays, turn_refused, waits_within}
+use Rattle.sync_session.proofs.session.Session.take_turn.Goals as goal
+
+pub returns-in-Some-clause-stands : goal.returns-in-Some-clause-stands
+returns-in-Some-clause-stands g c = stands_end _ c.args.self.now c.end.new.self c.end.ensures.state _ _ c.requires.stands
+
+pub commit-requires : goal.commit-requires
+commit-requires g c = rw c.in_ok-batch.ensures.batch (subst (λ (k : Kept). All (IsChecked (g.H.Holder.rule c.args.holder.now)) (updates_in k)) (sym c.self.view_is) c.requires.stands.under)
+
+pub settle-requires-clause-within : goal.settle-requires-clause-within
+settle-requires-clause-within g c = waits_within _ _ _ c.self.inside.pending.waiting c.self.inside.pending.gathered _ _ c.in-Ok.ensures.commits c.in_ok-batch.ensures.batch c.in_ok-batch.ensures.within
+
+pub settle-requires-clause-closed : goal.settle-requires-clause-closed
+settle-requires-clause-closed g c = closed_after _ _ _ _ _ c.in-Ok.ensures.commits c.requires.held.closed
+
+pub returns-in-Ok-clause-takes : goal.returns-in-Ok-clause-takes
+returns-in-Ok-clause-takes g c =
+    answers_turn (g.H.Holder.limits c.args.holder.now) c.args.self.now _ c.settle.new.self (g.H.Holder.members c.args.holder.now) c.in_ok-batch.batch.items (g.H.Holder.members c.commit.new.self) c.in-Ok.committed _ c.args.turn c.settle.result
+    (ap (λ (k : Kept). record k { pending = c.take.new.self }) c.self.view_is ∙ ap (λ (p : PendingData). record c.args.self.now { pending = p }) c.in_ok-batch.ensures.state)
+    refl (fault_at _ c.args.self.now c.turn_fault-fault.result _ c.args.turn (g.H.Holder.members c.args.holder.now) c.self.view_is refl c.turn_fault-fault.ensures c.in_default.is)
+    c.requires.stands.below
+    (subst (λ (k : Kept). c.in_ok-batch.batch.items ≡ k.pending.waiting ++ k.pending.gathered) c.self.view_is c.in_ok-batch.ensures.batch) c.in-Ok.ensures.commits c.settle.ensures
+
+pub returns-in-Ok-clause-stands : goal.returns-in-Ok-clause-stands
+returns-in-Ok-clause-stands g c =
+    answers_stands (g.H.Holder.limits c.args.holder.now) (g.H.Holder.rule c.args.holder.now) c.args.self.now _ c.settle.new.self (g.H.Holder.members c.args.holder.now) c.in_ok-batch.batch.items (g.H.Holder.members c.commit.new.self) c.in-Ok.committed _ c.settle.result
+    (ap (λ (k : Kept). record k { pending = c.take.new.self }) c.self.view_is ∙ ap (λ (p : PendingData). record c.args.self.now { pending = p }) c.in_ok-batch.ensures.state)
+    (subst (λ (k : Kept). c.in_ok-batch.batch.items ≡ k.pending.waiting ++ k.pending.gathered) c.self.view_is c.in_ok-batch.ensures.batch) c.in-Ok.ensures.commits c.requires.stands c.settle.ensures
+
+pub returns-in-Err-DiskFault-clause-takes : goal.returns-in-Err-DiskFault-clause-takes
+returns-in-Err-DiskFault-clause-takes g c =
+    turn_refused (g.H.Holder.limits c.args.holder.now) c.args.self.now c.refuse-in-Err-DiskFault.new.self (g.H.Holder.members c.args.holder.now) (g.H.Holder.members c.commit.new.self) (turn_of c.args.turn) c.refuse-in-Err-DiskFault.result
+    (fault_at _ c.args.self.now c.turn_fault-fault.result _ c.args.turn (g.H.Holder.members c.args.holder.now) c.self.view_is refl c.turn_fault-fault.ensures c.in_default.is)
+    (refused_stays _ _ _ c.in-Err-DiskFault.field-0 _ _ _ c.in-Err-DiskFault.ensures.commits)
+    (c.refuse-in-Err-DiskFault.ensures.state ∙ ap (with_refusal Store) (ap (λ (k : Kept). record k { pending = c.take.new.self }) c.self.view_is))
+    c.refuse-in-Err-DiskFault.ensures.out

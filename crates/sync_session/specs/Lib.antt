@@ -1,0 +1,7 @@
+pub mod Kept
+pub mod Pending
+pub mod Wants
+pub mod Greeting
+pub mod Form
+pub mod Turns
+pub mod Starts

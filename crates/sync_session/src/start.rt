@@ -1,0 +1,95 @@
+//! How a session begins.
+
+ghost use Rattle.std.specs.Prelude.{◌≡◌, ◌≤◌, IfOk, length};
+ghost use Rattle.std.specs.List.Sorted.{IsStrictlySortedBy};
+ghost use Rattle.session_rules.specs.declared.limits.TheConstants.{MAX_NEEDS};
+ghost use Rattle.update_model.specs.Entry.{id_cmp};
+ghost use Rattle.sync_session.specs.Kept.{BelongsTo};
+ghost use Rattle.sync_session.specs.Starts.{before_hello, StartsAs};
+
+use crate::greeting::own_hello;
+use crate::pending::Pending;
+use crate::reading::Reading;
+use crate::{Out, Session};
+use session_rules::Role;
+use std::alloc::{AllocError, Global};
+use std::collections::BTreeSet;
+use update_check::Holder;
+use update_model::{IdList, PositionList};
+
+impl Session {
+    /// Begins a session of this database, under this id of the own node. `recalled` are the ids that were remembered of the
+    /// peer when they last met, which rise: none where they never did.
+    ///
+    /// The initiator makes its Hello from what the holder has now, and hands it out. The responder waits for the
+    /// initiator's.
+    pub fn start<H: Holder>(
+        alloc: Global,
+        holder: &H,
+        role: Role,
+        database: [u8; 32],
+        node: [u8; 32],
+        recalled: IdList,
+    ) -> Result<(Session, Out), AllocError>
+        requires few { length recalled ≤ MAX_NEEDS }
+        requires rising { IsStrictlySortedBy id_cmp recalled }
+        ensures starts { IfOk result (λ p. StartsAs role database node recalled (H.members holder.now) p.0 p.1) }
+        ensures belongs { IfOk result (λ p. BelongsTo (H.limits holder.now) (H.rule holder.now) p.0 (H.members holder.now)) }
+    {
+        let below = holder.len();
+        let mut session = Session::fresh(alloc, role, database, node, recalled);
+        match role {
+            Role::Responder => Ok((session, Out::silent(alloc))),
+            Role::Initiator => {
+                let own = own_hello(alloc, holder, database, node, session.recalled.as_slice())?;
+                session.heads = own.heads.copy(alloc)?;
+                session.below = below;
+                session.turns = 1;
+                Ok((
+                    session,
+                    Out {
+                        hello: Some(own),
+                        send: PositionList::from_vec(Vec::new(alloc)),
+                        turn: None,
+                        end: None,
+                    },
+                ))
+            }
+        }
+    }
+
+    /// A session before its own Hello.
+    fn fresh(
+        alloc: Global,
+        role: Role,
+        database: [u8; 32],
+        node: [u8; 32],
+        recalled: IdList,
+    ) -> Session
+        requires few { length recalled ≤ MAX_NEEDS }
+        requires rising { IsStrictlySortedBy id_cmp recalled }
+        ensures { result ≡ before_hello role database node recalled }
+    {
+        Session {
+            role,
+            database,
+            node,
+            recalled,
+            heads: IdList::from_vec(Vec::new(alloc)),
+            below: 0,
+            peer: None,
+            reading: Reading::Opening,
+            began: false,
+            items: 0,
+            pending: Pending::new(alloc),
+            asked: BTreeSet::new(alloc),
+            peer_asked: BTreeSet::new(alloc),
+            sent_have: false,
+            got_have: false,
+            turns: 0,
+            gained: 0,
+            ended: None,
+            failed: false,
+        }
+    }
+}

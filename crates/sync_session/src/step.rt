@@ -1,0 +1,89 @@
+//! One frame to a session.
+
+ghost use Rattle.std.specs.Prelude.{◌≡◌, ◌≤◌, ◌||◌, true, is_some, IfOk, OnOk, OnErr, length, map};
+ghost use Rattle.session_rules.specs.Steps.{Takes};
+ghost use Rattle.update_check.specs.Holding.{IsHeld};
+ghost use Rattle.update_codec.specs.Parts.{entry_of};
+ghost use Rattle.sync_session.specs.Kept.{frame_of, out_of, seen, BelongsTo, IsFrameUnder, IsRunning, Stands, StepsTo};
+ghost use Rattle.sync_session.specs.Turns.{IsOrdered};
+
+use crate::{CheckedFrame, Out, Session};
+use session_rules::{End, PeerFault};
+use std::alloc::{AllocError, Global};
+use update_check::Holder;
+
+impl Session {
+    /// Takes the peer's next frame, and answers what is to be sent.
+    ///
+    /// The session has to belong to the holder, as it does after [`Session::start`] and after each call of this: since then
+    /// the holder's list has at most grown. An update has to be under the holder's rule. A session that has ended, or
+    /// whose memory ran out in an earlier call, answers nothing and leaves the holder alone.
+    ///
+    /// Where memory runs out the session is over. What the holder added in the same call it keeps.
+    pub fn step<H: Holder>(
+        &mut self,
+        alloc: Global,
+        holder: &mut H,
+        frame: CheckedFrame,
+    ) -> Result<Out, AllocError>
+        requires belongs { BelongsTo (H.limits holder.old) (H.rule holder.old) self.old (H.members holder.old) }
+        requires under { IsFrameUnder (H.rule holder.old) frame }
+        ensures steps { IfOk result (λ out. StepsTo (H.limits holder.old) self.old (H.members holder.old) frame self.new out (H.members holder.new)) }
+        ensures belongs { BelongsTo (H.limits holder.old) (H.rule holder.old) self.new (H.members holder.new) }
+        ensures failed { OnErr result (self.new.failed ≡ true) }
+        ensures limits { H.limits holder.new ≡ H.limits holder.old }
+        ensures rule { H.rule holder.new ≡ H.rule holder.old }
+    {
+        if self.is_over() {
+            return Ok(Out::silent(alloc));
+        }
+        holder.len();
+        match self.take(alloc, holder, frame) {
+            Ok(out) => Ok(out),
+            Err(fault) => {
+                self.failed = true;
+                Err(fault)
+            }
+        }
+    }
+
+    /// Whether no frame is answered any more.
+    fn is_over(&self) -> bool
+        ensures { result ≡ (self.now.failed || is_some self.now.state.ended) }
+    {
+        self.failed || self.ended.is_some()
+    }
+
+    /// Takes a frame where the session is not over.
+    fn take<H: Holder>(
+        &mut self,
+        alloc: Global,
+        holder: &mut H,
+        frame: CheckedFrame,
+    ) -> Result<Out, AllocError>
+        requires running { IsRunning self.old }
+        requires held { IsHeld (H.limits holder.old) (H.rule holder.old) (H.members holder.old) }
+        requires gained { self.old.state.gained ≤ length (H.members holder.old) }
+        requires stands { Stands (H.rule holder.old) self.old (H.members holder.old) }
+        requires rising { IsOrdered self.old }
+        requires under { IsFrameUnder (H.rule holder.old) frame }
+        ensures takes { IfOk result (λ out. Takes (H.limits holder.old) (seen (H.members holder.old) self.old) (map entry_of (H.members holder.old)) (frame_of frame)
+            (seen (H.members holder.new) self.new) (out_of (map entry_of (H.members holder.new)) out) (map entry_of (H.members holder.new))) }
+        ensures stands { OnOk result (Stands (H.rule holder.old) self.new (H.members holder.new)) }
+        ensures failed { OnOk result (self.new.failed ≡ self.old.failed) }
+        ensures limits { H.limits holder.new ≡ H.limits holder.old }
+        ensures rule { H.rule holder.new ≡ H.rule holder.old }
+    {
+        match frame {
+            CheckedFrame::Hello(hello) => self.take_hello(alloc, holder, hello),
+            CheckedFrame::OtherVersion(_) => Ok(self.end(alloc, End::Peer(PeerFault::Version))),
+            CheckedFrame::Item(update) => self.take_item(alloc, update),
+            CheckedFrame::BadItem(fault) => Ok(self.take_bad_item(alloc, fault)),
+            CheckedFrame::Turn(turn) => self.take_turn(alloc, holder, turn),
+            CheckedFrame::BadFrame(place) => Ok(self.end(
+                alloc,
+                End::Peer(PeerFault::BadFrame(place)),
+            )),
+        }
+    }
+}
