@@ -1,9 +1,9 @@
 -- The burst, one position after another.
-use Rattle.std.proofs.Common.{◌≡◌, ◌≤◌, ℕ, zero, suc, ◌+◌, ◌<◌, Bool, true, false, not, cond, ◌||◌, List, [], ◌∷◌, ◌++◌, length, get_or, take, drop, map, slice_get, filter_map, Option, Some, None, option_map, refl, sym, ap, subst, ◌∙◌, take_all}
+use Rattle.std.proofs.Common.{◌≡◌, ◌≤◌, ℕ, ◌+◌, ◌<◌, Bool, true, false, not, cond, ◌||◌, List, [], ◌∷◌, ◌++◌, length, get_or, take, drop, map, slice_get, filter_map, Option, Some, None, option_map, refl, sym, ap, subst, ◌∙◌, take_all}
 use Rattle.bloom_summary.specs.Bloom.{is_member}
 use Rattle.std.specs.BTreeSet.{BTreeSet, keys}
 use Rattle.std.specs.List.{list_any, cons_option}
-use Rattle.std.proofs.lemmas.List.{take-map, take-append-drop, map-append}
+use Rattle.std.proofs.lemmas.List.{take-map, take-append-drop}
 use Rattle.std.proofs.lemmas.List.Elements.{filter_map-append}
 use Rattle.std.proofs.lemmas.List.Folds.{list_any-append}
 use Rattle.std.proofs.lemmas.Option.{slice_get-map}

@@ -1,17 +1,17 @@
 -- What an end sends unasked: the members that a peer's summary lacks, and those above them.
-use Rattle.std.proofs.Common.{◌≡◌, ◌⊎◌, inl, inr, ℕ, ◌+◌, ◌<◌, Bool, true, false, not, ◌&&◌, ◌||◌, List, [], ◌∷◌, ◌++◌, Contains, refl, sym, ap, subst, ◌∙◌}
+use Rattle.std.proofs.Common.{◌≡◌, inl, inr, Bool, true, false, not, ◌||◌, List, [], ◌∷◌, ◌++◌, Contains, refl, sym, ap, subst, ◌∙◌}
 use Rattle.std.specs.List.{list_any, AllByRecursion}
 use Rattle.std.proofs.lemmas.List.Elements.{recursion_from_All, Contains-append_left, Contains-append_cases}
 use Rattle.update_model.specs.declared.update_id.UpdateId.{UpdateId}
 use Rattle.update_model.specs.Entry.{Entry, same_id}
-use Rattle.update_model.specs.Graph.{has, holds, IsNext, Follows, IsClosed, IsAncestor, named, through}
+use Rattle.update_model.specs.Graph.{has, holds, Follows, IsClosed, IsAncestor, named, through}
 use Rattle.update_model.specs.Since.{Picks, IsBehind, AreSince}
 use Rattle.update_model.proofs.Heads.{witness, any_from_member}
 use Rattle.update_model.proofs.Ids.{same_id-refl}
 use Rattle.session_rules.proofs.Bounds.{or_parts}
 use Rattle.session_rules.proofs.Held.{held_member, held_witness, has_witness, has_member, later_differs}
 use Rattle.session_rules.proofs.Sends.{picks_within}
-use Rattle.session_rules.proofs.Words.{or_cases, or_left, or_right, cons_cases, first_member, later_member, each_member, not_true}
+use Rattle.session_rules.proofs.Words.{or_cases, cons_cases, first_member, later_member, each_member, not_true}
 use Rattle.session_rules.specs.Burst.{IsUnknown}
 
 -- ---- picking

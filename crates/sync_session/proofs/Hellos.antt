@@ -1,6 +1,6 @@
 -- The Hello of an end.
-use Rattle.std.proofs.Common.{◌≡◌, ℕ, ◌+◌, ◌<◌, ◌≤◌, Bool, true, not, ◌&&◌, List, [], ◌∷◌, ◌++◌, All, length, get_or, take, map, slice_get, Option, Some, None, option_map, refl, sym, ap, subst, ◌∙◌, arith, leb-true, length-take, take_all}
-use Rattle.std.proofs.lemmas.List.{map-append, length-map, take-map}
+use Rattle.std.proofs.Common.{◌≡◌, ℕ, ◌+◌, ◌<◌, ◌≤◌, not, List, [], ◌∷◌, ◌++◌, length, get_or, take, map, slice_get, Option, Some, None, option_map, refl, sym, ap, subst, ◌∙◌, arith, leb-true, length-take, take_all}
+use Rattle.std.proofs.lemmas.List.{map-append, length-map}
 use Rattle.std.specs.List.Sorted.{IsStrictlySortedBy}
 use Rattle.bloom_summary.specs.Bloom.{AreBits}
 use Rattle.bloom_summary.specs.declared.limits.TheConstants.{MAX_SUMMARY_BYTES}
@@ -15,7 +15,7 @@ use Rattle.update_model.specs.declared.limits.TheConstants.{MAX_MEMBERS}
 use Rattle.update_model.specs.declared.update_id.UpdateId.{UpdateId}
 use Rattle.update_model.specs.Batch.{Limits}
 use Rattle.update_model.specs.Entry.{Entry, id_cmp}
-use Rattle.update_model.specs.Graph.{has, holds, names, AreHeads}
+use Rattle.update_model.specs.Graph.{holds, names, AreHeads}
 use Rattle.update_model.specs.Rule.{RuleData}
 use Rattle.update_model.specs.Since.{IsBehind, AreSince}
 use Rattle.sync_session.specs.Greeting.{IsHelloOver}

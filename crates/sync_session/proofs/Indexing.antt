@@ -1,5 +1,5 @@
 -- Updates that are found by id, one after another.
-use Rattle.std.proofs.Common.{◌≡◌, ℕ, ◌+◌, ◌<◌, ◌≤◌, Bool, true, false, cond, ◌||◌, ◌&&◌, List, [], ◌∷◌, ◌++◌, length, get_or, take, drop, map, refl, sym, ap, subst, ◌∙◌, arith, append_assoc, leb-true}
+use Rattle.std.proofs.Common.{◌≡◌, ℕ, ◌+◌, ◌<◌, ◌≤◌, Bool, true, false, cond, ◌||◌, List, [], ◌∷◌, ◌++◌, length, get_or, take, drop, map, refl, sym, ap, subst, ◌∙◌, arith, leb-true}
 use Rattle.session_rules.proofs.Words.{and_both}
 use Rattle.update_model.specs.declared.limits.TheConstants.{MAX_BYTES}
 use Rattle.std.proofs.lemmas.List.{map-append, take_more, take-append-drop}

@@ -1,20 +1,19 @@
 -- The cases of a step at an Item.
-use Rattle.std.proofs.Common.{◌≡◌, ℕ, ◌+◌, ◌<◌, ◌≤◌, Bool, true, false, map, not, ◌&&◌, ◌||◌, cond, if◌then◌else◌, List, [], ◌∷◌, ◌++◌, length, Option, Some, None, refl, sym, ap, subst, ◌∙◌, arith, append_assoc}
+use Rattle.std.proofs.Common.{◌≡◌, ℕ, ◌+◌, Bool, true, false, map, ◌&&◌, ◌||◌, if◌then◌else◌, List, [], ◌∷◌, ◌++◌, Option, Some, None, refl, sym, ap, subst, ◌∙◌}
 use Rattle.update_model.specs.declared.update_id.UpdateId.{UpdateId}
-use Rattle.update_model.specs.Entry.{Entry, same_id}
-use Rattle.update_model.specs.Graph.{has, holds, is_within, byte_count}
+use Rattle.update_model.specs.Entry.{Entry}
+use Rattle.update_model.specs.Graph.{holds, is_within}
 use Rattle.session_rules.specs.declared.peer_fault.PeerFault.{PeerFault}
 use Rattle.session_rules.specs.declared.peer_fault.PeerFault.TheVariants.{OutOfTurn}
-use Rattle.session_rules.specs.declared.end.End.{End}
 use Rattle.session_rules.specs.declared.end.End.TheVariants.{Peer, Full}
 use Rattle.update_model.specs.Batch.{Limits}
-use Rattle.session_rules.specs.State.{SessionData, OutData, Item}
+use Rattle.session_rules.specs.State.{Item}
 use Rattle.session_rules.specs.Steps.{Takes, Unless, Gathers, gathers, takes_item, answer_fault, item_fault, in_burst, after_item, counted, silent, closing}
 use Rattle.sync_session.specs.declared.out.Out.{Out}
 use Rattle.std.proofs.lemmas.List.{map-append}
 use Rattle.update_codec.specs.Parts.{entry_of}
 use Rattle.sync_session.specs.Kept.{Kept, whole, out_of, with_end, with_item}
-use Rattle.sync_session.specs.Pending.{PendingData, entries_in, has_room_for}
+use Rattle.sync_session.specs.Pending.{entries_in, has_room_for}
 
 -- a fault
 pub item_ends : (limits : Limits) (start list : List Entry) (k k' : Kept) (e : Entry) (out : Out) (fault : PeerFault) → item_fault (whole start k) e ≡ Some fault

@@ -13,3 +13,4 @@ pub mod Settling
 pub mod TurnTaking
 pub mod Stepping
 pub mod Starting
+pub mod Growing

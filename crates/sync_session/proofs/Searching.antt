@@ -1,5 +1,5 @@
 -- Searches through lists, one element after another.
-use Rattle.std.proofs.Common.{◌≡◌, ℕ, zero, suc, ◌+◌, ◌<◌, ◌≤◌, Bool, true, false, not, cond, ◌&&◌, ◌||◌, List, [], ◌∷◌, ◌++◌, length, get_or, take, drop, find, filter_map, slice_get, Option, Some, None, is_some, refl, sym, ap, subst, ◌∙◌, arith, drop-cons, add-one, append-nil, inl, inr}
+use Rattle.std.proofs.Common.{◌≡◌, ℕ, zero, suc, ◌+◌, ◌<◌, ◌≤◌, Bool, true, false, not, ◌&&◌, ◌||◌, List, [], ◌∷◌, ◌++◌, length, get_or, take, drop, find, filter_map, slice_get, Option, Some, None, is_some, refl, sym, ap, ◌∙◌, arith, drop-cons, add-one, append-nil, inl, inr}
 use Rattle.std.specs.List.{list_all, list_any, position_from, cons_option}
 use Rattle.std.proofs.lemmas.List.Folds.{list_any-append}
 use Rattle.std.proofs.lemmas.List.Elements.{filter_map-append}
@@ -8,7 +8,7 @@ use Rattle.session_rules.proofs.Words.{is_either, and_both}
 use Rattle.session_rules.specs.Steps.{answers}
 use Rattle.update_model.specs.declared.update_id.UpdateId.{UpdateId}
 use Rattle.update_model.specs.Entry.{Entry, same_id}
-use Rattle.update_model.specs.Graph.{has, holds, position_of}
+use Rattle.update_model.specs.Graph.{holds, position_of}
 use Rattle.update_model.proofs.Closed.{position_of-held}
 
 -- the list, split at an element

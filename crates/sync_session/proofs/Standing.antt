@@ -1,5 +1,5 @@
 -- What a session stands on, kept from step to step.
-use Rattle.std.proofs.Common.{◌≡◌, ◌≤◌, ℕ, length, take, map, take_all, arith, Result, Ok, Err, IfOk, OnOk, List, [], ◌∷◌, ◌++◌, All, refl, sym, ap, subst, ◌∙◌, append_assoc}
+use Rattle.std.proofs.Common.{◌≡◌, ℕ, length, take, map, take_all, arith, Result, Ok, Err, IfOk, OnOk, List, [], ◌∷◌, ◌++◌, All, sym, ap, subst, ◌∙◌, append_assoc}
 use Rattle.std.proofs.lemmas.List.Elements.{All-push}
 use Rattle.update_check.specs.Signed.{IsChecked}
 use Rattle.update_model.specs.Rule.{RuleData}
@@ -10,7 +10,6 @@ use Rattle.update_model.specs.Graph.{has}
 use Rattle.sync_session.specs.declared.out.Out.{Out}
 use Rattle.sync_frames.specs.Payload as payload
 use Rattle.sync_session.specs.Kept.{Kept, GreetsOver, Stands, updates_in, with_end, with_hello, with_item}
-use Rattle.sync_session.specs.Pending.{PendingData}
 
 -- where it ends
 pub stands_end : (ending : End) (k k' : Kept) → k' ≡ with_end ending k → (rule : RuleData) (members : List (List ℕ)) → Stands rule k members → Stands rule k' members

@@ -1,5 +1,5 @@
 -- How a session begins, and what it remembers.
-use Rattle.std.proofs.Common.{◌≡◌, ◌≤◌, ℕ, zero, Bool, true, false, ◌||◌, ◌&&◌, not, List, [], ◌∷◌, All, length, map, take, take_all, Option, Some, None, refl, sym, ap, subst, ◌∙◌, arith}
+use Rattle.std.proofs.Common.{◌≡◌, ℕ, Bool, true, false, ◌||◌, List, [], All, length, map, take, take_all, Some, None, refl, sym, ap, subst, ◌∙◌, arith}
 use Rattle.std.proofs.lemmas.List.{length-map}
 use Rattle.std.proofs.lemmas.List.Elements.{All-nil}
 use Rattle.update_check.specs.Holding.{IsHeld}
@@ -8,7 +8,7 @@ use Rattle.update_codec.specs.Parts.{entry_of}
 use Rattle.update_model.specs.declared.update_id.UpdateId.{UpdateId}
 use Rattle.update_model.specs.Batch.{Limits}
 use Rattle.update_model.specs.Entry.{Entry}
-use Rattle.update_model.specs.Graph.{has, holds, names}
+use Rattle.update_model.specs.Graph.{has}
 use Rattle.update_model.specs.Rule.{RuleData}
 use Rattle.session_rules.specs.declared.limits.TheConstants.{MAX_NEEDS}
 use Rattle.session_rules.specs.declared.role.Role.{Role}
@@ -16,10 +16,8 @@ use Rattle.session_rules.specs.declared.role.Role.TheVariants.{Initiator, Respon
 use Rattle.session_rules.specs.Course.{opened}
 use Rattle.session_rules.specs.Pair.{unfed}
 use Rattle.session_rules.specs.Steps.{begun, AreLeast, IsHello, Joins}
-use Rattle.sync_session.specs.declared.out.Out.{Out}
 use Rattle.sync_session.specs.Greeting.{IsHelloOver}
-use Rattle.sync_session.specs.Kept.{Kept, Belongs, BelongsTo, Stands, hello_of, seen}
-use Rattle.sync_session.specs.Pending.{nothing}
+use Rattle.sync_session.specs.Kept.{Kept, BelongsTo, Stands, hello_of, seen}
 use Rattle.sync_frames.specs.Payload as payload
 use Rattle.sync_session.specs.Starts.{before_hello, StartsAs}
 use Rattle.sync_session.proofs.Hellos.{members_few}

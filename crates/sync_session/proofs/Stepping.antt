@@ -1,7 +1,7 @@
 -- One frame, and what a session belongs to.
-use Rattle.std.proofs.Common.{◌≡◌, ◌≤◌, ◌<◌, ℕ, ◌+◌, Bool, true, false, ◌||◌, is_some, List, [], ◌∷◌, ◌++◌, length, map, take, Option, Some, None, Result, Ok, Err, IfOk, OnOk, OnErr, refl, sym, ap, subst, ◌∙◌, arith, length-append}
+use Rattle.std.proofs.Common.{◌≡◌, ◌≤◌, ℕ, Bool, true, false, ◌||◌, is_some, List, length, map, take, Option, Some, None, Result, Ok, Err, IfOk, OnOk, refl, sym, ap, subst, arith, length-append}
 use Rattle.std.specs.declared.alloc.AllocError.{AllocError}
-use Rattle.std.proofs.lemmas.List.{map-append, length-map}
+use Rattle.std.proofs.lemmas.List.{length-map}
 use Rattle.update_check.specs.Holding.{IsHeld}
 use Rattle.update_codec.specs.Parts.{entry_of}
 use Rattle.update_model.specs.Batch.{Limits}
@@ -9,7 +9,7 @@ use Rattle.update_model.specs.Entry.{Entry}
 use Rattle.update_model.specs.Rule.{RuleData}
 use Rattle.update_model.specs.declared.update_id.UpdateId.{UpdateId}
 use Rattle.session_rules.specs.declared.end.End.{End}
-use Rattle.session_rules.specs.Course.{Continues, opened}
+use Rattle.session_rules.specs.Course.{opened}
 use Rattle.session_rules.specs.Pair.{Feeds, unfed, fed, grown}
 use Rattle.session_rules.specs.State.{FrameData, SessionData}
 use Rattle.session_rules.specs.declared.role.Role.{Role}

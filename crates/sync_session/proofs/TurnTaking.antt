@@ -1,5 +1,5 @@
 -- A Turn, from its commit to what it leaves.
-use Rattle.std.proofs.Common.{◌≡◌, ◌≤◌, ◌<◌, ℕ, suc, ◌+◌, cond, Bool, true, false, not, ◌&&◌, List, [], ◌∷◌, ◌++◌, All, Contains, length, map, filter, take, Option, Some, None, Result, Ok, Err, IfOk, OnOk, refl, sym, ap, subst, ◌∙◌, arith, append-nil, length-append, leb-true, le-leb}
+use Rattle.std.proofs.Common.{◌≡◌, ◌≤◌, ℕ, suc, cond, Bool, true, false, not, List, [], ◌∷◌, ◌++◌, All, length, map, filter, take, Option, Some, None, Result, Ok, Err, IfOk, OnOk, refl, sym, ap, subst, ◌∙◌, arith, append-nil, length-append, leb-true, le-leb}
 use Rattle.std.proofs.lemmas.List.{length-map, map-append, take-append-le}
 use Rattle.std.proofs.lemmas.List.Elements.{All-filter, All-map}
 use Rattle.std.proofs.lemmas.List.Sums.{sum_by-append}
@@ -10,7 +10,6 @@ use Rattle.update_check.specs.declared.holder.CommitFault.{CommitFault}
 use Rattle.update_check.specs.declared.holder.CommitFault.TheVariants as commit_faults
 use Rattle.update_check.specs.declared.holder.Committed.{Committed as Answer}
 use Rattle.update_codec.specs.Parts.{entry_of}
-use Rattle.update_model.specs.declared.update_id.UpdateId.{UpdateId}
 use Rattle.update_model.specs.Batch.{Limits, Adds, not_held, fits}
 use Rattle.update_model.specs.Entry.{Entry}
 use Rattle.update_model.specs.Graph.{holds, is_within, byte_count, IsClosed}
@@ -21,13 +20,13 @@ use Rattle.session_rules.proofs.Words.{and_both, and_join}
 use Rattle.update_model.specs.declared.limits.TheConstants.{MAX_BYTES, MAX_MEMBERS}
 use Rattle.session_rules.specs.declared.end.End.TheVariants.{Store}
 use Rattle.session_rules.specs.Commit.{Added, DiskFault}
-use Rattle.session_rules.specs.State.{TurnData, OutData, SessionData, Turn}
+use Rattle.session_rules.specs.State.{TurnData, OutData, SessionData}
 use Rattle.session_rules.specs.Steps.{closing, turn_fault, late_fault, IsTurn, Judges, Unless, Takes}
 use Rattle.session_rules.specs.Steps as rules
 use Rattle.sync_session.specs.declared.out.Out.{Out}
 use Rattle.sync_frames.specs.Payload as payload
 use Rattle.sync_session.specs.Kept.{Kept, Stands, emptied, out_of, seen, turn_fault_at, turn_of, whole, with_commit, with_refusal}
-use Rattle.sync_session.specs.Turns.{SettlesTo, Stays, TakesTurn}
+use Rattle.sync_session.specs.Turns.{SettlesTo, TakesTurn}
 
 -- the first part of a list stays as the list grows
 pub front_stays : (before added after : List (List ℕ)) (n : ℕ) → after ≡ before ++ added → n ≤ length before → take n (map entry_of after) ≡ take n (map entry_of before)

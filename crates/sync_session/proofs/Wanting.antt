@@ -1,6 +1,5 @@
 -- What is wanted, one id after another.
-use Rattle.std.proofs.Common.{◌≡◌, ℕ, ◌+◌, ◌<◌, Bool, true, false, not, cond, ◌&&◌, ◌||◌, List, [], ◌∷◌, ◌++◌, length, get_or, take, map, refl, sym, ap, subst, ◌∙◌, inl, inr}
-use Rattle.std.specs.BTreeSet.{BTreeSet, keys}
+use Rattle.std.proofs.Common.{◌≡◌, ℕ, ◌+◌, ◌<◌, Bool, true, false, not, cond, ◌&&◌, ◌||◌, List, [], ◌∷◌, length, get_or, take, map, refl, sym, ap, ◌∙◌}
 use Rattle.std.specs.List.Sorted.{IsStrictlySortedBy}
 use Rattle.std.proofs.lemmas.List.{map-append}
 use Rattle.std.proofs.lemmas.List.Folds.{list_any-append}
@@ -9,7 +8,6 @@ use Rattle.update_model.specs.declared.update_id.UpdateId.{UpdateId}
 use Rattle.update_model.specs.Entry.{Entry, same_id, id_cmp}
 use Rattle.update_model.specs.Graph.{has, holds, names}
 use Rattle.update_model.proofs.Ids.{id_from_same}
-use Rattle.session_rules.proofs.Words.{is_either}
 use Rattle.session_rules.specs.declared.limits.TheConstants.{MAX_NEEDS}
 use Rattle.session_rules.specs.Steps.{is_wanted, AreLeast}
 use Rattle.sync_session.specs.Wants.{is_open, Wants}

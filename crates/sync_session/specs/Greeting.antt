@@ -1,5 +1,5 @@
 -- The Hello over a list.
-use Rattle.std.specs.Prelude.{◌≡◌, ℕ, List}
+use Rattle.std.specs.Prelude.{ℕ, List}
 use Rattle.session_rules.specs.Steps.{IsHello, begun}
 use Rattle.session_rules.specs.declared.role.Role.TheVariants.{Initiator}
 use Rattle.update_model.specs.declared.update_id.UpdateId.{UpdateId}

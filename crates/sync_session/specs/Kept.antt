@@ -1,5 +1,5 @@
 -- What a session keeps, and how the code's values are seen by the rules.
-use Rattle.std.specs.Prelude.{◌≡◌, ◌≤◌, ◌<◌, ◌⊎◌, ℕ, ◌+◌, Bool, true, false, not, ◌&&◌, ◌||◌, if◌then◌else◌, List, [], ◌∷◌, ◌++◌, length, map, take, filter_map, slice_get, find, bytes_eq, All, Contains, Option, Some, None, option_map}
+use Rattle.std.specs.Prelude.{◌≡◌, ◌≤◌, ◌<◌, ℕ, ◌+◌, Bool, true, false, not, ◌&&◌, ◌||◌, if◌then◌else◌, List, [], ◌++◌, length, map, take, filter_map, slice_get, find, bytes_eq, All, Option, Some, None, option_map}
 use Rattle.std.specs.VecDeque.{deque_items}
 use Rattle.update_codec.specs.Parts.{entry_of}
 use Rattle.update_check.specs.Signed.{IsChecked}
@@ -10,7 +10,7 @@ use Rattle.update_model.specs.Batch.{Limits}
 use Rattle.update_model.specs.Entry.{Entry}
 use Rattle.update_model.specs.Graph.{has, holds, names}
 use Rattle.update_model.specs.Rule.{RuleData}
-use Rattle.session_rules.specs.declared.limits.TheConstants.{MAX_ITEMS, MAX_NEEDS, MAX_TURNS}
+use Rattle.session_rules.specs.declared.limits.TheConstants.{MAX_TURNS}
 use Rattle.bloom_summary.specs.Bloom.{is_member}
 use Rattle.std.specs.List.{list_all}
 use Rattle.session_rules.specs.Burst.{IsBurst}

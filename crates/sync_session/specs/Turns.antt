@@ -1,5 +1,5 @@
 -- What a Turn does to a session, as its code goes.
-use Rattle.std.specs.Prelude.{◌≡◌, ◌≤◌, ◌+◌, ℕ, Bool, false, List, [], length, map, take}
+use Rattle.std.specs.Prelude.{◌≡◌, ℕ, Bool, false, List, map, take}
 use Rattle.std.specs.List.Sorted.{IsStrictlySortedBy}
 use Rattle.session_rules.specs.State.{TurnData, Turn}
 use Rattle.session_rules.specs.Steps.{late_fault, IsTurn, Judges, Replies, Takes}

@@ -22,6 +22,7 @@ mod checked_frame;
 mod greeting;
 mod hello;
 mod ids;
+mod laws;
 mod lookup;
 mod needs;
 mod out;
@@ -34,5 +35,6 @@ mod step;
 mod turn;
 
 pub use checked_frame::CheckedFrame;
+pub use laws::belongs_when_grown;
 pub use out::Out;
 pub use session::Session;

@@ -1,4 +1,4 @@
-use Rattle.std.proofs.Common.{◌≡◌, ◌∙◌, ◌||◌, List, Option, option_map, ap, sym, subst, take}
+use Rattle.std.proofs.Common.{◌∙◌, ◌||◌, List, Option, option_map, ap, sym, subst, take}
 use Rattle.std.specs.BTreeSet.{BTreeSet, keys}
 use Rattle.update_model.specs.declared.update_id.UpdateId.{UpdateId}
 use Rattle.update_model.specs.Graph.{has}

@@ -1,4 +1,4 @@
-use Rattle.std.proofs.Common.{◌≡◌, ◌∙◌, ◌+◌, ℕ, List, refl, sym, ap, subst, map, cond, not, ◌||◌, true}
+use Rattle.std.proofs.Common.{◌≡◌, ◌∙◌, ℕ, List, refl, sym, ap, subst, cond, not, ◌||◌, true}
 use Rattle.std.specs.BTreeSet.{BTreeSet, keys}
 use Rattle.std.specs.List.{list_any}
 use Rattle.bloom_summary.specs.Bloom.{is_member}
@@ -7,7 +7,7 @@ use Rattle.update_model.specs.declared.update_id.UpdateId.{UpdateId as Id}
 use Rattle.update_model.specs.Entry.{same_id}
 use Rattle.update_model.specs.Graph.{has}
 use Rattle.sync_frames.specs.Payload.{HelloData}
-use Rattle.sync_session.proofs.BurstSteps.{Sends, sends_none, sends_in, sends_over, burst_is}
+use Rattle.sync_session.proofs.BurstSteps.{sends_none, sends_in, sends_over, burst_is}
 use Rattle.sync_session.proofs.greeting.burst.Goals as goal
 use Rattle.sync_session.proofs.greeting.burst.Goals.{then-is_unknown+in_ok-insert+in_ok-push, else-is_unknown}
 

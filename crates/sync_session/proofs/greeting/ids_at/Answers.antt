@@ -1,4 +1,4 @@
-use Rattle.std.proofs.Common.{◌≡◌, ◌∙◌, refl, get_or}
+use Rattle.std.proofs.Common.{◌∙◌, refl}
 use Rattle.sync_session.proofs.Hellos.{ids_more}
 use Rattle.sync_session.proofs.greeting.ids_at.Goals as goal
 

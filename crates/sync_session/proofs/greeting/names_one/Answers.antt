@@ -1,4 +1,4 @@
-use Rattle.std.proofs.Common.{◌≡◌, ◌∙◌, sym, true, false, []}
+use Rattle.std.proofs.Common.{◌∙◌, sym, []}
 use Rattle.std.specs.BTreeSet.{keys}
 use Rattle.update_model.specs.declared.update_id.UpdateId.{UpdateId as Id}
 use Rattle.update_model.specs.Graph.{has}

@@ -1,4 +1,4 @@
-use Rattle.std.proofs.Common.{◌≡◌, ◌∙◌, ◌≤◌, ap, sym, subst, map, length, arith}
+use Rattle.std.proofs.Common.{◌∙◌, ap, sym, subst, map, length, arith}
 use Rattle.update_codec.specs.Parts.{entry_of, id_of}
 use Rattle.sync_session.specs.Greeting.{IsHelloOver}
 use Rattle.update_check.specs.Holding.{at_positions}

@@ -1,4 +1,4 @@
-use Rattle.std.proofs.Common.{take, slice_index_or, [], arith}
+use Rattle.std.proofs.Common.{take, slice_index_or, []}
 use Rattle.update_model.specs.declared.update_id.UpdateId.{UpdateId}
 use Rattle.update_model.specs.Entry.{same_id}
 use Rattle.update_model.specs.Graph.{has}

@@ -1,6 +1,5 @@
-use Rattle.std.proofs.Common.{◌≡◌, ◌≤◌, List, [], ◌++◌, length, sym, ap, subst, arith}
+use Rattle.std.proofs.Common.{◌≡◌, List, ◌++◌, subst, arith}
 use Rattle.std.specs.BTreeSet.{keys}
-use Rattle.session_rules.specs.declared.limits.TheConstants.{MAX_NEEDS}
 use Rattle.update_model.specs.declared.update_id.UpdateId.{UpdateId}
 use Rattle.sync_session.proofs.IdSets.{front_is, whole_is}
 use Rattle.sync_session.proofs.ids.least.Goals as goal

@@ -1,7 +1,7 @@
-use Rattle.std.proofs.Common.{◌≡◌, ◌∙◌, sym, ap, subst, refl, true, false, not, map, take, length, slice_index_or, [], arith, List, ℕ}
+use Rattle.std.proofs.Common.{sym, ap, true, false, not, map, take, []}
 use Rattle.update_codec.specs.Parts.{entry_of}
 use Rattle.update_model.specs.declared.update_id.UpdateId.{UpdateId as Id}
-use Rattle.update_model.specs.Graph.{holds, has, names}
+use Rattle.update_model.specs.Graph.{holds}
 use Rattle.sync_session.proofs.Searching.{found_at, none_more, unheld_by}
 use Rattle.sync_session.proofs.lookup.first_unknown.Goals as goal
 

@@ -1,7 +1,5 @@
-use Rattle.std.proofs.Common.{◌≡◌, ◌∙◌, sym, ap, subst, refl, true, false, not, map, take, length, slice_index_or, [], arith, List, ℕ}
+use Rattle.std.proofs.Common.{sym, map}
 use Rattle.update_codec.specs.Parts.{entry_of}
-use Rattle.update_model.specs.declared.update_id.UpdateId.{UpdateId as Id}
-use Rattle.update_model.specs.Graph.{holds, has, names}
 use Rattle.sync_session.proofs.Searching.{here_in_front, past_front, none_in_front}
 use Rattle.sync_session.proofs.lookup.position_below.Goals as goal
 

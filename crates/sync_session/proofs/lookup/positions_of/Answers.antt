@@ -1,7 +1,6 @@
-use Rattle.std.proofs.Common.{◌≡◌, ◌∙◌, sym, ap, subst, refl, true, false, not, map, take, length, slice_index_or, [], arith, List, ℕ}
+use Rattle.std.proofs.Common.{sym, map, []}
 use Rattle.update_codec.specs.Parts.{entry_of}
 use Rattle.update_model.specs.declared.update_id.UpdateId.{UpdateId as Id}
-use Rattle.update_model.specs.Graph.{holds, has, names}
 use Rattle.sync_session.proofs.Searching.{answers_found, answers_none}
 use Rattle.sync_session.proofs.lookup.positions_of.Goals as goal
 use Rattle.sync_session.proofs.lookup.positions_of.Goals.{in-Some+in_ok-push, in_default}

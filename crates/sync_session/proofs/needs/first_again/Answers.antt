@@ -1,7 +1,6 @@
-use Rattle.std.proofs.Common.{◌≡◌, ◌∙◌, sym, ap, subst, refl, true, false, not, map, take, length, slice_index_or, [], arith, List, ℕ}
-use Rattle.update_codec.specs.Parts.{entry_of}
+use Rattle.std.proofs.Common.{◌∙◌, sym, []}
 use Rattle.update_model.specs.declared.update_id.UpdateId.{UpdateId as Id}
-use Rattle.update_model.specs.Graph.{holds, has, names}
+use Rattle.update_model.specs.Graph.{has}
 use Rattle.std.specs.BTreeSet.{keys}
 use Rattle.sync_session.proofs.Searching.{found_at, none_more}
 use Rattle.sync_session.proofs.needs.first_again.Goals as goal

@@ -1,4 +1,4 @@
-use Rattle.std.proofs.Common.{◌≡◌, ◌∙◌, sym, true, false, map}
+use Rattle.std.proofs.Common.{◌∙◌, sym, true, false, map}
 use Rattle.std.specs.BTreeSet.{keys}
 use Rattle.update_codec.specs.Parts.{entry_of}
 use Rattle.update_model.specs.Graph.{holds, has}

@@ -1,4 +1,4 @@
-use Rattle.std.proofs.Common.{◌≡◌, ◌∙◌, sym, ap, subst, map, List, [], take}
+use Rattle.std.proofs.Common.{◌≡◌, subst, map, List, take}
 use Rattle.std.proofs.lemmas.Result.{IfOk-weaker}
 use Rattle.std.specs.BTreeSet.{keys}
 use Rattle.update_codec.specs.Parts.{entry_of}

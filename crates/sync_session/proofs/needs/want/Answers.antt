@@ -1,9 +1,8 @@
-use Rattle.std.proofs.Common.{◌≡◌, ◌∙◌, sym, ap, subst, refl, true, false, not, map, take, length, slice_index_or, [], arith, List, ℕ}
+use Rattle.std.proofs.Common.{◌∙◌, sym, map, []}
 use Rattle.update_codec.specs.Parts.{entry_of}
 use Rattle.update_model.specs.declared.update_id.UpdateId.{UpdateId as Id}
-use Rattle.update_model.specs.Graph.{holds, has, names}
 use Rattle.std.specs.BTreeSet.{keys}
-use Rattle.sync_session.specs.Wants.{is_open, Wants}
+use Rattle.sync_session.specs.Wants.{is_open}
 use Rattle.sync_session.proofs.Wanting.{want_in, want_out}
 use Rattle.sync_session.proofs.needs.want.Goals as goal
 use Rattle.sync_session.proofs.needs.want.Goals.{then-is_open+in_ok-insert, else-is_open}

@@ -1,7 +1,6 @@
-use Rattle.std.proofs.Common.{◌≡◌, ◌∙◌, ◌+◌, ◌||◌, sym, ap, map, List, [], take}
+use Rattle.std.proofs.Common.{◌+◌, map, take}
 use Rattle.std.specs.BTreeSet.{keys}
 use Rattle.update_codec.specs.Parts.{entry_of}
-use Rattle.update_model.specs.declared.update_id.UpdateId.{UpdateId as Id}
 use Rattle.update_model.specs.Graph.{names, has}
 use Rattle.sync_session.specs.Wants.{is_open}
 use Rattle.sync_session.proofs.Wanting.{wants_join, names_more}

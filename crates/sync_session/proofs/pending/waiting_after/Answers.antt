@@ -1,7 +1,7 @@
-use Rattle.std.proofs.Common.{◌≡◌, ◌∙◌, ◌≤◌, ℕ, ◌+◌, sym, ap, subst, true, false, cond, length, Fits, w64, arith, List, map, take, ◌<◌, leb-true, ◌&&◌}
+use Rattle.std.proofs.Common.{◌≡◌, ℕ, ◌+◌, ap, subst, true, cond, length, arith, List, map, leb-true}
 use Rattle.std.specs.BTreeSet.{keys}
 use Rattle.session_rules.proofs.Words.{and_both}
-use Rattle.update_codec.specs.Parts.{entry_of, id_of}
+use Rattle.update_codec.specs.Parts.{entry_of}
 use Rattle.update_model.specs.declared.limits.TheConstants.{MAX_BYTES}
 use Rattle.update_model.specs.declared.update_id.UpdateId.{UpdateId}
 use Rattle.update_model.specs.Entry.{same_id}

@@ -1,4 +1,4 @@
-use Rattle.std.proofs.Common.{◌≡◌, refl, sym, ap, true, false}
+use Rattle.std.proofs.Common.{sym, true, false}
 use Rattle.sync_session.proofs.Faults.{due_fault_is, same_from_eq}
 use Rattle.sync_session.proofs.reading.item_fault.Goals as goal
 

@@ -1,10 +1,9 @@
-use Rattle.std.proofs.Common.{◌≡◌, ◌∙◌, ◌≤◌, ℕ, ◌+◌, sym, ap, subst, true, false, cond, length, Fits, w64, arith}
+use Rattle.std.proofs.Common.{◌≡◌, sym, ap, subst, true, cond, length, arith}
 use Rattle.std.specs.BTreeSet.{keys}
-use Rattle.update_codec.specs.Parts.{entry_of, id_of}
 use Rattle.update_model.specs.declared.update_id.UpdateId.{UpdateId}
 use Rattle.update_model.specs.Entry.{same_id}
 use Rattle.update_model.specs.Graph.{has}
-use Rattle.sync_session.specs.Pending.{PendingData, IsIndexed, has_room_for}
+use Rattle.sync_session.specs.Pending.{PendingData, has_room_for}
 use Rattle.sync_session.proofs.Indexing.{indexed_more, indexed_same, bytes_fit}
 use Rattle.sync_session.proofs.pending.Pending.gather.Goals as goal
 

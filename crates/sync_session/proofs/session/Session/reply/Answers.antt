@@ -1,13 +1,10 @@
-use Rattle.std.proofs.Common.{◌≡◌, ◌∙◌, refl, sym, ap, subst, map, take, filter_map, slice_get, List, Bool, Option, Some, None, ◌&&◌, if◌then◌else◌, false, ◌+◌}
+use Rattle.std.proofs.Common.{◌∙◌, refl, ap, map, Some, None, ◌&&◌, if◌then◌else◌, false, ◌+◌}
 use Rattle.std.specs.BTreeSet.{keys}
 use Rattle.update_codec.specs.Parts.{entry_of}
-use Rattle.session_rules.specs.declared.end.End.{End}
 use Rattle.session_rules.specs.declared.end.End.TheVariants.{Done}
-use Rattle.update_model.specs.declared.update_id.UpdateId.{UpdateId as Id}
-use Rattle.session_rules.specs.State.{Answers, TurnData as Rules}
-use Rattle.sync_session.specs.Kept.{Kept, turn_of, whole}
+use Rattle.session_rules.specs.State.{Answers}
+use Rattle.sync_session.specs.Kept.{Kept, turn_of}
 use Rattle.sync_frames.specs.Payload.{TurnData}
-use Rattle.sync_session.specs.Turns.{RepliesTo}
 use Rattle.sync_session.proofs.Settling.{replied_to, joins_at}
 use Rattle.sync_session.proofs.session.Session.reply.Goals as goal
 

@@ -1,11 +1,11 @@
-use Rattle.std.proofs.Common.{◌≡◌, ◌∙◌, refl, sym, ap, subst, map, take, length, List, Bool, Some, None, ◌&&◌}
+use Rattle.std.proofs.Common.{◌∙◌, sym, ap, map, take, length, ◌&&◌}
 use Rattle.std.proofs.lemmas.Result.{IfOk-weaker}
 use Rattle.update_codec.specs.Parts.{entry_of}
 use Rattle.session_rules.specs.Steps.{is_first}
 use Rattle.sync_session.specs.Kept.{Kept, turn_of, with_commit, late_fault_at}
 use Rattle.sync_frames.specs.Payload.{TurnData}
 use Rattle.sync_session.specs.Turns.{RepliesTo, SettlesTo}
-use Rattle.sync_session.proofs.Settling.{Settles, settled_fault, settled_done, settled_reply}
+use Rattle.sync_session.proofs.Settling.{settled_fault, settled_done, settled_reply}
 use Rattle.sync_session.proofs.session.Session.settle.Goals as goal
 
 pub returns-in-Some : goal.returns-in-Some

@@ -1,4 +1,4 @@
-use Rattle.std.proofs.Common.{◌≡◌, ◌∙◌, ap, sym}
+use Rattle.std.proofs.Common.{◌∙◌, ap}
 use Rattle.sync_session.specs.Kept.{Kept}
 use Rattle.sync_frames.specs.Payload as payload
 use Rattle.sync_session.proofs.Starting.{initiator_belongs, initiator_starts, responder_belongs}

@@ -1,5 +1,4 @@
-use Rattle.std.proofs.Common.{◌≡◌, ◌∙◌, sym, ap, subst, ◌||◌, is_some}
-use Rattle.sync_session.specs.Kept.{Kept}
+use Rattle.std.proofs.Common.{◌∙◌, sym}
 use Rattle.sync_session.proofs.Stepping.{gained_few, not_over, ordered, over_is, runs, stays_belonging}
 use Rattle.sync_session.proofs.session.Session.step.Goals as goal
 

@@ -1,4 +1,4 @@
-use Rattle.std.proofs.Common.{◌≡◌, sym, subst, map, IfOk}
+use Rattle.std.proofs.Common.{sym, subst, map, IfOk}
 use Rattle.std.proofs.lemmas.Result.{IfOk-weaker, on_ok_weaker}
 use Rattle.update_codec.specs.Parts.{entry_of}
 use Rattle.update_model.specs.Batch.{Limits}

@@ -1,4 +1,4 @@
-use Rattle.std.proofs.Common.{◌≡◌, ◌∙◌, ◌++◌, refl, sym, ap, subst, map, List, All}
+use Rattle.std.proofs.Common.{◌≡◌, ◌∙◌, ◌++◌, refl, sym, ap, subst, All}
 use Rattle.update_check.specs.Signed.{IsChecked}
 use Rattle.sync_session.specs.Pending.{PendingData}
 use Rattle.session_rules.specs.declared.end.End.TheVariants.{Store}
