@@ -37,7 +37,8 @@ mod tested;
 mod testing;
 
 pub use laws::{
-    accepted_is_unlimited, declared_refusal_is_confirmed, refused_is_confirmed, refused_once, taken_or_refused,
+    accepted_is_unlimited, declared_refusal_is_confirmed, refused_is_confirmed, refused_once,
+    taken_or_refused,
 };
 pub use refusal::SchemaRefusal;
 pub use taking::take_schema;

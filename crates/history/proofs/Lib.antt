@@ -1,4 +1,5 @@
 mod Behind
+mod Drafts
 mod Fronts
 mod Numbers
 mod Steps

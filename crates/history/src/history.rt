@@ -6,6 +6,7 @@ ghost use Rattle.update_codec.specs.Parts.{entry_of};
 ghost use Rattle.update_check.specs.Holding.{ArePositionsSince};
 ghost use Rattle.update_check.specs.Members.{AreMembers};
 ghost use Rattle.update_check.specs.Signed.{IsChecked, node_of};
+ghost use Rattle.table_model.specs.Nodes.{IsNext};
 ghost use Rattle.table_model.specs.Visible.{rules_with};
 ghost use Rattle.confluence_test.specs.Taking.{TakesSchema};
 ghost use Rattle.tuple_state.specs.State.{IsStateOf};
@@ -13,6 +14,7 @@ ghost use Rattle.ready_batch.specs.Ready.{AddsReady};
 ghost use Rattle.history.specs.Histories.{IsHistory, nodes_of, verdict_after};
 
 use crate::NoHistory;
+use crate::draft::judge_draft;
 use crate::growing::{grow, grow_by_one};
 use crate::since::positions_since;
 use crate::views::Views;
@@ -26,7 +28,7 @@ use std::marker::Model;
 use table_model::Verdict;
 use tuple_state::Tables;
 use update_check::Checked;
-use update_model::UpdateId;
+use update_model::{Node, UpdateId};
 
 /// A closed list of updates under a schema whose invariants survive merging, and what is kept of it: heads, ancestors and
 /// tables. It is in memory alone. A contract sees the schema and the updates in the order of arrival.
@@ -158,6 +160,23 @@ impl<L: Relation, C: Checks<L>> History<L, C> {
         ensures { IfOk result (λ positions. ArePositionsSince self.now.members below old.now positions.items) }
     {
         positions_since(alloc, &self.graph, &self.views.ancestry, below, old)
+    }
+
+    /// The verdict on a draft, which is no member: its id is not held and each of its predecessors is. It adds nothing, so
+    /// it needs no room.
+    pub fn judge(&self, alloc: Global, draft: &Node) -> Result<Verdict, AllocError>
+        requires { IsNext (nodes_of self.now.members) draft.now }
+        ensures { IfOk result (λ verdict. verdict ≡ verdict_after L.answer self.now draft.now) }
+    {
+        accepted_is_unlimited();
+        judge_draft(
+            alloc,
+            &self.schema,
+            &self.native,
+            &self.graph,
+            &self.views,
+            draft,
+        )
     }
 
     /// Adds each update of a batch that can be added in some order, and hands the rest back in the batch's order.

@@ -8,6 +8,7 @@
 //! let mut history = History::over(alloc, schema, native, graph)?;
 //! let waiting = history.add_batch(alloc, batch)?;          // what lacks predecessors
 //! let verdict = history.push(alloc, update)?;              // of one that may stand next
+//! history.judge(alloc, &draft)?;                           // the verdict on one that is not signed yet
 //! history.tables();                                        // what the valid ones did
 //! history.since(alloc, history.len(), &ids)?;              // what is new to whoever has these
 //! history.cut(len);                                        // the first `len` updates
@@ -16,6 +17,7 @@
 //! It is in memory alone, and it verifies no signature: what it takes is [`Checked`](update_check::Checked).
 #![tactic(auto)]
 
+mod draft;
 mod growing;
 mod history;
 mod no_history;

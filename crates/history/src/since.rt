@@ -33,7 +33,7 @@ pub fn positions_since(
 }
 
 /// The positions of those of the first `below` members that have these ids.
-fn places_below(
+pub fn places_below(
     alloc: Global,
     graph: &Graph<Checked>,
     below: u32,

@@ -119,9 +119,19 @@ pub places_next : (graph : List (List ℕ)) (i : ℕ) (bytes : List ℕ) → sli
 unfolding places_of
 places_next graph i bytes e = ap (places_of (place_in graph)) (nodes_next graph i bytes e)
 
+-- The past of a node that is next, by the places of all.
+pub past_next : (rules : Rules) (place : UpdateId → Option ℕ) (ns : List NodeData) (n : NodeData) → IsClosed ns → IsPlaced place ns → IsNext ns n → AreLower (places_of place (n ∷ ns))
+    → IsPastOf rules ns n (λ p. is_ancestor (places_of place (n ∷ ns)) p (length ns))
+past_next rules place ns n closed placed next lower = record {
+  next = next;
+  exact = λ newer member older is.
+      let each = each_node rules place ns closed placed (before_lower place ns n lower) in
+      sym (next_ancestors rules place ns closed placed each n next lower member.id (length older)
+      (subst (λ (l : List NodeData). IsAt l member.id (length older)) (sym is) (split_at newer member older)));
+}
+
 pub past_is : (rules : Rules) (graph : List (List ℕ)) (i : ℕ) (bytes : List ℕ) → slice_get graph i ≡ Some bytes → IsClosed (nodes_before graph (i + 1))
     → AreLower (places_before graph (i + 1)) → IsPastOf rules (nodes_before graph i) (node_of bytes) (λ p. is_ancestor (places_before graph (i + 1)) p i)
-unfolding places_of
 past_is rules graph i bytes e closed lower =
     let next = nodes_next graph i bytes e in
     let ns = nodes_before graph i in
@@ -130,16 +140,9 @@ past_is rules graph i bytes e closed lower =
     let both : IsClosed (n ∷ ns) = subst IsClosed next closed in
     let low : AreLower (places_of place (n ∷ ns)) = subst (λ (l : List NodeData). AreLower (places_of place l)) next lower in
     let size : length ns ≡ i = length-nodes graph i (let l : i < length graph = slice_get_within graph i bytes e in omega arith) in
-    let placed = front_placed graph i in
-    record {
-      next = both.0;
-      exact = λ newer member older is.
-          let each = each_node rules place ns both.1 placed (before_lower place ns n low) in
-          ap (λ l. is_ancestor (places_of place l) (length older) i) next
-          ∙ ap (λ k. is_ancestor (places_of place (n ∷ ns)) (length older) k) (sym size)
-          ∙ sym (next_ancestors rules place ns both.1 placed each n both.0 low member.id (length older)
-          (subst (λ (l : List NodeData). IsAt l member.id (length older)) (sym is) (split_at newer member older)));
-    }
+    let whole : IsPastOf rules ns n (λ p. is_ancestor (places_of place (n ∷ ns)) p (length ns)) = past_next rules place ns n both.1 (front_placed graph i) both.0 low in
+    subst (λ (k : ℕ). IsPastOf rules ns n (λ p. is_ancestor (places_before graph (i + 1)) p k)) size
+    (subst (λ (l : List NodeData). IsPastOf rules ns n (λ p. is_ancestor (places_of place l) p (length ns))) (sym next) whole)
 
 pub places_earlier : (graph : List (List ℕ)) (i : ℕ) (bytes : List ℕ) → slice_get graph i ≡ Some bytes → IsClosed (nodes_before graph (i + 1))
     → All (λ p. p < length (places_before graph i)) (filter_map (place_in graph) (preds_of bytes))

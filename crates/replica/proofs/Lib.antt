@@ -1,4 +1,9 @@
+pub mod Behind
 pub mod Creates
 pub mod Declaring
+pub mod HeadLists
 pub mod Logs
+pub mod Made
+pub mod MadeBy
 pub mod Outcomes
+pub mod Reserved

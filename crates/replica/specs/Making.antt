@@ -1,5 +1,6 @@
 -- What a replica makes of operations, and why it makes nothing.
-use Rattle.std.specs.Prelude.{◌≡◌, ℕ, ◌+◌, ◌<◌, ◌≤◌, Bool, true, false, List, [], ◌∷◌, ◌++◌, length, map, take, Option, Some, None}
+use Rattle.std.specs.Prelude.{◌≡◌, ℕ, ◌+◌, ◌<◌, ◌≤◌, ◌||◌, Bool, true, false, IsTrue, List, [], ◌∷◌, ◌++◌, length, map, take, Option, Some, None}
+use Rattle.std.specs.Int.{w32, to_be_bytes}
 use Rattle.std.specs.List.{list_any}
 use Rattle.update_model.specs.declared.author_key.AuthorKey.{AuthorKey}
 use Rattle.update_model.specs.declared.limits.TheConstants.{MAX_BYTES, MAX_MEMBERS, MAX_PREDS}
@@ -9,10 +10,11 @@ use Rattle.update_model.specs.declared.update_id.UpdateId.{UpdateId}
 use Rattle.update_model.specs.declared.value.Value.{Value}
 use Rattle.update_model.specs.declared.value.Value.TheVariants.{Null, Int, Text, Flag, Row, Own}
 use Rattle.update_model.specs.Entry.{same_id}
-use Rattle.update_model.specs.Form.{BodyData, UpdateData}
+use Rattle.update_model.specs.Form.{BodyData, UpdateData, signature_length}
+use Rattle.update_model.specs.Block.{IsBlock}
 use Rattle.update_model.specs.Graph.{AreHeads, byte_count, holds}
 use Rattle.update_model.specs.Node.{NodeData}
-use Rattle.update_model.specs.Rule.{IsListed}
+use Rattle.update_model.specs.Rule.{IsListed, RuleData}
 use Rattle.update_codec.specs.declared.limits.TheConstants.{UPDATE_LIMIT}
 use Rattle.update_codec.specs.Parts.{entry_of, id_of}
 use Rattle.update_codec.specs.Spelling.{Spells, message, signed_length}
@@ -25,6 +27,7 @@ use Rattle.table_model.specs.declared.verdict.Verdict.TheVariants.{Valid, Void}
 use Rattle.history.specs.Histories.{HistoryData, verdict_after}
 use Rattle.key_index.specs.Used.{least_unused}
 use Rattle.replica.specs.declared.make_fault.MakeFault.{MakeFault}
+use Rattle.replica.specs.declared.make_fault.Side.TheVariants.{Key, Log}
 use Rattle.replica.specs.declared.make_fault.MakeFault.TheVariants.{NotListed, TooManyHeads, Invalid, TooLong, Full, Spent, Taken, DiskFault, Memory}
 
 -- whether a value names a row of the update with this id
@@ -73,6 +76,19 @@ pub record IsMadeBy (history : HistoryData) (secret : SecretData) (taken : List 
   pub least : least_unused taken ≡ Some index
   pub spells : Spells bytes (update_by secret index c (body_by history (public_key secret) preds ops))
 
+-- The signature is what a key makes of a message with C, at its least index that is not used.
+pub record IsSignedBy (secret : SecretData) (taken : List Bool) (c message signature : List ℕ) : Type 0 where
+  pub index : ℕ
+  pub least : least_unused taken ≡ Some index
+  pub made : signature ≡ signature_by secret index c message
+
+-- The bytes are a message, and behind its length a signature that a key makes of it.
+pub record AreSignedBy (secret : SecretData) (taken : List Bool) (c message bytes : List ℕ) : Type 0 where
+  pub signature : List ℕ
+  pub signed : IsSignedBy secret taken c message signature
+  pub spelled : bytes ≡ message ++ (to_be_bytes w32 (length signature) ++ signature)
+  pub block : IsBlock (signature_length (public_key secret)) signature
+
 -- These are the predecessors of an update that is made: all heads.
 abbrev pub AfterAllHeads : HistoryData → List UpdateId → Type 0
 AfterAllHeads history preds = AreHeads (map entry_of history.members) preds
@@ -100,6 +116,68 @@ pub record HasLength (history : HistoryData) (secret : SecretData) (preds : List
   pub short : signed_length (body_by history (public_key secret) preds ops) ≤ UPDATE_LIMIT
   pub room : HasRoom history (signed_length (body_by history (public_key secret) preds ops))
 
+-- Why an update of these operations after these predecessors was not signed: its length, its room, the key's indices, or its id, in this order.
+abbrev pub IsSignCause : HistoryData → SecretData → List Bool → List UpdateId → List Op → List ℕ → MakeFault → Type 0
+IsSignCause history secret taken preds ops c NotListed = ⊥
+IsSignCause history secret taken preds ops c (TooManyHeads n) = ⊥
+IsSignCause history secret taken preds ops c (Invalid reason operation) = ⊥
+IsSignCause history secret taken preds ops c (TooLong len) = (signed_length (body_by history (public_key secret) preds ops) ≡ len) × (UPDATE_LIMIT < len)
+IsSignCause history secret taken preds ops c Full =
+    (signed_length (body_by history (public_key secret) preds ops) ≤ UPDATE_LIMIT) × ¬ (HasRoom history (signed_length (body_by history (public_key secret) preds ops)))
+IsSignCause history secret taken preds ops c Spent = HasLength history secret preds ops × (least_unused taken ≡ None)
+IsSignCause history secret taken preds ops c (Taken id) =
+    HasLength history secret preds ops × ((bytes : List ℕ) × IsMadeBy history secret taken preds ops c bytes × (id_of bytes ≡ id) × (holds (map entry_of history.members) id ≡ true))
+IsSignCause history secret taken preds ops c (DiskFault side) = side ≡ Key
+IsSignCause history secret taken preds ops c Memory = Unit {0}
+
+-- Why there is no message of a body.
+abbrev pub IsMessageCause : BodyData → MakeFault → Type 0
+IsMessageCause body NotListed = ⊥
+IsMessageCause body (TooManyHeads n) = ⊥
+IsMessageCause body (Invalid reason operation) = ⊥
+IsMessageCause body (TooLong len) = (signed_length body ≡ len) × (UPDATE_LIMIT < len)
+IsMessageCause body Full = ⊥
+IsMessageCause body Spent = ⊥
+IsMessageCause body (Taken id) = ⊥
+IsMessageCause body (DiskFault side) = ⊥
+IsMessageCause body Memory = Unit {0}
+
+-- Why bytes that were signed are no new update: another one has their id.
+abbrev pub IsNewCause : HistoryData → List ℕ → MakeFault → Type 0
+IsNewCause history bytes NotListed = ⊥
+IsNewCause history bytes (TooManyHeads n) = ⊥
+IsNewCause history bytes (Invalid reason operation) = ⊥
+IsNewCause history bytes (TooLong len) = ⊥
+IsNewCause history bytes Full = ⊥
+IsNewCause history bytes Spent = ⊥
+IsNewCause history bytes (Taken id) = (id_of bytes ≡ id) × (holds (map entry_of history.members) id ≡ true)
+IsNewCause history bytes (DiskFault side) = ⊥
+IsNewCause history bytes Memory = Unit {0}
+
+-- Why bytes were not signed.
+abbrev pub IsBytesCause : List Bool → MakeFault → Type 0
+IsBytesCause taken NotListed = ⊥
+IsBytesCause taken (TooManyHeads n) = ⊥
+IsBytesCause taken (Invalid reason operation) = ⊥
+IsBytesCause taken (TooLong len) = ⊥
+IsBytesCause taken Full = ⊥
+IsBytesCause taken Spent = least_unused taken ≡ None
+IsBytesCause taken (Taken id) = ⊥
+IsBytesCause taken (DiskFault side) = side ≡ Key
+IsBytesCause taken Memory = Unit {0}
+
+-- Why an update that was signed was not added: the log's disk failed, or memory ran out.
+abbrev pub IsAddCause : MakeFault → Type 0
+IsAddCause NotListed = ⊥
+IsAddCause (TooManyHeads n) = ⊥
+IsAddCause (Invalid reason operation) = ⊥
+IsAddCause (TooLong len) = ⊥
+IsAddCause Full = ⊥
+IsAddCause Spent = ⊥
+IsAddCause (Taken id) = ⊥
+IsAddCause (DiskFault side) = side ≡ Log
+IsAddCause Memory = Unit {0}
+
 -- Why nothing was made. Each cause stands where none before it does, in this order; a fault of a disk and want of memory have theirs in
 -- counts and in nothing.
 abbrev pub IsMakeCause : Meaning → HistoryData → SecretData → List Bool → List Op → List ℕ → MakeFault → Type 0
@@ -120,6 +198,29 @@ IsMakeCause ask history secret taken ops c (Taken id) =
     × ((bytes : List ℕ) × IsMadeBy history secret taken preds ops c bytes × (id_of bytes ≡ id) × (holds (map entry_of history.members) id ≡ true))
 IsMakeCause ask history secret taken ops c (DiskFault side) = Unit {0}
 IsMakeCause ask history secret taken ops c Memory = Unit {0}
+
+-- An update of operations after these predecessors was made by the key, and stands last. It is valid where it had to be.
+pub record AddsMade (ask : Meaning) (has_to_be_valid : Bool) (old : HistoryData) (secret : SecretData) (taken : List Bool) (preds : List UpdateId) (ops : List Op) (c : List ℕ) (id : UpdateId) (new : HistoryData) : Type 0 where
+  pub bytes : List ℕ
+  pub made : IsMadeBy old secret taken preds ops c bytes
+  pub members : AreMembers old.schema.rule (old.members ++ bytes ∷ [])
+  pub valid : IsTrue has_to_be_valid → verdict_after ask old (node_of bytes) ≡ Valid
+  pub id_is : id ≡ id_of bytes
+  pub last : new ≡ record { schema = old.schema; members = old.members ++ bytes ∷ [] }
+
+-- Why nothing was made before anything was signed.
+abbrev pub IsPlanCause : Meaning → HistoryData → SecretData → List Op → MakeFault → Type 0
+IsPlanCause ask history secret ops NotListed = ¬ (IsListed history.schema.rule.authors (public_key secret))
+IsPlanCause ask history secret ops (TooManyHeads n) =
+    IsListed history.schema.rule.authors (public_key secret) × ((heads : List UpdateId) × AfterAllHeads history heads × (length heads ≡ n) × (MAX_PREDS < n))
+IsPlanCause ask history secret ops (Invalid reason operation) =
+    (preds : List UpdateId) × MayMake history secret preds × IsJudged ask history (public_key secret) preds ops (Void reason operation)
+IsPlanCause ask history secret ops (TooLong len) = ⊥
+IsPlanCause ask history secret ops Full = ⊥
+IsPlanCause ask history secret ops Spent = ⊥
+IsPlanCause ask history secret ops (Taken id) = ⊥
+IsPlanCause ask history secret ops (DiskFault side) = ⊥
+IsPlanCause ask history secret ops Memory = Unit {0}
 
 -- An update was made and stands last: of these operations, by the key, after all heads, and valid.
 pub record Makes (ask : Meaning) (old : HistoryData) (secret : SecretData) (taken : List Bool) (ops : List Op) (c : List ℕ) (id : UpdateId) (new : HistoryData) : Type 0 where

@@ -15,14 +15,18 @@
 //! It opens no files and draws no random bytes: disks are handed over (`bec_disk`), and so are the bytes behind which a message is digested.
 #![tactic(auto)]
 
+mod adding;
 mod commit;
 mod create_fault;
 mod creating;
+mod drafting;
 mod make;
 mod make_fault;
 mod open_fault;
 mod opening;
+mod planning;
 mod replica;
+mod signing;
 
 pub use create_fault::{CreateFault, CreateKind};
 pub use creating::create;

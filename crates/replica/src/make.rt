@@ -1,12 +1,13 @@
-// To the helper `rep`: make and join are being done by another helper in /work/h-make (branch make). Leave this file as it is, and the specs Making and
-// Signing; end with commit, open_store, create and Holder, with their edits. This note goes when that branch is merged.
 //! Making updates by a key.
 
-ghost use Rattle.std.specs.Prelude.{◌≡◌, ◌≤◌, ℕ, Err, IsTrue, IfOk, IfErr, IfNone, IfSome, OnErr, OnOk, length};
+ghost use Rattle.std.specs.Prelude.{◌≡◌, ◌≤◌, ℕ, Err, IsTrue, IfOk, IfErr, IfNone, IfSome, OnErr, OnOk, List, length, map, take};
 ghost use Rattle.bec_bytes.specs.Causes.{Rose};
 ghost use Rattle.bec_bytes.specs.Framed.{stream_of};
 ghost use Rattle.bec_disk.specs.Disk.{EveryImage, LeavesOnly};
-ghost use Rattle.update_model.specs.declared.limits.TheConstants.{MAX_OPS};
+ghost use Rattle.update_model.specs.declared.limits.TheConstants.{MAX_OPS, MAX_PREDS};
+ghost use Rattle.update_model.specs.declared.update_id.UpdateId.{UpdateId as Id};
+ghost use Rattle.update_model.specs.Graph.{AreHeads};
+ghost use Rattle.update_codec.specs.Parts.{entry_of};
 ghost use Rattle.update_model.specs.Rows.{AreOps};
 ghost use Rattle.key_index.specs.Used.{IsUsed};
 ghost use Rattle.update_log.specs.Log.{IsClean};
@@ -17,13 +18,16 @@ ghost use Rattle.replica.specs.Signing.{KeyAfter, KeyAfterJoin};
 ghost use Rattle.replica.specs.declared.make_fault.Side.TheVariants.{Key as KeySide, Log as LogSide};
 ghost use Rattle.replica.specs.declared.make_fault.MakeFault.TheVariants.{DiskFault as DiskFailed};
 
+use crate::adding::sign_and_add;
 use crate::make_fault::{MakeFault, Side};
+use crate::planning::plan;
 use crate::replica::Replica;
 use bec_disk::Disk;
+use history::History;
 use key_index::KeyStore;
 use row_check::{Checks, Relation};
-use std::alloc::Global;
-use update_model::{OpList, UpdateId};
+use std::alloc::{AllocError, Global};
+use update_model::{IdList, MAX_PREDS, OpList, UpdateId};
 
 impl<D: Disk, L: Relation, C: Checks<L>> Replica<D, L, C> {
     /// Makes an update of these operations by a key, after all heads, adds it behind all others, and answers its id. It is valid, and it is on
@@ -57,7 +61,19 @@ impl<D: Disk, L: Relation, C: Checks<L>> Replica<D, L, C> {
         ensures log_failed { result ≡ Err (DiskFailed LogSide) → Rose self.old.log.faults self.new.log.faults }
     {
         self.log.is_unsure(); // what is acknowledged stands in front
-        Err(MakeFault::Memory)
+        let heads = plan(alloc, &self.history, key, &ops)?;
+        self.history.len(); // what is held is in order
+        let preds = IdList::from_vec(heads);
+        sign_and_add(
+            alloc,
+            &mut self.history,
+            &mut self.log,
+            key,
+            c,
+            preds,
+            ops,
+            true,
+        )
     }
 
     /// Joins the heads by an update without operations, which names the least 1,024 of them, and answers its id. Where there are fewer than two,
@@ -87,6 +103,37 @@ impl<D: Disk, L: Relation, C: Checks<L>> Replica<D, L, C> {
         ensures log_failed { result ≡ Err (DiskFailed LogSide) → Rose self.old.log.faults self.new.log.faults }
     {
         self.log.is_unsure(); // what is acknowledged stands in front
-        Err(MakeFault::Memory)
+        if self.history.head_count() < 2 {
+            return Ok(None);
+        }
+        if !self.history.schema().rule().lists(&key.public()) {
+            return Err(MakeFault::NotListed);
+        }
+        let preds = least_heads(alloc, &self.history)?;
+        self.history.len(); // what is held is in order
+        let none = OpList::from_vec(Vec::new(alloc));
+        let id = sign_and_add(
+            alloc,
+            &mut self.history,
+            &mut self.log,
+            key,
+            c,
+            preds,
+            none,
+            false,
+        )?;
+        Ok(Some(id))
     }
+}
+
+/// The least heads, as many as an update may name.
+fn least_heads<L: Relation, C: Checks<L>>(
+    alloc: Global,
+    history: &History<L, C>,
+) -> Result<IdList, AllocError>
+    ensures { IfOk result (λ preds. (heads : List Id) × AreHeads (map entry_of history.now.members) heads × (preds ≡ take MAX_PREDS heads)) }
+{
+    let mut heads = history.heads(alloc)?;
+    heads.truncate(usize::from(MAX_PREDS));
+    Ok(IdList::from_vec(heads))
 }

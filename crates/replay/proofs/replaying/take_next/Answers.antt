@@ -1,5 +1,4 @@
-use Rattle.std.proofs.Common.{◌≡◌, ◌+◌, ◌≤◌, List, length, ℕ, take, sym, ap, ◌∙◌, arith}
-use Rattle.replay.specs.Arrivals.{places_before}
+use Rattle.std.proofs.Common.{◌+◌, ◌≤◌, length, take, sym, ap, ◌∙◌, arith}
 use Rattle.replay.proofs.Arriving.{length-before, places_in_front}
 use Rattle.replay.proofs.replaying.take_next.Goals as goal
 

@@ -1,12 +1,31 @@
-use Rattle.std.proofs.Common.{subst}
-use Rattle.bec_bytes.specs.Framed.{stream_of}
-use Rattle.bec_disk.specs.Disk.{LeavesOnly}
-use Rattle.update_log.specs.Logset.{BeginsWith}
+use Rattle.std.proofs.Common.{◌≡◌, true, None, All, List, ℕ, map, sym, subst}
+use Rattle.update_model.specs.declared.update_id.UpdateId.{UpdateId}
+use Rattle.update_model.specs.Form.{AreRising}
+use Rattle.update_model.specs.Graph.{holds}
+use Rattle.update_codec.specs.Parts.{entry_of}
+use Rattle.std.specs.Prelude.{IfOk}
+use Rattle.replica.specs.Making.{AddsMade, AfterAllHeads, Makes}
 use Rattle.replica.specs.Replicas.{ReplicaState}
-use Rattle.replica.proofs.Logs.{log_stays}
+use Rattle.replica.proofs.HeadLists.{heads_held, rising}
+use Rattle.replica.proofs.Made.{makes}
+use Rattle.replica.proofs.Outcomes.{if_ok_map}
 use Rattle.replica.proofs.replica.Replica.make.Goals as goal
 
-pub returns-clause-any_moment : goal.returns-clause-any_moment
-returns-clause-any_moment g c =
-    subst (λ (r : ReplicaState). LeavesOnly r.log.disk r.log.disk (BeginsWith (stream_of r.history.members))) c.self.view_is
-    (log_stays c.self.inside.history.members c.self.inside.log c.self.invariant.log c.is_unsure.ensures.kept)
+pub sign_and_add-requires-clause-rising : goal.sign_and_add-requires-clause-rising
+sign_and_add-requires-clause-rising g c κs within =
+    subst (AreRising None) (sym c.from_vec-preds.ensures) (rising c.in_ok-heads.heads.items c.in_ok-heads.ensures.planned.may_make.after.rising)
+
+pub sign_and_add-requires-clause-held : goal.sign_and_add-requires-clause-held
+sign_and_add-requires-clause-held g c κs within =
+    subst (All (λ (id : UpdateId). holds (map entry_of c.self.inside.history.members) id ≡ true)) (sym c.from_vec-preds.ensures)
+    (heads_held (map entry_of c.self.inside.history.members) c.in_ok-heads.heads.items c.in_ok-heads.ensures.planned.may_make.after)
+
+pub returns-clause-made : goal.returns-clause-made
+returns-clause-made g c =
+    let a = c.args in
+    subst (λ (r : ReplicaState). IfOk c.sign_and_add.result (λ (id : UpdateId). Makes g.L.Relation.answer r.history a.key.now.secret a.key.now.taken a.ops a.c.now id c.sign_and_add.new.history)) c.self.view_is
+    (if_ok_map c.sign_and_add.result
+    (λ (id : UpdateId). AddsMade g.L.Relation.answer true c.self.inside.history a.key.now.secret a.key.now.taken c.from_vec-preds.result a.ops a.c.now id c.sign_and_add.new.history)
+    (λ (id : UpdateId). Makes g.L.Relation.answer c.self.inside.history a.key.now.secret a.key.now.taken a.ops a.c.now id c.sign_and_add.new.history)
+    (λ id adds. makes g.L.Relation.answer c.self.inside.history a.key.now.secret a.key.now.taken c.from_vec-preds.result a.ops a.c.now id c.sign_and_add.new.history
+    (subst (AfterAllHeads c.self.inside.history) (sym c.from_vec-preds.ensures) c.in_ok-heads.ensures.planned.may_make.after) adds) c.sign_and_add.ensures.added)

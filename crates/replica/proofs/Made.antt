@@ -1,0 +1,82 @@
+-- What was made and added, as what making and joining answer.
+use Rattle.std.proofs.Common.{◌≡◌, ◌⊎◌, inl, inr, ℕ, ◌+◌, ◌*◌, ◌≤◌, ◌<◌, Bool, true, false, List, [], ◌∷◌, ◌++◌, length, refl, sym, ap, subst, ◌∙◌, arith, length-append}
+use Rattle.std.specs.Int.{w16, to_be_bytes}
+use Rattle.std.proofs.lemmas.Bool.Decides.{nat_tests}
+use Rattle.update_model.specs.declared.op.Op.{Op}
+use Rattle.update_model.specs.declared.author_key.AuthorKey.{AuthorKey}
+use Rattle.update_model.specs.declared.limits.TheConstants.{MAX_PREDS}
+use Rattle.update_model.specs.declared.update_id.UpdateId.{UpdateId}
+use Rattle.update_model.specs.Form.{BodyData, IsBody, signature_length}
+use Rattle.update_model.specs.Rule.{IsListed}
+use Rattle.update_codec.specs.declared.limits.TheConstants.{UPDATE_LIMIT}
+use Rattle.update_codec.specs.Spelling.{before_ops, message, signed_length}
+use Rattle.update_codec.proofs.Stops.{ids_place}
+use Rattle.lms_tree.specs.SecretKey.{SecretData, public_key}
+use Rattle.schema.specs.Schemas.{Meaning}
+use Rattle.history.specs.Histories.{HistoryData}
+use Rattle.replica.specs.Making.{AddsMade, AfterAllHeads, AfterLeastHeads, IsAddCause, IsJoinCause, IsSignCause, Joins, Makes, body_by}
+use Rattle.replica.specs.declared.make_fault.MakeFault.{MakeFault}
+use Rattle.replica.specs.declared.make_fault.MakeFault.TheVariants.{NotListed, TooManyHeads, Invalid, TooLong, Full, Spent, Taken, DiskFault, Memory}
+
+pub makes : (ask : Meaning) (old : HistoryData) (secret : SecretData) (taken : List Bool) (preds : List UpdateId) (ops : List Op) (c : List ℕ) (id : UpdateId) (new : HistoryData)
+    → AfterAllHeads old preds → AddsMade ask true old secret taken preds ops c id new → Makes ask old secret taken ops c id new
+makes ask old secret taken preds ops c id new after adds = record {
+  preds = preds;
+  bytes = adds.bytes;
+  after = after;
+  made = adds.made;
+  members = adds.members;
+  valid = adds.valid refl;
+  id_is = adds.id_is;
+  last = adds.last;
+}
+
+pub joins : (ask : Meaning) (old : HistoryData) (secret : SecretData) (taken : List Bool) (preds : List UpdateId) (c : List ℕ) (id : UpdateId) (new : HistoryData)
+    → AfterLeastHeads old preds → AddsMade ask false old secret taken preds [] c id new → Joins old secret taken c id new
+joins ask old secret taken preds c id new after adds = record {
+  preds = preds;
+  bytes = adds.bytes;
+  after = after;
+  made = adds.made;
+  members = adds.members;
+  id_is = adds.id_is;
+  last = adds.last;
+}
+
+-- without operations an update is short enough
+signature_low : (key : AuthorKey) → signature_length key ≤ 9004
+signature_low key = grind (arith, nat_tests)
+
+pub short_without_ops : (body : BodyData) → IsBody body → body.ops ≡ [] → signed_length body ≤ UPDATE_LIMIT
+short_without_ops body is none =
+    let empty : length (message body) ≡ length (before_ops body ++ to_be_bytes w16 0) = ap (λ (ops : List Op). length (message (record body { ops = ops }))) none in
+    total (length body.preds) (length (before_ops body)) (length (message body)) (signature_length body.author) is.few_preds (ids_place body.database body.author (length body.preds) body.preds is.database is.author is.ids)
+    (empty ∙ length-append (before_ops body) (to_be_bytes w16 0)) (signature_low body.author)
+  where
+    total : (n b m s : ℕ) → n ≤ MAX_PREDS → b ≡ 91 + 32 * n → m ≡ b + 2 → s ≤ 9004 → m + 4 + s ≤ UPDATE_LIMIT
+    total n b m s few e f low = omega arith
+
+-- why they were not joined
+pub join_cause : (history : HistoryData) (secret : SecretData) (taken : List Bool) (preds : List UpdateId) (c : List ℕ) (why : MakeFault) → AfterLeastHeads history preds
+    → IsListed history.schema.rule.authors (public_key secret) → IsBody (body_by history (public_key secret) preds [])
+    → IsSignCause history secret taken preds [] c why ⊎ IsAddCause why → IsJoinCause history secret taken c why
+join_cause history secret taken preds c NotListed after listed form (inl h) = absurd h
+join_cause history secret taken preds c NotListed after listed form (inr h) = absurd h
+join_cause history secret taken preds c (TooManyHeads n) after listed form (inl h) = h
+join_cause history secret taken preds c (TooManyHeads n) after listed form (inr h) = h
+join_cause history secret taken preds c (Invalid reason operation) after listed form (inl h) = h
+join_cause history secret taken preds c (Invalid reason operation) after listed form (inr h) = h
+join_cause history secret taken preds c (TooLong n) after listed form (inl h) =
+    over (signed_length (body_by history (public_key secret) preds [])) n h.0 h.1 (short_without_ops (body_by history (public_key secret) preds []) form refl)
+  where
+    over : (l n : ℕ) → l ≡ n → UPDATE_LIMIT < n → l ≤ UPDATE_LIMIT → ⊥
+    over l n e low high = omega arith
+join_cause history secret taken preds c (TooLong n) after listed form (inr h) = h
+join_cause history secret taken preds c Full after listed form (inl h) = (preds, after, listed, h.1)
+join_cause history secret taken preds c Full after listed form (inr h) = absurd h
+join_cause history secret taken preds c Spent after listed form (inl h) = (preds, after, listed, h.0.room, h.1)
+join_cause history secret taken preds c Spent after listed form (inr h) = absurd h
+join_cause history secret taken preds c (Taken id) after listed form (inl h) = (preds, after, listed, h.0.room, h.1)
+join_cause history secret taken preds c (Taken id) after listed form (inr h) = absurd h
+join_cause history secret taken preds c (DiskFault side) after listed form h = (preds, after)
+join_cause history secret taken preds c Memory after listed form h = tt
