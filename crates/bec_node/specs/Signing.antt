@@ -1,10 +1,10 @@
 -- What the commands that make an update by the key of a directory answer, and what they leave.
-use Rattle.std.specs.Prelude.{◌≡◌, ◌⊎◌, ℕ, ◌≤◌, Bool, List, [], ◌∷◌, ◌++◌, IsTrue, Ok, Err, Option, Some, None}
+use Rattle.std.specs.Prelude.{◌≡◌, ◌≢◌, ◌⊎◌, ℕ, ◌≤◌, Bool, List, [], ◌∷◌, ◌++◌, IsTrue, Ok, Err, Option, Some, None}
 use Rattle.rand_core.specs.Stream.{Stream, fill_bytes}
 use Rattle.row_check.specs.Checksum.{is_luhn}
 use Rattle.bec_bytes.specs.Causes.{Rose}
 use Rattle.bec_disk.specs.declared.part.Part.TheVariants.{Schema, Updates, Key, Used}
-use Rattle.bec_disk.specs.Shelf.{ShelfState}
+use Rattle.bec_disk.specs.Shelf.{ShelfState, out}
 use Rattle.update_model.specs.declared.op.Op.{Op}
 use Rattle.update_model.specs.declared.update_id.UpdateId.{UpdateId}
 use Rattle.update_log.specs.Log.{IsClean}
@@ -152,6 +152,8 @@ pub record SignsIn (Unused : Type 0) (Answer : SignAnswer) (Stops : Outcome → 
   pub tells : after.tells ≡ before.tells
   pub key : IsTrue before.tells → IsUntouched (part_in before dir Key) (part_in after dir Key)
   pub used : IsTrue before.tells → KeepsUsed (part_in before dir Used) (part_in after dir Used)
+  pub key_home : IsTrue before.tells → part_in after dir Key ≢ out
+  pub used_home : IsTrue before.tells → part_in after dir Used ≢ out
   pub others : IsTrue before.tells → KeepsAllBut (Key ∷ Used ∷ []) dir before after
   pub later : faults ≤ faults_new
   pub log_later : old.log.faults ≤ new.log.faults

@@ -21,9 +21,8 @@ pub fn id_line(mut room: Vec<u8>, id: &UpdateId) -> Vec<u8>
     requires { length room.items ≡ ID_LINE }
     ensures { result.items ≡ line_of id.now }
 {
-    let mut digits = [0u8; 64];
-    let _ = hex::encode_to_slice(id.0, &mut digits);
-    room[..ID_LINE - 1].copy_from_slice(&digits);
-    room[ID_LINE - 1] = b'\n';
+    let mut line = [b'\n'; ID_LINE];
+    let _ = hex::encode_to_slice(id.0, &mut line[..ID_LINE - 1]);
+    room.copy_from_slice(&line);
     room
 }
