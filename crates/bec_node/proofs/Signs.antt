@@ -1,7 +1,7 @@
 -- Commands that make an update by the key of a directory.
 use Rattle.std.proofs.Common.{◌≡◌, ◌≢◌, ◌⊎◌, inl, inr, ℕ, ◌+◌, ◌<◌, ◌≤◌, Bool, true, false, List, [], ◌∷◌, ◌++◌, append-nil, length, take, length-take, refl, sym, ap, subst, ◌∙◌, IsTrue, Option, Some, None, Ok, Err, Vec, Result, arith, nat_lt}
 use Rattle.std.specs.declared.alloc.Global.{Global}
-use Rattle.std.specs.Prelude.{◌||◌}
+use Rattle.std.specs.Prelude.{◌||◌, IfNone, IfSome, MatchOption}
 use Rattle.std.specs.List.{list_any}
 use Rattle.std.proofs.lemmas.List.{take_all}
 use Rattle.std.proofs.lemmas.Bool.{true≢false}
@@ -199,13 +199,13 @@ module _ (old : ReplicaState) (key : KeyState) (new : ReplicaState) (key_new : K
       by (DiskFault LogSide) so k l = inr (inr (inr (refl, inl (l refl))))
       by Memory so k l = inr (inl refl)
 
-  pub joins : (stream : Stream) (id : UpdateId) (text : Vec ℕ Global) → Joins old.history key.secret key.taken (next_bytes stream) id new.history
+  joins : (stream : Stream) (id : UpdateId) (text : Vec ℕ Global) → Joins old.history key.secret key.taken (next_bytes stream) id new.history
       → (IsTrue old.log.disk.tells → IsClean new.log.end new.log.disk) → text.items ≡ line_of id → SignsOpen (JoinAnswer stream) IsNoStop old key new key_new (Ok text)
   joins stream id text is clean printed =
       adds (JoinAnswer stream) (is.bytes ∷ []) text is.last clean
       (joined id is.bytes (subst (λ (h : HistoryData). Joins old.history key.secret key.taken (next_bytes stream) id h) is.last is) refl printed)
 
-  pub joins_none : (stream : Stream) (text : Vec ℕ Global) → new ≡ old → HasNoneToJoin old.history → text.items ≡ [] → SignsOpen (JoinAnswer stream) IsNoStop old key new key_new (Ok text)
+  joins_none : (stream : Stream) (text : Vec ℕ Global) → new ≡ old → HasNoneToJoin old.history → text.items ≡ [] → SignsOpen (JoinAnswer stream) IsNoStop old key new key_new (Ok text)
   joins_none stream text same few printed = record {
     added = [];
     comes = inl (none few refl printed);
@@ -215,6 +215,12 @@ module _ (old : ReplicaState) (key : KeyState) (new : ReplicaState) (key_new : K
     log_later = log_later;
     key_later = key_later;
   }
+
+  pub joins_to : (stream : Stream) (id : Option UpdateId) (text : Vec ℕ Global) → JoinsTo old.history key.secret key.taken (next_bytes stream) id new.history
+      → (IsTrue old.log.disk.tells → IfSome id (λ _. IsClean new.log.end new.log.disk)) → IfNone id (new ≡ old) → MatchOption id (text.items ≡ []) (λ one. text.items ≡ line_of one)
+      → SignsOpen (JoinAnswer stream) IsNoStop old key new key_new (Ok text)
+  joins_to stream (Some id) text is clean same printed = joins stream id text is clean printed
+  joins_to stream None text is clean same printed = joins_none stream text same is.0 printed
 
   pub joins_not : (stream : Stream) (why : MakeFault) → new.history ≡ old.history → IsJoinCause old.history key.secret key.taken (next_bytes stream) why
       → (why ≡ DiskFault KeySide → Rose key.parts.used_faults key_new.parts.used_faults) → (why ≡ DiskFault LogSide → Rose old.log.faults new.log.faults)

@@ -7,7 +7,7 @@ use std::alloc::{AllocError, Global};
 use update_model::UpdateId;
 
 /// How many bytes the line of an id has: 64 digits and the end.
-const ID_LINE: usize = 65;
+pub const ID_LINE: usize = 65;
 
 /// Room for the line of an id.
 pub fn room_for_id(alloc: Global) -> Result<Vec<u8>, AllocError>

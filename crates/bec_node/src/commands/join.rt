@@ -1,12 +1,13 @@
-ghost use Rattle.std.specs.Prelude.{◌≡◌, ◌≢◌, IsTrue, codes};
+ghost use Rattle.std.specs.Prelude.{◌≡◌, ◌≢◌, IsTrue, MatchOption, [], codes, length};
 ghost use Rattle.bec_disk.specs.Shelf.{out};
 ghost use Rattle.bec_disk.specs.declared.part.Part.TheVariants.{Key, Used};
 ghost use Rattle.bec_node.specs.Outside.{outside};
 ghost use Rattle.bec_node.specs.Run.{HasFirstWord, Runs};
 ghost use Rattle.bec_node.specs.Signing.{IsNoStop, JoinAnswer, MakesUpdate, SignsIn, SignsOpen};
+ghost use Rattle.bec_node.specs.Texts.{line_of};
 ghost use Rattle.store_directory.specs.Stores.{IsHome, part_in};
 
-use crate::printed_lines::{id_line, room_for_id};
+use crate::printed_lines::{ID_LINE, id_line, room_for_id};
 use crate::program::run;
 use crate::refusal::{Refusal, made_refusal};
 use crate::standing::each_stands;
@@ -19,6 +20,7 @@ use row_check::{Luhn, Native};
 use schema::one_schema;
 use std::alloc::Global;
 use store_directory::{put_key, put_store, take_key, take_store};
+use update_model::UpdateId;
 
 /// The command `join DIR`: joins the heads of the directory's store by an update without operations, and prints its id, or
 /// nothing where there are fewer than two heads. The first word has to be `join`.
@@ -94,8 +96,18 @@ fn join_by<D: Disk, R: Rng>(
     let joined = replica.join(alloc, key, &c);
     each_stands(replica);
     match joined {
-        Ok(Some(id)) => Ok(id_line(room, &id)),
-        Ok(None) => Ok(Vec::new(alloc)),
+        Ok(id) => Ok(line_or_none(alloc, room, id)),
         Err(fault) => Err(made_refusal(key, fault)),
+    }
+}
+
+/// The line of an id, in this room, or nothing. It takes no memory.
+fn line_or_none(alloc: Global, room: Vec<u8>, id: Option<UpdateId>) -> Vec<u8>
+    requires { length room.items ≡ ID_LINE }
+    ensures { MatchOption id (result.items ≡ []) (λ id. result.items ≡ line_of id) }
+{
+    match id {
+        Some(id) => id_line(room, &id),
+        None => Vec::new(alloc),
     }
 }
