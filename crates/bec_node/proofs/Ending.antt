@@ -22,6 +22,8 @@ use Rattle.bec_node.specs.Creating.{DrawsKeyOnly, Inits}
 use Rattle.bec_node.proofs.NewKeys.{key_without_memory}
 use Rattle.bec_node.proofs.NewStores.{init_without_memory}
 use Rattle.bec_node.proofs.Reading.{read_without_memory}
+use Rattle.bec_node.specs.Signing.{Applies, ApplyAnswer, IsNoStop, IsSourceFault, JoinAnswer, JoinsHeads}
+use Rattle.bec_node.proofs.Signs.{none_by_apply, none_by_join, signs_without_memory}
 use Rattle.bec_node.proofs.Answer.{IsOneAnswer, OneAnswer}
 
 -- ---- statuses
@@ -104,6 +106,19 @@ module _ {S H R : Type 0} (before after : Outside S H R) where
   keygen_lacks lms ots dir (Err refusal) lacks comes =
       record { draws = key_without_memory lms ots before.stream dir before.store after.store before.shelf_faults after.shelf_faults refusal comes.draws; source = comes.source }
 
+  apply_lacks : (dir : List ℕ) (outcome : Outcome) → MayLackMemory outcome → Applies dir before after outcome → Applies dir before after (Err Memory)
+  apply_lacks dir (Ok text) lacks comes = absurd lacks
+  apply_lacks dir (Err refusal) lacks comes =
+      signs_without_memory _ (ApplyAnswer before.left after.left before.stream) (IsSourceFault before.source_faults after.source_faults) dir before.store after.store before.shelf_faults after.shelf_faults refusal
+      (none_by_apply before.left after.left before.stream refusal) comes
+
+  join_lacks : (dir : List ℕ) (outcome : Outcome) → MayLackMemory outcome → JoinsHeads dir before after outcome → JoinsHeads dir before after (Err Memory)
+  join_lacks dir (Ok text) lacks comes = absurd lacks
+  join_lacks dir (Err refusal) lacks comes = record {
+    joins = signs_without_memory _ (JoinAnswer before.stream) IsNoStop dir before.store after.store before.shelf_faults after.shelf_faults refusal (none_by_join before.stream refusal) comes.joins;
+    source = comes.source;
+  }
+
   comes_lacking : (request : RequestText) (outcome : Outcome) → MayLackMemory outcome → Comes request before after outcome → Comes request before after (Err Memory)
   comes_lacking (heads None) outcome lacks comes = source_lacks HeadsAnswer outcome comes
   comes_lacking (heads (Some dir)) outcome lacks comes = store_lacks ShowsHeads dir outcome lacks comes
@@ -112,8 +127,8 @@ module _ {S H R : Type 0} (before after : Outside S H R) where
   comes_lacking (dump (Some dir)) outcome lacks comes = store_lacks ShowsTables dir outcome lacks comes
   comes_lacking (init dir) outcome lacks comes = init_lacks dir outcome lacks comes
   comes_lacking (keygen dir lms ots) outcome lacks comes = keygen_lacks lms ots dir outcome lacks comes
-  comes_lacking (apply dir) outcome lacks comes = left_out_lacks outcome (Err Memory) lacks comes
-  comes_lacking (join dir) outcome lacks comes = left_out_lacks outcome (Err Memory) lacks comes
+  comes_lacking (apply dir) outcome lacks comes = apply_lacks dir outcome lacks comes
+  comes_lacking (join dir) outcome lacks comes = join_lacks dir outcome lacks comes
   comes_lacking (export dir updates_only) outcome lacks comes = store_lacks (ShowsRecords updates_only) dir outcome lacks comes
   comes_lacking (merge first second) outcome lacks comes = left_out_lacks outcome (Err Memory) lacks comes
 

@@ -7,5 +7,6 @@ pub mod Answering
 pub mod Reading
 pub mod NewKeys
 pub mod NewStores
+pub mod Signs
 pub mod Ending
 pub mod Bundles

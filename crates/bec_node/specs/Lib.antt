@@ -9,4 +9,5 @@ pub mod Standing
 pub mod StoreAnswers
 pub mod Comes
 pub mod Creating
+pub mod Signing
 pub mod Run

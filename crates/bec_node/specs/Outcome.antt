@@ -16,6 +16,14 @@ use Rattle.replica.specs.declared.create_fault.CreateKind.{CreateKind}
 use Rattle.replica.specs.declared.create_fault.CreateKind.TheVariants as creating
 use Rattle.store_directory.specs.declared.store_refusal.StoreRefusal.{StoreRefusal}
 use Rattle.store_directory.specs.declared.store_refusal.StoreRefusal.TheVariants as store_refusals
+use Rattle.lms_tree.specs.LmsKind.{leaf_count}
+use Rattle.lms_tree.specs.SecretKey.{SecretData}
+use Rattle.replica.specs.declared.make_fault.MakeFault.{MakeFault}
+use Rattle.replica.specs.declared.make_fault.MakeFault.TheVariants as make_faults
+use Rattle.store_directory.specs.declared.key_refusal.KeyRefusal.{KeyRefusal}
+use Rattle.store_directory.specs.declared.key_refusal.KeyRefusal.TheVariants as key_refusals
+use Rattle.txn_text.specs.declared.fault.TextError.{TextError}
+use Rattle.txn_text.specs.declared.fault.TextError.TheVariants as text_errors
 use Rattle.bec_node.specs.declared.refusal.Refusal.{Refusal}
 use Rattle.bec_node.specs.declared.refusal.Refusal.TheVariants.{Words, Record, CutSchema, Schema, NotConfluent, Transaction, Invalid, AuthorNotListed, UpdateTooLong, IdTaken, KeySpent, Heads, NoStore, StoreThere, BadStore, NoKey, KeyThere, BadKey, StoreFault, Stream, Memory}
 use Rattle.bec_node.specs.declared.refusal.Refusal.TheVariants as refusals
@@ -103,6 +111,28 @@ from_store store_refusals.NoStore = NoStore
 from_store store_refusals.BadStore = BadStore
 from_store store_refusals.DiskFault = StoreFault
 from_store store_refusals.Memory = Memory
+
+abbrev pub from_key : KeyRefusal → Refusal
+from_key key_refusals.NoKey = NoKey
+from_key key_refusals.BadKey = BadKey
+from_key key_refusals.DiskFault = StoreFault
+from_key key_refusals.Memory = Memory
+
+abbrev pub from_text : TextError → Refusal
+from_text (text_errors.Fault fault) = Transaction fault
+from_text text_errors.Memory = Memory
+
+-- of a key that has so many indices
+abbrev pub from_make : SecretData → MakeFault → Refusal
+from_make secret make_faults.NotListed = AuthorNotListed
+from_make secret (make_faults.TooManyHeads count) = Heads count
+from_make secret (make_faults.Invalid reason operation) = Invalid reason operation
+from_make secret (make_faults.TooLong len) = UpdateTooLong
+from_make secret make_faults.Full = refusals.Full
+from_make secret make_faults.Spent = KeySpent (leaf_count secret.lms)
+from_make secret (make_faults.Taken id) = IdTaken
+from_make secret (make_faults.DiskFault side) = StoreFault
+from_make secret make_faults.Memory = Memory
 
 abbrev pub from_disk : DiskError → Refusal
 from_disk disk_errors.DiskFault = StoreFault

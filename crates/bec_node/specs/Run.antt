@@ -12,6 +12,7 @@ use Rattle.bec_node.specs.Creating.{DrawsKeyOnly, Inits}
 use Rattle.bec_node.specs.Heads.{HeadsAnswer}
 use Rattle.bec_node.specs.Outcome.{ComesTo, Outcome, Says, status_of}
 use Rattle.bec_node.specs.Outside.{IsUntouched, Outside, SinkState}
+use Rattle.bec_node.specs.Signing.{Applies, JoinsHeads}
 use Rattle.bec_node.specs.StoreAnswers.{ReadsStore, ShowsHeads, ShowsRecords, ShowsTables}
 use Rattle.bec_node.specs.Verdict.{CheckAnswer}
 
@@ -47,8 +48,8 @@ Comes (dump None) before after outcome = ReadsSource DumpAnswer before after out
 Comes (dump (Some dir)) before after outcome = ReadsStoreOnly (ReadsStore ShowsTables) dir before after outcome
 Comes (init dir) before after outcome = Inits dir before after outcome
 Comes (keygen dir lms ots) before after outcome = DrawsKeyOnly lms ots dir before after outcome
-Comes (apply dir) before after outcome = IsLeftOut before after outcome
-Comes (join dir) before after outcome = IsLeftOut before after outcome
+Comes (apply dir) before after outcome = Applies dir before after outcome
+Comes (join dir) before after outcome = JoinsHeads dir before after outcome
 Comes (export dir updates_only) before after outcome = ReadsStoreOnly (ReadsStore (ShowsRecords updates_only)) dir before after outcome
 Comes (merge first second) before after outcome = IsLeftOut before after outcome
 

@@ -13,6 +13,8 @@
 //! bec dump DIR
 //! bec init DIR < schema     makes a store of a schema in a directory that has none, and prints the id of its database
 //! bec keygen DIR            draws a key for a directory that has none, and prints its public key
+//! bec apply DIR < text      makes an update of a transaction by the key of the directory, and prints its id
+//! bec join DIR              joins the heads of the store by an update, and prints its id
 //! bec export DIR            the bundle of the store, or with `--updates` its update stream alone
 //! ```
 //!
@@ -28,6 +30,7 @@ mod graph_tables;
 mod heads;
 mod laws;
 mod lines;
+mod printed_lines;
 mod program;
 mod refusal;
 mod reply;
@@ -36,11 +39,13 @@ pub mod status;
 mod stream;
 mod text_input;
 
+pub use commands::apply::command_apply;
 pub use commands::check::command_check;
 pub use commands::dump::command_dump;
 pub use commands::export::command_export;
 pub use commands::heads::command_heads;
 pub use commands::init::command_init;
+pub use commands::join::command_join;
 pub use commands::keygen::command_keygen;
 pub use heads::heads_of;
 pub use laws::one_answer;

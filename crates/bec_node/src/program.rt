@@ -4,11 +4,13 @@ ghost use Rattle.bec_node.specs.Run.{Comes, Runs};
 ghost use Rattle.command_words.specs.Seen.{request_seen};
 ghost use Rattle.store_directory.specs.Stores.{IsHome};
 
+use crate::commands::apply::apply_in;
 use crate::commands::check::verdict;
 use crate::commands::dump::{bundle_tables, dump_in};
 use crate::commands::export::export_in;
 use crate::commands::heads::{heads_in, stream_heads};
 use crate::commands::init::init_in;
+use crate::commands::join::join_in;
 use crate::commands::keygen::keygen_in;
 use crate::laws::one_answer;
 use crate::lines::no_command;
@@ -81,6 +83,8 @@ fn outcome_of<H: Shelf, R: Rng, S: Source>(
             height,
             width,
         } => keygen_in(alloc, shelf, directory, *height, *width, random),
+        Request::Apply { directory } => apply_in(alloc, shelf, directory, random, input),
+        Request::Join { directory } => join_in(alloc, shelf, directory, random),
         Request::Export { directory, updates } => export_in(alloc, shelf, directory, *updates),
         _ => Err(Refusal::Words),
     }

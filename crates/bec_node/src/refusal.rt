@@ -1,18 +1,20 @@
 ghost use Rattle.std.specs.Prelude.{◌≡◌};
 ghost use Rattle.bec_node.specs.declared.refusal.Refusal.TheVariants.{Memory};
-ghost use Rattle.bec_node.specs.Outcome.{status_for, from_creating, from_creating_key, from_disk, from_reading, from_store, from_taking};
+ghost use Rattle.bec_node.specs.Outcome.{status_for, from_creating, from_creating_key, from_disk, from_key, from_make, from_reading, from_store, from_taking, from_text};
+ghost use Rattle.lms_tree.specs.LmsKind.{leaf_count};
 
 use crate::status::{FULL, NO_COMMAND, OUT_OF_MEMORY, REFUSED, STORE, STORE_FAULT, STREAM_FAULT};
 use bec_bytes::ReadError;
-use bec_disk::DiskError;
+use bec_disk::{Disk, DiskError};
 use confluence_test::SchemaRefusal;
-use key_index::CreateKeyKind;
-use replica::CreateKind;
+use key_index::{CreateKeyKind, KeyStore};
+use lms_tree::LmsType;
+use replica::{CreateKind, MakeFault};
 use schema::{Schema, SchemaFault};
 use std::alloc::AllocError;
-use store_directory::StoreRefusal;
+use store_directory::{KeyRefusal, StoreRefusal};
 use table_model::{Counterexample, Invariant};
-use txn_text::TextFault;
+use txn_text::{TextError, TextFault};
 use update_stream::RecordFault;
 
 /// Why a command is not done.
@@ -197,5 +199,56 @@ impl From<CreateKind> for Refusal {
             CreateKind::DiskFault => Refusal::StoreFault,
             CreateKind::Memory => Refusal::Memory,
         }
+    }
+}
+
+impl From<KeyRefusal> for Refusal {
+    ghost from_gives = { λ refused refusal. refusal ≡ from_key refused };
+
+    fn from(refused: KeyRefusal) -> Refusal {
+        match refused {
+            KeyRefusal::NoKey => Refusal::NoKey,
+            KeyRefusal::BadKey => Refusal::BadKey,
+            KeyRefusal::DiskFault => Refusal::StoreFault,
+            KeyRefusal::Memory => Refusal::Memory,
+        }
+    }
+}
+
+impl From<TextError> for Refusal {
+    ghost from_gives = { λ error refusal. refusal ≡ from_text error };
+
+    fn from(error: TextError) -> Refusal {
+        match error {
+            TextError::Fault(fault) => Refusal::Transaction(fault),
+            TextError::Memory => Refusal::Memory,
+        }
+    }
+}
+
+/// Why no update was made by a key.
+pub fn made_refusal<D: Disk>(key: &KeyStore<D>, fault: MakeFault) -> Refusal
+    ensures { result ≡ from_make key.now.secret fault }
+{
+    match fault {
+        MakeFault::NotListed => Refusal::AuthorNotListed,
+        MakeFault::TooManyHeads(count) => Refusal::Heads(count),
+        MakeFault::Invalid { reason, operation } => Refusal::Invalid { reason, operation },
+        MakeFault::TooLong(_) => Refusal::UpdateTooLong,
+        MakeFault::Full => Refusal::Full,
+        MakeFault::Spent => Refusal::KeySpent(index_count(key)),
+        MakeFault::Taken(_) => Refusal::IdTaken,
+        MakeFault::DiskFault(_) => Refusal::StoreFault,
+        MakeFault::Memory => Refusal::Memory,
+    }
+}
+
+/// How many indices a key has.
+fn index_count<D: Disk>(key: &KeyStore<D>) -> u32
+    ensures { result ≡ leaf_count key.now.secret.lms }
+{
+    match LmsType::from_type_word(key.public().lms) {
+        Some(lms) => lms.leaf_count(),
+        None => 0,
     }
 }
