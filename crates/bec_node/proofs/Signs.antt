@@ -57,7 +57,8 @@ use Rattle.bec_node.specs.Comes.{IsShelfFault, RunsStore, is_done, readings}
 use Rattle.bec_node.specs.Creating.{IsRefused}
 use Rattle.bec_node.specs.Inputs.{IsWholeText, ReadsText}
 use Rattle.bec_node.specs.Outcome.{IsFault, Outcome, Prints, from_key, from_make, from_store, from_text}
-use Rattle.bec_node.specs.Signing.{ApplyAnswer, FaultsText, IsInnerFault, IsNoStop, IsOpenFault, IsSourceFault, JoinAnswer, KeyedAnswer, MakeAnswer, MakesUpdate, RefusesKey, SignAnswer, SignsIn, SignsOpen, StopsReading, StoreAnswer, TakesText, WorksFrom, asked, bad_key, bad_text, history_of, joined, made, next_bytes, no_key, none, not_joined, not_made, taken_of, with_key, with_store, with_update, without_key, without_store}
+use Rattle.bec_node.specs.Signing.{ApplyAnswer, FaultsText, IsInnerFault, IsNoStop, IsOpenFault, IsSourceFault, JoinAnswer, KeyedAnswer, MakeAnswer, MakesUpdate, RefusesKey, SignAnswer, SignsIn, SignsOpen, StopsReading, StoreAnswer, TakesText, WorksFrom, asked, bad_key, bad_text, history_of, joined, made, no_key, none, not_joined, not_made, taken_of, with_key, with_store, with_update, without_key, without_store}
+use Rattle.bec_node.specs.StoreAnswers.{next_bytes}
 use Rattle.bec_node.specs.Standing.{Stands}
 use Rattle.bec_node.specs.StoreAnswers.{RefusesStore, bad_store, no_store}
 use Rattle.bec_node.specs.Texts.{line_of}

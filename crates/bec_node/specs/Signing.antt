@@ -1,6 +1,6 @@
 -- What the commands that make an update by the key of a directory answer, and what they leave.
 use Rattle.std.specs.Prelude.{◌≡◌, ◌≢◌, ◌⊎◌, ℕ, ◌≤◌, Bool, List, [], ◌∷◌, ◌++◌, IsTrue, Ok, Err, Option, Some, None}
-use Rattle.rand_core.specs.Stream.{Stream, fill_bytes}
+use Rattle.rand_core.specs.Stream.{Stream}
 use Rattle.row_check.specs.Checksum.{is_luhn}
 use Rattle.bec_bytes.specs.Causes.{Rose}
 use Rattle.bec_disk.specs.declared.part.Part.TheVariants.{Schema, Updates, Key, Used}
@@ -30,12 +30,8 @@ use Rattle.bec_node.specs.Inputs.{IsWholeText}
 use Rattle.schema.specs.Schemas.{SchemaData}
 use Rattle.bec_node.specs.Outcome.{IsFault, Outcome, Prints, from_make}
 use Rattle.bec_node.specs.Outside.{Outside}
-use Rattle.bec_node.specs.StoreAnswers.{HasStore, Readings, RefusesStore}
+use Rattle.bec_node.specs.StoreAnswers.{HasStore, Readings, RefusesStore, next_bytes}
 use Rattle.bec_node.specs.Texts.{line_of}
-
--- the 32 bytes that a generator gives next
-abbrev pub next_bytes : Stream → List ℕ
-next_bytes stream = (fill_bytes 32 stream).0
 
 -- the history with one more update, the last
 abbrev pub with_update : HistoryData → List ℕ → HistoryData

@@ -4,7 +4,8 @@ ghost use Rattle.bec_disk.specs.declared.part.Part.TheVariants.{Key, Used};
 ghost use Rattle.bec_node.specs.Inputs.{IsWholeText};
 ghost use Rattle.bec_node.specs.Outside.{outside};
 ghost use Rattle.bec_node.specs.Run.{HasFirstWord, Runs};
-ghost use Rattle.bec_node.specs.Signing.{ApplyAnswer, Applies, IsNoStop, IsSourceFault, MakeAnswer, SignsIn, SignsOpen, StopsReading, TakesText, next_bytes};
+ghost use Rattle.bec_node.specs.Signing.{ApplyAnswer, Applies, IsNoStop, IsSourceFault, MakeAnswer, SignsIn, SignsOpen, StopsReading, TakesText};
+ghost use Rattle.bec_node.specs.StoreAnswers.{next_bytes};
 ghost use Rattle.store_directory.specs.Stores.{IsHome, part_in};
 ghost use Rattle.txn_text.specs.Outcome.{MayStand};
 
