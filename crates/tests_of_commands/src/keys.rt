@@ -17,7 +17,7 @@ const AGAIN: &[Step<'static>] = &[
 fn a_key_is_drawn_once(rt: HostRuntime) -> Result<(), Fail> {
     let mut shelf = MemShelf::new(rt.alloc());
     let key = answer(rt.alloc(), &mut shelf, "keygen A --height 5 --width 8", b"")?;
-    assert!(rt; key.status == 0 && key.bytes.len() == 113 && is_hex_line(&key.bytes));
+    assert!(rt; key.status == 0 && is_hex_line(&key.bytes, 112));
     assert_eq!(rt; key.bytes.get(..16), Some(b"0000000500000004".as_slice()));
     assert_eq!(rt; played(rt.alloc(), &mut shelf, AGAIN)?, AGAIN.len());
     Ok(())

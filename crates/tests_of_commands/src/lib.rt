@@ -3,6 +3,8 @@
 #![tactic(auto)]
 
 #[cfg(test)]
+mod faults;
+#[cfg(test)]
 mod keys;
 #[cfg(test)]
 mod steps;
@@ -10,3 +12,5 @@ mod steps;
 mod stores;
 #[cfg(test)]
 mod texts;
+#[cfg(test)]
+mod transactions;

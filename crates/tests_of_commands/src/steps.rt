@@ -10,7 +10,8 @@ use rand_pcg::Pcg32;
 use std::alloc::{AllocError, Global};
 
 /// A run: its words, its input, and the status and the text that it answers. An answer `ID` stands for any id, which is
-/// remembered, and `#n` in later texts for the id that was remembered as number n, counted from 0.
+/// remembered, and `#n` in later texts for the id that was remembered as number n, counted from 0. An answer `KEY` stands for any
+/// public key.
 pub type Step<'a> = (&'a str, &'a str, u8, &'a str);
 
 /// What a run answers.
@@ -50,16 +51,12 @@ pub fn answer(
     Ok(Said { status, bytes })
 }
 
-/// Whether these are 64 hexadecimal digits and the end of a line.
-fn is_id_line(bytes: &[u8]) -> bool {
-    bytes.len() == 65 && is_hex_line(bytes)
-}
-
-/// Whether these are hexadecimal digits and the end of a line.
-pub fn is_hex_line(bytes: &[u8]) -> bool {
+/// Whether these are so many hexadecimal digits and the end of a line.
+pub fn is_hex_line(bytes: &[u8], count: usize) -> bool {
     match bytes.split_last() {
         Some((last, digits)) => {
             *last == b'\n'
+                && digits.len() == count
                 && digits
                     .iter()
                     .all(|digit| b"0123456789abcdef".contains(digit))
@@ -68,10 +65,19 @@ pub fn is_hex_line(bytes: &[u8]) -> bool {
     }
 }
 
-/// A text in which `#n` stands for the id of number n.
+/// Remembers the id of a line, and answers whether the line is one.
+fn remembers(alloc: Global, ids: &mut Vec<String>, line: &[u8]) -> Result<bool, AllocError> {
+    let Ok(text) = str::from_utf8(line) else {
+        return Ok(false);
+    };
+    ids.push(String::from_str(alloc, text.trim_end())?)?;
+    Ok(is_hex_line(line, 64))
+}
+
+/// A text in which `#n` stands for the id of number n. Of two numbers that begin alike the longer one comes first.
 fn told(alloc: Global, ids: &[String], text: &str) -> Result<String, AllocError> {
     let mut told = String::from_str(alloc, text)?;
-    for (number, id) in ids.iter().enumerate() {
+    for (number, id) in ids.iter().enumerate().rev() {
         let place = format!(in alloc; "#{number}")?;
         told = told.replace(alloc, place.as_str(), id.as_str())?;
     }
@@ -85,14 +91,11 @@ fn is_wanted(
     wanted: &str,
     bytes: &[u8],
 ) -> Result<bool, AllocError> {
-    if wanted != "ID\n" {
-        return Ok(told(alloc, ids, wanted)?.as_bytes() == bytes);
+    match wanted {
+        "ID\n" => remembers(alloc, ids, bytes),
+        "KEY\n" => Ok(is_hex_line(bytes, 112)),
+        _ => Ok(told(alloc, ids, wanted)?.as_bytes() == bytes),
     }
-    let Ok(text) = str::from_utf8(bytes) else {
-        return Ok(false);
-    };
-    ids.push(String::from_str(alloc, text.trim_end())?)?;
-    Ok(is_id_line(bytes))
 }
 
 /// Whether a step goes as it says.

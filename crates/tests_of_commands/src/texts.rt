@@ -17,3 +17,11 @@ CHECK card IS NULL OR NATIVE 1 card
 MATCH prio <= list.cap
 SAMPLE "Buy" 3 NULL
 "#;
+
+/// Numbers of any size.
+pub const NUMBERS: &str =
+    "DATABASE n\nTABLE n\nCOLUMN v INT -9223372036854775808 9223372036854775807\nSAMPLE 0\n";
+
+/// Numbers that one author may write, whose key is of height 5 with 8 bits a digit.
+pub const LISTED: &str =
+    "DATABASE l\nAUTHOR 0000000500000004a5a5a5a5a5a5a5a5a5a5a5a5a5a5a5a5a5a5a5a5a5a5a5a5a5a5a5a5a5a5a5a5a5a5a5a5a5a5a5a5a5a5a5a5a5a5a5a5\nTABLE n\nCOLUMN v INT 0 9\nSAMPLE 0\n";
