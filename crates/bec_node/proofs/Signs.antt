@@ -143,10 +143,10 @@ signs_as One Other Stops Halts old key new key_new outcome answers halts signs =
     so (inr (inr (inr failed), is)) = inr (inr (inr failed), is)
 
 module _ (old : ReplicaState) (key : KeyState) (new : ReplicaState) (key_new : KeyState) (stands : Stands new)
-  (leaves : LeavesOnly old.log.disk new.log.disk (BeginsWith (stream_of old.history.members)))
-  (used : (index : ℕ) → (IsTrue key.parts.used.tells → EveryImage key.parts.used.now (IsUsed index)) → LeavesOnly key.parts.used key_new.parts.used (IsUsed index))
-  (log_later : old.log.faults ≤ new.log.faults) (key_later : key.parts.used_faults ≤ key_new.parts.used_faults)
-  (tried : (key_new ≡ key) ⊎ ((index : ℕ) × Tries key index key_new)) where
+    (leaves : LeavesOnly old.log.disk new.log.disk (BeginsWith (stream_of old.history.members)))
+    (used : (index : ℕ) → (IsTrue key.parts.used.tells → EveryImage key.parts.used.now (IsUsed index)) → LeavesOnly key.parts.used key_new.parts.used (IsUsed index))
+    (log_later : old.log.faults ≤ new.log.faults) (key_later : key.parts.used_faults ≤ key_new.parts.used_faults)
+    (tried : (key_new ≡ key) ⊎ ((index : ℕ) × Tries key index key_new)) where
   -- something was added
   adds : (Answer : SignAnswer) (added : List (List ℕ)) (text : Vec ℕ Global) → new.history ≡ record { schema = old.history.schema; members = old.history.members ++ added }
       → (IsTrue old.log.disk.tells → IsClean new.log.end new.log.disk) → Answer old.history key.secret key.taken added (Ok text) → SignsOpen Answer IsNoStop old key new key_new (Ok text)

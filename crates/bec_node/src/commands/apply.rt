@@ -103,11 +103,7 @@ fn apply_by<D: Disk, R: Rng, S: Source>(
 }
 
 /// The operations of the transaction that is read.
-fn read_ops<S: Source>(
-    alloc: Global,
-    schema: &Schema,
-    input: &mut S,
-) -> Result<OpList, Refusal>
+fn read_ops<S: Source>(alloc: Global, schema: &Schema, input: &mut S) -> Result<OpList, Refusal>
     ensures read { IfOk result (λ ops. TakesText (S.left input.old) (S.left input.new) schema.now ops) }
     ensures form { IfOk result (λ ops. MayStand ops) }
     ensures stopped { IfErr result (λ refusal. StopsReading (S.left input.old) (S.left input.new) (S.faults input.old) (S.faults input.new) schema.now refusal) }
