@@ -21,6 +21,7 @@ impl Model for Place {
 }
 
 impl Place {
+    /// This part of this directory. It fails for want of memory alone.
     pub fn new(alloc: Global, dir: &str, part: Part) -> Result<Place, AllocError>
         ensures { IfOk result (λ place. place ≡ slot dir.now part) }
     {
@@ -42,6 +43,7 @@ impl Place {
         &self.dir
     }
 
+    /// Which part of the directory it is.
     pub fn part(&self) -> Part
         ensures { result ≡ self.now.part }
     {
