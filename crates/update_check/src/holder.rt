@@ -1,6 +1,6 @@
 //! Whoever holds updates, and what adding a batch of them answers.
 
-ghost use Rattle.std.specs.Prelude.{◌≡◌, ◌<◌, ◌≤◌, ℕ, List, All, length, map, slice_get, option_map, Some, IfOk};
+ghost use Rattle.std.specs.Prelude.{◌≡◌, ◌<◌, ◌≤◌, ℕ, List, All, length, map, slice_get, option_map, Some, IfOk, OnOk};
 ghost use Rattle.update_model.specs.Batch.{Limits};
 ghost use Rattle.update_model.specs.Graph.{AreHeads, position_of};
 ghost use Rattle.update_model.specs.Rule.{RuleData};
@@ -49,6 +49,18 @@ pub trait Holder: Counted {
     /// How many there may be, and of how many bytes.
     ghost limits: { Self → Limits };
 
+    /// What else goes on from a moment of a holder to a later one, such as that a crash leaves what it held.
+    ghost keeps: { Self → Self → Type 0 };
+
+    /// It goes on from each moment to itself.
+    ghost keeps_itself: { (holder : Self) → keeps holder holder };
+
+    /// It goes on through a moment in between.
+    ghost keeps_on: { (old mid new : Self) → keeps old mid → keeps mid new → keeps old new };
+
+    /// What holds as long as no commit is refused, such as that a disk has nothing behind what is held.
+    ghost is_whole: { Self → Type 0 };
+
     /// How many updates there are, and what holds of every holder.
     fn len(&self) -> u32
         ensures value { result ≡ length (members self.now) }
@@ -95,6 +107,8 @@ pub trait Holder: Counted {
         requires { All (IsChecked (rule self.old)) batch.items }
         ensures commits { Commits (limits self.old) (members self.old) batch.items result (Self.faults self.old) (Self.faults self.new) (members self.new) }
         ensures later { Self.faults self.old ≤ Self.faults self.new }
+        ensures keeps { keeps self.old self.new }
+        ensures whole { OnOk result (is_whole self.new) }
         ensures limits { limits self.new ≡ limits self.old }
         ensures rule { rule self.new ≡ rule self.old };
 }
