@@ -27,7 +27,7 @@ use Rattle.confluence_test.specs.declared.refusal.SchemaRefusal.{SchemaRefusal}
 use Rattle.bec_node.specs.Verdict.{CheckAnswer, confluent, refused as check_refused, rules_of}
 use Rattle.bec_node.proofs.Tables.{TableLaws, tables_once}
 
-heads_once : (members others : List (List ℕ)) (heads again : List UpdateId) → members ≡ others → AreHeads (map entry_of members) heads → AreHeads (map entry_of others) again → heads ≡ again
+pub heads_once : (members others : List (List ℕ)) (heads again : List UpdateId) → members ≡ others → AreHeads (map entry_of members) heads → AreHeads (map entry_of others) again → heads ≡ again
 heads_once members others heads again same a b =
     sorted_same heads again a.rising b.rising (λ q.
     let here = a.exact q in
@@ -53,12 +53,12 @@ pub record SchemaLaws : Type 0 where
 abbrev pub Same : Outcome → Outcome → Type 0
 Same a b = (status_of a ≡ status_of b) × (text_of a ≡ text_of b)
 
-same_prints : (a b : Outcome) (text line : List ℕ) → text ≡ line → Prints a text → Prints b line → Same a b
+pub same_prints : (a b : Outcome) (text line : List ℕ) → text ≡ line → Prints a text → Prints b line → Same a b
 same_prints (Ok x) (Ok y) text line same p q = (refl, p ∙ same ∙ sym q)
 same_prints (Ok x) (Err s) text line same p q = absurd q
 same_prints (Err r) b text line same p q = absurd p
 
-same_refused : (a b : Outcome) (r s : Refusal) → r ≡ s → a ≡ Err r → b ≡ Err s → Same a b
+pub same_refused : (a b : Outcome) (r s : Refusal) → r ≡ s → a ≡ Err r → b ≡ Err s → Same a b
 same_refused a b r s same e f = (ap status_of e ∙ ap status_for same ∙ sym (ap status_of f), ap text_of e ∙ ap text_for same ∙ sym (ap text_of f))
 
 module _ (streams : StreamLaws) where

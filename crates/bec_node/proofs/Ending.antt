@@ -24,63 +24,11 @@ use Rattle.bec_node.proofs.NewStores.{init_without_memory}
 use Rattle.bec_node.proofs.Reading.{read_without_memory}
 use Rattle.bec_node.specs.Signing.{Applies, ApplyAnswer, IsNoStop, IsSourceFault, JoinAnswer, JoinsHeads}
 use Rattle.bec_node.proofs.Signs.{none_by_apply, none_by_join, signs_without_memory}
-use Rattle.bec_node.proofs.Answer.{IsOneAnswer, OneAnswer}
-
--- ---- statuses
-
--- the status is the outcome's own, or a stream fault's
-status_said : (old new : ℕ) (held held_new : Option (List ℕ)) (outcome : Outcome) (status : ℕ) → Says old new held held_new outcome status → (status ≡ status_of outcome) ⊎ (status ≡ STREAM_FAULT)
-status_said old new held held_new (Err Memory) status said = inl said.0
-status_said old new held held_new outcome status (inl whole) = inl whole.0
-status_said old new held held_new outcome status (inr front) = inr front.0
-
--- a stream fault or want of memory comes in the place of each answer
-abbrev IsFaultStatus : ℕ → Type 0
-IsFaultStatus status = (status ≡ STREAM_FAULT) ⊎ (status ≡ OUT_OF_MEMORY)
-
-source_fault : (Answer : Option (List ℕ) → Option (List ℕ) → Outcome → Type 0) (before : Option (List ℕ)) (status : ℕ) → IsFaultStatus status → SourceOnly Answer before status
-source_fault Answer None status fault = tt
-source_fault Answer (Some input) status fault = λ after outcome answer. inr (inr fault)
-
--- an answer comes with its status, or a fault with its own
-source_said : (Answer : Option (List ℕ) → Option (List ℕ) → Outcome → Type 0) → IsOneAnswer Answer → (before after : Option (List ℕ)) (old new : ℕ) (outcome : Outcome) (status : ℕ)
-    → ComesTo Answer before after old new outcome → (status ≡ status_of outcome) ⊎ (status ≡ STREAM_FAULT) → SourceOnly Answer before status
-source_said Answer one before after old new outcome status comes (inr fault) = source_fault Answer before status (inl fault)
-source_said Answer one None after old new outcome status comes (inl own) = tt
-source_said Answer one (Some input) after old new (Ok text) status comes (inl own) = λ other p answer. inl (own ∙ (one input after other (Ok text) p comes answer).0)
-source_said Answer one (Some input) after old new (Err refusal) status (inl is) (inl own) = λ other p answer. inl (own ∙ (one input after other (Err refusal) p is answer).0)
-source_said Answer one (Some input) after old new (Err refusal) status (inr (inl memory)) (inl own) = λ other p answer. inr (inr (inr (own ∙ ap status_for memory)))
-source_said Answer one (Some input) after old new (Err refusal) status (inr (inr failed)) (inl own) = λ other p answer. inr (inr (inl (own ∙ ap status_for failed.0)))
-
--- want of memory comes in place of each answer
-only_memory : {S H R : Type 0} (request : RequestText) (before : Outside S H R) (status : ℕ) → status ≡ OUT_OF_MEMORY → AnswersOnly request before status
-only_memory (heads None) before status is = source_fault HeadsAnswer before.left status (inr is)
-only_memory (heads (Some dir)) before status is = tt
-only_memory check before status is = source_fault CheckAnswer before.left status (inr is)
-only_memory (dump None) before status is = source_fault DumpAnswer before.left status (inr is)
-only_memory (dump (Some dir)) before status is = tt
-only_memory (init dir) before status is = tt
-only_memory (keygen dir lms ots) before status is = tt
-only_memory (apply dir) before status is = tt
-only_memory (join dir) before status is = tt
-only_memory (export dir updates_only) before status is = tt
-only_memory (merge first second) before status is = tt
+use Rattle.bec_node.proofs.Answer.{OneAnswer}
+use Rattle.bec_node.proofs.StoreOnce.{OneOfParts}
+use Rattle.bec_node.proofs.Only.{only_memory, only_said, status_said}
 
 -- ---- a request
-
-module _ {S H R : Type 0} (one : OneAnswer) (before after : Outside S H R) (status : ℕ) where
-  only_said : (request : RequestText) (outcome : Outcome) → Comes request before after outcome → (status ≡ status_of outcome) ⊎ (status ≡ STREAM_FAULT) → AnswersOnly request before status
-  only_said (heads None) outcome comes said = source_said HeadsAnswer one.heads before.left after.left before.source_faults after.source_faults outcome status comes.comes said
-  only_said (heads (Some dir)) outcome comes said = tt
-  only_said check outcome comes said = source_said CheckAnswer one.check before.left after.left before.source_faults after.source_faults outcome status comes.comes said
-  only_said (dump None) outcome comes said = source_said DumpAnswer one.dump before.left after.left before.source_faults after.source_faults outcome status comes.comes said
-  only_said (dump (Some dir)) outcome comes said = tt
-  only_said (init dir) outcome comes said = tt
-  only_said (keygen dir lms ots) outcome comes said = tt
-  only_said (apply dir) outcome comes said = tt
-  only_said (join dir) outcome comes said = tt
-  only_said (export dir updates_only) outcome comes said = tt
-  only_said (merge first second) outcome comes said = tt
 
 -- want of memory in place of a refusal
 module _ {S H R : Type 0} (before after : Outside S H R) where
@@ -143,21 +91,21 @@ abbrev pub OneRequest : Type 0
 OneRequest = (words : List (List ℕ)) (request other : RequestText) → Asks words request → Asks words other → request ≡ other
 
 module _ {S H R : Type 0} (words : List (String Global)) (before after : Outside S H R) (sink sink_new : SinkState) (status : ℕ) where
-  told : OneAnswer → OneRequest → (request : RequestText) → IsCommand request words → (outcome : Outcome) → Comes request before after outcome
+  told : OneAnswer → OneOfParts → OneRequest → (request : RequestText) → IsCommand request words → (outcome : Outcome) → Comes request before after outcome
       → Says sink.faults sink_new.faults sink.held sink_new.held outcome status → Runs words before after sink sink_new status
-  told one unique request asks outcome comes said = record {
+  told one parts unique request asks outcome comes said = record {
     outcome = outcome;
     asked = named request asks comes;
     said = said;
     only = λ other is. subst (λ (q : RequestText). AnswersOnly q before status) (unique (map string_bytes words) request other asks is)
-        (only_said one before after status request outcome comes (status_said sink.faults sink_new.faults sink.held sink_new.held outcome status said));
+        (only_said one parts before after status request outcome comes (status_said sink.faults sink_new.faults sink.held sink_new.held outcome status said));
   }
 
   -- words that ask for something
-  pub runs : OneAnswer → OneRequest → (request : RequestText) → IsCommand request words → (outcome : Outcome) → Comes request before after outcome
+  pub runs : OneAnswer → OneOfParts → OneRequest → (request : RequestText) → IsCommand request words → (outcome : Outcome) → Comes request before after outcome
       → Ends sink.faults sink_new.faults sink.held sink_new.held outcome status → Runs words before after sink sink_new status
-  runs one unique request asks outcome comes (inl said) = told one unique request asks outcome comes said
-  runs one unique request asks outcome comes (inr lacked) = told one unique request asks (Err Memory) (comes_lacking before after request outcome lacked.0 comes) lacked.1
+  runs one parts unique request asks outcome comes (inl said) = told one parts unique request asks outcome comes said
+  runs one parts unique request asks outcome comes (inr lacked) = told one parts unique request asks (Err Memory) (comes_lacking before after request outcome lacked.0 comes) lacked.1
 
   -- words that are none
   pub runs_none : IsNoCommand words → IsUntouched before after → Puts sink.faults sink_new.faults sink.held sink_new.held NO_COMMAND (codes "! words\n") status

@@ -8,5 +8,7 @@ pub mod Reading
 pub mod NewKeys
 pub mod NewStores
 pub mod Signs
+pub mod StoreOnce
+pub mod Only
 pub mod Ending
 pub mod Bundles

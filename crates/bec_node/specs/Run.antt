@@ -1,19 +1,20 @@
 -- What a run of the program does.
-use Rattle.std.specs.Prelude.{◌≡◌, ◌⊎◌, ℕ, List, map, IfSome, Err, String, slice_get, Some, None}
+use Rattle.std.specs.Prelude.{◌≡◌, ◌⊎◌, ℕ, List, map, IfSome, IsTrue, Err, String, slice_get, Some, None}
 use Rattle.std.specs.declared.alloc.Global.{Global}
 use Rattle.std.specs.declared.option.Option.{Option}
 use Rattle.std.specs.String.{string_bytes}
+use Rattle.bec_disk.specs.Shelf.{ShelfState}
 use Rattle.command_words.specs.Requests.{Asks, RequestText, heads, check, dump, init, keygen, apply, join, export, merge}
 use Rattle.bec_node.specs.declared.refusal.Refusal.TheVariants.{Memory, Words}
 use Rattle.bec_node.specs.declared.status.TheConstants.{STORE_FAULT, STREAM_FAULT, OUT_OF_MEMORY}
 use Rattle.bec_node.specs.Bundle.{DumpAnswer}
-use Rattle.bec_node.specs.Comes.{ReadsStoreOnly}
+use Rattle.bec_node.specs.Comes.{ReadsStoreOnly, readings}
 use Rattle.bec_node.specs.Creating.{DrawsKeyOnly, Inits}
 use Rattle.bec_node.specs.Heads.{HeadsAnswer}
 use Rattle.bec_node.specs.Outcome.{ComesTo, Outcome, Says, status_of}
 use Rattle.bec_node.specs.Outside.{IsUntouched, Outside, SinkState}
 use Rattle.bec_node.specs.Signing.{Applies, JoinsHeads}
-use Rattle.bec_node.specs.StoreAnswers.{ReadsStore, ShowsHeads, ShowsRecords, ShowsTables}
+use Rattle.bec_node.specs.StoreAnswers.{Readings, ReadsStore, ShowsHeads, ShowsRecords, ShowsTables}
 use Rattle.bec_node.specs.Verdict.{CheckAnswer}
 
 -- the words ask for this
@@ -63,22 +64,30 @@ pub data AsksFor {S H R : Type 0} (words : List (String Global)) (before after :
 abbrev pub ComesAs : ℕ → ℕ → Type 0
 ComesAs status own = (status ≡ own) ⊎ ((status ≡ STORE_FAULT) ⊎ ((status ≡ STREAM_FAULT) ⊎ (status ≡ OUT_OF_MEMORY)))
 
+-- Each outcome that may be comes with its status.
+abbrev pub EachAs : (Outcome → Type 0) → ℕ → Type 0
+EachAs MayBe status = (outcome : Outcome) → MayBe outcome → ComesAs status (status_of outcome)
+
 -- Each answer to what the source tells comes with its status.
 abbrev pub SourceOnly : (Option (List ℕ) → Option (List ℕ) → Outcome → Type 0) → Option (List ℕ) → ℕ → Type 0
-SourceOnly Answer before status = IfSome before (λ input. (after : Option (List ℕ)) (outcome : Outcome) → Answer (Some input) after outcome → ComesAs status (status_of outcome))
+SourceOnly Answer before status = IfSome before (λ input. (after : Option (List ℕ)) → EachAs (Answer (Some input) after) status)
+
+-- Each answer to what the parts of a directory read as comes with its status, where the shelf tells.
+abbrev pub ShelfOnly : (Readings → List (List ℕ) → Outcome → Type 0) → List ℕ → ShelfState → ℕ → Type 0
+ShelfOnly Answer dir shelf status = IsTrue shelf.tells → (added : List (List ℕ)) → EachAs (Answer (readings shelf dir) added) status
 
 -- Each answer that a request has to what stands outside comes with its status, unless a disk or a stream failed or memory ran out.
 abbrev pub AnswersOnly : {S H R : Type 0} → RequestText → Outside S H R → ℕ → Type 0
 AnswersOnly (heads None) before status = SourceOnly HeadsAnswer before.left status
-AnswersOnly (heads (Some dir)) before status = Unit {0}
+AnswersOnly (heads (Some dir)) before status = ShelfOnly (ReadsStore ShowsHeads) dir before.store status
 AnswersOnly check before status = SourceOnly CheckAnswer before.left status
 AnswersOnly (dump None) before status = SourceOnly DumpAnswer before.left status
-AnswersOnly (dump (Some dir)) before status = Unit {0}
+AnswersOnly (dump (Some dir)) before status = ShelfOnly (ReadsStore ShowsTables) dir before.store status
 AnswersOnly (init dir) before status = Unit {0}
 AnswersOnly (keygen dir lms ots) before status = Unit {0}
 AnswersOnly (apply dir) before status = Unit {0}
 AnswersOnly (join dir) before status = Unit {0}
-AnswersOnly (export dir updates_only) before status = Unit {0}
+AnswersOnly (export dir updates_only) before status = ShelfOnly (ReadsStore (ShowsRecords updates_only)) dir before.store status
 AnswersOnly (merge first second) before status = Unit {0}
 
 -- A run of the program: the words and what stands outside ask for an outcome, the sink is told it, and the status is its own.

@@ -1,0 +1,75 @@
+-- What the parts of a directory read as has one answer to a command.
+use Rattle.std.proofs.Common.{◌≡◌, ℕ, Bool, List, refl, sym, subst, ◌∙◌, ap, Option, Ok, Err}
+use Rattle.schema.specs.Schemas.{Meaning}
+use Rattle.row_check.specs.Checksum.{is_luhn}
+use Rattle.table_model.specs.Tables.{AreTablesOf}
+use Rattle.table_text.specs.Tables.{tables_text}
+use Rattle.store_directory.specs.Stores.{IsBadStore, IsNoStore, ReadsAs, StoreData}
+use Rattle.bec_node.specs.declared.refusal.Refusal.{Refusal}
+use Rattle.bec_node.specs.Bundle.{nodes_of}
+use Rattle.bec_node.specs.Outcome.{Outcome}
+use Rattle.bec_node.specs.StoreAnswers.{HasStore, Readings, ReadsStore, RefusesStore, ShowsHeads, ShowsRecords, ShowsTables, bad_store, no_store, refused, shows}
+use Rattle.bec_node.specs.Texts.{printed}
+use Rattle.bec_node.specs.Verdict.{rules_of}
+use Rattle.bec_node.proofs.Answer.{Same, heads_once, same_prints, same_refused}
+use Rattle.bec_node.proofs.Tables.{TableLaws, tables_once}
+
+-- what is known of two parts: they read as one store, or as none, or as a bad one
+pub record StoreLaws : Type 0 where
+  pub one_store : (ask : Meaning) (schema updates : Option (List ℕ)) (store other : StoreData) → ReadsAs ask schema updates store → ReadsAs ask schema updates other → store ≡ other
+  pub not_bad : (ask : Meaning) (schema updates : Option (List ℕ)) → IsNoStore schema → IsBadStore ask schema updates → ⊥
+  pub no_store : (ask : Meaning) (schema updates : Option (List ℕ)) (store : StoreData) → IsNoStore schema → ReadsAs ask schema updates store → ⊥
+  pub bad_store : (ask : Meaning) (schema updates : Option (List ℕ)) (store : StoreData) → IsBadStore ask schema updates → ReadsAs ask schema updates store → ⊥
+
+-- what the parts read as has one answer, whatever is added
+abbrev pub IsOneOfParts : (Readings → List (List ℕ) → Outcome → Type 0) → Type 0
+IsOneOfParts Answer = (parts : Readings) (added others : List (List ℕ)) (a b : Outcome) → Answer parts added a → Answer parts others b → Same a b
+
+-- a store shows one text
+abbrev IsShownOnce : (StoreData → List ℕ → Type 0) → Type 0
+IsShownOnce Shows = (store : StoreData) (text line : List ℕ) → Shows store text → Shows store line → text ≡ line
+
+heads_shown : IsShownOnce ShowsHeads
+heads_shown store text line a b = a.2 ∙ ap printed (heads_once store.members store.members a.0 b.0 refl a.1 b.1) ∙ sym b.2
+
+tables_shown : TableLaws → IsShownOnce ShowsTables
+tables_shown laws store text line a b =
+    let one = tables_once laws store.schema store.members a.0 b.0 a.1.0 b.1.0 b.1.1.taken.closed a.1.1.are b.1.1.are in
+    a.1.2 ∙ (λ i. tables_text store.schema.tables (one.0 i) (one.1 i)) ∙ sym b.1.2
+
+records_shown : (updates_only : Bool) → IsShownOnce (ShowsRecords updates_only)
+records_shown updates_only store text line a b = a ∙ sym b
+
+module _ (stores : StoreLaws) where
+  -- a store that is read is not refused
+  pub read_or_refused : (parts : Readings) (store : StoreData) (refusal : Refusal) → HasStore parts store → RefusesStore parts refusal → ⊥
+  read_or_refused parts store refusal has (no_store none is) = stores.no_store is_luhn parts.schema parts.updates store none has
+  read_or_refused parts store refusal has (bad_store bad is) = stores.bad_store is_luhn parts.schema parts.updates store bad has
+
+  -- and one is refused in one way
+  pub refused_once : (parts : Readings) (r s : Refusal) → RefusesStore parts r → RefusesStore parts s → r ≡ s
+  refused_once parts r s (no_store none is) (no_store again so) = is ∙ sym so
+  refused_once parts r s (no_store none is) (bad_store bad so) = absurd (stores.not_bad is_luhn parts.schema parts.updates none bad)
+  refused_once parts r s (bad_store bad is) (no_store none so) = absurd (stores.not_bad is_luhn parts.schema parts.updates none bad)
+  refused_once parts r s (bad_store bad is) (bad_store again so) = is ∙ sym so
+
+  read_answered : (Shows : StoreData → List ℕ → Type 0) → IsShownOnce Shows → IsOneOfParts (ReadsStore Shows)
+  read_answered Shows once parts added others a b (shows store text has shown none p) (shows other line had seen no q) =
+      let same : store ≡ other = stores.one_store is_luhn parts.schema parts.updates store other has had in
+      same_prints a b text line (once other text line (subst (λ (s : StoreData). Shows s text) same shown) seen) p q
+  read_answered Shows once parts added others a b (shows store text has shown none p) (refused r refuses no is) = absurd (read_or_refused parts store r has refuses)
+  read_answered Shows once parts added others a b (refused r refuses no is) (shows store text has shown none p) = absurd (read_or_refused parts store r has refuses)
+  read_answered Shows once parts added others a b (refused r refuses no is) (refused s refused_too none so) = same_refused a b r s (refused_once parts r s refuses refused_too) is so
+
+-- so it is of each command that only reads a store
+pub record OneOfParts : Type 0 where
+  pub heads : IsOneOfParts (ReadsStore ShowsHeads)
+  pub dump : IsOneOfParts (ReadsStore ShowsTables)
+  pub export : (updates_only : Bool) → IsOneOfParts (ReadsStore (ShowsRecords updates_only))
+
+pub answered_of_parts : StoreLaws → TableLaws → OneOfParts
+answered_of_parts stores tables = record {
+  heads = read_answered stores ShowsHeads heads_shown;
+  dump = read_answered stores ShowsTables (tables_shown tables);
+  export = λ updates_only. read_answered stores (ShowsRecords updates_only) (records_shown updates_only);
+}

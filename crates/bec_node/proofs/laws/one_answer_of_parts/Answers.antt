@@ -1,0 +1,9 @@
+use Rattle.bec_node.proofs.StoreOnce.{OneOfParts, answered_of_parts}
+use Rattle.bec_node.proofs.laws.one_answer_of_parts.Goals as goal
+
+pub returns : goal.returns
+returns c =
+    let one : OneOfParts = answered_of_parts
+    (record { one_store = c.one_store.ensures; not_bad = c.store_or_not.ensures.not_bad; no_store = c.store_or_not.ensures.no_store; bad_store = c.store_or_not.ensures.bad_store })
+    (record { arrivals = c.arrivals_are_closed.ensures; same_tables = c.tables_are_of_the_set.ensures }) in
+    record { heads = one.heads; dump = one.dump; export = one.export }
