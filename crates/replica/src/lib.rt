@@ -20,6 +20,7 @@ mod commit;
 mod create_fault;
 mod creating;
 mod drafting;
+mod holder;
 mod make;
 mod make_fault;
 mod open_fault;
