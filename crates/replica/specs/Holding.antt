@@ -1,11 +1,11 @@
 -- What goes on from a moment of a replica to a later one, where it holds updates for a session.
 use Rattle.std.specs.Prelude.{◌≡◌, List, ℕ, ◌++◌, [], IsTrue, refl}
-use Rattle.std.proofs.Common.{sym, ap, subst, ◌∙◌, append_assoc, append-nil}
+use Rattle.std.proofs.Common.{sym, ap, ◌∙◌, append_assoc, append-nil}
 use Rattle.std.proofs.lemmas.List.Concat.{flat_map-append}
 use Rattle.bec_bytes.specs.Framed.{framed, stream_of}
-use Rattle.bec_disk.specs.Disk.{DiskState, EveryImage, LeavesOnly}
+use Rattle.bec_disk.specs.Disk.{EveryImage, LeavesOnly}
 use Rattle.bec_disk.proofs.Moments.{followed_by, stays, weakened}
-use Rattle.update_log.specs.Log.{IsClean, LogState}
+use Rattle.update_log.specs.Log.{IsClean}
 use Rattle.update_log.specs.Logset.{BeginsWith}
 use Rattle.replica.specs.Replicas.{IsSameStore, ReplicaState}
 
