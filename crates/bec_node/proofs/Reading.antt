@@ -51,12 +51,12 @@ module _ (Shows : StoreData → List ℕ → Type 0) (dir : List ℕ) (before af
   pub read_refused : (why : StoreRefusal) → (IsTrue before.tells → IsHome before) → LetsGo is_luhn before dir after → (IsTrue before.tells → IsStoreCause is_luhn before dir why)
       → (why ≡ DiskFault → Rose old new) → ReadsShelf (ReadsStore Shows) dir before after old new (Err (from_store why))
   read_refused NoStore home lets cause failed =
-      record { added = []; comes = inl (λ tells. refused refusals.NoStore (no_store (cause tells) refl) refl refl); run = lets.run; others = lets.others; home = λ tells. lets.home tells (home tells) }
+      record { added = []; comes = inl (λ tells. refused refusals.NoStore (no_store (cause tells) refl) refl refl); run = lets.run; others = lets.others; home = λ tells place. lets.places tells place (home tells place) }
   read_refused BadStore home lets cause failed =
-      record { added = []; comes = inl (λ tells. refused refusals.BadStore (bad_store (cause tells) refl) refl refl); run = lets.run; others = lets.others; home = λ tells. lets.home tells (home tells) }
+      record { added = []; comes = inl (λ tells. refused refusals.BadStore (bad_store (cause tells) refl) refl refl); run = lets.run; others = lets.others; home = λ tells place. lets.places tells place (home tells place) }
   read_refused DiskFault home lets cause failed =
-      record { added = []; comes = inr (inr (refl, failed refl), refl); run = lets.run; others = lets.others; home = λ tells. lets.home tells (home tells) }
-  read_refused Memory home lets cause failed = record { added = []; comes = inr (inl refl, refl); run = lets.run; others = lets.others; home = λ tells. lets.home tells (home tells) }
+      record { added = []; comes = inr (inr (refl, failed refl), refl); run = lets.run; others = lets.others; home = λ tells place. lets.places tells place (home tells place) }
+  read_refused Memory home lets cause failed = record { added = []; comes = inr (inl refl, refl); run = lets.run; others = lets.others; home = λ tells place. lets.places tells place (home tells place) }
 
   -- where one was taken, read and put back
   module _ (one : OneSchema) (opened : ShelfState) (taken : OpenData) (home : IsTrue before.tells → IsHome before) (takes : TakesStore is_luhn before dir taken opened)

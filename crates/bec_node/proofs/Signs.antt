@@ -482,7 +482,7 @@ module _ (Unused : Type 0) (Answer : SignAnswer) (Stops : Outcome → Type 0) (d
       comes = by why cause failed;
       run = lets.run;
       others = λ tells other away. lets.others tells other (of_four_first dir other away);
-      home = λ tells. lets.home tells (home tells);
+      home = λ tells place. lets.places tells place (home tells place);
     };
     key = λ tells. untouched_by (part_in before dir Key) (part_in after dir Key) (lets.others tells (slot dir Key) refl);
     used = λ tells. keeps_untouched (part_in before dir Used) (part_in after dir Used) (untouched_by (part_in before dir Used) (part_in after dir Used) (lets.others tells (slot dir Used) refl));

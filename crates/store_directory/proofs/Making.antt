@@ -1,12 +1,14 @@
 -- Making what stands in two parts of a directory.
-use Rattle.std.proofs.Common.{◌≡◌, ◌≢◌, ◌⊎◌, inl, inr, ℕ, Bool, true, false, List, [], ◌∷◌, ◌++◌, refl, sym, ◌∙◌, ap, subst, IsTrue, Some}
+use Rattle.std.proofs.Common.{◌≡◌, ◌≢◌, ◌⊎◌, inl, inr, ℕ, ◌<◌, ◌^◌, Bool, true, false, List, [], ◌∷◌, ◌++◌, length, refl, sym, ◌∙◌, ap, subst, IsTrue, OnOk, Result, Ok, Err, Some}
 use Rattle.std.specs.Prelude.{◌||◌}
 use Rattle.std.proofs.lemmas.Bool.{true≢false}
 use Rattle.bec_disk.specs.declared.gated.Gated.TheVariants.{Absent}
 use Rattle.bec_disk.specs.declared.part.Part.{Part}
 use Rattle.bec_disk.specs.declared.part.Part.TheVariants.{Key, Schema, Updates, Used}
-use Rattle.bec_disk.specs.Disk.{DiskState, IsSettled, LeavesOnly, LeavesSince, made_part, moments}
-use Rattle.bec_disk.specs.Gated.{IsOldOrNew, gated_of}
+use Rattle.bec_disk.specs.Disk.{DiskState, IsSameDisk, IsSettled, LeavesOnly, LeavesSince, made_part, moments}
+use Rattle.bec_disk.specs.Gated.{IsOldOrNew, gated_of, whole_of}
+use Rattle.bec_disk.specs.declared.disk_fault.DiskFault.{DiskFault as DiskFailed}
+use Rattle.bec_disk.proofs.Gates.{gated-whole}
 use Rattle.bec_disk.specs.Shelf.{HandsOut, IsOfOut, PartState, PutsBack, ShelfState, absent, moments_of, out, stands}
 use Rattle.bec_disk.specs.Slot.{Slot, same_slot, slot}
 use Rattle.bec_disk.proofs.Images.{settled_image}
@@ -23,6 +25,7 @@ use Rattle.replica.specs.declared.create_fault.CreateKind.{CreateKind}
 use Rattle.replica.specs.declared.create_fault.CreateKind.TheVariants.{BadSchema, DiskFault, Memory, NotConfluent, NotEmpty}
 use Rattle.store_directory.specs.Holding.{OpenData}
 use Rattle.store_directory.specs.Making.{HandsOutAny, IsHanded, IsLeftAlone, IsNewKeyCause, IsNewStoreCause, LetsNewGo, MakesKey, MakesStore, MayMakeAny, seen_in}
+use Rattle.store_directory.specs.Memory.{behind, remembered_in}
 use Rattle.store_directory.specs.Stores.{IsUntouched, KeepsAllBut, part_in, reading}
 use Rattle.store_directory.proofs.Handing.{handed_since, put_untouched, untouched_by}
 use Rattle.store_directory.proofs.Places.{home_again, neither, stands-not-out}
@@ -272,3 +275,20 @@ pub read_others : (before mid after : ShelfState) (dir : List ℕ) (part : Part)
 read_others before mid after dir part found disk hands same puts tells other away =
     let off = not_it (same_slot (slot dir part) other) away in
     (puts (slot dir part) (ap (λ (d : DiskState). d.slot) same ∙ slot_of (slot dir part) (hands.part tells).0 found (hands.part tells).2)).others other off ∙ hands.others other off
+
+-- A part that was handed out, written as a gated part is and put back, whether it was there or not.
+pub made_others : (before mid after : ShelfState) (dir : List ℕ) (part : Part) (found disk : DiskState) → HandsOutAny before (slot dir part) found mid → IsSameDisk found disk → PutsAny mid disk after
+    → IsTrue before.tells → KeepsAllBut (part ∷ []) dir before after
+made_others before mid after dir part found disk hands same puts tells other away =
+    let off = not_it (same_slot (slot dir part) other) away in
+    (puts (slot dir part) (same.slot ∙ handed_slot (slot dir part) (before.parts (slot dir part)) found (hands.part tells))).others other off ∙ hands.others other off
+
+pub made_written : (before mid after : ShelfState) (dir : List ℕ) (part : Part) (found disk : DiskState) (payload : List ℕ) (result : Result (Unit {0}) DiskFailed) → length payload < 2 ^ 32
+    → HandsOutAny before (slot dir part) found mid → IsSameDisk found disk → (IsTrue found.tells → OnOk result (disk.seen ≡ whole_of payload)) → PutsAny mid disk after
+    → IsTrue before.tells → OnOk result (remembered_in (reading (part_in after dir part)) ≡ payload)
+made_written before mid after dir part found disk payload (Err fault) fits hands same written puts tells = tt
+made_written before mid after dir part found disk payload (Ok done) fits hands same written puts tells =
+    let back : part_in after dir part ≡ stands disk =
+    (puts (slot dir part) (same.slot ∙ handed_slot (slot dir part) (before.parts (slot dir part)) found (hands.part tells))).part (told before.tells mid.tells hands.tells tells) in
+    let seen : disk.seen ≡ whole_of payload = written (told before.tells found.tells hands.disk_tells tells) in
+    ap (λ (p : PartState). remembered_in (reading p)) back ∙ ap (λ (bytes : List ℕ). behind (gated_of bytes)) seen ∙ ap behind (gated-whole payload fits)

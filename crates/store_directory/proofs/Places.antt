@@ -33,7 +33,7 @@ both true y e = (refl, e)
 both false y e = absurd (false≢true e)
 
 -- what the test of places finds the same is the same
-same_place : (a b : Slot) → same_slot a b ≡ true → a ≡ b
+pub same_place : (a b : Slot) → same_slot a b ≡ true → a ≡ b
 same_place a b e =
     let is = both (number_of a.part == number_of b.part) (bytes_eq a.dir b.dir) e in
     let parts = sym (part-back a.part) ∙ ap part_with ((Decides-eqb (number_of a.part) (number_of b.part)).0 is.0) ∙ part-back b.part in
@@ -60,15 +60,20 @@ pub stands-not-out : (place : PartState) (part : DiskState) → place ≡ stands
 unfolding is_out
 stands-not-out place part here e = subst is_out (sym e ∙ here) (tt {0})
 
--- Where two parts of a directory are in their places, and every other part is, no part is handed out.
-pub home_again : (first second : Part) (dir : List ℕ) (shelf : ShelfState) → shelf.parts (slot dir first) ≢ out → shelf.parts (slot dir second) ≢ out
-    → ((other : Slot) → list_any (λ part. same_slot (slot dir part) other) (first ∷ second ∷ []) ≡ false → shelf.parts other ≢ out) → IsHome shelf
-home_again first second dir shelf one two others place = by (same_slot (slot dir first) place) (same_slot (slot dir second) place) refl refl
+-- Where two parts of a directory are in their places, so is the part of a place that is one of theirs, or where it is anyway.
+pub place_again : (first second : Part) (dir : List ℕ) (shelf : ShelfState) → shelf.parts (slot dir first) ≢ out → shelf.parts (slot dir second) ≢ out
+    → (place : Slot) → (list_any (λ part. same_slot (slot dir part) place) (first ∷ second ∷ []) ≡ false → shelf.parts place ≢ out) → shelf.parts place ≢ out
+place_again first second dir shelf one two place anyway = by (same_slot (slot dir first) place) (same_slot (slot dir second) place) refl refl
   where
     by : (x y : Bool) → same_slot (slot dir first) place ≡ x → same_slot (slot dir second) place ≡ y → shelf.parts place ≢ out
     by true y e f = subst (λ (p : Slot). shelf.parts p ≢ out) (same_place (slot dir first) place e) one
     by false true e f = subst (λ (p : Slot). shelf.parts p ≢ out) (same_place (slot dir second) place f) two
-    by false false e f = others place (neither_of (same_slot (slot dir first) place) (same_slot (slot dir second) place) e f)
+    by false false e f = anyway (neither_of (same_slot (slot dir first) place) (same_slot (slot dir second) place) e f)
+
+-- Where two parts of a directory are in their places, and every other part is, no part is handed out.
+pub home_again : (first second : Part) (dir : List ℕ) (shelf : ShelfState) → shelf.parts (slot dir first) ≢ out → shelf.parts (slot dir second) ≢ out
+    → ((other : Slot) → list_any (λ part. same_slot (slot dir part) other) (first ∷ second ∷ []) ≡ false → shelf.parts other ≢ out) → IsHome shelf
+home_again first second dir shelf one two others place = place_again first second dir shelf one two place (others place)
 
 -- One change of some parts after another.
 pub keeps_through : (parts : List Part) (dir : List ℕ) (old mid new : ShelfState) → KeepsAllBut parts dir old mid → KeepsAllBut parts dir mid new → KeepsAllBut parts dir old new

@@ -12,7 +12,7 @@ use Rattle.store_directory.specs.Holding.{LetsGo, LetsUpdatesGo, PutsStore}
 use Rattle.store_directory.specs.Keys.{PutsKey}
 use Rattle.store_directory.specs.Stores.{IsStore, KeepsAllBut, KeepsList, ReadsAs, StoreData, part_in, reading}
 use Rattle.store_directory.proofs.Handing.{list_after_opening, put_untouched}
-use Rattle.store_directory.proofs.Places.{home_again, neither, stands-not-out}
+use Rattle.store_directory.proofs.Places.{place_again, neither, stands-not-out}
 
 -- A disk is put back as the part that it is of.
 abbrev pub PutsAny : ShelfState → DiskState → ShelfState → Type 0
@@ -85,9 +85,9 @@ lets_store_go ask before out_schema done after dir schema disk hands go same t3 
     schema = put_untouched (slot dir Schema) (hands.part tells).0 disk (part_in before dir Schema) (part_in after dir Schema) (hands.part tells).1 (same ∙ (hands.part tells).2) (back tells);
   };
   others = λ tells other away. elsewhere tells other away;
-  home = λ tells home. home_again Schema Updates dir after (stands-not-out (part_in after dir Schema) disk (back tells))
+  places = λ tells place here. place_again Schema Updates dir after (stands-not-out (part_in after dir Schema) disk (back tells))
       (subst (λ (p : PartState). p ≢ out) (sym (updates_kept tells)) (go.in_place (told before.tells out_schema.tells hands.tells tells)))
-      (λ other away. subst (λ (p : PartState). p ≢ out) (sym (elsewhere tells other away)) (home other));
+      place (λ away. subst (λ (p : PartState). p ≢ out) (sym (elsewhere tells place away)) here);
 }
   where
     put : IsTrue before.tells → PutsBack done (slot dir Schema) disk after

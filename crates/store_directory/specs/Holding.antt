@@ -13,7 +13,7 @@ use Rattle.replica.specs.Opening.{IsOpened, KeepsStore}
 use Rattle.replica.specs.Replicas.{ReplicaState}
 use Rattle.store_directory.specs.declared.store_refusal.StoreRefusal.{StoreRefusal}
 use Rattle.store_directory.specs.declared.store_refusal.StoreRefusal.TheVariants.{NoStore, BadStore, DiskFault, Memory}
-use Rattle.store_directory.specs.Stores.{IsBadStore, IsHome, IsNoStore, KeepsAllBut, KeepsList, ReadsAs, StoreData, StoreRun, part_in, reading}
+use Rattle.store_directory.specs.Stores.{IsBadStore, IsNoStore, KeepsAllBut, KeepsList, KeepsPlaces, ReadsAs, StoreData, StoreRun, part_in, reading}
 
 -- An open store: the disk of its part Schema with that disk's faults, and the replica.
 pub record OpenData : Type 0 where
@@ -50,7 +50,7 @@ pub record LetsGo (ask : Meaning) (before : ShelfState) (dir : List ℕ) (after 
   pub tells : after.tells ≡ before.tells
   pub run : IsTrue before.tells → StoreRun ask before after dir [] false
   pub others : IsTrue before.tells → KeepsAllBut (Schema ∷ Updates ∷ []) dir before after
-  pub home : IsTrue before.tells → IsHome before → IsHome after
+  pub places : IsTrue before.tells → KeepsPlaces before after
 
 -- Why no store was taken of two parts, by what they read as.
 abbrev pub IsRefusalCause : Meaning → Option (List ℕ) → Option (List ℕ) → StoreRefusal → Type 0

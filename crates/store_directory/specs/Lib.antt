@@ -3,3 +3,4 @@ pub mod Keys
 pub mod Making
 pub mod Refusals
 pub mod Stores
+pub mod Memory

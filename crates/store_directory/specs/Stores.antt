@@ -80,6 +80,10 @@ IsUntouched out new = new ≡ out
 abbrev pub KeepsAllBut : List Part → List ℕ → ShelfState → ShelfState → Type 0
 KeepsAllBut parts dir before after = (other : Slot) → list_any (λ part. same_slot (slot dir part) other) parts ≡ false → after.parts other ≡ before.parts other
 
+-- Each part that was in its place is in its place.
+abbrev pub KeepsPlaces : ShelfState → ShelfState → Type 0
+KeepsPlaces before after = (place : Slot) → before.parts place ≢ out → after.parts place ≢ out
+
 -- No part is handed out.
 abbrev pub IsHome : ShelfState → Type 0
 IsHome shelf = (place : Slot) → shelf.parts place ≢ out
