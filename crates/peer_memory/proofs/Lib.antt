@@ -3,3 +3,4 @@ mod IdLists
 mod Refusing
 mod Rooms
 mod Telling
+pub mod Found

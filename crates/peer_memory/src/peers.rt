@@ -1,5 +1,8 @@
 ghost use Rattle.std.specs.Prelude.{◌≡◌, ◌<◌, ◌≤◌, ◌^◌, [], IfOk, OnErr, OnOk, find, length, option_copied, vec_capacity, vec_len};
+ghost use Rattle.std.specs.List.Sorted.{IsStrictlySortedBy};
 ghost use Rattle.sync_frames.specs.Payload.{AreIds};
+ghost use Rattle.update_model.specs.Entry.{id_cmp};
+ghost use Rattle.peer_memory.specs.declared.limits.TheConstants.{MAX_HEADS};
 ghost use Rattle.peer_memory.specs.Payload.{Spells};
 ghost use Rattle.peer_memory.specs.Peers.{ArePeers, Remembers, heads_under, is_named as has_name, others, with_room};
 
@@ -58,7 +61,9 @@ impl Peers {
 
     /// The ids that are remembered of the peer of this name, rising. There are none of a peer that is not remembered.
     pub fn heads_of(&self, name: &[u8; 32]) -> &[UpdateId]
-        ensures { result.now ≡ heads_under self.now name.now }
+        ensures value { result.now ≡ heads_under self.now name.now }
+        ensures few { length result.now ≤ MAX_HEADS }
+        ensures rising { IsStrictlySortedBy id_cmp result.now }
     {
         match peer_named(self.entries.as_slice(), name) {
             Some(peer) => peer.heads.as_slice(),
