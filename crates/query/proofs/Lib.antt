@@ -1,0 +1,4 @@
+pub mod Known
+pub mod Placing
+pub mod Saying
+pub mod Unique
