@@ -1,6 +1,6 @@
 -- Where nothing is wrong with the words of a condition, each of them that is a column is there.
 use Rattle.std.proofs.Common.{◌≡◌, ℕ, ◌+◌, ◌≤◌, ◌<◌, Bool, true, false, cond, not, List, [], ◌∷◌, ◌++◌, length, Option, Some, None, is_some, unwrap_or, refl, sym, ap, subst, length-append, arith}
-use Rattle.std.specs.Prelude.{All, option_map, position}
+use Rattle.std.specs.Prelude.{All, option_map}
 use Rattle.std.specs.List.{AllByRecursion, Contains}
 use Rattle.std.proofs.lemmas.List.Elements.{All-cons, Contains-append_left, Contains-append_right, Contains-push}
 use Rattle.expression_text.specs.declared.kind.Kind.{Kind}
@@ -13,7 +13,7 @@ use Rattle.query.specs.declared.stop.Wrong.{Wrong}
 use Rattle.query.specs.declared.fault.QueryKind.TheVariants.{UnknownColumn, TypesDiffer}
 use Rattle.query.specs.declared.turn.Stand.{Stand}
 use Rattle.query.specs.declared.turn.Turn.{Turn}
-use Rattle.query.specs.Columns.{kind_named, names_at, names_of, slot_by, is_dot}
+use Rattle.query.specs.Columns.{kind_named, names_at, names_of, columns_of, slot_in, split_dot}
 use Rattle.query.specs.Conditions.{is_unknown, misfit, misfits, place_seen, kind_of, left_after, next_stand, or_else, misfit_from}
 use Rattle.query.specs.Grammar.{wrong_at}
 use Rattle.query.specs.Pieces.{is_text}
@@ -44,7 +44,7 @@ named_text tables table name e =
       | true ↦ λ found h. refl
       | false ↦ λ found h. absurd (cc)
     ] in
-    step (is_text name) (slot_by tables table name (position is_dot name)) e
+    step (is_text name) (slot_in tables (columns_of tables table) name (split_dot name)) e
 
 module _ (tables : List TableDef) (table : ℕ) (all : List Token) where
   word_known : (word : Token) → is_unknown (kind_named tables table) word ≡ false → ((name : List ℕ) → Contains (names_at word) name → Contains (names_of all) name)

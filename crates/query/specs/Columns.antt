@@ -52,13 +52,17 @@ through_slot tables columns reference name =
 abbrev pub is_dot : ℕ → Bool
 is_dot byte = byte == 46
 
-abbrev pub slot_by : List TableDef → ℕ → List ℕ → Option ℕ → Option Slot
-slot_by tables table name None = own_slot (columns_of tables table) name
-slot_by tables table name (Some dot) = through_slot tables (columns_of tables table) (take dot name) (drop (dot + 1) name)
+-- what stands before the first dot, and behind it
+abbrev pub split_dot : List ℕ → Option (List ℕ × List ℕ)
+split_dot name = option_map (λ dot. (take dot name, drop (dot + 1) name)) (position is_dot name)
+
+abbrev pub slot_in : List TableDef → List Column → List ℕ → Option (List ℕ × List ℕ) → Option Slot
+slot_in tables columns name None = own_slot columns name
+slot_in tables columns name (Some parts) = through_slot tables columns parts.0 parts.1
 
 -- the column that a word names: one of the table, or a reference, a dot, and a column of the table that it refers to
 abbrev pub slot_of : List TableDef → ℕ → List ℕ → Option Slot
-slot_of tables table name = if is_text name then slot_by tables table name (position is_dot name) else None
+slot_of tables table name = if is_text name then slot_in tables (columns_of tables table) name (split_dot name) else None
 
 -- the kind of the column that a word names
 abbrev pub kind_named : List TableDef → ℕ → List ℕ → Option Kind

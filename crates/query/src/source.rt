@@ -1,7 +1,7 @@
 //! Columns by their names.
 
-ghost use Rattle.std.specs.Prelude.{◌≡◌, position};
-ghost use Rattle.query.specs.Columns.{columns_of, own_slot, target_in, target_named, far_slot, through_slot, is_dot, slot_of};
+ghost use Rattle.std.specs.Prelude.{◌≡◌, option_map, position};
+ghost use Rattle.query.specs.Columns.{columns_of, own_slot, target_in, target_named, far_slot, through_slot, is_dot, split_dot, slot_in, slot_of};
 ghost use Rattle.schema.specs.Columns.{kind_seen as kind_for, number_named};
 
 use crate::pieces::is_text;
@@ -53,11 +53,24 @@ pub(crate) fn slot_of(schema: &Schema, table: u8, name: &[u8]) -> Option<Slot>
     if !is_text(name) {
         return None;
     }
-    let columns = columns_of(schema, table);
-    match place_of_dot(name) {
+    slot_in(schema, columns_of(schema, table), name)
+}
+
+fn slot_in(schema: &Schema, columns: &[Column], name: &[u8]) -> Option<Slot>
+    ensures { result ≡ slot_in schema.now.tables columns.now name.now (split_dot name.now) }
+{
+    match split_dot(name) {
         None => own_slot(columns, name),
-        Some(dot) => through_slot(schema, columns, &name[..dot], &name[dot + 1..]),
+        Some((reference, column)) => through_slot(schema, columns, reference, column),
     }
+}
+
+/// What stands before the first dot, and behind it.
+fn split_dot(name: &[u8]) -> Option<(&[u8], &[u8])>
+    ensures { option_map (λ parts. (parts.0.now, parts.1.now)) result ≡ split_dot name.now }
+{
+    let dot = place_of_dot(name)?;
+    Some((&name[..dot], &name[dot + 1..]))
 }
 
 fn place_of_dot(name: &[u8]) -> Option<usize>
