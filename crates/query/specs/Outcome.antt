@@ -5,11 +5,13 @@ use Rattle.schema.specs.declared.table_def.TableDef.{TableDef}
 use Rattle.schema.specs.Data.{SchemaData}
 use Rattle.query.specs.declared.fault.QueryError.{QueryError}
 use Rattle.query.specs.declared.fault.QueryError.TheVariants as error
+use Rattle.query.specs.declared.fault.QueryKind.{QueryKind}
 use Rattle.query.specs.declared.query.Query.{Query}
+use Rattle.query.specs.declared.stop.Spot.{Spot}
 use Rattle.query.specs.declared.stop.Stop.{Stop}
 use Rattle.query.specs.declared.stop.Stop.TheVariants as stop
 use Rattle.query.specs.declared.stop.Wrong.{Wrong}
-use Rattle.query.specs.Queries.{QueryData, FirstFault, IsFormOf, head_by}
+use Rattle.query.specs.Queries.{QueryData, FirstFault, IsFormOf, head_by, spot_of}
 
 -- a query as contracts see it
 abbrev pub data_of : Query → QueryData
@@ -36,3 +38,12 @@ pub record IsHead (tables : List TableDef) (words : List Token) (found : Option 
   pub form : Option Wrong
   pub is_form : IsFormOf words form
   pub is : found ≡ head_by tables words form
+
+-- what is wrong at a place
+abbrev pub fault_at : Spot → QueryKind → QueryError
+fault_at spot kind = error.Fault (record { line = spot.line; column = spot.column; kind = kind })
+
+-- what is wrong at the word where reading stopped
+abbrev pub error_of : List Spot → Stop → QueryError
+error_of spots (stop.Fault wrong) = fault_at (spot_of spots wrong.at) wrong.kind
+error_of spots stop.Memory = error.Memory

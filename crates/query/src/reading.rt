@@ -1,8 +1,10 @@
 //! Reading a whole text.
 
-ghost use Rattle.std.specs.Prelude.{◌≡◌, ◌↔◌, ◌≤◌, ◌<◌, ◌+◌, ◌^◌, Ok, Err, length, position, IfOk, IfErr, IfSome, IsTrue};
-ghost use Rattle.query.specs.Outcome.{HasCause, Answers, IsHead, IsStop, data_of};
-ghost use Rattle.query.specs.Queries.{QueryData, IsFormOf, HasGoodCondition, is_early, is_name, is_lost, lost_in, table_in, table_named, named_by, table_of, IsConditionOf, Say, Reads, spot_of};
+ghost use Rattle.std.specs.Prelude.{◌≡◌, ◌↔◌, ◌≤◌, ◌<◌, ◌+◌, ◌^◌, Ok, Err, None, length, position, IfOk, IfErr, IfSome, IsTrue, IsUtf8, MatchOption};
+ghost use Rattle.std.specs.Str.{IsValidUpTo};
+ghost use Rattle.query.specs.Grammar.{keys_in, keys_place};
+ghost use Rattle.query.specs.Outcome.{HasCause, Answers, IsHead, IsStop, data_of, error_of, fault_at};
+ghost use Rattle.query.specs.Queries.{QueryData, IsFormOf, HasGoodCondition, is_early, is_name, is_lost, lost_in, table_in, table_named, named_by, table_of, query_of, IsConditionOf, Say, Reads, spot_of};
 
 use crate::condition::{is_condition, is_unknown, read_condition, stuck_at};
 use crate::item::{items_of, keys_of};
@@ -14,7 +16,7 @@ use crate::stop::{Spot, Stop, Wrong};
 use crate::{Condition, MAX_QUERY_BYTES, Query, QueryError, QueryFault, QueryKind, no_fault, one_query};
 use expression_text::Token;
 use schema::Schema;
-use std::alloc::Global;
+use std::alloc::{AllocError, Global};
 use std::str;
 
 /// The query that a text is, over the tables of a schema.
@@ -32,31 +34,60 @@ pub fn read_query(alloc: Global, schema: &Schema, text: &[u8]) -> Result<Query, 
     read_text(alloc, schema, text)
 }
 
-/// The same, where it is shown what was read.
+/// The same, without laws.
 fn read_text(alloc: Global, schema: &Schema, text: &[u8]) -> Result<Query, QueryError>
     ensures found { IfOk result (λ query. Reads schema.now text.now (data_of query)) }
     ensures fault { IfErr result (λ error. HasCause schema.now text.now error) }
 {
     if MAX_QUERY_BYTES < text.len() {
-        return Err(fault_at(Spot { line: 1, column: 1 }, QueryKind::TooLong));
+        return Err(QueryError::Fault(QueryFault {
+            line: 1,
+            column: 1,
+            kind: QueryKind::TooLong,
+        }));
     }
-    if let Err(error) = str::from_utf8(text) {
-        let spot = spot_after(&text[..error.valid_up_to()]);
-        return Err(fault_at(spot, QueryKind::NotUtf8));
+    match front_of_utf8(text) {
+        Some(front) => Err(fault_at(spot_after(&text[..front]), QueryKind::NotUtf8)),
+        None => read_utf8(alloc, schema, text),
     }
+}
+
+/// How many bytes the longest front of UTF-8 has, where that is not all of the text.
+fn front_of_utf8(text: &[u8]) -> Option<usize>
+    ensures { MatchOption result (IsUtf8 text.now) (λ front. IsValidUpTo text.now front) }
+{
+    match str::from_utf8(text) {
+        Ok(_) => None,
+        Err(error) => Some(error.valid_up_to()),
+    }
+}
+
+/// The query that a text of UTF-8 is, which is not too long.
+fn read_utf8(alloc: Global, schema: &Schema, text: &[u8]) -> Result<Query, QueryError>
+    requires few { length text.now ≤ MAX_QUERY_BYTES }
+    requires utf8 { IsUtf8 text.now }
+    ensures found { IfOk result (λ query. Reads schema.now text.now (data_of query)) }
+    ensures fault { IfErr result (λ error. HasCause schema.now text.now error) }
+{
     let pieces = read_pieces(alloc, text)?;
     match read_words(alloc, schema, pieces.tokens.as_slice()) {
         Ok(query) => Ok(query),
-        Err(Stop::Fault(wrong)) => {
-            let spot = spot_of(pieces.spots.as_slice(), wrong.at);
-            Err(fault_at(spot, wrong.kind))
-        }
-        Err(Stop::Memory) => Err(QueryError::Memory),
+        Err(stop) => Err(error_of(pieces.spots.as_slice(), stop)),
+    }
+}
+
+/// What is wrong at the word where reading stopped.
+fn error_of(spots: &[Spot], stop: Stop) -> QueryError
+    ensures { result ≡ error_of spots.now stop }
+{
+    match stop {
+        Stop::Fault(wrong) => fault_at(spot_of(spots, wrong.at), wrong.kind),
+        Stop::Memory => QueryError::Memory,
     }
 }
 
 fn fault_at(spot: Spot, kind: QueryKind) -> QueryError
-    ensures { result ≡ QueryError.Fault (record { line = spot.line; column = spot.column; kind = kind }) }
+    ensures { result ≡ fault_at spot kind }
 {
     QueryError::Fault(QueryFault {
         line: spot.line,
@@ -80,14 +111,57 @@ fn read_words(alloc: Global, schema: &Schema, words: &[Token]) -> Result<Query, 
     ensures found { IfOk result (λ query. Say schema.now.tables words.now (Ok (data_of query))) }
     ensures wrong { IfErr result (λ stop. IsStop stop (λ wrong. Say schema.now.tables words.now (Err wrong))) }
 {
-    if let Some(wrong) = head(schema, words) {
-        return Err(Stop::Fault(wrong));
+    match head(schema, words) {
+        Some(wrong) => Err(Stop::Fault(wrong)),
+        None => read_on(alloc, schema, words),
     }
+}
+
+/// The same, where nothing is wrong before the condition is asked.
+fn read_on(alloc: Global, schema: &Schema, words: &[Token]) -> Result<Query, Stop>
+    requires { IsHead schema.now.tables words.now None }
+    ensures found { IfOk result (λ query. Say schema.now.tables words.now (Ok (data_of query))) }
+    ensures wrong { IfErr result (λ stop. IsStop stop (λ wrong. Say schema.now.tables words.now (Err wrong))) }
+{
     let condition = condition_of(alloc, schema, words)?;
-    let table = table_of(schema, words);
-    if let Some(wrong) = lost_in(schema, table, keys_place(words), keys_in(words)) {
-        return Err(Stop::Fault(wrong));
+    read_keys(alloc, schema, words, condition)
+}
+
+/// The same, where this is the condition.
+fn read_keys(
+    alloc: Global,
+    schema: &Schema,
+    words: &[Token],
+    condition: Option<Condition>,
+) -> Result<Query, Stop>
+    requires head { IsHead schema.now.tables words.now None }
+    requires condition { IsConditionOf schema.now.tables words.now (Ok condition) }
+    ensures found { IfOk result (λ query. Say schema.now.tables words.now (Ok (data_of query))) }
+    ensures wrong { IfErr result (λ stop. IsStop stop (λ wrong. Say schema.now.tables words.now (Err wrong))) }
+{
+    match lost_key(schema, words) {
+        Some(wrong) => Err(Stop::Fault(wrong)),
+        None => Ok(query_of(alloc, schema, words, condition)?),
     }
+}
+
+/// What is wrong with the keys.
+fn lost_key(schema: &Schema, words: &[Token]) -> Option<Wrong>
+    ensures { result ≡ lost_in schema.now.tables (table_of schema.now.tables words.now) (keys_place words.now) (keys_in words.now) }
+{
+    lost_in(schema, table_of(schema, words), keys_place(words), keys_in(words))
+}
+
+/// The query that words are with this condition.
+fn query_of(
+    alloc: Global,
+    schema: &Schema,
+    words: &[Token],
+    condition: Option<Condition>,
+) -> Result<Query, AllocError>
+    ensures { IfOk result (λ query. data_of query ≡ query_of schema.now.tables words.now condition) }
+{
+    let table = table_of(schema, words);
     Ok(Query {
         table,
         columns: items_of(alloc, schema, table, columns_in(words))?,
