@@ -39,8 +39,8 @@ pub reads_typed : (tables : List TableDef) (table at : ℕ) (words : List Token)
 reads_typed tables table at words tree none parses kinds =
     let read : ConditionRead = Ok (record { tree = tree; slots = slots_of tables table words }) in
     subst (λ (m : Option Wrong). MatchOption m
-        ((t : Tree) × Parses (column_in (names_of words)) Disjunction words t × IsTyped tables table at words t read)
-        (λ wrong. read ≡ Err wrong)) (sym none) (tree, parses, inl (kinds, refl))
+    ((t : Tree) × Parses (column_in (names_of words)) Disjunction words t × IsTyped tables table at words t read)
+    (λ wrong. read ≡ Err wrong)) (sym none) (tree, parses, inl (kinds, refl))
 
 pub reads_untyped : (tables : List TableDef) (table at : ℕ) (words : List Token) (tree : Tree) → misfit_in (kind_named tables table) at words ≡ None
     → Parses (column_in (names_of words)) Disjunction words tree → (¬ HasKinds (seen_kinds (slots_of tables table words)) tree)
@@ -48,16 +48,16 @@ pub reads_untyped : (tables : List TableDef) (table at : ℕ) (words : List Toke
 reads_untyped tables table at words tree none parses kinds =
     let read : ConditionRead = Err (wrong_at TypesDiffer (at + length words)) in
     subst (λ (m : Option Wrong). MatchOption m
-        ((t : Tree) × Parses (column_in (names_of words)) Disjunction words t × IsTyped tables table at words t read)
-        (λ wrong. read ≡ Err wrong)) (sym none) (tree, parses, inr (kinds, refl))
+    ((t : Tree) × Parses (column_in (names_of words)) Disjunction words t × IsTyped tables table at words t read)
+    (λ wrong. read ≡ Err wrong)) (sym none) (tree, parses, inr (kinds, refl))
 
 pub reads_misfit : (tables : List TableDef) (table at : ℕ) (words : List Token) (wrong : Wrong) → misfit_in (kind_named tables table) at words ≡ Some wrong
     → ReadsCondition tables table at words (Err wrong)
 reads_misfit tables table at words wrong e =
     let read : ConditionRead = Err wrong in
     subst (λ (m : Option Wrong). MatchOption m
-        ((t : Tree) × Parses (column_in (names_of words)) Disjunction words t × IsTyped tables table at words t read)
-        (λ wrong. read ≡ Err wrong)) (sym e) refl
+    ((t : Tree) × Parses (column_in (names_of words)) Disjunction words t × IsTyped tables table at words t read)
+    (λ wrong. read ≡ Err wrong)) (sym e) refl
 
 -- ---- the condition of a query
 

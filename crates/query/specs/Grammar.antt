@@ -149,9 +149,9 @@ wrong_at kind at = record { kind = kind; at = at }
 abbrev pub stop_from : Phase → ℕ → List Token → Option Wrong
 stop_from phase at [] = if may_end phase then None else Some (wrong_at fault.UnknownWord at)
 stop_from phase at (word ∷ words) = elim (next_phase phase (mark_of word)) [
-      | None ↦ Some (wrong_at (refusal phase (mark_of word)) at)
-      | Some next ↦ stop_from next (at + 1) words
-    ]
+  | None ↦ Some (wrong_at (refusal phase (mark_of word)) at)
+  | Some next ↦ stop_from next (at + 1) words
+]
 
 abbrev pub stop_of : List Token → Option Wrong
 stop_of words = stop_from phase.Start 0 words

@@ -254,7 +254,12 @@ fn name_at(alloc: Global, word: &Token) -> Result<Option<TextValue>, AllocError>
 }
 
 /// What these columns are, in the same order.
-fn slots_of(alloc: Global, schema: &Schema, table: u8, words: &[Token]) -> Result<Vec<Slot>, AllocError>
+fn slots_of(
+    alloc: Global,
+    schema: &Schema,
+    table: u8,
+    words: &[Token],
+) -> Result<Vec<Slot>, AllocError>
     ensures { IfOk result (λ slots. slots.items ≡ slots_of schema.now.tables table words.now) }
 {
     let mut slots = Vec::new(alloc);

@@ -40,9 +40,7 @@ fn first_of(part: Part, words: &[Token]) -> Option<usize>
     ensures is { result ≡ position (λ word. begins part (mark_of word)) words.now }
     ensures within { IfSome result (λ at. at < length words.now) }
 {
-    words
-        .iter()
-        .position(|word| begins(part, mark_of(word)))
+    words.iter().position(|word| begins(part, mark_of(word)))
 }
 
 /// The number of the first word that begins this part, or how many words there are.

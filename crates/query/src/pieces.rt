@@ -44,12 +44,7 @@ pub(crate) fn read_pieces(alloc: Global, text: &[u8]) -> Result<Pieces, AllocErr
 }
 
 /// Adds the words of the line with this number.
-fn push_line(
-    alloc: Global,
-    pieces: &mut Pieces,
-    number: u32,
-    line: &[u8],
-) -> Result<(), AllocError>
+fn push_line(alloc: Global, pieces: &mut Pieces, number: u32, line: &[u8]) -> Result<(), AllocError>
     requires { length line.now ≤ MAX_QUERY_BYTES }
     ensures { OnOk result (placed_in pieces.new ≡ joined (placed_in pieces.old) (pieces_of_line number line.now)) }
 {

@@ -9,11 +9,16 @@ ghost use Rattle.query.specs.Queries.{QueryData, IsFormOf, HasGoodCondition, is_
 use crate::condition::{is_condition, is_unknown, read_condition, stuck_at};
 use crate::item::{items_of, keys_of};
 use crate::mark::{Mark, mark_of};
-use crate::parts::{Part, columns_in, condition_in, condition_place, has_condition, keys_in, keys_place, limit_in, place_of, table_place};
+use crate::parts::{
+    Part, columns_in, condition_in, condition_place, has_condition, keys_in, keys_place, limit_in,
+    place_of, table_place,
+};
 use crate::phase::stop_of;
 use crate::pieces::{read_pieces, spot_after};
 use crate::stop::{Spot, Stop, Wrong};
-use crate::{Condition, MAX_QUERY_BYTES, Query, QueryError, QueryFault, QueryKind, no_fault, one_query};
+use crate::{
+    Condition, MAX_QUERY_BYTES, Query, QueryError, QueryFault, QueryKind, no_fault, one_query,
+};
 use expression_text::Token;
 use schema::Schema;
 use std::alloc::{AllocError, Global};
@@ -70,9 +75,11 @@ fn read_utf8(alloc: Global, schema: &Schema, text: &[u8]) -> Result<Query, Query
     ensures fault { IfErr result (λ error. HasCause schema.now text.now error) }
 {
     let pieces = read_pieces(alloc, text)?;
-    match read_words(alloc, schema, pieces.tokens.as_slice()) {
+    let words = pieces.tokens.as_slice();
+    let spots = pieces.spots.as_slice();
+    match read_words(alloc, schema, words) {
         Ok(query) => Ok(query),
-        Err(stop) => Err(error_of(pieces.spots.as_slice(), stop)),
+        Err(stop) => Err(error_of(spots, stop)),
     }
 }
 
@@ -139,17 +146,23 @@ fn read_keys(
     ensures found { IfOk result (λ query. Say schema.now.tables words.now (Ok (data_of query))) }
     ensures wrong { IfErr result (λ stop. IsStop stop (λ wrong. Say schema.now.tables words.now (Err wrong))) }
 {
-    match lost_key(schema, words) {
-        Some(wrong) => Err(Stop::Fault(wrong)),
-        None => Ok(query_of(alloc, schema, words, condition)?),
+    if let Some(wrong) = lost_key(schema, words) {
+        return Err(Stop::Fault(wrong));
     }
+    let query = query_of(alloc, schema, words, condition)?;
+    Ok(query)
 }
 
 /// What is wrong with the keys.
 fn lost_key(schema: &Schema, words: &[Token]) -> Option<Wrong>
     ensures { result ≡ lost_in schema.now.tables (table_of schema.now.tables words.now) (keys_place words.now) (keys_in words.now) }
 {
-    lost_in(schema, table_of(schema, words), keys_place(words), keys_in(words))
+    lost_in(
+        schema,
+        table_of(schema, words),
+        keys_place(words),
+        keys_in(words),
+    )
 }
 
 /// The query that words are with this condition.

@@ -101,12 +101,7 @@ fn own_slot(columns: &[Column], name: &[u8]) -> Option<Slot>
 }
 
 /// A column of the row that a reference names.
-fn through_slot(
-    schema: &Schema,
-    columns: &[Column],
-    reference: &[u8],
-    name: &[u8],
-) -> Option<Slot>
+fn through_slot(schema: &Schema, columns: &[Column], reference: &[u8], name: &[u8]) -> Option<Slot>
     ensures { result ≡ through_slot schema.now.tables columns.now reference.now name.now }
 {
     let (number, target) = target_named(columns, reference)?;

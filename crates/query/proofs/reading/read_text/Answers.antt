@@ -1,4 +1,4 @@
-use Rattle.std.proofs.Common.{◌≡◌, ◌≤◌, length, take, ◌∙◌, arith, rules}
+use Rattle.std.proofs.Common.{◌≡◌, ◌≤◌, length, take, arith}
 use Rattle.query.specs.Pieces.{spot_after}
 use Rattle.query.proofs.Saying.{cause_broken}
 use Rattle.query.proofs.reading.read_text.Goals as goal
