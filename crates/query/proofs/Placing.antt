@@ -1,6 +1,6 @@
 -- Reading the words of a text one after another, as loops do.
-use Rattle.std.proofs.Common.{◌≡◌, ℕ, zero, suc, ◌+◌, ◌≤◌, ◌<◌, Bool, true, false, cond, List, [], ◌∷◌, ◌++◌, length, Option, Some, None, refl, sym, ap, subst, ◌∙◌, append_assoc, length-append, arith}
-use Rattle.std.specs.Prelude.{IsTrue, ◌↔◌, IsUtf8, ◌&&◌, nat_le}
+use Rattle.std.proofs.Common.{◌≡◌, ℕ, zero, suc, ◌+◌, ◌≤◌, ◌<◌, Bool, true, false, List, [], ◌∷◌, ◌++◌, length, Option, Some, None, refl, sym, ap, ◌∙◌, append_assoc, length-append, arith}
+use Rattle.std.specs.Prelude.{IsTrue, ◌↔◌, nat_le}
 use Rattle.std.specs.Str.{is_utf8}
 use Rattle.std.proofs.lemmas.Bool.{and_parts, and_from, le-leb, leb-true}
 use Rattle.std.proofs.lemmas.List.{append-nil}
@@ -12,7 +12,7 @@ use Rattle.text_words.specs.Words.{Read, skip_blanks, first_word}
 use Rattle.text_words.proofs.WordsLemmas.{word_shorter, skipped_length}
 use Rattle.expression_text.specs.declared.token.Token.{Token}
 use Rattle.query.specs.declared.stop.Spot.{Spot}
-use Rattle.query.specs.Pieces.{Placed, nothing, with_first, joined, spot_at, token_by, next_token, pieces_within, pieces_of_line, pieces_of_lines, is_text, start_spot, end_from}
+use Rattle.query.specs.Pieces.{Placed, nothing, with_first, joined, spot_at, token_by, next_token, pieces_within, pieces_of_line, pieces_of_lines, is_text, end_from}
 
 -- ---- the words of a line
 

@@ -1,6 +1,6 @@
 -- What words come to, from what each part of them comes to.
 use Rattle.std.proofs.Common.{◌≡◌, ℕ, ◌+◌, ◌≤◌, Bool, true, false, List, length, take, refl, sym, ap, subst, ◌∙◌, inl, inr, Option, Some, None, Ok, Err}
-use Rattle.std.specs.Prelude.{Result, IfOk, IfErr, IsUtf8, MatchOption, MatchBool, IsTrue}
+use Rattle.std.specs.Prelude.{Result, IfOk, IfErr, IsUtf8, MatchOption, MatchBool}
 use Rattle.std.specs.Str.{IsValidUpTo}
 use Rattle.expression_text.specs.declared.token.Token.{Token}
 use Rattle.expression_text.specs.Columns.{column_in}

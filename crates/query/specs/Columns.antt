@@ -1,5 +1,5 @@
 -- Columns of a table by their names, those of the rows that its references name included.
-use Rattle.std.specs.Prelude.{◌≡◌, ℕ, ◌+◌, ◌==◌, Bool, true, false, List, [], ◌∷◌, ◌++◌, map, take, drop, position, slice_get, Option, Some, None, option_and_then, option_map, option_to_list, unwrap_or, if◌then◌else◌, codes}
+use Rattle.std.specs.Prelude.{ℕ, ◌+◌, ◌==◌, Bool, true, false, List, [], ◌∷◌, ◌++◌, map, take, drop, position, slice_get, Option, Some, None, option_and_then, option_map, option_to_list, if◌then◌else◌, codes}
 use Rattle.std.specs.List.{flat_map}
 use Rattle.expression_text.specs.declared.kind.Kind.{Kind}
 use Rattle.expression_text.specs.declared.kind.Kind.TheVariants as kind
@@ -16,7 +16,6 @@ use Rattle.query.specs.declared.item.Key.{Key}
 use Rattle.query.specs.declared.mark.Mark.{Mark}
 use Rattle.query.specs.declared.mark.Mark.TheVariants as mark
 use Rattle.query.specs.declared.source.Slot.{Slot}
-use Rattle.query.specs.declared.source.Source.{Source}
 use Rattle.query.specs.declared.source.Source.TheVariants as source
 use Rattle.query.specs.Grammar.{mark_of}
 use Rattle.query.specs.Pieces.{is_text}

@@ -1,5 +1,5 @@
 -- Queries as contracts see them.
-use Rattle.std.specs.Prelude.{◌≡◌, ℕ, List, Option, refl}
+use Rattle.std.specs.Prelude.{List, refl}
 use Rattle.std.specs.Coded.{Coded, code_by, coded×, coded_list}
 use Rattle.expression_text.specs.Kinds.{HasKinds}
 use Rattle.expression_text.specs.Trees.{Tree}

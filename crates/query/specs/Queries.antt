@@ -21,7 +21,7 @@ use Rattle.query.specs.declared.stop.Spot.{Spot}
 use Rattle.query.specs.declared.stop.Wrong.{Wrong}
 use Rattle.query.specs.Columns.{kind_named, names_of, slots_of, seen_kinds, items_of, keys_of}
 use Rattle.query.specs.Conditions.{IsCondition, stuck_at, misfit_in, is_unknown}
-use Rattle.query.specs.Data.{ConditionData, IsSound}
+use Rattle.query.specs.Data.{ConditionData}
 use Rattle.query.specs.Grammar.{wrong_at, mark_of, stop_of, place_of, columns_in, table_place, condition_place, condition_in, has_condition, keys_place, keys_in, limit_in}
 use Rattle.query.specs.Pieces.{pieces_of, spot_after, start_spot}
 
