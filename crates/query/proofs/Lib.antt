@@ -1,0 +1,5 @@
+pub mod Known
+pub mod Placing
+pub mod Saying
+pub mod Tables
+pub mod Unique

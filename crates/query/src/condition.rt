@@ -1,0 +1,330 @@
+//! Conditions.
+
+ghost use Rattle.std.specs.Prelude.{◌≡◌, ◌↔◌, ◌≤◌, ◌^◌, Err, option_to_list, IfOk, IfErr, IsTrue};
+ghost use Rattle.query.specs.Columns.{names_of, names_at, slots_of, slots_at, seen_kind as kind_for, seen_kinds, kind_named};
+ghost use Rattle.query.specs.Conditions.{IsCondition, stuck_at, refused, misfit_in, misfit, misfits, misfits_named, is_unknown, is_reference, is_of_text, are_alike, kind_of, left_after, place_seen};
+ghost use Rattle.query.specs.Outcome.{IsStop};
+ghost use Rattle.query.specs.Queries.{ReadsCondition, condition_data};
+
+use crate::pieces::is_text;
+use crate::source::{Slot, slot_of};
+use crate::stop::{Stop, Wrong};
+use crate::turn::{Stand, Turn};
+use crate::{MAX_CONDITION_WORDS, QueryKind};
+use expression_text::{Kind, Token, are_row_texts, build, has_kinds, is_expression};
+use row_check::Expr;
+use schema::Schema;
+use std::alloc::{AllocError, Global};
+use std::marker::Model;
+use update_model::TextValue;
+
+/// A condition: an expression over the columns that it names, which number in the order in which they are named.
+///
+/// It may be asked of any values of the kinds that it sees. Of a reference it sees whether it is there: TRUE or null.
+#[derive(Debug, Drop)]
+pub struct Condition {
+    expr: Expr,
+    slots: Vec<Slot>,
+}
+
+impl Model for Condition {
+    ghost use Rattle.query.specs.Data.{ConditionData, coded_condition, IsSound};
+    ghost use Rattle.expression_text.specs.Trees.{tree_of};
+
+    ghost Value = { ConditionData };
+
+    ghost coded = { coded_condition };
+
+    ghost view = { λ condition. record { tree = tree_of condition.expr; slots = condition.slots.items } };
+
+    ghost invariant = { λ condition. IsSound (record { tree = tree_of condition.expr; slots = condition.slots.items }) };
+}
+
+/// Whether words are a condition.
+pub(crate) fn is_condition(words: &[Token]) -> bool
+    ensures { IsTrue result ↔ IsCondition words.now }
+{
+    words.len() <= MAX_CONDITION_WORDS && is_expression(words) && are_row_texts(words)
+}
+
+/// What is wrong with words, which number from here, that are no condition.
+pub(crate) fn stuck_at(at: usize, words: &[Token]) -> Wrong
+    requires { at ≤ 2 ^ 63 }
+    ensures { result ≡ stuck_at at words.now }
+{
+    let mut stand = Stand::begun();
+    for (read, word) in words.iter().enumerate() {
+        if read >= MAX_CONDITION_WORDS {
+            return Wrong {
+                kind: QueryKind::TooLong,
+                at: at + read,
+            };
+        }
+        match stand.after(word) {
+            Some(next) => stand = next,
+            None => {
+                return Wrong {
+                    kind: refused(word),
+                    at: at + read,
+                };
+            }
+        }
+    }
+    Wrong {
+        kind: QueryKind::UnknownWord,
+        at: at + words.len(),
+    }
+}
+
+/// Why a word may not stand here.
+fn refused(word: &Token) -> QueryKind
+    ensures { result ≡ refused word.now }
+{
+    match word {
+        Token::Bad => QueryKind::NotAValue,
+        _ => QueryKind::UnknownWord,
+    }
+}
+
+fn is_reference(kind: Option<Kind>) -> bool
+    ensures { result ≡ is_reference kind }
+{
+    matches!(kind, Some(Kind::Reference))
+}
+
+fn is_of_text(kind: Option<Kind>) -> bool
+    ensures { result ≡ is_of_text kind }
+{
+    matches!(kind, Some(Kind::Text))
+}
+
+/// Whether both are one kind, and none of references.
+fn are_alike(left: Option<Kind>, right: Option<Kind>) -> bool
+    ensures { result ≡ are_alike left right }
+{
+    matches!(
+        (left, right),
+        (Some(Kind::Int), Some(Kind::Int))
+            | (Some(Kind::Text), Some(Kind::Text))
+            | (Some(Kind::Flag), Some(Kind::Flag))
+    )
+}
+
+/// The kind of the column that a word names.
+pub(crate) fn kind_named(schema: &Schema, table: u8, name: &[u8]) -> Option<Kind>
+    ensures { result ≡ kind_named schema.now.tables table name.now }
+{
+    let slot = slot_of(schema, table, name)?;
+    Some(slot.kind)
+}
+
+/// The kind of what a word begins.
+fn kind_of(schema: &Schema, table: u8, word: &Token) -> Option<Kind>
+    ensures { result ≡ kind_of (kind_named schema.now.tables table) word.now }
+{
+    match word {
+        Token::Column(name) => kind_named(schema, table, name.as_slice()),
+        Token::Integer(_) | Token::Len => Some(Kind::Int),
+        Token::Text(_) => Some(Kind::Text),
+        Token::Flag(_) => Some(Kind::Flag),
+        _ => None,
+    }
+}
+
+/// Whether a word names a column that is not there.
+pub(crate) fn is_unknown(schema: &Schema, table: u8, word: &Token) -> bool
+    ensures { result ≡ is_unknown (kind_named schema.now.tables table) word.now }
+{
+    match word {
+        Token::Column(name) => !kind_named(schema, table, name.as_slice()).is_some(),
+        _ => false,
+    }
+}
+
+/// Whether a word may not follow a column of this kind.
+fn misfits_named(left: Option<Kind>, word: &Token) -> bool
+    ensures { result ≡ misfits_named left word.now }
+{
+    match word {
+        Token::Sign(_) => is_reference(left),
+        _ => false,
+    }
+}
+
+/// Whether a word of this kind may not stand here, behind a left side of this kind.
+fn misfits(turn: Turn, left: Option<Kind>, found: Option<Kind>, word: &Token) -> bool
+    ensures { result ≡ misfits turn left found word.now }
+{
+    match turn {
+        Turn::Length | Turn::RightLength => !is_of_text(found),
+        Turn::Right => !are_alike(left, found),
+        Turn::Argument | Turn::Arguments => is_reference(found),
+        Turn::Named => misfits_named(left, word),
+        _ => false,
+    }
+}
+
+/// Where what is seen at this word stands.
+fn place_seen(turn: Turn, at: usize) -> usize
+    ensures { result ≡ place_seen turn at }
+{
+    match turn {
+        Turn::Named => at.saturating_sub(1),
+        _ => at,
+    }
+}
+
+/// What is wrong with a word, if anything.
+fn misfit(
+    schema: &Schema,
+    table: u8,
+    turn: Turn,
+    left: Option<Kind>,
+    at: usize,
+    word: &Token,
+) -> Option<Wrong>
+    ensures { result ≡ misfit (kind_named schema.now.tables table) turn left at word.now }
+{
+    if is_unknown(schema, table, word) {
+        return Some(Wrong {
+            kind: QueryKind::UnknownColumn,
+            at,
+        });
+    }
+    if misfits(turn, left, kind_of(schema, table, word), word) {
+        return Some(Wrong {
+            kind: QueryKind::TypesDiffer,
+            at: place_seen(turn, at),
+        });
+    }
+    None
+}
+
+/// The kind of the left side after a word more.
+fn left_after(turn: Turn, left: Option<Kind>, found: Option<Kind>) -> Option<Kind>
+    ensures { result ≡ left_after turn left found }
+{
+    match turn {
+        Turn::Operand => found,
+        Turn::Length => Some(Kind::Int),
+        _ => left,
+    }
+}
+
+/// The first of these words, which number from here, that is not there or of another kind than is wanted.
+fn misfit_in(schema: &Schema, table: u8, at: usize, words: &[Token]) -> Option<Wrong>
+    requires { at ≤ 2 ^ 63 }
+    ensures { result ≡ misfit_in (kind_named schema.now.tables table) at words.now }
+{
+    let mut stand = Stand::begun();
+    let mut left = None;
+    for (read, word) in words.iter().enumerate() {
+        if let Some(wrong) = misfit(schema, table, stand.turn, left, at + read, word) {
+            return Some(wrong);
+        }
+        left = left_after(stand.turn, left, kind_of(schema, table, word));
+        stand = stand.after(word).unwrap_or(stand);
+    }
+    None
+}
+
+/// The columns that a condition names, in order.
+fn names_of(alloc: Global, words: &[Token]) -> Result<Vec<TextValue>, AllocError>
+    ensures { IfOk result (λ names. names.items ≡ names_of words.now) }
+{
+    let mut names = Vec::new(alloc);
+    for word in words {
+        if let Some(name) = name_at(alloc, word)? {
+            names.push(name)?;
+        }
+    }
+    Ok(names)
+}
+
+/// The column that a word names.
+fn name_at(alloc: Global, word: &Token) -> Result<Option<TextValue>, AllocError>
+    ensures { IfOk result (λ name. option_to_list name ≡ names_at word.now) }
+{
+    match word {
+        Token::Column(name) if is_text(name.as_slice()) => Ok(Some(TextValue::from_vec(
+            Vec::from_slice(alloc, name.as_slice())?,
+        ))),
+        _ => Ok(None),
+    }
+}
+
+/// What these columns are, in the same order.
+fn slots_of(
+    alloc: Global,
+    schema: &Schema,
+    table: u8,
+    words: &[Token],
+) -> Result<Vec<Slot>, AllocError>
+    ensures { IfOk result (λ slots. slots.items ≡ slots_of schema.now.tables table words.now) }
+{
+    let mut slots = Vec::new(alloc);
+    for word in words {
+        if let Some(slot) = slot_at(schema, table, word) {
+            slots.push(slot)?;
+        }
+    }
+    Ok(slots)
+}
+
+fn slot_at(schema: &Schema, table: u8, word: &Token) -> Option<Slot>
+    ensures { option_to_list result ≡ slots_at schema.now.tables table word.now }
+{
+    match word {
+        Token::Column(name) => slot_of(schema, table, name.as_slice()),
+        _ => None,
+    }
+}
+
+/// The kinds that a condition sees.
+fn seen_kinds(alloc: Global, slots: &[Slot]) -> Result<Vec<Kind>, AllocError>
+    ensures { IfOk result (λ kinds. kinds.items ≡ seen_kinds slots.now) }
+{
+    let mut kinds = Vec::with_capacity(alloc, slots.len())?;
+    for slot in slots {
+        kinds.push(seen_kind(slot.kind))?;
+    }
+    Ok(kinds)
+}
+
+fn seen_kind(kind: Kind) -> Kind
+    ensures { result ≡ kind_for kind }
+{
+    match kind {
+        Kind::Reference => Kind::Flag,
+        other => other,
+    }
+}
+
+/// The condition that these words are, which number from here.
+pub(crate) fn read_condition(
+    alloc: Global,
+    schema: &Schema,
+    table: u8,
+    at: usize,
+    words: &[Token],
+) -> Result<Condition, Stop>
+    requires few { at ≤ 2 ^ 63 }
+    requires condition { IsCondition words.now }
+    ensures found { IfOk result (λ condition. ReadsCondition schema.now.tables table at words.now (condition_data condition)) }
+    ensures wrong { IfErr result (λ stop. IsStop stop (λ wrong. ReadsCondition schema.now.tables table at words.now (Err wrong))) }
+{
+    if let Some(wrong) = misfit_in(schema, table, at, words) {
+        return Err(Stop::Fault(wrong));
+    }
+    let names = names_of(alloc, words)?;
+    let expr = build(alloc, words, names.as_slice())?;
+    let slots = slots_of(alloc, schema, table, words)?;
+    let kinds = seen_kinds(alloc, slots.as_slice())?;
+    if !has_kinds(&expr, kinds.as_slice()) {
+        return Err(Stop::Fault(Wrong {
+            kind: QueryKind::TypesDiffer,
+            at: at + words.len(),
+        }));
+    }
+    Ok(Condition { expr, slots })
+}
