@@ -15,4 +15,5 @@ pub mod Stepping
 pub mod Starting
 pub mod Growing
 pub mod Gains
+pub mod Keeping
 pub mod StoreEnds

@@ -1,5 +1,5 @@
 -- An end by the store comes of a commit alone.
-use Rattle.std.proofs.Common.{◌≡◌, ◌≢◌, ◌+◌, Bool, true, false, ◌&&◌, if◌then◌else◌, ℕ, List, [], ◌++◌, take, Option, Some, None, Result, Ok, Err, IfOk, sym, ap, ◌∙◌}
+use Rattle.std.proofs.Common.{◌≡◌, ◌≢◌, Bool, true, false, ◌&&◌, if◌then◌else◌, ℕ, List, [], ◌++◌, take, Option, Some, None, Result, Ok, Err, IfOk, sym, ap, ◌∙◌}
 use Rattle.update_model.specs.Batch.{Limits}
 use Rattle.update_model.specs.Entry.{Entry}
 use Rattle.update_model.specs.Graph.{is_within}

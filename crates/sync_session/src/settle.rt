@@ -1,8 +1,8 @@
 //! What follows a commit: the own Turn, the judgement of the peer's, and the next turn.
 
-ghost use Rattle.std.specs.Prelude.{◌≡◌, [], ◌+◌, ◌<◌, ◌≤◌, ◌^◌, true, ◌&&◌, Some, None, if◌then◌else◌, IfOk, OnOk, length, map};
+ghost use Rattle.std.specs.Prelude.{◌≡◌, ◌≢◌, [], ◌+◌, ◌<◌, ◌≤◌, ◌^◌, true, ◌&&◌, Some, None, if◌then◌else◌, IfOk, OnOk, length, map};
 ghost use Rattle.bec_bytes.specs.Causes.{Rose};
-ghost use Rattle.session_rules.specs.declared.end.End.TheVariants.{Done as done, Store as store};
+ghost use Rattle.session_rules.specs.declared.end.End.TheVariants.{Done as done, Full as full, Store as store};
 ghost use Rattle.session_rules.specs.declared.limits.TheConstants.{MAX_TURNS};
 ghost use Rattle.update_check.specs.Holding.{IsHeld};
 ghost use Rattle.update_codec.specs.Parts.{entry_of};
@@ -40,6 +40,8 @@ impl Session {
         ensures grows { GrowsBy (updates_in self.old) (H.members holder.old) (H.members holder.new) }
         ensures later { H.faults holder.old ≤ H.faults holder.new }
         ensures store { IfOk result (λ out. out.end ≡ Some store → Rose (H.faults holder.old) (H.faults holder.new)) }
+        ensures keeps { H.keeps holder.old holder.new }
+        ensures whole { H.is_whole holder.old → IfOk result (λ out. out.end ≢ Some full → out.end ≢ Some store → H.is_whole holder.new) }
         ensures limits { H.limits holder.new ≡ H.limits holder.old }
         ensures rule { H.rule holder.new ≡ H.rule holder.old }
     {

@@ -1,8 +1,8 @@
 //! One frame to a session.
 
-ghost use Rattle.std.specs.Prelude.{◌≡◌, ◌≤◌, ◌||◌, true, is_some, Some, IfOk, OnOk, OnErr, length, map};
+ghost use Rattle.std.specs.Prelude.{◌≡◌, ◌≢◌, ◌≤◌, ◌||◌, true, is_some, Some, IfOk, OnOk, OnErr, length, map};
 ghost use Rattle.bec_bytes.specs.Causes.{Rose};
-ghost use Rattle.session_rules.specs.declared.end.End.TheVariants.{Store as store};
+ghost use Rattle.session_rules.specs.declared.end.End.TheVariants.{Full as full, Store as store};
 ghost use Rattle.session_rules.specs.Steps.{Takes};
 ghost use Rattle.update_check.specs.Holding.{IsHeld};
 ghost use Rattle.update_codec.specs.Parts.{entry_of};
@@ -22,7 +22,8 @@ impl Session {
     /// whose memory ran out in an earlier call, answers nothing and leaves the holder alone.
     ///
     /// Where memory runs out the session is over. What the holder added in the same call it keeps: some of what the session
-    /// had gathered and of what waited. The end is `Store` only where the holder's count of faults rose.
+    /// had gathered and of what waited. The end is `Store` only where the holder's count of faults rose. Where the end is
+    /// neither `Full` nor `Store`, a holder that was whole is whole.
     pub fn step<H: Holder>(
         &mut self,
         alloc: Global,
@@ -37,6 +38,8 @@ impl Session {
         ensures grows { GrowsBy (updates_in self.old) (H.members holder.old) (H.members holder.new) }
         ensures later { H.faults holder.old ≤ H.faults holder.new }
         ensures store { IfOk result (λ out. out.end ≡ Some store → Rose (H.faults holder.old) (H.faults holder.new)) }
+        ensures keeps { H.keeps holder.old holder.new }
+        ensures whole { H.is_whole holder.old → IfOk result (λ out. out.end ≢ Some full → out.end ≢ Some store → H.is_whole holder.new) }
         ensures limits { H.limits holder.new ≡ H.limits holder.old }
         ensures rule { H.rule holder.new ≡ H.rule holder.old }
     {
@@ -80,6 +83,8 @@ impl Session {
         ensures grows { GrowsBy (updates_in self.old) (H.members holder.old) (H.members holder.new) }
         ensures later { H.faults holder.old ≤ H.faults holder.new }
         ensures store { IfOk result (λ out. out.end ≡ Some store → Rose (H.faults holder.old) (H.faults holder.new)) }
+        ensures keeps { H.keeps holder.old holder.new }
+        ensures whole { H.is_whole holder.old → IfOk result (λ out. out.end ≢ Some full → out.end ≢ Some store → H.is_whole holder.new) }
         ensures limits { H.limits holder.new ≡ H.limits holder.old }
         ensures rule { H.rule holder.new ≡ H.rule holder.old }
     {

@@ -13,6 +13,7 @@ use Rattle.update_model.specs.Entry.{Entry}
 use Rattle.session_rules.specs.declared.end.End.TheVariants.{Peer}
 use Rattle.sync_session.specs.Kept.{whole}
 use Rattle.sync_session.proofs.StoreEnds.{closed_not_store, plain_not_store, store_free}
+use Rattle.sync_session.proofs.Keeping.{whole_anyway}
 use Rattle.sync_session.proofs.session.Session.take.Goals as goal
 
 pub returns-in-Hello-clause-takes : goal.returns-in-Hello-clause-takes
@@ -69,3 +70,9 @@ returns-in-BadItem-clause-store g c =
 
 pub returns-in-BadFrame-clause-store : goal.returns-in-BadFrame-clause-store
 returns-in-BadFrame-clause-store g c = λ is. absurd (closed_not_store (Peer _) c.end-in-BadFrame.result (λ h. cc) c.end-in-BadFrame.ensures.out is)
+
+pub returns-in-Item-clause-keeps : goal.returns-in-Item-clause-keeps
+returns-in-Item-clause-keeps g c = g.H.Holder.keeps_itself c.args.holder.now
+
+pub returns-in-Item-clause-whole : goal.returns-in-Item-clause-whole
+returns-in-Item-clause-whole g c = λ held. whole_anyway c.take_item.result (g.H.Holder.is_whole c.args.holder.now) held

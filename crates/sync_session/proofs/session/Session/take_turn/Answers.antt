@@ -1,4 +1,4 @@
-use Rattle.std.proofs.Common.{◌≡◌, ◌∙◌, ◌++◌, refl, sym, ap, subst, All}
+use Rattle.std.proofs.Common.{◌≡◌, ◌∙◌, ◌++◌, [], refl, sym, ap, subst, All}
 use Rattle.update_check.specs.Signed.{IsChecked}
 use Rattle.sync_session.specs.Pending.{PendingData}
 use Rattle.session_rules.specs.declared.end.End.TheVariants.{Store}
@@ -8,6 +8,7 @@ use Rattle.sync_session.proofs.TurnTaking.{answers_stands, answers_turn, closed_
 use Rattle.std.proofs.Common.{length, map, List, ℕ, Ok}
 use Rattle.update_codec.specs.Parts.{entry_of}
 use Rattle.session_rules.specs.declared.end.End.TheVariants.{Peer, Full}
+use Rattle.session_rules.specs.State.{OutData}
 use Rattle.sync_session.specs.Kept.{GrowsBy}
 use Rattle.sync_session.specs.Turns.{SettlesTo}
 use Rattle.sync_session.proofs.Gains.{grows_commit}
@@ -64,3 +65,9 @@ returns-in-Ok-clause-store g c =
 
 pub returns-in-Err-Full-clause-store : goal.returns-in-Err-Full-clause-store
 returns-in-Err-Full-clause-store g c = λ is. absurd (closed_not_store Full c.refuse.result (λ h. cc) c.refuse.ensures.out is)
+
+pub returns-in-Err-Full-clause-whole : goal.returns-in-Err-Full-clause-whole
+returns-in-Err-Full-clause-whole g c = λ held room disk. absurd (room (ap (λ (o : OutData). o.end) (c.refuse.ensures.out [])))
+
+pub returns-in-Err-DiskFault-clause-whole : goal.returns-in-Err-DiskFault-clause-whole
+returns-in-Err-DiskFault-clause-whole g c = λ held room disk. absurd (disk (ap (λ (o : OutData). o.end) (c.refuse-in-Err-DiskFault.ensures.out [])))
