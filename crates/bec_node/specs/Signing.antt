@@ -104,6 +104,17 @@ IsSourceFault old new outcome = (outcome ≡ Err refusals.Stream) × Rose old ne
 abbrev pub IsNoStop : Outcome → Type 0
 IsNoStop outcome = ⊥
 
+-- A refusal that comes before operations are judged: of the store, of the key, of the text, of the author, or of the number of heads.
+abbrev pub IsBeforeOperations : Outcome → Type 0
+IsBeforeOperations (Err refusals.NoStore) = Unit {0}
+IsBeforeOperations (Err refusals.BadStore) = Unit {0}
+IsBeforeOperations (Err NoKey) = Unit {0}
+IsBeforeOperations (Err BadKey) = Unit {0}
+IsBeforeOperations (Err (Transaction fault)) = Unit {0}
+IsBeforeOperations (Err refusals.AuthorNotListed) = Unit {0}
+IsBeforeOperations (Err (refusals.Heads count)) = Unit {0}
+IsBeforeOperations outcome = ⊥
+
 -- `apply`.
 abbrev pub Applies : {S H R : Type 0} → List ℕ → Outside S H R → Outside S H R → Outcome → Type 0
 Applies dir before after outcome =

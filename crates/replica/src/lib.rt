@@ -20,6 +20,7 @@ mod commit;
 mod create_fault;
 mod creating;
 mod drafting;
+mod laws;
 mod make;
 mod make_fault;
 mod open_fault;
@@ -30,6 +31,7 @@ mod signing;
 
 pub use create_fault::{CreateFault, CreateKind};
 pub use creating::create;
+pub use laws::{one_early_refusal, one_join};
 pub use make_fault::{MakeFault, Side};
 pub use open_fault::{OpenFault, OpenKind};
 pub use opening::open_store;
