@@ -21,16 +21,17 @@ import os, subprocess, sys, time
 begun = time.perf_counter()
 child = subprocess.Popen(sys.argv[1:])
 _, status, usage = os.wait4(child.pid, 0)
-print(time.perf_counter() - begun, usage.ru_maxrss, os.waitstatus_to_exitcode(status), file=sys.stderr)
+taken = time.perf_counter() - begun
+print(taken, usage.ru_utime + usage.ru_stime, usage.ru_maxrss, os.waitstatus_to_exitcode(status), file=sys.stderr)
 """
 
 
-def measured(words, source):
-    """Seconds and peak kilobytes of a command that reads this file, and what it printed."""
+def measured(words, source, processor=False):
+    """Seconds, or processor seconds, and peak kilobytes of a command that reads this file, and what it printed."""
     with open(source, "rb") as file, tempfile.TemporaryFile() as out:
         runner = subprocess.run([sys.executable, "-S", "-c", RUNNER, *words], stdin=file, stdout=out, stderr=subprocess.PIPE, check=True)
-        seconds, peak, status = runner.stderr.split()[-3:]
+        seconds, taken, peak, status = runner.stderr.split()[-4:]
         out.seek(0)
         if int(status):
             sys.exit(f"{words[0]} ended with status {int(status)}")
-        return float(seconds), int(peak), out.read()
+        return float(taken if processor else seconds), int(peak), out.read()

@@ -1,5 +1,7 @@
+pub mod Crashes
 pub mod Fronts
 pub mod Gates
+pub mod Homes
 pub mod Images
 pub mod Moments
 pub mod Plans

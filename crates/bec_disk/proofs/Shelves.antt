@@ -42,7 +42,7 @@ both true y e = (refl, e)
 both false y e = absurd (false≢true e)
 
 -- the test of places decides
-same_slot-eq : (a b : Slot) → same_slot a b ≡ true → a ≡ b
+pub same_slot-eq : (a b : Slot) → same_slot a b ≡ true → a ≡ b
 same_slot-eq a b e =
     let is = both (number_of a.part == number_of b.part) (bytes_eq a.dir b.dir) e in
     let parts = sym (part-back a.part) ∙ ap part_with ((Decides-eqb (number_of a.part) (number_of b.part)).0 is.0) ∙ part-back b.part in

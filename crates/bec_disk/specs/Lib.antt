@@ -2,6 +2,7 @@ pub mod Disk
 pub mod Front
 pub mod Gated
 pub mod Images
+pub mod Left
 pub mod Plan
 pub mod Replay
 pub mod Shelf

@@ -30,6 +30,8 @@ impl Model for DiskPlan {
 }
 
 impl DiskPlan {
+    ghost use Rattle.bec_disk.specs.Left.{planned};
+
     /// A plan before the first call: the calls that `failing` numbers, counted from 1, and those
     /// behind the number `last` are to fail.
     pub fn new(failing: Vec<u32>, last: u64) -> DiskPlan
@@ -66,6 +68,16 @@ impl DiskPlan {
         self.starved = true;
         self.faults = self.faults.saturating_add(1);
         DiskFault
+    }
+
+    /// Plans the calls from the next one on, which is the first: those that `failing` numbers, and those behind the number
+    /// `last`, are to fail.
+    pub fn arm(&mut self, failing: Vec<u32>, last: u64)
+        ensures { self.new ≡ planned failing.items last self.old }
+    {
+        self.failing = failing;
+        self.last = last;
+        self.calls = 0;
     }
 
     /// Lets the next call be the first.

@@ -17,7 +17,7 @@
 //!
 //! A [`Shelf`] hands the parts of directories out as disks and takes them back. [`MemDisk`] and
 //! [`MemShelf`] are both in memory, for tests: their calls fail where a test wants it, and a disk
-//! is restarted as a crash may leave it.
+//! or a whole shelf is restarted as a crash may leave it.
 //!
 //! It opens no file: the disks over real files stand in `bec_host`. A disk that lies about its
 //! syncs is not covered.

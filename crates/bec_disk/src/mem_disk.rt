@@ -49,6 +49,7 @@ impl Model for MemDisk {
 impl MemDisk {
     ghost use Rattle.std.specs.List.{position};
     ghost use Rattle.bec_disk.specs.Slot.{Slot, slot};
+    ghost use Rattle.bec_disk.specs.Left.{armed};
     ghost use Rattle.bec_disk.specs.Replay.{new_disk, made_disk, settled_as, numbered_anew};
     ghost use Rattle.bec_disk.specs.Shelved.{is_at};
 
@@ -113,6 +114,14 @@ impl MemDisk {
         ensures { self.new ≡ numbered_anew self.old }
     {
         self.plan.number_anew();
+    }
+
+    /// Plans the disk's calls from the next one on, which is the first: those that `failing` numbers, and those behind the
+    /// number `last`, fail. What is read, the images and the count stay.
+    pub fn arm(&mut self, failing: Vec<u32>, last: u64)
+        ensures { self.new ≡ armed failing.items last self.old }
+    {
+        self.plan.arm(failing, last);
     }
 
     /// How many faults it counted.

@@ -9,7 +9,7 @@ use crate::mem_disk::MemDisk;
 use crate::part::Part;
 use crate::place::Place;
 use crate::shelf::Shelf;
-use crate::shelved::{Shelved, hand_out, index_of};
+use crate::shelved::{Shelved, hand_out, index_of, left_of};
 use bec_bytes::Counted;
 use std::alloc::{AllocError, Global};
 use std::marker::Model;
@@ -31,8 +31,10 @@ impl Model for MemShelf {
 }
 
 impl MemShelf {
+    ghost use Rattle.bec_disk.specs.Left.{IsPartLeft};
     ghost use Rattle.bec_disk.specs.Replay.{numbered_anew};
     ghost use Rattle.bec_disk.specs.Shelved.{shelf_of, entry_at};
+    ghost use Rattle.bec_disk.specs.Slot.{Slot};
 
     /// A shelf on which there is no part.
     pub fn new(alloc: Global) -> MemShelf
@@ -61,6 +63,22 @@ impl MemShelf {
         };
         self.entries[index].disk = Some(disk);
         Ok(())
+    }
+
+    /// A shelf with what a crash may leave now of each part that stands in its place: for 0 what was
+    /// synced last, for 1 what is read, and else a mixture by the number. Its count is 0, and its
+    /// disks fail at no numbered call. A part that is out stays so.
+    pub fn restart(&self, choice: u64) -> Result<MemShelf, AllocError>
+        ensures left { IfOk result (λ shelf. (place : Slot) → IsPartLeft choice (entry_at self.now.entries place) (entry_at shelf.entries place)) }
+        ensures count { IfOk result (λ shelf. shelf.faults ≡ 0) }
+    {
+        let alloc = self.alloc;
+        let entries = left_of(alloc, &self.entries, choice)?;
+        Ok(MemShelf {
+            alloc,
+            entries,
+            faults: 0,
+        })
     }
 }
 

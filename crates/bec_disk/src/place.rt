@@ -29,6 +29,17 @@ impl Place {
         Ok(Place { dir, part })
     }
 
+    /// The same place once more. It fails for want of memory alone.
+    pub fn copy(&self, alloc: Global) -> Result<Place, AllocError>
+        ensures { IfOk result (λ place. place ≡ self.now) }
+    {
+        let dir = self.dir.to_vec(alloc)?;
+        Ok(Place {
+            dir,
+            part: self.part,
+        })
+    }
+
     /// Whether it is this part of this directory.
     pub fn is(&self, dir: &[u8], part: Part) -> bool
         ensures { result ≡ same_slot self.now (slot dir.now part) }

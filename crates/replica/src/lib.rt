@@ -20,6 +20,7 @@ mod commit;
 mod create_fault;
 mod creating;
 mod drafting;
+mod holder;
 mod laws;
 mod make;
 mod make_fault;

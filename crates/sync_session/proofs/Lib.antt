@@ -14,3 +14,5 @@ pub mod TurnTaking
 pub mod Stepping
 pub mod Starting
 pub mod Growing
+pub mod Gains
+pub mod StoreEnds

@@ -1,5 +1,5 @@
 -- What a session keeps, and how the code's values are seen by the rules.
-use Rattle.std.specs.Prelude.{◌≡◌, ◌≤◌, ◌<◌, ℕ, ◌+◌, Bool, true, false, not, ◌&&◌, ◌||◌, if◌then◌else◌, List, [], ◌++◌, length, map, take, filter_map, slice_get, find, bytes_eq, All, Option, Some, None, option_map}
+use Rattle.std.specs.Prelude.{◌≡◌, ◌≤◌, ◌<◌, ℕ, ◌+◌, Bool, true, false, not, ◌&&◌, ◌||◌, if◌then◌else◌, List, [], ◌++◌, length, map, take, filter_map, slice_get, find, bytes_eq, All, Contains, Option, Some, None, option_map}
 use Rattle.std.specs.VecDeque.{deque_items}
 use Rattle.update_codec.specs.Parts.{entry_of}
 use Rattle.update_check.specs.Signed.{IsChecked}
@@ -99,6 +99,12 @@ seen members k = whole (take k.below (map entry_of members)) k
 -- the updates that its holder does not have
 abbrev pub updates_in : Kept → List (List ℕ)
 updates_in k = k.pending.waiting ++ k.pending.gathered
+
+-- The list grows by some of these updates.
+pub record GrowsBy (from before after : List (List ℕ)) : Type 0 where
+  pub added : List (List ℕ)
+  pub behind : after ≡ before ++ added
+  pub of : All (Contains from) added
 
 -- the session ended so
 abbrev pub with_end : End → Kept → Kept

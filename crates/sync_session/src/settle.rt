@@ -1,12 +1,13 @@
 //! What follows a commit: the own Turn, the judgement of the peer's, and the next turn.
 
 ghost use Rattle.std.specs.Prelude.{◌≡◌, [], ◌+◌, ◌<◌, ◌≤◌, ◌^◌, true, ◌&&◌, Some, None, if◌then◌else◌, IfOk, OnOk, length, map};
-ghost use Rattle.session_rules.specs.declared.end.End.TheVariants.{Done as done};
+ghost use Rattle.bec_bytes.specs.Causes.{Rose};
+ghost use Rattle.session_rules.specs.declared.end.End.TheVariants.{Done as done, Store as store};
 ghost use Rattle.session_rules.specs.declared.limits.TheConstants.{MAX_TURNS};
 ghost use Rattle.update_check.specs.Holding.{IsHeld};
 ghost use Rattle.update_codec.specs.Parts.{entry_of};
 ghost use Rattle.update_model.specs.Graph.{is_within, IsClosed};
-ghost use Rattle.sync_session.specs.Kept.{turn_of, IsRunning, Stands};
+ghost use Rattle.sync_session.specs.Kept.{turn_of, updates_in, GrowsBy, IsRunning, Stands};
 ghost use Rattle.sync_session.specs.Turns.{RepliesTo, SettlesTo, TakesTurn, IsOrdered};
 
 use crate::ids::join;
@@ -36,6 +37,9 @@ impl Session {
         ensures takes { IfOk result (λ out. TakesTurn (H.limits holder.old) self.old (H.members holder.old) (turn_of turn) self.new out (H.members holder.new)) }
         ensures stands { OnOk result (Stands (H.rule holder.old) self.new (H.members holder.new)) }
         ensures failed { OnOk result (self.new.failed ≡ self.old.failed) }
+        ensures grows { GrowsBy (updates_in self.old) (H.members holder.old) (H.members holder.new) }
+        ensures later { H.faults holder.old ≤ H.faults holder.new }
+        ensures store { IfOk result (λ out. out.end ≡ Some store → Rose (H.faults holder.old) (H.faults holder.new)) }
         ensures limits { H.limits holder.new ≡ H.limits holder.old }
         ensures rule { H.rule holder.new ≡ H.rule holder.old }
     {

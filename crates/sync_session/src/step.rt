@@ -1,10 +1,12 @@
 //! One frame to a session.
 
-ghost use Rattle.std.specs.Prelude.{◌≡◌, ◌≤◌, ◌||◌, true, is_some, IfOk, OnOk, OnErr, length, map};
+ghost use Rattle.std.specs.Prelude.{◌≡◌, ◌≤◌, ◌||◌, true, is_some, Some, IfOk, OnOk, OnErr, length, map};
+ghost use Rattle.bec_bytes.specs.Causes.{Rose};
+ghost use Rattle.session_rules.specs.declared.end.End.TheVariants.{Store as store};
 ghost use Rattle.session_rules.specs.Steps.{Takes};
 ghost use Rattle.update_check.specs.Holding.{IsHeld};
 ghost use Rattle.update_codec.specs.Parts.{entry_of};
-ghost use Rattle.sync_session.specs.Kept.{frame_of, out_of, seen, BelongsTo, IsFrameUnder, IsRunning, Stands, StepsTo};
+ghost use Rattle.sync_session.specs.Kept.{frame_of, out_of, seen, updates_in, BelongsTo, GrowsBy, IsFrameUnder, IsRunning, Stands, StepsTo};
 ghost use Rattle.sync_session.specs.Turns.{IsOrdered};
 
 use crate::{CheckedFrame, Out, Session};
@@ -19,7 +21,8 @@ impl Session {
     /// the holder's list has at most grown. An update has to be under the holder's rule. A session that has ended, or
     /// whose memory ran out in an earlier call, answers nothing and leaves the holder alone.
     ///
-    /// Where memory runs out the session is over. What the holder added in the same call it keeps.
+    /// Where memory runs out the session is over. What the holder added in the same call it keeps: some of what the session
+    /// had gathered and of what waited. The end is `Store` only where the holder's count of faults rose.
     pub fn step<H: Holder>(
         &mut self,
         alloc: Global,
@@ -31,6 +34,9 @@ impl Session {
         ensures steps { IfOk result (λ out. StepsTo (H.limits holder.old) self.old (H.members holder.old) frame self.new out (H.members holder.new)) }
         ensures belongs { BelongsTo (H.limits holder.old) (H.rule holder.old) self.new (H.members holder.new) }
         ensures failed { OnErr result (self.new.failed ≡ true) }
+        ensures grows { GrowsBy (updates_in self.old) (H.members holder.old) (H.members holder.new) }
+        ensures later { H.faults holder.old ≤ H.faults holder.new }
+        ensures store { IfOk result (λ out. out.end ≡ Some store → Rose (H.faults holder.old) (H.faults holder.new)) }
         ensures limits { H.limits holder.new ≡ H.limits holder.old }
         ensures rule { H.rule holder.new ≡ H.rule holder.old }
     {
@@ -71,6 +77,9 @@ impl Session {
             (seen (H.members holder.new) self.new) (out_of (map entry_of (H.members holder.new)) out) (map entry_of (H.members holder.new))) }
         ensures stands { OnOk result (Stands (H.rule holder.old) self.new (H.members holder.new)) }
         ensures failed { OnOk result (self.new.failed ≡ self.old.failed) }
+        ensures grows { GrowsBy (updates_in self.old) (H.members holder.old) (H.members holder.new) }
+        ensures later { H.faults holder.old ≤ H.faults holder.new }
+        ensures store { IfOk result (λ out. out.end ≡ Some store → Rose (H.faults holder.old) (H.faults holder.new)) }
         ensures limits { H.limits holder.new ≡ H.limits holder.old }
         ensures rule { H.rule holder.new ≡ H.rule holder.old }
     {

@@ -3,3 +3,5 @@
 
 #[cfg(test)]
 mod gated;
+#[cfg(test)]
+mod shelves;

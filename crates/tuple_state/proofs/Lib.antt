@@ -8,6 +8,7 @@ pub mod Effects
 pub mod Emptiness
 pub mod Finding
 pub mod Growth
+pub mod Holding
 pub mod Keeping
 pub mod Lasting
 pub mod Layers

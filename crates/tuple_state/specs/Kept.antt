@@ -4,7 +4,8 @@ use Rattle.std.specs.List.{list_any, list_all, position_from}
 use Rattle.std.specs.BTreeMap.{get, BTreeMap}
 use Rattle.update_model.specs.declared.row_name.RowName.{RowName}
 use Rattle.table_model.specs.Tables.{name_cmp}
-use Rattle.table_model.specs.Visible.{Rules, TableRow, cascade_refs, same_row}
+use Rattle.table_model.specs.Verdicts.{stands_among}
+use Rattle.table_model.specs.Visible.{Rules, TableRow, cascade_refs, refs, same_row}
 use Rattle.tuple_state.specs.declared.dropped.Dropped.{Dropped}
 use Rattle.tuple_state.specs.declared.inserted.Inserted.{Inserted}
 use Rattle.tuple_state.specs.declared.links.Link.{Link}
@@ -21,6 +22,10 @@ unfoldable pub are_layered : Rules → List TableRow → Bool
 are_layered rules [] = true
 are_layered rules (row ∷ older) =
     not (is_named older row.name) && list_all (λ r. is_named older r.name) (cascade_refs rules row) && are_layered rules older
+
+-- whether each reference of these rows names one of them, in the table that it is to
+abbrev pub are_referred : Rules → List TableRow → Bool
+are_referred rules rows = list_all (λ row. list_all (stands_among rows) (refs rules row)) rows
 
 -- the place of the row with this name
 abbrev pub place_of : List Inserted → RowName → Option ℕ

@@ -1,5 +1,5 @@
 -- The rows that a row names by CASCADE, column by column.
-use Rattle.std.specs.Prelude.{◌≡◌, ℕ, suc, max, Bool, true, false, ◌&&◌, ◌||◌, List, [], ◌∷◌, ◌++◌, slice_get, unwrap_or, Option, None, Some, if◌then◌else◌}
+use Rattle.std.specs.Prelude.{◌≡◌, ℕ, suc, max, ◌==◌, Bool, true, false, ◌&&◌, ◌||◌, List, [], ◌∷◌, ◌++◌, slice_get, unwrap_or, Option, None, Some, if◌then◌else◌}
 use Rattle.std.specs.List.{list_any}
 use Rattle.update_model.specs.declared.row_name.RowName.{RowName}
 use Rattle.update_model.specs.declared.value.Value.{Value}
@@ -72,6 +72,19 @@ passes_row test (Some it) = test it.name
 unfoldable pub limit_of : List ℕ → ℕ
 limit_of [] = 0
 limit_of (place ∷ places) = max (suc place) (limit_of places)
+
+-- whether a reference is to this table by RESTRICT
+abbrev pub holds_on_to : ℕ → Option (ℕ × Action) → Bool
+holds_on_to table None = false
+holds_on_to table (Some target) = (target.0 == table) && is_restrict target.1
+
+-- whether one of these columns refers to this table by RESTRICT
+abbrev pub some_holding : ℕ → List Column → Bool
+some_holding table columns = list_any (λ column. holds_on_to table (target_of column.kind)) columns
+
+-- whether a column of some table does
+abbrev pub is_held : List (List Column) → ℕ → Bool
+is_held columns table = list_any (some_holding table) columns
 
 -- a row's name, where the column is a reference by RESTRICT
 abbrev pub name_by_restrict : RowName → Option (ℕ × Action) → Option RowName

@@ -7,7 +7,7 @@ ghost use Rattle.schema.specs.Columns.{is_restrict};
 ghost use Rattle.table_model.specs.Verdicts.{in_table};
 ghost use Rattle.std.specs.List.{list_all, list_any};
 ghost use Rattle.tuple_state.specs.declared.inserted.Inserted.{Inserted as Row};
-ghost use Rattle.tuple_state.specs.Kept.{are_layered};
+ghost use Rattle.tuple_state.specs.Kept.{are_layered, are_referred};
 ghost use Rattle.tuple_state.specs.Past.{Lasts, StandsAt, child_then, count_then, done_then, equal_then, row_then, row_visible_at, visible_at};
 ghost use Rattle.tuple_state.specs.State.{done_in, row_of, rules_of};
 
@@ -23,6 +23,7 @@ pub struct At<'a, A: Ancestors> {
     ancestors: &'a A,
     position: u32,
     ghost founded: { are_layered (rules_of tables.now) (done_in tables.now).inserted ≡ true },
+    ghost referred: { are_referred (rules_of tables.now) (done_in tables.now).inserted ≡ true },
     ghost lasting: { Lasts (A.ancestor ancestors.now) tables.now position },
     ghost layered: { are_layered (rules_of tables.now) (done_then tables.now (λ p. A.ancestor ancestors.now p position)).inserted ≡ true },
 }
@@ -39,6 +40,17 @@ impl<'a, A: Ancestors> At<'a, A> {
             tables,
             ancestors,
             position,
+        }
+    }
+
+    /// Whether there is a row with this name, and a column that refers to its table by `RESTRICT`. Else no row names it so,
+    /// since a reference names a row of the table that it is to.
+    fn may_be_held(&self, name: &RowName) -> bool
+        ensures { result ≡ false → child_then self.now.tables.now (λ p. A.ancestor self.now.ancestors.now p self.now.position) name.now ≡ false }
+    {
+        match self.tables.place(name) {
+            Some(place) => self.tables.is_held(self.tables.row(place).entry.table),
+            None => false,
         }
     }
 
@@ -172,9 +184,12 @@ impl<'a, A: Ancestors> RowsAt for At<'a, A> {
         }
     }
 
-    /// Whether a row that is visible then names this one by `RESTRICT`. It goes over all rows, since no schema that is
-    /// accepted has such a reference.
+    /// Whether a row that is visible then names this one by `RESTRICT`. It goes over all rows only where a column refers to
+    /// the row's table by `RESTRICT`. In no schema that is accepted may rows of such a table be deleted.
     fn restrict_child(&self, alloc: Global, name: &RowName) -> Result<bool, AllocError> {
+        if !self.may_be_held(name) {
+            return Ok(false);
+        }
         for place in 0..self.tables.row_len() {
             if self.restricts(alloc, place, name)? {
                 return Ok(true);

@@ -1,9 +1,10 @@
-//! The rows that a row names by `RESTRICT`.
+//! The rows that a row names by `RESTRICT`, and the tables whose rows may be named so.
 
 ghost use Rattle.std.specs.Prelude.{◌≡◌};
-ghost use Rattle.tuple_state.specs.Parents.{any_restricts, held_in, restricts_in};
+ghost use Rattle.schema.specs.Columns.{target_of};
+ghost use Rattle.tuple_state.specs.Parents.{any_restricts, held_in, holds_on_to, is_held, restricts_in, some_holding};
 
-use schema::{Action, Column, ColumnKind};
+use schema::{Action, Column, ColumnKind, ColumnList};
 use update_model::{RowName, Value};
 
 /// The row that a value names by `RESTRICT`, if it does.
@@ -42,4 +43,33 @@ pub(crate) fn restricts(columns: &[Column], values: &[Value], name: &RowName) ->
         }
     }
     false
+}
+
+/// Whether a column refers to this table by `RESTRICT`.
+fn holds_on_to(table: u8, column: &Column) -> bool
+    ensures { result ≡ holds_on_to table (target_of column.now.kind) }
+{
+    match column.kind {
+        ColumnKind::Reference {
+            target,
+            action: Action::Restrict,
+        } => target == table,
+        _ => false,
+    }
+}
+
+/// Whether one of these columns refers to this table by `RESTRICT`.
+fn some_holding(table: u8, columns: &[Column]) -> bool
+    ensures { result ≡ some_holding table columns.now }
+{
+    columns.iter().any(|column| holds_on_to(table, column))
+}
+
+/// Whether a column of some table refers to this one by `RESTRICT`.
+pub(crate) fn is_held(columns: &[ColumnList], table: u8) -> bool
+    ensures { result ≡ is_held columns.now table }
+{
+    columns
+        .iter()
+        .any(|list| some_holding(table, list.as_slice()))
 }

@@ -15,7 +15,7 @@ ghost use Rattle.validity.specs.Answers.{AreAnswers};
 ghost use Rattle.tuple_state.specs.Past.{IsNextVerdict, IsPastOf, StandsAt, done_then, effects_before};
 ghost use Rattle.tuple_state.specs.Absence.{causes_of};
 ghost use Rattle.tuple_state.specs.Kept.{are_layered, is_named, place_of};
-ghost use Rattle.tuple_state.specs.Parents.{columns_at, passes_place};
+ghost use Rattle.tuple_state.specs.Parents.{columns_at, is_held, passes_place};
 ghost use Rattle.tuple_state.specs.State.{IsCut, IsStateOf, after, done_in, row_of, rules_of, voided_at};
 ghost use Rattle.tuple_state.specs.declared.inserted.Inserted.{Inserted as Row};
 
@@ -26,7 +26,7 @@ use crate::cutting::{lines_of, names_before, numbers_before, rows_before, voids_
 use crate::deleters::grow_links;
 use crate::links::Links;
 use crate::parents::{add_parents, add_places, remove_places};
-use crate::restricts::restricts;
+use crate::restricts::{is_held, restricts};
 use crate::showing::{copy_rows, listed_among};
 use crate::steps::{dropped_by, inserted_by};
 use crate::{At, Dropped, Inserted, Voided};
@@ -179,6 +179,13 @@ impl Tables {
         ensures few { result ≤ 256 * 131072 }
     {
         self.rows.as_slice().len()
+    }
+
+    /// Whether a column of some table refers to this one by `RESTRICT`.
+    pub(crate) fn is_held(&self, table: u8) -> bool
+        ensures { result ≡ is_held self.now.columns table }
+    {
+        is_held(self.columns.as_slice(), table)
     }
 
     /// Whether the row at a place names this one by `RESTRICT`.

@@ -1,5 +1,6 @@
 use Rattle.std.proofs.Common.{◌∙◌, sym}
 use Rattle.sync_session.proofs.Stepping.{gained_few, not_over, ordered, over_is, runs, stays_belonging}
+use Rattle.sync_session.proofs.StoreEnds.{silent_not_store}
 use Rattle.sync_session.proofs.session.Session.step.Goals as goal
 
 pub returns-then-is_over-clause-steps : goal.returns-then-is_over-clause-steps
@@ -28,3 +29,6 @@ pub returns-in-Ok-clause-belongs : goal.returns-in-Ok-clause-belongs
 returns-in-Ok-clause-belongs g c =
     stays_belonging (g.H.Holder.limits c.args.holder.now) (g.H.Holder.rule c.args.holder.now) c.args.self.now c.take.new.self (g.H.Holder.members c.args.holder.now) (g.H.Holder.members c.take.new.holder) c.args.frame c.in-Ok.out
     (sym c.is_over.ensures ∙ c.if-is_over.false) c.requires.belongs c.in-Ok.ensures.takes c.in-Ok.ensures.stands
+
+pub returns-then-is_over-clause-store : goal.returns-then-is_over-clause-store
+returns-then-is_over-clause-store g c = λ is. absurd (silent_not_store c.silent.result c.silent.ensures is)

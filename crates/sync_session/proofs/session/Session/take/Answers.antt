@@ -8,6 +8,11 @@ use Rattle.sync_session.specs.declared.checked_frame.CheckedFrame.{CheckedFrame}
 use Rattle.sync_session.specs.Kept.{IsFrameUnder, frame_of, hello_of, number_of, out_of, seen}
 use Rattle.sync_session.proofs.Standing.{stands_end}
 use Rattle.sync_session.proofs.Stepping.{answer_seen, take_seen}
+use Rattle.std.proofs.Common.{[], List}
+use Rattle.update_model.specs.Entry.{Entry}
+use Rattle.session_rules.specs.declared.end.End.TheVariants.{Peer}
+use Rattle.sync_session.specs.Kept.{whole}
+use Rattle.sync_session.proofs.StoreEnds.{closed_not_store, plain_not_store, store_free}
 use Rattle.sync_session.proofs.session.Session.take.Goals as goal
 
 pub returns-in-Hello-clause-takes : goal.returns-in-Hello-clause-takes
@@ -43,3 +48,24 @@ returns-in-BadItem-clause-stands g c = c.take_bad_item.ensures.stands (g.H.Holde
 
 pub returns-in-BadFrame-clause-stands : goal.returns-in-BadFrame-clause-stands
 returns-in-BadFrame-clause-stands g c = stands_end _ c.args.self.now c.end-in-BadFrame.new.self c.end-in-BadFrame.ensures.state _ _ c.requires.stands
+
+pub returns-in-Hello-clause-store : goal.returns-in-Hello-clause-store
+returns-in-Hello-clause-store g c =
+    let members = g.H.Holder.members c.args.holder.now in
+    store_free c.take_hello.result (λ out. (limits : Limits) → Takes limits (seen members c.args.self.now) (map entry_of members) (state.Hello (hello_of c.in-Hello.hello)) (seen members c.take_hello.new.self) (out_of (map entry_of members) out) (map entry_of members)) _
+    (λ out t. plain_not_store (g.H.Holder.limits c.args.holder.now) _ _ _ (state.Hello (hello_of c.in-Hello.hello)) (out_of (map entry_of members) out) _ tt (t (g.H.Holder.limits c.args.holder.now))) c.take_hello.ensures.takes
+
+pub returns-in-OtherVersion-clause-store : goal.returns-in-OtherVersion-clause-store
+returns-in-OtherVersion-clause-store g c = λ is. absurd (closed_not_store (Peer _) c.end.result (λ h. cc) c.end.ensures.out is)
+
+pub returns-in-Item-clause-store : goal.returns-in-Item-clause-store
+returns-in-Item-clause-store g c =
+    store_free c.take_item.result (λ out. (limits : Limits) (start list : List Entry) → Takes limits (whole start c.args.self.now) list (state.Item (entry_of c.in-Item.update)) (whole start c.take_item.new.self) (out_of list out) list) _
+    (λ out t. plain_not_store (g.H.Holder.limits c.args.holder.now) (whole [] c.args.self.now) (whole [] c.take_item.new.self) [] (state.Item (entry_of c.in-Item.update)) (out_of [] out) [] tt (t (g.H.Holder.limits c.args.holder.now) [] [])) c.take_item.ensures.takes
+
+pub returns-in-BadItem-clause-store : goal.returns-in-BadItem-clause-store
+returns-in-BadItem-clause-store g c =
+    λ is. absurd (plain_not_store (g.H.Holder.limits c.args.holder.now) (whole [] c.args.self.now) (whole [] c.take_bad_item.new.self) [] (state.BadItem (number_of c.in-BadItem.fault)) (out_of [] c.take_bad_item.result) [] tt (c.take_bad_item.ensures.takes (g.H.Holder.limits c.args.holder.now) [] []) is)
+
+pub returns-in-BadFrame-clause-store : goal.returns-in-BadFrame-clause-store
+returns-in-BadFrame-clause-store g c = λ is. absurd (closed_not_store (Peer _) c.end-in-BadFrame.result (λ h. cc) c.end-in-BadFrame.ensures.out is)

@@ -5,6 +5,13 @@ use Rattle.session_rules.specs.declared.end.End.TheVariants.{Store}
 use Rattle.sync_session.specs.Kept.{Kept, turn_of, updates_in, with_refusal}
 use Rattle.sync_session.proofs.Standing.{stands_end}
 use Rattle.sync_session.proofs.TurnTaking.{answers_stands, answers_turn, closed_after, fault_at, refused_stays, turn_refused, waits_within}
+use Rattle.std.proofs.Common.{length, map, List, ℕ, Ok}
+use Rattle.update_codec.specs.Parts.{entry_of}
+use Rattle.session_rules.specs.declared.end.End.TheVariants.{Peer, Full}
+use Rattle.sync_session.specs.Kept.{GrowsBy}
+use Rattle.sync_session.specs.Turns.{SettlesTo}
+use Rattle.sync_session.proofs.Gains.{grows_commit}
+use Rattle.sync_session.proofs.StoreEnds.{closed_not_store, settles_not_store, store_free}
 use Rattle.sync_session.proofs.session.Session.take_turn.Goals as goal
 
 pub returns-in-Some-clause-stands : goal.returns-in-Some-clause-stands
@@ -40,3 +47,20 @@ returns-in-Err-DiskFault-clause-takes g c =
     (refused_stays _ _ _ c.in-Err-DiskFault.field-0 _ _ _ c.in-Err-DiskFault.ensures.commits)
     (c.refuse-in-Err-DiskFault.ensures.state ∙ ap (with_refusal Store) (ap (λ (k : Kept). record k { pending = c.take.new.self }) c.self.view_is))
     c.refuse-in-Err-DiskFault.ensures.out
+
+pub returns-in-Some-clause-store : goal.returns-in-Some-clause-store
+returns-in-Some-clause-store g c = λ is. absurd (closed_not_store (Peer _) c.end.result (λ h. cc) c.end.ensures.out is)
+
+pub returns-in-Ok-clause-grows : goal.returns-in-Ok-clause-grows
+returns-in-Ok-clause-grows g c =
+    subst (λ (batch : List (List ℕ)). GrowsBy batch (g.H.Holder.members c.args.holder.now) (g.H.Holder.members c.commit.new.self))
+    (subst (λ (k : Kept). c.in_ok-batch.batch.items ≡ k.pending.waiting ++ k.pending.gathered) c.self.view_is c.in_ok-batch.ensures.batch)
+    (grows_commit (g.H.Holder.limits c.args.holder.now) (g.H.Holder.members c.args.holder.now) c.in_ok-batch.batch.items (Ok c.in-Ok.committed) (g.H.Counted.faults c.args.holder.now) (g.H.Counted.faults c.commit.new.self) (g.H.Holder.members c.commit.new.self) c.in-Ok.ensures.commits)
+
+pub returns-in-Ok-clause-store : goal.returns-in-Ok-clause-store
+returns-in-Ok-clause-store g c =
+    store_free c.settle.result (λ out. SettlesTo (map entry_of (g.H.Holder.members c.commit.new.self)) (length c.in-Ok.committed.added) c.in-Ok.committed.waiting _ _ c.settle.new.self out) _
+    (λ out s. settles_not_store _ _ _ _ _ _ out s) c.settle.ensures
+
+pub returns-in-Err-Full-clause-store : goal.returns-in-Err-Full-clause-store
+returns-in-Err-Full-clause-store g c = λ is. absurd (closed_not_store Full c.refuse.result (λ h. cc) c.refuse.ensures.out is)

@@ -1,4 +1,5 @@
 use Rattle.tuple_state.proofs.Answering.{lasts_then, layered_then}
+use Rattle.tuple_state.proofs.Holding.{referred_now}
 use Rattle.tuple_state.proofs.Keeping.{layered_now}
 use Rattle.tuple_state.proofs.at.At.new.Goals as goal
 
@@ -6,6 +7,7 @@ pub invariant_of-result : goal.invariant_of-result
 invariant_of-result g c =
     let it = c.requires.past in record {
       founded = layered_now it.rules it.nodes c.args.tables.now it.is;
+      referred = referred_now it.rules it.nodes c.args.tables.now it.is;
       lasting = lasts_then it.rules it.nodes it.node c.args.tables.now _ it.is it.past_of;
       layered = layered_then it.rules it.nodes it.node c.args.tables.now _ it.is it.past_of;
     }

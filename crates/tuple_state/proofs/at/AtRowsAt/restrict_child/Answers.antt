@@ -3,6 +3,9 @@ use Rattle.tuple_state.proofs.Dropping.{row_there}
 use Rattle.tuple_state.proofs.Restricting.{child_is, holds_at, none_at_end, none_yet, some_here}
 use Rattle.tuple_state.proofs.at.AtRowsAt.restrict_child.Goals as goal
 
+pub returns-then-not-may_be_held : goal.returns-then-not-may_be_held
+returns-then-not-may_be_held g c = sym (c.may_be_held.ensures c.if-not-may_be_held.true)
+
 pub returns-then-branch : goal.returns-then-branch
 returns-then-branch g c =
     let s = c.args.self.now.tables.now in

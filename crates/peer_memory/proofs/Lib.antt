@@ -1,0 +1,5 @@
+mod Fronts
+mod IdLists
+mod Refusing
+mod Rooms
+mod Telling

@@ -1,0 +1,32 @@
+use std::alloc::{AllocError, AllocFailed};
+
+/// Why bytes gave no peers.
+#[derive(Clone, Copy, Debug, Drop)]
+pub(crate) enum ReadError {
+    /// There was not enough memory.
+    Memory,
+    /// They are of another form.
+    NoForm,
+}
+
+impl From<AllocError> for ReadError {
+    ghost use Rattle.std.specs.Prelude.{◌≡◌};
+    ghost use Rattle.peer_memory.specs.declared.read_error.ReadError.TheVariants.{Memory};
+
+    ghost from_gives = { λ _ error. error ≡ Memory };
+
+    fn from(_error: AllocError) -> ReadError {
+        ReadError::Memory
+    }
+}
+
+impl<T: Drop> From<AllocFailed<T>> for ReadError {
+    ghost use Rattle.std.specs.Prelude.{◌≡◌};
+    ghost use Rattle.peer_memory.specs.declared.read_error.ReadError.TheVariants.{Memory};
+
+    ghost from_gives = { λ _ error. error ≡ Memory };
+
+    fn from(_error: AllocFailed<T>) -> ReadError {
+        ReadError::Memory
+    }
+}
