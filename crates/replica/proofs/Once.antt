@@ -1,5 +1,5 @@
 -- What making and joining answer, they answer once.
-use Rattle.std.proofs.Common.{◌≡◌, ℕ, ◌+◌, ◌≤◌, ◌<◌, Bool, true, false, ◌&&◌, List, [], ◌∷◌, ◌++◌, length, map, take, refl, sym, ap, subst, ◌∙◌, arith, length-append, Some, None}
+use Rattle.std.proofs.Common.{◌≡◌, ℕ, ◌+◌, ◌≤◌, ◌<◌, Bool, true, false, List, [], ◌∷◌, ◌++◌, length, map, take, refl, sym, ap, subst, ◌∙◌, arith, length-append, None}
 use Rattle.std.specs.Prelude.{nat_le}
 use Rattle.std.proofs.lemmas.Bool.{and_parts}
 use Rattle.std.proofs.lemmas.Bool.Decides.{nat_tests}
@@ -10,7 +10,7 @@ use Rattle.update_model.specs.declared.limits.TheConstants.{MAX_BYTES, MAX_MEMBE
 use Rattle.update_model.specs.declared.op.Op.{Op}
 use Rattle.update_model.specs.declared.update_id.UpdateId.{UpdateId}
 use Rattle.update_model.specs.Entry.{Entry}
-use Rattle.update_model.specs.Graph.{AreHeads, IsClosed, byte_count, holds, is_within}
+use Rattle.update_model.specs.Graph.{IsClosed, byte_count, holds, is_within}
 use Rattle.update_model.specs.Rule.{IsListed}
 use Rattle.update_model.proofs.Closed.{Follows-pop}
 use Rattle.update_codec.specs.Parts.{entry_of, id_of}
@@ -119,22 +119,22 @@ module _ (history : HistoryData) (secret : SecretData) (taken : List Bool) (c : 
   stop_of preds Memory after told cause = absurd told
 
   stops_once : (preds : List UpdateId) (why other : MakeFault) → JoinStop history secret taken c preds why → JoinStop history secret taken c preds other → why ≡ other
-  stops_once preds why other (unlisted no) (unlisted never) = refl
-  stops_once preds why other (unlisted no) (full yes room) = absurd (no yes)
-  stops_once preds why other (unlisted no) (spent yes room none) = absurd (no yes)
-  stops_once preds why other (unlisted no) (held id bytes yes room made is has) = absurd (no yes)
-  stops_once preds why other (full yes small) (unlisted no) = absurd (no yes)
-  stops_once preds why other (full yes small) (full too smaller) = refl
-  stops_once preds why other (full yes small) (spent too room none) = absurd (small room)
-  stops_once preds why other (full yes small) (held id bytes too room made is has) = absurd (small room)
-  stops_once preds why other (spent yes room none) (unlisted no) = absurd (no yes)
-  stops_once preds why other (spent yes room none) (full too small) = absurd (small room)
-  stops_once preds why other (spent yes room none) (spent too more no) = refl
-  stops_once preds why other (spent yes room none) (held id bytes too more made is has) = absurd (let least = made.least in cc)
-  stops_once preds why other (held id bytes yes room made is has) (unlisted no) = absurd (no yes)
-  stops_once preds why other (held id bytes yes room made is has) (full too small) = absurd (small room)
-  stops_once preds why other (held id bytes yes room made is has) (spent too more none) = absurd (let least = made.least in cc)
-  stops_once preds why other (held id bytes yes room made is has) (held name more too large twice so had) =
+  stops_once preds why other (unlisted never) (unlisted nor) = refl
+  stops_once preds why other (unlisted never) (full listed room) = absurd (never listed)
+  stops_once preds why other (unlisted never) (spent listed room none) = absurd (never listed)
+  stops_once preds why other (unlisted never) (held id bytes listed room made is has) = absurd (never listed)
+  stops_once preds why other (full listed small) (unlisted never) = absurd (never listed)
+  stops_once preds why other (full listed small) (full too smaller) = refl
+  stops_once preds why other (full listed small) (spent too room none) = absurd (small room)
+  stops_once preds why other (full listed small) (held id bytes too room made is has) = absurd (small room)
+  stops_once preds why other (spent listed room none) (unlisted never) = absurd (never listed)
+  stops_once preds why other (spent listed room none) (full too small) = absurd (small room)
+  stops_once preds why other (spent listed room none) (spent too more never) = refl
+  stops_once preds why other (spent listed room none) (held id bytes too more made is has) = absurd (let least = made.least in cc)
+  stops_once preds why other (held id bytes listed room made is has) (unlisted never) = absurd (never listed)
+  stops_once preds why other (held id bytes listed room made is has) (full too small) = absurd (small room)
+  stops_once preds why other (held id bytes listed room made is has) (spent too more none) = absurd (let least = made.least in cc)
+  stops_once preds why other (held id bytes listed room made is has) (held name more too large twice so had) =
       ap Taken (sym is ∙ ap id_of (made_once history secret taken preds [] c bytes more made twice) ∙ so)
 
   pub one_join_cause : (why other : MakeFault) → IsTold why → IsTold other → IsJoinCause history secret taken c why → IsJoinCause history secret taken c other → why ≡ other
@@ -159,10 +159,10 @@ module _ (history : HistoryData) (secret : SecretData) (taken : List Bool) (c : 
   joined_or_refused id new why told joins cause = by why (stop_of joins.preds why joins.after told cause)
     where
       by : (w : MakeFault) → JoinStop history secret taken c joins.preds w → ⊥
-      by w (unlisted no) = no (made_listed history secret taken joins.preds [] c joins.bytes joins.members joins.made)
-      by w (full yes small) = small (made_room history secret taken joins.preds [] c joins.bytes joins.members joins.made)
-      by w (spent yes room none) = let least = joins.made.least in absurd cc
-      by w (held name bytes yes room made is has) =
+      by w (unlisted never) = never (made_listed history secret taken joins.preds [] c joins.bytes joins.members joins.made)
+      by w (full listed small) = small (made_room history secret taken joins.preds [] c joins.bytes joins.members joins.made)
+      by w (spent listed room none) = let least = joins.made.least in absurd cc
+      by w (held name bytes listed room made is has) =
           let same : bytes ≡ joins.bytes = made_once history secret taken joins.preds [] c bytes joins.bytes made joins.made in
           let named : name ≡ id_of joins.bytes = sym is ∙ ap id_of same in
           let there : holds (map entry_of history.members) (id_of joins.bytes) ≡ true = sym (ap (holds (map entry_of history.members)) named) ∙ has in
@@ -193,22 +193,22 @@ module _ (ask : Meaning) (history : HistoryData) (secret : SecretData) (taken : 
   made_or_refused id new Memory early makes cause = early
 
   not_unlisted : (other : MakeFault) → IsTold other → ¬ (IsListed history.schema.rule.authors (public_key secret)) → IsMakeCause ask history secret taken ops c other → NotListed ≡ other
-  not_unlisted NotListed told no cause = refl
-  not_unlisted (TooManyHeads n) told no cause = absurd (no cause.0)
-  not_unlisted (Invalid reason operation) told no cause = absurd (no cause.1.listed)
-  not_unlisted (TooLong len) told no cause = absurd (no cause.1.may_make.listed)
-  not_unlisted Full told no cause = absurd (no cause.1.may_make.listed)
-  not_unlisted Spent told no cause = absurd (no cause.1.may_make.listed)
-  not_unlisted (Taken id) told no cause = absurd (no cause.1.may_make.listed)
-  not_unlisted (DiskFault side) told no cause = absurd told
-  not_unlisted Memory told no cause = absurd told
+  not_unlisted NotListed told never cause = refl
+  not_unlisted (TooManyHeads n) told never cause = absurd (never cause.0)
+  not_unlisted (Invalid reason operation) told never cause = absurd (never cause.1.listed)
+  not_unlisted (TooLong len) told never cause = absurd (never cause.1.may_make.listed)
+  not_unlisted Full told never cause = absurd (never cause.1.may_make.listed)
+  not_unlisted Spent told never cause = absurd (never cause.1.may_make.listed)
+  not_unlisted (Taken id) told never cause = absurd (never cause.1.may_make.listed)
+  not_unlisted (DiskFault side) told never cause = absurd told
+  not_unlisted Memory told never cause = absurd told
 
-  module _ (heads : List UpdateId) (n : ℕ) (yes : IsListed history.schema.rule.authors (public_key secret)) (after : AfterAllHeads history heads) (size : length heads ≡ n) (many : MAX_PREDS < n) where
+  module _ (heads : List UpdateId) (n : ℕ) (listed : IsListed history.schema.rule.authors (public_key secret)) (after : AfterAllHeads history heads) (size : length heads ≡ n) (many : MAX_PREDS < n) where
     may_not : (preds : List UpdateId) → MayMake history secret preds → ⊥
     may_not preds may = too_many heads preds n after may.after size many may.few
 
     not_many : (other : MakeFault) → IsTold other → IsMakeCause ask history secret taken ops c other → TooManyHeads n ≡ other
-    not_many NotListed told cause = absurd (cause yes)
+    not_many NotListed told cause = absurd (cause listed)
     not_many (TooManyHeads m) told cause = ap TooManyHeads (sym size ∙ ap length (one_heads (map entry_of history.members) heads cause.1.0 after cause.1.1) ∙ cause.1.2)
     not_many (Invalid reason operation) told cause = absurd (may_not cause.0 cause.1)
     not_many (TooLong len) told cause = absurd (may_not cause.0 cause.1.may_make)
