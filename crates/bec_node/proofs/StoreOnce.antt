@@ -54,12 +54,12 @@ module _ (stores : StoreLaws) where
   refused_once parts r s (bad_store bad is) (bad_store again so) = is ∙ sym so
 
   read_answered : (Shows : StoreData → List ℕ → Type 0) → IsShownOnce Shows → IsOneOfParts (ReadsStore Shows)
-  read_answered Shows once parts added others a b (shows store text has shown none p) (shows other line had seen no q) =
+  read_answered Shows once parts added others a b (shows store text has shown none p) (shows other line had seen naught q) =
       let same : store ≡ other = stores.one_store is_luhn parts.schema parts.updates store other has had in
       same_prints a b text line (once other text line (subst (λ (s : StoreData). Shows s text) same shown) seen) p q
-  read_answered Shows once parts added others a b (shows store text has shown none p) (refused r refuses no is) = absurd (read_or_refused parts store r has refuses)
-  read_answered Shows once parts added others a b (refused r refuses no is) (shows store text has shown none p) = absurd (read_or_refused parts store r has refuses)
-  read_answered Shows once parts added others a b (refused r refuses no is) (refused s refused_too none so) = same_refused a b r s (refused_once parts r s refuses refused_too) is so
+  read_answered Shows once parts added others a b (shows store text has shown none p) (refused r refuses naught is) = absurd (read_or_refused parts store r has refuses)
+  read_answered Shows once parts added others a b (refused r refuses naught is) (shows store text has shown none p) = absurd (read_or_refused parts store r has refuses)
+  read_answered Shows once parts added others a b (refused r refuses naught is) (refused s refused_too none so) = same_refused a b r s (refused_once parts r s refuses refused_too) is so
 
 -- so it is of each command that only reads a store
 pub record OneOfParts : Type 0 where
