@@ -13,6 +13,7 @@ use Rattle.update_model.specs.Entry.{Entry}
 use Rattle.update_model.specs.Graph.{IsClosed, byte_count, holds, is_within}
 use Rattle.update_model.specs.Rule.{IsListed}
 use Rattle.update_model.proofs.Closed.{Follows-pop}
+use Rattle.update_codec.specs.declared.limits.TheConstants.{UPDATE_LIMIT}
 use Rattle.update_codec.specs.Parts.{entry_of, id_of}
 use Rattle.update_codec.specs.Spelling.{signed_length, spelling}
 use Rattle.update_codec.proofs.Places.{author_stands}
@@ -22,8 +23,8 @@ use Rattle.lms_tree.specs.SecretKey.{SecretData, public_key}
 use Rattle.schema.specs.Schemas.{Meaning}
 use Rattle.history.specs.Histories.{HistoryData}
 use Rattle.key_index.specs.Used.{least_unused}
-use Rattle.replica.specs.Making.{AfterAllHeads, AfterLeastHeads, HasNoneToJoin, HasRoom, IsJoinCause, IsMadeBy, IsMakeCause, Joins, Makes, MayMake, body_by, update_by}
-use Rattle.replica.specs.Told.{IsBeforeVerdict, IsTold}
+use Rattle.replica.specs.Making.{AfterAllHeads, AfterLeastHeads, HasLength, HasNoneToJoin, HasRoom, IsJoinCause, IsMadeBy, IsMakeCause, Joins, Makes, MayMake, body_by, update_by}
+use Rattle.replica.specs.Told.{IsAfterVerdict, IsBeforeVerdict, IsTold}
 use Rattle.replica.specs.declared.make_fault.MakeFault.{MakeFault}
 use Rattle.replica.specs.declared.make_fault.MakeFault.TheVariants.{NotListed, TooManyHeads, Invalid, TooLong, Full, Spent, Taken, DiskFault, Memory}
 use Rattle.replica.proofs.Behind.{spelled_length}
@@ -78,6 +79,10 @@ module _ (history : HistoryData) (secret : SecretData) (taken : List Bool) (pred
       let graph = map entry_of history.members in
       let pushed : map entry_of (history.members ++ bytes ∷ []) ≡ graph ++ entry_of bytes ∷ [] = map-append entry_of history.members (bytes ∷ []) in
       (Follows-pop [] graph (entry_of bytes) (subst IsClosed pushed members.closed)).1.new
+
+  -- its length is within the limit
+  made_short : signed_length (body_by history (public_key secret) preds ops) ≤ UPDATE_LIMIT
+  made_short = subst (λ (n : ℕ). n ≤ UPDATE_LIMIT) (spelled_length bytes (update_by secret made.index c (body_by history (public_key secret) preds ops)) made.spells) made.spells.short
 
 -- ---- joining
 
@@ -176,6 +181,19 @@ module _ (history : HistoryData) (secret : SecretData) (taken : List Bool) (c : 
 
 -- ---- making
 
+-- why an update of operations that may be made was not, of which these are all heads
+data MakeStop (history : HistoryData) (secret : SecretData) (taken : List Bool) (ops : List Op) (c : List ℕ) (preds : List UpdateId) : MakeFault → Type 0 where
+  too_long : (len : ℕ) → signed_length (body_by history (public_key secret) preds ops) ≡ len → UPDATE_LIMIT < len → MakeStop history secret taken ops c preds (TooLong len)
+  no_room : signed_length (body_by history (public_key secret) preds ops) ≤ UPDATE_LIMIT → ¬ (HasRoom history (signed_length (body_by history (public_key secret) preds ops)))
+      → MakeStop history secret taken ops c preds Full
+  no_index : HasLength history secret preds ops → least_unused taken ≡ None → MakeStop history secret taken ops c preds Spent
+  id_held : (id : UpdateId) (bytes : List ℕ) → HasLength history secret preds ops → IsMadeBy history secret taken preds ops c bytes → id_of bytes ≡ id
+      → holds (map entry_of history.members) id ≡ true → MakeStop history secret taken ops c preds (Taken id)
+
+-- what is short is not long
+short_and_long : (size len : ℕ) → size ≡ len → UPDATE_LIMIT < len → size ≤ UPDATE_LIMIT → ⊥
+short_and_long size len same long short = omega (arith, same, long, short)
+
 module _ (ask : Meaning) (history : HistoryData) (secret : SecretData) (taken : List Bool) (ops : List Op) (c : List ℕ) where
   too_many : (heads preds : List UpdateId) (n : ℕ) → AfterAllHeads history heads → AfterAllHeads history preds → length heads ≡ n → MAX_PREDS < n → length preds ≤ MAX_PREDS → ⊥
   too_many heads preds n here there size many few = let same = ap length (one_heads (map entry_of history.members) heads preds here there) in omega (arith, same, size, many, few)
@@ -229,3 +247,70 @@ module _ (ask : Meaning) (history : HistoryData) (secret : SecretData) (taken : 
   one_make_cause (Taken id) other early told cause reason = absurd early
   one_make_cause (DiskFault side) other early told cause reason = absurd early
   one_make_cause Memory other early told cause reason = absurd early
+
+  -- ---- where the operations are valid
+
+  make_stop : (why : MakeFault) → IsAfterVerdict why → IsMakeCause ask history secret taken ops c why → (preds : List UpdateId) × AfterAllHeads history preds × MakeStop history secret taken ops c preds why
+  make_stop NotListed late cause = absurd late
+  make_stop (TooManyHeads n) late cause = absurd late
+  make_stop (Invalid reason operation) late cause = absurd late
+  make_stop (TooLong len) late cause = (cause.0, cause.1.may_make.after, too_long len cause.2 cause.3)
+  make_stop Full late cause = (cause.0, cause.1.may_make.after, no_room cause.2 cause.3)
+  make_stop Spent late cause = (cause.0, cause.1.may_make.after, no_index cause.2 cause.3)
+  make_stop (Taken id) late cause = (cause.0, cause.1.may_make.after, id_held id cause.3.0 cause.2 cause.3.1 cause.3.2 cause.3.3)
+  make_stop (DiskFault side) late cause = absurd late
+  make_stop Memory late cause = absurd late
+
+  -- all heads are one list
+  moved_stop : (preds others : List UpdateId) (why : MakeFault) → AfterAllHeads history preds → AfterAllHeads history others → MakeStop history secret taken ops c preds why
+      → MakeStop history secret taken ops c others why
+  moved_stop preds others why a b stop = subst (λ (p : List UpdateId). MakeStop history secret taken ops c p why) (one_heads (map entry_of history.members) preds others a b) stop
+
+  make_stops_once : (preds : List UpdateId) (why other : MakeFault) → MakeStop history secret taken ops c preds why → MakeStop history secret taken ops c preds other → why ≡ other
+  make_stops_once preds why other (too_long len size long) (too_long more is longer) = ap TooLong (sym size ∙ is)
+  make_stops_once preds why other (too_long len size long) (no_room short small) = absurd (short_and_long (signed_length (body_by history (public_key secret) preds ops)) len size long short)
+  make_stops_once preds why other (too_long len size long) (no_index fits none_left) = absurd (short_and_long (signed_length (body_by history (public_key secret) preds ops)) len size long fits.short)
+  make_stops_once preds why other (too_long len size long) (id_held id bytes fits made is has) = absurd (short_and_long (signed_length (body_by history (public_key secret) preds ops)) len size long fits.short)
+  make_stops_once preds why other (no_room short small) (too_long len size long) = absurd (short_and_long (signed_length (body_by history (public_key secret) preds ops)) len size long short)
+  make_stops_once preds why other (no_room short small) (no_room again less) = refl
+  make_stops_once preds why other (no_room short small) (no_index fits none_left) = absurd (small fits.room)
+  make_stops_once preds why other (no_room short small) (id_held id bytes fits made is has) = absurd (small fits.room)
+  make_stops_once preds why other (no_index fits none_left) (too_long len size long) = absurd (short_and_long (signed_length (body_by history (public_key secret) preds ops)) len size long fits.short)
+  make_stops_once preds why other (no_index fits none_left) (no_room short small) = absurd (small fits.room)
+  make_stops_once preds why other (no_index fits none_left) (no_index again gone) = refl
+  make_stops_once preds why other (no_index fits none_left) (id_held id bytes again made is has) = absurd (let least = made.least in cc)
+  make_stops_once preds why other (id_held id bytes fits made is has) (too_long len size long) = absurd (short_and_long (signed_length (body_by history (public_key secret) preds ops)) len size long fits.short)
+  make_stops_once preds why other (id_held id bytes fits made is has) (no_room short small) = absurd (small fits.room)
+  make_stops_once preds why other (id_held id bytes fits made is has) (no_index again none_left) = absurd (let least = made.least in cc)
+  make_stops_once preds why other (id_held id bytes fits made is has) (id_held name more again twice so had) =
+      ap Taken (sym is ∙ ap id_of (made_once history secret taken preds ops c bytes more made twice) ∙ so)
+
+  -- one refusal of operations that are valid
+  pub one_late_cause : (why other : MakeFault) → IsAfterVerdict why → IsAfterVerdict other → IsMakeCause ask history secret taken ops c why → IsMakeCause ask history secret taken ops c other → why ≡ other
+  one_late_cause why other late later cause reason =
+      let first = make_stop why late cause in
+      let second = make_stop other later reason in
+      make_stops_once second.0 why other (moved_stop first.0 second.0 why first.1 second.1 first.2) second.2
+
+  -- and none where an update is made
+  pub made_or_stopped : (id : UpdateId) (new : HistoryData) (why : MakeFault) → IsAfterVerdict why → Makes ask history secret taken ops c id new → IsMakeCause ask history secret taken ops c why → ⊥
+  made_or_stopped id new why late makes cause = let first = make_stop why late cause in by why (moved_stop first.0 makes.preds why first.1 makes.after first.2)
+    where
+      by : (w : MakeFault) → MakeStop history secret taken ops c makes.preds w → ⊥
+      by w (too_long len size long) =
+          short_and_long (signed_length (body_by history (public_key secret) makes.preds ops)) len size long (made_short history secret taken makes.preds ops c makes.bytes makes.members makes.made)
+      by w (no_room short small) = small (made_room history secret taken makes.preds ops c makes.bytes makes.members makes.made)
+      by w (no_index fits none_left) = let least = makes.made.least in absurd cc
+      by w (id_held name bytes fits made is has) =
+          let same : bytes ≡ makes.bytes = made_once history secret taken makes.preds ops c bytes makes.bytes made makes.made in
+          let called : name ≡ id_of makes.bytes = sym is ∙ ap id_of same in
+          let there : holds (map entry_of history.members) (id_of makes.bytes) ≡ true = sym (ap (holds (map entry_of history.members)) called) ∙ has in
+          let new_id = made_new history secret taken makes.preds ops c makes.bytes makes.members makes.made in
+          absurd cc
+
+  -- one update is made
+  pub made_one : (id other : UpdateId) (new newer : HistoryData) → Makes ask history secret taken ops c id new → Makes ask history secret taken ops c other newer → id ≡ other
+  made_one id other new newer a b =
+      let moved : IsMadeBy history secret taken b.preds ops c a.bytes =
+      subst (λ (p : List UpdateId). IsMadeBy history secret taken p ops c a.bytes) (one_heads (map entry_of history.members) a.preds b.preds a.after b.after) a.made in
+      a.id_is ∙ ap id_of (made_once history secret taken b.preds ops c a.bytes b.bytes moved b.made) ∙ sym b.id_is

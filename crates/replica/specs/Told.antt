@@ -25,3 +25,15 @@ IsBeforeVerdict Spent = ⊥
 IsBeforeVerdict (Taken id) = ⊥
 IsBeforeVerdict (DiskFault side) = ⊥
 IsBeforeVerdict Memory = ⊥
+
+-- The operations were judged, and are valid.
+abbrev pub IsAfterVerdict : MakeFault → Type 0
+IsAfterVerdict NotListed = ⊥
+IsAfterVerdict (TooManyHeads n) = ⊥
+IsAfterVerdict (Invalid reason operation) = ⊥
+IsAfterVerdict (TooLong len) = Unit {0}
+IsAfterVerdict Full = Unit {0}
+IsAfterVerdict Spent = Unit {0}
+IsAfterVerdict (Taken id) = Unit {0}
+IsAfterVerdict (DiskFault side) = ⊥
+IsAfterVerdict Memory = ⊥

@@ -7,7 +7,7 @@ ghost use Rattle.lms_tree.specs.SecretKey.{SecretData};
 ghost use Rattle.schema.specs.Schemas.{Meaning};
 ghost use Rattle.history.specs.Histories.{HistoryData};
 ghost use Rattle.replica.specs.Making.{HasNoneToJoin, IsJoinCause, IsMakeCause, Joins, Makes};
-ghost use Rattle.replica.specs.Told.{IsBeforeVerdict, IsTold};
+ghost use Rattle.replica.specs.Told.{IsAfterVerdict, IsBeforeVerdict, IsTold};
 ghost use Rattle.replica.specs.declared.make_fault.MakeFault.{MakeFault};
 
 /// Heads are joined by one update, or there are none to join, or one refusal has its cause: no two of these.
@@ -29,5 +29,15 @@ pub fn one_early_refusal()
     ensures refused { (ask : Meaning) (history : HistoryData) (secret : SecretData) (taken : List Bool) (ops : List Op) (c : List ℕ) (why other : MakeFault) → IsBeforeVerdict why → IsTold other
         → IsMakeCause ask history secret taken ops c why → IsMakeCause ask history secret taken ops c other → why ≡ other }
     ensures made_or_refused { (ask : Meaning) (history : HistoryData) (secret : SecretData) (taken : List Bool) (ops : List Op) (c : List ℕ) (id : UpdateId) (new : HistoryData) (why : MakeFault) → IsBeforeVerdict why
+        → Makes ask history secret taken ops c id new → IsMakeCause ask history secret taken ops c why → ⊥ }
+{}
+
+/// Operations that are valid make one update, or one refusal has its cause, and not both.
+pub fn one_make()
+    ensures made { (ask : Meaning) (history : HistoryData) (secret : SecretData) (taken : List Bool) (ops : List Op) (c : List ℕ) (id other : UpdateId) (new newer : HistoryData)
+        → Makes ask history secret taken ops c id new → Makes ask history secret taken ops c other newer → id ≡ other }
+    ensures refused { (ask : Meaning) (history : HistoryData) (secret : SecretData) (taken : List Bool) (ops : List Op) (c : List ℕ) (why other : MakeFault) → IsAfterVerdict why → IsAfterVerdict other
+        → IsMakeCause ask history secret taken ops c why → IsMakeCause ask history secret taken ops c other → why ≡ other }
+    ensures made_or_refused { (ask : Meaning) (history : HistoryData) (secret : SecretData) (taken : List Bool) (ops : List Op) (c : List ℕ) (id : UpdateId) (new : HistoryData) (why : MakeFault) → IsAfterVerdict why
         → Makes ask history secret taken ops c id new → IsMakeCause ask history secret taken ops c why → ⊥ }
 {}

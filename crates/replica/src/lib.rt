@@ -32,7 +32,7 @@ mod signing;
 
 pub use create_fault::{CreateFault, CreateKind};
 pub use creating::create;
-pub use laws::{one_early_refusal, one_join};
+pub use laws::{one_early_refusal, one_join, one_make};
 pub use make_fault::{MakeFault, Side};
 pub use open_fault::{OpenFault, OpenKind};
 pub use opening::open_store;
