@@ -18,7 +18,7 @@ use Rattle.bec_node.specs.Verdict.{CheckAnswer}
 use Rattle.bec_node.specs.Outcome.{ComesTo, Outcome, Says, status_for, status_of}
 use Rattle.bec_node.specs.Outside.{Outside}
 use Rattle.bec_node.specs.Run.{AnswersOnly, Comes, EachAs, ShelfOnly, SignOnly, SourceOnly}
-use Rattle.bec_node.specs.Signing.{Applies, ApplyAnswer, IsBeforeOperations, IsNoStop, IsSourceFault, JoinAnswer, JoinsHeads, SignAnswer, StoreAnswer}
+use Rattle.bec_node.specs.Signing.{Applies, ApplyAnswer, IsNoStop, IsSourceFault, IsSureOfApply, JoinAnswer, JoinsHeads, SignAnswer, StoreAnswer}
 use Rattle.bec_node.specs.StoreAnswers.{Readings, ReadsStore, ShowsHeads, ShowsRecords, ShowsTables}
 use Rattle.bec_node.proofs.Answer.{IsOneAnswer, OneAnswer}
 use Rattle.bec_node.proofs.MakersOnce.{OneOfMakers, used_or_not}
@@ -92,10 +92,9 @@ init_fault dir before None status is tells = tt
 init_fault dir before (Some input) status is tells = λ other later. each_fault (InitAnswer (Some input) other before.stream (readings before.store dir) later) status (inr (inr is))
 
 apply_fault : {S H R : Type 0} (dir : List ℕ) (before : Outside S H R) (left : Option (List ℕ)) (status : ℕ) → status ≡ OUT_OF_MEMORY
-    → IfSome left (λ input. (other : Option (List ℕ)) → ShelfOnly (λ shown added given. StoreAnswer (Unit {0}) (ApplyAnswer (Some input) other before.stream) shown added given × IsBeforeOperations given) dir before.store status)
-apply_fault dir before None status is = tt
-apply_fault dir before (Some input) status is = λ other.
-    shelf_fault (λ shown added given. StoreAnswer (Unit {0}) (ApplyAnswer (Some input) other before.stream) shown added given × IsBeforeOperations given) dir before.store status (inr (inr is))
+    → IsTrue before.store.tells → IfSome left (λ input. EachAs (IsSureOfApply input before.stream (readings before.store dir)) status)
+apply_fault dir before None status is tells = tt
+apply_fault dir before (Some input) status is tells = each_fault (IsSureOfApply input before.stream (readings before.store dir)) status (inr (inr is))
 
 -- want of memory comes in place of each answer
 pub only_memory : {S H R : Type 0} (request : RequestText) (before : Outside S H R) (status : ℕ) → status ≡ OUT_OF_MEMORY → AnswersOnly request before status
@@ -168,21 +167,29 @@ module _ {S H R : Type 0} (one : OneAnswer) (parts : OneOfParts) (makers : OneOf
 
   apply_only : (dir : List ℕ) (left : Option (List ℕ)) (outcome : Outcome)
       → RunsStore (λ given. IsShelfFault before.shelf_faults after.shelf_faults given ⊎ IsSourceFault before.source_faults after.source_faults given)
-          (StoreAnswer ((after.source ≡ before.source) × (after.random ≡ before.random)) (ApplyAnswer left after.left before.stream)) (Schema ∷ Updates ∷ Key ∷ Used ∷ []) dir before.store after.store outcome
+      (StoreAnswer ((after.source ≡ before.source) × (after.random ≡ before.random)) (ApplyAnswer left after.left before.stream)) (Schema ∷ Updates ∷ Key ∷ Used ∷ []) dir before.store after.store outcome
       → IsSaidAs outcome status
-      → IfSome left (λ input. (other : Option (List ℕ)) → ShelfOnly (λ shown added given. StoreAnswer (Unit {0}) (ApplyAnswer (Some input) other before.stream) shown added given × IsBeforeOperations given) dir before.store status)
-  apply_only dir None outcome runs said = tt
-  apply_only dir (Some input) outcome runs said = λ other.
-      shelf_said (λ given. IsShelfFault before.shelf_faults after.shelf_faults given ⊎ IsSourceFault before.source_faults after.source_faults given)
-      (StoreAnswer ((after.source ≡ before.source) × (after.random ≡ before.random)) (ApplyAnswer (Some input) after.left before.stream))
-      (λ shown added given. StoreAnswer (Unit {0}) (ApplyAnswer (Some input) other before.stream) shown added given × IsBeforeOperations given) (Schema ∷ Updates ∷ Key ∷ Used ∷ []) dir before.store after.store outcome status
-      (λ shown added others a b is so.
-      (makers.apply input after.left other before.stream shown added others a b so.1
-          (used_or_not ((after.source ≡ before.source) × (after.random ≡ before.random)) (ApplyAnswer (Some input) after.left before.stream) shown added a is) so.0).0) fault runs said
+      → IsTrue before.store.tells → IfSome left (λ input. EachAs (IsSureOfApply input before.stream (readings before.store dir)) status)
+  apply_only dir None outcome runs said tells = tt
+  apply_only dir (Some input) outcome runs said tells =
+      told_only (λ given. IsShelfFault before.shelf_faults after.shelf_faults given ⊎ IsSourceFault before.source_faults after.source_faults given)
+      (λ given. StoreAnswer ((after.source ≡ before.source) × (after.random ≡ before.random)) (ApplyAnswer (Some input) after.left before.stream) (readings before.store dir) runs.added given)
+      (IsSureOfApply input before.stream (readings before.store dir)) outcome
+      (λ given came sure.
+      (makers.apply input before.stream (readings before.store dir) outcome given (
+        after.left,
+        runs.added,
+        used_or_not ((after.source ≡ before.source) × (after.random ≡ before.random)) (ApplyAnswer (Some input) after.left before.stream) (readings before.store dir) runs.added outcome came,
+      ) sure).0)
+      fault (applied runs.comes) said
     where
       fault : IsShelfFault before.shelf_faults after.shelf_faults outcome ⊎ IsSourceFault before.source_faults after.source_faults outcome → IsFaultStatus (status_of outcome)
       fault (inl failed) = fault_status before.shelf_faults after.shelf_faults outcome failed
       fault (inr stops) = inr (inl (ap status_of stops.0))
+
+      applied : {Came Fault Rest : Type 0} → (IsTrue before.store.tells → Came) ⊎ (Fault × Rest) → Came ⊎ Fault
+      applied (inl answers) = inl (answers tells)
+      applied (inr failed) = inr failed.0
 
   pub only_said : (request : RequestText) (outcome : Outcome) → Comes request before after outcome → IsSaidAs outcome status → AnswersOnly request before status
   only_said (heads None) outcome comes said = source_only HeadsAnswer one.heads outcome comes.comes said

@@ -13,7 +13,7 @@ use Rattle.bec_node.specs.Creating.{DrawsKeyOnly, InitAnswer, Inits, KeygenAnswe
 use Rattle.bec_node.specs.Heads.{HeadsAnswer}
 use Rattle.bec_node.specs.Outcome.{ComesTo, Outcome, Says, status_of}
 use Rattle.bec_node.specs.Outside.{IsUntouched, Outside, SinkState}
-use Rattle.bec_node.specs.Signing.{Applies, ApplyAnswer, IsBeforeOperations, JoinAnswer, JoinsHeads, SignAnswer, StoreAnswer}
+use Rattle.bec_node.specs.Signing.{Applies, IsSureOfApply, JoinAnswer, JoinsHeads, SignAnswer, StoreAnswer}
 use Rattle.bec_node.specs.StoreAnswers.{Readings, ReadsStore, ShowsHeads, ShowsRecords, ShowsTables}
 use Rattle.bec_node.specs.Verdict.{CheckAnswer}
 
@@ -81,7 +81,7 @@ abbrev pub SignOnly : SignAnswer → List ℕ → ShelfState → ℕ → Type 0
 SignOnly Answer dir shelf status = ShelfOnly (StoreAnswer (Unit {0}) Answer) dir shelf status
 
 -- Each answer that a request has to what stands outside comes with its status, unless a disk or a stream failed or memory ran out. Of
--- `apply` it is each refusal that comes before the operations are judged.
+-- `apply` it is each refusal that comes before the operations are judged, and every answer where none is that they are invalid.
 abbrev pub AnswersOnly : {S H R : Type 0} → RequestText → Outside S H R → ℕ → Type 0
 AnswersOnly (heads None) before status = SourceOnly HeadsAnswer before.left status
 AnswersOnly (heads (Some dir)) before status = ShelfOnly (ReadsStore ShowsHeads) dir before.store status
@@ -92,9 +92,7 @@ AnswersOnly (init dir) before status =
     IsTrue before.store.tells → IfSome before.left (λ input. (after : Option (List ℕ)) (later : Readings) → EachAs (InitAnswer (Some input) after before.stream (readings before.store dir) later) status)
 AnswersOnly (keygen dir lms ots) before status =
     IsTrue before.store.tells → (later : Readings) → EachAs (KeygenAnswer lms ots before.stream (readings before.store dir) later) status
-AnswersOnly (apply dir) before status =
-    IfSome before.left (λ input. (after : Option (List ℕ))
-    → ShelfOnly (λ parts added outcome. StoreAnswer (Unit {0}) (ApplyAnswer (Some input) after before.stream) parts added outcome × IsBeforeOperations outcome) dir before.store status)
+AnswersOnly (apply dir) before status = IsTrue before.store.tells → IfSome before.left (λ input. EachAs (IsSureOfApply input before.stream (readings before.store dir)) status)
 AnswersOnly (join dir) before status = SignOnly (JoinAnswer before.stream) dir before.store status
 AnswersOnly (export dir updates_only) before status = ShelfOnly (ReadsStore (ShowsRecords updates_only)) dir before.store status
 AnswersOnly (merge first second) before status = Unit {0}

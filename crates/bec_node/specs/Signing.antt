@@ -115,6 +115,21 @@ IsBeforeOperations (Err refusals.AuthorNotListed) = Unit {0}
 IsBeforeOperations (Err (refusals.Heads count)) = Unit {0}
 IsBeforeOperations outcome = ⊥
 
+-- The operations are judged, and are invalid.
+abbrev pub IsInvalid : Outcome → Type 0
+IsInvalid (Err (refusals.Invalid reason operation)) = Unit {0}
+IsInvalid outcome = ⊥
+
+-- What `apply` may answer to an input, whatever is left of it, and whether what an answer leaves unused was used or not.
+abbrev pub MayApply : List ℕ → Stream → Readings → Outcome → Type 0
+MayApply input stream parts outcome = (after : Option (List ℕ)) × (added : List (List ℕ)) × StoreAnswer (Unit {0}) (ApplyAnswer (Some input) after stream) parts added outcome
+
+-- Of these the answers that exclude each other one: each refusal that comes before the operations are judged; and every answer, where none is that
+-- they are invalid.
+abbrev pub IsSureOfApply : List ℕ → Stream → Readings → Outcome → Type 0
+IsSureOfApply input stream parts outcome =
+    MayApply input stream parts outcome × (IsBeforeOperations outcome ⊎ ((other : Outcome) → MayApply input stream parts other → IsInvalid other → ⊥))
+
 -- `apply`.
 abbrev pub Applies : {S H R : Type 0} → List ℕ → Outside S H R → Outside S H R → Outcome → Type 0
 Applies dir before after outcome =

@@ -9,6 +9,7 @@ returns c =
     (record { one_key = c.one_key.ensures; not_bad = c.key_or_not.ensures.not_bad; no_key = c.key_or_not.ensures.no_key; bad_key = c.key_or_not.ensures.bad_key })
     (record { one_transaction = c.one_transaction.ensures; one_fault = c.one_fault.ensures; no_fault = c.no_fault.ensures })
     (record { refused = c.one_early_refusal.ensures.refused; made_or_refused = c.one_early_refusal.ensures.made_or_refused })
+    (record { made = c.one_make.ensures.made; refused = c.one_make.ensures.refused; made_or_refused = c.one_make.ensures.made_or_refused })
     (record {
       joined = c.one_join.ensures.joined;
       refused = c.one_join.ensures.refused;
