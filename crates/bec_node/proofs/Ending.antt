@@ -1,20 +1,19 @@
 -- How a run ends.
-use Rattle.std.proofs.Common.{◌≡◌, ◌⊎◌, inl, inr, ℕ, List, [], ◌++◌, append-nil, codes, refl, sym, ap, subst, ◌∙◌, map, Option, Some, None, Ok, Err, String}
+use Rattle.std.proofs.Common.{◌≡◌, inl, inr, ℕ, List, [], append-nil, codes, refl, sym, subst, map, Option, Some, None, Ok, Err, String}
 use Rattle.std.specs.declared.alloc.Global.{Global}
 use Rattle.std.specs.String.{string_bytes}
 use Rattle.std.specs.Io.KnownBytes.{Appends}
 use Rattle.lm_ots.specs.declared.ots_type.OtsType.{OtsType}
 use Rattle.lms_tree.specs.declared.lms_type.LmsType.{LmsType}
 use Rattle.command_words.specs.Requests.{Asks, RequestText, heads, check, dump, init, keygen, apply, join, export, merge}
-use Rattle.bec_node.specs.declared.refusal.Refusal.{Refusal}
 use Rattle.bec_node.specs.declared.refusal.Refusal.TheVariants.{Words, Memory}
-use Rattle.bec_node.specs.declared.status.TheConstants.{NO_COMMAND, OUT_OF_MEMORY, STREAM_FAULT}
+use Rattle.bec_node.specs.declared.status.TheConstants.{NO_COMMAND, OUT_OF_MEMORY}
 use Rattle.bec_node.specs.Bundle.{DumpAnswer}
 use Rattle.bec_node.specs.Heads.{HeadsAnswer}
 use Rattle.bec_node.specs.Verdict.{CheckAnswer}
-use Rattle.bec_node.specs.Outcome.{ComesTo, Ends, MayLackMemory, Outcome, Puts, Says, status_for, status_of}
+use Rattle.bec_node.specs.Outcome.{Ends, MayLackMemory, Outcome, Puts, Says}
 use Rattle.bec_node.specs.Outside.{IsUntouched, Outside, SinkState}
-use Rattle.bec_node.specs.Run.{AnswersOnly, Comes, IsCommand, IsLeftOut, IsNoCommand, named, none, ReadsSource, Runs, SourceOnly, unread}
+use Rattle.bec_node.specs.Run.{AnswersOnly, Comes, IsCommand, IsLeftOut, IsNoCommand, named, none, ReadsSource, Runs, unread}
 use Rattle.store_directory.specs.Stores.{StoreData}
 use Rattle.bec_node.specs.Comes.{ReadsStoreOnly}
 use Rattle.bec_node.specs.StoreAnswers.{ReadsStore, ShowsHeads, ShowsRecords, ShowsTables}

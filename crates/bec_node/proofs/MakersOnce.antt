@@ -8,7 +8,7 @@ use Rattle.lms_tree.specs.SecretKey.{SecretData}
 use Rattle.update_model.specs.declared.op.Op.{Op}
 use Rattle.update_model.specs.declared.update_id.UpdateId.{UpdateId}
 use Rattle.schema.specs.Schemas.{Declares, Meaning, SchemaData}
-use Rattle.confluence_test.specs.Taking.{RefusesSchema, TakesSchema}
+use Rattle.confluence_test.specs.Taking.{RefusesSchema}
 use Rattle.history.specs.Histories.{HistoryData}
 use Rattle.replica.specs.Making.{HasNoneToJoin, IsJoinCause, IsMakeCause, Joins, Makes}
 use Rattle.replica.specs.Told.{IsAfterVerdict, IsBeforeVerdict, IsTold}

@@ -1,6 +1,5 @@
 -- Each answer comes with its status.
 use Rattle.std.proofs.Common.{◌≡◌, ◌⊎◌, inl, inr, ℕ, List, [], ◌∷◌, sym, ap, subst, ◌∙◌, IsTrue, IfSome, Option, Some, None, Ok, Err}
-use Rattle.rand_core.specs.Stream.{Stream}
 use Rattle.lm_ots.specs.declared.ots_type.OtsType.{OtsType}
 use Rattle.lms_tree.specs.declared.lms_type.LmsType.{LmsType}
 use Rattle.command_words.specs.Requests.{RequestText, heads, check, dump, init, keygen, apply, join, export, merge}
@@ -12,13 +11,13 @@ use Rattle.bec_node.specs.declared.status.TheConstants.{OUT_OF_MEMORY, STORE_FAU
 use Rattle.bec_node.specs.Bundle.{DumpAnswer}
 use Rattle.store_directory.specs.Stores.{StoreData}
 use Rattle.bec_node.specs.Comes.{IsShelfFault, ReadsStoreOnly, RunsStore, readings}
-use Rattle.bec_node.specs.Creating.{DrawsKeyOnly, InitAnswer, Inits, IsInitFault, KeygenAnswer}
+use Rattle.bec_node.specs.Creating.{DrawsKeyOnly, InitAnswer, IsInitFault, KeygenAnswer}
 use Rattle.bec_node.specs.Heads.{HeadsAnswer}
 use Rattle.bec_node.specs.Verdict.{CheckAnswer}
 use Rattle.bec_node.specs.Outcome.{ComesTo, Outcome, Says, status_for, status_of}
 use Rattle.bec_node.specs.Outside.{Outside}
 use Rattle.bec_node.specs.Run.{AnswersOnly, Comes, EachAs, ShelfOnly, SignOnly, SourceOnly}
-use Rattle.bec_node.specs.Signing.{Applies, ApplyAnswer, IsNoStop, IsSourceFault, IsSureOfApply, JoinAnswer, JoinsHeads, SignAnswer, StoreAnswer}
+use Rattle.bec_node.specs.Signing.{ApplyAnswer, IsNoStop, IsSourceFault, IsSureOfApply, JoinAnswer, JoinsHeads, StoreAnswer}
 use Rattle.bec_node.specs.StoreAnswers.{Readings, ReadsStore, ShowsHeads, ShowsRecords, ShowsTables}
 use Rattle.bec_node.proofs.Answer.{IsOneAnswer, OneAnswer}
 use Rattle.bec_node.proofs.MakersOnce.{OneOfMakers, used_or_not}
