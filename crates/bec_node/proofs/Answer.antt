@@ -73,7 +73,7 @@ module _ (streams : StreamLaws) where
   heads_answered input after other a b (refused m f r e) (refused n g s h) = same_refused a b (Record m f) (Record n g) (same_stop None input r.0 s.0 m n f g r.2 s.2) e h
 
 -- a text that is taken is not refused
-not_both : SchemaLaws → (input t u : List ℕ) (schema : SchemaData) (why : SchemaRefusal) → t ≡ input → u ≡ input → TakesSchema is_luhn t schema → RefusesSchema is_luhn u why → ⊥
+pub not_both : SchemaLaws → (input t u : List ℕ) (schema : SchemaData) (why : SchemaRefusal) → t ≡ input → u ≡ input → TakesSchema is_luhn t schema → RefusesSchema is_luhn u why → ⊥
 not_both laws input t u schema why here there takes refuses =
     laws.taken_or_refused is_luhn input schema why (subst (λ (w : List ℕ). TakesSchema is_luhn w schema) here takes) (subst (λ (w : List ℕ). RefusesSchema is_luhn w why) there refuses)
 

@@ -1,5 +1,5 @@
 -- From what the parts of a command answer to what it comes to.
-use Rattle.std.proofs.Common.{◌≡◌, ◌≢◌, ◌⊎◌, inl, inr, ℕ, ◌≤◌, List, refl, sym, ap, subst, ◌∙◌, Option, None, Some, Ok, Err, Vec, arith}
+use Rattle.std.proofs.Common.{◌≡◌, ◌≢◌, ◌⊎◌, inl, inr, ℕ, ◌≤◌, List, refl, ap, subst, Option, None, Some, Ok, Err, Vec, arith}
 use Rattle.std.specs.declared.alloc.Global.{Global}
 use Rattle.update_model.specs.Rule.{RuleData}
 use Rattle.update_stream.specs.declared.reading.Reading.TheVariants.{Whole}

@@ -1,20 +1,19 @@
 -- How a run ends.
-use Rattle.std.proofs.Common.{◌≡◌, ◌⊎◌, inl, inr, ℕ, List, [], ◌++◌, append-nil, codes, refl, sym, ap, subst, ◌∙◌, map, Option, Some, None, Ok, Err, String}
+use Rattle.std.proofs.Common.{◌≡◌, inl, inr, ℕ, List, [], append-nil, codes, refl, sym, subst, map, Option, Some, None, Ok, Err, String}
 use Rattle.std.specs.declared.alloc.Global.{Global}
 use Rattle.std.specs.String.{string_bytes}
 use Rattle.std.specs.Io.KnownBytes.{Appends}
 use Rattle.lm_ots.specs.declared.ots_type.OtsType.{OtsType}
 use Rattle.lms_tree.specs.declared.lms_type.LmsType.{LmsType}
 use Rattle.command_words.specs.Requests.{Asks, RequestText, heads, check, dump, init, keygen, apply, join, export, merge}
-use Rattle.bec_node.specs.declared.refusal.Refusal.{Refusal}
 use Rattle.bec_node.specs.declared.refusal.Refusal.TheVariants.{Words, Memory}
-use Rattle.bec_node.specs.declared.status.TheConstants.{NO_COMMAND, OUT_OF_MEMORY, STREAM_FAULT}
+use Rattle.bec_node.specs.declared.status.TheConstants.{NO_COMMAND, OUT_OF_MEMORY}
 use Rattle.bec_node.specs.Bundle.{DumpAnswer}
 use Rattle.bec_node.specs.Heads.{HeadsAnswer}
 use Rattle.bec_node.specs.Verdict.{CheckAnswer}
-use Rattle.bec_node.specs.Outcome.{ComesTo, Ends, MayLackMemory, Outcome, Puts, Says, status_for, status_of}
+use Rattle.bec_node.specs.Outcome.{Ends, MayLackMemory, Outcome, Puts, Says}
 use Rattle.bec_node.specs.Outside.{IsUntouched, Outside, SinkState}
-use Rattle.bec_node.specs.Run.{AnswersOnly, Comes, IsCommand, IsLeftOut, IsNoCommand, named, none, ReadsSource, Runs, SourceOnly, unread}
+use Rattle.bec_node.specs.Run.{AnswersOnly, Comes, IsCommand, IsLeftOut, IsNoCommand, named, none, ReadsSource, Runs, unread}
 use Rattle.store_directory.specs.Stores.{StoreData}
 use Rattle.bec_node.specs.Comes.{ReadsStoreOnly}
 use Rattle.bec_node.specs.StoreAnswers.{ReadsStore, ShowsHeads, ShowsRecords, ShowsTables}
@@ -25,6 +24,7 @@ use Rattle.bec_node.proofs.Reading.{read_without_memory}
 use Rattle.bec_node.specs.Signing.{Applies, ApplyAnswer, IsNoStop, IsSourceFault, JoinAnswer, JoinsHeads}
 use Rattle.bec_node.proofs.Signs.{none_by_apply, none_by_join, signs_without_memory}
 use Rattle.bec_node.proofs.Answer.{OneAnswer}
+use Rattle.bec_node.proofs.MakersOnce.{OneOfMakers}
 use Rattle.bec_node.proofs.StoreOnce.{OneOfParts}
 use Rattle.bec_node.proofs.Only.{only_memory, only_said, status_said}
 
@@ -91,21 +91,21 @@ abbrev pub OneRequest : Type 0
 OneRequest = (words : List (List ℕ)) (request other : RequestText) → Asks words request → Asks words other → request ≡ other
 
 module _ {S H R : Type 0} (words : List (String Global)) (before after : Outside S H R) (sink sink_new : SinkState) (status : ℕ) where
-  told : OneAnswer → OneOfParts → OneRequest → (request : RequestText) → IsCommand request words → (outcome : Outcome) → Comes request before after outcome
+  told : OneAnswer → OneOfParts → OneOfMakers → OneRequest → (request : RequestText) → IsCommand request words → (outcome : Outcome) → Comes request before after outcome
       → Says sink.faults sink_new.faults sink.held sink_new.held outcome status → Runs words before after sink sink_new status
-  told one parts unique request asks outcome comes said = record {
+  told one parts makers unique request asks outcome comes said = record {
     outcome = outcome;
     asked = named request asks comes;
     said = said;
     only = λ other is. subst (λ (q : RequestText). AnswersOnly q before status) (unique (map string_bytes words) request other asks is)
-        (only_said one parts before after status request outcome comes (status_said sink.faults sink_new.faults sink.held sink_new.held outcome status said));
+        (only_said one parts makers before after status request outcome comes (status_said sink.faults sink_new.faults sink.held sink_new.held outcome status said));
   }
 
   -- words that ask for something
-  pub runs : OneAnswer → OneOfParts → OneRequest → (request : RequestText) → IsCommand request words → (outcome : Outcome) → Comes request before after outcome
+  pub runs : OneAnswer → OneOfParts → OneOfMakers → OneRequest → (request : RequestText) → IsCommand request words → (outcome : Outcome) → Comes request before after outcome
       → Ends sink.faults sink_new.faults sink.held sink_new.held outcome status → Runs words before after sink sink_new status
-  runs one parts unique request asks outcome comes (inl said) = told one parts unique request asks outcome comes said
-  runs one parts unique request asks outcome comes (inr lacked) = told one parts unique request asks (Err Memory) (comes_lacking before after request outcome lacked.0 comes) lacked.1
+  runs one parts makers unique request asks outcome comes (inl said) = told one parts makers unique request asks outcome comes said
+  runs one parts makers unique request asks outcome comes (inr lacked) = told one parts makers unique request asks (Err Memory) (comes_lacking before after request outcome lacked.0 comes) lacked.1
 
   -- words that are none
   pub runs_none : IsNoCommand words → IsUntouched before after → Puts sink.faults sink_new.faults sink.held sink_new.held NO_COMMAND (codes "! words\n") status

@@ -9,6 +9,7 @@ pub mod NewKeys
 pub mod NewStores
 pub mod Signs
 pub mod StoreOnce
+pub mod MakersOnce
 pub mod Only
 pub mod Ending
 pub mod Bundles

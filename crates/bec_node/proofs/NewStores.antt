@@ -1,18 +1,15 @@
 -- A command that makes the store of a directory.
-use Rattle.std.proofs.Common.{◌≡◌, ◌≢◌, ◌⊎◌, inl, inr, ℕ, ◌≤◌, Bool, true, false, List, [], ◌∷◌, ◌++◌, length, refl, sym, ap, subst, ◌∙◌, IsTrue, Option, Some, None, Ok, Err, Vec, arith}
+use Rattle.std.proofs.Common.{◌≡◌, ◌≢◌, ◌⊎◌, inl, inr, ℕ, Bool, true, false, List, [], ◌∷◌, length, refl, sym, ap, subst, ◌∙◌, IsTrue, Option, Some, None, Ok, Err, Vec}
 use Rattle.std.specs.Prelude.{◌||◌}
 use Rattle.std.specs.declared.alloc.Global.{Global}
-use Rattle.rand_core.specs.Stream.{Stream}
 use Rattle.row_check.specs.Checksum.{is_luhn}
 use Rattle.bec_bytes.specs.Causes.{Rose}
 use Rattle.bec_disk.specs.Gated.{gated_of}
-use Rattle.bec_disk.specs.declared.gated.Gated.TheVariants.{Absent}
 use Rattle.bec_disk.specs.declared.disk_error.DiskError.{DiskError}
 use Rattle.bec_disk.specs.declared.disk_error.DiskError.TheVariants as disk_errors
 use Rattle.bec_disk.specs.declared.part.Part.TheVariants.{Schema, Updates}
-use Rattle.bec_disk.specs.Disk.{DiskState}
 use Rattle.bec_disk.specs.Shelf.{PartState, ShelfState, absent, out, stands}
-use Rattle.bec_disk.specs.Slot.{Slot, same_slot, slot}
+use Rattle.bec_disk.specs.Slot.{same_slot, slot}
 use Rattle.schema.specs.Schemas.{SchemaData}
 use Rattle.confluence_test.specs.Taking.{RefusesSchema, TakesSchema}
 use Rattle.confluence_test.specs.declared.refusal.SchemaRefusal.{SchemaRefusal}
@@ -22,7 +19,7 @@ use Rattle.update_check.specs.Members.{AreMembers}
 use Rattle.replica.specs.declared.create_fault.CreateKind.{CreateKind}
 use Rattle.replica.specs.declared.create_fault.CreateKind.TheVariants as create_kinds
 use Rattle.store_directory.specs.Holding.{OpenData, PutsStore}
-use Rattle.store_directory.specs.Making.{IsHanded, IsNewStoreCause, LetsNewGo, MakesStore}
+use Rattle.store_directory.specs.Making.{IsNewStoreCause, LetsNewGo, MakesStore}
 use Rattle.store_directory.specs.Stores.{IsHome, IsNoStore, IsStore, IsUntouched, KeepsAllBut, part_in, reading}
 use Rattle.store_directory.proofs.Handing.{untouched_by}
 use Rattle.store_directory.proofs.Made.{empty_store, made_is_store}
@@ -35,8 +32,8 @@ use Rattle.bec_node.specs.declared.refusal.Refusal.{Refusal}
 use Rattle.bec_node.specs.declared.refusal.Refusal.TheVariants as refusals
 use Rattle.bec_node.specs.Comes.{readings}
 use Rattle.bec_node.specs.Creating.{HasSchema, InitAnswer, Inits, IsInitFault, IsRefused, created, refused, there as store_there}
-use Rattle.bec_node.specs.Inputs.{IsWholeText, ReadsText}
-use Rattle.bec_node.specs.Outcome.{Outcome, Prints, from_creating, from_disk, from_taking}
+use Rattle.bec_node.specs.Inputs.{ReadsText}
+use Rattle.bec_node.specs.Outcome.{Outcome, from_creating, from_disk, from_taking}
 use Rattle.bec_node.specs.Outside.{Outside}
 use Rattle.bec_node.specs.StoreAnswers.{next_bytes}
 use Rattle.bec_node.specs.Texts.{database_text}

@@ -1,21 +1,26 @@
 -- Each answer comes with its status.
-use Rattle.std.proofs.Common.{◌≡◌, ◌⊎◌, inl, inr, ℕ, List, [], ◌∷◌, sym, ap, subst, ◌∙◌, IsTrue, Option, Some, None, Ok, Err}
+use Rattle.std.proofs.Common.{◌≡◌, ◌⊎◌, inl, inr, ℕ, List, [], ◌∷◌, sym, ap, subst, ◌∙◌, IsTrue, IfSome, Option, Some, None, Ok, Err}
+use Rattle.lm_ots.specs.declared.ots_type.OtsType.{OtsType}
+use Rattle.lms_tree.specs.declared.lms_type.LmsType.{LmsType}
 use Rattle.command_words.specs.Requests.{RequestText, heads, check, dump, init, keygen, apply, join, export, merge}
 use Rattle.bec_disk.specs.declared.part.Part.{Part}
-use Rattle.bec_disk.specs.declared.part.Part.TheVariants.{Schema, Updates}
+use Rattle.bec_disk.specs.declared.part.Part.TheVariants.{Schema, Updates, Key, Used}
 use Rattle.bec_disk.specs.Shelf.{ShelfState}
 use Rattle.bec_node.specs.declared.refusal.Refusal.TheVariants.{Memory}
 use Rattle.bec_node.specs.declared.status.TheConstants.{OUT_OF_MEMORY, STORE_FAULT, STREAM_FAULT}
 use Rattle.bec_node.specs.Bundle.{DumpAnswer}
 use Rattle.store_directory.specs.Stores.{StoreData}
 use Rattle.bec_node.specs.Comes.{IsShelfFault, ReadsStoreOnly, RunsStore, readings}
+use Rattle.bec_node.specs.Creating.{DrawsKeyOnly, InitAnswer, IsInitFault, KeygenAnswer}
 use Rattle.bec_node.specs.Heads.{HeadsAnswer}
 use Rattle.bec_node.specs.Verdict.{CheckAnswer}
 use Rattle.bec_node.specs.Outcome.{ComesTo, Outcome, Says, status_for, status_of}
 use Rattle.bec_node.specs.Outside.{Outside}
-use Rattle.bec_node.specs.Run.{AnswersOnly, Comes, EachAs, ShelfOnly, SourceOnly}
+use Rattle.bec_node.specs.Run.{AnswersOnly, Comes, EachAs, ShelfOnly, SignOnly, SourceOnly}
+use Rattle.bec_node.specs.Signing.{ApplyAnswer, IsNoStop, IsSourceFault, IsSureOfApply, JoinAnswer, JoinsHeads, StoreAnswer}
 use Rattle.bec_node.specs.StoreAnswers.{Readings, ReadsStore, ShowsHeads, ShowsRecords, ShowsTables}
 use Rattle.bec_node.proofs.Answer.{IsOneAnswer, OneAnswer}
+use Rattle.bec_node.proofs.MakersOnce.{OneOfMakers, used_or_not}
 use Rattle.bec_node.proofs.StoreOnce.{IsOneOfParts, OneOfParts}
 
 -- the status is the outcome's own, or a stream fault's
@@ -68,16 +73,27 @@ fault_status : (old new : ℕ) (outcome : Outcome) → IsShelfFault old new outc
 fault_status old new outcome (inl memory) = inr (inr (ap status_of memory))
 fault_status old new outcome (inr failed) = inl (ap status_of failed.0)
 
-shelf_said : (Fault : Outcome → Type 0) (Answer : Readings → List (List ℕ) → Outcome → Type 0) (touched : List Part) (dir : List ℕ) (before after : ShelfState) (outcome : Outcome) (status : ℕ)
-    → IsOneOfParts Answer → (Fault outcome → IsFaultStatus (status_of outcome)) → RunsStore Fault Answer touched dir before after outcome → IsSaidAs outcome status → ShelfOnly Answer dir before status
-shelf_said Fault Answer touched dir before after outcome status one fault runs said = λ tells added. each_said (Answer (readings before dir) added) outcome status (by tells added runs.comes) said
+shelf_said : (Fault : Outcome → Type 0) (Answer Other : Readings → List (List ℕ) → Outcome → Type 0) (touched : List Part) (dir : List ℕ) (before after : ShelfState) (outcome : Outcome) (status : ℕ)
+    → ((parts : Readings) (added others : List (List ℕ)) (a b : Outcome) → Answer parts added a → Other parts others b → status_of a ≡ status_of b)
+    → (Fault outcome → IsFaultStatus (status_of outcome)) → RunsStore Fault Answer touched dir before after outcome → IsSaidAs outcome status → ShelfOnly Other dir before status
+shelf_said Fault Answer Other touched dir before after outcome status one fault runs said = λ tells others. each_said (Other (readings before dir) others) outcome status (by tells others runs.comes) said
   where
-    by : IsTrue before.tells → (added : List (List ℕ)) → (IsTrue before.tells → Answer (readings before dir) runs.added outcome) ⊎ (Fault outcome × (runs.added ≡ []))
-        → ((other : Outcome) → Answer (readings before dir) added other → status_of outcome ≡ status_of other) ⊎ IsFaultStatus (status_of outcome)
-    by tells added (inl answers) = inl (λ other answer. (one (readings before dir) runs.added added outcome other (answers tells) answer).0)
-    by tells added (inr f) = inr (fault f.0)
+    by : IsTrue before.tells → (others : List (List ℕ)) → (IsTrue before.tells → Answer (readings before dir) runs.added outcome) ⊎ (Fault outcome × (runs.added ≡ []))
+        → ((other : Outcome) → Other (readings before dir) others other → status_of outcome ≡ status_of other) ⊎ IsFaultStatus (status_of outcome)
+    by tells others (inl answers) = inl (λ other answer. one (readings before dir) runs.added others outcome other (answers tells) answer)
+    by tells others (inr f) = inr (fault f.0)
 
 -- ---- a request
+
+init_fault : {S H R : Type 0} (dir : List ℕ) (before : Outside S H R) (left : Option (List ℕ)) (status : ℕ) → status ≡ OUT_OF_MEMORY
+    → IsTrue before.store.tells → IfSome left (λ input. (other : Option (List ℕ)) (later : Readings) → EachAs (InitAnswer (Some input) other before.stream (readings before.store dir) later) status)
+init_fault dir before None status is tells = tt
+init_fault dir before (Some input) status is tells = λ other later. each_fault (InitAnswer (Some input) other before.stream (readings before.store dir) later) status (inr (inr is))
+
+apply_fault : {S H R : Type 0} (dir : List ℕ) (before : Outside S H R) (left : Option (List ℕ)) (status : ℕ) → status ≡ OUT_OF_MEMORY
+    → IsTrue before.store.tells → IfSome left (λ input. EachAs (IsSureOfApply input before.stream (readings before.store dir)) status)
+apply_fault dir before None status is tells = tt
+apply_fault dir before (Some input) status is tells = each_fault (IsSureOfApply input before.stream (readings before.store dir)) status (inr (inr is))
 
 -- want of memory comes in place of each answer
 pub only_memory : {S H R : Type 0} (request : RequestText) (before : Outside S H R) (status : ℕ) → status ≡ OUT_OF_MEMORY → AnswersOnly request before status
@@ -86,15 +102,15 @@ only_memory (heads (Some dir)) before status is = shelf_fault (ReadsStore ShowsH
 only_memory check before status is = source_fault CheckAnswer before.left status (inr (inr is))
 only_memory (dump None) before status is = source_fault DumpAnswer before.left status (inr (inr is))
 only_memory (dump (Some dir)) before status is = shelf_fault (ReadsStore ShowsTables) dir before.store status (inr (inr is))
-only_memory (init dir) before status is = tt
-only_memory (keygen dir lms ots) before status is = tt
-only_memory (apply dir) before status is = tt
-only_memory (join dir) before status is = tt
+only_memory (init dir) before status is = init_fault dir before before.left status is
+only_memory (keygen dir lms ots) before status is = λ tells later. each_fault (KeygenAnswer lms ots before.stream (readings before.store dir) later) status (inr (inr is))
+only_memory (apply dir) before status is = apply_fault dir before before.left status is
+only_memory (join dir) before status is = shelf_fault (StoreAnswer (Unit {0}) (JoinAnswer before.stream)) dir before.store status (inr (inr is))
 only_memory (export dir updates_only) before status is = shelf_fault (ReadsStore (ShowsRecords updates_only)) dir before.store status (inr (inr is))
 only_memory (merge first second) before status is = tt
 
 -- an outcome that came and was said
-module _ {S H R : Type 0} (one : OneAnswer) (parts : OneOfParts) (before after : Outside S H R) (status : ℕ) where
+module _ {S H R : Type 0} (one : OneAnswer) (parts : OneOfParts) (makers : OneOfMakers) (before after : Outside S H R) (status : ℕ) where
   source_only : (Answer : Option (List ℕ) → Option (List ℕ) → Outcome → Type 0) → IsOneAnswer Answer → (outcome : Outcome)
       → ComesTo Answer before.left after.left before.source_faults after.source_faults outcome → IsSaidAs outcome status → SourceOnly Answer before.left status
   source_only Answer single outcome comes said = source_said Answer single before.left after.left before.source_faults after.source_faults outcome status comes said
@@ -102,8 +118,77 @@ module _ {S H R : Type 0} (one : OneAnswer) (parts : OneOfParts) (before after :
   read_only : (Shows : StoreData → List ℕ → Type 0) → IsOneOfParts (ReadsStore Shows) → (dir : List ℕ) (outcome : Outcome) → ReadsStoreOnly (ReadsStore Shows) dir before after outcome → IsSaidAs outcome status
       → ShelfOnly (ReadsStore Shows) dir before.store status
   read_only Shows single dir outcome comes said =
-      shelf_said (IsShelfFault before.shelf_faults after.shelf_faults) (ReadsStore Shows) (Schema ∷ Updates ∷ []) dir before.store after.store outcome status single
+      shelf_said (IsShelfFault before.shelf_faults after.shelf_faults) (ReadsStore Shows) (ReadsStore Shows) (Schema ∷ Updates ∷ []) dir before.store after.store outcome status
+      (λ shown added others a b is so. (single shown added others a b is so).0)
       (fault_status before.shelf_faults after.shelf_faults outcome) comes.runs said
+
+  -- what is answered over what is there before, or a fault
+  told_only : (Fault : Outcome → Type 0) (Came MayBe : Outcome → Type 0) (outcome : Outcome) → ((other : Outcome) → Came outcome → MayBe other → status_of outcome ≡ status_of other)
+      → (Fault outcome → IsFaultStatus (status_of outcome)) → Came outcome ⊎ Fault outcome → IsSaidAs outcome status → EachAs MayBe status
+  told_only Fault Came MayBe outcome one fault (inl came) said = each_said MayBe outcome status (inl (λ other may_be. one other came may_be)) said
+  told_only Fault Came MayBe outcome one fault (inr failed) said = each_said MayBe outcome status (inr (fault failed)) said
+
+  any_fault : (outcome : Outcome) → IsInitFault before after outcome → IsFaultStatus (status_of outcome)
+  any_fault outcome (inl source) = inr (inl (ap status_of source.0))
+  any_fault outcome (inr failed) = fault_status before.shelf_faults after.shelf_faults outcome failed
+
+  -- told where the shelf tells
+  told_now : {Came Fault : Type 0} → IsTrue before.store.tells → (IsTrue before.store.tells → Came) ⊎ Fault → Came ⊎ Fault
+  told_now tells (inl answers) = inl (answers tells)
+  told_now tells (inr fault) = inr fault
+
+  init_only : (dir : List ℕ) (left : Option (List ℕ)) (outcome : Outcome)
+      → (IsTrue before.store.tells → InitAnswer left after.left before.stream (readings before.store dir) (readings after.store dir) outcome) ⊎ IsInitFault before after outcome → IsSaidAs outcome status
+      → IsTrue before.store.tells → IfSome left (λ input. (other : Option (List ℕ)) (later : Readings) → EachAs (InitAnswer (Some input) other before.stream (readings before.store dir) later) status)
+  init_only dir None outcome comes said tells = tt
+  init_only dir (Some input) outcome comes said tells = λ other later.
+      told_only (IsInitFault before after) (InitAnswer (Some input) after.left before.stream (readings before.store dir) (readings after.store dir))
+      (InitAnswer (Some input) other before.stream (readings before.store dir) later) outcome
+      (λ given came may_be. (makers.init input after.left other before.stream (readings before.store dir) (readings after.store dir) later outcome given came may_be).0) (any_fault outcome) (told_now tells comes) said
+
+  keygen_only : (lms : LmsType) (ots : OtsType) (dir : List ℕ) (outcome : Outcome) → DrawsKeyOnly lms ots dir before after outcome → IsSaidAs outcome status
+      → IsTrue before.store.tells → (later : Readings) → EachAs (KeygenAnswer lms ots before.stream (readings before.store dir) later) status
+  keygen_only lms ots dir outcome comes said tells = λ later.
+      told_only (IsShelfFault before.shelf_faults after.shelf_faults) (KeygenAnswer lms ots before.stream (readings before.store dir) (readings after.store dir))
+      (KeygenAnswer lms ots before.stream (readings before.store dir) later) outcome
+      (λ given came may_be. (makers.keygen lms ots before.stream (readings before.store dir) (readings after.store dir) later outcome given came may_be).0)
+      (fault_status before.shelf_faults after.shelf_faults outcome) (told_now tells comes.draws.comes) said
+
+  join_only : (dir : List ℕ) (outcome : Outcome) → JoinsHeads dir before after outcome → IsSaidAs outcome status → SignOnly (JoinAnswer before.stream) dir before.store status
+  join_only dir outcome comes said =
+      shelf_said (λ given. IsShelfFault before.shelf_faults after.shelf_faults given ⊎ IsNoStop given) (StoreAnswer (after.random ≡ before.random) (JoinAnswer before.stream))
+      (StoreAnswer (Unit {0}) (JoinAnswer before.stream)) (Schema ∷ Updates ∷ Key ∷ Used ∷ []) dir before.store after.store outcome status
+      (λ shown added others a b is so. (makers.join before.stream shown added others a b (used_or_not (after.random ≡ before.random) (JoinAnswer before.stream) shown added a is) so).0) fault comes.joins.runs said
+    where
+      fault : IsShelfFault before.shelf_faults after.shelf_faults outcome ⊎ IsNoStop outcome → IsFaultStatus (status_of outcome)
+      fault (inl failed) = fault_status before.shelf_faults after.shelf_faults outcome failed
+      fault (inr stops) = absurd stops
+
+  apply_only : (dir : List ℕ) (left : Option (List ℕ)) (outcome : Outcome)
+      → RunsStore (λ given. IsShelfFault before.shelf_faults after.shelf_faults given ⊎ IsSourceFault before.source_faults after.source_faults given)
+      (StoreAnswer ((after.source ≡ before.source) × (after.random ≡ before.random)) (ApplyAnswer left after.left before.stream)) (Schema ∷ Updates ∷ Key ∷ Used ∷ []) dir before.store after.store outcome
+      → IsSaidAs outcome status
+      → IsTrue before.store.tells → IfSome left (λ input. EachAs (IsSureOfApply input before.stream (readings before.store dir)) status)
+  apply_only dir None outcome runs said tells = tt
+  apply_only dir (Some input) outcome runs said tells =
+      told_only (λ given. IsShelfFault before.shelf_faults after.shelf_faults given ⊎ IsSourceFault before.source_faults after.source_faults given)
+      (λ given. StoreAnswer ((after.source ≡ before.source) × (after.random ≡ before.random)) (ApplyAnswer (Some input) after.left before.stream) (readings before.store dir) runs.added given)
+      (IsSureOfApply input before.stream (readings before.store dir)) outcome
+      (λ given came sure.
+      (makers.apply input before.stream (readings before.store dir) outcome given (
+        after.left,
+        runs.added,
+        used_or_not ((after.source ≡ before.source) × (after.random ≡ before.random)) (ApplyAnswer (Some input) after.left before.stream) (readings before.store dir) runs.added outcome came,
+      ) sure).0)
+      fault (applied runs.comes) said
+    where
+      fault : IsShelfFault before.shelf_faults after.shelf_faults outcome ⊎ IsSourceFault before.source_faults after.source_faults outcome → IsFaultStatus (status_of outcome)
+      fault (inl failed) = fault_status before.shelf_faults after.shelf_faults outcome failed
+      fault (inr stops) = inr (inl (ap status_of stops.0))
+
+      applied : {Came Fault Rest : Type 0} → (IsTrue before.store.tells → Came) ⊎ (Fault × Rest) → Came ⊎ Fault
+      applied (inl answers) = inl (answers tells)
+      applied (inr failed) = inr failed.0
 
   pub only_said : (request : RequestText) (outcome : Outcome) → Comes request before after outcome → IsSaidAs outcome status → AnswersOnly request before status
   only_said (heads None) outcome comes said = source_only HeadsAnswer one.heads outcome comes.comes said
@@ -111,9 +196,9 @@ module _ {S H R : Type 0} (one : OneAnswer) (parts : OneOfParts) (before after :
   only_said check outcome comes said = source_only CheckAnswer one.check outcome comes.comes said
   only_said (dump None) outcome comes said = source_only DumpAnswer one.dump outcome comes.comes said
   only_said (dump (Some dir)) outcome comes said = read_only ShowsTables parts.dump dir outcome comes said
-  only_said (init dir) outcome comes said = tt
-  only_said (keygen dir lms ots) outcome comes said = tt
-  only_said (apply dir) outcome comes said = tt
-  only_said (join dir) outcome comes said = tt
+  only_said (init dir) outcome comes said = init_only dir before.left outcome comes.comes said
+  only_said (keygen dir lms ots) outcome comes said = keygen_only lms ots dir outcome comes said
+  only_said (apply dir) outcome comes said = apply_only dir before.left outcome comes.runs said
+  only_said (join dir) outcome comes said = join_only dir outcome comes said
   only_said (export dir updates_only) outcome comes said = read_only (ShowsRecords updates_only) (parts.export updates_only) dir outcome comes said
   only_said (merge first second) outcome comes said = tt

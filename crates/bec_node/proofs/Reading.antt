@@ -1,7 +1,7 @@
 -- Commands that only read the store of a directory.
-use Rattle.std.proofs.Common.{◌≡◌, ◌≢◌, ◌⊎◌, inl, inr, ℕ, ◌<◌, ◌^◌, Bool, true, false, List, [], ◌∷◌, ◌++◌, append-nil, length, refl, sym, ap, subst, ◌∙◌, map, IsTrue, Option, Some, None, Ok, Err, Vec, Result, IfOk, All, arith}
+use Rattle.std.proofs.Common.{◌≡◌, ◌≢◌, ◌⊎◌, inl, inr, ℕ, ◌<◌, ◌^◌, Bool, true, false, List, [], ◌∷◌, ◌++◌, append-nil, length, refl, sym, ap, subst, ◌∙◌, IsTrue, Some, None, Ok, Err, Vec, arith}
 use Rattle.std.specs.declared.alloc.Global.{Global}
-use Rattle.std.proofs.Common.{◌≤◌, ◌+◌, add-one, append_assoc, get_or, slice_get, suc, take}
+use Rattle.std.proofs.Common.{◌≤◌, ◌+◌, add-one, append_assoc, get_or, slice_get, take}
 use Rattle.std.proofs.lemmas.List.Elements.{All-get_or}
 use Rattle.std.proofs.lemmas.Option.{slice_get_cases}
 use Rattle.bec_bytes.specs.Framed.{framed}
@@ -13,13 +13,12 @@ use Rattle.update_model.specs.Rule.{RuleData}
 use Rattle.row_check.specs.Checksum.{is_luhn}
 use Rattle.bec_bytes.specs.Causes.{Rose}
 use Rattle.bec_bytes.specs.Framed.{stream_of}
-use Rattle.bec_disk.specs.Disk.{DiskState, handed_out}
+use Rattle.bec_disk.specs.Disk.{handed_out}
 use Rattle.bec_disk.specs.declared.part.Part.TheVariants.{Schema, Updates}
 use Rattle.bec_disk.specs.Shelf.{ShelfState, out}
 use Rattle.bec_disk.specs.Slot.{slot}
 use Rattle.bec_disk.proofs.Moments as moments
 use Rattle.update_log.specs.Logset.{BeginsWith}
-use Rattle.replica.specs.Replicas.{ReplicaState}
 use Rattle.store_directory.specs.Holding.{IsStoreCause, LetsGo, OpenData, PutsStore, TakesStore, WorksOn}
 use Rattle.store_directory.specs.Stores.{IsHome, KeepsAllBut, StoreData, StoreRun, part_in}
 use Rattle.store_directory.specs.declared.store_refusal.StoreRefusal.{StoreRefusal}
@@ -30,8 +29,8 @@ use Rattle.store_directory.proofs.Readings.{OneSchema}
 use Rattle.store_directory.proofs.Working.{home_after_store, read_before, store_of, worked_run}
 use Rattle.bec_node.specs.declared.refusal.Refusal.{Refusal}
 use Rattle.bec_node.specs.declared.refusal.Refusal.TheVariants as refusals
-use Rattle.bec_node.specs.Comes.{IsShelfFault, ReadsShelf, RunsStore, is_done, readings}
-use Rattle.bec_node.specs.Outcome.{Outcome, from_store}
+use Rattle.bec_node.specs.Comes.{IsShelfFault, ReadsShelf, readings}
+use Rattle.bec_node.specs.Outcome.{from_store}
 use Rattle.bec_node.specs.Standing.{Stands}
 use Rattle.bec_node.specs.StoreAnswers.{ReadsStore, bad_store, no_store, refused, shows}
 

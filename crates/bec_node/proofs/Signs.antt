@@ -1,5 +1,5 @@
 -- Commands that make an update by the key of a directory.
-use Rattle.std.proofs.Common.{◌≡◌, ◌≢◌, ◌⊎◌, inl, inr, ℕ, ◌+◌, ◌<◌, ◌≤◌, Bool, true, false, List, [], ◌∷◌, ◌++◌, append-nil, length, take, length-take, refl, sym, ap, subst, ◌∙◌, IsTrue, Option, Some, None, Ok, Err, Vec, Result, arith, nat_lt}
+use Rattle.std.proofs.Common.{◌≡◌, ◌≢◌, ◌⊎◌, inl, inr, ℕ, ◌<◌, ◌≤◌, Bool, true, false, List, [], ◌∷◌, ◌++◌, append-nil, length, take, length-take, refl, sym, ap, subst, ◌∙◌, IsTrue, Option, Some, None, Ok, Err, Vec, arith, nat_lt}
 use Rattle.std.specs.declared.alloc.Global.{Global}
 use Rattle.std.specs.Prelude.{◌||◌, IfNone, IfSome, MatchOption}
 use Rattle.std.specs.List.{list_any}
@@ -30,20 +30,18 @@ use Rattle.replica.specs.declared.make_fault.MakeFault.TheVariants.{NotListed, T
 use Rattle.replica.specs.declared.make_fault.Side.TheVariants.{Key as KeySide, Log as LogSide}
 use Rattle.replica.specs.Making.{HasNoneToJoin, IsJoinCause, IsMakeCause, Joins, JoinsTo, Makes}
 use Rattle.replica.specs.Replicas.{ReplicaState}
-use Rattle.replica.specs.Signing.{KeyAfter, KeyAfterJoin}
 use Rattle.store_directory.specs.Holding.{IsStoreCause, LetsGo, OpenData, PutsStore, TakesStore, WorksOn}
-use Rattle.store_directory.specs.Keys.{IsKeyCause, KeepsUsed, LetsKeyGo, PutsKey, ReadsAsKey, TakesKey, WorksWith}
+use Rattle.store_directory.specs.Keys.{IsKeyCause, KeepsUsed, LetsKeyGo, PutsKey, TakesKey, WorksWith}
 use Rattle.store_directory.specs.Stores.{IfStands, IsHome, IsUntouched, KeepsAllBut, StoreRun, part_in, reading}
 use Rattle.store_directory.specs.declared.key_refusal.KeyRefusal.{KeyRefusal}
 use Rattle.store_directory.specs.declared.key_refusal.KeyRefusal.TheVariants as key_refusals
 use Rattle.store_directory.specs.declared.store_refusal.StoreRefusal.{StoreRefusal}
 use Rattle.store_directory.specs.declared.store_refusal.StoreRefusal.TheVariants as store_refusals
 use Rattle.store_directory.proofs.Handing.{untouched_by}
-use Rattle.store_directory.proofs.Places.{home_again, keeps_through, neither, stands-not-out}
-use Rattle.bec_disk.specs.Images.{IsTorn}
+use Rattle.store_directory.proofs.Places.{home_again, keeps_through, stands-not-out}
 use Rattle.store_directory.proofs.Putting.{slot_of, told}
 use Rattle.store_directory.proofs.Readings.{OneSchema}
-use Rattle.store_directory.proofs.Signing.{home_after_key, keeps_key, keeps_used, tried_by, tried_by_joining}
+use Rattle.store_directory.proofs.Signing.{keeps_key, keeps_used}
 use Rattle.store_directory.proofs.Working.{home_after_store, read_before, store_of, worked_run}
 use Rattle.txn_text.specs.Transactions.{FirstFault, Reads}
 use Rattle.txn_text.specs.declared.fault.TextError.{TextError}
@@ -53,14 +51,13 @@ use Rattle.txn_text.specs.declared.limits.TheConstants.{MAX_TRANSACTION_BYTES}
 use Rattle.txn_text.specs.Outcome.{HasCause}
 use Rattle.bec_node.specs.declared.refusal.Refusal.{Refusal}
 use Rattle.bec_node.specs.declared.refusal.Refusal.TheVariants as refusals
-use Rattle.bec_node.specs.Comes.{IsShelfFault, RunsStore, is_done, readings}
-use Rattle.bec_node.specs.Creating.{IsRefused}
-use Rattle.bec_node.specs.Inputs.{IsWholeText, ReadsText}
-use Rattle.bec_node.specs.Outcome.{IsFault, Outcome, Prints, from_key, from_make, from_store, from_text}
-use Rattle.bec_node.specs.Signing.{ApplyAnswer, FaultsText, IsInnerFault, IsNoStop, IsOpenFault, IsSourceFault, JoinAnswer, KeyedAnswer, MakeAnswer, MakesUpdate, RefusesKey, SignAnswer, SignsIn, SignsOpen, StopsReading, StoreAnswer, TakesText, WorksFrom, asked, bad_key, bad_text, history_of, joined, made, no_key, none, not_joined, not_made, taken_of, with_key, with_store, with_update, without_key, without_store}
+use Rattle.bec_node.specs.Comes.{IsShelfFault, is_done, readings}
+use Rattle.bec_node.specs.Inputs.{ReadsText}
+use Rattle.bec_node.specs.Outcome.{Outcome, from_key, from_make, from_store, from_text}
+use Rattle.bec_node.specs.Signing.{ApplyAnswer, IsInnerFault, IsNoStop, IsOpenFault, IsSourceFault, JoinAnswer, KeyedAnswer, MakeAnswer, MakesUpdate, SignAnswer, SignsIn, SignsOpen, StopsReading, StoreAnswer, TakesText, WorksFrom, asked, bad_key, bad_text, history_of, joined, made, no_key, none, not_joined, not_made, taken_of, with_key, with_store, without_key, without_store}
 use Rattle.bec_node.specs.StoreAnswers.{next_bytes}
 use Rattle.bec_node.specs.Standing.{Stands}
-use Rattle.bec_node.specs.StoreAnswers.{RefusesStore, bad_store, no_store}
+use Rattle.bec_node.specs.StoreAnswers.{bad_store, no_store}
 use Rattle.bec_node.specs.Texts.{line_of}
 
 abbrev pub nothing : List (List ℕ)

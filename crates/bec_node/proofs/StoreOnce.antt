@@ -1,16 +1,13 @@
 -- What the parts of a directory read as has one answer to a command.
-use Rattle.std.proofs.Common.{◌≡◌, ℕ, Bool, List, refl, sym, subst, ◌∙◌, ap, Option, Ok, Err}
+use Rattle.std.proofs.Common.{◌≡◌, ℕ, Bool, List, refl, sym, subst, ◌∙◌, ap, Option}
 use Rattle.schema.specs.Schemas.{Meaning}
 use Rattle.row_check.specs.Checksum.{is_luhn}
-use Rattle.table_model.specs.Tables.{AreTablesOf}
 use Rattle.table_text.specs.Tables.{tables_text}
 use Rattle.store_directory.specs.Stores.{IsBadStore, IsNoStore, ReadsAs, StoreData}
 use Rattle.bec_node.specs.declared.refusal.Refusal.{Refusal}
-use Rattle.bec_node.specs.Bundle.{nodes_of}
 use Rattle.bec_node.specs.Outcome.{Outcome}
 use Rattle.bec_node.specs.StoreAnswers.{HasStore, Readings, ReadsStore, RefusesStore, ShowsHeads, ShowsRecords, ShowsTables, bad_store, no_store, refused, shows}
 use Rattle.bec_node.specs.Texts.{printed}
-use Rattle.bec_node.specs.Verdict.{rules_of}
 use Rattle.bec_node.proofs.Answer.{Same, heads_once, same_prints, same_refused}
 use Rattle.bec_node.proofs.Tables.{TableLaws, tables_once}
 

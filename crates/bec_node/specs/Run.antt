@@ -9,11 +9,11 @@ use Rattle.bec_node.specs.declared.refusal.Refusal.TheVariants.{Memory, Words}
 use Rattle.bec_node.specs.declared.status.TheConstants.{STORE_FAULT, STREAM_FAULT, OUT_OF_MEMORY}
 use Rattle.bec_node.specs.Bundle.{DumpAnswer}
 use Rattle.bec_node.specs.Comes.{ReadsStoreOnly, readings}
-use Rattle.bec_node.specs.Creating.{DrawsKeyOnly, Inits}
+use Rattle.bec_node.specs.Creating.{DrawsKeyOnly, InitAnswer, Inits, KeygenAnswer}
 use Rattle.bec_node.specs.Heads.{HeadsAnswer}
 use Rattle.bec_node.specs.Outcome.{ComesTo, Outcome, Says, status_of}
 use Rattle.bec_node.specs.Outside.{IsUntouched, Outside, SinkState}
-use Rattle.bec_node.specs.Signing.{Applies, JoinsHeads}
+use Rattle.bec_node.specs.Signing.{Applies, IsSureOfApply, JoinAnswer, JoinsHeads, SignAnswer, StoreAnswer}
 use Rattle.bec_node.specs.StoreAnswers.{Readings, ReadsStore, ShowsHeads, ShowsRecords, ShowsTables}
 use Rattle.bec_node.specs.Verdict.{CheckAnswer}
 
@@ -76,17 +76,24 @@ SourceOnly Answer before status = IfSome before (λ input. (after : Option (List
 abbrev pub ShelfOnly : (Readings → List (List ℕ) → Outcome → Type 0) → List ℕ → ShelfState → ℕ → Type 0
 ShelfOnly Answer dir shelf status = IsTrue shelf.tells → (added : List (List ℕ)) → EachAs (Answer (readings shelf dir) added) status
 
--- Each answer that a request has to what stands outside comes with its status, unless a disk or a stream failed or memory ran out.
+-- Each answer of a command that makes an update comes with its status, whether what it leaves unused was used or not.
+abbrev pub SignOnly : SignAnswer → List ℕ → ShelfState → ℕ → Type 0
+SignOnly Answer dir shelf status = ShelfOnly (StoreAnswer (Unit {0}) Answer) dir shelf status
+
+-- Each answer that a request has to what stands outside comes with its status, unless a disk or a stream failed or memory ran out. Of
+-- `apply` it is each refusal that comes before the operations are judged, and every answer where none is that they are invalid.
 abbrev pub AnswersOnly : {S H R : Type 0} → RequestText → Outside S H R → ℕ → Type 0
 AnswersOnly (heads None) before status = SourceOnly HeadsAnswer before.left status
 AnswersOnly (heads (Some dir)) before status = ShelfOnly (ReadsStore ShowsHeads) dir before.store status
 AnswersOnly check before status = SourceOnly CheckAnswer before.left status
 AnswersOnly (dump None) before status = SourceOnly DumpAnswer before.left status
 AnswersOnly (dump (Some dir)) before status = ShelfOnly (ReadsStore ShowsTables) dir before.store status
-AnswersOnly (init dir) before status = Unit {0}
-AnswersOnly (keygen dir lms ots) before status = Unit {0}
-AnswersOnly (apply dir) before status = Unit {0}
-AnswersOnly (join dir) before status = Unit {0}
+AnswersOnly (init dir) before status =
+    IsTrue before.store.tells → IfSome before.left (λ input. (after : Option (List ℕ)) (later : Readings) → EachAs (InitAnswer (Some input) after before.stream (readings before.store dir) later) status)
+AnswersOnly (keygen dir lms ots) before status =
+    IsTrue before.store.tells → (later : Readings) → EachAs (KeygenAnswer lms ots before.stream (readings before.store dir) later) status
+AnswersOnly (apply dir) before status = IsTrue before.store.tells → IfSome before.left (λ input. EachAs (IsSureOfApply input before.stream (readings before.store dir)) status)
+AnswersOnly (join dir) before status = SignOnly (JoinAnswer before.stream) dir before.store status
 AnswersOnly (export dir updates_only) before status = ShelfOnly (ReadsStore (ShowsRecords updates_only)) dir before.store status
 AnswersOnly (merge first second) before status = Unit {0}
 

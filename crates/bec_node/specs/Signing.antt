@@ -1,5 +1,5 @@
 -- What the commands that make an update by the key of a directory answer, and what they leave.
-use Rattle.std.specs.Prelude.{◌≡◌, ◌≢◌, ◌⊎◌, ℕ, ◌≤◌, Bool, List, [], ◌∷◌, ◌++◌, IsTrue, Ok, Err, Option, Some, None}
+use Rattle.std.specs.Prelude.{◌≡◌, ◌≢◌, ◌⊎◌, ℕ, ◌≤◌, Bool, List, [], ◌∷◌, ◌++◌, IsTrue, Err, Option, Some, None}
 use Rattle.rand_core.specs.Stream.{Stream}
 use Rattle.row_check.specs.Checksum.{is_luhn}
 use Rattle.bec_bytes.specs.Causes.{Rose}
@@ -103,6 +103,32 @@ IsSourceFault old new outcome = (outcome ≡ Err refusals.Stream) × Rose old ne
 -- Nothing else stops it.
 abbrev pub IsNoStop : Outcome → Type 0
 IsNoStop outcome = ⊥
+
+-- A refusal that comes before operations are judged: of the store, of the key, of the text, of the author, or of the number of heads.
+abbrev pub IsBeforeOperations : Outcome → Type 0
+IsBeforeOperations (Err refusals.NoStore) = Unit {0}
+IsBeforeOperations (Err refusals.BadStore) = Unit {0}
+IsBeforeOperations (Err NoKey) = Unit {0}
+IsBeforeOperations (Err BadKey) = Unit {0}
+IsBeforeOperations (Err (Transaction fault)) = Unit {0}
+IsBeforeOperations (Err refusals.AuthorNotListed) = Unit {0}
+IsBeforeOperations (Err (refusals.Heads count)) = Unit {0}
+IsBeforeOperations outcome = ⊥
+
+-- The operations are judged, and are invalid.
+abbrev pub IsInvalid : Outcome → Type 0
+IsInvalid (Err (refusals.Invalid reason operation)) = Unit {0}
+IsInvalid outcome = ⊥
+
+-- What `apply` may answer to an input, whatever is left of it, and whether what an answer leaves unused was used or not.
+abbrev pub MayApply : List ℕ → Stream → Readings → Outcome → Type 0
+MayApply input stream parts outcome = (after : Option (List ℕ)) × (added : List (List ℕ)) × StoreAnswer (Unit {0}) (ApplyAnswer (Some input) after stream) parts added outcome
+
+-- Of these the answers that exclude each other one: each refusal that comes before the operations are judged; and every answer, where none is that
+-- they are invalid.
+abbrev pub IsSureOfApply : List ℕ → Stream → Readings → Outcome → Type 0
+IsSureOfApply input stream parts outcome =
+    MayApply input stream parts outcome × (IsBeforeOperations outcome ⊎ ((other : Outcome) → MayApply input stream parts other → IsInvalid other → ⊥))
 
 -- `apply`.
 abbrev pub Applies : {S H R : Type 0} → List ℕ → Outside S H R → Outside S H R → Outcome → Type 0

@@ -12,7 +12,7 @@ use crate::commands::heads::{heads_in, stream_heads};
 use crate::commands::init::init_in;
 use crate::commands::join::join_in;
 use crate::commands::keygen::keygen_in;
-use crate::laws::{one_answer, one_answer_of_parts};
+use crate::laws::{one_answer, one_answer_of_makers, one_answer_of_parts};
 use crate::lines::no_command;
 use crate::refusal::Refusal;
 use crate::reply::finish;
@@ -44,6 +44,7 @@ pub fn run<H: Shelf, R: Rng, S: Source, K: Sink>(
         (record { held = K.held out.old; faults = K.faults out.old }) (record { held = K.held out.new; faults = K.faults out.new }) result }
 {
     one_answer();
+    one_answer_of_makers();
     one_answer_of_parts();
     one_request();
     let Ok(asked) = request_in(alloc, words) else {

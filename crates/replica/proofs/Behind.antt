@@ -23,7 +23,7 @@ use Rattle.history.specs.Histories.{HistoryData}
 use Rattle.replica.specs.Making.{HasLength, IsMadeBy, body_by, update_by}
 
 -- how long a spelling is
-spelled_length : (bytes : List ℕ) (update : UpdateData) → Spells bytes update → length bytes ≡ signed_length update.body
+pub spelled_length : (bytes : List ℕ) (update : UpdateData) → Spells bytes update → length bytes ≡ signed_length update.body
 spelled_length bytes update s =
     total (length (message update.body)) (length update.signature) (signature_length update.body.author) (length bytes) s.form.signature.len
     (ap length s.spells ∙ length-append (message update.body) (to_be_bytes w32 (length update.signature) ++ update.signature))

@@ -7,3 +7,4 @@ pub mod Made
 pub mod MadeBy
 pub mod Outcomes
 pub mod Reserved
+pub mod Once

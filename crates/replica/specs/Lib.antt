@@ -4,3 +4,4 @@ pub mod Opening
 pub mod Payload
 pub mod Replicas
 pub mod Signing
+pub mod Told

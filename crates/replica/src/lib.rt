@@ -21,6 +21,7 @@ mod create_fault;
 mod creating;
 mod drafting;
 mod holder;
+mod laws;
 mod make;
 mod make_fault;
 mod open_fault;
@@ -31,6 +32,7 @@ mod signing;
 
 pub use create_fault::{CreateFault, CreateKind};
 pub use creating::create;
+pub use laws::{one_early_refusal, one_join, one_make};
 pub use make_fault::{MakeFault, Side};
 pub use open_fault::{OpenFault, OpenKind};
 pub use opening::open_store;

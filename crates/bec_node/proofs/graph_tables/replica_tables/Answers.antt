@@ -1,4 +1,4 @@
-use Rattle.std.proofs.Common.{◌≡◌, ℕ, List, ap, subst}
+use Rattle.std.proofs.Common.{List, subst}
 use Rattle.row_check.specs.Checksum.{is_luhn}
 use Rattle.schema.specs.Schemas.{SchemaData}
 use Rattle.update_model.specs.Node.{NodeData}

@@ -2,6 +2,7 @@ use Rattle.std.proofs.Common.{refl}
 use Rattle.command_words.specs.Seen.{request_seen}
 use Rattle.bec_node.specs.Outside.{SinkState, outside}
 use Rattle.bec_node.proofs.Answer.{OneAnswer}
+use Rattle.bec_node.proofs.MakersOnce.{OneOfMakers}
 use Rattle.bec_node.proofs.StoreOnce.{OneOfParts}
 use Rattle.bec_node.proofs.Ending.{runs, runs_none, runs_unread}
 use Rattle.bec_node.proofs.program.run.Goals as goal
@@ -31,5 +32,7 @@ returns g c =
     let one : OneAnswer = record { heads = laws.heads; check = laws.check; dump = laws.dump } in
     let stored = c.one_answer_of_parts.ensures in
     let parts : OneOfParts = record { heads = stored.heads; dump = stored.dump; export = stored.export } in
-    runs c.args.words.now seen then sink sink_new c.finish.result one parts c.one_request.ensures (request_seen c.in-Some.request) asks
+    let made = c.one_answer_of_makers.ensures in
+    let makers : OneOfMakers = record { init = made.init; keygen = made.keygen; apply = made.apply; join = made.join } in
+    runs c.args.words.now seen then sink sink_new c.finish.result one parts makers c.one_request.ensures (request_seen c.in-Some.request) asks
     c.outcome_of-outcome.result c.outcome_of-outcome.ensures c.finish.ensures

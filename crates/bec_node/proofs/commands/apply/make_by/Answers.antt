@@ -4,7 +4,7 @@ use Rattle.store_directory.proofs.Signing.{tried_by}
 use Rattle.lms_tree.specs.SecretKey.{SecretData}
 use Rattle.update_model.specs.declared.update_id.UpdateId.{UpdateId}
 use Rattle.bec_node.specs.declared.refusal.Refusal.{Refusal}
-use Rattle.bec_node.specs.Outcome.{Outcome, from_make}
+use Rattle.bec_node.specs.Outcome.{from_make}
 use Rattle.bec_node.specs.Signing.{IsNoStop, MakeAnswer, SignsOpen}
 use Rattle.bec_node.specs.StoreAnswers.{next_bytes}
 use Rattle.bec_node.proofs.Signs.{makes, makes_not, same_secret, signs_nothing}

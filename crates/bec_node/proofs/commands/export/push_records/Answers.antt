@@ -1,4 +1,4 @@
-use Rattle.std.proofs.Common.{◌≡◌, ◌∙◌, ◌++◌, ◌<◌, ◌^◌, ℕ, List, Some, ap, append-nil, length, slice_get, subst, sym}
+use Rattle.std.proofs.Common.{◌∙◌, ◌++◌, ◌<◌, ◌^◌, ℕ, List, ap, append-nil, length, subst, sym}
 use Rattle.bec_bytes.specs.Framed.{framed}
 use Rattle.bec_bytes.proofs.Frames.{stream_of-nil}
 use Rattle.bec_node.proofs.Reading.{member_short, one_record}

@@ -1,4 +1,4 @@
-use Rattle.std.proofs.Common.{◌≡◌, ◌∙◌, ℕ, List, ap, length, refl, rules, subst, sym, IsTrue}
+use Rattle.std.proofs.Common.{◌≡◌, ◌∙◌, ℕ, List, ap, length, rules, subst, sym, IsTrue}
 use Rattle.std.proofs.lemmas.Result.{err_from_is_err_and}
 use Rattle.row_check.specs.Checksum.{is_luhn}
 use Rattle.bec_disk.specs.declared.part.Part.TheVariants.{Schema}
@@ -13,7 +13,7 @@ use Rattle.bec_node.specs.Outside.{outside}
 use Rattle.bec_node.specs.Standing.{Stands}
 use Rattle.bec_node.specs.Texts.{database_text}
 use Rattle.bec_node.proofs.Answering.{rose_later}
-use Rattle.bec_node.proofs.NewStores.{init_failed, init_lacked, init_made, init_not_made, init_refused, init_there, init_unlooked, made_slots}
+use Rattle.bec_node.proofs.NewStores.{init_made, init_not_made, init_refused, made_slots}
 use Rattle.bec_node.proofs.commands.init.init_in.Goals as goal
 
 pub put_store-requires-clause-schema_of : goal.put_store-requires-clause-schema_of

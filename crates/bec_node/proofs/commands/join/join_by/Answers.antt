@@ -4,7 +4,7 @@ use Rattle.lms_tree.specs.SecretKey.{SecretData}
 use Rattle.replica.specs.Making.{IsJoinCause, JoinsTo}
 use Rattle.store_directory.proofs.Signing.{tried_by_joining}
 use Rattle.bec_node.specs.declared.refusal.Refusal.{Refusal}
-use Rattle.bec_node.specs.Outcome.{Outcome, from_make}
+use Rattle.bec_node.specs.Outcome.{from_make}
 use Rattle.bec_node.specs.Signing.{IsNoStop, JoinAnswer, SignsOpen}
 use Rattle.bec_node.specs.StoreAnswers.{next_bytes}
 use Rattle.bec_node.proofs.Signs.{joins_not, joins_to, same_secret, signs_nothing}

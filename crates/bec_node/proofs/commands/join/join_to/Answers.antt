@@ -1,4 +1,4 @@
-use Rattle.std.proofs.Common.{◌≡◌, ◌∙◌, Err, ap, refl, subst, sym}
+use Rattle.std.proofs.Common.{Err, ap, refl}
 use Rattle.std.proofs.lemmas.Result.{err_from_is_err_and}
 use Rattle.bec_node.specs.Signing.{IsNoStop, JoinAnswer}
 use Rattle.bec_node.proofs.Signs.{key_disks, signs_keyed, signs_keyless}

@@ -1,4 +1,4 @@
-use Rattle.std.proofs.Common.{◌≡◌, ◌∙◌, ◌++◌, ◌∷◌, [], ℕ, List, ap, rules}
+use Rattle.std.proofs.Common.{◌≡◌, ◌++◌, ◌∷◌, [], rules}
 use Rattle.hex.specs.Hex.{encode_lower}
 use Rattle.std.specs.Int.{w32, to_be_bytes}
 use Rattle.bec_node.proofs.NewKeys.{key_pushed}
