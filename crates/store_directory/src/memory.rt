@@ -13,11 +13,7 @@ use std::alloc::Global;
 use update_model::ByteList;
 
 /// What stands behind the gate of the part Peers of a directory; nothing where the part is not there, absent or damaged. It writes nothing.
-pub fn read_memory<H: Shelf>(
-    alloc: Global,
-    shelf: &mut H,
-    dir: &str,
-) -> Result<ByteList, DiskError>
+pub fn read_memory<H: Shelf>(alloc: Global, shelf: &mut H, dir: &str) -> Result<ByteList, DiskError>
     requires { IsTrue (H.state shelf.old).tells → part_in (H.state shelf.old) dir.now Peers ≢ out }
     ensures value { IsTrue (H.state shelf.old).tells → IfOk result (λ payload. payload ≡ remembered_in (reading (part_in (H.state shelf.old) dir.now Peers))) }
     ensures tells { (H.state shelf.new).tells ≡ (H.state shelf.old).tells }
