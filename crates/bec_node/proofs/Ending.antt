@@ -13,7 +13,7 @@ use Rattle.bec_node.specs.Heads.{HeadsAnswer}
 use Rattle.bec_node.specs.Verdict.{CheckAnswer}
 use Rattle.bec_node.specs.Outcome.{Ends, MayLackMemory, Outcome, Puts, Says}
 use Rattle.bec_node.specs.Outside.{IsUntouched, Outside, SinkState}
-use Rattle.bec_node.specs.Run.{AnswersOnly, Comes, IsCommand, IsLeftOut, IsNoCommand, named, none, ReadsSource, Runs, unread}
+use Rattle.bec_node.specs.Run.{AnswersOnly, Comes, IsCommand, IsNoCommand, named, none, ReadsSource, Runs, unread}
 use Rattle.store_directory.specs.Stores.{StoreData}
 use Rattle.bec_node.specs.Comes.{ReadsStoreOnly}
 use Rattle.bec_node.specs.StoreAnswers.{ReadsStore, ShowsHeads, ShowsRecords, ShowsTables}
@@ -21,6 +21,7 @@ use Rattle.bec_node.specs.Creating.{DrawsKeyOnly, Inits}
 use Rattle.bec_node.proofs.NewKeys.{key_without_memory}
 use Rattle.bec_node.proofs.NewStores.{init_without_memory}
 use Rattle.bec_node.proofs.Reading.{read_without_memory}
+use Rattle.bec_node.specs.Merging.{Merges}
 use Rattle.bec_node.specs.Signing.{Applies, ApplyAnswer, IsNoStop, IsSourceFault, JoinAnswer, JoinsHeads}
 use Rattle.bec_node.proofs.Signs.{none_by_apply, none_by_join, signs_without_memory}
 use Rattle.bec_node.proofs.Answer.{OneAnswer}
@@ -35,9 +36,22 @@ module _ {S H R : Type 0} (before after : Outside S H R) where
   source_lacks : (Answer : Option (List ℕ) → Option (List ℕ) → Outcome → Type 0) (outcome : Outcome) → ReadsSource Answer before after outcome → ReadsSource Answer before after (Err Memory)
   source_lacks Answer outcome comes = record { comes = inr (inl refl); shelf = comes.shelf; random = comes.random }
 
-  left_out_lacks : (outcome other : Outcome) → MayLackMemory outcome → IsLeftOut before after outcome → IsLeftOut before after other
-  left_out_lacks (Ok text) other lacks comes = absurd lacks
-  left_out_lacks (Err refusal) other lacks comes = let is = comes.words in let same : refusal ≡ Words = cc in absurd (lacks same)
+  merge_lacks : (first second : List ℕ) (outcome : Outcome) → MayLackMemory outcome → Merges first second before after outcome → Merges first second before after (Err Memory)
+  merge_lacks first second (Ok text) lacks comes = absurd lacks
+  merge_lacks first second (Err refusal) lacks comes = record {
+    stores = record {
+      added = comes.stores.added;
+      added_other = comes.stores.added_other;
+      comes = inr (inl refl);
+      run = comes.stores.run;
+      run_other = comes.stores.run_other;
+      within = comes.stores.within;
+      others = comes.stores.others;
+      home = comes.stores.home;
+    };
+    source = comes.source;
+    random = comes.random;
+  }
 
   store_lacks : (Shows : StoreData → List ℕ → Type 0) (dir : List ℕ) (outcome : Outcome) → MayLackMemory outcome → ReadsStoreOnly (ReadsStore Shows) dir before after outcome
       → ReadsStoreOnly (ReadsStore Shows) dir before after (Err Memory)
@@ -78,7 +92,7 @@ module _ {S H R : Type 0} (before after : Outside S H R) where
   comes_lacking (apply dir) outcome lacks comes = apply_lacks dir outcome lacks comes
   comes_lacking (join dir) outcome lacks comes = join_lacks dir outcome lacks comes
   comes_lacking (export dir updates_only) outcome lacks comes = store_lacks (ShowsRecords updates_only) dir outcome lacks comes
-  comes_lacking (merge first second) outcome lacks comes = left_out_lacks outcome (Err Memory) lacks comes
+  comes_lacking (merge first second) outcome lacks comes = merge_lacks first second outcome lacks comes
 
 -- ---- runs
 

@@ -13,3 +13,5 @@ pub mod MakersOnce
 pub mod Only
 pub mod Ending
 pub mod Bundles
+pub mod Merging
+pub mod Meeting

@@ -11,3 +11,4 @@ pub mod Comes
 pub mod Creating
 pub mod Signing
 pub mod Run
+pub mod Merging

@@ -25,10 +25,10 @@ use Rattle.store_directory.specs.declared.key_refusal.KeyRefusal.TheVariants as 
 use Rattle.txn_text.specs.declared.fault.TextError.{TextError}
 use Rattle.txn_text.specs.declared.fault.TextError.TheVariants as text_errors
 use Rattle.bec_node.specs.declared.refusal.Refusal.{Refusal}
-use Rattle.bec_node.specs.declared.refusal.Refusal.TheVariants.{Words, Record, CutSchema, Schema, NotConfluent, Transaction, Invalid, AuthorNotListed, UpdateTooLong, IdTaken, KeySpent, Heads, NoStore, StoreThere, BadStore, NoKey, KeyThere, BadKey, StoreFault, Stream, Memory}
+use Rattle.bec_node.specs.declared.refusal.Refusal.TheVariants.{Words, Record, CutSchema, Schema, NotConfluent, Transaction, Invalid, AuthorNotListed, UpdateTooLong, IdTaken, KeySpent, Heads, Peer, NoStore, StoreThere, BadStore, NoKey, KeyThere, BadKey, StoreFault, Stream, Memory}
 use Rattle.bec_node.specs.declared.refusal.Refusal.TheVariants as refusals
-use Rattle.bec_node.specs.declared.status.TheConstants.{DONE, REFUSED, NO_COMMAND, STORE_FAULT, STREAM_FAULT, OUT_OF_MEMORY, FULL, STORE}
-use Rattle.bec_node.specs.Texts.{invalid_text, many_heads_text, record_text, refused_text, schema_text, spent_text, transaction_text}
+use Rattle.bec_node.specs.declared.status.TheConstants.{DONE, REFUSED, NO_COMMAND, STORE_FAULT, STREAM_FAULT, OUT_OF_MEMORY, PEER, FULL, STORE}
+use Rattle.bec_node.specs.Texts.{invalid_text, many_heads_text, peer_text, record_text, refused_text, schema_text, spent_text, transaction_text}
 
 -- A command is done and prints a text, or it is refused.
 abbrev pub Outcome : Type 0
@@ -51,6 +51,7 @@ status_for IdTaken = REFUSED
 status_for refusals.Full = FULL
 status_for (KeySpent count) = FULL
 status_for (Heads count) = FULL
+status_for (Peer fault) = PEER
 status_for NoStore = STORE
 status_for StoreThere = STORE
 status_for BadStore = STORE
@@ -76,6 +77,7 @@ text_for IdTaken = codes "! id taken\n"
 text_for refusals.Full = codes "! full\n"
 text_for (KeySpent count) = spent_text count
 text_for (Heads count) = many_heads_text count
+text_for (Peer fault) = peer_text fault
 text_for NoStore = codes "! no store\n"
 text_for StoreThere = codes "! store there\n"
 text_for BadStore = codes "! bad store\n"

@@ -11,6 +11,7 @@ use Rattle.bec_node.specs.Bundle.{DumpAnswer}
 use Rattle.bec_node.specs.Comes.{ReadsStoreOnly, readings}
 use Rattle.bec_node.specs.Creating.{DrawsKeyOnly, InitAnswer, Inits, KeygenAnswer}
 use Rattle.bec_node.specs.Heads.{HeadsAnswer}
+use Rattle.bec_node.specs.Merging.{Merges}
 use Rattle.bec_node.specs.Outcome.{ComesTo, Outcome, Says, status_of}
 use Rattle.bec_node.specs.Outside.{IsUntouched, Outside, SinkState}
 use Rattle.bec_node.specs.Signing.{Applies, IsSureOfApply, JoinAnswer, JoinsHeads, SignAnswer, StoreAnswer}
@@ -35,11 +36,6 @@ pub record ReadsSource {S H R : Type 0} (Answer : Option (List ℕ) → Option (
   pub shelf : after.shelf ≡ before.shelf
   pub random : after.random ≡ before.random
 
--- A command that the program does not do: its words are answered as ones that are no command.
-pub record IsLeftOut {S H R : Type 0} (before after : Outside S H R) (outcome : Outcome) : Type 0 where
-  pub words : outcome ≡ Err Words
-  pub untouched : IsUntouched before after
-
 -- What a request comes to.
 abbrev pub Comes : {S H R : Type 0} → RequestText → Outside S H R → Outside S H R → Outcome → Type 0
 Comes (heads None) before after outcome = ReadsSource HeadsAnswer before after outcome
@@ -52,7 +48,7 @@ Comes (keygen dir lms ots) before after outcome = DrawsKeyOnly lms ots dir befor
 Comes (apply dir) before after outcome = Applies dir before after outcome
 Comes (join dir) before after outcome = JoinsHeads dir before after outcome
 Comes (export dir updates_only) before after outcome = ReadsStoreOnly (ReadsStore (ShowsRecords updates_only)) dir before after outcome
-Comes (merge first second) before after outcome = IsLeftOut before after outcome
+Comes (merge first second) before after outcome = Merges first second before after outcome
 
 -- Words that ask for something come to what that comes to; other words leave all as it was; and so does want of memory for reading the words.
 pub data AsksFor {S H R : Type 0} (words : List (String Global)) (before after : Outside S H R) (outcome : Outcome) : Type 0 where

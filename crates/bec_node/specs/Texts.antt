@@ -15,6 +15,8 @@ use Rattle.schema.specs.declared.fault.SchemaFault.{SchemaFault}
 use Rattle.table_model.specs.declared.invariant.Invariant.{Invariant}
 use Rattle.schema.specs.declared.table_def.TableDef.{TableDef}
 use Rattle.table_text.specs.Examples.{example_text}
+use Rattle.session_rules.specs.declared.peer_fault.PeerFault.{PeerFault}
+use Rattle.session_rules.specs.declared.peer_fault.PeerFault.TheVariants.{BadFrame, WrongDatabase, BadUpdate, Unanswered, AskedUnknown, AskedAgain, Stalled, TakenBack, OutOfTurn, Version}
 use Rattle.update_stream.specs.declared.record_fault.RecordFault.{RecordFault}
 use Rattle.update_stream.specs.declared.record_fault.RecordFault.TheVariants.{Check, Lacks, Full}
 
@@ -55,6 +57,23 @@ spent_text count = codes "! key spent " ++ (decimal count ++ 10 ∷ [])
 -- the line for so many heads
 abbrev pub many_heads_text : ℕ → List ℕ
 many_heads_text count = codes "! heads " ++ (decimal count ++ 10 ∷ [])
+
+-- the line for a peer that shows this fault
+abbrev pub peer_text : PeerFault → List ℕ
+peer_text (BadFrame place) = codes "! peer bad frame\n"
+peer_text WrongDatabase = codes "! peer wrong database\n"
+peer_text (BadUpdate number) = codes "! peer bad update\n"
+peer_text (Unanswered id) = codes "! peer unanswered\n"
+peer_text (AskedUnknown id) = codes "! peer asked unknown\n"
+peer_text (AskedAgain id) = codes "! peer asked again\n"
+peer_text Stalled = codes "! peer stalled\n"
+peer_text TakenBack = codes "! peer taken back\n"
+peer_text OutOfTurn = codes "! peer out of turn\n"
+peer_text Version = codes "! peer version\n"
+
+-- the lines for two stores that were merged: what each gained, and the turns
+abbrev pub merged_text : ℕ → ℕ → ℕ → List ℕ
+merged_text gained other turns = codes "gained " ++ (decimal gained ++ (codes " " ++ (decimal other ++ (codes "\nturns " ++ (decimal turns ++ 10 ∷ [])))))
 
 -- the line for a store that was made of a database with this id
 abbrev pub database_text : List ℕ → List ℕ

@@ -8,3 +8,4 @@ pub mod heads;
 pub mod init;
 pub mod join;
 pub mod keygen;
+pub mod merge;

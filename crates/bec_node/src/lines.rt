@@ -3,7 +3,7 @@
 ghost use Rattle.std.specs.Prelude.{◌≡◌, ◌≢◌, IfOk, IfErr, IfSome, IfNone, OnErr, codes, Err};
 ghost use Rattle.std.specs.String.{string_bytes};
 ghost use Rattle.bec_node.specs.declared.refusal.Refusal.TheVariants.{Memory, Words};
-ghost use Rattle.bec_node.specs.Texts.{invalid_text, many_heads_text, record_text, refused_text, schema_text, spent_text, transaction_text};
+ghost use Rattle.bec_node.specs.Texts.{invalid_text, many_heads_text, peer_text, record_text, refused_text, schema_text, spent_text, transaction_text};
 ghost use Rattle.bec_node.specs.Outcome.{Puts, Says, text_for};
 
 use crate::refusal::Refusal;
@@ -11,6 +11,7 @@ use crate::reply::put;
 use crate::status::NO_COMMAND;
 use bec_bytes::Sink;
 use schema::{Schema, SchemaFault};
+use session_rules::PeerFault;
 use std::alloc::{AllocError, Global};
 use table_model::{Counterexample, Invariant};
 use table_text::push_counterexample;
@@ -51,6 +52,7 @@ fn plain_line(refusal: &Refusal) -> Option<&'static [u8]>
         Refusal::UpdateTooLong => Some(b"! update too long\n"),
         Refusal::IdTaken => Some(b"! id taken\n"),
         Refusal::Full => Some(b"! full\n"),
+        Refusal::Peer(fault) => Some(peer_line(fault)),
         Refusal::NoStore => Some(b"! no store\n"),
         Refusal::StoreThere => Some(b"! store there\n"),
         Refusal::BadStore => Some(b"! bad store\n"),
@@ -60,6 +62,24 @@ fn plain_line(refusal: &Refusal) -> Option<&'static [u8]>
         Refusal::StoreFault => Some(b"! store fault\n"),
         Refusal::Stream => Some(b"! stream fault\n"),
         _ => None,
+    }
+}
+
+/// The line for a peer that shows this fault.
+fn peer_line(fault: &PeerFault) -> &'static [u8]
+    ensures { result.now ≡ peer_text fault.now }
+{
+    match fault {
+        PeerFault::BadFrame(_) => b"! peer bad frame\n",
+        PeerFault::WrongDatabase => b"! peer wrong database\n",
+        PeerFault::BadUpdate(_) => b"! peer bad update\n",
+        PeerFault::Unanswered(_) => b"! peer unanswered\n",
+        PeerFault::AskedUnknown(_) => b"! peer asked unknown\n",
+        PeerFault::AskedAgain(_) => b"! peer asked again\n",
+        PeerFault::Stalled => b"! peer stalled\n",
+        PeerFault::TakenBack => b"! peer taken back\n",
+        PeerFault::OutOfTurn => b"! peer out of turn\n",
+        PeerFault::Version => b"! peer version\n",
     }
 }
 

@@ -12,6 +12,7 @@ use crate::commands::heads::{heads_in, stream_heads};
 use crate::commands::init::init_in;
 use crate::commands::join::join_in;
 use crate::commands::keygen::keygen_in;
+use crate::commands::merge::merge_in;
 use crate::laws::{one_answer, one_answer_of_makers, one_answer_of_parts};
 use crate::lines::no_command;
 use crate::refusal::Refusal;
@@ -88,6 +89,6 @@ fn outcome_of<H: Shelf, R: Rng, S: Source>(
         Request::Apply { directory } => apply_in(alloc, shelf, directory, random, input),
         Request::Join { directory } => join_in(alloc, shelf, directory, random),
         Request::Export { directory, updates } => export_in(alloc, shelf, directory, *updates),
-        _ => Err(Refusal::Words),
+        Request::Merge { first, second } => merge_in(alloc, shelf, first, second),
     }
 }

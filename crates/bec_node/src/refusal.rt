@@ -3,7 +3,7 @@ ghost use Rattle.bec_node.specs.declared.refusal.Refusal.TheVariants.{Memory};
 ghost use Rattle.bec_node.specs.Outcome.{status_for, from_creating, from_creating_key, from_disk, from_key, from_make, from_reading, from_store, from_taking, from_text};
 ghost use Rattle.lms_tree.specs.LmsKind.{leaf_count};
 
-use crate::status::{FULL, NO_COMMAND, OUT_OF_MEMORY, REFUSED, STORE, STORE_FAULT, STREAM_FAULT};
+use crate::status::{FULL, NO_COMMAND, OUT_OF_MEMORY, PEER, REFUSED, STORE, STORE_FAULT, STREAM_FAULT};
 use bec_bytes::ReadError;
 use bec_disk::{Disk, DiskError};
 use confluence_test::SchemaRefusal;
@@ -11,6 +11,7 @@ use key_index::{CreateKeyKind, KeyStore};
 use lms_tree::LmsType;
 use replica::{CreateKind, MakeFault};
 use schema::{Schema, SchemaFault};
+use session_rules::PeerFault;
 use std::alloc::AllocError;
 use store_directory::{KeyRefusal, StoreRefusal};
 use table_model::{Counterexample, Invariant};
@@ -59,6 +60,8 @@ pub enum Refusal {
     IdTaken,
     /// One more update would pass a limit of the store.
     Full,
+    /// The other store of a session broke its rules: their databases differ, say, or it has an update that is refused here.
+    Peer(PeerFault),
     /// Every index of the key is used, of which there are so many.
     KeySpent(u32),
     /// There are so many heads, more than an update may name.
@@ -95,6 +98,7 @@ impl Refusal {
                 ..
             } => FULL,
             Refusal::Full | Refusal::KeySpent(_) | Refusal::Heads(_) => FULL,
+            Refusal::Peer(_) => PEER,
             Refusal::NoStore | Refusal::StoreThere | Refusal::BadStore => STORE,
             Refusal::NoKey | Refusal::KeyThere | Refusal::BadKey => STORE,
             Refusal::StoreFault => STORE_FAULT,

@@ -14,6 +14,13 @@ pub mod TurnTaking
 pub mod Stepping
 pub mod Starting
 pub mod Growing
+pub mod Quiet
+pub mod Handing
+pub mod Within
 pub mod Gains
 pub mod Keeping
-pub mod StoreEnds
+pub mod Uniting
+pub mod Rounds
+pub mod Syncing
+pub mod Carried
+pub mod Moving

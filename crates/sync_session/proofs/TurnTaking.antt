@@ -127,7 +127,7 @@ turn_refused limits k next before after turn out none same is says =
     (rules.Settles limits (seen before k) (map entry_of before) turn (seen before (with_refusal Store k)) (out_of (map entry_of before) out) (map entry_of before))) (sym none)
     (DiskFault, refl, (refl, says (map entry_of before)))))
 
-bytes_back : (us : List (List ℕ)) → map (λ (e : Entry). e.bytes) (map entry_of us) ≡ us
+pub bytes_back : (us : List (List ℕ)) → map (λ (e : Entry). e.bytes) (map entry_of us) ≡ us
 bytes_back [] = refl
 bytes_back (u ∷ us) = ap (λ (xs : List (List ℕ)). u ∷ xs) (bytes_back us)
 

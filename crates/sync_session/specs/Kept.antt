@@ -106,6 +106,14 @@ pub record GrowsBy (from before after : List (List ℕ)) : Type 0 where
   pub behind : after ≡ before ++ added
   pub of : All (Contains from) added
 
+-- What a holder is left as: its list has grown by some of these updates, its count of faults has not fallen, and its limits
+-- and its rule are what they were.
+pub record Moves (from : List (List ℕ)) (limits : Limits) (rule : RuleData) (before : List (List ℕ)) (faults : ℕ) (limits_now : Limits) (rule_now : RuleData) (after : List (List ℕ)) (faults_now : ℕ) : Type 0 where
+  pub grows : GrowsBy from before after
+  pub later : faults ≤ faults_now
+  pub same_limits : limits_now ≡ limits
+  pub same_rule : rule_now ≡ rule
+
 -- the session ended so
 abbrev pub with_end : End → Kept → Kept
 with_end ending k = record k { state = record k.state { ended = Some ending } }

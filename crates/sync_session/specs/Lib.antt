@@ -5,3 +5,4 @@ pub mod Greeting
 pub mod Form
 pub mod Turns
 pub mod Starts
+pub mod Carrying

@@ -18,6 +18,7 @@
 #![tactic(auto)]
 
 mod answers;
+mod carrying;
 mod checked_frame;
 mod greeting;
 mod hello;
@@ -26,6 +27,7 @@ mod laws;
 mod lookup;
 mod needs;
 mod out;
+mod pair;
 mod pending;
 mod reading;
 mod session;
@@ -37,4 +39,5 @@ mod turn;
 pub use checked_frame::CheckedFrame;
 pub use laws::belongs_when_grown;
 pub use out::Out;
+pub use pair::{PairEnd, PairStart, sync_pair};
 pub use session::Session;

@@ -1,6 +1,6 @@
 use Rattle.std.proofs.Common.{◌∙◌, sym}
 use Rattle.sync_session.proofs.Stepping.{gained_few, not_over, ordered, over_is, runs, stays_belonging}
-use Rattle.sync_session.proofs.StoreEnds.{silent_not_store}
+use Rattle.sync_session.proofs.Quiet.{silent_not_store}
 use Rattle.sync_session.proofs.session.Session.step.Goals as goal
 
 pub returns-then-is_over-clause-steps : goal.returns-then-is_over-clause-steps

@@ -12,7 +12,7 @@ use Rattle.std.proofs.Common.{[], List}
 use Rattle.update_model.specs.Entry.{Entry}
 use Rattle.session_rules.specs.declared.end.End.TheVariants.{Peer}
 use Rattle.sync_session.specs.Kept.{whole}
-use Rattle.sync_session.proofs.StoreEnds.{closed_not_store, plain_not_store, store_free}
+use Rattle.sync_session.proofs.Quiet.{closed_not_store, plain_not_store, store_free}
 use Rattle.sync_session.proofs.Keeping.{whole_anyway}
 use Rattle.sync_session.proofs.session.Session.take.Goals as goal
 

@@ -12,7 +12,7 @@ use Rattle.session_rules.specs.State.{OutData}
 use Rattle.sync_session.specs.Kept.{GrowsBy}
 use Rattle.sync_session.specs.Turns.{SettlesTo}
 use Rattle.sync_session.proofs.Gains.{grows_commit}
-use Rattle.sync_session.proofs.StoreEnds.{closed_not_store, settles_not_store, store_free}
+use Rattle.sync_session.proofs.Quiet.{closed_not_store, settles_not_store, store_free}
 use Rattle.sync_session.proofs.session.Session.take_turn.Goals as goal
 
 pub returns-in-Some-clause-stands : goal.returns-in-Some-clause-stands
