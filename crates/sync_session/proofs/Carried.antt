@@ -1,5 +1,5 @@
 -- What one end handed out is carried to the other.
-use Rattle.std.proofs.Common.{◌≡◌, ◌≢◌, ◌⊎◌, inl, inr, ℕ, Bool, true, false, List, [], ◌∷◌, ◌++◌, length, map, filter_map, slice_get, take, Option, Some, None, option_map, Result, Ok, Err, IfOk, OnOk, refl, sym, ap, subst, ◌∙◌, arith, append_assoc, take_all}
+use Rattle.std.proofs.Common.{◌≡◌, ◌≢◌, ◌⊎◌, inl, inr, ℕ, Bool, true, false, List, [], ◌∷◌, ◌++◌, map, Option, Some, None, option_map, Result, Ok, Err, IfOk, OnOk, refl, sym, ap, subst, ◌∙◌, append_assoc}
 use Rattle.std.specs.declared.alloc.AllocError.{AllocError}
 use Rattle.std.proofs.lemmas.List.{map-append}
 use Rattle.update_check.specs.Signed.{IsChecked, IsUnder, SpellsSigned}
@@ -18,8 +18,8 @@ use Rattle.sync_session.specs.Carrying.{Arrives, AreHanded, all_heard, one_ends,
 use Rattle.sync_session.specs.Kept.{frame_of, out_of, seen, BelongsTo, Kept, StepsBy, StepsTo}
 use Rattle.sync_session.specs.declared.checked_frame.CheckedFrame.{CheckedFrame}
 use Rattle.sync_session.specs.declared.out.Out.{Out}
-use Rattle.sync_session.proofs.Handing.{hears_join, hears_updates, same_refl}
-use Rattle.sync_session.proofs.Quiet.{Quiet, heard, stops, Same, quiet_hello}
+use Rattle.sync_session.proofs.Handing.{hears_join, same_refl}
+use Rattle.sync_session.proofs.Quiet.{heard, stops, Same, quiet_hello}
 
 -- ---- one call of `step`
 

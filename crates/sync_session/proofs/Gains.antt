@@ -1,8 +1,7 @@
 -- What a list gains.
-use Rattle.std.proofs.Common.{◌≡◌, inl, inr, ℕ, List, [], ◌∷◌, ◌++◌, All, Contains, map, Result, Ok, Err, refl, sym, ap, subst, ◌∙◌, append-nil, append_assoc, arith}
+use Rattle.std.proofs.Common.{◌≡◌, inl, inr, ℕ, List, [], ◌∷◌, ◌++◌, All, Contains, map, Result, Ok, Err, sym, ap, subst, ◌∙◌, append-nil, append_assoc, arith}
 use Rattle.std.specs.List.{AllByRecursion}
 use Rattle.std.proofs.lemmas.List.Elements.{All-append, All-from_recursion, All-nil, All-weaker, recursion_from_All}
-use Rattle.bec_bytes.specs.Causes.{Rose}
 use Rattle.update_check.specs.Holding.{Commits}
 use Rattle.update_check.specs.declared.holder.CommitFault.{CommitFault}
 use Rattle.update_check.specs.declared.holder.CommitFault.TheVariants as commit_faults

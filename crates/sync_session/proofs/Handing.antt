@@ -1,5 +1,5 @@
 -- Frames that are handed to an end, one after another, as a run of the two ends.
-use Rattle.std.proofs.Common.{◌≡◌, ◌≢◌, ◌⊎◌, inl, inr, ℕ, ◌≤◌, ◌<◌, ◌+◌, Bool, true, false, ◌&&◌, if◌then◌else◌, List, [], ◌∷◌, ◌++◌, map, Option, Some, None, option_map, refl, sym, ap, subst, ◌∙◌, arith, append_assoc, append-nil}
+use Rattle.std.proofs.Common.{◌≡◌, ◌≢◌, ◌⊎◌, inl, inr, ◌<◌, Bool, true, false, ◌&&◌, if◌then◌else◌, List, [], ◌∷◌, ◌++◌, map, Option, Some, None, option_map, refl, sym, ap, subst, ◌∙◌, arith, append_assoc}
 use Rattle.update_model.specs.Batch.{Limits}
 use Rattle.update_model.specs.Entry.{Entry}
 use Rattle.update_model.specs.Rule.{RuleData}
@@ -10,8 +10,8 @@ use Rattle.session_rules.specs.declared.end.End.TheVariants.{Done, Peer, Full, S
 use Rattle.session_rules.specs.State.{HelloData, TurnData, FrameData, Item, Turn, SessionData, OutData}
 use Rattle.session_rules.specs.Steps.{closing, silent, Steps}
 use Rattle.session_rules.proofs.Words.{and_both}
-use Rattle.sync_session.specs.Carrying.{Arrives, EndsBy, Hands, HandsOn, then_a, then_b, HasGot, on, over, Hears, IsCarried, to_turn, to_end, IsHanded, IsOnItsWay, Stops, facing}
-use Rattle.sync_session.proofs.Quiet.{Answers, goes, has_all, gives_up, Quiet, heard, stops, Same, answers_turn, quiet_hello, quiet_update}
+use Rattle.sync_session.specs.Carrying.{EndsBy, Hands, HandsOn, then_a, then_b, HasGot, on, over, Hears, IsCarried, to_turn, to_end, IsHanded, IsOnItsWay, facing}
+use Rattle.sync_session.proofs.Quiet.{goes, has_all, gives_up, Quiet, heard, stops, Same, answers_turn, quiet_hello, quiet_update}
 
 -- ---- frames that are heard
 

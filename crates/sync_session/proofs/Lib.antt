@@ -24,3 +24,4 @@ pub mod Rounds
 pub mod Syncing
 pub mod Carried
 pub mod Moving
+pub mod Sessions

@@ -1,6 +1,5 @@
 -- What carrying makes of a holder's list, frame by frame.
-use Rattle.std.proofs.Common.{◌≡◌, ◌≤◌, ◌<◌, ◌+◌, ℕ, List, ◌++◌, All, Contains, map, Option, Some, None, option_map, Result, Ok, Err, IfOk, OnOk, Bool, true, false, is_some, ◌≢◌, refl, sym, ap, subst, ◌∙◌, arith}
-use Rattle.std.specs.declared.alloc.AllocError.{AllocError}
+use Rattle.std.proofs.Common.{◌≡◌, inl, inr, ◌≤◌, ◌<◌, ◌+◌, ℕ, List, ◌++◌, All, Contains, map, Option, Some, None, option_map, Result, Ok, Err, IfOk, true, false, is_some, ◌≢◌, refl, sym, subst, ◌∙◌, arith}
 use Rattle.std.proofs.lemmas.List.Elements.{All-contains, Contains-append_left}
 use Rattle.bec_bytes.specs.Causes.{Rose}
 use Rattle.update_codec.specs.Parts.{entry_of}
@@ -9,10 +8,13 @@ use Rattle.update_model.specs.Entry.{Entry}
 use Rattle.update_model.specs.Rule.{RuleData}
 use Rattle.session_rules.specs.State.{HelloData, FrameData, Hello, SessionData, OutData}
 use Rattle.session_rules.specs.Pair.{PairData}
-use Rattle.sync_session.specs.Carrying.{at_hand, AreHanded, HasGot, on, over, IsCarried, IsHanded, IsWell}
-use Rattle.sync_session.specs.Kept.{updates_in, GrowsBy, Kept, Moves}
+use Rattle.sync_session.specs.Carrying.{at_hand, AreHanded, HasGot, on, over, IsCarried, IsHanded, IsOnItsWay, IsUnrefused, IsWell}
+use Rattle.session_rules.specs.declared.end.End.TheVariants.{Full, Store}
+use Rattle.sync_session.specs.Kept.{out_of, turn_of, updates_in, Kept, Moves}
+use Rattle.sync_session.specs.declared.out.Out.{Out}
 use Rattle.sync_session.proofs.Gains.{grown_within, grows_none, grows_on, grows_wider}
-use Rattle.sync_session.proofs.Rounds.{HasFrame, at_hand_within, from_at_hand, to_at_hand}
+use Rattle.sync_session.proofs.Handing.{turned_end}
+use Rattle.sync_session.proofs.Rounds.{HasFrame, at_hand_within, from_at_hand, is_missing, to_at_hand}
 
 module _ (limits : Limits) (rule : RuleData) (k : Kept) (before from : List (List ℕ)) (faults : ℕ) where
   abbrev set : List (List ℕ)
@@ -112,3 +114,21 @@ got_over limits_a limits_b rule_a rule_b first a list_a b list_b out other none 
 
 pub add_turns : (a b more_a more_b : ℕ) → a < more_a → b < more_b → a + b < more_a + more_b
 add_turns a b more_a more_b one two = omega arith
+
+-- ---- a commit that was not refused
+
+-- an answer that sends no turn
+pub over_unrefused : (out : Out) → is_some out.turn ≡ false → IsUnrefused out → (out.end ≢ Some Full) × (out.end ≢ Some Store)
+over_unrefused out none (inl some) = absurd (some (is_missing out.turn none))
+over_unrefused out none (inr ends) = ends
+
+-- any answer of an end that runs
+pub unrefused_end : (limits : Limits) (rule : RuleData) (a b a_next : SessionData) (list_a after_a : List Entry) (sent : OutData) (answer : Out) (members : List (List ℕ)) (w : IsOnItsWay a b sent)
+    → IsCarried limits rule a list_a sent a_next (out_of (map entry_of members) answer) after_a → IsUnrefused answer → (answer.end ≢ Some Full) × (answer.end ≢ Some Store)
+unrefused_end limits rule a b a_next list_a after_a sent answer members w carried (inl some) = turned_end limits rule a b a_next list_a after_a sent (out_of (map entry_of members) answer) w carried (mapped_some turn_of answer.turn some)
+unrefused_end limits rule a b a_next list_a after_a sent answer members w carried (inr ends) = ends
+
+-- of two facts of a value that is there
+pub IfOk-both : {X E : Type 0} (r : Result X E) (P Q R : X → Type 0) → ((x : X) → P x → Q x → R x) → IfOk r P → IfOk r Q → IfOk r R
+IfOk-both (Ok x) P Q R f p q = f x p q
+IfOk-both (Err e) P Q R f p q = tt

@@ -1,17 +1,17 @@
 -- A frame to an end that runs: what it answers.
-use Rattle.std.proofs.Common.{◌≡◌, ◌≢◌, ◌⊎◌, inl, inr, ◌≤◌, ◌<◌, ◌+◌, Bool, true, false, ◌&&◌, cond, if◌then◌else◌, ℕ, List, [], ◌∷◌, ◌++◌, take, Option, Some, None, Result, Ok, Err, IfOk, refl, sym, ap, subst, ◌∙◌, arith}
+use Rattle.std.proofs.Common.{◌≡◌, ◌≢◌, inl, inr, ◌≤◌, ◌<◌, ◌+◌, Bool, true, false, ◌&&◌, cond, if◌then◌else◌, ℕ, List, [], ◌++◌, take, Option, Some, None, Result, Ok, Err, IfOk, refl, sym, ap, subst, ◌∙◌, arith}
 use Rattle.update_model.specs.Batch.{Limits}
 use Rattle.update_model.specs.Entry.{Entry}
 use Rattle.update_model.specs.Graph.{is_within}
 use Rattle.update_model.specs.Rule.{RuleData}
-use Rattle.session_rules.specs.Commit.{Committed, Added, TooMuch, DiskFault, Commits}
+use Rattle.session_rules.specs.Commit.{Committed, Added, TooMuch, DiskFault}
 use Rattle.session_rules.specs.declared.role.Role.{Role}
 use Rattle.session_rules.specs.declared.role.Role.TheVariants.{Initiator, Responder}
 use Rattle.session_rules.specs.declared.end.End.{End}
 use Rattle.session_rules.specs.declared.end.End.TheVariants.{Done, Peer, Full, Store}
 use Rattle.session_rules.specs.declared.peer_fault.PeerFault.{PeerFault}
 use Rattle.session_rules.specs.State.{HelloData, TurnData, FrameData, Hello, OtherVersion, Item, BadItem, Turn, NoFrame, SessionData, OutData}
-use Rattle.session_rules.specs.Steps.{silent, closing, committed, counted, gathers, hello_fault, item_fault, is_first, late_fault, refused, replied, turn_fault, Concludes, Ends, Gathers, Greets, Judges, Replies, Settles, Steps, Takes, Unless}
+use Rattle.session_rules.specs.Steps.{silent, closing, committed, gathers, hello_fault, item_fault, is_first, late_fault, turn_fault, Concludes, Ends, Gathers, Greets, Judges, Replies, Settles, Steps, Takes, Unless}
 use Rattle.session_rules.proofs.ItemStep.{takes_from}
 use Rattle.sync_session.specs.Carrying.{Arrives, Stops}
 use Rattle.sync_session.specs.Kept.{out_of, whole, with_commit, Kept}

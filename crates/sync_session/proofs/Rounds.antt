@@ -1,30 +1,24 @@
 -- What holds from update to update, and from round to round.
-use Rattle.std.proofs.Common.{◌≡◌, ◌≢◌, ◌⊎◌, inl, inr, ℕ, ◌+◌, ◌-◌, ◌<◌, ◌≤◌, cond, is_some, true, false, List, [], ◌∷◌, ◌++◌, All, Contains, length, get_or, map, take, drop, filter_map, slice_get, Option, Some, None, option_map, refl, sym, ap, subst, ◌∙◌, arith, zero, suc}
+use Rattle.std.proofs.Common.{◌≡◌, ◌≢◌, ℕ, ◌+◌, ◌-◌, ◌<◌, ◌≤◌, cond, is_some, true, false, List, [], ◌∷◌, ◌++◌, All, Contains, length, get_or, map, take, drop, filter_map, slice_get, Option, Some, None, option_map, refl, sym, ap, subst, ◌∙◌, arith, zero, suc}
 use Rattle.std.specs.List.{AllByRecursion, cons_option}
 use Rattle.std.proofs.lemmas.List.Elements.{All-append, All-contains, All-contains_itself, All-weaker, Contains-append_left, Contains-append_right}
 use Rattle.std.proofs.lemmas.List.Elements.{filter_map-append}
 use Rattle.std.proofs.lemmas.List.{map-append, take_more}
 use Rattle.std.proofs.lemmas.Option.{get_or_from_slice_get, slice_get_within}
-use Rattle.bec_bytes.specs.Causes.{Rose}
 use Rattle.update_codec.specs.Parts.{entry_of}
-use Rattle.update_model.specs.declared.limits.TheConstants.{MAX_MEMBERS}
 use Rattle.update_model.specs.Batch.{Limits}
 use Rattle.update_model.specs.Entry.{Entry}
 use Rattle.update_model.specs.Rule.{RuleData}
-use Rattle.session_rules.specs.declared.end.End.TheVariants.{Store}
-use Rattle.session_rules.specs.Pair.{PairData}
 use Rattle.session_rules.specs.declared.end.End.{End}
 use Rattle.session_rules.specs.State.{FrameData, Item, SessionData, OutData}
 use Rattle.session_rules.specs.Steps.{silent, Steps}
-use Rattle.session_rules.proofs.Courses.{continues_few}
-use Rattle.sync_session.specs.Carrying.{at_hand, AreHanded, one_ends, Begins, HasGot, Hears, IsHanded, IsWell, Stops}
-use Rattle.sync_session.specs.Kept.{out_of, seen, updates_in, GrowsBy, Kept, Moves}
+use Rattle.sync_session.specs.Carrying.{at_hand, AreHanded, one_ends, Hears, IsHanded, IsWell, Stops}
+use Rattle.sync_session.specs.Kept.{seen, updates_in, GrowsBy, Kept, Moves}
 use Rattle.sync_session.specs.declared.out.Out.{Out}
-use Rattle.sync_session.specs.declared.pair.PairStart.{PairStart}
 use Rattle.sync_session.proofs.Gains.{entries_from, grown_within, grows_none, grows_on, grows_wider, member_back, updates_of}
 use Rattle.sync_session.proofs.Handing.{hears_join, hears_updates}
 use Rattle.sync_session.proofs.Searching.{split_at}
-use Rattle.sync_session.proofs.Quiet.{Quiet, heard, stops, quiet_update}
+use Rattle.sync_session.proofs.Quiet.{heard, stops, quiet_update}
 use Rattle.sync_session.proofs.Within.{EndIn, FrameIn, arrives_in, steps_in}
 
 -- What has been handed to an end so far was heard.
@@ -37,27 +31,6 @@ pub record SoFar (limits : Limits) (rule : RuleData) (k : Kept) (before from : L
   pub later : faults ≤ faults_now
   pub grows : GrowsBy (at_hand k from before) before now
   pub pending : All (Contains (at_hand k from before)) (updates_in next)
-
--- What rounds have made of two ends so far.
-pub record Going (start : PairStart) (limits_a limits_b : Limits) (rule_a rule_b : RuleData) (before_a before_b : List (List ℕ)) (faults_a faults_b : ℕ)
-    (k_a : Kept) (now_a : List (List ℕ)) (limits_now_a : Limits) (rule_now_a : RuleData) (faults_now_a : ℕ)
-    (k_b : Kept) (now_b : List (List ℕ)) (limits_now_b : Limits) (rule_now_b : RuleData) (faults_now_b : ℕ) (out : Out) : Type 0 where
-  pub first : PairData
-  pub begins : Begins start (map entry_of before_a) (map entry_of before_b) first
-  pub got : HasGot limits_a limits_b rule_a rule_b first (seen now_a k_a) (map entry_of now_a) (seen now_b k_b) (map entry_of now_b) (out_of (map entry_of now_b) out)
-  pub well_a : IsWell limits_a rule_a k_a now_a
-  pub well_b : IsWell limits_b rule_b k_b now_b
-  pub grows_a : GrowsBy (before_a ++ before_b) before_a now_a
-  pub grows_b : GrowsBy (before_a ++ before_b) before_b now_b
-  pub later_a : faults_a ≤ faults_now_a
-  pub later_b : faults_b ≤ faults_now_b
-  pub store : out.end ≡ Some Store → Rose faults_a faults_now_a ⊎ Rose faults_b faults_now_b
-  pub same_limits_a : limits_now_a ≡ limits_a
-  pub same_limits_b : limits_now_b ≡ limits_b
-  pub same_rule_a : rule_now_a ≡ rule_a
-  pub same_rule_b : rule_now_b ≡ rule_b
-  pub small_a : limits_a.updates ≤ MAX_MEMBERS
-  pub small_b : limits_b.updates ≤ MAX_MEMBERS
 
 -- the rounds that are left at most
 abbrev pub rounds_left : Out → Kept → Kept → ℕ

@@ -1,20 +1,17 @@
 -- The session of two holders: how it begins, what a round makes of it, and how it ends.
-use Rattle.std.proofs.Common.{◌≡◌, ◌≢◌, ◌⊎◌, inl, inr, ℕ, ◌+◌, ◌-◌, ◌<◌, ◌≤◌, cond, max, is_some, Bool, true, false, ◌&&◌, if◌then◌else◌, List, [], ◌∷◌, ◌++◌, All, Contains, length, map, Option, Some, None, option_map, refl, sym, ap, subst, ◌∙◌, arith}
+use Rattle.std.proofs.Common.{◌≡◌, ◌≢◌, inr, ℕ, ◌+◌, ◌<◌, max, Bool, true, false, ◌&&◌, if◌then◌else◌, List, [], ◌∷◌, ◌++◌, All, Contains, map, Option, Some, None, option_map, refl, sym, ap, subst, ◌∙◌, arith}
 use Rattle.std.specs.List.{AllByRecursion}
-use Rattle.std.proofs.lemmas.List.{length-map, map-append}
+use Rattle.std.proofs.lemmas.List.{length-map}
 use Rattle.std.proofs.lemmas.List.Elements.{All-contains_itself, Contains-append_left, Contains-append_right}
-use Rattle.bec_bytes.specs.Causes.{Rose}
 use Rattle.update_check.specs.Holding.{IsHeld}
 use Rattle.update_check.specs.Signed.{IsChecked}
 use Rattle.update_codec.specs.Parts.{entry_of}
-use Rattle.update_model.specs.declared.limits.TheConstants.{MAX_MEMBERS}
-use Rattle.update_model.specs.declared.update_id.UpdateId.{UpdateId}
 use Rattle.update_model.specs.Batch.{Limits}
 use Rattle.update_model.specs.Entry.{Entry}
 use Rattle.update_model.specs.Rule.{RuleData}
 use Rattle.session_rules.specs.Course.{Greets, Remembers, opened}
 use Rattle.session_rules.specs.Laws.{NoCollision}
-use Rattle.session_rules.specs.Pair.{PairData, frames_of, swapped}
+use Rattle.session_rules.specs.Pair.{PairData, frames_of}
 use Rattle.session_rules.specs.declared.role.Role.TheVariants.{Initiator, Responder}
 use Rattle.session_rules.specs.declared.end.End.{End}
 use Rattle.session_rules.specs.declared.end.End.TheVariants.{Done, Peer, Full, Store}
@@ -24,14 +21,14 @@ use Rattle.session_rules.specs.Steps as rules
 use Rattle.session_rules.specs.Steps.{hello_fault, silent, Steps, Unless}
 use Rattle.session_rules.proofs.ItemStep.{takes_from}
 use Rattle.session_rules.proofs.Courses.{continues_few}
-use Rattle.sync_session.specs.Carrying.{at_hand, facing, Begins, EndsBy, Hands, HandsOn, at_first, then_b, HasGot, on, over, IsHanded, IsOnItsWay, IsWell, Syncs, Unites}
+use Rattle.sync_session.specs.Carrying.{at_hand, facing, Begins, EndsBy, Going, HandsOn, at_first, then_b, HasGot, on, over, IsHanded, IsOnItsWay, IsWell, Syncs, Unites}
 use Rattle.sync_session.specs.Kept.{out_of, seen, updates_in, GrowsBy, Kept}
 use Rattle.sync_session.specs.declared.out.Out.{Out}
 use Rattle.sync_session.specs.declared.pair.PairStart.{PairStart}
 use Rattle.sync_session.specs.declared.pair.PairEnd.{PairEnd}
 use Rattle.sync_session.proofs.Gains.{entries_from, grown_within, grows_on, grows_wider}
 use Rattle.sync_session.proofs.Hellos.{members_few}
-use Rattle.sync_session.proofs.Rounds.{Going, IsIn, at_hand_within, pending_in, rounds_left}
+use Rattle.sync_session.proofs.Rounds.{IsIn, at_hand_within, pending_in}
 use Rattle.sync_session.proofs.Uniting.{IsFine, NoCause, carries_all, opens_from, united}
 use Rattle.sync_session.proofs.Within.{EndIn, PairIn, run_in}
 
@@ -53,6 +50,7 @@ pub record Opening (start : PairStart) (limits_a limits_b : Limits) (rule_a rule
   pub first : PairData
   pub begins : Begins start before_a before_b first
   pub got : HasGot limits_a limits_b rule_a rule_b first a before_a b list_b out
+  pub runs : out.turn ≢ None → out.end ≡ None
 
 no_have : (b : Bool) → None ≡ (if b && false then Some Done else None)
 no_have true = refl
@@ -96,6 +94,13 @@ module _ (start : PairStart) (limits_a limits_b : Limits) (rule_a rule_b : RuleD
   first_answer : HasGot limits_a limits_b rule_a rule_b (first_pair start list_a list_b hello) begun_a list_a b after out
   first_answer = by_fault (hello_fault begun_b hello) (takes_from limits_b begun_b list_b (Hello hello) b out after refl step)
 
+  runs_by : (fault : Option PeerFault) → Unless fault begun_b list_b b out after (rules.Greets Responder begun_b list_b hello b out after) → out.turn ≢ None → out.end ≡ None
+  runs_by (Some fault) u some = absurd (some (ap (λ (o : OutData). o.turn) u.1))
+  runs_by None g some = ap (λ (o : OutData). o.end) g.4.1
+
+  first_runs : out.turn ≢ None → out.end ≡ None
+  first_runs = runs_by (hello_fault begun_b hello) (takes_from limits_b begun_b list_b (Hello hello) b out after refl step)
+
 pub opening : (start : PairStart) (limits_a limits_b : Limits) (rule_a rule_b : RuleData) (list_a list_b : List Entry) (a begun b : SessionData) (after : List Entry) (hello : Option HelloData) (gives out : OutData)
     → a ≡ opened Initiator start.database_a start.node_a start.old_a list_a → Greets Initiator a gives → hello ≡ gives.hello → begun ≡ opened Responder start.database_b start.node_b start.old_b list_b
     → IsHanded limits_b rule_b begun list_b (option_map Hello hello) b out after → Opening start limits_a limits_b rule_a rule_b list_a list_b a b after out
@@ -109,6 +114,7 @@ opening start limits_a limits_b rule_a rule_b list_a list_b a begun b after hell
       begins = record { hello = greets.0; is_hello = subst (λ (s : SessionData). rules.IsHello s greets.0) is_a greets.1; is = refl };
       got = subst (λ (s : SessionData). HasGot limits_a limits_b rule_a rule_b (first_pair start list_a list_b greets.0) s list_a b after out) (sym is_a)
           (first_answer start limits_a limits_b rule_a rule_b list_a list_b greets.0 b out after step);
+      runs = first_runs start limits_a limits_b rule_a rule_b list_a list_b greets.0 b out after step;
     }
 
 -- all that two ends begin with is of a set where their lists are

@@ -1,28 +1,24 @@
 -- Two holders of one rule and one database: both lists become the union.
-use Rattle.std.proofs.Common.{◌≡◌, ◌≢◌, ◌⊎◌, inl, inr, ℕ, ◌≤◌, max, List, [], ◌∷◌, ◌++◌, All, Contains, length, map, Some, None, refl, sym, ap, subst, ◌∙◌, arith}
+use Rattle.std.proofs.Common.{◌≡◌, ◌≢◌, ◌⊎◌, inl, inr, ℕ, ◌≤◌, max, List, [], ◌++◌, Contains, length, Some, None, refl, sym, ap, subst, ◌∙◌, arith}
 use Rattle.std.specs.List.{AllByRecursion}
-use Rattle.std.proofs.lemmas.List.{length-map}
 use Rattle.std.proofs.lemmas.List.Elements.{Contains-append_cases}
 use Rattle.update_check.specs.Causes.{IsCause}
-use Rattle.update_check.specs.Holding.{IsHeld}
 use Rattle.update_check.specs.Signed.{IsChecked}
 use Rattle.update_check.specs.declared.check_error.CheckFault.{CheckFault}
-use Rattle.update_codec.specs.Parts.{entry_of}
 use Rattle.update_model.specs.declared.limits.TheConstants.{MAX_MEMBERS}
 use Rattle.update_model.specs.Batch.{Limits}
-use Rattle.update_model.specs.Entry.{Entry, same_id}
+use Rattle.update_model.specs.Entry.{Entry}
 use Rattle.update_model.specs.Graph.{IsClosed}
 use Rattle.update_model.specs.Rule.{RuleData}
 use Rattle.update_model.proofs.Ids.{same_id-symm}
-use Rattle.session_rules.specs.Course.{opened}
 use Rattle.session_rules.specs.Laws.{NoCollision, IsUnion}
 use Rattle.session_rules.specs.Pair.{PairData, swapped, bound, missing, Carries, CarriesOn, at_first, then_a, then_b, Opens, Reaches, begins, goes, carries_a, carries_b}
 use Rattle.session_rules.specs.declared.role.Role.TheVariants.{Responder}
 use Rattle.session_rules.specs.declared.end.End.{End}
 use Rattle.session_rules.specs.declared.end.End.TheVariants.{Done, Peer, Full, Store}
 use Rattle.session_rules.specs.State.{FrameData, Hello, OtherVersion, Item, BadItem, Turn, NoFrame, SessionData}
-use Rattle.session_rules.specs.Steps.{IsHello, Steps, begun}
-use Rattle.session_rules.proofs.Exact.{Late, Later, carries_on, is_union}
+use Rattle.session_rules.specs.Steps.{Steps, begun}
+use Rattle.session_rules.proofs.Exact.{carries_on, is_union}
 use Rattle.session_rules.proofs.Facts.{in_bound, no_faults}
 use Rattle.session_rules.proofs.Held.{Within, distinct}
 use Rattle.session_rules.proofs.Runs.{holds_always}
@@ -30,9 +26,7 @@ use Rattle.session_rules.proofs.Words.{each_member}
 use Rattle.sync_session.specs.Carrying.{Arrives, Begins, EndsBy, Hands, HandsOn, Syncs, Unites}
 use Rattle.sync_session.specs.Carrying as carrying
 use Rattle.sync_session.specs.declared.pair.PairStart.{PairStart}
-use Rattle.sync_session.specs.declared.pair.PairEnd.{PairEnd}
-use Rattle.sync_session.proofs.Hellos.{members_few}
-use Rattle.sync_session.proofs.Within.{FrameIn, PairIn, hands_in, run_in, swapped_in}
+use Rattle.sync_session.proofs.Within.{FrameIn, PairIn, run_in, swapped_in}
 
 -- what is checked is not refused
 abbrev pub NoCause : Type 0

@@ -1,8 +1,8 @@
 -- What an end is handed and sends is of a set, where all is that it had before.
-use Rattle.std.proofs.Common.{◌≡◌, ◌≢◌, ◌⊎◌, inl, inr, ℕ, Bool, true, false, not, ◌&&◌, ◌||◌, if◌then◌else◌, List, [], ◌∷◌, ◌++◌, map, find, Contains, Option, Some, None, refl, sym, ap, subst, ◌∙◌}
+use Rattle.std.proofs.Common.{◌≡◌, inl, inr, Bool, true, false, not, ◌&&◌, ◌||◌, if◌then◌else◌, List, [], ◌∷◌, ◌++◌, map, find, Contains, Option, Some, None, refl, sym, ap, subst, ◌∙◌}
 use Rattle.std.specs.List.{AllByRecursion}
 use Rattle.update_model.specs.declared.update_id.UpdateId.{UpdateId}
-use Rattle.update_model.specs.Batch.{Limits, not_held}
+use Rattle.update_model.specs.Batch.{Limits}
 use Rattle.update_model.specs.Entry.{Entry, same_id}
 use Rattle.update_model.specs.Graph.{holds, is_within}
 use Rattle.update_model.specs.Rule.{RuleData}
@@ -14,7 +14,7 @@ use Rattle.session_rules.specs.declared.end.End.{End}
 use Rattle.session_rules.specs.declared.end.End.TheVariants.{Peer, Full}
 use Rattle.session_rules.specs.declared.peer_fault.PeerFault.{PeerFault}
 use Rattle.session_rules.specs.State.{HelloData, TurnData, FrameData, Hello, OtherVersion, Item, BadItem, Turn, NoFrame, SessionData, OutData}
-use Rattle.session_rules.specs.Steps.{answers, committed, gathers, hello_fault, item_fault, turn_fault, is_first, in_burst, late_fault, silent, closing, Concludes, Ends, Gathers, Greets, IsBurstFor, IsSent, Judges, Replies, Settles, Steps, StepsBy, Takes, Unless}
+use Rattle.session_rules.specs.Steps.{answers, committed, gathers, hello_fault, item_fault, turn_fault, is_first, in_burst, late_fault, Concludes, Ends, Gathers, Greets, IsBurstFor, IsSent, Judges, Replies, Settles, Steps, StepsBy, Takes, Unless}
 use Rattle.session_rules.proofs.Words.{each_append, each_filter, each_member, each_weaker}
 use Rattle.session_rules.proofs.Growth.{steps_grow}
 use Rattle.session_rules.proofs.Held.{Within}

@@ -1,5 +1,5 @@
 -- Two ends between whose holders the frames are carried in memory, each holder under a rule of its own.
-use Rattle.std.specs.Prelude.{◌≡◌, ◌≢◌, ◌⊎◌, ◌≤◌, ◌&&◌, ℕ, Bool, false, max, if◌then◌else◌, List, [], ◌∷◌, ◌++◌, length, map, Option, None, Some, option_map}
+use Rattle.std.specs.Prelude.{◌≡◌, ◌≢◌, ◌⊎◌, ◌≤◌, ◌&&◌, ℕ, false, max, if◌then◌else◌, List, [], ◌∷◌, ◌++◌, length, map, Option, None, Some, option_map}
 use Rattle.update_check.specs.Causes.{IsCause}
 use Rattle.update_check.specs.Signed.{IsChecked}
 use Rattle.update_check.specs.declared.check_error.CheckFault.{CheckFault}
@@ -15,7 +15,11 @@ use Rattle.session_rules.specs.declared.end.End.{End}
 use Rattle.session_rules.specs.declared.end.End.TheVariants.{Done, Peer, Full, Store}
 use Rattle.session_rules.specs.State.{HelloData, FrameData, Hello, OtherVersion, Item, BadItem, Turn, NoFrame, TurnData, SessionData, OutData}
 use Rattle.session_rules.specs.Steps.{IsHello, closing, silent, Steps}
-use Rattle.sync_session.specs.Kept.{number_of, updates_in, Belongs, Kept}
+use Rattle.sync_session.specs.Kept.{number_of, out_of, seen, updates_in, Belongs, GrowsBy, Kept}
+use Rattle.sync_session.specs.Starts.{RemembersBy}
+use Rattle.sync_session.specs.declared.out.Out.{Out}
+use Rattle.bec_bytes.specs.Causes.{Rose}
+use Rattle.update_model.specs.declared.limits.TheConstants.{MAX_MEMBERS}
 use Rattle.sync_session.specs.declared.pair.PairStart.{PairStart}
 use Rattle.sync_session.specs.declared.pair.PairEnd.{PairEnd}
 
@@ -155,3 +159,38 @@ pub record IsWell (limits : Limits) (rule : RuleData) (k : Kept) (members : List
 -- the updates that an end may gain as the other one's are carried to it: what it has gathered, and what either list has
 abbrev pub at_hand : Kept → List (List ℕ) → List (List ℕ) → List (List ℕ)
 at_hand k from to = updates_in k ++ (from ++ to)
+
+-- What rounds have made of two ends so far.
+pub record Going (start : PairStart) (limits_a limits_b : Limits) (rule_a rule_b : RuleData) (before_a before_b : List (List ℕ)) (faults_a faults_b : ℕ)
+    (k_a : Kept) (now_a : List (List ℕ)) (limits_now_a : Limits) (rule_now_a : RuleData) (faults_now_a : ℕ)
+    (k_b : Kept) (now_b : List (List ℕ)) (limits_now_b : Limits) (rule_now_b : RuleData) (faults_now_b : ℕ) (out : Out) : Type 0 where
+  pub first : PairData
+  pub begins : Begins start (map entry_of before_a) (map entry_of before_b) first
+  pub got : HasGot limits_a limits_b rule_a rule_b first (seen now_a k_a) (map entry_of now_a) (seen now_b k_b) (map entry_of now_b) (out_of (map entry_of now_b) out)
+  pub well_a : IsWell limits_a rule_a k_a now_a
+  pub well_b : IsWell limits_b rule_b k_b now_b
+  pub grows_a : GrowsBy (before_a ++ before_b) before_a now_a
+  pub grows_b : GrowsBy (before_a ++ before_b) before_b now_b
+  pub later_a : faults_a ≤ faults_now_a
+  pub later_b : faults_b ≤ faults_now_b
+  pub store : out.end ≡ Some Store → Rose faults_a faults_now_a ⊎ Rose faults_b faults_now_b
+  pub same_limits_a : limits_now_a ≡ limits_a
+  pub same_limits_b : limits_now_b ≡ limits_b
+  pub same_rule_a : rule_now_a ≡ rule_a
+  pub same_rule_b : rule_now_b ≡ rule_b
+  pub small_a : limits_a.updates ≤ MAX_MEMBERS
+  pub small_b : limits_b.updates ≤ MAX_MEMBERS
+
+-- No commit behind this answer was refused: it sends a turn, or its end is neither for want of room nor by the store.
+abbrev pub IsUnrefused : Out → Type 0
+IsUnrefused out = (out.turn ≢ None) ⊎ ((out.end ≢ Some Full) × (out.end ≢ Some Store))
+
+-- What is told of a session that ended so.
+pub record Closes (k_a k_b : Kept) (ending : End) (ended : PairEnd) : Type 0 where
+  pub a : ended.a ≡ ending
+  pub b : ended.b ≡ ending
+  pub gained_a : ended.gained_a ≡ k_a.state.gained
+  pub gained_b : ended.gained_b ≡ k_b.state.gained
+  pub turns : ended.turns ≡ max k_a.state.turns k_b.state.turns
+  pub remembered_a : RemembersBy k_a.failed k_a ended.remembered_a
+  pub remembered_b : RemembersBy k_b.failed k_b ended.remembered_b

@@ -7,7 +7,7 @@ ghost use Rattle.session_rules.specs.Pair.{PairData};
 ghost use Rattle.session_rules.specs.declared.role.Role.TheVariants.{Initiator as initiator};
 ghost use Rattle.session_rules.specs.State.{Hello as hello_frame, Item as item, Turn as turn_frame};
 ghost use Rattle.update_codec.specs.Parts.{database_of, entry_of};
-ghost use Rattle.sync_session.specs.Carrying.{at_hand, Arrives, AreHanded, HasGot, IsCarried, IsHanded, IsOnItsWay, IsWell};
+ghost use Rattle.sync_session.specs.Carrying.{at_hand, Arrives, AreHanded, HasGot, IsCarried, IsHanded, IsOnItsWay, IsUnrefused, IsWell};
 ghost use Rattle.sync_session.specs.Kept.{frame_of, hello_of, out_of, seen, turn_of, updates_in, IsFrameUnder, Moves};
 
 use crate::{CheckedFrame, Out, Session};
@@ -41,7 +41,7 @@ pub(crate) fn round<A: Holder, B: Holder>(
     ensures store { IfOk result (λ next. next.end ≡ Some store → Rose (A.faults a.old) (A.faults a.new) ⊎ Rose (B.faults b.old) (B.faults b.new)) }
     ensures keeps_a { A.keeps a.old a.new }
     ensures keeps_b { B.keeps b.old b.new }
-    ensures whole { A.is_whole a.old → B.is_whole b.old → IfOk result (λ next. next.end ≢ Some full → next.end ≢ Some store → A.is_whole a.new × B.is_whole b.new) }
+    ensures whole { A.is_whole a.old → B.is_whole b.old → IfOk result (λ next. IsUnrefused next → A.is_whole a.new × B.is_whole b.new) }
 {
     let answer = carry(alloc, b, out, session_a, a)?;
     let is_over = answer.turn.is_none();

@@ -8,11 +8,11 @@ ghost use Rattle.session_rules.specs.declared.limits.TheConstants.{MAX_NEEDS};
 ghost use Rattle.session_rules.specs.Laws.{NoCollision};
 ghost use Rattle.update_codec.specs.Parts.{entry_of};
 ghost use Rattle.update_model.specs.Entry.{id_cmp};
-ghost use Rattle.sync_session.specs.Carrying.{Syncs, Unites};
+ghost use Rattle.sync_session.specs.Carrying.{Closes, Going, IsUnrefused, Syncs, Unites};
 ghost use Rattle.sync_session.specs.Kept.{Moves};
 
-use crate::Session;
 use crate::carrying::{hand_hello, round};
+use crate::{Out, Session};
 use session_rules::{End, Role};
 use std::alloc::{AllocError, Global};
 use update_check::{Holder, no_cause};
@@ -88,6 +88,36 @@ pub fn sync_pair<A: Holder, B: Holder>(
     no_cause();
     a.len(); // what every holder keeps
     b.len();
+    let met = meet(alloc, a, b, start)?;
+    let (mut session_a, mut session_b, mut out) = met;
+    'rounds: while out.turn.is_some() {
+        let next = round(alloc, a, &mut session_a, b, &mut session_b, out)?;
+        out = next;
+    }
+    let end = out.end.unwrap();
+    let ended = closed(alloc, &session_a, &session_b, end)?;
+    Ok(ended)
+}
+
+/// Begins a session at both ends, and hands the first end's Hello to the second. What that one answers is to be carried.
+fn meet<A: Holder, B: Holder>(
+    alloc: Global,
+    a: &A,
+    b: &mut B,
+    start: PairStart,
+) -> Result<(Session, Session, Out), AllocError>
+    requires few_a { length start.old_a ≤ MAX_NEEDS }
+    requires rising_a { IsStrictlySortedBy id_cmp start.old_a }
+    requires few_b { length start.old_b ≤ MAX_NEEDS }
+    requires rising_b { IsStrictlySortedBy id_cmp start.old_b }
+    ensures going { IfOk result (λ met. Going start (A.limits a.now) (B.limits b.old) (A.rule a.now) (B.rule b.old) (A.members a.now) (B.members b.old) (A.faults a.now) (B.faults b.old)
+        met.0 (A.members a.now) (A.limits a.now) (A.rule a.now) (A.faults a.now) met.1 (B.members b.new) (B.limits b.new) (B.rule b.new) (B.faults b.new) met.2) }
+    ensures moves { Moves (A.members a.now ++ B.members b.old) (B.limits b.old) (B.rule b.old) (B.members b.old) (B.faults b.old) (B.limits b.new) (B.rule b.new) (B.members b.new) (B.faults b.new) }
+    ensures keeps { B.keeps b.old b.new }
+    ensures whole { B.is_whole b.old → IfOk result (λ met. IsUnrefused met.2 → B.is_whole b.new) }
+{
+    a.len(); // what every holder keeps
+    b.len();
     let PairStart {
         database_a,
         database_b,
@@ -96,20 +126,23 @@ pub fn sync_pair<A: Holder, B: Holder>(
         old_a,
         old_b,
     } = start;
-    let (mut session_a, first) = Session::start(
-        alloc,
-        a,
-        Role::Initiator,
-        database_a,
-        node_a,
-        old_a,
-    )?;
-    let (mut session_b, _) = Session::start(alloc, b, Role::Responder, database_b, node_b, old_b)?;
-    let mut out = hand_hello(alloc, first.hello, &mut session_b, b)?;
-    'rounds: while out.turn.is_some() {
-        out = round(alloc, a, &mut session_a, b, &mut session_b, out)?;
-    }
-    let end = out.end.unwrap();
+    let begun_a = Session::start(alloc, a, Role::Initiator, database_a, node_a, old_a)?;
+    let begun_b = Session::start(alloc, b, Role::Responder, database_b, node_b, old_b)?;
+    let (session_a, first) = begun_a;
+    let (mut session_b, _) = begun_b;
+    let out = hand_hello(alloc, first.hello, &mut session_b, b)?;
+    Ok((session_a, session_b, out))
+}
+
+/// How a session that ended so is told.
+fn closed(
+    alloc: Global,
+    session_a: &Session,
+    session_b: &Session,
+    end: End,
+) -> Result<PairEnd, AllocError>
+    ensures { IfOk result (Closes session_a.now session_b.now end) }
+{
     Ok(PairEnd {
         a: end,
         b: end,

@@ -5,6 +5,8 @@
 #[cfg(test)]
 mod keys;
 #[cfg(test)]
+mod merging;
+#[cfg(test)]
 mod steps;
 #[cfg(test)]
 mod stores;

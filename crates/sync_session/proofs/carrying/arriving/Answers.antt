@@ -1,4 +1,3 @@
-use Rattle.std.proofs.Common.{◌≡◌, true, false}
 use Rattle.sync_session.proofs.Carried.{arrives_elsewhere, arrives_fine, arrives_unlisted, is_fine}
 use Rattle.sync_session.proofs.carrying.arriving.Goals as goal
 

@@ -1,4 +1,4 @@
-use Rattle.std.proofs.Common.{ℕ, ◌≡◌, ◌∙◌, sym, ap, subst, List, map, filter_map, slice_get, Some, option_map, IfOk}
+use Rattle.std.proofs.Common.{ℕ, ◌≡◌, ◌∙◌, sym, subst, List, map, filter_map, slice_get, Some, option_map}
 use Rattle.std.proofs.lemmas.Result.{IfOk-weaker, on_ok_weaker}
 use Rattle.bec_bytes.specs.Causes.{Rose}
 use Rattle.update_codec.specs.Parts.{entry_of}
@@ -10,7 +10,6 @@ use Rattle.sync_session.specs.Kept.{hello_of, out_of, seen, turn_of}
 use Rattle.sync_session.proofs.Carried.{carried_to_hello, carried_to_turn, carried_to_update, hello_list, runs_on}
 use Rattle.sync_session.proofs.Moving.{handed_back, hello_of_set, moves_first, moves_second, moves_third, rose_since, updates_back, well_at, well_back}
 use Rattle.sync_session.proofs.Rounds.{is_missing, is_there, none_not, own_at_hand, pending_after, to_at_hand}
-use Rattle.sync_session.proofs.Syncing.{opening}
 use Rattle.sync_session.proofs.carrying.carry.Goals as goal
 
 pub returns-in_err-greeted-clause-moves : goal.returns-in_err-greeted-clause-moves

@@ -1,4 +1,4 @@
-use Rattle.std.proofs.Common.{◌∙◌, sym, ap, subst, map, slice_get, Option, option_map, IfOk}
+use Rattle.std.proofs.Common.{◌∙◌, sym, ap, subst, map, Option, option_map, IfOk}
 use Rattle.std.proofs.lemmas.Option.{slice_get-map}
 use Rattle.update_codec.specs.Parts.{entry_of}
 use Rattle.update_model.specs.Rule.{RuleData}

@@ -1,9 +1,9 @@
-use Rattle.std.proofs.Common.{◌+◌, ◌∙◌, sym, ap, subst, map, filter_map, slice_get, get_or, take, drop, refl, take_all, List, ℕ}
+use Rattle.std.proofs.Common.{◌+◌, ◌∙◌, sym, subst, map, filter_map, slice_get, get_or, take, drop, refl, take_all, List, ℕ}
 use Rattle.update_codec.specs.Parts.{entry_of}
 use Rattle.update_model.specs.Entry.{Entry}
 use Rattle.session_rules.specs.declared.end.End.TheVariants.{Full, Store}
-use Rattle.sync_session.specs.Carrying.{AreHanded, all_heard, Hears}
-use Rattle.session_rules.specs.State.{FrameData, Item}
+use Rattle.sync_session.specs.Carrying.{all_heard, Hears}
+use Rattle.session_rules.specs.State.{Item}
 use Rattle.sync_session.specs.Kept.{out_of, seen}
 use Rattle.sync_session.proofs.Quiet.{silent_not_store}
 use Rattle.sync_session.proofs.Rounds.{SoFar, so_far_none, so_far_more, moves_here, pending_here, same_list, handed_to_end, sent_more, sent_split, is_there, is_missing, none_not}

@@ -1,13 +1,13 @@
-use Rattle.std.proofs.Common.{◌≡◌, ◌≢◌, ◌⊎◌, inl, inr, ◌+◌, ◌<◌, not, ◌∙◌, ap, refl, List, map, None, Some, IfOk}
+use Rattle.std.proofs.Common.{◌≡◌, ◌≢◌, ◌⊎◌, inl, inr, ◌+◌, ◌<◌, not, ◌∙◌, ap, refl, map, None, Some}
 use Rattle.std.proofs.lemmas.Result.{IfOk-weaker, on_ok_weaker}
 use Rattle.bec_bytes.specs.Causes.{Rose}
 use Rattle.update_codec.specs.Parts.{entry_of}
 use Rattle.session_rules.specs.Pair.{PairData}
 use Rattle.session_rules.specs.declared.end.End.TheVariants.{Full, Store}
-use Rattle.sync_session.specs.Carrying.{at_hand, HasGot, IsCarried}
+use Rattle.sync_session.specs.Carrying.{at_hand, HasGot, IsCarried, IsUnrefused}
 use Rattle.sync_session.specs.Kept.{out_of, seen, turn_of}
 use Rattle.sync_session.proofs.Handing.{more_turns, round_ends, round_goes, turned_end, way_back}
-use Rattle.sync_session.proofs.Moving.{add_turns, got_over, mapped_missing, mapped_some, mapped_there, moves_none}
+use Rattle.sync_session.proofs.Moving.{add_turns, got_over, mapped_missing, mapped_some, mapped_there, moves_none, over_unrefused, unrefused_end, IfOk-both}
 use Rattle.sync_session.proofs.Rounds.{is_missing}
 use Rattle.sync_session.proofs.carrying.round.Goals as goal
 
@@ -61,7 +61,7 @@ pub returns-then-is_over-clause-store : goal.returns-then-is_over-clause-store
 returns-then-is_over-clause-store g c = λ is. inl (c.in_ok-answer.ensures.store is)
 
 pub returns-then-is_over-clause-whole : goal.returns-then-is_over-clause-whole
-returns-then-is_over-clause-whole g c = λ held_a held_b room disk. (c.in_ok-answer.ensures.whole held_a room disk, held_b)
+returns-then-is_over-clause-whole g c = λ held_a held_b unrefused. (c.in_ok-answer.ensures.whole held_a (over_unrefused c.in_ok-answer.answer (c.is_none-is_over.ensures ∙ ap not c.if-is_over.true) unrefused).0 (over_unrefused c.in_ok-answer.answer (c.is_none-is_over.ensures ∙ ap not c.if-is_over.true) unrefused).1, held_b)
 
 pub carry-requires-2-clause-well : goal.carry-requires-2-clause-well
 carry-requires-2-clause-well g c = c.requires.well_b
@@ -108,6 +108,10 @@ returns-clause-keeps_b g c = c.carry-2.ensures.keeps
 pub returns-clause-whole : goal.returns-clause-whole
 returns-clause-whole g c = λ held_a held_b.
     let ends = turned_end (g.A.Holder.limits c.args.a.now) (g.A.Holder.rule c.args.a.now) (seen (g.A.Holder.members c.args.a.now) c.args.session_a.now) (seen (g.B.Holder.members c.args.b.now) c.args.session_b.now) (seen (g.A.Holder.members c.carry.new.to) c.carry.new.session) (map entry_of (g.A.Holder.members c.args.a.now)) (map entry_of (g.A.Holder.members c.carry.new.to)) (out_of (map entry_of (g.B.Holder.members c.args.b.now)) c.args.out) (out_of (map entry_of (g.A.Holder.members c.carry.new.to)) c.in_ok-answer.answer) c.requires.on_its_way c.in_ok-answer.ensures.carried (mapped_there turn_of c.in_ok-answer.answer.turn (c.is_none-is_over.ensures ∙ ap not c.if-is_over.false)) in
-    IfOk-weaker c.carry-2.result (λ out. out.end ≢ Some Full → out.end ≢ Some Store → g.B.Holder.is_whole c.carry-2.new.to)
-    (λ out. out.end ≢ Some Full → out.end ≢ Some Store → g.A.Holder.is_whole c.carry.new.to × g.B.Holder.is_whole c.carry-2.new.to)
-    (λ out f room disk. (c.in_ok-answer.ensures.whole held_a ends.0 ends.1, f room disk)) (c.carry-2.ensures.whole held_b)
+    let back = way_back (g.A.Holder.limits c.args.a.now) (g.A.Holder.rule c.args.a.now) (seen (g.A.Holder.members c.args.a.now) c.args.session_a.now) (seen (g.B.Holder.members c.args.b.now) c.args.session_b.now) (seen (g.A.Holder.members c.carry.new.to) c.carry.new.session) (map entry_of (g.A.Holder.members c.args.a.now)) (map entry_of (g.B.Holder.members c.args.b.now)) (map entry_of (g.A.Holder.members c.carry.new.to)) (out_of (map entry_of (g.B.Holder.members c.args.b.now)) c.args.out) (out_of (map entry_of (g.A.Holder.members c.carry.new.to)) c.in_ok-answer.answer) c.requires.on_its_way c.in_ok-answer.ensures.carried (mapped_there turn_of c.in_ok-answer.answer.turn (c.is_none-is_over.ensures ∙ ap not c.if-is_over.false)) in
+    IfOk-both c.carry-2.result (λ out. out.end ≢ Some Full → out.end ≢ Some Store → g.B.Holder.is_whole c.carry-2.new.to)
+    (λ out. IsCarried (g.B.Holder.limits c.args.b.now) (g.B.Holder.rule c.args.b.now) (seen (g.B.Holder.members c.args.b.now) c.args.session_b.now) (map entry_of (g.B.Holder.members c.args.b.now)) (out_of (map entry_of (g.A.Holder.members c.carry.new.to)) c.in_ok-answer.answer) (seen (g.B.Holder.members c.carry-2.new.to) c.carry-2.new.session) (out_of (map entry_of (g.B.Holder.members c.carry-2.new.to)) out) (map entry_of (g.B.Holder.members c.carry-2.new.to)))
+    (λ out. IsUnrefused out → g.A.Holder.is_whole c.carry.new.to × g.B.Holder.is_whole c.carry-2.new.to)
+    (λ out f carried unrefused.
+    let e = unrefused_end (g.B.Holder.limits c.args.b.now) (g.B.Holder.rule c.args.b.now) (seen (g.B.Holder.members c.args.b.now) c.args.session_b.now) (seen (g.A.Holder.members c.carry.new.to) c.carry.new.session) (seen (g.B.Holder.members c.carry-2.new.to) c.carry-2.new.session) (map entry_of (g.B.Holder.members c.args.b.now)) (map entry_of (g.B.Holder.members c.carry-2.new.to)) (out_of (map entry_of (g.A.Holder.members c.carry.new.to)) c.in_ok-answer.answer) out (g.B.Holder.members c.carry-2.new.to) back carried unrefused in
+    (c.in_ok-answer.ensures.whole held_a ends.0 ends.1, f e.0 e.1)) (c.carry-2.ensures.whole held_b) c.carry-2.ensures.carried

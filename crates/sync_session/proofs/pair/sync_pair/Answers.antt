@@ -1,49 +1,50 @@
+use Rattle.std.proofs.Common.{◌∙◌, inl, sym}
+use Rattle.sync_session.proofs.Moving.{mapped_there}
+use Rattle.sync_session.specs.Kept.{turn_of}
+use Rattle.sync_session.proofs.Sessions.{fewer_left, goes_on, moves_next_a, moves_next_b, store_here, syncs_here, unrefused}
+use Rattle.sync_session.proofs.Rounds.{is_there}
+use Rattle.sync_session.proofs.Syncing.{few_turns, unites_from, way}
 use Rattle.sync_session.proofs.pair.sync_pair.Goals as goal
 
 pub rounds-init : goal.rounds-init
-rounds-init g c = ?
-
-pub rounds-preserved : goal.rounds-preserved
-rounds-preserved g c = ?
-
-pub rounds-decreases : goal.rounds-decreases
-rounds-decreases g c = ?
-
-pub hand_hello-requires : goal.hand_hello-requires
-hand_hello-requires g c = ?
-
-pub round-requires-clause-well_a : goal.round-requires-clause-well_a
-round-requires-clause-well_a g c = ?
-
-pub round-requires-clause-well_b : goal.round-requires-clause-well_b
-round-requires-clause-well_b g c = ?
+rounds-init g c = (g.A.Holder.keeps_itself c.args.a.now, c.meet.ensures.keeps, λ held_a held_b unrefused. (held_a, c.in_ok-met.ensures.whole held_b unrefused), c.in_ok-met.ensures.going)
 
 pub round-requires-clause-on_its_way : goal.round-requires-clause-on_its_way
-round-requires-clause-on_its_way g c = ?
+round-requires-clause-on_its_way g c = way c.args.start (g.A.Holder.limits c.args.a.now) (g.B.Holder.limits c.args.b.now) (g.A.Holder.rule c.args.a.now) (g.B.Holder.rule c.args.b.now) (g.A.Holder.members c.args.a.now) (g.B.Holder.members c.args.b.now) (g.A.Counted.faults c.args.a.now) (g.B.Counted.faults c.args.b.now) c.rounds.session_a (g.A.Holder.members c.rounds.a) (g.A.Holder.limits c.rounds.a) (g.A.Holder.rule c.rounds.a) (g.A.Counted.faults c.rounds.a) c.rounds.session_b (g.B.Holder.members c.rounds.b) (g.B.Holder.limits c.rounds.b) (g.B.Holder.rule c.rounds.b) (g.B.Counted.faults c.rounds.b) c.rounds.out c.rounds.invariant.3 (mapped_there turn_of c.rounds.out.turn (sym c.is_some.ensures ∙ c.rounds-test.true))
 
-pub unwrap-requires : goal.unwrap-requires
-unwrap-requires g c = ?
+pub returns-in_err-next-clause-keeps_a : goal.returns-in_err-next-clause-keeps_a
+returns-in_err-next-clause-keeps_a g c = g.A.Holder.keeps_on c.args.a.now c.rounds.a c.round.new.a c.rounds.invariant.0 c.round.ensures.keeps_a
+
+pub returns-in_err-next-clause-keeps_b : goal.returns-in_err-next-clause-keeps_b
+returns-in_err-next-clause-keeps_b g c = g.B.Holder.keeps_on c.args.b.now c.rounds.b c.round.new.b c.rounds.invariant.1 c.round.ensures.keeps_b
+
+pub returns-in_err-next-clause-moves_a : goal.returns-in_err-next-clause-moves_a
+returns-in_err-next-clause-moves_a g c = moves_next_a c.args.start (g.A.Holder.limits c.args.a.now) (g.B.Holder.limits c.args.b.now) (g.A.Holder.rule c.args.a.now) (g.B.Holder.rule c.args.b.now) (g.A.Holder.members c.args.a.now) (g.B.Holder.members c.args.b.now) (g.A.Counted.faults c.args.a.now) (g.B.Counted.faults c.args.b.now) c.rounds.session_a (g.A.Holder.members c.rounds.a) (g.A.Holder.limits c.rounds.a) (g.A.Holder.rule c.rounds.a) (g.A.Counted.faults c.rounds.a) c.rounds.session_b (g.B.Holder.members c.rounds.b) (g.B.Holder.limits c.rounds.b) (g.B.Holder.rule c.rounds.b) (g.B.Counted.faults c.rounds.b) c.rounds.out c.rounds.invariant.3 (sym c.is_some.ensures ∙ c.rounds-test.true) (g.A.Holder.members c.round.new.a) (g.B.Holder.members c.round.new.b) (g.A.Holder.limits c.round.new.a) (g.B.Holder.limits c.round.new.b) (g.A.Holder.rule c.round.new.a) (g.B.Holder.rule c.round.new.b) (g.A.Counted.faults c.round.new.a) (g.B.Counted.faults c.round.new.b) c.round.ensures.moves_a c.round.ensures.moves_b
+
+pub returns-in_err-next-clause-moves_b : goal.returns-in_err-next-clause-moves_b
+returns-in_err-next-clause-moves_b g c = moves_next_b c.args.start (g.A.Holder.limits c.args.a.now) (g.B.Holder.limits c.args.b.now) (g.A.Holder.rule c.args.a.now) (g.B.Holder.rule c.args.b.now) (g.A.Holder.members c.args.a.now) (g.B.Holder.members c.args.b.now) (g.A.Counted.faults c.args.a.now) (g.B.Counted.faults c.args.b.now) c.rounds.session_a (g.A.Holder.members c.rounds.a) (g.A.Holder.limits c.rounds.a) (g.A.Holder.rule c.rounds.a) (g.A.Counted.faults c.rounds.a) c.rounds.session_b (g.B.Holder.members c.rounds.b) (g.B.Holder.limits c.rounds.b) (g.B.Holder.rule c.rounds.b) (g.B.Counted.faults c.rounds.b) c.rounds.out c.rounds.invariant.3 (sym c.is_some.ensures ∙ c.rounds-test.true) (g.A.Holder.members c.round.new.a) (g.B.Holder.members c.round.new.b) (g.A.Holder.limits c.round.new.a) (g.B.Holder.limits c.round.new.b) (g.A.Holder.rule c.round.new.a) (g.B.Holder.rule c.round.new.b) (g.A.Counted.faults c.round.new.a) (g.B.Counted.faults c.round.new.b) c.round.ensures.moves_a c.round.ensures.moves_b
+
+pub rounds-smaller : goal.rounds-smaller
+rounds-smaller g c = fewer_left c.rounds.out c.in_ok-next.next c.rounds.session_a c.rounds.session_b c.round.new.session_a c.round.new.session_b (sym c.is_some.ensures ∙ c.rounds-test.true) c.in_ok-next.ensures.turns
+    (few_turns c.args.start (g.A.Holder.limits c.args.a.now) (g.B.Holder.limits c.args.b.now) (g.A.Holder.rule c.args.a.now) (g.B.Holder.rule c.args.b.now) (g.A.Holder.members c.args.a.now) (g.B.Holder.members c.args.b.now) (g.A.Counted.faults c.args.a.now) (g.B.Counted.faults c.args.b.now) c.rounds.session_a (g.A.Holder.members c.rounds.a) (g.A.Holder.limits c.rounds.a) (g.A.Holder.rule c.rounds.a) (g.A.Counted.faults c.rounds.a) c.rounds.session_b (g.B.Holder.members c.rounds.b) (g.B.Holder.limits c.rounds.b) (g.B.Holder.rule c.rounds.b) (g.B.Counted.faults c.rounds.b) c.rounds.out c.rounds.invariant.3) (few_turns c.args.start (g.A.Holder.limits c.args.a.now) (g.B.Holder.limits c.args.b.now) (g.A.Holder.rule c.args.a.now) (g.B.Holder.rule c.args.b.now) (g.A.Holder.members c.args.a.now) (g.B.Holder.members c.args.b.now) (g.A.Counted.faults c.args.a.now) (g.B.Counted.faults c.args.b.now) c.round.new.session_a (g.A.Holder.members c.round.new.a) (g.A.Holder.limits c.round.new.a) (g.A.Holder.rule c.round.new.a) (g.A.Counted.faults c.round.new.a) c.round.new.session_b (g.B.Holder.members c.round.new.b) (g.B.Holder.limits c.round.new.b) (g.B.Holder.rule c.round.new.b) (g.B.Counted.faults c.round.new.b) c.in_ok-next.next (goes_on c.args.start (g.A.Holder.limits c.args.a.now) (g.B.Holder.limits c.args.b.now) (g.A.Holder.rule c.args.a.now) (g.B.Holder.rule c.args.b.now) (g.A.Holder.members c.args.a.now) (g.B.Holder.members c.args.b.now) (g.A.Counted.faults c.args.a.now) (g.B.Counted.faults c.args.b.now) c.rounds.session_a (g.A.Holder.members c.rounds.a) (g.A.Holder.limits c.rounds.a) (g.A.Holder.rule c.rounds.a) (g.A.Counted.faults c.rounds.a) c.rounds.session_b (g.B.Holder.members c.rounds.b) (g.B.Holder.limits c.rounds.b) (g.B.Holder.rule c.rounds.b) (g.B.Counted.faults c.rounds.b) c.rounds.out c.rounds.invariant.3 (sym c.is_some.ensures ∙ c.rounds-test.true) (g.A.Holder.members c.round.new.a) (g.B.Holder.members c.round.new.b) (g.A.Holder.limits c.round.new.a) (g.B.Holder.limits c.round.new.b) (g.A.Holder.rule c.round.new.a) (g.B.Holder.rule c.round.new.b) (g.A.Counted.faults c.round.new.a) (g.B.Counted.faults c.round.new.b) c.round.ensures.moves_a c.round.ensures.moves_b c.round.new.session_a c.round.new.session_b c.in_ok-next.next c.in_ok-next.ensures.got c.in_ok-next.ensures.well_a c.in_ok-next.ensures.well_b c.in_ok-next.ensures.store))
+
+pub rounds-preserved : goal.rounds-preserved
+rounds-preserved g c = (
+  g.A.Holder.keeps_on c.args.a.now c.rounds.a c.round.new.a c.rounds.invariant.0 c.round.ensures.keeps_a,
+  g.B.Holder.keeps_on c.args.b.now c.rounds.b c.round.new.b c.rounds.invariant.1 c.round.ensures.keeps_b,
+  λ held_a held_b unrefused. let before = c.rounds.invariant.2 held_a held_b (inl (is_there c.rounds.out.turn (sym c.is_some.ensures ∙ c.rounds-test.true))) in c.in_ok-next.ensures.whole before.0 before.1 unrefused,
+  goes_on c.args.start (g.A.Holder.limits c.args.a.now) (g.B.Holder.limits c.args.b.now) (g.A.Holder.rule c.args.a.now) (g.B.Holder.rule c.args.b.now) (g.A.Holder.members c.args.a.now) (g.B.Holder.members c.args.b.now) (g.A.Counted.faults c.args.a.now) (g.B.Counted.faults c.args.b.now) c.rounds.session_a (g.A.Holder.members c.rounds.a) (g.A.Holder.limits c.rounds.a) (g.A.Holder.rule c.rounds.a) (g.A.Counted.faults c.rounds.a) c.rounds.session_b (g.B.Holder.members c.rounds.b) (g.B.Holder.limits c.rounds.b) (g.B.Holder.rule c.rounds.b) (g.B.Counted.faults c.rounds.b) c.rounds.out c.rounds.invariant.3 (sym c.is_some.ensures ∙ c.rounds-test.true) (g.A.Holder.members c.round.new.a) (g.B.Holder.members c.round.new.b) (g.A.Holder.limits c.round.new.a) (g.B.Holder.limits c.round.new.b) (g.A.Holder.rule c.round.new.a) (g.B.Holder.rule c.round.new.b) (g.A.Counted.faults c.round.new.a) (g.B.Counted.faults c.round.new.b) c.round.ensures.moves_a c.round.ensures.moves_b c.round.new.session_a c.round.new.session_b c.in_ok-next.next c.in_ok-next.ensures.got c.in_ok-next.ensures.well_a c.in_ok-next.ensures.well_b c.in_ok-next.ensures.store,
+)
 
 pub returns-clause-syncs : goal.returns-clause-syncs
-returns-clause-syncs g c = ?
+returns-clause-syncs g c = syncs_here c.args.start (g.A.Holder.limits c.args.a.now) (g.B.Holder.limits c.args.b.now) (g.A.Holder.rule c.args.a.now) (g.B.Holder.rule c.args.b.now) (g.A.Holder.members c.args.a.now) (g.B.Holder.members c.args.b.now) (g.A.Counted.faults c.args.a.now) (g.B.Counted.faults c.args.b.now) c.rounds.session_a (g.A.Holder.members c.rounds.a) (g.A.Holder.limits c.rounds.a) (g.A.Holder.rule c.rounds.a) (g.A.Counted.faults c.rounds.a) c.rounds.session_b (g.B.Holder.members c.rounds.b) (g.B.Holder.limits c.rounds.b) (g.B.Holder.rule c.rounds.b) (g.B.Counted.faults c.rounds.b) c.rounds.out c.rounds.invariant.3 (sym c.is_some.ensures ∙ c.rounds-test.false) c.unwrap-end.result c.unwrap-end.ensures c.in_ok-ended.ended c.in_ok-ended.ensures
 
 pub returns-clause-unites : goal.returns-clause-unites
-returns-clause-unites g c = ?
+returns-clause-unites g c = λ one_rule one_database alike room disk. unites_from c.no_cause.ensures c.args.start (g.A.Holder.limits c.args.a.now) (g.B.Holder.limits c.args.b.now) (g.A.Holder.rule c.args.a.now) (g.B.Holder.rule c.args.b.now) (g.A.Holder.members c.args.a.now) (g.B.Holder.members c.args.b.now) (g.A.Holder.members c.rounds.a) (g.B.Holder.members c.rounds.b) c.in_ok-ended.ended c.len.ensures.held c.len-2.ensures.held
+    (syncs_here c.args.start (g.A.Holder.limits c.args.a.now) (g.B.Holder.limits c.args.b.now) (g.A.Holder.rule c.args.a.now) (g.B.Holder.rule c.args.b.now) (g.A.Holder.members c.args.a.now) (g.B.Holder.members c.args.b.now) (g.A.Counted.faults c.args.a.now) (g.B.Counted.faults c.args.b.now) c.rounds.session_a (g.A.Holder.members c.rounds.a) (g.A.Holder.limits c.rounds.a) (g.A.Holder.rule c.rounds.a) (g.A.Counted.faults c.rounds.a) c.rounds.session_b (g.B.Holder.members c.rounds.b) (g.B.Holder.limits c.rounds.b) (g.B.Holder.rule c.rounds.b) (g.B.Counted.faults c.rounds.b) c.rounds.out c.rounds.invariant.3 (sym c.is_some.ensures ∙ c.rounds-test.false) c.unwrap-end.result c.unwrap-end.ensures c.in_ok-ended.ended c.in_ok-ended.ensures) one_rule one_database alike room disk
 
 pub returns-clause-store : goal.returns-clause-store
-returns-clause-store g c = ?
+returns-clause-store g c = store_here c.args.start (g.A.Holder.limits c.args.a.now) (g.B.Holder.limits c.args.b.now) (g.A.Holder.rule c.args.a.now) (g.B.Holder.rule c.args.b.now) (g.A.Holder.members c.args.a.now) (g.B.Holder.members c.args.b.now) (g.A.Counted.faults c.args.a.now) (g.B.Counted.faults c.args.b.now) c.rounds.session_a (g.A.Holder.members c.rounds.a) (g.A.Holder.limits c.rounds.a) (g.A.Holder.rule c.rounds.a) (g.A.Counted.faults c.rounds.a) c.rounds.session_b (g.B.Holder.members c.rounds.b) (g.B.Holder.limits c.rounds.b) (g.B.Holder.rule c.rounds.b) (g.B.Counted.faults c.rounds.b) c.rounds.out c.rounds.invariant.3 (sym c.is_some.ensures ∙ c.rounds-test.false) c.unwrap-end.result c.unwrap-end.ensures c.in_ok-ended.ended c.in_ok-ended.ensures
 
 pub returns-clause-whole : goal.returns-clause-whole
-returns-clause-whole g c = ?
-
-pub returns-clause-moves_a : goal.returns-clause-moves_a
-returns-clause-moves_a g c = ?
-
-pub returns-clause-moves_b : goal.returns-clause-moves_b
-returns-clause-moves_b g c = ?
-
-pub returns-clause-keeps_a : goal.returns-clause-keeps_a
-returns-clause-keeps_a g c = ?
-
-pub returns-clause-keeps_b : goal.returns-clause-keeps_b
-returns-clause-keeps_b g c = ?
+returns-clause-whole g c = λ held_a held_b done. c.rounds.invariant.2 held_a held_b (unrefused c.args.start (g.A.Holder.limits c.args.a.now) (g.B.Holder.limits c.args.b.now) (g.A.Holder.rule c.args.a.now) (g.B.Holder.rule c.args.b.now) (g.A.Holder.members c.args.a.now) (g.B.Holder.members c.args.b.now) (g.A.Counted.faults c.args.a.now) (g.B.Counted.faults c.args.b.now) c.rounds.session_a (g.A.Holder.members c.rounds.a) (g.A.Holder.limits c.rounds.a) (g.A.Holder.rule c.rounds.a) (g.A.Counted.faults c.rounds.a) c.rounds.session_b (g.B.Holder.members c.rounds.b) (g.B.Holder.limits c.rounds.b) (g.B.Holder.rule c.rounds.b) (g.B.Counted.faults c.rounds.b) c.rounds.out c.rounds.invariant.3 (sym c.is_some.ensures ∙ c.rounds-test.false) c.unwrap-end.result c.unwrap-end.ensures c.in_ok-ended.ended c.in_ok-ended.ensures done)
