@@ -3,6 +3,7 @@ use Rattle.std.proofs.Common.{◌≡◌, ◌≢◌, ◌⊎◌, inl, inr, ℕ, �
 use Rattle.std.specs.Prelude.{◌||◌, All, Contains}
 use Rattle.std.specs.List.{list_any}
 use Rattle.std.proofs.lemmas.Bool.{true≢false}
+use Rattle.std.proofs.lemmas.List.Elements.{All-nil}
 use Rattle.row_check.specs.Checksum.{is_luhn}
 use Rattle.bec_bytes.specs.Causes.{Rose}
 use Rattle.bec_disk.specs.Disk.{DiskState, handed_out}
@@ -11,6 +12,7 @@ use Rattle.bec_disk.specs.declared.part.Part.TheVariants.{Schema, Updates, Key, 
 use Rattle.bec_disk.specs.Shelf.{PartState, ShelfState, out, stands as standing}
 use Rattle.bec_disk.specs.Slot.{Slot, same_slot, slot}
 use Rattle.history.specs.Histories.{HistoryData}
+use Rattle.replica.specs.Holding.{IsWhole}
 use Rattle.replica.specs.Replicas.{ReplicaState}
 use Rattle.store_directory.specs.Holding.{IsStoreCause, LetsGo, OpenData, PutsStore, TakesStore, WorksOn}
 use Rattle.store_directory.specs.Memory.{remembered_in}
@@ -62,13 +64,13 @@ apart first second differ p q = by (same_slot (slot first p) (slot second q)) re
     by true e = absurd (differ (ap (λ (s : Slot). s.dir) (same_place (slot first p) (slot second q) e)))
     by false e = e
 
-away_from : (first second : List ℕ) → first ≢ second → (parts : List Part) (q : Part) → list_any (λ part. same_slot (slot first part) (slot second q)) parts ≡ false
+pub away_from : (first second : List ℕ) → first ≢ second → (parts : List Part) (q : Part) → list_any (λ part. same_slot (slot first part) (slot second q)) parts ≡ false
 away_from first second differ [] q = refl
 away_from first second differ (p ∷ parts) q =
     neither_of (same_slot (slot first p) (slot second q)) (list_any (λ part. same_slot (slot first part) (slot second q)) parts) (apart first second differ p q) (away_from first second differ parts q)
 
 -- the peers of a directory whose part Peers is as it was
-same_memory : (old new : ShelfState) (dir : List ℕ) → part_in new dir Peers ≡ part_in old dir Peers → memory_in new dir ≡ memory_in old dir
+pub same_memory : (old new : ShelfState) (dir : List ℕ) → part_in new dir Peers ≡ part_in old dir Peers → memory_in new dir ≡ memory_in old dir
 same_memory old new dir same = ap (λ (p : PartState). remembered_in (reading p)) same
 
 -- nothing was done to the store of a directory
@@ -122,18 +124,21 @@ module _ (dir : List ℕ) (before opened closing after : ShelfState) (taken : Op
       (λ away. subst (λ (p : PartState). p ≢ out) (sym (puts.others (closing_told tells) place away))
         (places (opened_told tells) place (subst (λ (p : PartState). p ≢ out) (sym (takes.others place away)) here)))
 
+  -- where the shelf told what it had, the log was whole
+  pub whole_before : IsWhole taken.replica
+  whole_before log_tells = (takes.updates (told taken.replica.log.disk.tells before.tells (sym takes.updates_tells) log_tells)).2.clean refl
+
   -- the disks are those of the parts
-  pub disks_of : (added : List (List ℕ)) (done : Bool) → WorksFrom taken.replica now added done
+  pub disks_of : now.log.disk.slot ≡ taken.replica.log.disk.slot
       → (IsTrue opened.tells → (part_in closing dir Schema ≡ part_in opened dir Schema) × (part_in closing dir Updates ≡ part_in opened dir Updates)) → IsTrue closing.tells
       → ((taken.schema.slot ≡ Some (slot dir Schema)) × (part_in closing dir Schema ≡ out)) × ((now.log.disk.slot ≡ Some (slot dir Updates)) × (part_in closing dir Updates ≡ out))
-  disks_of added done works kept tells =
+  disks_of same_slot_now kept tells =
       let opened_tells : IsTrue opened.tells = told closing.tells opened.tells (sym same) tells in
       let before_tells : IsTrue before.tells = told opened.tells before.tells (sym takes.tells) opened_tells in
       let s = takes.schema before_tells in
-      let u = takes.updates before_tells in
-      let works_on_it = works (λ told_log. u.2.clean refl) taken refl in (
+      let u = takes.updates before_tells in (
         (slot_of (slot dir Schema) s.0 taken.schema s.2, (kept opened_tells).0 ∙ takes.schema_out before_tells),
-        (works_on_it.any_moment.disk.slot ∙ u.3.disk.slot ∙ slot_of (slot dir Updates) u.0 (handed_out (slot dir Updates) u.0) refl, (kept opened_tells).1 ∙ takes.updates_out before_tells),
+        (same_slot_now ∙ u.3.disk.slot ∙ slot_of (slot dir Updates) u.0 (handed_out (slot dir Updates) u.0) refl, (kept opened_tells).1 ∙ takes.updates_out before_tells),
       )
 
 -- ---- beside a store that is open
@@ -147,8 +152,9 @@ module _ (first second : List ℕ) (differ : first ≢ second) (before after : S
     added_other = [];
     comes = by why cause failed;
     works = subst (λ (r : ReplicaState). WorksFrom one r [] false) (sym same) (works_not one false stands);
-    run_other = lets.run;
-    within = λ tells other is. record { first = tt; second = tt };
+    slot = ap (λ (r : ReplicaState). r.log.disk.slot) same;
+    run_other = λ whole. lets.run;
+    within = λ tells other is. record { first = All-nil (Contains (one.history.members ++ other.members)); second = All-nil (Contains (one.history.members ++ other.members)) };
     tells = lets.tells;
     places = lets.places;
     others = λ tells other away away_too. lets.others tells other (of_store second other away_too);
@@ -173,9 +179,10 @@ module _ (first second : List ℕ) (differ : first ≢ second) (before after : S
     added = merges.added;
     added_other = merges.added_other;
     comes = by merges.comes;
-    works = merges.works;
-    run_other = λ tells. worked_run schemas is_luhn before opened closing after second taken now merges.added_other (is_done outcome) tells (still tells) takes
-        (merges.works_other (λ log_tells. (takes.updates tells).2.clean refl) taken refl) puts;
+    works = merges.works (whole_before second before opened closing after taken now takes puts merges.tells merges.places);
+    slot = merges.slot;
+    run_other = λ whole tells. worked_run schemas is_luhn before opened closing after second taken now merges.added_other (is_done outcome) tells (still tells) takes
+        (merges.works_other whole (whole_before second before opened closing after taken now takes puts merges.tells merges.places) taken refl) puts;
     within = λ tells other is.
         subst (λ (s : StoreData). IsWithin one.history.members s.members merges.added merges.added_other)
         (same_store schemas is_luhn (reading (part_in before second Schema)) (reading (part_in before second Updates)) (store_of taken.replica) other (read_before is_luhn before opened second taken tells takes) is) merges.within;
@@ -226,7 +233,7 @@ module _ (first second : List ℕ) (differ : first ≢ second) (before after : S
     run = lets.run;
     run_other = λ tells. not_run before after second (lets.others tells (slot second Schema) (away_from first second differ (Schema ∷ Updates ∷ []) Schema))
         (lets.others tells (slot second Updates) (away_from first second differ (Schema ∷ Updates ∷ []) Updates));
-    within = λ tells one other is_one is_other. record { first = tt; second = tt };
+    within = λ tells one other is_one is_other. record { first = All-nil (Contains (one.members ++ other.members)); second = All-nil (Contains (one.members ++ other.members)) };
     others = λ tells other away away_too. lets.others tells other (of_store first other away);
     home = λ tells place. lets.places tells place (home tells place);
   }
@@ -252,11 +259,12 @@ module _ (first second : List ℕ) (differ : first ≢ second) (before after : S
         (merges.works (λ log_tells. (takes.updates tells).2.clean refl) taken refl) puts;
     run_other = λ tells. same_run before opened closing after second merges.added_other (is_done outcome)
         (takes.others (slot second Schema) (away Schema)) (takes.others (slot second Updates) (away Updates))
-        (puts.others (still tells) (slot second Schema) (away Schema)) (puts.others (still tells) (slot second Updates) (away Updates)) (merges.run_other (inside tells));
+        (puts.others (still tells) (slot second Schema) (away Schema)) (puts.others (still tells) (slot second Updates) (away Updates))
+        (merges.run_other (whole_before first before opened closing after taken now takes puts merges.tells merges.places) (inside tells));
     within = λ tells one other is_one is_other.
         subst (λ (s : StoreData). IsWithin s.members other.members merges.added merges.added_other)
         (same_store schemas is_luhn (reading (part_in before first Schema)) (reading (part_in before first Updates)) (store_of taken.replica) one (read_before is_luhn before opened first taken tells takes) is_one)
-        (merges.within (inside tells) other (rw (sym (takes.others (slot second Schema) (away Schema)), sym (takes.others (slot second Updates) (away Updates))) is_other));
+        (merges.within (inside tells) other (rw (takes.others (slot second Schema) (away Schema), takes.others (slot second Updates) (away Updates)) is_other));
     others = λ tells other away_one away_two.
         puts.others (still tells) other (of_store first other away_one) ∙ merges.others (inside tells) other (of_peers first other away_one) away_two ∙ takes.others other (of_store first other away_one);
     home = λ tells place. places_around first before opened closing after taken now takes puts merges.tells merges.places tells place (home tells place);

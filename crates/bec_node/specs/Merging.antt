@@ -19,6 +19,7 @@ use Rattle.sync_session.specs.declared.pair.PairEnd.{PairEnd}
 use Rattle.peer_memory.specs.declared.peer.Peer.{Peer as PeerEntry}
 use Rattle.peer_memory.specs.Payload.{Reads, Spells}
 use Rattle.peer_memory.specs.Peers.{Remembers, heads_under}
+use Rattle.replica.specs.Holding.{IsWhole}
 use Rattle.replica.specs.Replicas.{ReplicaState}
 use Rattle.store_directory.specs.Memory.{remembered_in}
 use Rattle.store_directory.specs.Stores.{IsHome, IsStore, KeepsAllBut, KeepsPlaces, StoreData, StoreRun, part_in, reading}
@@ -127,14 +128,17 @@ abbrev pub IsMergeFault : ℕ → ℕ → ReplicaState → ReplicaState → Repl
 IsMergeFault faults faults_new one other one_new other_new outcome = (outcome ≡ Err refusals.Memory)
     ⊎ ((outcome ≡ Err refusals.StoreFault) × (Rose faults faults_new ⊎ (Rose one.log.faults one_new.log.faults ⊎ Rose other.log.faults other_new.log.faults)))
 
--- A merge of two stores that are open. On the shelf it touches the two parts Peers alone.
+-- A merge of two stores that are open. On the shelf it touches the two parts Peers alone. The log of either store has its updates and nothing else
+-- where it is done, if both logs had before.
 pub record MergesOpen (first second : List ℕ) (before after : ShelfState) (faults faults_new : ℕ) (one other one_new other_new : ReplicaState) (outcome : Outcome) : Type 0 where
   pub added : List (List ℕ)
   pub added_other : List (List ℕ)
   pub comes : (IsTrue before.tells → Meets (opened_store one) (opened_store other) (memory_in before first) (memory_in before second)
       (memory_in after first) (memory_in after second) added added_other outcome) ⊎ IsMergeFault faults faults_new one other one_new other_new outcome
-  pub works : WorksFrom one one_new added (is_done outcome)
-  pub works_other : WorksFrom other other_new added_other (is_done outcome)
+  pub works : IsWhole other → WorksFrom one one_new added (is_done outcome)
+  pub works_other : IsWhole one → WorksFrom other other_new added_other (is_done outcome)
+  pub slot : one_new.log.disk.slot ≡ one.log.disk.slot
+  pub slot_other : other_new.log.disk.slot ≡ other.log.disk.slot
   pub within : IsWithin one.history.members other.history.members added added_other
   pub tells : after.tells ≡ before.tells
   pub places : IsTrue before.tells → KeepsPlaces before after
@@ -161,7 +165,8 @@ pub record MergesBeside (first second : List ℕ) (before after : ShelfState) (f
   pub comes : (IsTrue before.tells → BesideAnswer (opened_store one) (readings before second) (memory_in before first) (memory_in before second)
       (memory_in after first) (memory_in after second) added added_other outcome) ⊎ IsBesideFault faults faults_new one one_new outcome
   pub works : WorksFrom one one_new added (is_done outcome)
-  pub run_other : IsTrue before.tells → StoreRun is_luhn before after second added_other (is_done outcome)
+  pub slot : one_new.log.disk.slot ≡ one.log.disk.slot
+  pub run_other : IsWhole one → IsTrue before.tells → StoreRun is_luhn before after second added_other (is_done outcome)
   pub within : IsTrue before.tells → (other : StoreData) → IsStore is_luhn before second other → IsWithin one.history.members other.members added added_other
   pub tells : after.tells ≡ before.tells
   pub places : IsTrue before.tells → KeepsPlaces before after

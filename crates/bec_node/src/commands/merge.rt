@@ -1,10 +1,13 @@
-ghost use Rattle.std.specs.Prelude.{◌≡◌, ◌≢◌, ◌≤◌, IsTrue, IfOk, IfErr, OnOk, codes};
+ghost use Rattle.std.specs.Prelude.{◌≡◌, ◌≢◌, ◌≤◌, IsTrue, IfOk, IfErr, OnOk, codes, length};
+ghost use Rattle.std.specs.List.Sorted.{IsStrictlySortedBy};
 ghost use Rattle.bec_disk.specs.Shelf.{out};
-ghost use Rattle.bec_disk.specs.declared.part.Part.TheVariants.{Schema, Updates, Peers};
+ghost use Rattle.bec_disk.specs.declared.part.Part.TheVariants.{Schema, Updates, Peers as PeersPart};
 ghost use Rattle.bec_node.specs.Merging.{IsPeersFault, KeepsPeers, MergesBeside, MergesOpen, MergesStores, RemembersIn, memory_in, opened_store, start_of};
 ghost use Rattle.bec_node.specs.Outside.{outside};
 ghost use Rattle.bec_node.specs.Texts.{merged_text};
 ghost use Rattle.peer_memory.specs.Payload.{Reads};
+ghost use Rattle.session_rules.specs.declared.limits.TheConstants.{MAX_NEEDS};
+ghost use Rattle.update_model.specs.Entry.{id_cmp};
 ghost use Rattle.bec_node.specs.Run.{HasFirstWord, Runs};
 ghost use Rattle.store_directory.specs.Stores.{IsHome, part_in};
 
@@ -72,10 +75,10 @@ fn merge_beside<H: Shelf>(
     one: &mut Replica<H::D, Luhn, Luhn>,
 ) -> Result<Vec<u8>, Refusal>
     requires differ { first.now ≢ second.now }
-    requires peers_in { IsTrue (H.state shelf.old).tells → part_in (H.state shelf.old) first.now Peers ≢ out }
+    requires peers_in { IsTrue (H.state shelf.old).tells → part_in (H.state shelf.old) first.now PeersPart ≢ out }
     requires schema_in { IsTrue (H.state shelf.old).tells → part_in (H.state shelf.old) second.now Schema ≢ out }
     requires updates_in { IsTrue (H.state shelf.old).tells → part_in (H.state shelf.old) second.now Updates ≢ out }
-    requires peers_in_second { IsTrue (H.state shelf.old).tells → part_in (H.state shelf.old) second.now Peers ≢ out }
+    requires peers_in_second { IsTrue (H.state shelf.old).tells → part_in (H.state shelf.old) second.now PeersPart ≢ out }
     ensures { MergesBeside first.now second.now (H.state shelf.old) (H.state shelf.new) (H.faults shelf.old) (H.faults shelf.new) one.old one.new result }
 {
     one_schema();
@@ -96,8 +99,8 @@ fn merge_open<H: Shelf>(
     other: &mut Replica<H::D, Luhn, Luhn>,
 ) -> Result<Vec<u8>, Refusal>
     requires differ { first.now ≢ second.now }
-    requires peers_in { IsTrue (H.state shelf.old).tells → part_in (H.state shelf.old) first.now Peers ≢ out }
-    requires peers_in_second { IsTrue (H.state shelf.old).tells → part_in (H.state shelf.old) second.now Peers ≢ out }
+    requires peers_in { IsTrue (H.state shelf.old).tells → part_in (H.state shelf.old) first.now PeersPart ≢ out }
+    requires peers_in_second { IsTrue (H.state shelf.old).tells → part_in (H.state shelf.old) second.now PeersPart ≢ out }
     ensures { MergesOpen first.now second.now (H.state shelf.old) (H.state shelf.new) (H.faults shelf.old) (H.faults shelf.new) one.old other.old one.new other.new result }
 {
     each_stands(one);
@@ -123,7 +126,7 @@ fn merge_open<H: Shelf>(
 
 /// What a directory remembers of peers.
 fn peers_of<H: Shelf>(alloc: Global, shelf: &mut H, dir: &str) -> Result<Peers, Refusal>
-    requires { IsTrue (H.state shelf.old).tells → part_in (H.state shelf.old) dir.now Peers ≢ out }
+    requires { IsTrue (H.state shelf.old).tells → part_in (H.state shelf.old) dir.now PeersPart ≢ out }
     ensures reads { IsTrue (H.state shelf.old).tells → IfOk result (λ peers. Reads (memory_in (H.state shelf.old) dir.now) peers) }
     ensures keeps { KeepsPeers dir.now (H.state shelf.old) (H.state shelf.new) }
     ensures same { IsTrue (H.state shelf.old).tells → memory_in (H.state shelf.new) dir.now ≡ memory_in (H.state shelf.old) dir.now }
@@ -143,7 +146,7 @@ fn keep_peers<H: Shelf>(
     name: [u8; 32],
     ids: &IdList,
 ) -> Result<(), Refusal>
-    requires { IsTrue (H.state shelf.old).tells → part_in (H.state shelf.old) dir.now Peers ≢ out }
+    requires { IsTrue (H.state shelf.old).tells → part_in (H.state shelf.old) dir.now PeersPart ≢ out }
     ensures remembers { IsTrue (H.state shelf.old).tells → OnOk result (RemembersIn peers name ids.now (memory_in (H.state shelf.new) dir.now)) }
     ensures keeps { KeepsPeers dir.now (H.state shelf.old) (H.state shelf.new) }
     ensures later { H.faults shelf.old ≤ H.faults shelf.new }
@@ -165,7 +168,11 @@ fn pair_start<D: Disk>(
     peers: &Peers,
     peers_other: &Peers,
 ) -> Result<PairStart, AllocError>
-    ensures { IfOk result (λ start. start ≡ start_of (opened_store one.now) (opened_store other.now) peers.now peers_other.now) }
+    ensures is { IfOk result (λ start. start ≡ start_of (opened_store one.now) (opened_store other.now) peers.now peers_other.now) }
+    ensures few_a { IfOk result (λ start. length start.old_a ≤ MAX_NEEDS) }
+    ensures rising_a { IfOk result (λ start. IsStrictlySortedBy id_cmp start.old_a) }
+    ensures few_b { IfOk result (λ start. length start.old_b ≤ MAX_NEEDS) }
+    ensures rising_b { IfOk result (λ start. IsStrictlySortedBy id_cmp start.old_b) }
 {
     let old_a = Vec::from_slice(alloc, peers.heads_of(&other.node()))?;
     let old_b = Vec::from_slice(alloc, peers_other.heads_of(&one.node()))?;
