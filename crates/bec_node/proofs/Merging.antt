@@ -104,6 +104,20 @@ same_run before opened closing after dir added done s u s2 u2 run = record {
 
 -- ---- a store that is taken and put back around something else
 
+-- the disks of a store that is taken are those of its parts, whatever was done to other parts
+pub disks_of : (dir : List ℕ) (before opened closing : ShelfState) (taken : OpenData) (now : ReplicaState) → TakesStore is_luhn before dir taken opened → closing.tells ≡ opened.tells
+    → now.log.disk.slot ≡ taken.replica.log.disk.slot
+    → (IsTrue opened.tells → (part_in closing dir Schema ≡ part_in opened dir Schema) × (part_in closing dir Updates ≡ part_in opened dir Updates)) → IsTrue closing.tells
+    → ((taken.schema.slot ≡ Some (slot dir Schema)) × (part_in closing dir Schema ≡ out)) × ((now.log.disk.slot ≡ Some (slot dir Updates)) × (part_in closing dir Updates ≡ out))
+disks_of dir before opened closing taken now takes same same_slot_now kept tells =
+    let opened_tells : IsTrue opened.tells = told closing.tells opened.tells (sym same) tells in
+    let before_tells : IsTrue before.tells = told opened.tells before.tells (sym takes.tells) opened_tells in
+    let s = takes.schema before_tells in
+    let u = takes.updates before_tells in (
+      (slot_of (slot dir Schema) s.0 taken.schema s.2, (kept opened_tells).0 ∙ takes.schema_out before_tells),
+      (same_slot_now ∙ u.3.disk.slot ∙ slot_of (slot dir Updates) u.0 (handed_out (slot dir Updates) u.0) refl, (kept opened_tells).1 ∙ takes.updates_out before_tells),
+    )
+
 -- What holds while the store of one directory is taken, something is done to other parts, and it is put back.
 module _ (dir : List ℕ) (before opened closing after : ShelfState) (taken : OpenData) (now : ReplicaState) (takes : TakesStore is_luhn before dir taken opened)
     (puts : PutsStore closing dir taken.schema now.log.disk after) (same : closing.tells ≡ opened.tells) (places : IsTrue opened.tells → KeepsPlaces opened closing) where
@@ -128,20 +142,23 @@ module _ (dir : List ℕ) (before opened closing after : ShelfState) (taken : Op
   pub whole_before : IsWhole taken.replica
   whole_before log_tells = (takes.updates (told taken.replica.log.disk.tells before.tells (sym takes.updates_tells) log_tells)).2.clean refl
 
-  -- the disks are those of the parts
-  pub disks_of : now.log.disk.slot ≡ taken.replica.log.disk.slot
-      → (IsTrue opened.tells → (part_in closing dir Schema ≡ part_in opened dir Schema) × (part_in closing dir Updates ≡ part_in opened dir Updates)) → IsTrue closing.tells
-      → ((taken.schema.slot ≡ Some (slot dir Schema)) × (part_in closing dir Schema ≡ out)) × ((now.log.disk.slot ≡ Some (slot dir Updates)) × (part_in closing dir Updates ≡ out))
-  disks_of same_slot_now kept tells =
-      let opened_tells : IsTrue opened.tells = told closing.tells opened.tells (sym same) tells in
-      let before_tells : IsTrue before.tells = told opened.tells before.tells (sym takes.tells) opened_tells in
-      let s = takes.schema before_tells in
-      let u = takes.updates before_tells in (
-        (slot_of (slot dir Schema) s.0 taken.schema s.2, (kept opened_tells).0 ∙ takes.schema_out before_tells),
-        (same_slot_now ∙ u.3.disk.slot ∙ slot_of (slot dir Updates) u.0 (handed_out (slot dir Updates) u.0) refl, (kept opened_tells).1 ∙ takes.updates_out before_tells),
-      )
-
 -- ---- beside a store that is open
+
+-- the parts of the second store stay while both are open
+pub second_kept : (first second : List ℕ) → first ≢ second → (opened closing : ShelfState) → (IsTrue opened.tells → KeepsAllButIn (Peers ∷ []) first (Peers ∷ []) second opened closing)
+    → IsTrue opened.tells → (part_in closing second Schema ≡ part_in opened second Schema) × (part_in closing second Updates ≡ part_in opened second Updates)
+second_kept first second differ opened closing others tells = (
+  others tells (slot second Schema) (away_from first second differ (Peers ∷ []) Schema) refl,
+  others tells (slot second Updates) (away_from first second differ (Peers ∷ []) Updates) refl,
+)
+
+-- the parts of the first store stay while it is open
+pub first_kept : (first second : List ℕ) → first ≢ second → (opened closing : ShelfState) → (IsTrue opened.tells → KeepsAllButIn (Peers ∷ []) first touched second opened closing)
+    → IsTrue opened.tells → (part_in closing first Schema ≡ part_in opened first Schema) × (part_in closing first Updates ≡ part_in opened first Updates)
+first_kept first second differ opened closing others tells = (
+  others tells (slot first Schema) refl (away_from second first (λ e. differ (sym e)) touched Schema),
+  others tells (slot first Updates) refl (away_from second first (λ e. differ (sym e)) touched Updates),
+)
 
 module _ (first second : List ℕ) (differ : first ≢ second) (before after : ShelfState) (old new : ℕ) (one one_new : ReplicaState) where
   -- where the second store was refused
