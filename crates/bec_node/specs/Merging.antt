@@ -7,6 +7,7 @@ use Rattle.bec_disk.specs.declared.part.Part.TheVariants.{Schema, Updates, Peers
 use Rattle.bec_disk.specs.declared.part.Part.{Part}
 use Rattle.bec_disk.specs.Shelf.{ShelfState}
 use Rattle.bec_disk.specs.Slot.{Slot, same_slot, slot}
+use Rattle.command_words.specs.Requests.{RequestText, merge}
 use Rattle.update_model.specs.Batch.{store_limits}
 use Rattle.update_model.specs.declared.update_id.UpdateId.{UpdateId}
 use Rattle.update_codec.specs.Parts.{entry_of}
@@ -31,6 +32,11 @@ use Rattle.bec_node.specs.Outside.{Outside}
 use Rattle.bec_node.specs.Signing.{WorksFrom}
 use Rattle.bec_node.specs.StoreAnswers.{HasStore, Readings, RefusesStore}
 use Rattle.bec_node.specs.Texts.{merged_text}
+
+-- Where a request names two directories, it names them by two words.
+abbrev pub NamesApart : RequestText → Type 0
+NamesApart (merge first second) = first ≢ second
+NamesApart request = Unit {0}
 
 -- what a directory remembers of peers
 abbrev pub memory_in : ShelfState → List ℕ → List ℕ
