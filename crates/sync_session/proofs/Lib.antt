@@ -25,3 +25,5 @@ pub mod Syncing
 pub mod Carried
 pub mod Moving
 pub mod Sessions
+pub mod Weights
+pub mod Room

@@ -118,7 +118,7 @@ opening start limits_a limits_b rule_a rule_b list_a list_b a begun b after hell
     }
 
 -- all that two ends begin with is of a set where their lists are
-begins_in : (P : Entry → Type 0) (start : PairStart) (list_a list_b : List Entry) (p : PairData) → Begins start list_a list_b p → AllByRecursion P list_a → AllByRecursion P list_b → PairIn P p
+pub begins_in : (P : Entry → Type 0) (start : PairStart) (list_a list_b : List Entry) (p : PairData) → Begins start list_a list_b p → AllByRecursion P list_a → AllByRecursion P list_b → PairIn P p
 begins_in P start list_a list_b p b all_a all_b = subst (PairIn P) (sym b.is) (record {
   a = record { start = all_a; waiting = tt; gathered = tt };
   list_a = all_a;

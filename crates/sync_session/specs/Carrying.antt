@@ -1,10 +1,10 @@
 -- Two ends between whose holders the frames are carried in memory, each holder under a rule of its own.
-use Rattle.std.specs.Prelude.{◌≡◌, ◌≢◌, ◌⊎◌, ◌≤◌, ◌&&◌, ℕ, false, max, if◌then◌else◌, List, [], ◌∷◌, ◌++◌, length, map, Option, None, Some, option_map}
+use Rattle.std.specs.Prelude.{◌≡◌, ◌≢◌, ◌⊎◌, ◌≤◌, ◌&&◌, ℕ, true, false, max, if◌then◌else◌, List, [], ◌∷◌, ◌++◌, length, map, Option, None, Some, option_map}
 use Rattle.update_check.specs.Causes.{IsCause}
 use Rattle.update_check.specs.Signed.{IsChecked}
 use Rattle.update_check.specs.declared.check_error.CheckFault.{CheckFault}
 use Rattle.update_codec.specs.Parts.{entry_of}
-use Rattle.update_model.specs.Batch.{Limits}
+use Rattle.update_model.specs.Batch.{Limits, fits}
 use Rattle.update_model.specs.Entry.{Entry}
 use Rattle.update_model.specs.Graph.{HaveSameMembers}
 use Rattle.update_model.specs.Rule.{RuleData}
@@ -88,6 +88,10 @@ pub record Syncs (limits_a limits_b : Limits) (rule_a rule_b : RuleData) (start 
   pub turns : ended.turns ≡ max last.a.turns last.b.turns
   pub remembered_a : Remembers last.a ended.remembered_a
   pub remembered_b : Remembers last.b ended.remembered_b
+
+-- What an end's holder has and what it lacks of the other's are together within its limits.
+abbrev pub HasRoom : Limits → List (List ℕ) → List (List ℕ) → Type 0
+HasRoom limits own other = fits limits (map entry_of own ++ missing (map entry_of own) (map entry_of other)) ≡ true
 
 -- Both ends are done, within the bound on turns; both lists are the union of what both were, and each end has counted what
 -- it lacked.

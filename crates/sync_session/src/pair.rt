@@ -8,7 +8,7 @@ ghost use Rattle.session_rules.specs.declared.limits.TheConstants.{MAX_NEEDS};
 ghost use Rattle.session_rules.specs.Laws.{NoCollision};
 ghost use Rattle.update_codec.specs.Parts.{entry_of};
 ghost use Rattle.update_model.specs.Entry.{id_cmp};
-ghost use Rattle.sync_session.specs.Carrying.{Closes, Going, IsUnrefused, Syncs, Unites};
+ghost use Rattle.sync_session.specs.Carrying.{Closes, Going, HasRoom, IsUnrefused, Syncs, Unites};
 ghost use Rattle.sync_session.specs.Kept.{Moves};
 
 use crate::carrying::{hand_hello, round};
@@ -60,7 +60,8 @@ pub struct PairEnd {
 ///
 /// The frames are handed over as values, in order. An update that is not under the receiver's rule arrives as a bad one, which
 /// ends the session. Where both holders have one rule and the ends one database, no two updates of theirs share an id, no
-/// limit is met and no disk fails, both lists are then the union of what both were.
+/// end is full and no disk fails, both lists are then the union of what both were; and where that union is within the limits
+/// of both, no end is full.
 ///
 /// Whatever comes, want of memory included, each list begins with the one before, and what it gained was in one of both lists.
 /// The end is `Store` only where a holder's count of faults rose. Where it is `Done`, two holders that were whole are whole.
@@ -78,6 +79,8 @@ pub fn sync_pair<A: Holder, B: Holder>(
     ensures unites { IfOk result (λ ended. A.rule a.old ≡ B.rule b.old → start.database_a ≡ start.database_b
         → NoCollision (map entry_of (A.members a.old)) (map entry_of (B.members b.old)) → ended.a ≢ full → ended.a ≢ store
         → Unites (A.members a.old) (B.members b.old) ended (A.members a.new) (B.members b.new)) }
+    ensures room { IfOk result (λ ended. NoCollision (map entry_of (A.members a.old)) (map entry_of (B.members b.old))
+        → HasRoom (A.limits a.old) (A.members a.old) (B.members b.old) → HasRoom (B.limits b.old) (B.members b.old) (A.members a.old) → ended.a ≢ full) }
     ensures store { IfOk result (λ ended. ended.a ≡ store → Rose (A.faults a.old) (A.faults a.new) ⊎ Rose (B.faults b.old) (B.faults b.new)) }
     ensures keeps_a { A.keeps a.old a.new }
     ensures keeps_b { B.keeps b.old b.new }

@@ -2,6 +2,7 @@ use Rattle.std.proofs.Common.{◌∙◌, inl, sym}
 use Rattle.sync_session.proofs.Moving.{mapped_there}
 use Rattle.sync_session.specs.Kept.{turn_of}
 use Rattle.sync_session.proofs.Sessions.{fewer_left, goes_on, moves_next_a, moves_next_b, store_here, syncs_here, unrefused}
+use Rattle.sync_session.proofs.Room.{room_for_all}
 use Rattle.sync_session.proofs.Rounds.{is_there}
 use Rattle.sync_session.proofs.Syncing.{few_turns, unites_from, way}
 use Rattle.sync_session.proofs.pair.sync_pair.Goals as goal
@@ -48,3 +49,7 @@ returns-clause-store g c = store_here c.args.start (g.A.Holder.limits c.args.a.n
 
 pub returns-clause-whole : goal.returns-clause-whole
 returns-clause-whole g c = λ held_a held_b done. c.rounds.invariant.2 held_a held_b (unrefused c.args.start (g.A.Holder.limits c.args.a.now) (g.B.Holder.limits c.args.b.now) (g.A.Holder.rule c.args.a.now) (g.B.Holder.rule c.args.b.now) (g.A.Holder.members c.args.a.now) (g.B.Holder.members c.args.b.now) (g.A.Counted.faults c.args.a.now) (g.B.Counted.faults c.args.b.now) c.rounds.session_a (g.A.Holder.members c.rounds.a) (g.A.Holder.limits c.rounds.a) (g.A.Holder.rule c.rounds.a) (g.A.Counted.faults c.rounds.a) c.rounds.session_b (g.B.Holder.members c.rounds.b) (g.B.Holder.limits c.rounds.b) (g.B.Holder.rule c.rounds.b) (g.B.Counted.faults c.rounds.b) c.rounds.out c.rounds.invariant.3 (sym c.is_some.ensures ∙ c.rounds-test.false) c.unwrap-end.result c.unwrap-end.ensures c.in_ok-ended.ended c.in_ok-ended.ensures done)
+
+pub returns-clause-room : goal.returns-clause-room
+returns-clause-room g c = λ alike room_a room_b. room_for_all c.args.start (g.A.Holder.limits c.args.a.now) (g.B.Holder.limits c.args.b.now) (g.A.Holder.rule c.args.a.now) (g.B.Holder.rule c.args.b.now) (g.A.Holder.members c.args.a.now) (g.B.Holder.members c.args.b.now) (g.A.Holder.members c.rounds.a) (g.B.Holder.members c.rounds.b) c.in_ok-ended.ended c.len.ensures.held c.len-2.ensures.held
+    (syncs_here c.args.start (g.A.Holder.limits c.args.a.now) (g.B.Holder.limits c.args.b.now) (g.A.Holder.rule c.args.a.now) (g.B.Holder.rule c.args.b.now) (g.A.Holder.members c.args.a.now) (g.B.Holder.members c.args.b.now) (g.A.Counted.faults c.args.a.now) (g.B.Counted.faults c.args.b.now) c.rounds.session_a (g.A.Holder.members c.rounds.a) (g.A.Holder.limits c.rounds.a) (g.A.Holder.rule c.rounds.a) (g.A.Counted.faults c.rounds.a) c.rounds.session_b (g.B.Holder.members c.rounds.b) (g.B.Holder.limits c.rounds.b) (g.B.Holder.rule c.rounds.b) (g.B.Counted.faults c.rounds.b) c.rounds.out c.rounds.invariant.3 (sym c.is_some.ensures ∙ c.rounds-test.false) c.unwrap-end.result c.unwrap-end.ensures c.in_ok-ended.ended c.in_ok-ended.ensures) alike room_a room_b
