@@ -66,7 +66,8 @@ pub record RemembersIn (peers : List PeerEntry) (node : List ℕ) (ids : List Up
   pub spelled : Spells peers_new memory
 
 -- A session of the two stores was held, and added these to each. Where both have one rule and no two of their updates share an id, it ends done
--- unless one is full, and then both are the union; and none is full where the union is within the limits. Done, each directory remembers what its end does of the other, under the other's node id.
+-- unless one is full, and then both are the union; and none is full where the union is within the limits. Done, each directory remembers what its end
+-- does of the other, under the other's node id.
 pub record Meets (one other : StoreData) (memory memory_other memory_new memory_other_new : List ℕ) (added added_other : List (List ℕ)) (outcome : Outcome) : Type 0 where
   pub ended : PairEnd
   pub peers : List PeerEntry
