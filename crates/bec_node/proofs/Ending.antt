@@ -5,7 +5,7 @@ use Rattle.std.specs.String.{string_bytes}
 use Rattle.std.specs.Io.KnownBytes.{Appends}
 use Rattle.lm_ots.specs.declared.ots_type.OtsType.{OtsType}
 use Rattle.lms_tree.specs.declared.lms_type.LmsType.{LmsType}
-use Rattle.command_words.specs.Requests.{Asks, RequestText, heads, check, dump, init, keygen, apply, join, export, query, merge}
+use Rattle.command_words.specs.Requests.{Asks, RequestText, heads, check, dump, init, keygen, apply, join, export, query, merge, for_heads, for_check, for_dump, for_init, for_keygen, for_apply, for_join, for_export, for_query, for_merge}
 use Rattle.bec_node.specs.declared.refusal.Refusal.TheVariants.{Words, Memory}
 use Rattle.bec_node.specs.declared.status.TheConstants.{NO_COMMAND, OUT_OF_MEMORY}
 use Rattle.bec_node.specs.Bundle.{DumpAnswer}
@@ -22,7 +22,7 @@ use Rattle.bec_node.specs.Creating.{DrawsKeyOnly, Inits}
 use Rattle.bec_node.proofs.NewKeys.{key_without_memory}
 use Rattle.bec_node.proofs.NewStores.{init_without_memory}
 use Rattle.bec_node.proofs.Reading.{read_without_memory}
-use Rattle.bec_node.specs.Merging.{Merges}
+use Rattle.bec_node.specs.Merging.{Merges, NamesApart}
 use Rattle.bec_node.specs.Signing.{Applies, ApplyAnswer, IsNoStop, IsSourceFault, JoinAnswer, JoinsHeads}
 use Rattle.bec_node.proofs.Signs.{none_by_apply, none_by_join, signs_without_memory}
 use Rattle.bec_node.proofs.Answer.{OneAnswer}
@@ -95,6 +95,19 @@ module _ {S H R : Type 0} (before after : Outside S H R) where
   comes_lacking (export dir updates_only) outcome lacks comes = store_lacks (Printing (ShowsRecords updates_only)) dir outcome lacks comes
   comes_lacking (query dir text json) outcome lacks comes = store_lacks (QueryAnswer text json) dir outcome lacks comes
   comes_lacking (merge first second) outcome lacks comes = merge_lacks first second outcome lacks comes
+
+-- words that ask for something name two directories by two words
+pub names_apart : (words : List (List ℕ)) (request : RequestText) → Asks words request → NamesApart request
+names_apart words request (for_heads taken) = tt
+names_apart words request (for_check taken) = tt
+names_apart words request (for_dump taken) = tt
+names_apart words request (for_init directory taken dir) = tt
+names_apart words request (for_keygen directory height width taken dir h w) = tt
+names_apart words request (for_apply directory taken dir) = tt
+names_apart words request (for_join directory taken dir) = tt
+names_apart words request (for_export directory taken dir) = tt
+names_apart words request (for_query directory text taken dir given) = tt
+names_apart words request (for_merge first second taken dir other differ) = differ
 
 -- ---- runs
 

@@ -13,7 +13,7 @@ use Rattle.update_codec.specs.Parts.{entry_of}
 use Rattle.session_rules.specs.declared.end.End.{End}
 use Rattle.session_rules.specs.declared.end.End.TheVariants.{Done, Peer, Full, Store}
 use Rattle.session_rules.specs.Laws.{NoCollision}
-use Rattle.sync_session.specs.Carrying.{Syncs, Unites}
+use Rattle.sync_session.specs.Carrying.{HasRoom, Syncs, Unites}
 use Rattle.sync_session.specs.Kept.{GrowsBy}
 use Rattle.sync_session.specs.declared.pair.PairStart.{PairStart}
 use Rattle.sync_session.specs.declared.pair.PairEnd.{PairEnd}
@@ -224,6 +224,8 @@ module _ (one other one_new other_new : ReplicaState) (start : PairStart) (ended
     (syncs : Syncs store_limits store_limits one.history.schema.rule other.history.schema.rule start one.history.members other.history.members ended one_new.history.members other_new.history.members)
     (unites : one.history.schema.rule ≡ other.history.schema.rule → start.database_a ≡ start.database_b → NoCollision (map entry_of one.history.members) (map entry_of other.history.members) → ended.a ≢ Full → ended.a ≢ Store
       → Unites one.history.members other.history.members ended one_new.history.members other_new.history.members)
+    (room : NoCollision (map entry_of one.history.members) (map entry_of other.history.members) → HasRoom store_limits one.history.members other.history.members
+      → HasRoom store_limits other.history.members one.history.members → ended.a ≢ Full)
     (not_store : ended.a ≢ Store) where
   pub meets : (memory memory_other memory_new memory_other_new : List ℕ) (outcome : Outcome) → Reads memory peers → Reads memory_other peers_other → TellsEnd ended outcome
       → (ended.a ≡ Done → RemembersIn peers other.node ended.remembered_a memory_new) → (ended.a ≡ Done → RemembersIn peers_other one.node ended.remembered_b memory_other_new)
@@ -245,6 +247,7 @@ module _ (one other one_new other_new : ReplicaState) (start : PairStart) (ended
         subst (λ (l : List (List ℕ)). Unites one.history.members other.history.members ended l (other.history.members ++ grows_other.added)) grows.behind
         (subst (λ (l : List (List ℕ)). Unites one.history.members other.history.members ended one_new.history.members l) grows_other.behind
           (unites rule (database rule) apart not_full not_store));
+    room = room;
     tells = tells;
     remembers = remembers;
     remembers_other = remembers_other;

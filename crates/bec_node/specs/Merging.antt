@@ -7,13 +7,14 @@ use Rattle.bec_disk.specs.declared.part.Part.TheVariants.{Schema, Updates, Peers
 use Rattle.bec_disk.specs.declared.part.Part.{Part}
 use Rattle.bec_disk.specs.Shelf.{ShelfState}
 use Rattle.bec_disk.specs.Slot.{Slot, same_slot, slot}
+use Rattle.command_words.specs.Requests.{RequestText, merge}
 use Rattle.update_model.specs.Batch.{store_limits}
 use Rattle.update_model.specs.declared.update_id.UpdateId.{UpdateId}
 use Rattle.update_codec.specs.Parts.{entry_of}
 use Rattle.session_rules.specs.declared.end.End.TheVariants.{Done, Peer, Full}
 use Rattle.session_rules.specs.declared.peer_fault.PeerFault.{PeerFault}
 use Rattle.session_rules.specs.Laws.{NoCollision}
-use Rattle.sync_session.specs.Carrying.{Syncs, Unites}
+use Rattle.sync_session.specs.Carrying.{HasRoom, Syncs, Unites}
 use Rattle.sync_session.specs.declared.pair.PairStart.{PairStart}
 use Rattle.sync_session.specs.declared.pair.PairEnd.{PairEnd}
 use Rattle.peer_memory.specs.declared.peer.Peer.{Peer as PeerEntry}
@@ -31,6 +32,11 @@ use Rattle.bec_node.specs.Outside.{Outside}
 use Rattle.bec_node.specs.Signing.{WorksFrom}
 use Rattle.bec_node.specs.StoreAnswers.{HasStore, Readings, RefusesStore}
 use Rattle.bec_node.specs.Texts.{merged_text}
+
+-- Where a request names two directories, it names them by two words.
+abbrev pub NamesApart : RequestText → Type 0
+NamesApart (merge first second) = first ≢ second
+NamesApart request = Unit {0}
 
 -- what a directory remembers of peers
 abbrev pub memory_in : ShelfState → List ℕ → List ℕ
@@ -60,7 +66,8 @@ pub record RemembersIn (peers : List PeerEntry) (node : List ℕ) (ids : List Up
   pub spelled : Spells peers_new memory
 
 -- A session of the two stores was held, and added these to each. Where both have one rule and no two of their updates share an id, it ends done
--- unless one is full, and then both are the union. Done, each directory remembers what its end does of the other, under the other's node id.
+-- unless one is full, and then both are the union; and none is full where the union is within the limits. Done, each directory remembers what its end
+-- does of the other, under the other's node id.
 pub record Meets (one other : StoreData) (memory memory_other memory_new memory_other_new : List ℕ) (added added_other : List (List ℕ)) (outcome : Outcome) : Type 0 where
   pub ended : PairEnd
   pub peers : List PeerEntry
@@ -71,6 +78,7 @@ pub record Meets (one other : StoreData) (memory memory_other memory_new memory_
       (one.members ++ added) (other.members ++ added_other)
   pub unites : one.schema.rule ≡ other.schema.rule → NoCollision (map entry_of one.members) (map entry_of other.members) → ended.a ≢ Full
       → Unites one.members other.members ended (one.members ++ added) (other.members ++ added_other)
+  pub room : NoCollision (map entry_of one.members) (map entry_of other.members) → HasRoom store_limits one.members other.members → HasRoom store_limits other.members one.members → ended.a ≢ Full
   pub tells : TellsEnd ended outcome
   pub remembers : ended.a ≡ Done → RemembersIn peers other.node ended.remembered_a memory_new
   pub remembers_other : ended.a ≡ Done → RemembersIn peers_other one.node ended.remembered_b memory_other_new

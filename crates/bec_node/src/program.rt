@@ -1,4 +1,5 @@
 ghost use Rattle.std.specs.Prelude.{IsTrue};
+ghost use Rattle.bec_node.specs.Merging.{NamesApart};
 ghost use Rattle.bec_node.specs.Outside.{outside};
 ghost use Rattle.bec_node.specs.Run.{Comes, Runs};
 ghost use Rattle.command_words.specs.Seen.{request_seen};
@@ -67,7 +68,8 @@ fn outcome_of<H: Shelf, R: Rng, S: Source>(
     random: &mut R,
     input: &mut S,
 ) -> Result<Vec<u8>, Refusal>
-    requires { IsTrue (H.state shelf.old).tells → IsHome (H.state shelf.old) }
+    requires home { IsTrue (H.state shelf.old).tells → IsHome (H.state shelf.old) }
+    requires apart { NamesApart (request_seen request.now) }
     ensures { Comes (request_seen request.now) (outside S.left S.faults H.state H.faults R.stream input.old shelf.old random.old)
         (outside S.left S.faults H.state H.faults R.stream input.new shelf.new random.new) result }
 {

@@ -1,10 +1,11 @@
-use Rattle.std.proofs.Common.{refl}
+use Rattle.std.proofs.Common.{map, refl}
+use Rattle.std.specs.String.{string_bytes}
 use Rattle.command_words.specs.Seen.{request_seen}
 use Rattle.bec_node.specs.Outside.{SinkState, outside}
 use Rattle.bec_node.proofs.Answer.{OneAnswer}
 use Rattle.bec_node.proofs.MakersOnce.{OneOfMakers}
 use Rattle.bec_node.proofs.StoreOnce.{OneOfParts}
-use Rattle.bec_node.proofs.Ending.{runs, runs_none, runs_unread}
+use Rattle.bec_node.proofs.Ending.{names_apart, runs, runs_none, runs_unread}
 use Rattle.bec_node.proofs.program.run.Goals as goal
 
 pub returns-in_default : goal.returns-in_default
@@ -36,3 +37,8 @@ returns g c =
     let makers : OneOfMakers = record { init = made.init; keygen = made.keygen; apply = made.apply; join = made.join } in
     runs c.args.words.now seen then sink sink_new c.finish.result one parts makers c.one_request.ensures (request_seen c.in-Some.request) asks
     c.outcome_of-outcome.result c.outcome_of-outcome.ensures c.finish.ensures
+
+pub outcome_of-outcome-requires-clause-apart : goal.outcome_of-outcome-requires-clause-apart
+outcome_of-outcome-requires-clause-apart g c =
+    let asks = rw c.in-Some.is at c.in-Ok.ensures in
+    names_apart (map string_bytes c.args.words.now) (request_seen c.in-Some.request) asks
