@@ -1,0 +1,48 @@
+-- Answers as JSON (RFC 8259). A comma is the byte 44, a quote 34, and brackets are 91 and 93.
+use Rattle.std.specs.Prelude.{ℕ, ◌/◌, ◌%◌, ◌==◌, nat_lt, List, [], ◌∷◌, ◌++◌, if◌then◌else◌, codes}
+use Rattle.std.specs.Char.{digit_char}
+use Rattle.std.specs.Fmt.{signed_decimal}
+use Rattle.std.specs.List.{flat_map}
+use Rattle.update_model.specs.declared.value.Value.{Value}
+use Rattle.update_model.specs.declared.value.Value.TheVariants.{Null, Int, Text, Flag, Row, Own}
+use Rattle.table_text.specs.declared.name_style.NameStyle.TheVariants.{Full}
+use Rattle.table_text.specs.Values.{value_text}
+use Rattle.query_answer.specs.Answers.{AnswerData}
+use Rattle.query_answer.specs.Lines.{apart}
+
+-- One byte of a text: the escape that is a letter where it has one, `\u` and four lower-case digits where it is another one
+-- below 32, and else as it is.
+abbrev pub json_escaped : ℕ → List ℕ
+json_escaped byte =
+    if byte == 34 then 92 ∷ 34 ∷ []
+    else if byte == 92 then 92 ∷ 92 ∷ []
+    else if byte == 8 then 92 ∷ 98 ∷ []
+    else if byte == 12 then 92 ∷ 102 ∷ []
+    else if byte == 10 then 92 ∷ 110 ∷ []
+    else if byte == 13 then 92 ∷ 114 ∷ []
+    else if byte == 9 then 92 ∷ 116 ∷ []
+    else if nat_lt byte 32 then 92 ∷ 117 ∷ 48 ∷ 48 ∷ digit_char (byte / 16) ∷ digit_char (byte % 16) ∷ []
+    else byte ∷ []
+
+-- a text in quotes
+abbrev pub json_quoted : List ℕ → List ℕ
+json_quoted text = 34 ∷ (flat_map json_escaped text ++ 34 ∷ [])
+
+-- A value. The name of a row is a text as it is printed, of which nothing is escaped.
+abbrev pub json_value : Value → List ℕ
+json_value Null = codes "null"
+json_value (Int n) = signed_decimal n
+json_value (Text text) = json_quoted text
+json_value (Flag flag) = if flag then codes "true" else codes "false"
+json_value (Row name) = 34 ∷ (value_text Full (Row name) ++ 34 ∷ [])
+json_value (Own index) = 34 ∷ (value_text Full (Own index) ++ 34 ∷ [])
+
+-- a list, in brackets
+abbrev pub json_list : {X : Type 0} → (X → List ℕ) → List X → List ℕ
+json_list text xs = 91 ∷ (apart 44 text xs ++ 93 ∷ [])
+
+-- the names of the columns, and the rows, and an LF behind it
+abbrev pub json_text : AnswerData → List ℕ
+json_text answer =
+    codes "{\"columns\":" ++ json_list json_quoted answer.columns
+    ++ codes ",\"rows\":" ++ json_list (json_list json_value) answer.rows ++ codes "}\n"
