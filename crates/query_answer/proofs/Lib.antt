@@ -1,3 +1,4 @@
 pub mod Looking
 pub mod Orders
+pub mod Seeing
 pub mod Sorting

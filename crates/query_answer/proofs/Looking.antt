@@ -1,11 +1,13 @@
 -- Looking for the row with a name where names rise.
-use Rattle.std.proofs.Common.{◌≡◌, ◌∙◌, ℕ, zero, suc, ◌+◌, ◌<◌, ◌≤◌, Bool, true, false, cond, List, [], ◌∷◌, length, get_or, map, Option, Some, None, refl, sym, ap, subst, arith}
+use Rattle.std.proofs.Common.{◌≡◌, ◌∙◌, ℕ, zero, suc, ◌+◌, ◌<◌, ◌≤◌, Bool, true, false, cond, List, [], ◌∷◌, length, get_or, map, Option, Some, None, inl, inr, refl, sym, ap, subst, arith}
 use Rattle.std.specs.Prelude.{find}
 use Rattle.std.specs.List.{AllByRecursion}
-use Rattle.std.specs.List.Sorted.{IsStrictlySortedBy, IsPartitionPoint}
+use Rattle.std.specs.List.Sorted.{IsNonDecreasingBy, IsPartitionPoint, IsStrictlySortedBy}
 use Rattle.std.specs.declared.cmp.Ordering.{Ordering}
 use Rattle.std.specs.declared.cmp.Ordering.TheVariants.{Less, Equal, Greater}
-use Rattle.std.specs.Ordering.{is_eq}
+use Rattle.std.specs.Ordering.{is_eq, is_lt, ordering_index, ordering_reverse}
+use Rattle.std.proofs.lemmas.Bool.{cases_lt}
+use Rattle.std.proofs.lemmas.List.Sorted.{searchable_from_sorted}
 use Rattle.std.proofs.lemmas.Cmp.{alike_right}
 use Rattle.update_model.specs.declared.row_name.RowName.{RowName}
 use Rattle.table_model.specs.declared.shown_row.ShownRow.{ShownRow}
@@ -53,3 +55,27 @@ found_nowhere [] name h = refl
 found_nowhere (row ∷ rows) name h =
     let first : same_row row.name name ≡ false = sym (same_name row.name name) ∙ h zero row (omega arith) in
     ap (λ (b : Bool). cond b (Some row) (row_named rows name)) first ∙ found_nowhere rows name (λ k d low. h (suc k) d (omega arith))
+
+-- ---- where a search ends
+
+pub sorted_names : (rows : List ShownRow) → Rises rows → (k : ℕ) (d : ShownRow) → k + 1 < length rows → is_lt (name_cmp (get_or rows (k + 1) d).name (get_or rows k d).name) ≡ false
+sorted_names [] h k d low = absurd (omega arith)
+sorted_names (row ∷ rows) h zero d low =
+    let next = get_or rows 0 d in
+    let less : name_cmp row.name next.name ≡ Less = at_place (λ (other : ShownRow). name_cmp row.name other.name ≡ Less) rows 0 d h.0 (omega arith) in
+    ap is_lt (name_cmp_total.antisymm next.name row.name ∙ ap ordering_reverse less)
+sorted_names (row ∷ rows) h (suc k) d low =
+    let more : suc k + 1 ≡ suc (k + 1) = omega arith in
+    let inner : k + 1 < length rows = omega arith in
+    rw more (sorted_names rows h.1 k d inner)
+
+-- no name before the place, and none from it on, is the one
+pub found_between : (rows : List ShownRow) (name : RowName) (i : ℕ) → Rises rows
+    → (IsNonDecreasingBy (λ (row : ShownRow). ordering_index (name_cmp row.name name)) rows → IsPartitionPoint (λ row. name_cmp row.name name ≡ Less) (λ row. name_cmp row.name name ≡ Greater) rows i)
+    → row_named rows name ≡ None
+found_between rows name i h point =
+    let parts = point (searchable_from_sorted name_cmp_total (λ (row : ShownRow). row.name) rows name (λ k d low high. sorted_names rows h k d high)) in
+    found_nowhere rows name (λ k d low. elim (cases_lt k i) [
+      | inl before ↦ ap is_eq (parts.0 k d (omega arith) before)
+      | inr behind ↦ ap is_eq (parts.1 k d (omega arith) low)
+    ])

@@ -1,11 +1,11 @@
 -- Rows with the values of their keys that were sorted are the rows of an answer.
-use Rattle.std.proofs.Common.{◌≡◌, ◌∙◌, ℕ, ◌+◌, ◌<◌, Bool, true, false, List, [], ◌∷◌, length, get_or, map, take, filter, Option, Some, None, refl, sym, ap, ap₂, subst, arith}
+use Rattle.std.proofs.Common.{◌≡◌, ◌∙◌, ℕ, ◌+◌, ◌<◌, Bool, true, false, cond, List, [], ◌∷◌, ◌++◌, length, get_or, map, take, filter, Option, Some, None, refl, sym, ap, ap₂, subst, arith}
 use Rattle.std.specs.Prelude.{All}
 use Rattle.std.specs.List.{AllByRecursion}
 use Rattle.std.specs.List.Sorted.{IsPermutation, IsSorted}
 use Rattle.std.specs.Ordering.{is_lt, ordering_then}
-use Rattle.std.proofs.lemmas.List.{get_or-map, length-map, take-map}
-use Rattle.std.proofs.lemmas.List.Elements.{All-from_recursion}
+use Rattle.std.proofs.lemmas.List.{get_or-map, length-map, map-append, take-map}
+use Rattle.std.proofs.lemmas.List.Elements.{All-from_recursion, filter_more}
 use Rattle.std.proofs.lemmas.List.Sorted.{All-permutation, IsPermutation-map, IsPermutation-sym}
 use Rattle.update_model.specs.declared.value.Value.{Value}
 use Rattle.table_model.specs.declared.shown_row.ShownRow.{ShownRow}
@@ -46,6 +46,18 @@ module _ (tables : List (List ShownRow)) (keys : List Key) where
   same_order a b left right =
       ap (λ o. ordering_then o (name_cmp (row_of a).name (row_of b).name))
       (ap₂ (found_cmp 0 keys) left right ∙ found_as_keys tables keys (row_of a) (row_of b))
+
+  -- one row more, which is asked for or not
+  pub next_line : (asked : ShownRow → Bool) (rows : List ShownRow) (i : ℕ) (row : ShownRow) (old new more : List Line) (b : Bool) → i < length rows → row ≡ get_or rows i row
+      → b ≡ asked row → map line_data more ≡ map (keyed tables keys) (cond b (row ∷ []) []) → new ≡ old ++ more
+      → map line_data old ≡ map (keyed tables keys) (filter asked (take i rows)) → map line_data new ≡ map (keyed tables keys) (filter asked (take (i + 1) rows))
+  next_line asked rows i row old new more b low is answer last pushed before =
+      let front = filter asked (take i rows) in
+      let wanted : filter asked (take (i + 1) rows) ≡ front ++ cond b (row ∷ []) [] =
+          filter_more asked rows i row low ∙ ap (λ (x : ShownRow). front ++ cond (asked x) (x ∷ []) []) (sym is) ∙ ap (λ (c : Bool). front ++ cond c (row ∷ []) []) (sym answer) in
+      ap (map line_data) pushed ∙ map-append line_data old more
+      ∙ ap₂ (λ (xs ys : List (ShownRow × List Value)). xs ++ ys) before last
+      ∙ sym (map-append (keyed tables keys) front (cond b (row ∷ []) [])) ∙ ap (map (keyed tables keys)) (sym wanted)
 
   pub rows_exact : (lines sorted : List Line) (rows : List ShownRow) → map line_data lines ≡ map (keyed tables keys) rows → IsPermutation lines sorted
       → IsPermutation (map row_of sorted) rows

@@ -28,8 +28,8 @@ pub fn answer_lists<L: Relation, C: Checks<L>>(
 ) -> Result<Answer, AllocError>
     ensures { IfOk result (λ answer. AreRising tables.now → IsAnswer L.answer tables.now (query_data query.now) (data_of answer)) }
 {
-    let mut lines = lines_of(alloc, native, query, tables, rows_in(tables, query.table))?;
-    sort_lines(query.keys.as_slice(), lines.as_mut_slice());
+    let asked = lines_of(alloc, native, query, tables, rows_in(tables, query.table))?;
+    let lines = sort_lines(query.keys.as_slice(), asked);
     let items = query.columns.as_slice();
     let rows = picked_rows(alloc, tables, items, limited(query.limit, lines.as_slice()))?;
     let columns = names_of(alloc, items)?;

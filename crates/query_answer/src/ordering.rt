@@ -1,6 +1,7 @@
 //! The order of the rows of an answer.
 
 ghost use Rattle.std.specs.Prelude.{◌≡◌, slice_get, unwrap_or};
+ghost use Rattle.row_check.specs.Meaning.{value_at};
 ghost use Rattle.std.specs.List.Sorted.{IsPermutation, IsSorted};
 ghost use Rattle.query_answer.specs.Answers.{line_cmp};
 ghost use Rattle.query_answer.specs.Order.{rank_of, value_cmp, key_cmp, found_cmp};
@@ -59,15 +60,24 @@ fn value_or<'a>(values: &'a [Value], at: usize, absent: &'a Value) -> &'a Value
     }
 }
 
+/// The order by one key, whose values stand at a place.
+fn place_cmp(descending: bool, a: &[Value], b: &[Value], at: usize) -> Ordering
+    ensures { result ≡ key_cmp descending (value_at a.now at) (value_at b.now at) }
+{
+    let absent = Value::Null;
+    key_cmp(
+        descending,
+        value_or(a, at, &absent),
+        value_or(b, at, &absent),
+    )
+}
+
 /// The order by values of one key after another.
 fn found_cmp(keys: &[Key], a: &[Value], b: &[Value]) -> Ordering
     ensures { result ≡ found_cmp 0 keys.now a.now b.now }
 {
-    let absent = Value::Null;
     for (at, key) in keys.iter().enumerate() {
-        let left = value_or(a, at, &absent);
-        let right = value_or(b, at, &absent);
-        let order = key_cmp(key.descending, left, right);
+        let order = place_cmp(key.descending, a, b, at);
         if order.is_ne() {
             return order;
         }
@@ -84,9 +94,10 @@ fn line_cmp(keys: &[Key], a: &Line, b: &Line) -> Ordering
 }
 
 /// Puts rows in order.
-pub(crate) fn sort_lines(keys: &[Key], lines: &mut [Line])
-    ensures exact { IsPermutation lines.old lines.new }
-    ensures ordered { IsSorted (line_cmp keys.now) lines.new }
+pub(crate) fn sort_lines<'a>(keys: &[Key], mut lines: Vec<Line<'a>>) -> Vec<Line<'a>>
+    ensures exact { IsPermutation lines.entry.items result.items }
+    ensures ordered { IsSorted (line_cmp keys.now) result.items }
 {
     lines.sort_unstable_by(|a, b| line_cmp(keys, a, b));
+    lines
 }
