@@ -1,11 +1,13 @@
 -- Answers of queries.
-use Rattle.std.specs.Prelude.{◌≡◌, ℕ, Bool, List, map, take, filter, Option, Some, None}
+use Rattle.std.specs.Prelude.{◌≡◌, ℕ, Bool, List, length, map, take, filter, slice_get, Option, Some, None}
 use Rattle.std.specs.Ordering.{ordering_then}
 use Rattle.std.specs.declared.cmp.Ordering.{Ordering}
 use Rattle.std.specs.List.Sorted.{IsPermutation, IsSorted}
 use Rattle.update_model.specs.declared.value.Value.{Value}
 use Rattle.table_model.specs.declared.shown_row.ShownRow.{ShownRow}
-use Rattle.table_model.specs.Tables.{name_cmp}
+use Rattle.update_model.specs.Node.{NodeData}
+use Rattle.table_model.specs.Tables.{AreRowsIn, name_cmp}
+use Rattle.table_model.specs.Visible.{Rules}
 use Rattle.query.specs.declared.item.Item.{Item}
 use Rattle.query.specs.declared.item.Key.{Key}
 use Rattle.query.specs.Queries.{QueryData}
@@ -40,6 +42,19 @@ pub record IsAnswer (relation : ℕ → List Value → Bool) (tables : List (Lis
   pub ordered : IsSorted (row_cmp tables query.keys) rows
   pub columns : answer.columns ≡ map (λ item. item.name) query.columns
   pub values : answer.rows ≡ map (picked tables query.columns) (limited query.limit rows)
+
+-- ---- tables of updates
+
+-- These are the rows that a closed list shows in so many tables.
+pub record AreShown (rules : Rules) (nodes : List NodeData) (count : ℕ) (tables : List (List ShownRow)) : Type 0 where
+  pub number : length tables ≡ count
+  pub rows : (number : ℕ) (rows : List ShownRow) → slice_get tables number ≡ Some rows → AreRowsIn rules nodes number rows
+
+-- The answer of a query over what a closed list shows.
+pub record IsAnswerOver (rules : Rules) (nodes : List NodeData) (query : QueryData) (answer : AnswerData) : Type 0 where
+  pub tables : List (List ShownRow)
+  pub shown : AreShown rules nodes (length rules.tables) tables
+  pub is : IsAnswer rules.ask tables query answer
 
 -- ---- rows with the values of their keys
 
