@@ -53,8 +53,7 @@ seen_more tables row slots i d old new x v R low pushed is there before =
     let front = seen_kinds (take i slots) in
     let kinds : seen_kinds (take (i + 1) slots) ≡ front ++ seen_kind k ∷ [] = map_more (λ (slot : Slot). seen_kind slot.kind) slots i d low in
     let last : IsOfKind (seen_kind k) v = subst (IsOfKind (seen_kind k)) (sym is) (seen_fits k x) in
-    let fits : FitsKinds (front ++ seen_kind k ∷ []) (old ++ v ∷ []) = fits_push front old (seen_kind k) v before.0 last in
-    (
+    let fits : FitsKinds (front ++ seen_kind k ∷ []) (old ++ v ∷ []) = fits_push front old (seen_kind k) v before.0 last in (
       subst (λ (ks : List Kind). FitsKinds ks new) (sym kinds) (subst (FitsKinds (front ++ seen_kind k ∷ [])) (sym pushed) fits),
       λ r. pushed ∙ ap₂ (λ (xs : List Value) (y : Value). xs ++ y ∷ []) (before.1 r) (is ∙ ap (seen k) (there r)) ∙ sym (map_more (seen_at tables row) slots i d low),
     )

@@ -54,7 +54,7 @@ module _ (tables : List (List ShownRow)) (keys : List Key) where
   next_line asked rows i row old new more b low is answer last pushed before =
       let front = filter asked (take i rows) in
       let wanted : filter asked (take (i + 1) rows) ≡ front ++ cond b (row ∷ []) [] =
-          filter_more asked rows i row low ∙ ap (λ (x : ShownRow). front ++ cond (asked x) (x ∷ []) []) (sym is) ∙ ap (λ (c : Bool). front ++ cond c (row ∷ []) []) (sym answer) in
+      filter_more asked rows i row low ∙ ap (λ (x : ShownRow). front ++ cond (asked x) (x ∷ []) []) (sym is) ∙ ap (λ (c : Bool). front ++ cond c (row ∷ []) []) (sym answer) in
       ap (map line_data) pushed ∙ map-append line_data old more
       ∙ ap₂ (λ (xs ys : List (ShownRow × List Value)). xs ++ ys) before last
       ∙ sym (map-append (keyed tables keys) front (cond b (row ∷ []) [])) ∙ ap (map (keyed tables keys)) (sym wanted)

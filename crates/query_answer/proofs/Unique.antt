@@ -27,7 +27,6 @@ not_tied Equal = refl
 not_tied Greater = refl
 
 module _ (tables : List (List ShownRow)) (keys : List Key) where
-
   all_apart : (row : ShownRow) (rows : List ShownRow) → AllByRecursion (λ other. name_cmp row.name other.name ≡ Less) rows
       → AllByRecursion (λ other. eq_by_cmp (row_cmp tables keys) row other ≡ false) (map (λ x. x) rows)
   all_apart row [] h = tt

@@ -28,14 +28,14 @@ json_escaped byte =
 abbrev pub json_quoted : List ℕ → List ℕ
 json_quoted text = 34 ∷ (flat_map json_escaped text ++ 34 ∷ [])
 
--- A value. The name of a row is a text as it is printed, of which nothing is escaped.
+-- A value. The name of a row is a text, as it is printed.
 abbrev pub json_value : Value → List ℕ
 json_value Null = codes "null"
 json_value (Int n) = signed_decimal n
 json_value (Text text) = json_quoted text
 json_value (Flag flag) = if flag then codes "true" else codes "false"
-json_value (Row name) = 34 ∷ (value_text Full (Row name) ++ 34 ∷ [])
-json_value (Own index) = 34 ∷ (value_text Full (Own index) ++ 34 ∷ [])
+json_value (Row name) = json_quoted (value_text Full (Row name))
+json_value (Own index) = json_quoted (value_text Full (Own index))
 
 -- a list, in brackets
 abbrev pub json_list : {X : Type 0} → (X → List ℕ) → List X → List ℕ

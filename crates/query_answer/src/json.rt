@@ -20,7 +20,7 @@ pub fn json_lines(alloc: Global, answer: &Answer) -> Result<Vec<u8>, AllocError>
     out.extend_from_slice(b"{\"columns\":")?;
     push_names(&mut out, answer.columns.as_slice())?;
     out.extend_from_slice(b",\"rows\":")?;
-    push_rows(&mut out, answer.rows.as_slice())?;
+    push_rows(alloc, &mut out, answer.rows.as_slice())?;
     out.extend_from_slice(b"}\n")?;
     Ok(out)
 }
@@ -50,55 +50,55 @@ fn push_later_names(out: &mut Vec<u8>, names: &[ByteList]) -> Result<(), AllocEr
 }
 
 /// Adds the list of rows.
-fn push_rows(out: &mut Vec<u8>, rows: &[ValueList]) -> Result<(), AllocError>
+fn push_rows(alloc: Global, out: &mut Vec<u8>, rows: &[ValueList]) -> Result<(), AllocError>
     ensures { OnOk result (out.new.items ≡ out.old.items ++ json_list (json_list json_value) rows.now) }
 {
     out.push(b'[')?;
     if let [first, later @ ..] = rows {
-        push_values(out, first.as_slice())?;
-        push_later_rows(out, later)?;
+        push_values(alloc, out, first.as_slice())?;
+        push_later_rows(alloc, out, later)?;
     }
     out.push(b']')?;
     Ok(())
 }
 
 /// Adds rows, each after a comma.
-fn push_later_rows(out: &mut Vec<u8>, rows: &[ValueList]) -> Result<(), AllocError>
+fn push_later_rows(alloc: Global, out: &mut Vec<u8>, rows: &[ValueList]) -> Result<(), AllocError>
     ensures { OnOk result (out.new.items ≡ out.old.items ++ each_after 44 (json_list json_value) rows.now) }
 {
     for row in rows {
         out.push(b',')?;
-        push_values(out, row.as_slice())?;
+        push_values(alloc, out, row.as_slice())?;
     }
     Ok(())
 }
 
 /// Adds the list of values.
-fn push_values(out: &mut Vec<u8>, values: &[Value]) -> Result<(), AllocError>
+fn push_values(alloc: Global, out: &mut Vec<u8>, values: &[Value]) -> Result<(), AllocError>
     ensures { OnOk result (out.new.items ≡ out.old.items ++ json_list json_value values.now) }
 {
     out.push(b'[')?;
     if let [first, later @ ..] = values {
-        push_json(out, first)?;
-        push_later_values(out, later)?;
+        push_json(alloc, out, first)?;
+        push_later_values(alloc, out, later)?;
     }
     out.push(b']')?;
     Ok(())
 }
 
 /// Adds values, each after a comma.
-fn push_later_values(out: &mut Vec<u8>, values: &[Value]) -> Result<(), AllocError>
+fn push_later_values(alloc: Global, out: &mut Vec<u8>, values: &[Value]) -> Result<(), AllocError>
     ensures { OnOk result (out.new.items ≡ out.old.items ++ each_after 44 json_value values.now) }
 {
     for value in values {
         out.push(b',')?;
-        push_json(out, value)?;
+        push_json(alloc, out, value)?;
     }
     Ok(())
 }
 
 /// Adds a value.
-fn push_json(out: &mut Vec<u8>, value: &Value) -> Result<(), AllocError>
+fn push_json(alloc: Global, out: &mut Vec<u8>, value: &Value) -> Result<(), AllocError>
     ensures { OnOk result (out.new.items ≡ out.old.items ++ json_value value.now) }
 {
     match value {
@@ -108,10 +108,9 @@ fn push_json(out: &mut Vec<u8>, value: &Value) -> Result<(), AllocError>
         Value::Flag(true) => out.extend_from_slice(b"true"),
         Value::Flag(false) => out.extend_from_slice(b"false"),
         Value::Row(_) | Value::Own(_) => {
-            out.push(b'"')?;
-            push_value(out, NameStyle::Full, value)?;
-            out.push(b'"')?;
-            Ok(())
+            let mut name = Vec::new(alloc);
+            push_value(&mut name, NameStyle::Full, value)?;
+            push_quoted(out, name.as_slice())
         }
     }
 }

@@ -50,11 +50,7 @@ fn value_at(alloc: Global, values: &[Value], column: usize) -> Result<Value, All
 }
 
 /// The value in a column of a row, and null where there is no row.
-fn value_in(
-    alloc: Global,
-    row: Option<&ShownRow>,
-    column: usize,
-) -> Result<Value, AllocError>
+fn value_in(alloc: Global, row: Option<&ShownRow>, column: usize) -> Result<Value, AllocError>
     ensures { IfOk result (λ value. value ≡ value_in (option_copied row.entry) column) }
 {
     match row {

@@ -19,7 +19,7 @@ returns g c = λ rising.
     let sorted = c.sort_lines-lines.result.items in
     let rows = filter asked (rows_in tables query.table) in
     let found : map line_data lines ≡ map (keyed tables keys) rows =
-        c.in_ok-asked.ensures rising ∙ ap (λ (xs : List ShownRow). map (keyed tables keys) (filter asked xs)) c.rows_in.ensures in
+    c.in_ok-asked.ensures rising ∙ ap (λ (xs : List ShownRow). map (keyed tables keys) (filter asked xs)) c.rows_in.ensures in
     let moved : IsPermutation lines sorted = c.sort_lines-lines.ensures.exact in
     let up : IsSorted (line_cmp keys) sorted = subst (λ (ks : List Key). IsSorted (line_cmp ks) sorted) c.as_slice.ensures.value c.sort_lines-lines.ensures.ordered in
     let after : c.as_slice-2.result.now ≡ sorted = c.as_slice-2.ensures.value in

@@ -12,7 +12,7 @@ returns-in-Ok c = λ rising.
     let name = c.args.name.now in
     let it = c.index-rows-place.result in
     let there : name_cmp (get_or rows c.in-Ok.place it).name name ≡ Equal =
-        c.in-Ok.ensures.position (λ row. name_cmp row.name name) (always_returns_same _ (λ a r. r ≡ name_cmp a.0.now.name name) _ (λ a r f q. search rules)) it in
+    c.in-Ok.ensures.position (λ row. name_cmp row.name name) (always_returns_same _ (λ a r. r ≡ name_cmp a.0.now.name name) _ (λ a r f q. search rules)) it in
     ap (λ (row : ShownRow). Some row) c.index-rows-place.is ∙ sym (found_there rows name c.in-Ok.place it (rises rows rising) c.in-Ok.ensures.bound there)
 
 pub returns-in-Err : goal.returns-in-Err
