@@ -11,7 +11,7 @@ use Rattle.table_model.specs.Visible.{Rules}
 use Rattle.query.specs.declared.item.Item.{Item}
 use Rattle.query.specs.declared.item.Key.{Key}
 use Rattle.query.specs.Queries.{QueryData}
-use Rattle.query_answer.specs.declared.answer.Answer.{Answer}
+use Rattle.query_answer.specs.declared.answer_value.Answer.{Answer}
 use Rattle.query_answer.specs.declared.line.Line.{Line}
 use Rattle.query_answer.specs.Order.{row_cmp, found_cmp}
 use Rattle.query_answer.specs.Values.{rows_in, value_of, is_asked}

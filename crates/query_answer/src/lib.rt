@@ -13,7 +13,7 @@
 //! It reads no text of queries: see the crate `query`.
 #![tactic(auto)]
 
-mod answer;
+mod answer_value;
 mod answering;
 mod asking;
 mod json;
@@ -22,10 +22,12 @@ mod line;
 mod lines;
 mod ordering;
 mod picking;
+mod shown;
 mod values;
 
-pub use answer::Answer;
+pub use answer_value::Answer;
 pub use answering::answer_lists;
 pub use json::json_lines;
 pub use laws::one_answer;
 pub use lines::print_lines;
+pub use shown::answer;
