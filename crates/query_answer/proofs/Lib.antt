@@ -1,3 +1,4 @@
+pub mod Compact
 pub mod Looking
 pub mod Orders
 pub mod Seeing

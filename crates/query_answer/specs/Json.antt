@@ -1,5 +1,5 @@
 -- Answers as JSON (RFC 8259). A comma is the byte 44, a quote 34, and brackets are 91 and 93.
-use Rattle.std.specs.Prelude.{ℕ, ◌/◌, ◌%◌, ◌==◌, nat_lt, List, [], ◌∷◌, ◌++◌, if◌then◌else◌, codes}
+use Rattle.std.specs.Prelude.{ℕ, ◌/◌, ◌%◌, ◌==◌, nat_lt, List, [], ◌∷◌, ◌++◌, map, if◌then◌else◌, codes}
 use Rattle.std.specs.Char.{digit_char}
 use Rattle.std.specs.Fmt.{signed_decimal}
 use Rattle.std.specs.List.{flat_map}
@@ -7,6 +7,9 @@ use Rattle.update_model.specs.declared.value.Value.{Value}
 use Rattle.update_model.specs.declared.value.Value.TheVariants.{Null, Int, Text, Flag, Row, Own}
 use Rattle.table_text.specs.declared.name_style.NameStyle.TheVariants.{Full}
 use Rattle.table_text.specs.Values.{value_text}
+use Rattle.serde_json.specs.Data.{Data, array, boolean, member, no_members, null, number, object, string}
+use Rattle.serde_json.specs.Find.{of_integer}
+use Rattle.serde_json.specs.View.{items_of}
 use Rattle.query_answer.specs.Answers.{AnswerData}
 use Rattle.query_answer.specs.Lines.{apart}
 
@@ -44,5 +47,24 @@ json_list text xs = 91 ∷ (apart 44 text xs ++ 93 ∷ [])
 -- the names of the columns, and the rows, and an LF behind it
 abbrev pub json_text : AnswerData → List ℕ
 json_text answer =
-    codes "{\"columns\":" ++ json_list json_quoted answer.columns
-    ++ codes ",\"rows\":" ++ json_list (json_list json_value) answer.rows ++ codes "}\n"
+    codes "{\"columns\":" ++ (json_list json_quoted answer.columns
+    ++ (codes ",\"rows\":" ++ (json_list (json_list json_value) answer.rows ++ codes "}\n")))
+
+-- ---- as the crate `serde_json` sees values
+
+abbrev pub value_data : Value → Data
+value_data Null = null
+value_data (Int n) = number (of_integer n)
+value_data (Text text) = string text
+value_data (Flag flag) = boolean flag
+value_data (Row name) = string (value_text Full (Row name))
+value_data (Own index) = string (value_text Full (Own index))
+
+abbrev pub list_data : {X : Type 0} → (X → Data) → List X → Data
+list_data data_of xs = array (items_of (map data_of xs))
+
+-- the object of an answer
+abbrev pub answer_data : AnswerData → Data
+answer_data answer =
+    object (member (codes "columns") (list_data string answer.columns)
+    (member (codes "rows") (list_data (list_data value_data) answer.rows) no_members))

@@ -1,14 +1,21 @@
 //! Laws of the definitions. Each function does nothing: its contract is a theorem for callers to cite.
 
-ghost use Rattle.std.specs.Prelude.{◌≡◌, ℕ, Bool, List};
+ghost use Rattle.std.specs.Prelude.{◌≡◌, ◌∷◌, [], ◌++◌, ℕ, Bool, List};
 ghost use Rattle.update_model.specs.declared.value.Value.{Value};
 ghost use Rattle.table_model.specs.declared.shown_row.ShownRow.{ShownRow};
 ghost use Rattle.query.specs.Queries.{QueryData};
 ghost use Rattle.query_answer.specs.Answers.{AnswerData, IsAnswer};
+ghost use Rattle.query_answer.specs.Json.{answer_data, json_text};
 ghost use Rattle.query_answer.specs.Values.{AreRising};
+ghost use Rattle.serde_json.specs.Written.{compact_text};
 
 /// A query has one answer over tables in which names of rows rise.
 pub fn one_answer()
     ensures { (relation : ℕ → List Value → Bool) (tables : List (List ShownRow)) (query : QueryData) (answer other : AnswerData) → AreRising tables
         → IsAnswer relation tables query answer → IsAnswer relation tables query other → answer ≡ other }
+{}
+
+/// The JSON of an answer is what the crate `serde_json` writes of its object, and an LF behind it.
+pub fn json_is_compact()
+    ensures { (answer : AnswerData) → json_text answer ≡ compact_text (answer_data answer) ++ 10 ∷ [] }
 {}

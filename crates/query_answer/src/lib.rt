@@ -16,7 +16,7 @@
 mod answer_value;
 mod answering;
 mod asking;
-mod json;
+mod json_text;
 mod laws;
 mod line;
 mod lines;
@@ -27,7 +27,7 @@ mod values;
 
 pub use answer_value::Answer;
 pub use answering::answer_lists;
-pub use json::json_lines;
-pub use laws::one_answer;
+pub use json_text::json_lines;
+pub use laws::{json_is_compact, one_answer};
 pub use lines::print_lines;
 pub use shown::answer;
