@@ -1,5 +1,5 @@
 -- The JSON of an answer is the compact text of its object.
-use Rattle.std.proofs.Common.{◌≡◌, ◌∙◌, ℕ, ℤ, pos, negsuc, ◌==◌, Bool, true, false, cond, nat_lt, List, [], ◌∷◌, ◌++◌, map, refl, sym, ap, ap₂, subst, append_assoc}
+use Rattle.std.proofs.Common.{◌≡◌, ◌∙◌, ℕ, ℤ, pos, negsuc, ◌==◌, Bool, true, false, List, [], ◌∷◌, ◌++◌, map, refl, sym, ap, ap₂, subst, append_assoc}
 use Rattle.std.specs.Prelude.{codes}
 use Rattle.std.specs.List.{flat_map}
 use Rattle.std.proofs.lemmas.Bool.{eqb-true}
@@ -8,13 +8,13 @@ use Rattle.update_model.specs.declared.value.Value.TheVariants.{Null, Int, Text,
 use Rattle.table_text.specs.declared.name_style.NameStyle.TheVariants.{Full}
 use Rattle.table_text.specs.Values.{value_text}
 use Rattle.json.specs.Print.{escape_byte, quoted}
-use Rattle.serde_json.specs.Data.{Data, array, member, no_members, object, string}
+use Rattle.serde_json.specs.Data.{Data, member, no_members, object, string}
 use Rattle.serde_json.specs.View.{items_of}
 use Rattle.serde_json.specs.Written.{compact_text, items_text}
 use Rattle.serde_json.proofs.OnLiterals.{serde_json_on_literals}
 use Rattle.query_answer.specs.Answers.{AnswerData}
 use Rattle.query_answer.specs.Json.{answer_data, json_escaped, json_list, json_quoted, json_text, json_value, list_data, value_data}
-use Rattle.query_answer.specs.Lines.{apart, each_after}
+use Rattle.query_answer.specs.Lines.{each_after}
 
 -- ---- escapes
 

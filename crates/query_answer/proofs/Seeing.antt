@@ -1,5 +1,5 @@
 -- What a condition sees is of the kinds that it wants.
-use Rattle.std.proofs.Common.{◌≡◌, ◌∙◌, ℕ, ◌+◌, ◌<◌, List, [], ◌∷◌, ◌++◌, length, get_or, map, take, sym, ap, ap₂, subst}
+use Rattle.std.proofs.Common.{◌≡◌, ◌∙◌, ℕ, ◌+◌, ◌<◌, List, [], ◌∷◌, ◌++◌, length, get_or, map, take, refl, sym, ap, ap₂, subst}
 use Rattle.std.proofs.lemmas.List.{map_more}
 use Rattle.update_model.specs.declared.value.Value.{Value}
 use Rattle.update_model.specs.declared.value.Value.TheVariants as value
@@ -9,7 +9,7 @@ use Rattle.expression_text.specs.Kinds.{FitsKinds, IsOfKind}
 use Rattle.table_model.specs.declared.shown_row.ShownRow.{ShownRow}
 use Rattle.query.specs.declared.source.Slot.{Slot}
 use Rattle.query.specs.Columns.{seen_kind, seen_kinds}
-use Rattle.query_answer.specs.Values.{seen, seen_at, value_of}
+use Rattle.query_answer.specs.Values.{IsPlain, seen, seen_at, value_of}
 
 pub seen_fits : (k : Kind) (v : Value) → IsOfKind (seen_kind k) (seen k v)
 seen_fits kind.Int value.Null = tt
@@ -57,3 +57,24 @@ seen_more tables row slots i d old new x v R low pushed is there before =
       subst (λ (ks : List Kind). FitsKinds ks new) (sym kinds) (subst (FitsKinds (front ++ seen_kind k ∷ [])) (sym pushed) fits),
       λ r. pushed ∙ ap₂ (λ (xs : List Value) (y : Value). xs ++ y ∷ []) (before.1 r) (is ∙ ap (seen k) (there r)) ∙ sym (map_more (seen_at tables row) slots i d low),
     )
+
+pub values_seen : (k : Kind) (v : Value) → IsPlain k → IsOfKind k v → seen k v ≡ v
+values_seen kind.Int value.Null p h = refl
+values_seen kind.Int (value.Int n) p h = refl
+values_seen kind.Int (value.Text bytes) p h = absurd h
+values_seen kind.Int (value.Flag flag) p h = absurd h
+values_seen kind.Int (value.Row name) p h = absurd h
+values_seen kind.Int (value.Own index) p h = absurd h
+values_seen kind.Text value.Null p h = refl
+values_seen kind.Text (value.Int n) p h = absurd h
+values_seen kind.Text (value.Text bytes) p h = refl
+values_seen kind.Text (value.Flag flag) p h = absurd h
+values_seen kind.Text (value.Row name) p h = absurd h
+values_seen kind.Text (value.Own index) p h = absurd h
+values_seen kind.Flag value.Null p h = refl
+values_seen kind.Flag (value.Int n) p h = absurd h
+values_seen kind.Flag (value.Text bytes) p h = absurd h
+values_seen kind.Flag (value.Flag flag) p h = refl
+values_seen kind.Flag (value.Row name) p h = absurd h
+values_seen kind.Flag (value.Own index) p h = absurd h
+values_seen kind.Reference v p h = absurd p

@@ -1,5 +1,5 @@
 -- Rows with the values of their keys that were sorted are the rows of an answer.
-use Rattle.std.proofs.Common.{◌≡◌, ◌∙◌, ℕ, ◌+◌, ◌<◌, Bool, true, false, cond, List, [], ◌∷◌, ◌++◌, length, get_or, map, take, filter, Option, Some, None, refl, sym, ap, ap₂, subst, arith}
+use Rattle.std.proofs.Common.{◌≡◌, ◌∙◌, ℕ, ◌+◌, ◌<◌, Bool, false, cond, List, [], ◌∷◌, ◌++◌, length, get_or, map, take, filter, Option, Some, None, refl, sym, ap, ap₂, subst, arith}
 use Rattle.std.specs.Prelude.{All}
 use Rattle.std.specs.List.{AllByRecursion}
 use Rattle.std.specs.List.Sorted.{IsPermutation, IsSorted}
@@ -13,7 +13,7 @@ use Rattle.table_model.specs.Tables.{name_cmp}
 use Rattle.query.specs.declared.item.Key.{Key}
 use Rattle.query_answer.specs.declared.line.Line.{Line}
 use Rattle.query_answer.specs.Answers.{keyed, keys_of, limited, line_cmp, line_data}
-use Rattle.query_answer.specs.Order.{found_cmp, keys_cmp, row_cmp}
+use Rattle.query_answer.specs.Order.{found_cmp, row_cmp}
 use Rattle.query_answer.proofs.Orders.{found_as_keys}
 
 -- the row of a line

@@ -61,6 +61,11 @@ seen kind.Flag (value.Flag flag) = value.Flag flag
 seen kind.Reference (value.Row name) = value.Flag true
 seen kind other = value.Null
 
+-- a kind that no reference has
+abbrev pub IsPlain : Kind → Type 0
+IsPlain kind.Reference = ⊥
+IsPlain other = Unit {0}
+
 -- what it sees of a row in a column that it names
 abbrev pub seen_at : List (List ShownRow) → ShownRow → Slot → Value
 seen_at tables row slot = seen slot.kind (value_of tables row slot.source)

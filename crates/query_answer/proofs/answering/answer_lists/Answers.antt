@@ -1,4 +1,4 @@
-use Rattle.std.proofs.Common.{◌≡◌, ◌∙◌, List, map, filter, ap, ap₂, subst, rules}
+use Rattle.std.proofs.Common.{◌≡◌, ◌∙◌, List, map, filter, ap, ap₂, subst}
 use Rattle.std.specs.List.Sorted.{IsPermutation, IsSorted}
 use Rattle.table_model.specs.declared.shown_row.ShownRow.{ShownRow}
 use Rattle.query.specs.declared.item.Item.{Item}

@@ -1,7 +1,6 @@
 use Rattle.std.proofs.Common.{◌∙◌, List, [], ◌∷◌, true, false, ap, append-nil, refl, sym}
 use Rattle.update_model.specs.declared.value.Value.{Value}
 use Rattle.query.specs.declared.item.Key.{Key}
-use Rattle.table_model.specs.declared.shown_row.ShownRow.{ShownRow}
 use Rattle.query_answer.specs.Answers.{keys_of}
 use Rattle.query_answer.specs.Values.{is_asked}
 use Rattle.query_answer.proofs.Sorting.{next_line}
