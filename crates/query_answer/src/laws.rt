@@ -5,8 +5,10 @@ ghost use Rattle.update_model.specs.declared.value.Value.{Value};
 ghost use Rattle.expression_text.specs.declared.kind.Kind.{Kind};
 ghost use Rattle.expression_text.specs.Kinds.{IsOfKind};
 ghost use Rattle.table_model.specs.declared.shown_row.ShownRow.{ShownRow};
+ghost use Rattle.update_model.specs.Node.{NodeData};
+ghost use Rattle.table_model.specs.Visible.{Rules};
 ghost use Rattle.query.specs.Queries.{QueryData};
-ghost use Rattle.query_answer.specs.Answers.{AnswerData, IsAnswer};
+ghost use Rattle.query_answer.specs.Answers.{AnswerData, IsAnswer, IsAnswerOver};
 ghost use Rattle.query_answer.specs.Json.{answer_data, json_text};
 ghost use Rattle.query_answer.specs.Values.{AreRising, IsPlain, seen};
 ghost use Rattle.serde_json.specs.Written.{compact_text};
@@ -15,6 +17,12 @@ ghost use Rattle.serde_json.specs.Written.{compact_text};
 pub fn one_answer()
     ensures { (relation : ℕ → List Value → Bool) (tables : List (List ShownRow)) (query : QueryData) (answer other : AnswerData) → AreRising tables
         → IsAnswer relation tables query answer → IsAnswer relation tables query other → answer ≡ other }
+{}
+
+/// A query has one answer over what a closed list of updates shows.
+pub fn one_answer_over()
+    ensures { (rules : Rules) (nodes : List NodeData) (query : QueryData) (answer other : AnswerData)
+        → IsAnswerOver rules nodes query answer → IsAnswerOver rules nodes query other → answer ≡ other }
 {}
 
 /// The JSON of an answer is what the crate `serde_json` writes of its object, and an LF behind it.

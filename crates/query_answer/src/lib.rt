@@ -28,6 +28,6 @@ mod values;
 pub use answer_value::Answer;
 pub use answering::answer_lists;
 pub use json_text::json_lines;
-pub use laws::{json_is_compact, one_answer, values_are_seen};
+pub use laws::{json_is_compact, one_answer, one_answer_over, values_are_seen};
 pub use lines::print_lines;
 pub use shown::answer;
