@@ -18,8 +18,9 @@ use table_model::{ShownRow, ShownRowList};
 
 /// The answer of a query over tables, each of which lists its rows in rising order of names.
 ///
-/// Only rows that are asked for get a place in memory besides, and only those within the limit are copied. It takes the time
-/// of a sort of the rows that are asked for, and gives up where memory runs out.
+/// A row is judged before anything of it is kept: of a row that is asked for the values of its keys, which are found once, and
+/// of those within the limit the columns that are asked for. It takes the time of a sort of the rows that are asked for, and
+/// gives up where memory runs out.
 pub fn answer_lists<L: Relation, C: Checks<L>>(
     alloc: Global,
     native: &Native<L, C>,

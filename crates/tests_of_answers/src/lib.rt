@@ -1,0 +1,5 @@
+//! Tests of answers: queries over worked rows, whose answers come from the description of the language.
+#![tactic(auto)]
+
+#[cfg(test)]
+mod answers;
