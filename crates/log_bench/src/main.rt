@@ -1,9 +1,9 @@
 //! Appends updates to a log, for `bench/log` to time and `bench/kill_log` to kill from outside.
 //!
-//! The words are a directory, and how many updates a batch has. The updates of the input, a stream of records, are read
-//! first, each of the database whose id is 32 zero bytes, by any author; those that the log holds are passed over. What is
-//! printed is how many updates the log holds, and how many it holds then after each batch, a line each. With `open` in
-//! place of the number nothing is read, and only the first of these lines is printed.
+//! The words are a directory, and how many updates a batch has, at least one. The updates of the input, a stream of
+//! records, are read first, each of the database whose id is 32 zero bytes, by any author; those that the log holds are
+//! passed over. What is printed is how many updates the log holds, and how many it holds then after each batch, a line
+//! each. With `open` in place of the number nothing is read, and only the first of these lines is printed.
 #![tactic(auto)]
 
 mod appending;
