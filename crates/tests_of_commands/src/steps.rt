@@ -1,10 +1,11 @@
 //! Runs of the program one after another over one shelf in memory.
 
+ghost use Rattle.std.specs.Prelude.{IsTrue};
 ghost use Rattle.bec_disk.specs.Shelved.{shelf_of};
 ghost use Rattle.store_directory.specs.Stores.{IsHome};
 
 use bec_bytes::{MemSink, MemSource};
-use bec_disk::MemShelf;
+use bec_disk::{MemShelf, Shelf};
 use bec_node::run;
 use rand_pcg::Pcg32;
 use std::alloc::{AllocError, Global};
@@ -33,14 +34,14 @@ fn words(alloc: Global, line: &str) -> Result<Vec<String>, AllocError> {
 }
 
 /// Runs the program over a shelf.
-pub fn answer(
+pub fn answer<H: Shelf>(
     alloc: Global,
-    shelf: &mut MemShelf,
+    shelf: &mut H,
     line: &str,
     input: &[u8],
 ) -> Result<Said, AllocError>
-    requires home { IsHome (shelf_of shelf.old) }
-    ensures home { IsHome (shelf_of shelf.new) }
+    requires home { IsTrue (H.state shelf.old).tells → IsHome (H.state shelf.old) }
+    ensures home { IsTrue (H.state shelf.old).tells → IsHome (H.state shelf.new) }
 {
     let words = words(alloc, line)?;
     let mut random = Pcg32::new(42, 54);

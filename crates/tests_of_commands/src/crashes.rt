@@ -1,0 +1,118 @@
+//! Crashes at each call of a disk of a command: what was acknowledged is there, and the directory can be used again.
+
+ghost use Rattle.bec_disk.specs.Shelved.{shelf_of};
+ghost use Rattle.store_directory.specs.Stores.{IsHome};
+
+use crate::steps::{Said, Step, answer, played};
+use crate::stopping::{StoppingShelf, left_of};
+use crate::texts::TASKS;
+use crate::transactions::{INIT, KEYGEN};
+use bec_disk::{MemShelf, Part};
+use std::alloc::{AllocError, Global};
+use std::test::Fail;
+
+/// After how many calls a disk stops, at most. No command here makes so many on one disk.
+const CALLS: u64 = 12;
+/// What a crash leaves: what was synced last, what is read, or a mixture of both.
+const CHOICES: u64 = 3;
+
+/// A command one of whose disks stops, and what may be there afterwards.
+struct Crash<'a> {
+    /// The command.
+    line: &'a str,
+    /// Its input.
+    input: &'a str,
+    /// The part whose disk stops.
+    part: Part,
+    /// Whether the command prints the id that is the only head then.
+    is_update: bool,
+    /// With which status the command ends a second time, once it was done.
+    again: u8,
+    /// With which statuses `heads` may end where the command was not done.
+    undone: &'a [u8],
+    /// With which statuses the command may end a second time then.
+    repeated: &'a [u8],
+}
+
+const INSERT: &str = "INSERT list \"Home\" 9\n";
+
+/// In a directory with nothing in it.
+const ON_NOTHING: &[Crash<'static>] = &[
+    Crash { line: "init A", input: TASKS, part: Part::Schema, is_update: false, again: 8, undone: &[0, 8], repeated: &[0, 8] },
+    Crash { line: "init A", input: TASKS, part: Part::Updates, is_update: false, again: 8, undone: &[0, 8], repeated: &[0, 8] },
+];
+
+/// In a directory with a store.
+const ON_STORE: &[Crash<'static>] = &[
+    Crash { line: "keygen A --height 5 --width 2", input: "", part: Part::Key, is_update: false, again: 8, undone: &[0], repeated: &[0, 8] },
+    Crash { line: "keygen A --height 5 --width 2", input: "", part: Part::Used, is_update: false, again: 8, undone: &[0], repeated: &[0, 8] },
+];
+
+/// In a directory with a store and a key.
+const ON_BOTH: &[Crash<'static>] = &[
+    Crash { line: "apply A", input: INSERT, part: Part::Updates, is_update: true, again: 0, undone: &[0], repeated: &[0] },
+    Crash { line: "apply A", input: INSERT, part: Part::Used, is_update: true, again: 0, undone: &[0], repeated: &[0] },
+    Crash { line: "apply A", input: INSERT, part: Part::Key, is_update: true, again: 0, undone: &[0], repeated: &[0] },
+];
+
+/// Whether what is there after a crash fits what the command answered.
+fn is_right(row: &Crash<'_>, said: &Said, heads: &Said, again: &Said) -> bool {
+    match said.status {
+        0 => {
+            heads.status == 0
+                && again.status == row.again
+                && (!row.is_update || heads.bytes == said.bytes)
+        }
+        3 => row.undone.contains(&heads.status) && row.repeated.contains(&again.status),
+        _ => false,
+    }
+}
+
+/// Runs a command of which a disk stops after so many calls, restarts what it leaves, and asks what is there.
+fn crash(
+    alloc: Global,
+    base: &MemShelf,
+    row: &Crash<'_>,
+    calls: u64,
+    choice: u64,
+) -> Result<bool, AllocError>
+    requires { IsHome (shelf_of base.now) }
+{
+    let mut shelf = StoppingShelf::over(alloc, left_of(base, 1)?, row.part, calls);
+    let said = answer(alloc, &mut shelf, row.line, row.input.as_bytes())?;
+    let mut left = shelf.left(choice)?;
+    let heads = answer(alloc, &mut left, "heads A", b"")?;
+    let again = answer(alloc, &mut left, row.line, row.input.as_bytes())?;
+    Ok(is_right(row, &said, &heads, &again))
+}
+
+/// How often a crash leaves something else than it may.
+fn wrong(alloc: Global, base: &MemShelf, rows: &[Crash<'_>]) -> Result<u64, AllocError>
+    requires { IsHome (shelf_of base.now) }
+{
+    let mut wrong: u64 = 0;
+    'rows: for row in rows {
+        'calls: for calls in 0..CALLS {
+            'choices: for choice in 0..CHOICES {
+                if !crash(alloc, base, row, calls, choice)? {
+                    wrong = wrong.saturating_add(1);
+                }
+            }
+        }
+    }
+    Ok(wrong)
+}
+
+/// The directory of a store.
+const STORE: &[Step<'static>] = &[INIT];
+
+#[test]
+fn a_crash_leaves_what_was_acknowledged(rt: HostRuntime) -> Result<(), Fail> {
+    let mut base = MemShelf::new(rt.alloc());
+    assert_eq!(rt; wrong(rt.alloc(), &base, ON_NOTHING)?, 0);
+    assert_eq!(rt; played(rt.alloc(), &mut base, STORE)?, 1);
+    assert_eq!(rt; wrong(rt.alloc(), &base, ON_STORE)?, 0);
+    assert_eq!(rt; played(rt.alloc(), &mut base, &[KEYGEN])?, 1);
+    assert_eq!(rt; wrong(rt.alloc(), &base, ON_BOTH)?, 0);
+    Ok(())
+}
