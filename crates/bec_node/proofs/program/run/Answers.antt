@@ -35,7 +35,7 @@ returns g c =
     let parts : OneOfParts = record { heads = stored.heads; dump = stored.dump; export = stored.export } in
     let made = c.one_answer_of_makers.ensures in
     let makers : OneOfMakers = record { init = made.init; keygen = made.keygen; apply = made.apply; join = made.join } in
-    runs c.args.words.now seen then sink sink_new c.finish.result one parts makers c.one_request.ensures (request_seen c.in-Some.request) asks
+    runs c.args.words.now seen then sink sink_new c.finish.result one parts makers c.one_answer_of_merge.ensures c.one_request.ensures (request_seen c.in-Some.request) asks
     c.outcome_of-outcome.result c.outcome_of-outcome.ensures c.finish.ensures
 
 pub outcome_of-outcome-requires-clause-apart : goal.outcome_of-outcome-requires-clause-apart
