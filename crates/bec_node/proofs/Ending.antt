@@ -5,7 +5,7 @@ use Rattle.std.specs.String.{string_bytes}
 use Rattle.std.specs.Io.KnownBytes.{Appends}
 use Rattle.lm_ots.specs.declared.ots_type.OtsType.{OtsType}
 use Rattle.lms_tree.specs.declared.lms_type.LmsType.{LmsType}
-use Rattle.command_words.specs.Requests.{Asks, RequestText, heads, check, dump, init, keygen, apply, join, export, merge, for_heads, for_check, for_dump, for_init, for_keygen, for_apply, for_join, for_export, for_merge}
+use Rattle.command_words.specs.Requests.{Asks, RequestText, heads, check, dump, init, keygen, apply, join, export, query, merge, for_heads, for_check, for_dump, for_init, for_keygen, for_apply, for_join, for_export, for_query, for_merge}
 use Rattle.bec_node.specs.declared.refusal.Refusal.TheVariants.{Words, Memory}
 use Rattle.bec_node.specs.declared.status.TheConstants.{NO_COMMAND, OUT_OF_MEMORY}
 use Rattle.bec_node.specs.Bundle.{DumpAnswer}
@@ -16,7 +16,8 @@ use Rattle.bec_node.specs.Outside.{IsUntouched, Outside, SinkState}
 use Rattle.bec_node.specs.Run.{AnswersOnly, Comes, IsCommand, IsNoCommand, named, none, ReadsSource, Runs, unread}
 use Rattle.store_directory.specs.Stores.{StoreData}
 use Rattle.bec_node.specs.Comes.{ReadsStoreOnly}
-use Rattle.bec_node.specs.StoreAnswers.{ReadsStore, ShowsHeads, ShowsRecords, ShowsTables}
+use Rattle.bec_node.specs.Asking.{QueryAnswer}
+use Rattle.bec_node.specs.StoreAnswers.{Printing, ReadsStore, ShowsHeads, ShowsRecords, ShowsTables}
 use Rattle.bec_node.specs.Creating.{DrawsKeyOnly, Inits}
 use Rattle.bec_node.proofs.NewKeys.{key_without_memory}
 use Rattle.bec_node.proofs.NewStores.{init_without_memory}
@@ -54,11 +55,11 @@ module _ {S H R : Type 0} (before after : Outside S H R) where
     random = comes.random;
   }
 
-  store_lacks : (Shows : StoreData → List ℕ → Type 0) (dir : List ℕ) (outcome : Outcome) → MayLackMemory outcome → ReadsStoreOnly (ReadsStore Shows) dir before after outcome
-      → ReadsStoreOnly (ReadsStore Shows) dir before after (Err Memory)
-  store_lacks Shows dir (Ok text) lacks comes = absurd lacks
-  store_lacks Shows dir (Err refusal) lacks comes =
-      record { runs = read_without_memory Shows dir before.store after.store before.shelf_faults after.shelf_faults refusal comes.runs; source = comes.source; random = comes.random }
+  store_lacks : (Answers : StoreData → Outcome → Type 0) (dir : List ℕ) (outcome : Outcome) → MayLackMemory outcome → ReadsStoreOnly (ReadsStore Answers) dir before after outcome
+      → ReadsStoreOnly (ReadsStore Answers) dir before after (Err Memory)
+  store_lacks Answers dir (Ok text) lacks comes = absurd lacks
+  store_lacks Answers dir (Err refusal) lacks comes =
+      record { runs = read_without_memory Answers dir before.store after.store before.shelf_faults after.shelf_faults refusal comes.runs; source = comes.source; random = comes.random }
 
   init_lacks : (dir : List ℕ) (outcome : Outcome) → MayLackMemory outcome → Inits dir before after outcome → Inits dir before after (Err Memory)
   init_lacks dir (Ok text) lacks comes = absurd lacks
@@ -84,15 +85,16 @@ module _ {S H R : Type 0} (before after : Outside S H R) where
 
   comes_lacking : (request : RequestText) (outcome : Outcome) → MayLackMemory outcome → Comes request before after outcome → Comes request before after (Err Memory)
   comes_lacking (heads None) outcome lacks comes = source_lacks HeadsAnswer outcome comes
-  comes_lacking (heads (Some dir)) outcome lacks comes = store_lacks ShowsHeads dir outcome lacks comes
+  comes_lacking (heads (Some dir)) outcome lacks comes = store_lacks (Printing ShowsHeads) dir outcome lacks comes
   comes_lacking check outcome lacks comes = source_lacks CheckAnswer outcome comes
   comes_lacking (dump None) outcome lacks comes = source_lacks DumpAnswer outcome comes
-  comes_lacking (dump (Some dir)) outcome lacks comes = store_lacks ShowsTables dir outcome lacks comes
+  comes_lacking (dump (Some dir)) outcome lacks comes = store_lacks (Printing ShowsTables) dir outcome lacks comes
   comes_lacking (init dir) outcome lacks comes = init_lacks dir outcome lacks comes
   comes_lacking (keygen dir lms ots) outcome lacks comes = keygen_lacks lms ots dir outcome lacks comes
   comes_lacking (apply dir) outcome lacks comes = apply_lacks dir outcome lacks comes
   comes_lacking (join dir) outcome lacks comes = join_lacks dir outcome lacks comes
-  comes_lacking (export dir updates_only) outcome lacks comes = store_lacks (ShowsRecords updates_only) dir outcome lacks comes
+  comes_lacking (export dir updates_only) outcome lacks comes = store_lacks (Printing (ShowsRecords updates_only)) dir outcome lacks comes
+  comes_lacking (query dir text json) outcome lacks comes = store_lacks (QueryAnswer text json) dir outcome lacks comes
   comes_lacking (merge first second) outcome lacks comes = merge_lacks first second outcome lacks comes
 
 -- words that ask for something name two directories by two words
@@ -105,6 +107,7 @@ names_apart words request (for_keygen directory height width taken dir h w) = tt
 names_apart words request (for_apply directory taken dir) = tt
 names_apart words request (for_join directory taken dir) = tt
 names_apart words request (for_export directory taken dir) = tt
+names_apart words request (for_query directory text taken dir given) = tt
 names_apart words request (for_merge first second taken dir other differ) = differ
 
 -- ---- runs

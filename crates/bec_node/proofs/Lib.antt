@@ -4,6 +4,7 @@ pub mod Orders
 pub mod Tables
 pub mod Answer
 pub mod Answering
+pub mod Asking
 pub mod Reading
 pub mod NewKeys
 pub mod NewStores

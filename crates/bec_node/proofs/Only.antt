@@ -2,7 +2,7 @@
 use Rattle.std.proofs.Common.{◌≡◌, ◌⊎◌, inl, inr, ℕ, List, [], ◌∷◌, sym, ap, subst, ◌∙◌, IsTrue, IfSome, Option, Some, None, Ok, Err}
 use Rattle.lm_ots.specs.declared.ots_type.OtsType.{OtsType}
 use Rattle.lms_tree.specs.declared.lms_type.LmsType.{LmsType}
-use Rattle.command_words.specs.Requests.{RequestText, heads, check, dump, init, keygen, apply, join, export, merge}
+use Rattle.command_words.specs.Requests.{RequestText, heads, check, dump, init, keygen, apply, join, export, query, merge}
 use Rattle.bec_disk.specs.declared.part.Part.{Part}
 use Rattle.bec_disk.specs.declared.part.Part.TheVariants.{Schema, Updates, Key, Used}
 use Rattle.bec_disk.specs.Shelf.{ShelfState}
@@ -19,7 +19,8 @@ use Rattle.bec_node.specs.Outcome.{ComesTo, Outcome, Says, status_for, status_of
 use Rattle.bec_node.specs.Outside.{Outside}
 use Rattle.bec_node.specs.Run.{AnswersOnly, Comes, EachAs, ShelfOnly, SignOnly, SourceOnly}
 use Rattle.bec_node.specs.Signing.{ApplyAnswer, IsNoStop, IsSourceFault, IsSureOfApply, JoinAnswer, JoinsHeads, StoreAnswer}
-use Rattle.bec_node.specs.StoreAnswers.{Readings, ReadsStore, ShowsHeads, ShowsRecords, ShowsTables}
+use Rattle.bec_node.specs.Asking.{QueryAnswer}
+use Rattle.bec_node.specs.StoreAnswers.{Readings, Printing, ReadsStore, ShowsHeads, ShowsRecords, ShowsTables}
 use Rattle.bec_node.proofs.Answer.{IsOneAnswer, OneAnswer}
 use Rattle.bec_node.proofs.MakersOnce.{OneOfMakers, used_or_not}
 use Rattle.bec_node.proofs.MergeOnce.{OneOfMerge}
@@ -100,15 +101,16 @@ apply_fault dir before (Some input) status is tells = each_fault (IsSureOfApply 
 -- want of memory comes in place of each answer
 pub only_memory : {S H R : Type 0} (request : RequestText) (before : Outside S H R) (status : ℕ) → status ≡ OUT_OF_MEMORY → AnswersOnly request before status
 only_memory (heads None) before status is = source_fault HeadsAnswer before.left status (inr (inr is))
-only_memory (heads (Some dir)) before status is = shelf_fault (ReadsStore ShowsHeads) dir before.store status (inr (inr is))
+only_memory (heads (Some dir)) before status is = shelf_fault (ReadsStore (Printing ShowsHeads)) dir before.store status (inr (inr is))
 only_memory check before status is = source_fault CheckAnswer before.left status (inr (inr is))
 only_memory (dump None) before status is = source_fault DumpAnswer before.left status (inr (inr is))
-only_memory (dump (Some dir)) before status is = shelf_fault (ReadsStore ShowsTables) dir before.store status (inr (inr is))
+only_memory (dump (Some dir)) before status is = shelf_fault (ReadsStore (Printing ShowsTables)) dir before.store status (inr (inr is))
 only_memory (init dir) before status is = init_fault dir before before.left status is
 only_memory (keygen dir lms ots) before status is = λ tells later. each_fault (KeygenAnswer lms ots before.stream (readings before.store dir) later) status (inr (inr is))
 only_memory (apply dir) before status is = apply_fault dir before before.left status is
 only_memory (join dir) before status is = shelf_fault (StoreAnswer (Unit {0}) (JoinAnswer before.stream)) dir before.store status (inr (inr is))
-only_memory (export dir updates_only) before status is = shelf_fault (ReadsStore (ShowsRecords updates_only)) dir before.store status (inr (inr is))
+only_memory (export dir updates_only) before status is = shelf_fault (ReadsStore (Printing (ShowsRecords updates_only))) dir before.store status (inr (inr is))
+only_memory (query dir text json) before status is = shelf_fault (ReadsStore (QueryAnswer text json)) dir before.store status (inr (inr is))
 only_memory (merge first second) before status is = λ tells. each_fault (IsSureOfMerge (readings before.store first) (readings before.store second)) status (inr (inr is))
 
 -- an outcome that came and was said
@@ -117,10 +119,10 @@ module _ {S H R : Type 0} (one : OneAnswer) (parts : OneOfParts) (makers : OneOf
       → ComesTo Answer before.left after.left before.source_faults after.source_faults outcome → IsSaidAs outcome status → SourceOnly Answer before.left status
   source_only Answer single outcome comes said = source_said Answer single before.left after.left before.source_faults after.source_faults outcome status comes said
 
-  read_only : (Shows : StoreData → List ℕ → Type 0) → IsOneOfParts (ReadsStore Shows) → (dir : List ℕ) (outcome : Outcome) → ReadsStoreOnly (ReadsStore Shows) dir before after outcome → IsSaidAs outcome status
-      → ShelfOnly (ReadsStore Shows) dir before.store status
-  read_only Shows single dir outcome comes said =
-      shelf_said (IsShelfFault before.shelf_faults after.shelf_faults) (ReadsStore Shows) (ReadsStore Shows) (Schema ∷ Updates ∷ []) dir before.store after.store outcome status
+  read_only : (Answers : StoreData → Outcome → Type 0) → IsOneOfParts (ReadsStore Answers) → (dir : List ℕ) (outcome : Outcome) → ReadsStoreOnly (ReadsStore Answers) dir before after outcome → IsSaidAs outcome status
+      → ShelfOnly (ReadsStore Answers) dir before.store status
+  read_only Answers single dir outcome comes said =
+      shelf_said (IsShelfFault before.shelf_faults after.shelf_faults) (ReadsStore Answers) (ReadsStore Answers) (Schema ∷ Updates ∷ []) dir before.store after.store outcome status
       (λ shown added others a b is so. (single shown added others a b is so).0)
       (fault_status before.shelf_faults after.shelf_faults outcome) comes.runs said
 
@@ -216,13 +218,14 @@ module _ {S H R : Type 0} (one : OneAnswer) (parts : OneOfParts) (makers : OneOf
 
   pub only_said : (request : RequestText) (outcome : Outcome) → Comes request before after outcome → IsSaidAs outcome status → AnswersOnly request before status
   only_said (heads None) outcome comes said = source_only HeadsAnswer one.heads outcome comes.comes said
-  only_said (heads (Some dir)) outcome comes said = read_only ShowsHeads parts.heads dir outcome comes said
+  only_said (heads (Some dir)) outcome comes said = read_only (Printing ShowsHeads) parts.heads dir outcome comes said
   only_said check outcome comes said = source_only CheckAnswer one.check outcome comes.comes said
   only_said (dump None) outcome comes said = source_only DumpAnswer one.dump outcome comes.comes said
-  only_said (dump (Some dir)) outcome comes said = read_only ShowsTables parts.dump dir outcome comes said
+  only_said (dump (Some dir)) outcome comes said = read_only (Printing ShowsTables) parts.dump dir outcome comes said
   only_said (init dir) outcome comes said = init_only dir before.left outcome comes.comes said
   only_said (keygen dir lms ots) outcome comes said = keygen_only lms ots dir outcome comes said
   only_said (apply dir) outcome comes said = apply_only dir before.left outcome comes.runs said
   only_said (join dir) outcome comes said = join_only dir outcome comes said
-  only_said (export dir updates_only) outcome comes said = read_only (ShowsRecords updates_only) (parts.export updates_only) dir outcome comes said
+  only_said (export dir updates_only) outcome comes said = read_only (Printing (ShowsRecords updates_only)) (parts.export updates_only) dir outcome comes said
+  only_said (query dir text json) outcome comes said = read_only (QueryAnswer text json) (parts.query text json) dir outcome comes said
   only_said (merge first second) outcome comes said = merge_only first second outcome comes said

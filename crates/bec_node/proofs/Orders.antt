@@ -124,7 +124,7 @@ module _ (rules : Rules) (xs ys : List NodeData) (c : IsClosed xs) (d : IsClosed
       made_in (rows_of rules k number) (λ r. rows_of rules k number (r ∷ [])) refl (rows_more rules k number) g.inserted k.inserted
       (made_in (λ js. (effects js).inserted) inserted_by inserted_none inserted_more (judged rules xs) (judged rules ys) judged_in) row (subst (λ (l : List ShownRow). Contains l row) is h)
 
-  rows_there : (number : ℕ) (rows : List ShownRow) → AreRowsIn rules xs number rows → AreRowsIn rules ys number rows
+  pub rows_there : (number : ℕ) (rows : List ShownRow) → AreRowsIn rules xs number rows → AreRowsIn rules ys number rows
   rows_there number rows are =
       let size = length_permutation rows (listed_in rules xs number) are.exact in
       let sizes : length (listed_in rules xs number) ≡ length (listed_in rules ys number) = same_length (Alike-map listed (Alike-filter (in_table number) (same_tables rules xs ys c d same))) in

@@ -29,10 +29,10 @@ use Rattle.store_directory.proofs.Readings.{OneSchema}
 use Rattle.store_directory.proofs.Working.{home_after_store, read_before, store_of, worked_run}
 use Rattle.bec_node.specs.declared.refusal.Refusal.{Refusal}
 use Rattle.bec_node.specs.declared.refusal.Refusal.TheVariants as refusals
-use Rattle.bec_node.specs.Comes.{IsShelfFault, ReadsShelf, readings}
-use Rattle.bec_node.specs.Outcome.{from_store}
+use Rattle.bec_node.specs.Comes.{IsShelfFault, ReadsShelf, is_done, readings}
+use Rattle.bec_node.specs.Outcome.{Outcome, from_store}
 use Rattle.bec_node.specs.Standing.{Stands}
-use Rattle.bec_node.specs.StoreAnswers.{ReadsStore, bad_store, no_store, refused, shows}
+use Rattle.bec_node.specs.StoreAnswers.{ReadsStore, answered, bad_store, no_store, refused}
 
 -- the disks of a store that was taken are those of its parts
 pub put_slots : (before opened : ShelfState) (dir : List ℕ) (taken : OpenData) → TakesStore is_luhn before dir taken opened → IsTrue opened.tells
@@ -45,10 +45,10 @@ put_slots before opened dir taken takes tells =
       (u.3.disk.slot ∙ slot_of (slot dir Updates) u.0 (handed_out (slot dir Updates) u.0) refl, takes.updates_out before_tells),
     )
 
-module _ (Shows : StoreData → List ℕ → Type 0) (dir : List ℕ) (before after : ShelfState) (old new : ℕ) where
+module _ (Answers : StoreData → Outcome → Type 0) (dir : List ℕ) (before after : ShelfState) (old new : ℕ) where
   -- where no store was taken
   pub read_refused : (why : StoreRefusal) → (IsTrue before.tells → IsHome before) → LetsGo is_luhn before dir after → (IsTrue before.tells → IsStoreCause is_luhn before dir why)
-      → (why ≡ DiskFault → Rose old new) → ReadsShelf (ReadsStore Shows) dir before after old new (Err (from_store why))
+      → (why ≡ DiskFault → Rose old new) → ReadsShelf (ReadsStore Answers) dir before after old new (Err (from_store why))
   read_refused NoStore home lets cause failed =
       record { added = []; comes = inl (λ tells. refused refusals.NoStore (no_store (cause tells) refl) refl refl); run = lets.run; others = lets.others; home = λ tells place. lets.places tells place (home tells place) }
   read_refused BadStore home lets cause failed =
@@ -85,27 +85,27 @@ module _ (Shows : StoreData → List ℕ → Type 0) (dir : List ℕ) (before af
     home_again tells =
         home_after_store opened after dir taken.schema taken.replica.log.disk (opened_tells tells) puts (λ other away. subst (λ p. p ≢ out) (sym (takes.others other away)) (home tells other))
 
-    pub read_shown : (text : Vec ℕ Global) → Shows (store_of taken.replica) text.items → ReadsShelf (ReadsStore Shows) dir before after old new (Ok text)
-    read_shown text shown = record {
+    pub read_answered : (outcome : Outcome) → Answers (store_of taken.replica) outcome → ReadsShelf (ReadsStore Answers) dir before after old new outcome
+    read_answered outcome answers = record {
       added = [];
-      comes = inl (λ tells. shows (store_of taken.replica) text.items (read_before is_luhn before opened dir taken tells takes) shown refl refl);
-      run = runs true;
+      comes = inl (λ tells. answered (store_of taken.replica) (read_before is_luhn before opened dir taken tells takes) answers refl);
+      run = runs (is_done outcome);
       others = others;
       home = home_again;
     }
 
-    pub read_lacked : ReadsShelf (ReadsStore Shows) dir before after old new (Err refusals.Memory)
+    pub read_lacked : ReadsShelf (ReadsStore Answers) dir before after old new (Err refusals.Memory)
     read_lacked = record { added = []; comes = inr (inl refl, refl); run = runs false; others = others; home = home_again }
 
 -- ---- want of memory in place of a refusal
 
-none_of_refused : (Shows : StoreData → List ℕ → Type 0) (dir : List ℕ) (shelf : ShelfState) (added : List (List ℕ)) (refusal : Refusal) → ReadsStore Shows (readings shelf dir) added (Err refusal) → added ≡ []
-none_of_refused Shows dir shelf added refusal (shows store text has shown none prints) = none
-none_of_refused Shows dir shelf added refusal (refused why refuses none is) = none
+none_of_refused : (Answers : StoreData → Outcome → Type 0) (dir : List ℕ) (shelf : ShelfState) (added : List (List ℕ)) (refusal : Refusal) → ReadsStore Answers (readings shelf dir) added (Err refusal) → added ≡ []
+none_of_refused Answers dir shelf added refusal (answered store has answers none) = none
+none_of_refused Answers dir shelf added refusal (refused why refuses none is) = none
 
-pub read_without_memory : (Shows : StoreData → List ℕ → Type 0) (dir : List ℕ) (before after : ShelfState) (old new : ℕ) (refusal : Refusal)
-    → ReadsShelf (ReadsStore Shows) dir before after old new (Err refusal) → ReadsShelf (ReadsStore Shows) dir before after old new (Err refusals.Memory)
-read_without_memory Shows dir before after old new refusal runs = record {
+pub read_without_memory : (Answers : StoreData → Outcome → Type 0) (dir : List ℕ) (before after : ShelfState) (old new : ℕ) (refusal : Refusal)
+    → ReadsShelf (ReadsStore Answers) dir before after old new (Err refusal) → ReadsShelf (ReadsStore Answers) dir before after old new (Err refusals.Memory)
+read_without_memory Answers dir before after old new refusal runs = record {
   added = [];
   comes = inr (inl refl, refl);
   run = λ tells. subst (λ (l : List (List ℕ)). StoreRun is_luhn before after dir l false) (none runs.comes tells) (runs.run tells);
@@ -113,8 +113,8 @@ read_without_memory Shows dir before after old new refusal runs = record {
   home = runs.home;
 }
   where
-    none : (IsTrue before.tells → ReadsStore Shows (readings before dir) runs.added (Err refusal)) ⊎ (IsShelfFault old new (Err refusal) × (runs.added ≡ [])) → IsTrue before.tells → runs.added ≡ []
-    none (inl answers) tells = none_of_refused Shows dir before runs.added refusal (answers tells)
+    none : (IsTrue before.tells → ReadsStore Answers (readings before dir) runs.added (Err refusal)) ⊎ (IsShelfFault old new (Err refusal) × (runs.added ≡ [])) → IsTrue before.tells → runs.added ≡ []
+    none (inl answers) tells = none_of_refused Answers dir before runs.added refusal (answers tells)
     none (inr fault) tells = fault.1
 
 -- ---- records

@@ -6,9 +6,11 @@ use Rattle.table_text.specs.Tables.{tables_text}
 use Rattle.store_directory.specs.Stores.{IsBadStore, IsNoStore, ReadsAs, StoreData}
 use Rattle.bec_node.specs.declared.refusal.Refusal.{Refusal}
 use Rattle.bec_node.specs.Outcome.{Outcome}
-use Rattle.bec_node.specs.StoreAnswers.{HasStore, Readings, ReadsStore, RefusesStore, ShowsHeads, ShowsRecords, ShowsTables, bad_store, no_store, refused, shows}
+use Rattle.bec_node.specs.StoreAnswers.{HasStore, Readings, Printing, ReadsStore, RefusesStore, ShowsHeads, ShowsRecords, ShowsTables, answered, bad_store, no_store, refused}
 use Rattle.bec_node.specs.Texts.{printed}
 use Rattle.bec_node.proofs.Answer.{Same, heads_once, same_prints, same_refused}
+use Rattle.bec_node.specs.Asking.{QueryAnswer}
+use Rattle.bec_node.proofs.Asking.{QueryLaws, query_once}
 use Rattle.bec_node.proofs.Tables.{TableLaws, tables_once}
 
 -- what is known of two parts: they read as one store, or as none, or as a bad one
@@ -37,6 +39,13 @@ tables_shown laws store text line a b =
 records_shown : (updates_only : Bool) → IsShownOnce (ShowsRecords updates_only)
 records_shown updates_only store text line a b = a ∙ sym b
 
+-- a store is answered to in one way
+abbrev IsAnsweredOnce : (StoreData → Outcome → Type 0) → Type 0
+IsAnsweredOnce Answers = (store : StoreData) (a b : Outcome) → Answers store a → Answers store b → Same a b
+
+printed_once : (Shows : StoreData → List ℕ → Type 0) → IsShownOnce Shows → IsAnsweredOnce (Printing Shows)
+printed_once Shows once store a b p q = same_prints a b p.0 q.0 (once store p.0 q.0 p.1 q.1) p.2 q.2
+
 module _ (stores : StoreLaws) where
   -- a store that is read is not refused
   pub read_or_refused : (parts : Readings) (store : StoreData) (refusal : Refusal) → HasStore parts store → RefusesStore parts refusal → ⊥
@@ -50,23 +59,25 @@ module _ (stores : StoreLaws) where
   refused_once parts r s (bad_store bad is) (no_store none so) = absurd (stores.not_bad is_luhn parts.schema parts.updates none bad)
   refused_once parts r s (bad_store bad is) (bad_store again so) = is ∙ sym so
 
-  read_answered : (Shows : StoreData → List ℕ → Type 0) → IsShownOnce Shows → IsOneOfParts (ReadsStore Shows)
-  read_answered Shows once parts added others a b (shows store text has shown none p) (shows other line had seen naught q) =
+  read_answered : (Answers : StoreData → Outcome → Type 0) → IsAnsweredOnce Answers → IsOneOfParts (ReadsStore Answers)
+  read_answered Answers once parts added others a b (answered store has is none) (answered other had so naught) =
       let same : store ≡ other = stores.one_store is_luhn parts.schema parts.updates store other has had in
-      same_prints a b text line (once other text line (subst (λ (s : StoreData). Shows s text) same shown) seen) p q
-  read_answered Shows once parts added others a b (shows store text has shown none p) (refused r refuses naught is) = absurd (read_or_refused parts store r has refuses)
-  read_answered Shows once parts added others a b (refused r refuses naught is) (shows store text has shown none p) = absurd (read_or_refused parts store r has refuses)
-  read_answered Shows once parts added others a b (refused r refuses naught is) (refused s refused_too none so) = same_refused a b r s (refused_once parts r s refuses refused_too) is so
+      once other a b (subst (λ (s : StoreData). Answers s a) same is) so
+  read_answered Answers once parts added others a b (answered store has is none) (refused r refuses naught so) = absurd (read_or_refused parts store r has refuses)
+  read_answered Answers once parts added others a b (refused r refuses naught is) (answered store has so none) = absurd (read_or_refused parts store r has refuses)
+  read_answered Answers once parts added others a b (refused r refuses naught is) (refused s refused_too none so) = same_refused a b r s (refused_once parts r s refuses refused_too) is so
 
 -- so it is of each command that only reads a store
 pub record OneOfParts : Type 0 where
-  pub heads : IsOneOfParts (ReadsStore ShowsHeads)
-  pub dump : IsOneOfParts (ReadsStore ShowsTables)
-  pub export : (updates_only : Bool) → IsOneOfParts (ReadsStore (ShowsRecords updates_only))
+  pub heads : IsOneOfParts (ReadsStore (Printing ShowsHeads))
+  pub dump : IsOneOfParts (ReadsStore (Printing ShowsTables))
+  pub export : (updates_only : Bool) → IsOneOfParts (ReadsStore (Printing (ShowsRecords updates_only)))
+  pub query : (text : List ℕ) (json : Bool) → IsOneOfParts (ReadsStore (QueryAnswer text json))
 
-pub answered_of_parts : StoreLaws → TableLaws → OneOfParts
-answered_of_parts stores tables = record {
-  heads = read_answered stores ShowsHeads heads_shown;
-  dump = read_answered stores ShowsTables (tables_shown tables);
-  export = λ updates_only. read_answered stores (ShowsRecords updates_only) (records_shown updates_only);
+pub answered_of_parts : StoreLaws → TableLaws → QueryLaws → OneOfParts
+answered_of_parts stores tables queries = record {
+  heads = read_answered stores (Printing ShowsHeads) (printed_once ShowsHeads heads_shown);
+  dump = read_answered stores (Printing ShowsTables) (printed_once ShowsTables (tables_shown tables));
+  export = λ updates_only. read_answered stores (Printing (ShowsRecords updates_only)) (printed_once (ShowsRecords updates_only) (records_shown updates_only));
+  query = λ text json. read_answered stores (QueryAnswer text json) (query_once queries text json);
 }

@@ -10,5 +10,6 @@ pub mod StoreAnswers
 pub mod Comes
 pub mod Creating
 pub mod Signing
+pub mod Asking
 pub mod Run
 pub mod Merging

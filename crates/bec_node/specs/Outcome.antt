@@ -22,13 +22,15 @@ use Rattle.replica.specs.declared.make_fault.MakeFault.{MakeFault}
 use Rattle.replica.specs.declared.make_fault.MakeFault.TheVariants as make_faults
 use Rattle.store_directory.specs.declared.key_refusal.KeyRefusal.{KeyRefusal}
 use Rattle.store_directory.specs.declared.key_refusal.KeyRefusal.TheVariants as key_refusals
+use Rattle.query.specs.declared.fault.QueryError.{QueryError}
+use Rattle.query.specs.declared.fault.QueryError.TheVariants as query_errors
 use Rattle.txn_text.specs.declared.fault.TextError.{TextError}
 use Rattle.txn_text.specs.declared.fault.TextError.TheVariants as text_errors
 use Rattle.bec_node.specs.declared.refusal.Refusal.{Refusal}
-use Rattle.bec_node.specs.declared.refusal.Refusal.TheVariants.{Words, Record, CutSchema, Schema, NotConfluent, Transaction, Invalid, AuthorNotListed, UpdateTooLong, IdTaken, KeySpent, Heads, Peer, NoStore, StoreThere, BadStore, NoKey, KeyThere, BadKey, StoreFault, Stream, Memory}
+use Rattle.bec_node.specs.declared.refusal.Refusal.TheVariants.{Words, Record, CutSchema, Schema, NotConfluent, Query, Transaction, Invalid, AuthorNotListed, UpdateTooLong, IdTaken, KeySpent, Heads, Peer, NoStore, StoreThere, BadStore, NoKey, KeyThere, BadKey, StoreFault, Stream, Memory}
 use Rattle.bec_node.specs.declared.refusal.Refusal.TheVariants as refusals
 use Rattle.bec_node.specs.declared.status.TheConstants.{DONE, REFUSED, NO_COMMAND, STORE_FAULT, STREAM_FAULT, OUT_OF_MEMORY, PEER, FULL, STORE}
-use Rattle.bec_node.specs.Texts.{invalid_text, many_heads_text, peer_text, record_text, refused_text, schema_text, spent_text, transaction_text}
+use Rattle.bec_node.specs.Texts.{invalid_text, many_heads_text, peer_text, query_text, record_text, refused_text, schema_text, spent_text, transaction_text}
 
 -- A command is done and prints a text, or it is refused.
 abbrev pub Outcome : Type 0
@@ -43,6 +45,7 @@ status_for (Record n Full) = FULL
 status_for CutSchema = REFUSED
 status_for (Schema fault) = REFUSED
 status_for (NotConfluent schema which example) = REFUSED
+status_for (Query fault) = REFUSED
 status_for (Transaction fault) = REFUSED
 status_for (Invalid reason operation) = REFUSED
 status_for AuthorNotListed = REFUSED
@@ -69,6 +72,7 @@ text_for (Record n fault) = record_text n fault
 text_for CutSchema = codes "! schema cut\n"
 text_for (Schema fault) = schema_text fault
 text_for (NotConfluent schema which example) = refused_text schema.tables which example
+text_for (Query fault) = query_text fault
 text_for (Transaction fault) = transaction_text fault
 text_for (Invalid reason operation) = invalid_text reason operation
 text_for AuthorNotListed = codes "! author not listed\n"
@@ -119,6 +123,10 @@ from_key key_refusals.NoKey = NoKey
 from_key key_refusals.BadKey = BadKey
 from_key key_refusals.DiskFault = StoreFault
 from_key key_refusals.Memory = Memory
+
+abbrev pub from_query : QueryError → Refusal
+from_query (query_errors.Fault fault) = Query fault
+from_query query_errors.Memory = Memory
 
 abbrev pub from_text : TextError → Refusal
 from_text (text_errors.Fault fault) = Transaction fault

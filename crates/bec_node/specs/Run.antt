@@ -4,7 +4,7 @@ use Rattle.std.specs.declared.alloc.Global.{Global}
 use Rattle.std.specs.declared.option.Option.{Option}
 use Rattle.std.specs.String.{string_bytes}
 use Rattle.bec_disk.specs.Shelf.{ShelfState}
-use Rattle.command_words.specs.Requests.{Asks, RequestText, heads, check, dump, init, keygen, apply, join, export, merge}
+use Rattle.command_words.specs.Requests.{Asks, RequestText, heads, check, dump, init, keygen, apply, join, export, query, merge}
 use Rattle.bec_node.specs.declared.refusal.Refusal.TheVariants.{Memory, Words}
 use Rattle.bec_node.specs.declared.status.TheConstants.{STORE_FAULT, STREAM_FAULT, OUT_OF_MEMORY}
 use Rattle.bec_node.specs.Bundle.{DumpAnswer}
@@ -15,7 +15,8 @@ use Rattle.bec_node.specs.Merging.{IsSureOfMerge, Merges}
 use Rattle.bec_node.specs.Outcome.{ComesTo, Outcome, Says, status_of}
 use Rattle.bec_node.specs.Outside.{IsUntouched, Outside, SinkState}
 use Rattle.bec_node.specs.Signing.{Applies, IsSureOfApply, JoinAnswer, JoinsHeads, SignAnswer, StoreAnswer}
-use Rattle.bec_node.specs.StoreAnswers.{Readings, ReadsStore, ShowsHeads, ShowsRecords, ShowsTables}
+use Rattle.bec_node.specs.Asking.{QueryAnswer}
+use Rattle.bec_node.specs.StoreAnswers.{Readings, Printing, ReadsStore, ShowsHeads, ShowsRecords, ShowsTables}
 use Rattle.bec_node.specs.Verdict.{CheckAnswer}
 
 -- the words ask for this
@@ -39,15 +40,16 @@ pub record ReadsSource {S H R : Type 0} (Answer : Option (List ℕ) → Option (
 -- What a request comes to.
 abbrev pub Comes : {S H R : Type 0} → RequestText → Outside S H R → Outside S H R → Outcome → Type 0
 Comes (heads None) before after outcome = ReadsSource HeadsAnswer before after outcome
-Comes (heads (Some dir)) before after outcome = ReadsStoreOnly (ReadsStore ShowsHeads) dir before after outcome
+Comes (heads (Some dir)) before after outcome = ReadsStoreOnly (ReadsStore (Printing ShowsHeads)) dir before after outcome
 Comes check before after outcome = ReadsSource CheckAnswer before after outcome
 Comes (dump None) before after outcome = ReadsSource DumpAnswer before after outcome
-Comes (dump (Some dir)) before after outcome = ReadsStoreOnly (ReadsStore ShowsTables) dir before after outcome
+Comes (dump (Some dir)) before after outcome = ReadsStoreOnly (ReadsStore (Printing ShowsTables)) dir before after outcome
 Comes (init dir) before after outcome = Inits dir before after outcome
 Comes (keygen dir lms ots) before after outcome = DrawsKeyOnly lms ots dir before after outcome
 Comes (apply dir) before after outcome = Applies dir before after outcome
 Comes (join dir) before after outcome = JoinsHeads dir before after outcome
-Comes (export dir updates_only) before after outcome = ReadsStoreOnly (ReadsStore (ShowsRecords updates_only)) dir before after outcome
+Comes (export dir updates_only) before after outcome = ReadsStoreOnly (ReadsStore (Printing (ShowsRecords updates_only))) dir before after outcome
+Comes (query dir text json) before after outcome = ReadsStoreOnly (ReadsStore (QueryAnswer text json)) dir before after outcome
 Comes (merge first second) before after outcome = Merges first second before after outcome
 
 -- Words that ask for something come to what that comes to; other words leave all as it was; and so does want of memory for reading the words.
@@ -81,17 +83,18 @@ SignOnly Answer dir shelf status = ShelfOnly (StoreAnswer (Unit {0}) Answer) dir
 -- a store, and that it is done where nothing stands in the way.
 abbrev pub AnswersOnly : {S H R : Type 0} → RequestText → Outside S H R → ℕ → Type 0
 AnswersOnly (heads None) before status = SourceOnly HeadsAnswer before.left status
-AnswersOnly (heads (Some dir)) before status = ShelfOnly (ReadsStore ShowsHeads) dir before.store status
+AnswersOnly (heads (Some dir)) before status = ShelfOnly (ReadsStore (Printing ShowsHeads)) dir before.store status
 AnswersOnly check before status = SourceOnly CheckAnswer before.left status
 AnswersOnly (dump None) before status = SourceOnly DumpAnswer before.left status
-AnswersOnly (dump (Some dir)) before status = ShelfOnly (ReadsStore ShowsTables) dir before.store status
+AnswersOnly (dump (Some dir)) before status = ShelfOnly (ReadsStore (Printing ShowsTables)) dir before.store status
 AnswersOnly (init dir) before status =
     IsTrue before.store.tells → IfSome before.left (λ input. (after : Option (List ℕ)) (later : Readings) → EachAs (InitAnswer (Some input) after before.stream (readings before.store dir) later) status)
 AnswersOnly (keygen dir lms ots) before status =
     IsTrue before.store.tells → (later : Readings) → EachAs (KeygenAnswer lms ots before.stream (readings before.store dir) later) status
 AnswersOnly (apply dir) before status = IsTrue before.store.tells → IfSome before.left (λ input. EachAs (IsSureOfApply input before.stream (readings before.store dir)) status)
 AnswersOnly (join dir) before status = SignOnly (JoinAnswer before.stream) dir before.store status
-AnswersOnly (export dir updates_only) before status = ShelfOnly (ReadsStore (ShowsRecords updates_only)) dir before.store status
+AnswersOnly (export dir updates_only) before status = ShelfOnly (ReadsStore (Printing (ShowsRecords updates_only))) dir before.store status
+AnswersOnly (query dir text json) before status = ShelfOnly (ReadsStore (QueryAnswer text json)) dir before.store status
 AnswersOnly (merge first second) before status = IsTrue before.store.tells → EachAs (IsSureOfMerge (readings before.store first) (readings before.store second)) status
 
 -- A run of the program: the words and what stands outside ask for an outcome, the sink is told it, and the status is its own.

@@ -29,10 +29,14 @@ pub data RefusesStore (parts : Readings) (refusal : Refusal) : Type 0 where
 abbrev pub HasStore : Readings → StoreData → Type 0
 HasStore parts store = ReadsAs is_luhn parts.schema parts.updates store
 
--- A command that only reads a store: it prints what it shows of it, or the store is refused.
-pub data ReadsStore (Shows : StoreData → List ℕ → Type 0) (parts : Readings) (added : List (List ℕ)) (outcome : Outcome) : Type 0 where
-  shows : (store : StoreData) (text : List ℕ) → HasStore parts store → Shows store text → added ≡ [] → Prints outcome text → ReadsStore Shows parts added outcome
-  refused : (refusal : Refusal) → RefusesStore parts refusal → added ≡ [] → outcome ≡ Err refusal → ReadsStore Shows parts added outcome
+-- A command that only reads a store: it answers to it, or the store is refused.
+pub data ReadsStore (Answers : StoreData → Outcome → Type 0) (parts : Readings) (added : List (List ℕ)) (outcome : Outcome) : Type 0 where
+  answered : (store : StoreData) → HasStore parts store → Answers store outcome → added ≡ [] → ReadsStore Answers parts added outcome
+  refused : (refusal : Refusal) → RefusesStore parts refusal → added ≡ [] → outcome ≡ Err refusal → ReadsStore Answers parts added outcome
+
+-- What is shown of a store is printed.
+abbrev pub Printing : (StoreData → List ℕ → Type 0) → StoreData → Outcome → Type 0
+Printing Shows store outcome = (text : List ℕ) × Shows store text × Prints outcome text
 
 -- `heads` shows the heads of its updates, rising, one per line.
 abbrev pub ShowsHeads : StoreData → List ℕ → Type 0

@@ -5,6 +5,8 @@ use Rattle.std.specs.Fmt.{decimal}
 use Rattle.hex.specs.Hex.{encode_lower}
 use Rattle.update_model.specs.declared.update_id.UpdateId.{UpdateId}
 use Rattle.txn_text.specs.declared.fault.TextFault.{TextFault}
+use Rattle.query.specs.Words.{fault_words as query_words}
+use Rattle.query.specs.declared.fault.QueryFault.{QueryFault}
 use Rattle.txn_text.specs.Words.{fault_words as transaction_words}
 use Rattle.update_check.specs.Words.{check_words}
 use Rattle.update_codec.specs.Spelling.{author}
@@ -41,6 +43,10 @@ schema_text fault = codes "! schema " ++ (fault_words fault ++ 10 ∷ [])
 -- the lines for the first invariant that does not survive merging: where it stands, and the counterexample
 abbrev pub refused_text : List TableDef → Invariant → Counterexample → List ℕ
 refused_text tables which example = codes "! not confluent line " ++ decimal which.line ++ (10 ∷ example_text tables example)
+
+-- the line for a text that is no query
+abbrev pub query_text : QueryFault → List ℕ
+query_text fault = codes "! query " ++ (query_words fault ++ 10 ∷ [])
 
 -- the line for a transaction with this fault
 abbrev pub transaction_text : TextFault → List ℕ

@@ -11,10 +11,13 @@ ghost use Rattle.bec_node.specs.Heads.{HeadsAnswer};
 ghost use Rattle.bec_node.specs.Merging.{IsSureOfMerge, MayMerge};
 ghost use Rattle.bec_node.specs.Outcome.{Outcome, status_of, text_of};
 ghost use Rattle.bec_node.specs.Signing.{IsSureOfApply, JoinAnswer, MayApply, StoreAnswer};
-ghost use Rattle.bec_node.specs.StoreAnswers.{Readings, ReadsStore, ShowsHeads, ShowsRecords, ShowsTables};
+ghost use Rattle.bec_node.specs.Asking.{QueryAnswer};
+ghost use Rattle.bec_node.specs.StoreAnswers.{Readings, Printing, ReadsStore, ShowsHeads, ShowsRecords, ShowsTables};
 ghost use Rattle.bec_node.specs.Verdict.{CheckAnswer};
 
 use confluence_test::{refused_once, taken_or_refused};
+use query::{no_fault as no_query_fault, one_fault as one_query_fault, one_query};
+use query_answer::one_answer_over;
 use replica::{one_early_refusal, one_join, one_make};
 use schema::one_schema;
 use store_directory::{key_or_not, one_key, one_store, store_or_not};
@@ -45,13 +48,19 @@ pub fn one_answer()
 /// comes exactly where its cause stands.
 pub fn one_answer_of_parts()
     ensures heads { (parts : Readings) (added others : List (List ℕ)) (outcome another : Outcome)
-        → ReadsStore ShowsHeads parts added outcome → ReadsStore ShowsHeads parts others another → (status_of outcome ≡ status_of another) × (text_of outcome ≡ text_of another) }
+        → ReadsStore (Printing ShowsHeads) parts added outcome → ReadsStore (Printing ShowsHeads) parts others another → (status_of outcome ≡ status_of another) × (text_of outcome ≡ text_of another) }
     ensures dump { (parts : Readings) (added others : List (List ℕ)) (outcome another : Outcome)
-        → ReadsStore ShowsTables parts added outcome → ReadsStore ShowsTables parts others another → (status_of outcome ≡ status_of another) × (text_of outcome ≡ text_of another) }
+        → ReadsStore (Printing ShowsTables) parts added outcome → ReadsStore (Printing ShowsTables) parts others another → (status_of outcome ≡ status_of another) × (text_of outcome ≡ text_of another) }
+    ensures query { (text : List ℕ) (json : Bool) (parts : Readings) (added others : List (List ℕ)) (outcome another : Outcome)
+        → ReadsStore (QueryAnswer text json) parts added outcome → ReadsStore (QueryAnswer text json) parts others another → (status_of outcome ≡ status_of another) × (text_of outcome ≡ text_of another) }
     ensures export { (updates_only : Bool) (parts : Readings) (added others : List (List ℕ)) (outcome another : Outcome)
-        → ReadsStore (ShowsRecords updates_only) parts added outcome → ReadsStore (ShowsRecords updates_only) parts others another → (status_of outcome ≡ status_of another) × (text_of outcome ≡ text_of another) }
+        → ReadsStore (Printing (ShowsRecords updates_only)) parts added outcome → ReadsStore (Printing (ShowsRecords updates_only)) parts others another → (status_of outcome ≡ status_of another) × (text_of outcome ≡ text_of another) }
 {
     arrivals_are_closed();
+    no_query_fault();
+    one_answer_over();
+    one_query();
+    one_query_fault();
     one_store();
     store_or_not();
     tables_are_of_the_set();

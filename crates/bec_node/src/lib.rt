@@ -48,6 +48,7 @@ pub use commands::init::command_init;
 pub use commands::join::command_join;
 pub use commands::keygen::command_keygen;
 pub use commands::merge::command_merge;
+pub use commands::query::command_query;
 pub use heads::heads_of;
 pub use laws::{one_answer, one_answer_of_makers, one_answer_of_merge, one_answer_of_parts};
 pub use program::run;

@@ -3,13 +3,14 @@
 ghost use Rattle.std.specs.Prelude.{◌≡◌, ◌≢◌, IfOk, IfErr, IfSome, IfNone, OnErr, codes, Err};
 ghost use Rattle.std.specs.String.{string_bytes};
 ghost use Rattle.bec_node.specs.declared.refusal.Refusal.TheVariants.{Memory, Words};
-ghost use Rattle.bec_node.specs.Texts.{invalid_text, many_heads_text, peer_text, record_text, refused_text, schema_text, spent_text, transaction_text};
+ghost use Rattle.bec_node.specs.Texts.{invalid_text, many_heads_text, peer_text, query_text, record_text, refused_text, schema_text, spent_text, transaction_text};
 ghost use Rattle.bec_node.specs.Outcome.{Puts, Says, text_for};
 
 use crate::refusal::Refusal;
 use crate::reply::put;
 use crate::status::NO_COMMAND;
 use bec_bytes::Sink;
+use query::QueryFault;
 use schema::{Schema, SchemaFault};
 use session_rules::PeerFault;
 use std::alloc::{AllocError, Global};
@@ -95,6 +96,7 @@ fn told_lines(alloc: Global, refusal: &Refusal) -> Result<Vec<u8>, AllocError>
             which,
             example,
         } => refused_lines(alloc, schema, which, example),
+        Refusal::Query(fault) => Ok(query_line(alloc, fault)?.into_bytes()),
         Refusal::Transaction(fault) => Ok(transaction_line(alloc, fault)?.into_bytes()),
         Refusal::Invalid { reason, operation } => {
             Ok(invalid_line(alloc, *reason, *operation)?.into_bytes())
@@ -140,6 +142,13 @@ fn refused_lines(
     let mut lines = format!(in alloc; "! not confluent line {line}\n")?.into_bytes();
     push_counterexample(&mut lines, schema, example)?;
     Ok(lines)
+}
+
+/// The line for the first fault of a query's text.
+fn query_line(alloc: Global, fault: &QueryFault) -> Result<String, AllocError>
+    ensures { IfOk result (λ line. string_bytes line ≡ query_text fault.now) }
+{
+    format!(in alloc; "! query {fault}\n")
 }
 
 /// The line for the first fault of a transaction's text.

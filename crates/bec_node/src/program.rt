@@ -14,6 +14,7 @@ use crate::commands::init::init_in;
 use crate::commands::join::join_in;
 use crate::commands::keygen::keygen_in;
 use crate::commands::merge::merge_in;
+use crate::commands::query::query_in;
 use crate::laws::{one_answer, one_answer_of_makers, one_answer_of_merge, one_answer_of_parts};
 use crate::lines::no_command;
 use crate::refusal::Refusal;
@@ -92,6 +93,11 @@ fn outcome_of<H: Shelf, R: Rng, S: Source>(
         Request::Apply { directory } => apply_in(alloc, shelf, directory, random, input),
         Request::Join { directory } => join_in(alloc, shelf, directory, random),
         Request::Export { directory, updates } => export_in(alloc, shelf, directory, *updates),
+        Request::Query {
+            directory,
+            text,
+            json,
+        } => query_in(alloc, shelf, directory, text, *json),
         Request::Merge { first, second } => merge_in(alloc, shelf, first, second),
     }
 }

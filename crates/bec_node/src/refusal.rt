@@ -1,6 +1,6 @@
 ghost use Rattle.std.specs.Prelude.{◌≡◌};
 ghost use Rattle.bec_node.specs.declared.refusal.Refusal.TheVariants.{Memory};
-ghost use Rattle.bec_node.specs.Outcome.{status_for, from_creating, from_creating_key, from_disk, from_key, from_make, from_reading, from_store, from_taking, from_text};
+ghost use Rattle.bec_node.specs.Outcome.{status_for, from_creating, from_creating_key, from_disk, from_key, from_make, from_query, from_reading, from_store, from_taking, from_text};
 ghost use Rattle.lms_tree.specs.LmsKind.{leaf_count};
 
 use crate::status::{
@@ -11,6 +11,7 @@ use bec_disk::{Disk, DiskError};
 use confluence_test::SchemaRefusal;
 use key_index::{CreateKeyKind, KeyStore};
 use lms_tree::LmsType;
+use query::{QueryError, QueryFault};
 use replica::{CreateKind, MakeFault};
 use schema::{Schema, SchemaFault};
 use session_rules::PeerFault;
@@ -45,6 +46,8 @@ pub enum Refusal {
         /// A history that breaks it.
         example: Counterexample,
     },
+    /// The text of a query is none, for this first fault.
+    Query(QueryFault),
     /// The text of a transaction has this fault first.
     Transaction(TextFault),
     /// The update would not be valid: for this reason, at the operation with this number, from 0.
@@ -217,6 +220,17 @@ impl From<KeyRefusal> for Refusal {
             KeyRefusal::BadKey => Refusal::BadKey,
             KeyRefusal::DiskFault => Refusal::StoreFault,
             KeyRefusal::Memory => Refusal::Memory,
+        }
+    }
+}
+
+impl From<QueryError> for Refusal {
+    ghost from_gives = { λ error refusal. refusal ≡ from_query error };
+
+    fn from(error: QueryError) -> Refusal {
+        match error {
+            QueryError::Fault(fault) => Refusal::Query(fault),
+            QueryError::Memory => Refusal::Memory,
         }
     }
 }

@@ -5,8 +5,8 @@ use Rattle.std.proofs.lemmas.Slice.Eq.{bytes_eq-Decides}
 use Rattle.clap.specs.Words.{App, Row, Text, first_of, matches_of}
 use Rattle.lm_ots.specs.declared.ots_type.OtsType.{OtsType}
 use Rattle.lms_tree.specs.declared.lms_type.LmsType.{LmsType}
-use Rattle.command_words.specs.Requests.{RequestText, heads, check, dump, init, keygen, apply, join, export, merge, any_directory_app, directory_app, check_app, keygen_app, export_app, merge_app, height_of, width_of, Takes, given, Asks, for_heads, for_check, for_dump, for_init, for_keygen, for_apply, for_join, for_export, for_merge}
-use Rattle.command_words.specs.Commands.{check_of, directory_of, keygen_by, keygen_of, export_by, export_of, merge_with, merge_by, merge_of, request_by, request_of}
+use Rattle.command_words.specs.Requests.{RequestText, heads, check, dump, init, keygen, apply, join, export, query, merge, any_directory_app, directory_app, check_app, keygen_app, export_app, query_app, merge_app, height_of, width_of, Takes, given, Asks, for_heads, for_check, for_dump, for_init, for_keygen, for_apply, for_join, for_export, for_query, for_merge}
+use Rattle.command_words.specs.Commands.{check_of, directory_of, keygen_by, keygen_of, export_by, export_of, query_by, query_of, merge_with, merge_by, merge_of, request_by, request_of}
 use Rattle.command_words.specs.Words.{is_set, is_taken, rows_given}
 
 -- ---- from the rules
@@ -55,6 +55,9 @@ by_rule words request (for_join directory h g) =
 by_rule words request (for_export directory h g) =
     first_is (codes "export") export_app words h ∙ ap (option_and_then export_by) (rows_are (codes "export") export_app words h)
     ∙ ap (option_map (λ (d : Text). export d (is_set (codes "updates") (matches_of export_app words)))) g
+by_rule words request (for_query directory text h f s) =
+    first_is (codes "query") query_app words h ∙ ap (option_and_then query_by) (rows_are (codes "query") query_app words h)
+    ∙ (λ i. option_and_then (λ d. option_map (λ t. query d t (is_set (codes "json") (matches_of query_app words))) (s i)) (f i))
 by_rule words request (for_merge first second h f s differ) =
     first_is (codes "merge") merge_app words h ∙ ap (option_and_then merge_by) (rows_are (codes "merge") merge_app words h)
     ∙ (λ i. option_and_then (λ a. option_and_then (merge_with a) (s i)) (f i)) ∙ merged first second differ
@@ -125,6 +128,16 @@ from_export words rest request n e =
     subst (λ (r : RequestText). Asks words r) (ap (λ (rows : List Row). export d.0 (is_set (codes "updates") rows)) (sym t.1) ∙ d.2)
     (for_export d.0 t.0 (ap (first_of (codes "DIR")) (sym t.1) ∙ d.1))
 
+from_query : (words rest : List Text) (request : RequestText) → words ≡ codes "query" ∷ rest → query_of words ≡ Some request → Asks words request
+from_query words rest request n e =
+    let k = chained query_by (rows_given query_app words) request e in
+    let t = takes (codes "query") query_app words rest k.0 n k.1 in
+    let asked : Text → Option RequestText = λ d. option_map (λ text. query d text (is_set (codes "json") k.0)) (first_of (codes "TEXT") k.0) in
+    let d = chained asked (first_of (codes "DIR") k.0) request k.2 in
+    let x = mapped (λ (text : Text). query d.0 text (is_set (codes "json") k.0)) (first_of (codes "TEXT") k.0) request d.2 in
+    subst (λ (r : RequestText). Asks words r) (ap (λ (rows : List Row). query d.0 x.0 (is_set (codes "json") rows)) (sym t.1) ∙ x.2)
+    (for_query d.0 x.0 t.0 (ap (first_of (codes "DIR")) (sym t.1) ∙ d.1) (ap (first_of (codes "TEXT")) (sym t.1) ∙ x.1))
+
 from_pair : (first second : Text) (request : RequestText) → merge_with first second ≡ Some request → (first ≢ second) × (merge first second ≡ request)
 from_pair first second request e =
     let step : (b : Bool) → bytes_eq first second ≡ b → cond b None (Some (merge first second)) ≡ Some request → (first ≢ second) × (merge first second ≡ request) = elim [
@@ -168,7 +181,8 @@ told first rest request =
     (either first (codes "apply") rest request _ _ (λ n. from_one (codes "apply") apply words rest request n for_apply)
     (either first (codes "join") rest request _ _ (λ n. from_one (codes "join") join words rest request n for_join)
     (either first (codes "export") rest request _ _ (λ n. from_export words rest request n)
-    (either first (codes "merge") rest request _ _ (λ n. from_merge words rest request n) (λ e. absurd (cc))))))))))
+    (either first (codes "query") rest request _ _ (λ n. from_query words rest request n)
+    (either first (codes "merge") rest request _ _ (λ n. from_merge words rest request n) (λ e. absurd (cc)))))))))))
 
 pub to_rule : (words : List Text) (request : RequestText) → request_of words ≡ Some request → Asks words request
 to_rule [] request e = absurd (cc)

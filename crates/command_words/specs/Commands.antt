@@ -1,7 +1,7 @@
 -- The request that words are, as it is read: by the first word, and then by what the words give for each argument.
 use Rattle.std.specs.Prelude.{List, Option, Some, None, option_map, option_and_then, if◌then◌else◌, bytes_eq, slice_get, codes}
 use Rattle.clap.specs.Words.{Row, Text, first_of}
-use Rattle.command_words.specs.Requests.{RequestText, heads, check, dump, init, keygen, apply, join, export, merge, any_directory_app, directory_app, check_app, keygen_app, export_app, merge_app, height_of, width_of}
+use Rattle.command_words.specs.Requests.{RequestText, heads, check, dump, init, keygen, apply, join, export, query, merge, any_directory_app, directory_app, check_app, keygen_app, export_app, query_app, merge_app, height_of, width_of}
 use Rattle.command_words.specs.Words.{is_set, rows_given}
 
 abbrev pub heads_of : List Text → Option RequestText
@@ -40,6 +40,12 @@ export_by rows = option_map (λ directory. export directory (is_set (codes "upda
 abbrev pub export_of : List Text → Option RequestText
 export_of words = option_and_then export_by (rows_given export_app words)
 
+abbrev pub query_by : List Row → Option RequestText
+query_by rows = option_and_then (λ directory. option_map (λ text. query directory text (is_set (codes "json") rows)) (first_of (codes "TEXT") rows)) (first_of (codes "DIR") rows)
+
+abbrev pub query_of : List Text → Option RequestText
+query_of words = option_and_then query_by (rows_given query_app words)
+
 -- two words that differ
 abbrev pub merge_with : Text → Text → Option RequestText
 merge_with first second = if bytes_eq first second then None else Some (merge first second)
@@ -60,6 +66,7 @@ request_by first words =
     else if bytes_eq first (codes "apply") then apply_of words
     else if bytes_eq first (codes "join") then join_of words
     else if bytes_eq first (codes "export") then export_of words
+    else if bytes_eq first (codes "query") then query_of words
     else if bytes_eq first (codes "merge") then merge_of words
     else None
 

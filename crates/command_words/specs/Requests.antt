@@ -7,7 +7,7 @@ use Rattle.lms_tree.specs.declared.lms_type.LmsType.{LmsType}
 use Rattle.lms_tree.specs.declared.lms_type.LmsType.TheVariants.{H5, H10, H15}
 use Rattle.command_words.specs.Words.{command_app, flag, is_set, is_taken, needed, position, value}
 
--- a request, with the words that name directories
+-- a request, with the words that name directories, and that of a query
 pub data RequestText : Type 0 where
   heads : Option Text → RequestText
   check : RequestText
@@ -17,6 +17,7 @@ pub data RequestText : Type 0 where
   apply : Text → RequestText
   join : Text → RequestText
   export : Text → Bool → RequestText
+  query : Text → Text → Bool → RequestText
   merge : Text → Text → RequestText
 
 -- ---- the arguments of each command
@@ -40,6 +41,10 @@ keygen_app = command_app (codes "keygen") (needed (position (codes "DIR")) ∷ v
 -- export DIR [--updates]
 abbrev pub export_app : App
 export_app = command_app (codes "export") (needed (position (codes "DIR")) ∷ flag (codes "updates") ∷ [])
+
+-- query DIR TEXT [--json]
+abbrev pub query_app : App
+query_app = command_app (codes "query") (needed (position (codes "DIR")) ∷ needed (position (codes "TEXT")) ∷ flag (codes "json") ∷ [])
 
 -- merge DIR OTHER
 abbrev pub merge_app : App
@@ -94,5 +99,7 @@ pub data Asks (words : List Text) : RequestText → Type 0 where
       → given (directory_app (codes "join")) words (codes "DIR") ≡ Some directory → Asks words (join directory)
   for_export : (directory : Text) → Takes (codes "export") export_app words → given export_app words (codes "DIR") ≡ Some directory
       → Asks words (export directory (is_set (codes "updates") (matches_of export_app words)))
+  for_query : (directory text : Text) → Takes (codes "query") query_app words → given query_app words (codes "DIR") ≡ Some directory
+      → given query_app words (codes "TEXT") ≡ Some text → Asks words (query directory text (is_set (codes "json") (matches_of query_app words)))
   for_merge : (first second : Text) → Takes (codes "merge") merge_app words → given merge_app words (codes "DIR") ≡ Some first
       → given merge_app words (codes "OTHER") ≡ Some second → first ≢ second → Asks words (merge first second)

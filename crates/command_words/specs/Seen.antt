@@ -1,8 +1,8 @@
 -- What a contract sees of a request.
 use Rattle.std.specs.Prelude.{option_map}
-use Rattle.command_words.specs.Requests.{RequestText, heads, check, dump, init, keygen, apply, join, export, merge}
+use Rattle.command_words.specs.Requests.{RequestText, heads, check, dump, init, keygen, apply, join, export, query, merge}
 use Rattle.command_words.specs.declared.request.Request.{Request}
-use Rattle.command_words.specs.declared.request.Request.TheVariants.{Heads, Check, Dump, Init, Keygen, Apply, Join, Export, Merge}
+use Rattle.command_words.specs.declared.request.Request.TheVariants.{Heads, Check, Dump, Init, Keygen, Apply, Join, Export, Query, Merge}
 
 abbrev pub request_seen : Request → RequestText
 request_seen (Heads directory) = heads (option_map (λ d. d.now) directory)
@@ -13,4 +13,5 @@ request_seen (Keygen directory height width) = keygen directory.now height width
 request_seen (Apply directory) = apply directory.now
 request_seen (Join directory) = join directory.now
 request_seen (Export directory updates) = export directory.now updates
+request_seen (Query directory text json) = query directory.now text.now json
 request_seen (Merge first second) = merge first.now second.now

@@ -13,6 +13,7 @@
 //! apply DIR
 //! join DIR
 //! export DIR [--updates]
+//! query DIR TEXT [--json]
 //! merge DIR DIR
 //! ```
 //!

@@ -37,6 +37,12 @@ pub enum Request<'a> {
         directory: &'a str,
         updates: bool,
     },
+    /// `query`: what a query asks of the store in a directory, one row a line or as JSON.
+    Query {
+        directory: &'a str,
+        text: &'a str,
+        json: bool,
+    },
     /// `merge`: reconciles the stores in two directories, whose words differ.
     Merge {
         first: &'a str,

@@ -3,7 +3,7 @@
 ghost use Rattle.std.specs.Prelude.{◌≡◌, true, IfOk, MatchOption, map, option_map, string_bytes};
 ghost use Rattle.clap.specs.Words.{is_simple_and_free};
 ghost use Rattle.command_words.specs.Requests.{Asks, RequestText, height_of, width_of, directory_app};
-ghost use Rattle.command_words.specs.Commands.{request_of, request_by, heads_of, check_of, dump_of, init_of, keygen_of, keygen_by, apply_of, join_of, export_of, export_by, merge_of, merge_by, directory_of};
+ghost use Rattle.command_words.specs.Commands.{request_of, request_by, heads_of, check_of, dump_of, init_of, keygen_of, keygen_by, apply_of, join_of, export_of, export_by, query_of, query_by, merge_of, merge_by, directory_of};
 ghost use Rattle.command_words.specs.Seen.{request_seen};
 
 use crate::argument::{Argument, Form};
@@ -64,6 +64,9 @@ fn request_by<'a>(
     }
     if first == "export" {
         return export_of(alloc, words);
+    }
+    if first == "query" {
+        return query_of(alloc, words);
     }
     if first == "merge" {
         return merge_of(alloc, words);
@@ -272,6 +275,47 @@ fn export_by<'a>(given: &Given<'a>) -> Option<Request<'a>>
     let directory = given.word("DIR")?;
     let updates = given.is_set("updates");
     Some(Request::Export { directory, updates })
+}
+
+static QUERY: [Argument<'static>; 3] = [
+    Argument {
+        name: "DIR",
+        form: Form::Position,
+        required: true,
+    },
+    Argument {
+        name: "TEXT",
+        form: Form::Position,
+        required: true,
+    },
+    Argument {
+        name: "json",
+        form: Form::Flag,
+        required: false,
+    },
+];
+
+/// `query DIR TEXT [--json]`
+fn query_of<'a>(alloc: Global, words: &'a [String]) -> Result<Option<Request<'a>>, AllocError>
+    ensures { IfOk result (λ found. option_map request_seen found ≡ query_of (map string_bytes words.entry.now)) }
+{
+    match read_words(alloc, "query", &QUERY, words)? {
+        Some(given) => Ok(query_by(&given)),
+        None => Ok(None),
+    }
+}
+
+fn query_by<'a>(given: &Given<'a>) -> Option<Request<'a>>
+    ensures { option_map request_seen result ≡ query_by given.now }
+{
+    let directory = given.word("DIR")?;
+    let text = given.word("TEXT")?;
+    let json = given.is_set("json");
+    Some(Request::Query {
+        directory,
+        text,
+        json,
+    })
 }
 
 static MERGE: [Argument<'static>; 2] = [

@@ -1,6 +1,8 @@
 //! Conditions.
 
 ghost use Rattle.std.specs.Prelude.{◌≡◌, ◌↔◌, ◌≤◌, ◌^◌, Err, option_to_list, IfOk, IfErr, IsTrue};
+ghost use Rattle.expression_text.specs.Kinds.{FitsKinds};
+ghost use Rattle.expression_text.specs.Trees.{holds_tree};
 ghost use Rattle.query.specs.Columns.{names_of, names_at, slots_of, slots_at, seen_kind as kind_for, seen_kinds, kind_named};
 ghost use Rattle.query.specs.Conditions.{IsCondition, stuck_at, refused, misfit_in, misfit, misfits, misfits_named, is_unknown, is_reference, is_of_text, are_alike, kind_of, left_after, place_seen};
 ghost use Rattle.query.specs.Outcome.{IsStop};
@@ -11,12 +13,14 @@ use crate::source::{Slot, slot_of};
 use crate::stop::{Stop, Wrong};
 use crate::turn::{Stand, Turn};
 use crate::{MAX_CONDITION_WORDS, QueryKind};
-use expression_text::{Kind, Token, are_row_texts, build, has_kinds, is_expression};
-use row_check::Expr;
+use expression_text::{
+    Kind, Token, are_row_texts, build, has_kinds, is_expression, kinds_fit_rows, trees_hold,
+};
+use row_check::{Checks, Expr, Native, Relation, eval};
 use schema::Schema;
 use std::alloc::{AllocError, Global};
 use std::marker::Model;
-use update_model::TextValue;
+use update_model::{TextValue, Value};
 
 /// A condition: an expression over the columns that it names, which number in the order in which they are named.
 ///
@@ -38,6 +42,31 @@ impl Model for Condition {
     ghost view = { λ condition. record { tree = tree_of condition.expr; slots = condition.slots.items } };
 
     ghost invariant = { λ condition. IsSound (record { tree = tree_of condition.expr; slots = condition.slots.items }) };
+}
+
+impl Condition {
+    /// The columns that the condition names, in the order in which they number.
+    pub fn slots(&self) -> &[Slot]
+        ensures { result.now ≡ self.now.slots }
+    {
+        self.slots.as_slice()
+    }
+
+    /// Whether the condition is true of these values, one for each of its [`Condition::slots`]. Each is of the kind that is
+    /// seen there, or null. Only a native check takes memory.
+    pub fn holds<L: Relation, C: Checks<L>>(
+        &self,
+        alloc: Global,
+        native: &Native<L, C>,
+        values: &[Value],
+    ) -> Result<bool, AllocError>
+        requires kinds { FitsKinds (seen_kinds self.now.slots) values.now }
+        ensures { IfOk result (λ answer. answer ≡ holds_tree L.answer values.now self.now.tree) }
+    {
+        kinds_fit_rows();
+        trees_hold();
+        eval(alloc, &self.expr, values, native)
+    }
 }
 
 /// Whether words are a condition.

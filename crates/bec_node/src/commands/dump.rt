@@ -5,7 +5,7 @@ ghost use Rattle.bec_node.specs.Comes.{ReadsShelf};
 ghost use Rattle.bec_node.specs.Outcome.{ComesTo};
 ghost use Rattle.bec_node.specs.Outside.{outside};
 ghost use Rattle.bec_node.specs.Run.{HasFirstWord, Runs};
-ghost use Rattle.bec_node.specs.StoreAnswers.{ReadsStore, ShowsTables};
+ghost use Rattle.bec_node.specs.StoreAnswers.{Printing, ReadsStore, ShowsTables};
 
 use crate::bundle::bundle_schema;
 use crate::graph_tables::{printed_tables, replica_tables};
@@ -59,7 +59,7 @@ pub fn bundle_tables<S: Source>(alloc: Global, input: &mut S) -> Result<Vec<u8>,
 /// The tables of the store of a directory, as they are printed.
 pub fn dump_in<H: Shelf>(alloc: Global, shelf: &mut H, dir: &str) -> Result<Vec<u8>, Refusal>
     requires { IsTrue (H.state shelf.old).tells → IsHome (H.state shelf.old) }
-    ensures { ReadsShelf (ReadsStore ShowsTables) dir.now (H.state shelf.old) (H.state shelf.new) (H.faults shelf.old) (H.faults shelf.new) result }
+    ensures { ReadsShelf (ReadsStore (Printing ShowsTables)) dir.now (H.state shelf.old) (H.state shelf.new) (H.faults shelf.old) (H.faults shelf.new) result }
 {
     one_schema();
     let store = take_store(alloc, shelf, dir, Native::new(Luhn))?;

@@ -4,7 +4,7 @@ ghost use Rattle.store_directory.specs.Stores.{IsHome};
 ghost use Rattle.bec_node.specs.Comes.{ReadsShelf};
 ghost use Rattle.bec_node.specs.Outside.{outside};
 ghost use Rattle.bec_node.specs.Run.{HasFirstWord, Runs};
-ghost use Rattle.bec_node.specs.StoreAnswers.{ReadsStore, ShowsRecords};
+ghost use Rattle.bec_node.specs.StoreAnswers.{Printing, ReadsStore, ShowsRecords};
 
 use crate::program::run;
 use crate::refusal::Refusal;
@@ -48,7 +48,7 @@ pub fn export_in<H: Shelf>(
     updates_only: bool,
 ) -> Result<Vec<u8>, Refusal>
     requires { IsTrue (H.state shelf.old).tells → IsHome (H.state shelf.old) }
-    ensures { ReadsShelf (ReadsStore (ShowsRecords updates_only)) dir.now (H.state shelf.old) (H.state shelf.new) (H.faults shelf.old) (H.faults shelf.new) result }
+    ensures { ReadsShelf (ReadsStore (Printing (ShowsRecords updates_only))) dir.now (H.state shelf.old) (H.state shelf.new) (H.faults shelf.old) (H.faults shelf.new) result }
 {
     one_schema();
     let store = take_store(alloc, shelf, dir, Native::new(Luhn))?;

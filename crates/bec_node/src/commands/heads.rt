@@ -8,7 +8,7 @@ ghost use Rattle.bec_node.specs.Heads.{HeadsAnswer};
 ghost use Rattle.bec_node.specs.Outcome.{ComesTo};
 ghost use Rattle.bec_node.specs.Outside.{outside};
 ghost use Rattle.bec_node.specs.Run.{HasFirstWord, Runs};
-ghost use Rattle.bec_node.specs.StoreAnswers.{ReadsStore, ShowsHeads};
+ghost use Rattle.bec_node.specs.StoreAnswers.{Printing, ReadsStore, ShowsHeads};
 ghost use Rattle.bec_node.specs.Texts.{line_of, printed};
 
 use crate::heads::heads_of;
@@ -60,7 +60,7 @@ pub fn stream_heads<S: Source>(alloc: Global, input: &mut S) -> Result<Vec<u8>, 
 /// The heads of the store of a directory, as they are printed.
 pub fn heads_in<H: Shelf>(alloc: Global, shelf: &mut H, dir: &str) -> Result<Vec<u8>, Refusal>
     requires { IsTrue (H.state shelf.old).tells → IsHome (H.state shelf.old) }
-    ensures { ReadsShelf (ReadsStore ShowsHeads) dir.now (H.state shelf.old) (H.state shelf.new) (H.faults shelf.old) (H.faults shelf.new) result }
+    ensures { ReadsShelf (ReadsStore (Printing ShowsHeads)) dir.now (H.state shelf.old) (H.state shelf.new) (H.faults shelf.old) (H.faults shelf.new) result }
 {
     one_schema();
     let store = take_store(alloc, shelf, dir, Native::new(Luhn))?;

@@ -1,0 +1,5 @@
+pub mod Answers
+pub mod Json
+pub mod Lines
+pub mod Order
+pub mod Values
