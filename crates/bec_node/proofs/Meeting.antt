@@ -223,9 +223,9 @@ module _ (one other one_new other_new : ReplicaState) (start : PairStart) (ended
     (grows_other : GrowsBy (one.history.members ++ other.history.members) other.history.members other_new.history.members)
     (syncs : Syncs store_limits store_limits one.history.schema.rule other.history.schema.rule start one.history.members other.history.members ended one_new.history.members other_new.history.members)
     (unites : one.history.schema.rule ≡ other.history.schema.rule → start.database_a ≡ start.database_b → NoCollision (map entry_of one.history.members) (map entry_of other.history.members) → ended.a ≢ Full → ended.a ≢ Store
-      → Unites one.history.members other.history.members ended one_new.history.members other_new.history.members)
+    → Unites one.history.members other.history.members ended one_new.history.members other_new.history.members)
     (room : NoCollision (map entry_of one.history.members) (map entry_of other.history.members) → HasRoom store_limits one.history.members other.history.members
-      → HasRoom store_limits other.history.members one.history.members → ended.a ≢ Full)
+    → HasRoom store_limits other.history.members one.history.members → ended.a ≢ Full)
     (not_store : ended.a ≢ Store) where
   pub meets : (memory memory_other memory_new memory_other_new : List ℕ) (outcome : Outcome) → Reads memory peers → Reads memory_other peers_other → TellsEnd ended outcome
       → (ended.a ≡ Done → RemembersIn peers other.node ended.remembered_a memory_new) → (ended.a ≡ Done → RemembersIn peers_other one.node ended.remembered_b memory_other_new)
@@ -238,15 +238,15 @@ module _ (one other one_new other_new : ReplicaState) (start : PairStart) (ended
     reads_other = reads_other;
     syncs =
         subst (λ (s : PairStart). Syncs store_limits store_limits one.history.schema.rule other.history.schema.rule s one.history.members other.history.members ended
-          (one.history.members ++ grows.added) (other.history.members ++ grows_other.added)) starts
+        (one.history.members ++ grows.added) (other.history.members ++ grows_other.added)) starts
         (subst (λ (l : List (List ℕ)). Syncs store_limits store_limits one.history.schema.rule other.history.schema.rule start one.history.members other.history.members ended l
-          (other.history.members ++ grows_other.added)) grows.behind
+        (other.history.members ++ grows_other.added)) grows.behind
         (subst (λ (l : List (List ℕ)). Syncs store_limits store_limits one.history.schema.rule other.history.schema.rule start one.history.members other.history.members ended one_new.history.members l)
-          grows_other.behind syncs));
+        grows_other.behind syncs));
     unites = λ rule apart not_full.
         subst (λ (l : List (List ℕ)). Unites one.history.members other.history.members ended l (other.history.members ++ grows_other.added)) grows.behind
         (subst (λ (l : List (List ℕ)). Unites one.history.members other.history.members ended one_new.history.members l) grows_other.behind
-          (unites rule (database rule) apart not_full not_store));
+        (unites rule (database rule) apart not_full not_store));
     room = room;
     tells = tells;
     remembers = remembers;

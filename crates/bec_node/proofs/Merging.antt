@@ -136,7 +136,7 @@ module _ (dir : List ℕ) (before opened closing after : ShelfState) (taken : Op
       place_again Schema Updates dir after (stands-not-out (part_in after dir Schema) taken.schema (puts.schema_back (closing_told tells)))
       (stands-not-out (part_in after dir Updates) now.log.disk (puts.updates_back (closing_told tells))) place
       (λ away. subst (λ (p : PartState). p ≢ out) (sym (puts.others (closing_told tells) place away))
-        (places (opened_told tells) place (subst (λ (p : PartState). p ≢ out) (sym (takes.others place away)) here)))
+      (places (opened_told tells) place (subst (λ (p : PartState). p ≢ out) (sym (takes.others place away)) here)))
 
   -- where the shelf told what it had, the log was whole
   pub whole_before : IsWhole taken.replica
@@ -229,8 +229,12 @@ module _ (first second : List ℕ) (differ : first ≢ second) (before after : S
           ⊎ IsBesideFault old new one one_new outcome
       by (inl meets) = inl (λ tells.
           with_it (store_of taken.replica) (read_before is_luhn before opened second taken tells takes)
-          (rw (sym (same_memory before opened first (takes.others (slot first Peers) away)), sym (same_memory before opened second (takes.others (slot second Peers) refl)),
-            same_memory closing after first (puts.others (still tells) (slot first Peers) away), same_memory closing after second (puts.others (still tells) (slot second Peers) refl))
+          (rw (
+            sym (same_memory before opened first (takes.others (slot first Peers) away)),
+            sym (same_memory before opened second (takes.others (slot second Peers) refl)),
+            same_memory closing after first (puts.others (still tells) (slot first Peers) away),
+            same_memory closing after second (puts.others (still tells) (slot second Peers) refl),
+          )
           (meets (inside tells))))
       by (inr (inl memory)) = inr (inl memory)
       by (inr (inr (is, inl shelf))) = inr (inr (is, inl (omega (arith, one_later, two_later, shelf))))
@@ -304,9 +308,16 @@ module _ (first second : List ℕ) (differ : first ≢ second) (before after : S
         where
           beside : IsTrue before.tells → BesideAnswer (opened_store taken.replica) (readings opened second) (memory_in opened first) (memory_in opened second) (memory_in closing first) (memory_in closing second) merges.added merges.added_other outcome
               → BesideAnswer (opened_store taken.replica) (readings before second) (memory_in before first) (memory_in before second) (memory_in after first) (memory_in after second) merges.added merges.added_other outcome
-          beside tells answer = rw (sym (takes.others (slot second Schema) (away Schema)), sym (takes.others (slot second Updates) (away Updates)), sym (takes.others (slot second Key) (away Key)), sym (takes.others (slot second Used) (away Used)),
-            sym (same_memory before opened first (takes.others (slot first Peers) refl)), sym (same_memory before opened second (takes.others (slot second Peers) (away Peers))),
-            same_memory closing after first (puts.others (still tells) (slot first Peers) refl), same_memory closing after second (puts.others (still tells) (slot second Peers) (away Peers))) answer
+          beside tells answer = rw (
+            sym (takes.others (slot second Schema) (away Schema)),
+            sym (takes.others (slot second Updates) (away Updates)),
+            sym (takes.others (slot second Key) (away Key)),
+            sym (takes.others (slot second Used) (away Used)),
+            sym (same_memory before opened first (takes.others (slot first Peers) refl)),
+            sym (same_memory before opened second (takes.others (slot second Peers) (away Peers))),
+            same_memory closing after first (puts.others (still tells) (slot first Peers) refl),
+            same_memory closing after second (puts.others (still tells) (slot second Peers) (away Peers)),
+          ) answer
 
           whole : IsTrue before.tells → BesideAnswer (opened_store taken.replica) (readings before second) (memory_in before first) (memory_in before second) (memory_in after first) (memory_in after second) merges.added merges.added_other outcome
               → MergeAnswer (readings before first) (readings before second) (memory_in before first) (memory_in before second) (memory_in after first) (memory_in after second) merges.added merges.added_other outcome
