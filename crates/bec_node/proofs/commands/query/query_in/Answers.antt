@@ -1,4 +1,4 @@
-use Rattle.std.proofs.Common.{◌≡◌, ◌⊎◌, inl, inr, Err, ap, subst, sym}
+use Rattle.std.proofs.Common.{◌≡◌, ◌⊎◌, inl, inr, Err, ap, subst}
 use Rattle.std.proofs.lemmas.Result.{err_from_is_err_and}
 use Rattle.replica.specs.Replicas.{ReplicaState}
 use Rattle.store_directory.specs.Holding.{OpenData}
@@ -6,7 +6,6 @@ use Rattle.bec_node.specs.declared.refusal.Refusal.TheVariants.{Memory}
 use Rattle.bec_node.specs.Asking.{QueryAnswer}
 use Rattle.bec_node.specs.Comes.{ReadsShelf}
 use Rattle.bec_node.specs.Merging.{opened_store}
-use Rattle.bec_node.specs.Outcome.{Outcome}
 use Rattle.bec_node.specs.Standing.{Stands}
 use Rattle.bec_node.specs.StoreAnswers.{ReadsStore}
 use Rattle.bec_node.proofs.Reading.{put_slots, read_answered, read_lacked, read_refused}
