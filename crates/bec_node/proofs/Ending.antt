@@ -27,6 +27,7 @@ use Rattle.bec_node.specs.Signing.{Applies, ApplyAnswer, IsNoStop, IsSourceFault
 use Rattle.bec_node.proofs.Signs.{none_by_apply, none_by_join, signs_without_memory}
 use Rattle.bec_node.proofs.Answer.{OneAnswer}
 use Rattle.bec_node.proofs.MakersOnce.{OneOfMakers}
+use Rattle.bec_node.proofs.MergeOnce.{OneOfMerge}
 use Rattle.bec_node.proofs.StoreOnce.{OneOfParts}
 use Rattle.bec_node.proofs.Only.{only_memory, only_said, status_said}
 
@@ -120,21 +121,21 @@ abbrev pub OneRequest : Type 0
 OneRequest = (words : List (List ℕ)) (request other : RequestText) → Asks words request → Asks words other → request ≡ other
 
 module _ {S H R : Type 0} (words : List (String Global)) (before after : Outside S H R) (sink sink_new : SinkState) (status : ℕ) where
-  told : OneAnswer → OneOfParts → OneOfMakers → OneRequest → (request : RequestText) → IsCommand request words → (outcome : Outcome) → Comes request before after outcome
+  told : OneAnswer → OneOfParts → OneOfMakers → OneOfMerge → OneRequest → (request : RequestText) → IsCommand request words → (outcome : Outcome) → Comes request before after outcome
       → Says sink.faults sink_new.faults sink.held sink_new.held outcome status → Runs words before after sink sink_new status
-  told one parts makers unique request asks outcome comes said = record {
+  told one parts makers merges unique request asks outcome comes said = record {
     outcome = outcome;
     asked = named request asks comes;
     said = said;
     only = λ other is. subst (λ (q : RequestText). AnswersOnly q before status) (unique (map string_bytes words) request other asks is)
-        (only_said one parts makers before after status request outcome comes (status_said sink.faults sink_new.faults sink.held sink_new.held outcome status said));
+        (only_said one parts makers merges before after status request outcome comes (status_said sink.faults sink_new.faults sink.held sink_new.held outcome status said));
   }
 
   -- words that ask for something
-  pub runs : OneAnswer → OneOfParts → OneOfMakers → OneRequest → (request : RequestText) → IsCommand request words → (outcome : Outcome) → Comes request before after outcome
+  pub runs : OneAnswer → OneOfParts → OneOfMakers → OneOfMerge → OneRequest → (request : RequestText) → IsCommand request words → (outcome : Outcome) → Comes request before after outcome
       → Ends sink.faults sink_new.faults sink.held sink_new.held outcome status → Runs words before after sink sink_new status
-  runs one parts makers unique request asks outcome comes (inl said) = told one parts makers unique request asks outcome comes said
-  runs one parts makers unique request asks outcome comes (inr lacked) = told one parts makers unique request asks (Err Memory) (comes_lacking before after request outcome lacked.0 comes) lacked.1
+  runs one parts makers merges unique request asks outcome comes (inl said) = told one parts makers merges unique request asks outcome comes said
+  runs one parts makers merges unique request asks outcome comes (inr lacked) = told one parts makers merges unique request asks (Err Memory) (comes_lacking before after request outcome lacked.0 comes) lacked.1
 
   -- words that are none
   pub runs_none : IsNoCommand words → IsUntouched before after → Puts sink.faults sink_new.faults sink.held sink_new.held NO_COMMAND (codes "! words\n") status

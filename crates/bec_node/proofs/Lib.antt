@@ -16,3 +16,4 @@ pub mod Ending
 pub mod Bundles
 pub mod Merging
 pub mod Meeting
+pub mod MergeOnce

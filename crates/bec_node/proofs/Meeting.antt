@@ -1,12 +1,11 @@
 -- Two open stores that meet.
-use Rattle.std.proofs.Common.{◌≡◌, ◌≢◌, ◌⊎◌, inl, inr, ℕ, ◌<◌, ◌≤◌, Bool, true, false, List, [], ◌∷◌, ◌++◌, append-nil, map, refl, sym, ap, subst, ◌∙◌, IsTrue, Ok, Err, arith}
-use Rattle.std.specs.Prelude.{◌||◌, All, Contains}
-use Rattle.std.specs.List.{list_any}
+use Rattle.std.proofs.Common.{◌≡◌, ◌≢◌, ◌⊎◌, inl, inr, ℕ, ◌≤◌, Bool, true, false, List, [], ◌∷◌, ◌++◌, append-nil, map, refl, sym, ap, subst, ◌∙◌, IsTrue, Err, arith}
+use Rattle.std.specs.Prelude.{Contains}
 use Rattle.std.proofs.lemmas.Bool.{true≢false}
 use Rattle.std.proofs.lemmas.List.Elements.{All-nil}
 use Rattle.bec_disk.specs.declared.part.Part.TheVariants.{Peers}
-use Rattle.bec_disk.specs.Shelf.{PartState, ShelfState, out}
-use Rattle.bec_disk.specs.Slot.{Slot, same_slot, slot}
+use Rattle.bec_disk.specs.Shelf.{ShelfState}
+use Rattle.bec_disk.specs.Slot.{slot}
 use Rattle.update_model.specs.Batch.{store_limits}
 use Rattle.update_model.specs.Rule.{RuleData}
 use Rattle.update_codec.specs.Parts.{entry_of}
@@ -21,11 +20,11 @@ use Rattle.peer_memory.specs.declared.peer.Peer.{Peer as PeerEntry}
 use Rattle.peer_memory.specs.Payload.{Reads}
 use Rattle.replica.specs.Holding.{IsOnDisk, IsWhole, KeepsOn, keeps_itself}
 use Rattle.replica.specs.Replicas.{ReplicaState}
-use Rattle.store_directory.specs.Holding.{OpenData, WorksOn}
+use Rattle.store_directory.specs.Holding.{WorksOn}
 use Rattle.store_directory.specs.Stores.{KeepsPlaces}
 use Rattle.bec_node.specs.declared.refusal.Refusal.{Refusal}
 use Rattle.bec_node.specs.Comes.{is_done}
-use Rattle.bec_node.specs.Merging.{IsMergeFault, IsPeersFault, IsWithin, KeepsAllButIn, KeepsPeers, Meets, MergesOpen, RemembersIn, TellsEnd, memory_in, opened_store, start_of}
+use Rattle.bec_node.specs.Merging.{IsMergeFault, IsPeersFault, KeepsAllButIn, KeepsPeers, Meets, MergesOpen, RemembersIn, TellsEnd, memory_in, opened_store, start_of}
 use Rattle.bec_node.specs.Outcome.{Outcome}
 use Rattle.bec_node.specs.Signing.{WorksFrom}
 use Rattle.bec_node.specs.Standing.{Stands}
@@ -223,9 +222,9 @@ module _ (one other one_new other_new : ReplicaState) (start : PairStart) (ended
     (grows_other : GrowsBy (one.history.members ++ other.history.members) other.history.members other_new.history.members)
     (syncs : Syncs store_limits store_limits one.history.schema.rule other.history.schema.rule start one.history.members other.history.members ended one_new.history.members other_new.history.members)
     (unites : one.history.schema.rule ≡ other.history.schema.rule → start.database_a ≡ start.database_b → NoCollision (map entry_of one.history.members) (map entry_of other.history.members) → ended.a ≢ Full → ended.a ≢ Store
-      → Unites one.history.members other.history.members ended one_new.history.members other_new.history.members)
+    → Unites one.history.members other.history.members ended one_new.history.members other_new.history.members)
     (room : NoCollision (map entry_of one.history.members) (map entry_of other.history.members) → HasRoom store_limits one.history.members other.history.members
-      → HasRoom store_limits other.history.members one.history.members → ended.a ≢ Full)
+    → HasRoom store_limits other.history.members one.history.members → ended.a ≢ Full)
     (not_store : ended.a ≢ Store) where
   pub meets : (memory memory_other memory_new memory_other_new : List ℕ) (outcome : Outcome) → Reads memory peers → Reads memory_other peers_other → TellsEnd ended outcome
       → (ended.a ≡ Done → RemembersIn peers other.node ended.remembered_a memory_new) → (ended.a ≡ Done → RemembersIn peers_other one.node ended.remembered_b memory_other_new)
@@ -238,15 +237,15 @@ module _ (one other one_new other_new : ReplicaState) (start : PairStart) (ended
     reads_other = reads_other;
     syncs =
         subst (λ (s : PairStart). Syncs store_limits store_limits one.history.schema.rule other.history.schema.rule s one.history.members other.history.members ended
-          (one.history.members ++ grows.added) (other.history.members ++ grows_other.added)) starts
+        (one.history.members ++ grows.added) (other.history.members ++ grows_other.added)) starts
         (subst (λ (l : List (List ℕ)). Syncs store_limits store_limits one.history.schema.rule other.history.schema.rule start one.history.members other.history.members ended l
-          (other.history.members ++ grows_other.added)) grows.behind
+        (other.history.members ++ grows_other.added)) grows.behind
         (subst (λ (l : List (List ℕ)). Syncs store_limits store_limits one.history.schema.rule other.history.schema.rule start one.history.members other.history.members ended one_new.history.members l)
-          grows_other.behind syncs));
+        grows_other.behind syncs));
     unites = λ rule apart not_full.
         subst (λ (l : List (List ℕ)). Unites one.history.members other.history.members ended l (other.history.members ++ grows_other.added)) grows.behind
         (subst (λ (l : List (List ℕ)). Unites one.history.members other.history.members ended one_new.history.members l) grows_other.behind
-          (unites rule (database rule) apart not_full not_store));
+        (unites rule (database rule) apart not_full not_store));
     room = room;
     tells = tells;
     remembers = remembers;

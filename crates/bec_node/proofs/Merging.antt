@@ -1,22 +1,21 @@
 -- Merging the stores of two directories.
-use Rattle.std.proofs.Common.{◌≡◌, ◌≢◌, ◌⊎◌, inl, inr, ℕ, ◌<◌, ◌≤◌, Bool, true, false, List, [], ◌∷◌, ◌++◌, append-nil, refl, sym, ap, subst, ◌∙◌, IsTrue, Some, Ok, Err, arith}
-use Rattle.std.specs.Prelude.{◌||◌, All, Contains}
+use Rattle.std.proofs.Common.{◌≡◌, ◌≢◌, ◌⊎◌, inl, inr, ℕ, ◌<◌, ◌≤◌, Bool, true, false, List, [], ◌∷◌, ◌++◌, refl, sym, ap, subst, ◌∙◌, IsTrue, Some, Err, arith}
+use Rattle.std.specs.Prelude.{◌||◌, Contains}
 use Rattle.std.specs.List.{list_any}
 use Rattle.std.proofs.lemmas.Bool.{true≢false}
 use Rattle.std.proofs.lemmas.List.Elements.{All-nil}
 use Rattle.row_check.specs.Checksum.{is_luhn}
 use Rattle.bec_bytes.specs.Causes.{Rose}
-use Rattle.bec_disk.specs.Disk.{DiskState, handed_out}
+use Rattle.bec_disk.specs.Disk.{handed_out}
 use Rattle.bec_disk.specs.declared.part.Part.{Part}
 use Rattle.bec_disk.specs.declared.part.Part.TheVariants.{Schema, Updates, Key, Used, Peers}
-use Rattle.bec_disk.specs.Shelf.{PartState, ShelfState, out, stands as standing}
+use Rattle.bec_disk.specs.Shelf.{PartState, ShelfState, out}
 use Rattle.bec_disk.specs.Slot.{Slot, same_slot, slot}
-use Rattle.history.specs.Histories.{HistoryData}
 use Rattle.replica.specs.Holding.{IsWhole}
 use Rattle.replica.specs.Replicas.{ReplicaState}
-use Rattle.store_directory.specs.Holding.{IsStoreCause, LetsGo, OpenData, PutsStore, TakesStore, WorksOn}
+use Rattle.store_directory.specs.Holding.{IsStoreCause, LetsGo, OpenData, PutsStore, TakesStore}
 use Rattle.store_directory.specs.Memory.{remembered_in}
-use Rattle.store_directory.specs.Stores.{IsHome, IsStore, IsUntouched, KeepsAllBut, KeepsList, KeepsPlaces, StoreData, StoreRun, part_in, reading, with_added}
+use Rattle.store_directory.specs.Stores.{IsHome, IsStore, IsUntouched, KeepsList, KeepsPlaces, StoreData, StoreRun, part_in, reading, with_added}
 use Rattle.store_directory.specs.declared.store_refusal.StoreRefusal.{StoreRefusal}
 use Rattle.store_directory.specs.declared.store_refusal.StoreRefusal.TheVariants as store_refusals
 use Rattle.store_directory.proofs.Handing.{list_as_it_was, untouched_by}
@@ -24,14 +23,13 @@ use Rattle.store_directory.proofs.Places.{place_again, same_place, stands-not-ou
 use Rattle.store_directory.proofs.Putting.{slot_of, told}
 use Rattle.store_directory.proofs.Readings.{OneSchema, same_store}
 use Rattle.store_directory.proofs.Working.{read_before, store_of, worked_run}
-use Rattle.bec_node.specs.declared.refusal.Refusal.{Refusal}
 use Rattle.bec_node.specs.declared.refusal.Refusal.TheVariants as refusals
 use Rattle.bec_node.specs.Comes.{IsShelfFault, is_done, readings}
 use Rattle.bec_node.specs.Merging.{BesideAnswer, IsBesideFault, IsMergeFault, IsWithin, KeepsAllButIn, Meets, MergeAnswer, MergesBeside, MergesOpen, MergesStores, memory_in, opened_store, touched, with_both, with_it, without, without_first, without_second}
 use Rattle.bec_node.specs.Outcome.{Outcome, from_store}
 use Rattle.bec_node.specs.Signing.{WorksFrom}
 use Rattle.bec_node.specs.Standing.{Stands}
-use Rattle.bec_node.specs.StoreAnswers.{HasStore, Readings, RefusesStore, bad_store, no_store}
+use Rattle.bec_node.specs.StoreAnswers.{bad_store, no_store}
 use Rattle.bec_node.proofs.Signs.{works_not}
 
 abbrev pub no_updates : List (List ℕ)
@@ -136,7 +134,7 @@ module _ (dir : List ℕ) (before opened closing after : ShelfState) (taken : Op
       place_again Schema Updates dir after (stands-not-out (part_in after dir Schema) taken.schema (puts.schema_back (closing_told tells)))
       (stands-not-out (part_in after dir Updates) now.log.disk (puts.updates_back (closing_told tells))) place
       (λ away. subst (λ (p : PartState). p ≢ out) (sym (puts.others (closing_told tells) place away))
-        (places (opened_told tells) place (subst (λ (p : PartState). p ≢ out) (sym (takes.others place away)) here)))
+      (places (opened_told tells) place (subst (λ (p : PartState). p ≢ out) (sym (takes.others place away)) here)))
 
   -- where the shelf told what it had, the log was whole
   pub whole_before : IsWhole taken.replica
@@ -229,8 +227,12 @@ module _ (first second : List ℕ) (differ : first ≢ second) (before after : S
           ⊎ IsBesideFault old new one one_new outcome
       by (inl meets) = inl (λ tells.
           with_it (store_of taken.replica) (read_before is_luhn before opened second taken tells takes)
-          (rw (sym (same_memory before opened first (takes.others (slot first Peers) away)), sym (same_memory before opened second (takes.others (slot second Peers) refl)),
-            same_memory closing after first (puts.others (still tells) (slot first Peers) away), same_memory closing after second (puts.others (still tells) (slot second Peers) refl))
+          (rw (
+            sym (same_memory before opened first (takes.others (slot first Peers) away)),
+            sym (same_memory before opened second (takes.others (slot second Peers) refl)),
+            same_memory closing after first (puts.others (still tells) (slot first Peers) away),
+            same_memory closing after second (puts.others (still tells) (slot second Peers) refl),
+          )
           (meets (inside tells))))
       by (inr (inl memory)) = inr (inl memory)
       by (inr (inr (is, inl shelf))) = inr (inr (is, inl (omega (arith, one_later, two_later, shelf))))
@@ -304,9 +306,16 @@ module _ (first second : List ℕ) (differ : first ≢ second) (before after : S
         where
           beside : IsTrue before.tells → BesideAnswer (opened_store taken.replica) (readings opened second) (memory_in opened first) (memory_in opened second) (memory_in closing first) (memory_in closing second) merges.added merges.added_other outcome
               → BesideAnswer (opened_store taken.replica) (readings before second) (memory_in before first) (memory_in before second) (memory_in after first) (memory_in after second) merges.added merges.added_other outcome
-          beside tells answer = rw (sym (takes.others (slot second Schema) (away Schema)), sym (takes.others (slot second Updates) (away Updates)), sym (takes.others (slot second Key) (away Key)), sym (takes.others (slot second Used) (away Used)),
-            sym (same_memory before opened first (takes.others (slot first Peers) refl)), sym (same_memory before opened second (takes.others (slot second Peers) (away Peers))),
-            same_memory closing after first (puts.others (still tells) (slot first Peers) refl), same_memory closing after second (puts.others (still tells) (slot second Peers) (away Peers))) answer
+          beside tells answer = rw (
+            sym (takes.others (slot second Schema) (away Schema)),
+            sym (takes.others (slot second Updates) (away Updates)),
+            sym (takes.others (slot second Key) (away Key)),
+            sym (takes.others (slot second Used) (away Used)),
+            sym (same_memory before opened first (takes.others (slot first Peers) refl)),
+            sym (same_memory before opened second (takes.others (slot second Peers) (away Peers))),
+            same_memory closing after first (puts.others (still tells) (slot first Peers) refl),
+            same_memory closing after second (puts.others (still tells) (slot second Peers) (away Peers)),
+          ) answer
 
           whole : IsTrue before.tells → BesideAnswer (opened_store taken.replica) (readings before second) (memory_in before first) (memory_in before second) (memory_in after first) (memory_in after second) merges.added merges.added_other outcome
               → MergeAnswer (readings before first) (readings before second) (memory_in before first) (memory_in before second) (memory_in after first) (memory_in after second) merges.added merges.added_other outcome

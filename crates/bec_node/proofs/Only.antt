@@ -14,6 +14,7 @@ use Rattle.bec_node.specs.Comes.{IsShelfFault, ReadsStoreOnly, RunsStore, readin
 use Rattle.bec_node.specs.Creating.{DrawsKeyOnly, InitAnswer, IsInitFault, KeygenAnswer}
 use Rattle.bec_node.specs.Heads.{HeadsAnswer}
 use Rattle.bec_node.specs.Verdict.{CheckAnswer}
+use Rattle.bec_node.specs.Merging.{IsSureOfMerge, MayMerge, MergeAnswer, Merges, memory_in}
 use Rattle.bec_node.specs.Outcome.{ComesTo, Outcome, Says, status_for, status_of}
 use Rattle.bec_node.specs.Outside.{Outside}
 use Rattle.bec_node.specs.Run.{AnswersOnly, Comes, EachAs, ShelfOnly, SignOnly, SourceOnly}
@@ -22,6 +23,7 @@ use Rattle.bec_node.specs.Asking.{QueryAnswer}
 use Rattle.bec_node.specs.StoreAnswers.{Readings, Printing, ReadsStore, ShowsHeads, ShowsRecords, ShowsTables}
 use Rattle.bec_node.proofs.Answer.{IsOneAnswer, OneAnswer}
 use Rattle.bec_node.proofs.MakersOnce.{OneOfMakers, used_or_not}
+use Rattle.bec_node.proofs.MergeOnce.{OneOfMerge}
 use Rattle.bec_node.proofs.StoreOnce.{IsOneOfParts, OneOfParts}
 
 -- the status is the outcome's own, or a stream fault's
@@ -109,10 +111,10 @@ only_memory (apply dir) before status is = apply_fault dir before before.left st
 only_memory (join dir) before status is = shelf_fault (StoreAnswer (Unit {0}) (JoinAnswer before.stream)) dir before.store status (inr (inr is))
 only_memory (export dir updates_only) before status is = shelf_fault (ReadsStore (Printing (ShowsRecords updates_only))) dir before.store status (inr (inr is))
 only_memory (query dir text json) before status is = shelf_fault (ReadsStore (QueryAnswer text json)) dir before.store status (inr (inr is))
-only_memory (merge first second) before status is = tt
+only_memory (merge first second) before status is = λ tells. each_fault (IsSureOfMerge (readings before.store first) (readings before.store second)) status (inr (inr is))
 
 -- an outcome that came and was said
-module _ {S H R : Type 0} (one : OneAnswer) (parts : OneOfParts) (makers : OneOfMakers) (before after : Outside S H R) (status : ℕ) where
+module _ {S H R : Type 0} (one : OneAnswer) (parts : OneOfParts) (makers : OneOfMakers) (merges : OneOfMerge) (before after : Outside S H R) (status : ℕ) where
   source_only : (Answer : Option (List ℕ) → Option (List ℕ) → Outcome → Type 0) → IsOneAnswer Answer → (outcome : Outcome)
       → ComesTo Answer before.left after.left before.source_faults after.source_faults outcome → IsSaidAs outcome status → SourceOnly Answer before.left status
   source_only Answer single outcome comes said = source_said Answer single before.left after.left before.source_faults after.source_faults outcome status comes said
@@ -192,6 +194,28 @@ module _ {S H R : Type 0} (one : OneAnswer) (parts : OneOfParts) (makers : OneOf
       applied (inl answers) = inl (answers tells)
       applied (inr failed) = inr failed.0
 
+  merge_only : (first second : List ℕ) (outcome : Outcome) → Merges first second before after outcome → IsSaidAs outcome status
+      → IsTrue before.store.tells → EachAs (IsSureOfMerge (readings before.store first) (readings before.store second)) status
+  merge_only first second outcome comes said tells =
+      told_only (IsShelfFault before.shelf_faults after.shelf_faults) (MayMerge (readings before.store first) (readings before.store second))
+      (IsSureOfMerge (readings before.store first) (readings before.store second)) outcome
+      (λ given came sure. merges (readings before.store first) (readings before.store second) outcome given came sure)
+      (fault_status before.shelf_faults after.shelf_faults outcome) (may comes.stores.comes) said
+    where
+      may : (IsTrue before.store.tells → MergeAnswer (readings before.store first) (readings before.store second) (memory_in before.store first) (memory_in before.store second)
+          (memory_in after.store first) (memory_in after.store second) comes.stores.added comes.stores.added_other outcome) ⊎ IsShelfFault before.shelf_faults after.shelf_faults outcome
+          → MayMerge (readings before.store first) (readings before.store second) outcome ⊎ IsShelfFault before.shelf_faults after.shelf_faults outcome
+      may (inl answers) = inl (
+        memory_in before.store first,
+        memory_in before.store second,
+        memory_in after.store first,
+        memory_in after.store second,
+        comes.stores.added,
+        comes.stores.added_other,
+        answers tells,
+      )
+      may (inr fault) = inr fault
+
   pub only_said : (request : RequestText) (outcome : Outcome) → Comes request before after outcome → IsSaidAs outcome status → AnswersOnly request before status
   only_said (heads None) outcome comes said = source_only HeadsAnswer one.heads outcome comes.comes said
   only_said (heads (Some dir)) outcome comes said = read_only (Printing ShowsHeads) parts.heads dir outcome comes said
@@ -204,4 +228,4 @@ module _ {S H R : Type 0} (one : OneAnswer) (parts : OneOfParts) (makers : OneOf
   only_said (join dir) outcome comes said = join_only dir outcome comes said
   only_said (export dir updates_only) outcome comes said = read_only (Printing (ShowsRecords updates_only)) (parts.export updates_only) dir outcome comes said
   only_said (query dir text json) outcome comes said = read_only (QueryAnswer text json) (parts.query text json) dir outcome comes said
-  only_said (merge first second) outcome comes said = tt
+  only_said (merge first second) outcome comes said = merge_only first second outcome comes said

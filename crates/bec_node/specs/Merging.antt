@@ -1,5 +1,5 @@
 -- What `merge` answers over the stores of two directories, and what it leaves.
-use Rattle.std.specs.Prelude.{◌≡◌, ◌≢◌, ◌⊎◌, ℕ, ◌≤◌, Bool, false, List, [], ◌∷◌, ◌++◌, All, Contains, IsTrue, Err, Option, map}
+use Rattle.std.specs.Prelude.{◌≡◌, ◌≢◌, ◌⊎◌, ℕ, ◌≤◌, true, false, List, [], ◌∷◌, ◌++◌, All, Contains, IsTrue, Err, map}
 use Rattle.std.specs.List.{list_any}
 use Rattle.row_check.specs.Checksum.{is_luhn}
 use Rattle.bec_bytes.specs.Causes.{Rose}
@@ -91,6 +91,19 @@ pub data MergeAnswer (parts parts_other : Readings) (memory memory_other memory_
       → MergeAnswer parts parts_other memory memory_other memory_new memory_other_new added added_other outcome
   with_both : (one other : StoreData) → HasStore parts one → HasStore parts_other other → Meets one other memory memory_other memory_new memory_other_new added added_other outcome
       → MergeAnswer parts parts_other memory memory_other memory_new memory_other_new added added_other outcome
+
+-- What `merge` may answer to what both directories read as, whatever they remember and whatever it leaves.
+abbrev pub MayMerge : Readings → Readings → Outcome → Type 0
+MayMerge parts parts_other outcome = (memory : List ℕ) × (memory_other : List ℕ) × (memory_new : List ℕ) × (memory_other_new : List ℕ) × (added : List (List ℕ)) × (added_other : List (List ℕ))
+    × MergeAnswer parts parts_other memory memory_other memory_new memory_other_new added added_other outcome
+
+-- Of these the answers that exclude each other one: a store is refused; or it is done, where both stores have one rule, no two of their updates share an
+-- id, and their union is within the limits.
+pub data IsSureOfMerge (parts parts_other : Readings) (outcome : Outcome) : Type 0 where
+  first_refused : (refusal : Refusal) → RefusesStore parts refusal → outcome ≡ Err refusal → IsSureOfMerge parts parts_other outcome
+  second_refused : (one : StoreData) (refusal : Refusal) → HasStore parts one → RefusesStore parts_other refusal → outcome ≡ Err refusal → IsSureOfMerge parts parts_other outcome
+  united : (one other : StoreData) → HasStore parts one → HasStore parts_other other → one.schema.rule ≡ other.schema.rule → NoCollision (map entry_of one.members) (map entry_of other.members)
+      → HasRoom store_limits one.members other.members → HasRoom store_limits other.members one.members → is_done outcome ≡ true → IsSureOfMerge parts parts_other outcome
 
 -- the parts of a directory that a merge may touch
 abbrev pub touched : List Part

@@ -11,7 +11,7 @@ use Rattle.bec_node.specs.Bundle.{DumpAnswer}
 use Rattle.bec_node.specs.Comes.{ReadsStoreOnly, readings}
 use Rattle.bec_node.specs.Creating.{DrawsKeyOnly, InitAnswer, Inits, KeygenAnswer}
 use Rattle.bec_node.specs.Heads.{HeadsAnswer}
-use Rattle.bec_node.specs.Merging.{Merges}
+use Rattle.bec_node.specs.Merging.{IsSureOfMerge, Merges}
 use Rattle.bec_node.specs.Outcome.{ComesTo, Outcome, Says, status_of}
 use Rattle.bec_node.specs.Outside.{IsUntouched, Outside, SinkState}
 use Rattle.bec_node.specs.Signing.{Applies, IsSureOfApply, JoinAnswer, JoinsHeads, SignAnswer, StoreAnswer}
@@ -79,7 +79,8 @@ abbrev pub SignOnly : SignAnswer → List ℕ → ShelfState → ℕ → Type 0
 SignOnly Answer dir shelf status = ShelfOnly (StoreAnswer (Unit {0}) Answer) dir shelf status
 
 -- Each answer that a request has to what stands outside comes with its status, unless a disk or a stream failed or memory ran out. Of
--- `apply` it is each refusal that comes before the operations are judged, and every answer where none is that they are invalid.
+-- `apply` it is each refusal that comes before the operations are judged, and every answer where none is that they are invalid; of `merge` each refusal of
+-- a store, and that it is done where nothing stands in the way.
 abbrev pub AnswersOnly : {S H R : Type 0} → RequestText → Outside S H R → ℕ → Type 0
 AnswersOnly (heads None) before status = SourceOnly HeadsAnswer before.left status
 AnswersOnly (heads (Some dir)) before status = ShelfOnly (ReadsStore (Printing ShowsHeads)) dir before.store status
@@ -94,7 +95,7 @@ AnswersOnly (apply dir) before status = IsTrue before.store.tells → IfSome bef
 AnswersOnly (join dir) before status = SignOnly (JoinAnswer before.stream) dir before.store status
 AnswersOnly (export dir updates_only) before status = ShelfOnly (ReadsStore (Printing (ShowsRecords updates_only))) dir before.store status
 AnswersOnly (query dir text json) before status = ShelfOnly (ReadsStore (QueryAnswer text json)) dir before.store status
-AnswersOnly (merge first second) before status = Unit {0}
+AnswersOnly (merge first second) before status = IsTrue before.store.tells → EachAs (IsSureOfMerge (readings before.store first) (readings before.store second)) status
 
 -- A run of the program: the words and what stands outside ask for an outcome, the sink is told it, and the status is its own.
 pub record Runs {S H R : Type 0} (words : List (String Global)) (before after : Outside S H R) (sink sink_new : SinkState) (status : ℕ) : Type 0 where

@@ -8,6 +8,7 @@ ghost use Rattle.std.specs.declared.option.Option.{Option as Told};
 ghost use Rattle.bec_node.specs.Bundle.{DumpAnswer};
 ghost use Rattle.bec_node.specs.Creating.{InitAnswer, KeygenAnswer};
 ghost use Rattle.bec_node.specs.Heads.{HeadsAnswer};
+ghost use Rattle.bec_node.specs.Merging.{IsSureOfMerge, MayMerge};
 ghost use Rattle.bec_node.specs.Outcome.{Outcome, status_of, text_of};
 ghost use Rattle.bec_node.specs.Signing.{IsSureOfApply, JoinAnswer, MayApply, StoreAnswer};
 ghost use Rattle.bec_node.specs.Asking.{QueryAnswer};
@@ -90,4 +91,13 @@ pub fn one_answer_of_makers()
     refused_once();
     store_or_not();
     taken_or_refused();
+}
+
+/// What the parts of two directories read as has one answer to `merge`, as far as it is sure: a store is refused, or both go
+/// together and have room, and it is done.
+pub fn one_answer_of_merge()
+    ensures { (parts other : Readings) (outcome given : Outcome) → MayMerge parts other outcome → IsSureOfMerge parts other given → status_of outcome ≡ status_of given }
+{
+    one_store();
+    store_or_not();
 }

@@ -50,6 +50,6 @@ pub use commands::keygen::command_keygen;
 pub use commands::merge::command_merge;
 pub use commands::query::command_query;
 pub use heads::heads_of;
-pub use laws::{one_answer, one_answer_of_makers, one_answer_of_parts};
+pub use laws::{one_answer, one_answer_of_makers, one_answer_of_merge, one_answer_of_parts};
 pub use program::run;
 pub use refusal::Refusal;

@@ -15,7 +15,7 @@ use crate::commands::join::join_in;
 use crate::commands::keygen::keygen_in;
 use crate::commands::merge::merge_in;
 use crate::commands::query::query_in;
-use crate::laws::{one_answer, one_answer_of_makers, one_answer_of_parts};
+use crate::laws::{one_answer, one_answer_of_makers, one_answer_of_merge, one_answer_of_parts};
 use crate::lines::no_command;
 use crate::refusal::Refusal;
 use crate::reply::finish;
@@ -48,6 +48,7 @@ pub fn run<H: Shelf, R: Rng, S: Source, K: Sink>(
 {
     one_answer();
     one_answer_of_makers();
+    one_answer_of_merge();
     one_answer_of_parts();
     one_request();
     let Ok(asked) = request_in(alloc, words) else {

@@ -3,7 +3,9 @@ ghost use Rattle.bec_node.specs.declared.refusal.Refusal.TheVariants.{Memory};
 ghost use Rattle.bec_node.specs.Outcome.{status_for, from_creating, from_creating_key, from_disk, from_key, from_make, from_query, from_reading, from_store, from_taking, from_text};
 ghost use Rattle.lms_tree.specs.LmsKind.{leaf_count};
 
-use crate::status::{FULL, NO_COMMAND, OUT_OF_MEMORY, PEER, REFUSED, STORE, STORE_FAULT, STREAM_FAULT};
+use crate::status::{
+    FULL, NO_COMMAND, OUT_OF_MEMORY, PEER, REFUSED, STORE, STORE_FAULT, STREAM_FAULT,
+};
 use bec_bytes::ReadError;
 use bec_disk::{Disk, DiskError};
 use confluence_test::SchemaRefusal;

@@ -114,8 +114,22 @@ fn merge_open<H: Shelf>(
     let ended = ended?;
     match ended.a {
         End::Done => {
-            keep_peers(alloc, shelf, first, peers, other.node(), &ended.remembered_a)?;
-            keep_peers(alloc, shelf, second, peers_other, one.node(), &ended.remembered_b)?;
+            keep_peers(
+                alloc,
+                shelf,
+                first,
+                peers,
+                other.node(),
+                &ended.remembered_a,
+            )?;
+            keep_peers(
+                alloc,
+                shelf,
+                second,
+                peers_other,
+                one.node(),
+                &ended.remembered_b,
+            )?;
             Ok(merged_lines(alloc, &ended)?)
         }
         End::Peer(fault) => Err(Refusal::Peer(fault)),

@@ -32,10 +32,10 @@ returns g c =
     let laws = c.one_answer.ensures in
     let one : OneAnswer = record { heads = laws.heads; check = laws.check; dump = laws.dump } in
     let stored = c.one_answer_of_parts.ensures in
-    let parts : OneOfParts = record { heads = stored.heads; dump = stored.dump; export = stored.export } in
+    let parts : OneOfParts = record { heads = stored.heads; dump = stored.dump; export = stored.export; query = stored.query } in
     let made = c.one_answer_of_makers.ensures in
     let makers : OneOfMakers = record { init = made.init; keygen = made.keygen; apply = made.apply; join = made.join } in
-    runs c.args.words.now seen then sink sink_new c.finish.result one parts makers c.one_request.ensures (request_seen c.in-Some.request) asks
+    runs c.args.words.now seen then sink sink_new c.finish.result one parts makers c.one_answer_of_merge.ensures c.one_request.ensures (request_seen c.in-Some.request) asks
     c.outcome_of-outcome.result c.outcome_of-outcome.ensures c.finish.ensures
 
 pub outcome_of-outcome-requires-clause-apart : goal.outcome_of-outcome-requires-clause-apart

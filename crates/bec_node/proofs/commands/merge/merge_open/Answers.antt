@@ -1,7 +1,7 @@
-use Rattle.std.proofs.Common.{◌≡◌, ◌≢◌, ◌≤◌, IsTrue, List, ℕ, Bool, true, false, Ok, Err, ap, inl, inr, refl, sym, subst, ◌∙◌, arith}
+use Rattle.std.proofs.Common.{IsTrue, List, ℕ, true, false, Ok, Err, inl, inr, refl, sym, subst, ◌∙◌, arith}
 use Rattle.std.proofs.lemmas.Bool.{true≢false}
 use Rattle.std.proofs.lemmas.Result.{err_from_is_err_and}
-use Rattle.session_rules.specs.declared.end.End.TheVariants.{Done, Peer, Full, Store}
+use Rattle.session_rules.specs.declared.end.End.TheVariants.{Done, Store}
 use Rattle.bec_node.specs.Merging.{RemembersIn, done, full, memory_in, peer}
 use Rattle.bec_node.proofs.Meeting.{KeepsBoth, ReadsBoth, Shelved, both_kept, both_read, is_done_end, is_store_end, meets, merges_open, met_by, open_stopped, peers_fault, shelved_first, shelved_none, shelved_second, told_apart}
 use Rattle.bec_node.proofs.commands.merge.merge_open.Goals as goal
@@ -48,7 +48,7 @@ returns-in_err-start g c =
     let r = c.in_ok-peers.ensures in
     let s = c.in_ok-peers_other.ensures in
     let read : ReadsBoth c.args.first.now c.args.second.now before then old counted c.in_ok-peers.peers c.in_ok-peers_other.peers_other =
-        both_read c.args.first.now c.args.second.now c.requires.differ before mid then old between counted c.in_ok-peers.peers c.in_ok-peers_other.peers_other r.keeps s.keeps r.later s.later r.reads s.reads in
+    both_read c.args.first.now c.args.second.now c.requires.differ before mid then old between counted c.in_ok-peers.peers c.in_ok-peers_other.peers_other r.keeps s.keeps r.later s.later r.reads s.reads in
     rw (p.1, p.2) (open_stopped c.args.first.now c.args.second.now before after old new c.args.one.now c.args.other.now _ c.each_stands.ensures c.each_stands-2.ensures read.shelf (inl refl))
 
 pub returns-in_err-ended : goal.returns-in_err-ended
@@ -65,14 +65,14 @@ returns-in_err-ended g c =
     let r = c.in_ok-peers.ensures in
     let s = c.in_ok-peers_other.ensures in
     let read : ReadsBoth c.args.first.now c.args.second.now before then old counted c.in_ok-peers.peers c.in_ok-peers_other.peers_other =
-        both_read c.args.first.now c.args.second.now c.requires.differ before mid then old between counted c.in_ok-peers.peers c.in_ok-peers_other.peers_other r.keeps s.keeps r.later s.later r.reads s.reads in
+    both_read c.args.first.now c.args.second.now c.requires.differ before mid then old between counted c.in_ok-peers.peers c.in_ok-peers_other.peers_other r.keeps s.keeps r.later s.later r.reads s.reads in
     let e = c.in_err-ended.ensures in
     let one = c.args.one.now in
     let other = c.args.other.now in
     let one_new = c.sync_pair-ended.new.a in
     let other_new = c.sync_pair-ended.new.b in
     let met = met_by one other one_new other_new false c.each_stands.ensures c.each_stands-2.ensures c.each_stands-3.ensures c.each_stands-4.ensures e.keeps_a e.keeps_b e.moves_a.grows e.moves_b.grows e.moves_a.later e.moves_b.later
-        (λ is_done. absurd (true≢false (sym is_done))) in
+    (λ is_done. absurd (true≢false (sym is_done))) in
     rw (p.1, p.2) (merges_open c.args.first.now c.args.second.now before after old new one other one_new other_new (Err _) read.shelf met (inr (inl refl)))
 
 pub returns-in_err-keep_peers-in-Done : goal.returns-in_err-keep_peers-in-Done
@@ -89,14 +89,14 @@ returns-in_err-keep_peers-in-Done g c =
     let r = c.in_ok-peers.ensures in
     let s = c.in_ok-peers_other.ensures in
     let read : ReadsBoth c.args.first.now c.args.second.now before then old counted c.in_ok-peers.peers c.in_ok-peers_other.peers_other =
-        both_read c.args.first.now c.args.second.now c.requires.differ before mid then old between counted c.in_ok-peers.peers c.in_ok-peers_other.peers_other r.keeps s.keeps r.later s.later r.reads s.reads in
+    both_read c.args.first.now c.args.second.now c.requires.differ before mid then old between counted c.in_ok-peers.peers c.in_ok-peers_other.peers_other r.keeps s.keeps r.later s.later r.reads s.reads in
     let e = c.in_ok-ended.ensures in
     let one = c.args.one.now in
     let other = c.args.other.now in
     let one_new = c.sync_pair-ended.new.a in
     let other_new = c.sync_pair-ended.new.b in
     let met = met_by one other one_new other_new false c.each_stands.ensures c.each_stands-2.ensures c.each_stands-3.ensures c.each_stands-4.ensures e.keeps_a e.keeps_b e.moves_a.grows e.moves_b.grows e.moves_a.later e.moves_b.later
-        (λ is_done. absurd (true≢false (sym is_done))) in
+    (λ is_done. absurd (true≢false (sym is_done))) in
     let k = c.in_err-keep_peers-in-Done.ensures in
     let shelf : Shelved c.args.first.now c.args.second.now before after old new = shelved_first c.args.first.now c.args.second.now before old then after counted new read.shelf k.later k.keeps in
     rw (p.1, p.2) (merges_open c.args.first.now c.args.second.now before after old new one other one_new other_new (Err c.in_err-keep_peers-in-Done.field-0.0) shelf met
@@ -116,14 +116,14 @@ returns-in_err-keep_peers-in-Done-2 g c =
     let r = c.in_ok-peers.ensures in
     let s = c.in_ok-peers_other.ensures in
     let read : ReadsBoth c.args.first.now c.args.second.now before then old counted c.in_ok-peers.peers c.in_ok-peers_other.peers_other =
-        both_read c.args.first.now c.args.second.now c.requires.differ before mid then old between counted c.in_ok-peers.peers c.in_ok-peers_other.peers_other r.keeps s.keeps r.later s.later r.reads s.reads in
+    both_read c.args.first.now c.args.second.now c.requires.differ before mid then old between counted c.in_ok-peers.peers c.in_ok-peers_other.peers_other r.keeps s.keeps r.later s.later r.reads s.reads in
     let e = c.in_ok-ended.ensures in
     let one = c.args.one.now in
     let other = c.args.other.now in
     let one_new = c.sync_pair-ended.new.a in
     let other_new = c.sync_pair-ended.new.b in
     let met = met_by one other one_new other_new false c.each_stands.ensures c.each_stands-2.ensures c.each_stands-3.ensures c.each_stands-4.ensures e.keeps_a e.keeps_b e.moves_a.grows e.moves_b.grows e.moves_a.later e.moves_b.later
-        (λ is_done. absurd (true≢false (sym is_done))) in
+    (λ is_done. absurd (true≢false (sym is_done))) in
     let wrote = g.H.Shelf.state c.keep_peers.new.shelf in
     let writing = g.H.Counted.faults c.keep_peers.new.shelf in
     let k = c.in_ok-keep_peers-in-Done.ensures in
@@ -147,14 +147,14 @@ returns-in_err-merged_lines-in-Done g c =
     let r = c.in_ok-peers.ensures in
     let s = c.in_ok-peers_other.ensures in
     let read : ReadsBoth c.args.first.now c.args.second.now before then old counted c.in_ok-peers.peers c.in_ok-peers_other.peers_other =
-        both_read c.args.first.now c.args.second.now c.requires.differ before mid then old between counted c.in_ok-peers.peers c.in_ok-peers_other.peers_other r.keeps s.keeps r.later s.later r.reads s.reads in
+    both_read c.args.first.now c.args.second.now c.requires.differ before mid then old between counted c.in_ok-peers.peers c.in_ok-peers_other.peers_other r.keeps s.keeps r.later s.later r.reads s.reads in
     let e = c.in_ok-ended.ensures in
     let one = c.args.one.now in
     let other = c.args.other.now in
     let one_new = c.sync_pair-ended.new.a in
     let other_new = c.sync_pair-ended.new.b in
     let met = met_by one other one_new other_new false c.each_stands.ensures c.each_stands-2.ensures c.each_stands-3.ensures c.each_stands-4.ensures e.keeps_a e.keeps_b e.moves_a.grows e.moves_b.grows e.moves_a.later e.moves_b.later
-        (λ is_done. absurd (true≢false (sym is_done))) in
+    (λ is_done. absurd (true≢false (sym is_done))) in
     let wrote = g.H.Shelf.state c.keep_peers.new.shelf in
     let writing = g.H.Counted.faults c.keep_peers.new.shelf in
     let k = c.in_ok-keep_peers-in-Done.ensures in
@@ -176,14 +176,14 @@ returns-in_ok-merged_lines-in-Done g c =
     let r = c.in_ok-peers.ensures in
     let s = c.in_ok-peers_other.ensures in
     let read : ReadsBoth c.args.first.now c.args.second.now before then old counted c.in_ok-peers.peers c.in_ok-peers_other.peers_other =
-        both_read c.args.first.now c.args.second.now c.requires.differ before mid then old between counted c.in_ok-peers.peers c.in_ok-peers_other.peers_other r.keeps s.keeps r.later s.later r.reads s.reads in
+    both_read c.args.first.now c.args.second.now c.requires.differ before mid then old between counted c.in_ok-peers.peers c.in_ok-peers_other.peers_other r.keeps s.keeps r.later s.later r.reads s.reads in
     let e = c.in_ok-ended.ensures in
     let one = c.args.one.now in
     let other = c.args.other.now in
     let one_new = c.sync_pair-ended.new.a in
     let other_new = c.sync_pair-ended.new.b in
     let met = met_by one other one_new other_new true c.each_stands.ensures c.each_stands-2.ensures c.each_stands-3.ensures c.each_stands-4.ensures e.keeps_a e.keeps_b e.moves_a.grows e.moves_b.grows e.moves_a.later e.moves_b.later
-        (λ is_done was was_other. e.whole was was_other c.in-Done.is) in
+    (λ is_done was was_other. e.whole was was_other c.in-Done.is) in
     let wrote = g.H.Shelf.state c.keep_peers.new.shelf in
     let writing = g.H.Counted.faults c.keep_peers.new.shelf in
     let k = c.in_ok-keep_peers-in-Done.ensures in
@@ -193,9 +193,9 @@ returns-in_ok-merged_lines-in-Done g c =
     let node_is = c.node.ensures ∙ e.keeps_b.store.node in
     let node_other_is = c.node-in-Done.ensures ∙ e.keeps_a.store.node in
     let kept : KeepsBoth c.args.first.now c.args.second.now then after c.in_ok-peers.peers c.in_ok-peers_other.peers_other one.node other.node c.in_ok-ended.ended =
-        both_kept c.args.first.now c.args.second.now c.requires.differ then wrote after c.in_ok-peers.peers c.in_ok-peers_other.peers_other one.node other.node c.in_ok-ended.ended k.keeps l.keeps
-        (λ tells. subst (λ (node : List ℕ). RemembersIn c.in_ok-peers.peers node c.in_ok-ended.ended.remembered_a (memory_in wrote c.args.first.now)) node_is (k.remembers tells))
-        (λ tells. subst (λ (node : List ℕ). RemembersIn c.in_ok-peers_other.peers_other node c.in_ok-ended.ended.remembered_b (memory_in after c.args.second.now)) node_other_is (l.remembers tells)) in
+    both_kept c.args.first.now c.args.second.now c.requires.differ then wrote after c.in_ok-peers.peers c.in_ok-peers_other.peers_other one.node other.node c.in_ok-ended.ended k.keeps l.keeps
+    (λ tells. subst (λ (node : List ℕ). RemembersIn c.in_ok-peers.peers node c.in_ok-ended.ended.remembered_a (memory_in wrote c.args.first.now)) node_is (k.remembers tells))
+    (λ tells. subst (λ (node : List ℕ). RemembersIn c.in_ok-peers_other.peers_other node c.in_ok-ended.ended.remembered_b (memory_in after c.args.second.now)) node_other_is (l.remembers tells)) in
     merges_open c.args.first.now c.args.second.now before after old new one other one_new other_new (Ok c.in_ok-merged_lines-in-Done.field-0) shelf met
     (inl (λ tells. meets one other one_new other_new c.in_ok-start.start c.in_ok-ended.ended c.in_ok-peers.peers c.in_ok-peers_other.peers_other c.in_ok-start.ensures.is e.moves_a.grows e.moves_b.grows e.syncs e.unites e.room
     (λ is. told_apart is_store_end c.in_ok-ended.ended.a _ Store refl refl c.in-Done.is is)
@@ -215,14 +215,14 @@ returns-in-Peer g c =
     let r = c.in_ok-peers.ensures in
     let s = c.in_ok-peers_other.ensures in
     let read : ReadsBoth c.args.first.now c.args.second.now before then old counted c.in_ok-peers.peers c.in_ok-peers_other.peers_other =
-        both_read c.args.first.now c.args.second.now c.requires.differ before mid then old between counted c.in_ok-peers.peers c.in_ok-peers_other.peers_other r.keeps s.keeps r.later s.later r.reads s.reads in
+    both_read c.args.first.now c.args.second.now c.requires.differ before mid then old between counted c.in_ok-peers.peers c.in_ok-peers_other.peers_other r.keeps s.keeps r.later s.later r.reads s.reads in
     let e = c.in_ok-ended.ensures in
     let one = c.args.one.now in
     let other = c.args.other.now in
     let one_new = c.sync_pair-ended.new.a in
     let other_new = c.sync_pair-ended.new.b in
     let met = met_by one other one_new other_new false c.each_stands.ensures c.each_stands-2.ensures c.each_stands-3.ensures c.each_stands-4.ensures e.keeps_a e.keeps_b e.moves_a.grows e.moves_b.grows e.moves_a.later e.moves_b.later
-        (λ is_done. absurd (true≢false (sym is_done))) in
+    (λ is_done. absurd (true≢false (sym is_done))) in
     merges_open c.args.first.now c.args.second.now before after old new one other one_new other_new (Err _) read.shelf met
     (inl (λ tells. meets one other one_new other_new c.in_ok-start.start c.in_ok-ended.ended c.in_ok-peers.peers c.in_ok-peers_other.peers_other c.in_ok-start.ensures.is e.moves_a.grows e.moves_b.grows e.syncs e.unites e.room
     (λ is. told_apart is_store_end c.in_ok-ended.ended.a _ Store refl refl c.in-Peer.is is)
@@ -242,14 +242,14 @@ returns-in-Full g c =
     let r = c.in_ok-peers.ensures in
     let s = c.in_ok-peers_other.ensures in
     let read : ReadsBoth c.args.first.now c.args.second.now before then old counted c.in_ok-peers.peers c.in_ok-peers_other.peers_other =
-        both_read c.args.first.now c.args.second.now c.requires.differ before mid then old between counted c.in_ok-peers.peers c.in_ok-peers_other.peers_other r.keeps s.keeps r.later s.later r.reads s.reads in
+    both_read c.args.first.now c.args.second.now c.requires.differ before mid then old between counted c.in_ok-peers.peers c.in_ok-peers_other.peers_other r.keeps s.keeps r.later s.later r.reads s.reads in
     let e = c.in_ok-ended.ensures in
     let one = c.args.one.now in
     let other = c.args.other.now in
     let one_new = c.sync_pair-ended.new.a in
     let other_new = c.sync_pair-ended.new.b in
     let met = met_by one other one_new other_new false c.each_stands.ensures c.each_stands-2.ensures c.each_stands-3.ensures c.each_stands-4.ensures e.keeps_a e.keeps_b e.moves_a.grows e.moves_b.grows e.moves_a.later e.moves_b.later
-        (λ is_done. absurd (true≢false (sym is_done))) in
+    (λ is_done. absurd (true≢false (sym is_done))) in
     merges_open c.args.first.now c.args.second.now before after old new one other one_new other_new (Err _) read.shelf met
     (inl (λ tells. meets one other one_new other_new c.in_ok-start.start c.in_ok-ended.ended c.in_ok-peers.peers c.in_ok-peers_other.peers_other c.in_ok-start.ensures.is e.moves_a.grows e.moves_b.grows e.syncs e.unites e.room
     (λ is. told_apart is_store_end c.in_ok-ended.ended.a _ Store refl refl c.in-Full.is is)
@@ -269,12 +269,12 @@ returns-in-Store g c =
     let r = c.in_ok-peers.ensures in
     let s = c.in_ok-peers_other.ensures in
     let read : ReadsBoth c.args.first.now c.args.second.now before then old counted c.in_ok-peers.peers c.in_ok-peers_other.peers_other =
-        both_read c.args.first.now c.args.second.now c.requires.differ before mid then old between counted c.in_ok-peers.peers c.in_ok-peers_other.peers_other r.keeps s.keeps r.later s.later r.reads s.reads in
+    both_read c.args.first.now c.args.second.now c.requires.differ before mid then old between counted c.in_ok-peers.peers c.in_ok-peers_other.peers_other r.keeps s.keeps r.later s.later r.reads s.reads in
     let e = c.in_ok-ended.ensures in
     let one = c.args.one.now in
     let other = c.args.other.now in
     let one_new = c.sync_pair-ended.new.a in
     let other_new = c.sync_pair-ended.new.b in
     let met = met_by one other one_new other_new false c.each_stands.ensures c.each_stands-2.ensures c.each_stands-3.ensures c.each_stands-4.ensures e.keeps_a e.keeps_b e.moves_a.grows e.moves_b.grows e.moves_a.later e.moves_b.later
-        (λ is_done. absurd (true≢false (sym is_done))) in
+    (λ is_done. absurd (true≢false (sym is_done))) in
     merges_open c.args.first.now c.args.second.now before after old new one other one_new other_new (Err _) read.shelf met (inr (inr (refl, inr (e.store c.in-Store.is))))
