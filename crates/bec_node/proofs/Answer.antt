@@ -1,5 +1,5 @@
 -- What a source has left has one answer to a command.
-use Rattle.std.proofs.Common.{◌≡◌, inl, inr, ℕ, List, length, Option, None, Some, Ok, Err, map, refl, sym, ap, subst, ◌∙◌, ◌&&◌, not, arith}
+use Rattle.std.proofs.Common.{◌≡◌, inl, inr, ℕ, Bool, List, length, Option, None, Some, Ok, Err, map, refl, sym, ap, subst, ◌∙◌, ◌&&◌, not, arith}
 use Rattle.update_model.specs.declared.update_id.UpdateId.{UpdateId}
 use Rattle.update_model.specs.Graph.{AreHeads, holds, names}
 use Rattle.update_model.proofs.Heads.{sorted_same}
@@ -14,10 +14,9 @@ use Rattle.schema.specs.declared.limits.TheConstants.{MAX_SCHEMA_BYTES}
 use Rattle.row_check.specs.Checksum.{is_luhn}
 use Rattle.schema.specs.Schemas.{SchemaData}
 use Rattle.table_model.specs.Tables.{AreTablesOf}
-use Rattle.table_text.specs.Tables.{tables_text}
 use Rattle.bec_node.specs.declared.refusal.Refusal.{Refusal}
 use Rattle.bec_node.specs.declared.refusal.Refusal.TheVariants.{Record}
-use Rattle.bec_node.specs.Bundle.{DumpAnswer, holds as holds_text, lacks, HoldsText, IsCutSchema, LacksText, RecordsAnswer, whole, stopped, TextAnswer, taken, refused as text_refused, nodes_of}
+use Rattle.bec_node.specs.Bundle.{DumpAnswer, dump_text, holds as holds_text, lacks, HoldsText, IsCutSchema, LacksText, RecordsAnswer, whole, stopped, TextAnswer, taken, refused as text_refused, nodes_of}
 use Rattle.bec_node.specs.Heads.{HeadsAnswer, done, refused}
 use Rattle.bec_node.specs.Outcome.{Outcome, Prints, from_taking, status_for, status_of, text_for, text_of}
 use Rattle.bec_node.specs.Texts.{printed}
@@ -107,37 +106,37 @@ lacks_or_holds : (input declared : List ℕ) (after mid : Option (List ℕ)) (r 
 lacks_or_holds input declared after mid r (inl a) h = cut_or_whole input declared h.1.0 a.0.2.0 h.1.2
 lacks_or_holds input declared after mid r (inr a) h = long_or_held MAX_SCHEMA_BYTES input declared h.1.0 (omega arith) a.0.2.0 h.1.2
 
-module _ (streams : StreamLaws) (schemas : SchemaLaws) (laws : TableLaws) where
-  records_answered : (schema : SchemaData) (more : List ℕ) (after other : Option (List ℕ)) (a b : Outcome) → RecordsAnswer schema (Some more) after a → RecordsAnswer schema (Some more) other b → Same a b
+module _ (streams : StreamLaws) (schemas : SchemaLaws) (laws : TableLaws) (json : Bool) where
+  records_answered : (schema : SchemaData) (more : List ℕ) (after other : Option (List ℕ)) (a b : Outcome) → RecordsAnswer json schema (Some more) after a → RecordsAnswer json schema (Some more) other b → Same a b
   records_answered schema more after other a b (whole ms t r tables p) (whole ns u s others q) =
       let same : ms ≡ ns = streams.one_graph (Some schema.rule) more ms ns r.2.0 s.2.0 in
       let here = tables (members_of schema.rule more ms r.2.0) in
       let there = others (members_of schema.rule more ns s.2.0) in
       let moved : AreTablesOf (rules_of schema) (nodes_of ns) here.0 here.1.0 = subst (λ (xs : List (List ℕ)). AreTablesOf (rules_of schema) (nodes_of xs) here.0 here.1.0) same here.1.1.are in
       let one = tables_once laws schema ns here.0 there.0 here.1.0 there.1.0 there.1.1.taken.closed moved there.1.1.are in
-      let line : t ≡ u = here.1.2 ∙ (λ i. tables_text schema.tables (one.0 i) (one.1 i)) ∙ sym there.1.2 in
+      let line : t ≡ u = here.1.2 ∙ (λ i. dump_text json schema (one.0 i) (one.1 i)) ∙ sym there.1.2 in
       same_prints a b t u line p q
   records_answered schema more after other a b (whole ms t r tables p) (stopped n g s f) = absurd (streams.whole_or_refused (Some schema.rule) more s.0 ms n g r.2.0 s.2)
   records_answered schema more after other a b (stopped n g s f) (whole ms t r tables p) = absurd (streams.whole_or_refused (Some schema.rule) more s.0 ms n g r.2.0 s.2)
   records_answered schema more after other a b (stopped m f r e) (stopped n g s h) =
       same_refused a b (Record m f) (Record n g) (same_stop streams (Some schema.rule) more r.0 s.0 m n f g r.2 s.2) e h
 
-  text_answered : (declared more : List ℕ) (after other : Option (List ℕ)) (a b : Outcome) → TextAnswer declared (Some more) after a → TextAnswer declared (Some more) other b → Same a b
+  text_answered : (declared more : List ℕ) (after other : Option (List ℕ)) (a b : Outcome) → TextAnswer json declared (Some more) after a → TextAnswer json declared (Some more) other b → Same a b
   text_answered declared more after other a b (taken x t r) (taken y u s) =
       let same : x ≡ y = schemas.one_schema is_luhn declared x y t.declares u.declares in
-      records_answered y more after other a b (subst (λ (z : SchemaData). RecordsAnswer z (Some more) after a) same r) s
+      records_answered y more after other a b (subst (λ (z : SchemaData). RecordsAnswer json z (Some more) after a) same r) s
   text_answered declared more after other a b (taken x t r) (text_refused s not same f) = absurd (schemas.taken_or_refused is_luhn declared x s t not)
   text_answered declared more after other a b (text_refused s not same f) (taken x t r) = absurd (schemas.taken_or_refused is_luhn declared x s t not)
   text_answered declared more after other a b (text_refused r one same e) (text_refused s two again f) = same_refused a b (from_taking r) (from_taking s) (ap from_taking (schemas.refused_once is_luhn declared r s one two)) e f
 
-  held_answered : (input d e : List ℕ) (m n after other : Option (List ℕ)) (a b : Outcome) → HoldsText (Some input) m d → HoldsText (Some input) n e → TextAnswer d m after a → TextAnswer e n other b → Same a b
+  held_answered : (input d e : List ℕ) (m n after other : Option (List ℕ)) (a b : Outcome) → HoldsText (Some input) m d → HoldsText (Some input) n e → TextAnswer json d m after a → TextAnswer json e n other b → Same a b
   held_answered input d e m n after other a b h i t u =
       let same = one_piece MAX_SCHEMA_BYTES input d e h.1.0 i.1.0 (omega arith) h.1.2 i.1.2 in
       let mid : m ≡ Some i.1.0 = h.1.1 ∙ ap Some same.1 in
-      let here : TextAnswer e m after a = subst (λ (w : List ℕ). TextAnswer w m after a) same.0 t in
-      text_answered e i.1.0 after other a b (subst (λ (w : Option (List ℕ)). TextAnswer e w after a) mid here) (subst (λ (w : Option (List ℕ)). TextAnswer e w other b) i.1.1 u)
+      let here : TextAnswer json e m after a = subst (λ (w : List ℕ). TextAnswer json w m after a) same.0 t in
+      text_answered e i.1.0 after other a b (subst (λ (w : Option (List ℕ)). TextAnswer json e w after a) mid here) (subst (λ (w : Option (List ℕ)). TextAnswer json e w other b) i.1.1 u)
 
-  dump_answered : (input : List ℕ) (after other : Option (List ℕ)) (a b : Outcome) → DumpAnswer (Some input) after a → DumpAnswer (Some input) other b → Same a b
+  dump_answered : (input : List ℕ) (after other : Option (List ℕ)) (a b : Outcome) → DumpAnswer json (Some input) after a → DumpAnswer json (Some input) other b → Same a b
   dump_answered input after other a b (holds_text d m h t) (holds_text e n i u) = held_answered input d e m n after other a b h i t u
   dump_answered input after other a b (holds_text d m h t) (lacks r l e) = absurd (lacks_or_holds input d other m r l h)
   dump_answered input after other a b (lacks r l e) (holds_text d m h t) = absurd (lacks_or_holds input d after m r l h)
@@ -151,7 +150,7 @@ IsOneAnswer Answer = (input : List ℕ) (after other : Option (List ℕ)) (a b :
 pub record OneAnswer : Type 0 where
   pub heads : IsOneAnswer HeadsAnswer
   pub check : IsOneAnswer CheckAnswer
-  pub dump : IsOneAnswer DumpAnswer
+  pub dump : (json : Bool) → IsOneAnswer (DumpAnswer json)
 
 pub answered : StreamLaws → SchemaLaws → TableLaws → OneAnswer
 answered streams schemas laws = record { heads = heads_answered streams; check = check_answered schemas; dump = dump_answered streams schemas laws }

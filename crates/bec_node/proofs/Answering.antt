@@ -1,5 +1,5 @@
 -- From what the parts of a command answer to what it comes to.
-use Rattle.std.proofs.Common.{◌≡◌, ◌≢◌, ◌⊎◌, inl, inr, ℕ, ◌≤◌, List, refl, ap, subst, Option, None, Some, Ok, Err, Vec, arith}
+use Rattle.std.proofs.Common.{◌≡◌, ◌≢◌, ◌⊎◌, inl, inr, ℕ, ◌≤◌, Bool, List, refl, ap, subst, Option, None, Some, Ok, Err, Vec, arith}
 use Rattle.std.specs.declared.alloc.Global.{Global}
 use Rattle.update_model.specs.Rule.{RuleData}
 use Rattle.update_stream.specs.declared.reading.Reading.TheVariants.{Whole}
@@ -32,31 +32,31 @@ pub check_refused : (before after : Option (List ℕ)) (old new : ℕ) (read : L
 check_refused before after old new read why reads (inl refuses) = inl (refused_read before after read why reads refuses)
 check_refused before after old new read why reads (inr memory) = inr (inl (ap from_taking memory))
 
-pub dump_lacks : (before after : Option (List ℕ)) (old new : ℕ) (r : Refusal) → LacksText before after r ⊎ IsFault old new r → ComesTo DumpAnswer before after old new (Err r)
-dump_lacks before after old new r (inl none) = inl (lacks r none refl)
-dump_lacks before after old new r (inr fault) = inr fault
+pub dump_lacks : (json : Bool) (before after : Option (List ℕ)) (old new : ℕ) (r : Refusal) → LacksText before after r ⊎ IsFault old new r → ComesTo (DumpAnswer json) before after old new (Err r)
+dump_lacks json before after old new r (inl none) = inl (lacks r none refl)
+dump_lacks json before after old new r (inr fault) = inr fault
 
-pub dump_refused : (before after : Option (List ℕ)) (old new : ℕ) (declared : List ℕ) (why : SchemaRefusal) → HoldsText before after declared
-    → RefusesSchema is_luhn declared why ⊎ (why ≡ taking.Memory) → ComesTo DumpAnswer before after old new (Err (from_taking why))
-dump_refused before after old new declared why held (inl refuses) = inl (holds declared after held (text_refused why refuses refl refl))
-dump_refused before after old new declared why held (inr memory) = inr (inl (ap from_taking memory))
+pub dump_refused : (json : Bool) (before after : Option (List ℕ)) (old new : ℕ) (declared : List ℕ) (why : SchemaRefusal) → HoldsText before after declared
+    → RefusesSchema is_luhn declared why ⊎ (why ≡ taking.Memory) → ComesTo (DumpAnswer json) before after old new (Err (from_taking why))
+dump_refused json before after old new declared why held (inl refuses) = inl (holds declared after held (text_refused why refuses refl refl))
+dump_refused json before after old new declared why held (inr memory) = inr (inl (ap from_taking memory))
 
 -- a count that rose since a later moment rose since an earlier one
 pub rose_later : (old mid new : ℕ) → old ≤ mid → Rose mid new → Rose old new
 rose_later old mid new later rose = omega (arith, later, rose)
 
-pub dump_stopped : (before mid after : Option (List ℕ)) (old between new : ℕ) (declared : List ℕ) (schema : SchemaData) (given : Option RuleData) (r : Refusal) → HoldsText before mid declared
-    → TakesSchema is_luhn declared schema → given ≡ Some schema.rule → old ≤ between → StopsAt given mid after between new r → ComesTo DumpAnswer before after old new (Err r)
-dump_stopped before mid after old between new declared schema given r held takes is later stops = by (subst (λ (g : Option RuleData). StopsAt g mid after between new r) is stops)
+pub dump_stopped : (json : Bool) (before mid after : Option (List ℕ)) (old between new : ℕ) (declared : List ℕ) (schema : SchemaData) (given : Option RuleData) (r : Refusal) → HoldsText before mid declared
+    → TakesSchema is_luhn declared schema → given ≡ Some schema.rule → old ≤ between → StopsAt given mid after between new r → ComesTo (DumpAnswer json) before after old new (Err r)
+dump_stopped json before mid after old between new declared schema given r held takes is later stops = by (subst (λ (g : Option RuleData). StopsAt g mid after between new r) is stops)
   where
-    by : StopsAt (Some schema.rule) mid after between new r → ComesTo DumpAnswer before after old new (Err r)
+    by : StopsAt (Some schema.rule) mid after between new r → ComesTo (DumpAnswer json) before after old new (Err r)
     by (inl s) = inl (holds declared mid held (taken schema takes (stopped s.0 s.1.0 s.1.1 (λ i. Err (s.1.2 i)))))
     by (inr (inl memory)) = inr (inl memory)
     by (inr (inr failed)) = inr (inr (failed.0, rose_later old between new later failed.1))
 
-pub dump_done : (before mid after : Option (List ℕ)) (declared : List ℕ) (schema : SchemaData) (given : Option RuleData) (members : List (List ℕ)) (text : Vec ℕ Global) → HoldsText before mid declared
-    → TakesSchema is_luhn declared schema → given ≡ Some schema.rule → Reads given mid after (Whole members) → (AreMembers schema.rule members → PrintsTables schema members text.items) → DumpAnswer before after (Ok text)
-dump_done before mid after declared schema given members text held takes is reads tables =
+pub dump_done : (json : Bool) (before mid after : Option (List ℕ)) (declared : List ℕ) (schema : SchemaData) (given : Option RuleData) (members : List (List ℕ)) (text : Vec ℕ Global) → HoldsText before mid declared
+    → TakesSchema is_luhn declared schema → given ≡ Some schema.rule → Reads given mid after (Whole members) → (AreMembers schema.rule members → PrintsTables json schema members text.items) → DumpAnswer json before after (Ok text)
+dump_done json before mid after declared schema given members text held takes is reads tables =
     holds declared mid held (taken schema takes (whole members text.items (subst (λ (g : Option RuleData). Reads g mid after (Whole members)) is reads) tables refl))
 
 -- ---- lines of refusals

@@ -1,33 +1,11 @@
--- The rows of table after table.
-use Rattle.std.proofs.Common.{◌≡◌, ℕ, zero, suc, ◌+◌, slice_get, List, [], ◌∷◌, ◌++◌, length, refl, sym, ap, subst, ◌∙◌, length-append, Some}
+-- The tables that are shown are those of the nodes.
+use Rattle.std.proofs.Common.{List, length}
 use Rattle.update_model.specs.Node.{NodeData}
 use Rattle.table_model.specs.declared.shown_row.ShownRow.{ShownRow}
 use Rattle.table_model.specs.declared.void_line.VoidLine.{VoidLine}
-use Rattle.table_model.specs.Tables.{AreRowsIn, AreTablesOf, AreVoidsIn}
+use Rattle.table_model.specs.Tables.{AreTablesOf, AreVoidsIn}
 use Rattle.table_model.specs.Visible.{Rules}
-use Rattle.bec_node.specs.Bundle.{AreShown}
-
--- what holds of each item holds with one more
-each_push : {X : Type 0} (P : ℕ → X → Type 0) (xs : List X) (x : X) → ((i : ℕ) (y : X) → slice_get xs i ≡ Some y → P i y) → P (length xs) x
-    → (i : ℕ) (y : X) → slice_get (xs ++ x ∷ []) i ≡ Some y → P i y
-each_push P [] x each last zero y at = let same : x ≡ y = cc in subst (P 0) same last
-each_push P [] x each last (suc i) y at = absurd cc
-each_push P (z ∷ zs) x each last zero y at = each 0 y at
-each_push P (z ∷ zs) x each last (suc i) y at = each_push (λ k w. P (suc k) w) zs x (λ k w e. each (suc k) w e) last i y at
-
-pub shown_none : (rules : Rules) (nodes : List NodeData) → AreShown rules nodes 0 []
-shown_none rules nodes = record { number = refl; rows = λ number rows at. absurd (none number rows at) }
-  where
-    none : (number : ℕ) (rows : List ShownRow) → slice_get [] number ≡ Some rows → ⊥
-    none number rows at = cc
-
-pub shown_more : (rules : Rules) (nodes : List NodeData) (count : ℕ) (lists : List (List ShownRow)) (rows : List ShownRow) → AreShown rules nodes count lists → AreRowsIn rules nodes count rows
-    → AreShown rules nodes (count + 1) (lists ++ rows ∷ [])
-shown_more rules nodes count lists rows shown next =
-    let many = shown.number in record {
-      number = length-append lists (rows ∷ []) ∙ ap (λ (n : ℕ). n + 1) many;
-      rows = each_push (AreRowsIn rules nodes) lists rows shown.rows (subst (λ (n : ℕ). AreRowsIn rules nodes n rows) (sym many) next);
-    }
+use Rattle.query_answer.specs.Answers.{AreShown}
 
 pub tables_shown : (rules : Rules) (nodes : List NodeData) (lists : List (List ShownRow)) (voids : List VoidLine) → AreShown rules nodes (length rules.tables) lists → AreVoidsIn rules nodes voids
     → AreTablesOf rules nodes lists voids

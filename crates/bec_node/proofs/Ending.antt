@@ -87,8 +87,8 @@ module _ {S H R : Type 0} (before after : Outside S H R) where
   comes_lacking (heads None) outcome lacks comes = source_lacks HeadsAnswer outcome comes
   comes_lacking (heads (Some dir)) outcome lacks comes = store_lacks (Printing ShowsHeads) dir outcome lacks comes
   comes_lacking check outcome lacks comes = source_lacks CheckAnswer outcome comes
-  comes_lacking (dump None) outcome lacks comes = source_lacks DumpAnswer outcome comes
-  comes_lacking (dump (Some dir)) outcome lacks comes = store_lacks (Printing ShowsTables) dir outcome lacks comes
+  comes_lacking (dump None json) outcome lacks comes = source_lacks (DumpAnswer json) outcome comes
+  comes_lacking (dump (Some dir) json) outcome lacks comes = store_lacks (Printing (ShowsTables json)) dir outcome lacks comes
   comes_lacking (init dir) outcome lacks comes = init_lacks dir outcome lacks comes
   comes_lacking (keygen dir lms ots) outcome lacks comes = keygen_lacks lms ots dir outcome lacks comes
   comes_lacking (apply dir) outcome lacks comes = apply_lacks dir outcome lacks comes

@@ -103,8 +103,8 @@ pub only_memory : {S H R : Type 0} (request : RequestText) (before : Outside S H
 only_memory (heads None) before status is = source_fault HeadsAnswer before.left status (inr (inr is))
 only_memory (heads (Some dir)) before status is = shelf_fault (ReadsStore (Printing ShowsHeads)) dir before.store status (inr (inr is))
 only_memory check before status is = source_fault CheckAnswer before.left status (inr (inr is))
-only_memory (dump None) before status is = source_fault DumpAnswer before.left status (inr (inr is))
-only_memory (dump (Some dir)) before status is = shelf_fault (ReadsStore (Printing ShowsTables)) dir before.store status (inr (inr is))
+only_memory (dump None json) before status is = source_fault (DumpAnswer json) before.left status (inr (inr is))
+only_memory (dump (Some dir) json) before status is = shelf_fault (ReadsStore (Printing (ShowsTables json))) dir before.store status (inr (inr is))
 only_memory (init dir) before status is = init_fault dir before before.left status is
 only_memory (keygen dir lms ots) before status is = λ tells later. each_fault (KeygenAnswer lms ots before.stream (readings before.store dir) later) status (inr (inr is))
 only_memory (apply dir) before status is = apply_fault dir before before.left status is
@@ -220,8 +220,8 @@ module _ {S H R : Type 0} (one : OneAnswer) (parts : OneOfParts) (makers : OneOf
   only_said (heads None) outcome comes said = source_only HeadsAnswer one.heads outcome comes.comes said
   only_said (heads (Some dir)) outcome comes said = read_only (Printing ShowsHeads) parts.heads dir outcome comes said
   only_said check outcome comes said = source_only CheckAnswer one.check outcome comes.comes said
-  only_said (dump None) outcome comes said = source_only DumpAnswer one.dump outcome comes.comes said
-  only_said (dump (Some dir)) outcome comes said = read_only (Printing ShowsTables) parts.dump dir outcome comes said
+  only_said (dump None json) outcome comes said = source_only (DumpAnswer json) (one.dump json) outcome comes.comes said
+  only_said (dump (Some dir) json) outcome comes said = read_only (Printing (ShowsTables json)) (parts.dump json) dir outcome comes said
   only_said (init dir) outcome comes said = init_only dir before.left outcome comes.comes said
   only_said (keygen dir lms ots) outcome comes said = keygen_only lms ots dir outcome comes said
   only_said (apply dir) outcome comes said = apply_only dir before.left outcome comes.runs said

@@ -2,9 +2,9 @@
 use Rattle.std.proofs.Common.{◌≡◌, ℕ, Bool, List, refl, sym, subst, ◌∙◌, ap, Option}
 use Rattle.schema.specs.Schemas.{Meaning}
 use Rattle.row_check.specs.Checksum.{is_luhn}
-use Rattle.table_text.specs.Tables.{tables_text}
 use Rattle.store_directory.specs.Stores.{IsBadStore, IsNoStore, ReadsAs, StoreData}
 use Rattle.bec_node.specs.declared.refusal.Refusal.{Refusal}
+use Rattle.bec_node.specs.Bundle.{dump_text}
 use Rattle.bec_node.specs.Outcome.{Outcome}
 use Rattle.bec_node.specs.StoreAnswers.{HasStore, Readings, Printing, ReadsStore, RefusesStore, ShowsHeads, ShowsRecords, ShowsTables, answered, bad_store, no_store, refused}
 use Rattle.bec_node.specs.Texts.{printed}
@@ -31,10 +31,10 @@ IsShownOnce Shows = (store : StoreData) (text line : List ℕ) → Shows store t
 heads_shown : IsShownOnce ShowsHeads
 heads_shown store text line a b = a.2 ∙ ap printed (heads_once store.members store.members a.0 b.0 refl a.1 b.1) ∙ sym b.2
 
-tables_shown : TableLaws → IsShownOnce ShowsTables
-tables_shown laws store text line a b =
+tables_shown : TableLaws → (json : Bool) → IsShownOnce (ShowsTables json)
+tables_shown laws json store text line a b =
     let one = tables_once laws store.schema store.members a.0 b.0 a.1.0 b.1.0 b.1.1.taken.closed a.1.1.are b.1.1.are in
-    a.1.2 ∙ (λ i. tables_text store.schema.tables (one.0 i) (one.1 i)) ∙ sym b.1.2
+    a.1.2 ∙ (λ i. dump_text json store.schema (one.0 i) (one.1 i)) ∙ sym b.1.2
 
 records_shown : (updates_only : Bool) → IsShownOnce (ShowsRecords updates_only)
 records_shown updates_only store text line a b = a ∙ sym b
@@ -70,14 +70,14 @@ module _ (stores : StoreLaws) where
 -- so it is of each command that only reads a store
 pub record OneOfParts : Type 0 where
   pub heads : IsOneOfParts (ReadsStore (Printing ShowsHeads))
-  pub dump : IsOneOfParts (ReadsStore (Printing ShowsTables))
+  pub dump : (json : Bool) → IsOneOfParts (ReadsStore (Printing (ShowsTables json)))
   pub export : (updates_only : Bool) → IsOneOfParts (ReadsStore (Printing (ShowsRecords updates_only)))
   pub query : (text : List ℕ) (json : Bool) → IsOneOfParts (ReadsStore (QueryAnswer text json))
 
 pub answered_of_parts : StoreLaws → TableLaws → QueryLaws → OneOfParts
 answered_of_parts stores tables queries = record {
   heads = read_answered stores (Printing ShowsHeads) (printed_once ShowsHeads heads_shown);
-  dump = read_answered stores (Printing ShowsTables) (printed_once ShowsTables (tables_shown tables));
+  dump = λ json. read_answered stores (Printing (ShowsTables json)) (printed_once (ShowsTables json) (tables_shown tables json));
   export = λ updates_only. read_answered stores (Printing (ShowsRecords updates_only)) (printed_once (ShowsRecords updates_only) (records_shown updates_only));
   query = λ text json. read_answered stores (QueryAnswer text json) (query_once queries text json);
 }

@@ -1,5 +1,5 @@
 -- What a bundle is, and what its tables are.
-use Rattle.std.specs.Prelude.{◌≡◌, ◌⊎◌, ℕ, ◌≤◌, List, [], length, map, reverse, drop, Contains, IsTrue, Some, Err, slice_get}
+use Rattle.std.specs.Prelude.{◌≡◌, ◌⊎◌, ℕ, ◌≤◌, Bool, cond, List, [], length, map, reverse, drop, Contains, IsTrue, Some, Err}
 use Rattle.std.specs.declared.option.Option.{Option}
 use Rattle.std.specs.List.{list_all}
 use Rattle.bec_bytes.specs.Framed.{HoldsPiece, IsCut, IsTooLong}
@@ -20,10 +20,11 @@ use Rattle.table_model.specs.declared.shown_row.ShownRow.{ShownRow}
 use Rattle.table_model.specs.declared.void_line.VoidLine.{VoidLine}
 use Rattle.table_model.specs.Invariants.{Declared, claim_holds, invariants_of, shown_in}
 use Rattle.schema.specs.Schemas.{SchemaData}
-use Rattle.table_model.specs.Tables.{AreRowsIn, AreTablesOf}
+use Rattle.table_model.specs.Tables.{AreTablesOf}
 use Rattle.schema.specs.Columns.{all_fit}
-use Rattle.table_model.specs.Visible.{Rules, table_of}
+use Rattle.table_model.specs.Visible.{table_of}
 use Rattle.table_text.specs.Tables.{tables_text}
+use Rattle.query_answer.specs.TablesJson.{tables_json_text}
 use Rattle.bec_node.specs.declared.refusal.Refusal.{Refusal}
 use Rattle.bec_node.specs.declared.refusal.Refusal.TheVariants.{CutSchema, Record, Schema}
 use Rattle.row_check.specs.Checksum.{is_luhn}
@@ -66,31 +67,30 @@ LacksText before after refusal =
     (IfTold before after (λ input rest. IsCutSchema input × (rest ≡ [])) × (refusal ≡ CutSchema))
     ⊎ (IfTold before after (λ input rest. IsTooLong MAX_SCHEMA_BYTES input × (rest ≡ drop 4 input)) × (refusal ≡ Schema (record { kind = faults.Limit; line = 0 })))
 
+-- the text of tables and of the updates that do nothing: JSON, or a line for each
+abbrev pub dump_text : Bool → SchemaData → List (List ShownRow) → List VoidLine → List ℕ
+dump_text json schema tables voids = cond json (tables_json_text schema.tables tables voids) (tables_text schema.tables tables voids)
+
 -- These are the tables of the members, and this is their text.
-abbrev pub PrintsTables : SchemaData → List (List ℕ) → List ℕ → Type 0
-PrintsTables schema members text = (tables : List (List ShownRow)) × ((voids : List VoidLine) × HasTables schema members tables voids × (text ≡ tables_text schema.tables tables voids))
+abbrev pub PrintsTables : (json : Bool) → SchemaData → List (List ℕ) → List ℕ → Type 0
+PrintsTables json schema members text = (tables : List (List ShownRow)) × ((voids : List VoidLine) × HasTables schema members tables voids × (text ≡ dump_text json schema tables voids))
 
 -- This is the text of tables of these nodes.
-abbrev pub ShowsState : SchemaData → List NodeData → List ℕ → Type 0
-ShowsState schema nodes text = (tables : List (List ShownRow)) × ((voids : List VoidLine) × AreTablesOf (rules_of schema) nodes tables voids × (text ≡ tables_text schema.tables tables voids))
+abbrev pub ShowsState : (json : Bool) → SchemaData → List NodeData → List ℕ → Type 0
+ShowsState json schema nodes text = (tables : List (List ShownRow)) × ((voids : List VoidLine) × AreTablesOf (rules_of schema) nodes tables voids × (text ≡ dump_text json schema tables voids))
 
 -- What follows a schema is a stream under its rule, and the tables of its graph are printed; or a record of it is refused.
-pub data RecordsAnswer (schema : SchemaData) (before after : Option (List ℕ)) (outcome : Outcome) : Type 0 where
-  whole : (members : List (List ℕ)) (text : List ℕ) → Reads (Some schema.rule) before after (Whole members) → (AreMembers schema.rule members → PrintsTables schema members text)
-      → Prints outcome text → RecordsAnswer schema before after outcome
-  stopped : (n : ℕ) (fault : RecordFault) → Reads (Some schema.rule) before after (Refused n fault) → outcome ≡ Err (Record n fault) → RecordsAnswer schema before after outcome
+pub data RecordsAnswer (json : Bool) (schema : SchemaData) (before after : Option (List ℕ)) (outcome : Outcome) : Type 0 where
+  whole : (members : List (List ℕ)) (text : List ℕ) → Reads (Some schema.rule) before after (Whole members) → (AreMembers schema.rule members → PrintsTables json schema members text)
+      → Prints outcome text → RecordsAnswer json schema before after outcome
+  stopped : (n : ℕ) (fault : RecordFault) → Reads (Some schema.rule) before after (Refused n fault) → outcome ≡ Err (Record n fault) → RecordsAnswer json schema before after outcome
 
 -- The text of a schema is taken, and what follows is answered; or it is refused, and no more is read.
-pub data TextAnswer (declared : List ℕ) (before after : Option (List ℕ)) (outcome : Outcome) : Type 0 where
-  taken : (schema : SchemaData) → TakesSchema is_luhn declared schema → RecordsAnswer schema before after outcome → TextAnswer declared before after outcome
-  refused : (why : SchemaRefusal) → RefusesSchema is_luhn declared why → after ≡ before → outcome ≡ Err (from_taking why) → TextAnswer declared before after outcome
+pub data TextAnswer (json : Bool) (declared : List ℕ) (before after : Option (List ℕ)) (outcome : Outcome) : Type 0 where
+  taken : (schema : SchemaData) → TakesSchema is_luhn declared schema → RecordsAnswer json schema before after outcome → TextAnswer json declared before after outcome
+  refused : (why : SchemaRefusal) → RefusesSchema is_luhn declared why → after ≡ before → outcome ≡ Err (from_taking why) → TextAnswer json declared before after outcome
 
 -- A bundle holds the text of a schema, which is answered with what follows it; or it lacks one.
-pub data DumpAnswer (before after : Option (List ℕ)) (outcome : Outcome) : Type 0 where
-  holds : (declared : List ℕ) (mid : Option (List ℕ)) → HoldsText before mid declared → TextAnswer declared mid after outcome → DumpAnswer before after outcome
-  lacks : (refusal : Refusal) → LacksText before after refusal → outcome ≡ Err refusal → DumpAnswer before after outcome
-
--- These are the rows that each of so many tables shows.
-pub record AreShown (rules : Rules) (nodes : List NodeData) (count : ℕ) (lists : List (List ShownRow)) : Type 0 where
-  pub number : length lists ≡ count
-  pub rows : (number : ℕ) (rows : List ShownRow) → slice_get lists number ≡ Some rows → AreRowsIn rules nodes number rows
+pub data DumpAnswer (json : Bool) (before after : Option (List ℕ)) (outcome : Outcome) : Type 0 where
+  holds : (declared : List ℕ) (mid : Option (List ℕ)) → HoldsText before mid declared → TextAnswer json declared mid after outcome → DumpAnswer json before after outcome
+  lacks : (refusal : Refusal) → LacksText before after refusal → outcome ≡ Err refusal → DumpAnswer json before after outcome

@@ -42,8 +42,8 @@ abbrev pub Comes : {S H R : Type 0} → RequestText → Outside S H R → Outsid
 Comes (heads None) before after outcome = ReadsSource HeadsAnswer before after outcome
 Comes (heads (Some dir)) before after outcome = ReadsStoreOnly (ReadsStore (Printing ShowsHeads)) dir before after outcome
 Comes check before after outcome = ReadsSource CheckAnswer before after outcome
-Comes (dump None) before after outcome = ReadsSource DumpAnswer before after outcome
-Comes (dump (Some dir)) before after outcome = ReadsStoreOnly (ReadsStore (Printing ShowsTables)) dir before after outcome
+Comes (dump None json) before after outcome = ReadsSource (DumpAnswer json) before after outcome
+Comes (dump (Some dir) json) before after outcome = ReadsStoreOnly (ReadsStore (Printing (ShowsTables json))) dir before after outcome
 Comes (init dir) before after outcome = Inits dir before after outcome
 Comes (keygen dir lms ots) before after outcome = DrawsKeyOnly lms ots dir before after outcome
 Comes (apply dir) before after outcome = Applies dir before after outcome
@@ -85,8 +85,8 @@ abbrev pub AnswersOnly : {S H R : Type 0} → RequestText → Outside S H R → 
 AnswersOnly (heads None) before status = SourceOnly HeadsAnswer before.left status
 AnswersOnly (heads (Some dir)) before status = ShelfOnly (ReadsStore (Printing ShowsHeads)) dir before.store status
 AnswersOnly check before status = SourceOnly CheckAnswer before.left status
-AnswersOnly (dump None) before status = SourceOnly DumpAnswer before.left status
-AnswersOnly (dump (Some dir)) before status = ShelfOnly (ReadsStore (Printing ShowsTables)) dir before.store status
+AnswersOnly (dump None json) before status = SourceOnly (DumpAnswer json) before.left status
+AnswersOnly (dump (Some dir) json) before status = ShelfOnly (ReadsStore (Printing (ShowsTables json))) dir before.store status
 AnswersOnly (init dir) before status =
     IsTrue before.store.tells → IfSome before.left (λ input. (after : Option (List ℕ)) (later : Readings) → EachAs (InitAnswer (Some input) after before.stream (readings before.store dir) later) status)
 AnswersOnly (keygen dir lms ots) before status =

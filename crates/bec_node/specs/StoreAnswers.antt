@@ -42,9 +42,9 @@ Printing Shows store outcome = (text : List ℕ) × Shows store text × Prints o
 abbrev pub ShowsHeads : StoreData → List ℕ → Type 0
 ShowsHeads store text = (heads : List UpdateId) × AreHeads (map entry_of store.members) heads × (text ≡ printed heads)
 
--- `dump` shows the tables of its updates.
-abbrev pub ShowsTables : StoreData → List ℕ → Type 0
-ShowsTables store text = PrintsTables store.schema store.members text
+-- `dump` shows the tables of its updates, as JSON or as lines.
+abbrev pub ShowsTables : (json : Bool) → StoreData → List ℕ → Type 0
+ShowsTables json store text = PrintsTables json store.schema store.members text
 
 -- `export` shows the text of its schema behind its length, and then the records of its updates in the order of arrival; or these alone.
 abbrev pub ShowsRecords : Bool → StoreData → List ℕ → Type 0

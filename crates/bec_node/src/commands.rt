@@ -9,4 +9,4 @@ pub mod init;
 pub mod join;
 pub mod keygen;
 pub mod merge;
-pub mod query;
+pub mod query_store;

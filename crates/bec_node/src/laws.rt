@@ -31,8 +31,8 @@ pub fn one_answer()
         → HeadsAnswer (Some input) after outcome → HeadsAnswer (Some input) other another → (status_of outcome ≡ status_of another) × (text_of outcome ≡ text_of another) }
     ensures check { (input : List ℕ) (after other : Told (List ℕ)) (outcome another : Outcome)
         → CheckAnswer (Some input) after outcome → CheckAnswer (Some input) other another → (status_of outcome ≡ status_of another) × (text_of outcome ≡ text_of another) }
-    ensures dump { (input : List ℕ) (after other : Told (List ℕ)) (outcome another : Outcome)
-        → DumpAnswer (Some input) after outcome → DumpAnswer (Some input) other another → (status_of outcome ≡ status_of another) × (text_of outcome ≡ text_of another) }
+    ensures dump { (json : Bool) (input : List ℕ) (after other : Told (List ℕ)) (outcome another : Outcome)
+        → DumpAnswer json (Some input) after outcome → DumpAnswer json (Some input) other another → (status_of outcome ≡ status_of another) × (text_of outcome ≡ text_of another) }
 {
     arrivals_are_closed();
     one_graph();
@@ -49,8 +49,8 @@ pub fn one_answer()
 pub fn one_answer_of_parts()
     ensures heads { (parts : Readings) (added others : List (List ℕ)) (outcome another : Outcome)
         → ReadsStore (Printing ShowsHeads) parts added outcome → ReadsStore (Printing ShowsHeads) parts others another → (status_of outcome ≡ status_of another) × (text_of outcome ≡ text_of another) }
-    ensures dump { (parts : Readings) (added others : List (List ℕ)) (outcome another : Outcome)
-        → ReadsStore (Printing ShowsTables) parts added outcome → ReadsStore (Printing ShowsTables) parts others another → (status_of outcome ≡ status_of another) × (text_of outcome ≡ text_of another) }
+    ensures dump { (json : Bool) (parts : Readings) (added others : List (List ℕ)) (outcome another : Outcome)
+        → ReadsStore (Printing (ShowsTables json)) parts added outcome → ReadsStore (Printing (ShowsTables json)) parts others another → (status_of outcome ≡ status_of another) × (text_of outcome ≡ text_of another) }
     ensures query { (text : List ℕ) (json : Bool) (parts : Readings) (added others : List (List ℕ)) (outcome another : Outcome)
         → ReadsStore (QueryAnswer text json) parts added outcome → ReadsStore (QueryAnswer text json) parts others another → (status_of outcome ≡ status_of another) × (text_of outcome ≡ text_of another) }
     ensures export { (updates_only : Bool) (parts : Readings) (added others : List (List ℕ)) (outcome another : Outcome)

@@ -10,7 +10,7 @@
 //! bec dump < bundle         the tables of a schema and an update stream, and the updates that do nothing
 //!
 //! bec heads DIR             the same of the store in a directory
-//! bec dump DIR
+//! bec dump DIR              with `--json`, here and of a bundle, as one JSON object
 //! bec init DIR < schema     makes a store of a schema in a directory that has none, and prints the id of its database
 //! bec keygen DIR            draws a key for a directory that has none, and prints its public key
 //! bec apply DIR < text      makes an update of a transaction by the key of the directory, and prints its id
@@ -48,7 +48,7 @@ pub use commands::init::command_init;
 pub use commands::join::command_join;
 pub use commands::keygen::command_keygen;
 pub use commands::merge::command_merge;
-pub use commands::query::command_query;
+pub use commands::query_store::command_query;
 pub use heads::heads_of;
 pub use laws::{one_answer, one_answer_of_makers, one_answer_of_merge, one_answer_of_parts};
 pub use program::run;

@@ -14,7 +14,7 @@ use crate::commands::init::init_in;
 use crate::commands::join::join_in;
 use crate::commands::keygen::keygen_in;
 use crate::commands::merge::merge_in;
-use crate::commands::query::query_in;
+use crate::commands::query_store::query_in;
 use crate::laws::{one_answer, one_answer_of_makers, one_answer_of_merge, one_answer_of_parts};
 use crate::lines::no_command;
 use crate::refusal::Refusal;
@@ -80,10 +80,14 @@ fn outcome_of<H: Shelf, R: Rng, S: Source>(
             directory: Some(directory),
         } => heads_in(alloc, shelf, directory),
         Request::Check => verdict(alloc, input),
-        Request::Dump { directory: None } => bundle_tables(alloc, input),
+        Request::Dump {
+            directory: None,
+            json,
+        } => bundle_tables(alloc, input, *json),
         Request::Dump {
             directory: Some(directory),
-        } => dump_in(alloc, shelf, directory),
+            json,
+        } => dump_in(alloc, shelf, directory, *json),
         Request::Init { directory } => init_in(alloc, shelf, directory, random, input),
         Request::Keygen {
             directory,

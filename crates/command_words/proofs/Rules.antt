@@ -5,8 +5,8 @@ use Rattle.std.proofs.lemmas.Slice.Eq.{bytes_eq-Decides}
 use Rattle.clap.specs.Words.{App, Row, Text, first_of, matches_of}
 use Rattle.lm_ots.specs.declared.ots_type.OtsType.{OtsType}
 use Rattle.lms_tree.specs.declared.lms_type.LmsType.{LmsType}
-use Rattle.command_words.specs.Requests.{RequestText, heads, check, dump, init, keygen, apply, join, export, query, merge, any_directory_app, directory_app, check_app, keygen_app, export_app, query_app, merge_app, height_of, width_of, Takes, given, Asks, for_heads, for_check, for_dump, for_init, for_keygen, for_apply, for_join, for_export, for_query, for_merge}
-use Rattle.command_words.specs.Commands.{check_of, directory_of, keygen_by, keygen_of, export_by, export_of, query_by, query_of, merge_with, merge_by, merge_of, request_by, request_of}
+use Rattle.command_words.specs.Requests.{RequestText, heads, check, init, keygen, apply, join, export, query, merge, heads_app, dump_app, directory_app, check_app, keygen_app, export_app, query_app, merge_app, height_of, width_of, Takes, given, Asks, for_heads, for_check, for_dump, for_init, for_keygen, for_apply, for_join, for_export, for_query, for_merge}
+use Rattle.command_words.specs.Commands.{heads_of, check_of, dump_by, dump_of, directory_of, keygen_by, keygen_of, export_by, export_of, query_by, query_of, merge_with, merge_by, merge_of, request_by, request_of}
 use Rattle.command_words.specs.Words.{is_set, is_taken, rows_given}
 
 -- ---- from the rules
@@ -37,13 +37,11 @@ merged first second differ =
 
 pub by_rule : (words : List Text) (request : RequestText) → Asks words request → request_of words ≡ Some request
 by_rule words request (for_heads h) =
-    first_is (codes "heads") (any_directory_app (codes "heads")) words h
-    ∙ ap (option_map (λ (rows : List Row). heads (first_of (codes "DIR") rows))) (rows_are (codes "heads") (any_directory_app (codes "heads")) words h)
+    first_is (codes "heads") heads_app words h ∙ ap (option_map (λ (rows : List Row). heads (first_of (codes "DIR") rows))) (rows_are (codes "heads") heads_app words h)
 by_rule words request (for_check h) =
     first_is (codes "check") check_app words h ∙ ap (option_map (λ (rows : List Row). check)) (rows_are (codes "check") check_app words h)
 by_rule words request (for_dump h) =
-    first_is (codes "dump") (any_directory_app (codes "dump")) words h
-    ∙ ap (option_map (λ (rows : List Row). dump (first_of (codes "DIR") rows))) (rows_are (codes "dump") (any_directory_app (codes "dump")) words h)
+    first_is (codes "dump") dump_app words h ∙ ap (option_map dump_by) (rows_are (codes "dump") dump_app words h)
 by_rule words request (for_init directory h g) =
     first_is (codes "init") (directory_app (codes "init")) words h ∙ ap (option_map init) (alone (codes "init") words directory h g)
 by_rule words request (for_keygen directory height width h d e f) =
@@ -83,13 +81,18 @@ rows_taken app words rows e =
 takes : (name : Text) (app : App) (words rest : List Text) (rows : List Row) → words ≡ name ∷ rest → rows_given app words ≡ Some rows → Takes name app words × (rows ≡ matches_of app words)
 takes name app words rest rows n e = let t = rows_taken app words rows e in (record { rest = rest; named = n; taken = t.0 }, t.1)
 
-from_any : (name : Text) (make : Option Text → RequestText) (words rest : List Text) (request : RequestText) → words ≡ name ∷ rest
-    → (Takes name (any_directory_app name) words → Asks words (make (given (any_directory_app name) words (codes "DIR"))))
-    → option_map (λ rows. make (first_of (codes "DIR") rows)) (rows_given (any_directory_app name) words) ≡ Some request → Asks words request
-from_any name make words rest request n rule e =
-    let m = mapped (λ (rows : List Row). make (first_of (codes "DIR") rows)) (rows_given (any_directory_app name) words) request e in
-    let t = takes name (any_directory_app name) words rest m.0 n m.1 in
-    subst (λ (r : RequestText). Asks words r) (ap (λ (rows : List Row). make (first_of (codes "DIR") rows)) (sym t.1) ∙ m.2) (rule t.0)
+from_heads : (words rest : List Text) (request : RequestText) → words ≡ codes "heads" ∷ rest → heads_of words ≡ Some request → Asks words request
+from_heads words rest request n e =
+    let made : List Row → RequestText = λ rows. heads (first_of (codes "DIR") rows) in
+    let m = mapped made (rows_given heads_app words) request e in
+    let t = takes (codes "heads") heads_app words rest m.0 n m.1 in
+    subst (λ (r : RequestText). Asks words r) (ap made (sym t.1) ∙ m.2) (for_heads t.0)
+
+from_dump : (words rest : List Text) (request : RequestText) → words ≡ codes "dump" ∷ rest → dump_of words ≡ Some request → Asks words request
+from_dump words rest request n e =
+    let m = mapped dump_by (rows_given dump_app words) request e in
+    let t = takes (codes "dump") dump_app words rest m.0 n m.1 in
+    subst (λ (r : RequestText). Asks words r) (ap dump_by (sym t.1) ∙ m.2) (for_dump t.0)
 
 from_one : (name : Text) (make : Text → RequestText) (words rest : List Text) (request : RequestText) → words ≡ name ∷ rest
     → ((directory : Text) → Takes name (directory_app name) words → given (directory_app name) words (codes "DIR") ≡ Some directory → Asks words (make directory))
@@ -173,9 +176,9 @@ either first name rest request here others f g e = elim (chosen (bytes_eq first 
 told : (first : Text) (rest : List Text) (request : RequestText) → request_by first (first ∷ rest) ≡ Some request → Asks (first ∷ rest) request
 told first rest request =
     let words : List Text = first ∷ rest in
-    either first (codes "heads") rest request _ _ (λ n. from_any (codes "heads") heads words rest request n for_heads)
+    either first (codes "heads") rest request _ _ (λ n. from_heads words rest request n)
     (either first (codes "check") rest request _ _ (λ n. from_check words rest request n)
-    (either first (codes "dump") rest request _ _ (λ n. from_any (codes "dump") dump words rest request n for_dump)
+    (either first (codes "dump") rest request _ _ (λ n. from_dump words rest request n)
     (either first (codes "init") rest request _ _ (λ n. from_one (codes "init") init words rest request n for_init)
     (either first (codes "keygen") rest request _ _ (λ n. from_keygen words rest request n)
     (either first (codes "apply") rest request _ _ (λ n. from_one (codes "apply") apply words rest request n for_apply)

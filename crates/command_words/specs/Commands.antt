@@ -1,17 +1,20 @@
 -- The request that words are, as it is read: by the first word, and then by what the words give for each argument.
 use Rattle.std.specs.Prelude.{List, Option, Some, None, option_map, option_and_then, if◌then◌else◌, bytes_eq, slice_get, codes}
 use Rattle.clap.specs.Words.{Row, Text, first_of}
-use Rattle.command_words.specs.Requests.{RequestText, heads, check, dump, init, keygen, apply, join, export, query, merge, any_directory_app, directory_app, check_app, keygen_app, export_app, query_app, merge_app, height_of, width_of}
+use Rattle.command_words.specs.Requests.{RequestText, heads, check, dump, init, keygen, apply, join, export, query, merge, heads_app, dump_app, directory_app, check_app, keygen_app, export_app, query_app, merge_app, height_of, width_of}
 use Rattle.command_words.specs.Words.{is_set, rows_given}
 
 abbrev pub heads_of : List Text → Option RequestText
-heads_of words = option_map (λ rows. heads (first_of (codes "DIR") rows)) (rows_given (any_directory_app (codes "heads")) words)
+heads_of words = option_map (λ rows. heads (first_of (codes "DIR") rows)) (rows_given heads_app words)
 
 abbrev pub check_of : List Text → Option RequestText
 check_of words = option_map (λ rows. check) (rows_given check_app words)
 
+abbrev pub dump_by : List Row → RequestText
+dump_by rows = dump (first_of (codes "DIR") rows) (is_set (codes "json") rows)
+
 abbrev pub dump_of : List Text → Option RequestText
-dump_of words = option_map (λ rows. dump (first_of (codes "DIR") rows)) (rows_given (any_directory_app (codes "dump")) words)
+dump_of words = option_map dump_by (rows_given dump_app words)
 
 -- the directory of a command that takes nothing else
 abbrev pub directory_of : Text → List Text → Option Text

@@ -11,7 +11,7 @@ use Rattle.command_words.specs.Words.{command_app, flag, is_set, is_taken, neede
 pub data RequestText : Type 0 where
   heads : Option Text → RequestText
   check : RequestText
-  dump : Option Text → RequestText
+  dump : Option Text → Bool → RequestText
   init : Text → RequestText
   keygen : Text → LmsType → OtsType → RequestText
   apply : Text → RequestText
@@ -22,9 +22,13 @@ pub data RequestText : Type 0 where
 
 -- ---- the arguments of each command
 
--- NAME [DIR]
-abbrev pub any_directory_app : Text → App
-any_directory_app name = command_app name (position (codes "DIR") ∷ [])
+-- heads [DIR]
+abbrev pub heads_app : App
+heads_app = command_app (codes "heads") (position (codes "DIR") ∷ [])
+
+-- dump [DIR] [--json]
+abbrev pub dump_app : App
+dump_app = command_app (codes "dump") (position (codes "DIR") ∷ flag (codes "json") ∷ [])
 
 -- NAME DIR
 abbrev pub directory_app : Text → App
@@ -83,11 +87,10 @@ given app words name = first_of name (matches_of app words)
 
 -- The words ask for this.
 pub data Asks (words : List Text) : RequestText → Type 0 where
-  for_heads : Takes (codes "heads") (any_directory_app (codes "heads")) words
-      → Asks words (heads (given (any_directory_app (codes "heads")) words (codes "DIR")))
+  for_heads : Takes (codes "heads") heads_app words → Asks words (heads (given heads_app words (codes "DIR")))
   for_check : Takes (codes "check") check_app words → Asks words check
-  for_dump : Takes (codes "dump") (any_directory_app (codes "dump")) words
-      → Asks words (dump (given (any_directory_app (codes "dump")) words (codes "DIR")))
+  for_dump : Takes (codes "dump") dump_app words
+      → Asks words (dump (given dump_app words (codes "DIR")) (is_set (codes "json") (matches_of dump_app words)))
   for_init : (directory : Text) → Takes (codes "init") (directory_app (codes "init")) words
       → given (directory_app (codes "init")) words (codes "DIR") ≡ Some directory → Asks words (init directory)
   for_keygen : (directory : Text) (height : LmsType) (width : OtsType) → Takes (codes "keygen") keygen_app words

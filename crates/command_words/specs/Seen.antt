@@ -7,7 +7,7 @@ use Rattle.command_words.specs.declared.request.Request.TheVariants.{Heads, Chec
 abbrev pub request_seen : Request → RequestText
 request_seen (Heads directory) = heads (option_map (λ d. d.now) directory)
 request_seen Check = check
-request_seen (Dump directory) = dump (option_map (λ d. d.now) directory)
+request_seen (Dump directory json) = dump (option_map (λ d. d.now) directory) json
 request_seen (Init directory) = init directory.now
 request_seen (Keygen directory height width) = keygen directory.now height width
 request_seen (Apply directory) = apply directory.now

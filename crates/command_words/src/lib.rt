@@ -7,7 +7,7 @@
 //! ```text
 //! heads [DIR]
 //! check
-//! dump [DIR]
+//! dump [DIR] [--json]
 //! init DIR
 //! keygen DIR [--height 5,10,15] [--width 1,2,4,8]
 //! apply DIR

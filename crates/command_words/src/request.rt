@@ -10,9 +10,10 @@ pub enum Request<'a> {
     },
     /// `check`: whether a schema is confluent.
     Check,
-    /// `dump`: the tables of a bundle, or of the store in a directory.
+    /// `dump`: the tables of a bundle, or of the store in a directory, as lines or as JSON.
     Dump {
         directory: Option<&'a str>,
+        json: bool,
     },
     /// `init`: makes a store.
     Init {

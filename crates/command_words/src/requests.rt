@@ -3,7 +3,7 @@
 ghost use Rattle.std.specs.Prelude.{◌≡◌, true, IfOk, MatchOption, map, option_map, string_bytes};
 ghost use Rattle.clap.specs.Words.{is_simple_and_free};
 ghost use Rattle.command_words.specs.Requests.{Asks, RequestText, height_of, width_of, directory_app};
-ghost use Rattle.command_words.specs.Commands.{request_of, request_by, heads_of, check_of, dump_of, init_of, keygen_of, keygen_by, apply_of, join_of, export_of, export_by, query_of, query_by, merge_of, merge_by, directory_of};
+ghost use Rattle.command_words.specs.Commands.{request_of, request_by, heads_of, check_of, dump_of, dump_by, init_of, keygen_of, keygen_by, apply_of, join_of, export_of, export_by, query_of, query_by, merge_of, merge_by, directory_of};
 ghost use Rattle.command_words.specs.Seen.{request_seen};
 
 use crate::argument::{Argument, Form};
@@ -74,25 +74,17 @@ fn request_by<'a>(
     Ok(None)
 }
 
-/// A directory that need not be there.
-static ANY_DIRECTORY: [Argument<'static>; 1] = [Argument {
+static HEADS: [Argument<'static>; 1] = [Argument {
     name: "DIR",
     form: Form::Position,
     required: false,
-}];
-
-/// A directory.
-static DIRECTORY: [Argument<'static>; 1] = [Argument {
-    name: "DIR",
-    form: Form::Position,
-    required: true,
 }];
 
 /// `heads [DIR]`
 fn heads_of<'a>(alloc: Global, words: &'a [String]) -> Result<Option<Request<'a>>, AllocError>
     ensures { IfOk result (λ found. option_map request_seen found ≡ heads_of (map string_bytes words.entry.now)) }
 {
-    match read_words(alloc, "heads", &ANY_DIRECTORY, words)? {
+    match read_words(alloc, "heads", &HEADS, words)? {
         Some(given) => Ok(Some(Request::Heads {
             directory: given.word("DIR"),
         })),
@@ -110,17 +102,42 @@ fn check_of<'a>(alloc: Global, words: &'a [String]) -> Result<Option<Request<'a>
     }
 }
 
-/// `dump [DIR]`
+static DUMP: [Argument<'static>; 2] = [
+    Argument {
+        name: "DIR",
+        form: Form::Position,
+        required: false,
+    },
+    Argument {
+        name: "json",
+        form: Form::Flag,
+        required: false,
+    },
+];
+
+/// `dump [DIR] [--json]`
 fn dump_of<'a>(alloc: Global, words: &'a [String]) -> Result<Option<Request<'a>>, AllocError>
     ensures { IfOk result (λ found. option_map request_seen found ≡ dump_of (map string_bytes words.entry.now)) }
 {
-    match read_words(alloc, "dump", &ANY_DIRECTORY, words)? {
-        Some(given) => Ok(Some(Request::Dump {
-            directory: given.word("DIR"),
-        })),
+    match read_words(alloc, "dump", &DUMP, words)? {
+        Some(given) => Ok(Some(dump_by(&given))),
         None => Ok(None),
     }
 }
+
+fn dump_by<'a>(given: &Given<'a>) -> Request<'a>
+    ensures { request_seen result ≡ dump_by given.now }
+{
+    let directory = given.word("DIR");
+    let json = given.is_set("json");
+    Request::Dump { directory, json }
+}
+
+static DIRECTORY: [Argument<'static>; 1] = [Argument {
+    name: "DIR",
+    form: Form::Position,
+    required: true,
+}];
 
 /// The directory of a command that takes nothing else.
 fn directory_of<'a>(

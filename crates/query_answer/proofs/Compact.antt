@@ -91,7 +91,7 @@ same_escapes : (text : List ℕ) → flat_map json_escaped text ≡ flat_map esc
 same_escapes [] = refl
 same_escapes (byte ∷ text) = ap₂ (λ (a b : List ℕ). a ++ b) (same_escape byte) (same_escapes text)
 
-same_quoted : (text : List ℕ) → json_quoted text ≡ compact_text (string text)
+pub same_quoted : (text : List ℕ) → json_quoted text ≡ compact_text (string text)
 same_quoted text = ap (λ (inner : List ℕ). 34 ∷ (inner ++ 34 ∷ [])) (same_escapes text)
 
 -- ---- values and lists
@@ -104,7 +104,7 @@ same_flag : (flag : Bool) → json_value (Flag flag) ≡ compact_text (value_dat
 same_flag true = refl
 same_flag false = refl
 
-same_value : (value : Value) → json_value value ≡ compact_text (value_data value)
+pub same_value : (value : Value) → json_value value ≡ compact_text (value_data value)
 same_value Null = refl
 same_value (Int n) = same_integer n
 same_value (Text text) = same_quoted text
@@ -119,39 +119,51 @@ module _ {X : Type 0} (text : X → List ℕ) (data_of : X → Data) (same : (x 
       append_assoc (44 ∷ text x) (each_after 44 text xs) (93 ∷ [])
       ∙ ap₂ (λ (a b : List ℕ). 44 ∷ (a ++ b)) (same x) (same_later xs)
 
-  same_list : (xs : List X) → json_list text xs ≡ compact_text (list_data data_of xs)
+  pub same_list : (xs : List X) → json_list text xs ≡ compact_text (list_data data_of xs)
   same_list [] = refl
   same_list (x ∷ xs) =
       ap (λ (inner : List ℕ). 91 ∷ inner) (append_assoc (text x) (each_after 44 text xs) (93 ∷ []) ∙ ap₂ (λ (a b : List ℕ). a ++ b) (same x) (same_later xs))
 
--- ---- the object
+-- ---- an object of two members
 
-opening : 123 ∷ (quoted (codes "columns") ++ 58 ∷ []) ≡ codes "{\"columns\":"
-unfolding serde_json_on_literals
-opening = refl
-
-between : 44 ∷ (quoted (codes "rows") ++ 58 ∷ []) ≡ codes ",\"rows\":"
-unfolding serde_json_on_literals
-between = refl
-
-regrouped : (p q c r : List ℕ) → (123 ∷ (p ++ 58 ∷ [])) ++ (c ++ ((44 ∷ (q ++ 58 ∷ [])) ++ (r ++ 125 ∷ 10 ∷ [])))
-    ≡ (123 ∷ (p ++ 58 ∷ (c ++ 44 ∷ (q ++ 58 ∷ (r ++ 125 ∷ []))))) ++ 10 ∷ []
+regrouped : (p q c r : List ℕ) → (123 ∷ (p ++ 58 ∷ [])) ++ (c ++ ((44 ∷ (q ++ 58 ∷ [])) ++ (r ++ 125 ∷ [])))
+    ≡ 123 ∷ (p ++ 58 ∷ (c ++ 44 ∷ (q ++ 58 ∷ (r ++ 125 ∷ []))))
 regrouped p q c r = simp append_assoc
 
-by_keys : (first second : List ℕ) (columns rows : Data)
-    → (123 ∷ (quoted first ++ 58 ∷ [])) ++ (compact_text columns ++ ((44 ∷ (quoted second ++ 58 ∷ [])) ++ (compact_text rows ++ 125 ∷ 10 ∷ [])))
-    ≡ compact_text (object (member first columns (member second rows no_members))) ++ 10 ∷ []
-by_keys first second columns rows = regrouped (quoted first) (quoted second) (compact_text columns) (compact_text rows)
+by_keys : (first second : List ℕ) (a b : Data)
+    → (123 ∷ (quoted first ++ 58 ∷ [])) ++ (compact_text a ++ ((44 ∷ (quoted second ++ 58 ∷ [])) ++ (compact_text b ++ 125 ∷ [])))
+    ≡ compact_text (object (member first a (member second b no_members)))
+by_keys first second a b = regrouped (quoted first) (quoted second) (compact_text a) (compact_text b)
 
-framed : (columns rows : Data) → codes "{\"columns\":" ++ (compact_text columns ++ (codes ",\"rows\":" ++ (compact_text rows ++ codes "}\n")))
-    ≡ compact_text (object (member (codes "columns") columns (member (codes "rows") rows no_members))) ++ 10 ∷ []
-framed columns rows =
-    ap₂ (λ (first second : List ℕ). first ++ (compact_text columns ++ (second ++ (compact_text rows ++ 125 ∷ 10 ∷ [])))) (sym opening) (sym between)
-    ∙ by_keys (codes "columns") (codes "rows") columns rows
+-- by the texts of its keys, with the brace and the comma before them and a colon behind each
+pub framed : (opening between first second : List ℕ) (a b : Data) → opening ≡ 123 ∷ (quoted first ++ 58 ∷ []) → between ≡ 44 ∷ (quoted second ++ 58 ∷ [])
+    → opening ++ (compact_text a ++ (between ++ (compact_text b ++ 125 ∷ []))) ≡ compact_text (object (member first a (member second b no_members)))
+framed opening between first second a b opens parts =
+    ap₂ (λ (o p : List ℕ). o ++ (compact_text a ++ (p ++ (compact_text b ++ 125 ∷ [])))) opens parts ∙ by_keys first second a b
+
+-- the same with an LF behind it
+ended : (opening between a b : List ℕ) → opening ++ (a ++ (between ++ (b ++ 125 ∷ 10 ∷ []))) ≡ (opening ++ (a ++ (between ++ (b ++ 125 ∷ [])))) ++ 10 ∷ []
+ended opening between a b = simp append_assoc
+
+pub framed_line : (opening between first second : List ℕ) (a b : Data) → opening ≡ 123 ∷ (quoted first ++ 58 ∷ []) → between ≡ 44 ∷ (quoted second ++ 58 ∷ [])
+    → opening ++ (compact_text a ++ (between ++ (compact_text b ++ 125 ∷ 10 ∷ []))) ≡ compact_text (object (member first a (member second b no_members))) ++ 10 ∷ []
+framed_line opening between first second a b opens parts =
+    ended opening between (compact_text a) (compact_text b) ∙ ap (λ (text : List ℕ). text ++ 10 ∷ []) (framed opening between first second a b opens parts)
+
+-- ---- answers
+
+columns_open : codes "{\"columns\":" ≡ 123 ∷ (quoted (codes "columns") ++ 58 ∷ [])
+unfolding serde_json_on_literals
+columns_open = refl
+
+pub rows_part : codes ",\"rows\":" ≡ 44 ∷ (quoted (codes "rows") ++ 58 ∷ [])
+unfolding serde_json_on_literals
+rows_part = refl
 
 pub compact : (answer : AnswerData) → json_text answer ≡ compact_text (answer_data answer) ++ 10 ∷ []
 compact answer =
     let columns = same_list json_quoted string same_quoted answer.columns in
     let rows = same_list (json_list json_value) (list_data value_data) (same_list json_value value_data same_value) answer.rows in
     ap₂ (λ (cs rs : List ℕ). codes "{\"columns\":" ++ (cs ++ (codes ",\"rows\":" ++ (rs ++ codes "}\n")))) columns rows
-    ∙ framed (list_data string answer.columns) (list_data (list_data value_data) answer.rows)
+    ∙ framed_line (codes "{\"columns\":") (codes ",\"rows\":") (codes "columns") (codes "rows") (list_data string answer.columns) (list_data (list_data value_data) answer.rows)
+    columns_open rows_part

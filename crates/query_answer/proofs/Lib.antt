@@ -1,7 +1,9 @@
 pub mod Compact
+pub mod Filling
 pub mod Looking
 pub mod Orders
 pub mod Seeing
 pub mod Showing
 pub mod Sorting
+pub mod TablesCompact
 pub mod Unique

@@ -2,4 +2,5 @@ pub mod Answers
 pub mod Json
 pub mod Lines
 pub mod Order
+pub mod TablesJson
 pub mod Values

@@ -87,7 +87,11 @@ fn push_values(alloc: Global, out: &mut Vec<u8>, values: &[Value]) -> Result<(),
 }
 
 /// Adds values, each after a comma.
-fn push_later_values(alloc: Global, out: &mut Vec<u8>, values: &[Value]) -> Result<(), AllocError>
+pub(crate) fn push_later_values(
+    alloc: Global,
+    out: &mut Vec<u8>,
+    values: &[Value],
+) -> Result<(), AllocError>
     ensures { OnOk result (out.new.items ≡ out.old.items ++ each_after 44 json_value values.now) }
 {
     for value in values {
@@ -116,7 +120,7 @@ fn push_json(alloc: Global, out: &mut Vec<u8>, value: &Value) -> Result<(), Allo
 }
 
 /// Adds a text in quotes.
-fn push_quoted(out: &mut Vec<u8>, text: &[u8]) -> Result<(), AllocError>
+pub(crate) fn push_quoted(out: &mut Vec<u8>, text: &[u8]) -> Result<(), AllocError>
     ensures { OnOk result (out.new.items ≡ out.old.items ++ json_quoted text.now) }
 {
     out.push(b'"')?;

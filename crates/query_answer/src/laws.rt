@@ -4,12 +4,15 @@ ghost use Rattle.std.specs.Prelude.{◌≡◌, ◌∷◌, [], ◌++◌, ℕ, Boo
 ghost use Rattle.update_model.specs.declared.value.Value.{Value};
 ghost use Rattle.expression_text.specs.declared.kind.Kind.{Kind};
 ghost use Rattle.expression_text.specs.Kinds.{IsOfKind};
+ghost use Rattle.schema.specs.declared.table_def.TableDef.{TableDef};
 ghost use Rattle.table_model.specs.declared.shown_row.ShownRow.{ShownRow};
+ghost use Rattle.table_model.specs.declared.void_line.VoidLine.{VoidLine};
 ghost use Rattle.update_model.specs.Node.{NodeData};
 ghost use Rattle.table_model.specs.Visible.{Rules};
 ghost use Rattle.query.specs.Queries.{QueryData};
 ghost use Rattle.query_answer.specs.Answers.{AnswerData, IsAnswer, IsAnswerOver};
 ghost use Rattle.query_answer.specs.Json.{answer_data, json_text};
+ghost use Rattle.query_answer.specs.TablesJson.{tables_data, tables_json_text};
 ghost use Rattle.query_answer.specs.Values.{AreRising, IsPlain, seen};
 ghost use Rattle.serde_json.specs.Written.{compact_text};
 
@@ -28,6 +31,12 @@ pub fn one_answer_over()
 /// The JSON of an answer is what the crate `serde_json` writes of its object, and an LF behind it.
 pub fn json_is_compact()
     ensures { (answer : AnswerData) → json_text answer ≡ compact_text (answer_data answer) ++ 10 ∷ [] }
+{}
+
+/// The JSON of tables is what the crate `serde_json` writes of their object, and an LF behind it.
+pub fn tables_json_is_compact()
+    ensures { (tables : List TableDef) (lists : List (List ShownRow)) (voids : List VoidLine)
+        → tables_json_text tables lists voids ≡ compact_text (tables_data tables lists voids) ++ 10 ∷ [] }
 {}
 
 /// A condition sees of a value in a column of its kind, which refers to no rows, the value itself.

@@ -35,8 +35,9 @@ pub fn answer<L: Relation, C: Checks<L>>(
     Ok(answer)
 }
 
-/// The rows that each table of the schema shows.
-fn shown_lists(
+/// The rows that each table of the schema shows, a list for each table in the order of the schema. It takes the time and the
+/// memory of a copy of what the tables show, and gives up where memory runs out.
+pub fn shown_lists(
     alloc: Global,
     schema: &Schema,
     tables: &Tables,

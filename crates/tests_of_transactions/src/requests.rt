@@ -5,7 +5,7 @@ use std::alloc::{AllocError, Global};
 use std::test::Fail;
 
 /// Words, parted by `|`, and what they ask for.
-const ASKED: [(&str, &str); 21] = [
+const ASKED: [(&str, &str); 23] = [
     ("heads", "Heads { directory: None }"),
     ("heads|a b", "Heads { directory: Some(\"a b\") }"),
     ("heads|", "Heads { directory: Some(\"\") }"),
@@ -16,8 +16,16 @@ const ASKED: [(&str, &str); 21] = [
         "Heads { directory: Some(\"--height\") }",
     ),
     ("check", "Check"),
-    ("dump", "Dump { directory: None }"),
-    ("dump|a", "Dump { directory: Some(\"a\") }"),
+    ("dump", "Dump { directory: None, json: false }"),
+    ("dump|--json", "Dump { directory: None, json: true }"),
+    (
+        "dump|a",
+        "Dump { directory: Some(\"a\"), json: false }",
+    ),
+    (
+        "dump|--json|a",
+        "Dump { directory: Some(\"a\"), json: true }",
+    ),
     ("init|a", "Init { directory: \"a\" }"),
     (
         "keygen|a",
@@ -58,7 +66,6 @@ const REFUSED: [&str; 29] = [
     "heads|--help",
     "check|a",
     "check|--version",
-    "dump|a|--json",
     "init",
     "keygen",
     "keygen|a|b",

@@ -22,8 +22,9 @@ use schema::one_schema;
 use std::alloc::Global;
 use store_directory::{put_store, take_store};
 
-/// The command `dump [DIR]`: prints the tables of the bundle that it reads, or of the directory's store, each visible row on
-/// a line, and the updates that do nothing; or the line for what is refused. The first word has to be `dump`.
+/// The command `dump [DIR] [--json]`: prints the tables of the bundle that it reads, or of the directory's store, each visible
+/// row on a line, and the updates that do nothing, or all of it as one JSON object; or the line for what is refused. The first
+/// word has to be `dump`.
 ///
 /// Its clause is that of [`run`](crate::run) for these words.
 pub fn command_dump<H: Shelf, R: Rng, S: Source, K: Sink>(
@@ -44,27 +45,36 @@ pub fn command_dump<H: Shelf, R: Rng, S: Source, K: Sink>(
 }
 
 /// The tables of a bundle, as they are printed.
-pub fn bundle_tables<S: Source>(alloc: Global, input: &mut S) -> Result<Vec<u8>, Refusal>
-    ensures { ComesTo DumpAnswer (S.left input.old) (S.left input.new) (S.faults input.old) (S.faults input.new) result }
+pub fn bundle_tables<S: Source>(
+    alloc: Global,
+    input: &mut S,
+    json: bool,
+) -> Result<Vec<u8>, Refusal>
+    ensures { ComesTo (DumpAnswer json) (S.left input.old) (S.left input.new) (S.faults input.old) (S.faults input.new) result }
 {
     let native: Native<Luhn, Luhn> = Native::new(Luhn);
     let declared = bundle_schema(alloc, input)?;
     let schema = take_schema(alloc, &declared, &native)?;
     let rule = Some(schema.rule().copy(alloc)?);
     let graph = read_graph(alloc, &rule, input)?;
-    let text = printed_tables(alloc, &schema, &native, &graph)?;
+    let text = printed_tables(alloc, &schema, &native, &graph, json)?;
     Ok(text)
 }
 
 /// The tables of the store of a directory, as they are printed.
-pub fn dump_in<H: Shelf>(alloc: Global, shelf: &mut H, dir: &str) -> Result<Vec<u8>, Refusal>
+pub fn dump_in<H: Shelf>(
+    alloc: Global,
+    shelf: &mut H,
+    dir: &str,
+    json: bool,
+) -> Result<Vec<u8>, Refusal>
     requires { IsTrue (H.state shelf.old).tells → IsHome (H.state shelf.old) }
-    ensures { ReadsShelf (ReadsStore (Printing ShowsTables)) dir.now (H.state shelf.old) (H.state shelf.new) (H.faults shelf.old) (H.faults shelf.new) result }
+    ensures { ReadsShelf (ReadsStore (Printing (ShowsTables json))) dir.now (H.state shelf.old) (H.state shelf.new) (H.faults shelf.old) (H.faults shelf.new) result }
 {
     one_schema();
     let store = take_store(alloc, shelf, dir, Native::new(Luhn))?;
     each_stands(&store.replica);
-    let text = replica_tables(alloc, &store.replica);
+    let text = replica_tables(alloc, &store.replica, json);
     put_store(shelf, dir, store);
     Ok(text?)
 }

@@ -12,8 +12,8 @@ pub returns : goal.returns
 returns g c =
     let history = c.args.replica.now.history in
     let taken = c.each_stands.ensures.history_is.taken in
-    let P : SchemaData → Type 0 = λ s. (nodes : List NodeData) → IsStateOf (rules_of s) nodes c.tables.result.now → ShowsState s nodes c.in_ok-text.text.items in
-    let t : ShowsState history.schema (nodes_of history.members) c.in_ok-text.text.items = subst P c.schema.ensures c.in_ok-text.ensures (nodes_of history.members) c.tables.ensures in (
+    let P : SchemaData → Type 0 = λ s. (nodes : List NodeData) → IsStateOf (rules_of s) nodes c.tables.result.now → ShowsState c.args.json s nodes c.in_ok-text.text.items in
+    let t : ShowsState c.args.json history.schema (nodes_of history.members) c.in_ok-text.text.items = subst P c.schema.ensures c.in_ok-text.ensures (nodes_of history.members) c.tables.ensures in (
       t.0,
       (
         t.1.0,

@@ -1,7 +1,8 @@
-use Rattle.std.proofs.Common.{◌∙◌, ◌++◌, ℕ, List, ap}
+use Rattle.std.proofs.Common.{◌∙◌, List, ap}
+use Rattle.row_check.specs.Checksum.{is_luhn}
 use Rattle.table_model.specs.declared.shown_row.ShownRow.{ShownRow}
 use Rattle.table_model.specs.declared.void_line.VoidLine.{VoidLine}
-use Rattle.table_text.specs.Tables.{tables_text}
+use Rattle.bec_node.specs.Bundle.{dump_text}
 use Rattle.bec_node.specs.Verdict.{rules_of}
 use Rattle.bec_node.proofs.Bundles.{tables_shown}
 use Rattle.bec_node.proofs.graph_tables.state_text.Goals as goal
@@ -12,10 +13,9 @@ returns c = λ nodes is.
       c.in_ok-lists.lists.items,
       (
         c.in_ok-voids.voids,
-        tables_shown rules nodes c.in_ok-lists.lists.items c.in_ok-voids.voids (c.in_ok-lists.ensures nodes is) (c.in_ok-voids.ensures rules nodes is),
-        c.in_ok-push_tables.ensures
-            ∙ ap (λ (w : List ℕ). w ++ tables_text c.args.schema.now.tables c.deref.result.now c.as_slice.result.now) c.new-text.ensures.items
-            ∙ ap (λ (ls : List (List ShownRow)). tables_text c.args.schema.now.tables ls c.as_slice.result.now) c.deref.ensures.value
-            ∙ ap (λ (vs : List VoidLine). tables_text c.args.schema.now.tables c.in_ok-lists.lists.items vs) c.as_slice.ensures,
+        tables_shown rules nodes c.in_ok-lists.lists.items c.in_ok-voids.voids (c.in_ok-lists.ensures is_luhn nodes is) (c.in_ok-voids.ensures rules nodes is),
+        c.in_ok-text.ensures
+            ∙ ap (λ (ls : List (List ShownRow)). dump_text c.args.json c.args.schema.now ls c.as_slice-2.result.now) c.as_slice.ensures.value
+            ∙ ap (λ (vs : List VoidLine). dump_text c.args.json c.args.schema.now c.in_ok-lists.lists.items vs) c.as_slice-2.ensures,
       ),
     )

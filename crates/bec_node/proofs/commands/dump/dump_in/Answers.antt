@@ -20,7 +20,7 @@ pub returns-in_err-store : goal.returns-in_err-store
 returns-in_err-store g c =
     let p = err_from_is_err_and c.from_residual.result c.from_residual.ensures.1 in
     let e = c.in_err-store.ensures in
-    rw (p.1, p.2) (read_refused (Printing ShowsTables) c.args.dir.now (g.H.Shelf.state c.args.shelf.now) (g.H.Shelf.state c.take_store.new.shelf) (g.H.Counted.faults c.args.shelf.now) (g.H.Counted.faults c.take_store.new.shelf)
+    rw (p.1, p.2) (read_refused (Printing (ShowsTables c.args.json)) c.args.dir.now (g.H.Shelf.state c.args.shelf.now) (g.H.Shelf.state c.take_store.new.shelf) (g.H.Counted.faults c.args.shelf.now) (g.H.Counted.faults c.take_store.new.shelf)
     c.in_err-store.field-0.0 c.requires e.lets_go e.refused (λ is. e.failed (ap Err is)))
 
 pub returns-in_err-text : goal.returns-in_err-text
@@ -28,13 +28,13 @@ returns-in_err-text g c =
     let p = err_from_is_err_and c.from_residual-in_err-text.result c.from_residual-in_err-text.ensures.1 in
     let same : c.store.inside.replica ≡ c.in_ok-store.store.replica = ap (λ (o : OpenData). o.replica) c.store.view_is in
     let stands : Stands c.in_ok-store.store.replica = subst Stands same c.each_stands.ensures in
-    rw (p.1, p.2) (read_lacked (Printing ShowsTables) c.args.dir.now (g.H.Shelf.state c.args.shelf.now) (g.H.Shelf.state c.put_store.new.shelf) (g.H.Counted.faults c.args.shelf.now) (g.H.Counted.faults c.put_store.new.shelf)
+    rw (p.1, p.2) (read_lacked (Printing (ShowsTables c.args.json)) c.args.dir.now (g.H.Shelf.state c.args.shelf.now) (g.H.Shelf.state c.put_store.new.shelf) (g.H.Counted.faults c.args.shelf.now) (g.H.Counted.faults c.put_store.new.shelf)
     c.one_schema.ensures (g.H.Shelf.state c.take_store.new.shelf) c.in_ok-store.store c.requires c.in_ok-store.ensures.takes c.put_store.ensures.puts stands)
 
 pub returns : goal.returns
 returns g c =
     let same : c.store.inside.replica ≡ c.in_ok-store.store.replica = ap (λ (o : OpenData). o.replica) c.store.view_is in
     let stands : Stands c.in_ok-store.store.replica = subst Stands same c.each_stands.ensures in
-    let shown = subst (λ (r : ReplicaState). ShowsTables (store_of r) c.in_ok-text.field-0.items) same c.in_ok-text.ensures in
-    read_answered (Printing ShowsTables) c.args.dir.now (g.H.Shelf.state c.args.shelf.now) (g.H.Shelf.state c.put_store.new.shelf) (g.H.Counted.faults c.args.shelf.now) (g.H.Counted.faults c.put_store.new.shelf)
+    let shown = subst (λ (r : ReplicaState). ShowsTables c.args.json (store_of r) c.in_ok-text.field-0.items) same c.in_ok-text.ensures in
+    read_answered (Printing (ShowsTables c.args.json)) c.args.dir.now (g.H.Shelf.state c.args.shelf.now) (g.H.Shelf.state c.put_store.new.shelf) (g.H.Counted.faults c.args.shelf.now) (g.H.Counted.faults c.put_store.new.shelf)
     c.one_schema.ensures (g.H.Shelf.state c.take_store.new.shelf) c.in_ok-store.store c.requires c.in_ok-store.ensures.takes c.put_store.ensures.puts stands (Ok c.in_ok-text.field-0) (c.in_ok-text.field-0.items, shown, refl)

@@ -17,8 +17,8 @@ use Rattle.bec_node.specs.Asking.{answers}
 use Rattle.bec_node.specs.Bundle.{nodes_of}
 use Rattle.bec_node.specs.Merging.{opened_store}
 use Rattle.bec_node.proofs.Asking.{has_answer, query_refused}
-use Rattle.bec_node.proofs.commands.query.asked.Goals as goal
-use Rattle.bec_node.proofs.commands.query.asked.Goals.{then-json, else-json}
+use Rattle.bec_node.proofs.commands.query_store.asked.Goals as goal
+use Rattle.bec_node.proofs.commands.query_store.asked.Goals.{then-json, else-json}
 
 pub returns-in_err-query : goal.returns-in_err-query
 returns-in_err-query g c =

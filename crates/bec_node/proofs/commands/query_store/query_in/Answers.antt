@@ -9,7 +9,7 @@ use Rattle.bec_node.specs.Merging.{opened_store}
 use Rattle.bec_node.specs.Standing.{Stands}
 use Rattle.bec_node.specs.StoreAnswers.{ReadsStore}
 use Rattle.bec_node.proofs.Reading.{put_slots, read_answered, read_lacked, read_refused}
-use Rattle.bec_node.proofs.commands.query.query_in.Goals as goal
+use Rattle.bec_node.proofs.commands.query_store.query_in.Goals as goal
 
 pub put_store-requires-clause-schema_of : goal.put_store-requires-clause-schema_of
 put_store-requires-clause-schema_of g c κs lives tells =
