@@ -1,5 +1,5 @@
 -- A query over a store.
-use Rattle.std.proofs.Common.{◌≡◌, ◌⊎◌, inl, inr, ℕ, Bool, List, [], map, refl, sym, ap, subst, ◌∙◌, Err}
+use Rattle.std.proofs.Common.{◌≡◌, ◌⊎◌, inl, inr, ℕ, Bool, List, [], map, ap, subst, Err}
 use Rattle.update_model.specs.declared.update_id.UpdateId.{UpdateId}
 use Rattle.update_model.specs.Entry.{Entry}
 use Rattle.update_model.specs.Graph.{AreHeads, Follows, HaveSameMembers}
@@ -15,7 +15,6 @@ use Rattle.query.specs.Outcome.{HasCause}
 use Rattle.query.specs.declared.fault.QueryError.{QueryError}
 use Rattle.query.specs.declared.fault.QueryError.TheVariants as query_errors
 use Rattle.query.specs.declared.fault.QueryKind.{QueryKind}
-use Rattle.query.specs.declared.fault.QueryFault.{QueryFault}
 use Rattle.query_answer.specs.Answers.{AnswerData, IsAnswerOver}
 use Rattle.store_directory.specs.Stores.{StoreData}
 use Rattle.bec_node.specs.declared.refusal.Refusal.TheVariants.{Memory, Query}

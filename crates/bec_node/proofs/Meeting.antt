@@ -1,12 +1,11 @@
 -- Two open stores that meet.
-use Rattle.std.proofs.Common.{◌≡◌, ◌≢◌, ◌⊎◌, inl, inr, ℕ, ◌<◌, ◌≤◌, Bool, true, false, List, [], ◌∷◌, ◌++◌, append-nil, map, refl, sym, ap, subst, ◌∙◌, IsTrue, Ok, Err, arith}
-use Rattle.std.specs.Prelude.{◌||◌, All, Contains}
-use Rattle.std.specs.List.{list_any}
+use Rattle.std.proofs.Common.{◌≡◌, ◌≢◌, ◌⊎◌, inl, inr, ℕ, ◌≤◌, Bool, true, false, List, [], ◌∷◌, ◌++◌, append-nil, map, refl, sym, ap, subst, ◌∙◌, IsTrue, Err, arith}
+use Rattle.std.specs.Prelude.{Contains}
 use Rattle.std.proofs.lemmas.Bool.{true≢false}
 use Rattle.std.proofs.lemmas.List.Elements.{All-nil}
 use Rattle.bec_disk.specs.declared.part.Part.TheVariants.{Peers}
-use Rattle.bec_disk.specs.Shelf.{PartState, ShelfState, out}
-use Rattle.bec_disk.specs.Slot.{Slot, same_slot, slot}
+use Rattle.bec_disk.specs.Shelf.{ShelfState}
+use Rattle.bec_disk.specs.Slot.{slot}
 use Rattle.update_model.specs.Batch.{store_limits}
 use Rattle.update_model.specs.Rule.{RuleData}
 use Rattle.update_codec.specs.Parts.{entry_of}
@@ -21,11 +20,11 @@ use Rattle.peer_memory.specs.declared.peer.Peer.{Peer as PeerEntry}
 use Rattle.peer_memory.specs.Payload.{Reads}
 use Rattle.replica.specs.Holding.{IsOnDisk, IsWhole, KeepsOn, keeps_itself}
 use Rattle.replica.specs.Replicas.{ReplicaState}
-use Rattle.store_directory.specs.Holding.{OpenData, WorksOn}
+use Rattle.store_directory.specs.Holding.{WorksOn}
 use Rattle.store_directory.specs.Stores.{KeepsPlaces}
 use Rattle.bec_node.specs.declared.refusal.Refusal.{Refusal}
 use Rattle.bec_node.specs.Comes.{is_done}
-use Rattle.bec_node.specs.Merging.{IsMergeFault, IsPeersFault, IsWithin, KeepsAllButIn, KeepsPeers, Meets, MergesOpen, RemembersIn, TellsEnd, memory_in, opened_store, start_of}
+use Rattle.bec_node.specs.Merging.{IsMergeFault, IsPeersFault, KeepsAllButIn, KeepsPeers, Meets, MergesOpen, RemembersIn, TellsEnd, memory_in, opened_store, start_of}
 use Rattle.bec_node.specs.Outcome.{Outcome}
 use Rattle.bec_node.specs.Signing.{WorksFrom}
 use Rattle.bec_node.specs.Standing.{Stands}

@@ -1,22 +1,21 @@
 -- Merging the stores of two directories.
-use Rattle.std.proofs.Common.{◌≡◌, ◌≢◌, ◌⊎◌, inl, inr, ℕ, ◌<◌, ◌≤◌, Bool, true, false, List, [], ◌∷◌, ◌++◌, append-nil, refl, sym, ap, subst, ◌∙◌, IsTrue, Some, Ok, Err, arith}
-use Rattle.std.specs.Prelude.{◌||◌, All, Contains}
+use Rattle.std.proofs.Common.{◌≡◌, ◌≢◌, ◌⊎◌, inl, inr, ℕ, ◌<◌, ◌≤◌, Bool, true, false, List, [], ◌∷◌, ◌++◌, refl, sym, ap, subst, ◌∙◌, IsTrue, Some, Err, arith}
+use Rattle.std.specs.Prelude.{◌||◌, Contains}
 use Rattle.std.specs.List.{list_any}
 use Rattle.std.proofs.lemmas.Bool.{true≢false}
 use Rattle.std.proofs.lemmas.List.Elements.{All-nil}
 use Rattle.row_check.specs.Checksum.{is_luhn}
 use Rattle.bec_bytes.specs.Causes.{Rose}
-use Rattle.bec_disk.specs.Disk.{DiskState, handed_out}
+use Rattle.bec_disk.specs.Disk.{handed_out}
 use Rattle.bec_disk.specs.declared.part.Part.{Part}
 use Rattle.bec_disk.specs.declared.part.Part.TheVariants.{Schema, Updates, Key, Used, Peers}
-use Rattle.bec_disk.specs.Shelf.{PartState, ShelfState, out, stands as standing}
+use Rattle.bec_disk.specs.Shelf.{PartState, ShelfState, out}
 use Rattle.bec_disk.specs.Slot.{Slot, same_slot, slot}
-use Rattle.history.specs.Histories.{HistoryData}
 use Rattle.replica.specs.Holding.{IsWhole}
 use Rattle.replica.specs.Replicas.{ReplicaState}
-use Rattle.store_directory.specs.Holding.{IsStoreCause, LetsGo, OpenData, PutsStore, TakesStore, WorksOn}
+use Rattle.store_directory.specs.Holding.{IsStoreCause, LetsGo, OpenData, PutsStore, TakesStore}
 use Rattle.store_directory.specs.Memory.{remembered_in}
-use Rattle.store_directory.specs.Stores.{IsHome, IsStore, IsUntouched, KeepsAllBut, KeepsList, KeepsPlaces, StoreData, StoreRun, part_in, reading, with_added}
+use Rattle.store_directory.specs.Stores.{IsHome, IsStore, IsUntouched, KeepsList, KeepsPlaces, StoreData, StoreRun, part_in, reading, with_added}
 use Rattle.store_directory.specs.declared.store_refusal.StoreRefusal.{StoreRefusal}
 use Rattle.store_directory.specs.declared.store_refusal.StoreRefusal.TheVariants as store_refusals
 use Rattle.store_directory.proofs.Handing.{list_as_it_was, untouched_by}
@@ -24,14 +23,13 @@ use Rattle.store_directory.proofs.Places.{place_again, same_place, stands-not-ou
 use Rattle.store_directory.proofs.Putting.{slot_of, told}
 use Rattle.store_directory.proofs.Readings.{OneSchema, same_store}
 use Rattle.store_directory.proofs.Working.{read_before, store_of, worked_run}
-use Rattle.bec_node.specs.declared.refusal.Refusal.{Refusal}
 use Rattle.bec_node.specs.declared.refusal.Refusal.TheVariants as refusals
 use Rattle.bec_node.specs.Comes.{IsShelfFault, is_done, readings}
 use Rattle.bec_node.specs.Merging.{BesideAnswer, IsBesideFault, IsMergeFault, IsWithin, KeepsAllButIn, Meets, MergeAnswer, MergesBeside, MergesOpen, MergesStores, memory_in, opened_store, touched, with_both, with_it, without, without_first, without_second}
 use Rattle.bec_node.specs.Outcome.{Outcome, from_store}
 use Rattle.bec_node.specs.Signing.{WorksFrom}
 use Rattle.bec_node.specs.Standing.{Stands}
-use Rattle.bec_node.specs.StoreAnswers.{HasStore, Readings, RefusesStore, bad_store, no_store}
+use Rattle.bec_node.specs.StoreAnswers.{bad_store, no_store}
 use Rattle.bec_node.proofs.Signs.{works_not}
 
 abbrev pub no_updates : List (List ℕ)

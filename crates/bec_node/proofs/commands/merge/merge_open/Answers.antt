@@ -1,7 +1,7 @@
-use Rattle.std.proofs.Common.{◌≡◌, ◌≢◌, ◌≤◌, IsTrue, List, ℕ, Bool, true, false, Ok, Err, ap, inl, inr, refl, sym, subst, ◌∙◌, arith}
+use Rattle.std.proofs.Common.{IsTrue, List, ℕ, true, false, Ok, Err, inl, inr, refl, sym, subst, ◌∙◌, arith}
 use Rattle.std.proofs.lemmas.Bool.{true≢false}
 use Rattle.std.proofs.lemmas.Result.{err_from_is_err_and}
-use Rattle.session_rules.specs.declared.end.End.TheVariants.{Done, Peer, Full, Store}
+use Rattle.session_rules.specs.declared.end.End.TheVariants.{Done, Store}
 use Rattle.bec_node.specs.Merging.{RemembersIn, done, full, memory_in, peer}
 use Rattle.bec_node.proofs.Meeting.{KeepsBoth, ReadsBoth, Shelved, both_kept, both_read, is_done_end, is_store_end, meets, merges_open, met_by, open_stopped, peers_fault, shelved_first, shelved_none, shelved_second, told_apart}
 use Rattle.bec_node.proofs.commands.merge.merge_open.Goals as goal

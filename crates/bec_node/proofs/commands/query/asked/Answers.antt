@@ -37,7 +37,7 @@ returns g c =
     let P : SchemaData → Type 0 = λ s. (nodes : List NodeData) → IsStateOf (rules_with is_luhn s.tables) nodes c.tables.result.now → IsAnswerOver (rules_with is_luhn s.tables) nodes q a in
     let is = subst P c.schema-2.ensures c.in_ok-found.ensures (nodes_of history.members) c.tables.ensures in
     let has = has_answer (record { arrivals = c.arrivals_are_closed.ensures; same_tables = c.tables_are_of_the_set.ensures }) c.equal_heads_mean_equal_sets.ensures history.schema history.members q a
-        c.each_stands.ensures.history_is.members is in
+    c.each_stands.ensures.history_is.members is in
     inl (answers q a reads has (elim c.if-json.branch [
       | then-json w ↦ (subst (λ (r : Result (Vec ℕ Global) AllocError). IfOk r (λ t. t.items ≡ json_text a)) (sym w.lines-is ∙ c.in_ok-lines.was) w.json_lines-lines.ensures) ∙ ap (λ (b : Bool). cond b (json_text a) (lines_text a.rows)) (sym w.if-json.true)
       | else-json w ↦ (subst (λ (r : Result (Vec ℕ Global) AllocError). IfOk r (λ t. t.items ≡ lines_text a.rows)) (sym w.lines-is ∙ c.in_ok-lines.was) w.print_lines-lines.ensures) ∙ ap (λ (b : Bool). cond b (json_text a) (lines_text a.rows)) (sym w.if-json.false)

@@ -1,4 +1,4 @@
-use Rattle.std.proofs.Common.{◌≡◌, ◌⊎◌, inl, inr, Err, ap, subst, sym}
+use Rattle.std.proofs.Common.{◌≡◌, ◌⊎◌, inl, inr, Err, ap, subst}
 use Rattle.std.proofs.lemmas.Result.{err_from_is_err_and}
 use Rattle.replica.specs.Replicas.{ReplicaState}
 use Rattle.store_directory.specs.Holding.{OpenData}
@@ -6,7 +6,6 @@ use Rattle.bec_node.specs.declared.refusal.Refusal.TheVariants.{Memory}
 use Rattle.bec_node.specs.Asking.{QueryAnswer}
 use Rattle.bec_node.specs.Comes.{ReadsShelf}
 use Rattle.bec_node.specs.Merging.{opened_store}
-use Rattle.bec_node.specs.Outcome.{Outcome}
 use Rattle.bec_node.specs.Standing.{Stands}
 use Rattle.bec_node.specs.StoreAnswers.{ReadsStore}
 use Rattle.bec_node.proofs.Reading.{put_slots, read_answered, read_lacked, read_refused}
@@ -31,12 +30,12 @@ pub returns : goal.returns
 returns g c =
     let same : c.store.inside.replica ≡ c.in_ok-store.store.replica = ap (λ (o : OpenData). o.replica) c.store.view_is in
     let stands : Stands c.in_ok-store.store.replica = subst Stands same c.each_stands.ensures in
-    let answers = subst (λ (r : ReplicaState). QueryAnswer c.args.text.now c.args.json (opened_store r) c.asked.result ⊎ (c.asked.result ≡ Err Memory)) same c.asked.ensures in
+    let answers = subst (λ (r : ReplicaState). QueryAnswer c.args.text.now c.args.json (opened_store r) c.asked-outcome.result ⊎ (c.asked-outcome.result ≡ Err Memory)) same c.asked-outcome.ensures in
     by stands answers
   where
-    by : Stands c.in_ok-store.store.replica → QueryAnswer c.args.text.now c.args.json (opened_store c.in_ok-store.store.replica) c.asked.result ⊎ (c.asked.result ≡ Err Memory)
-        → ReadsShelf (ReadsStore (QueryAnswer c.args.text.now c.args.json)) c.args.dir.now (g.H.Shelf.state c.args.shelf.now) (g.H.Shelf.state c.put_store.new.shelf) (g.H.Counted.faults c.args.shelf.now) (g.H.Counted.faults c.put_store.new.shelf) c.asked.result
+    by : Stands c.in_ok-store.store.replica → QueryAnswer c.args.text.now c.args.json (opened_store c.in_ok-store.store.replica) c.asked-outcome.result ⊎ (c.asked-outcome.result ≡ Err Memory)
+        → ReadsShelf (ReadsStore (QueryAnswer c.args.text.now c.args.json)) c.args.dir.now (g.H.Shelf.state c.args.shelf.now) (g.H.Shelf.state c.put_store.new.shelf) (g.H.Counted.faults c.args.shelf.now) (g.H.Counted.faults c.put_store.new.shelf) c.asked-outcome.result
     by stands (inl answers) = read_answered (QueryAnswer c.args.text.now c.args.json) c.args.dir.now (g.H.Shelf.state c.args.shelf.now) (g.H.Shelf.state c.put_store.new.shelf) (g.H.Counted.faults c.args.shelf.now) (g.H.Counted.faults c.put_store.new.shelf)
-        c.one_schema.ensures (g.H.Shelf.state c.take_store.new.shelf) c.in_ok-store.store c.requires c.in_ok-store.ensures.takes c.put_store.ensures.puts stands c.asked.result answers
+        c.one_schema.ensures (g.H.Shelf.state c.take_store.new.shelf) c.in_ok-store.store c.requires c.in_ok-store.ensures.takes c.put_store.ensures.puts stands c.asked-outcome.result answers
     by stands (inr memory) = rw memory (read_lacked (QueryAnswer c.args.text.now c.args.json) c.args.dir.now (g.H.Shelf.state c.args.shelf.now) (g.H.Shelf.state c.put_store.new.shelf) (g.H.Counted.faults c.args.shelf.now) (g.H.Counted.faults c.put_store.new.shelf)
         c.one_schema.ensures (g.H.Shelf.state c.take_store.new.shelf) c.in_ok-store.store c.requires c.in_ok-store.ensures.takes c.put_store.ensures.puts stands)

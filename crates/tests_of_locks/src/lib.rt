@@ -1,0 +1,5 @@
+//! Tests of the turn lock: threads that take turns.
+#![tactic(auto)]
+
+#[cfg(test)]
+mod turns;
