@@ -126,7 +126,7 @@ fn is_right(row: &Crash<'_>, said: &Said, heads: &Said, again: &Said) -> bool {
 }
 
 /// Runs a command of which a disk stops after so many calls, restarts what it leaves, and asks what is there.
-fn crash(
+fn survives(
     alloc: Global,
     base: &MemShelf,
     row: &Crash<'_>,
@@ -150,7 +150,7 @@ fn wrong(alloc: Global, base: &MemShelf, rows: &[Crash<'_>]) -> Result<u64, Allo
     let mut wrong: u64 = 0;
     'rows: for row in rows {
         'runs: for number in 0..CALLS * CHOICES {
-            if !crash(alloc, base, row, number / CHOICES, number % CHOICES)? {
+            if !survives(alloc, base, row, number / CHOICES, number % CHOICES)? {
                 wrong = wrong.saturating_add(1);
             }
         }
@@ -179,7 +179,7 @@ fn is_united(one: &Said, other: &Said) -> bool {
 }
 
 /// Merges two stores of which a disk stops after so many calls, restarts what it leaves, and merges again.
-fn merge_crash(
+fn merge_survives(
     alloc: Global,
     base: &MemShelf,
     place: Place,
@@ -204,7 +204,7 @@ fn wrong_merges(alloc: Global, base: &MemShelf) -> Result<u64, AllocError>
     let mut wrong: u64 = 0;
     'places: for place in MERGED {
         'runs: for number in 0..CALLS * CHOICES {
-            if !merge_crash(alloc, base, *place, number / CHOICES, number % CHOICES)? {
+            if !merge_survives(alloc, base, *place, number / CHOICES, number % CHOICES)? {
                 wrong = wrong.saturating_add(1);
             }
         }
