@@ -3,6 +3,7 @@
 ghost use Rattle.bec_disk.specs.Shelved.{shelf_of};
 ghost use Rattle.store_directory.specs.Stores.{IsHome};
 
+use crate::merging::{INIT_OTHER, KEYGEN_OTHER};
 use crate::steps::{Said, Step, answer, played};
 use crate::stopping::{StoppingShelf, left_of};
 use crate::texts::TASKS;
@@ -38,21 +39,77 @@ const INSERT: &str = "INSERT list \"Home\" 9\n";
 
 /// In a directory with nothing in it.
 const ON_NOTHING: &[Crash<'static>] = &[
-    Crash { line: "init A", input: TASKS, part: Part::Schema, is_update: false, again: 8, undone: &[0, 8], repeated: &[0, 8] },
-    Crash { line: "init A", input: TASKS, part: Part::Updates, is_update: false, again: 8, undone: &[0, 8], repeated: &[0, 8] },
+    Crash {
+        line: "init A",
+        input: TASKS,
+        part: Part::Schema,
+        is_update: false,
+        again: 8,
+        undone: &[0, 8],
+        repeated: &[0, 8],
+    },
+    Crash {
+        line: "init A",
+        input: TASKS,
+        part: Part::Updates,
+        is_update: false,
+        again: 8,
+        undone: &[0, 8],
+        repeated: &[0, 8],
+    },
 ];
 
 /// In a directory with a store.
 const ON_STORE: &[Crash<'static>] = &[
-    Crash { line: "keygen A --height 5 --width 2", input: "", part: Part::Key, is_update: false, again: 8, undone: &[0], repeated: &[0, 8] },
-    Crash { line: "keygen A --height 5 --width 2", input: "", part: Part::Used, is_update: false, again: 8, undone: &[0], repeated: &[0, 8] },
+    Crash {
+        line: "keygen A --height 5 --width 2",
+        input: "",
+        part: Part::Key,
+        is_update: false,
+        again: 8,
+        undone: &[0],
+        repeated: &[0, 8],
+    },
+    Crash {
+        line: "keygen A --height 5 --width 2",
+        input: "",
+        part: Part::Used,
+        is_update: false,
+        again: 8,
+        undone: &[0],
+        repeated: &[0, 8],
+    },
 ];
 
 /// In a directory with a store and a key.
 const ON_BOTH: &[Crash<'static>] = &[
-    Crash { line: "apply A", input: INSERT, part: Part::Updates, is_update: true, again: 0, undone: &[0], repeated: &[0] },
-    Crash { line: "apply A", input: INSERT, part: Part::Used, is_update: true, again: 0, undone: &[0], repeated: &[0] },
-    Crash { line: "apply A", input: INSERT, part: Part::Key, is_update: true, again: 0, undone: &[0], repeated: &[0] },
+    Crash {
+        line: "apply A",
+        input: INSERT,
+        part: Part::Updates,
+        is_update: true,
+        again: 0,
+        undone: &[0],
+        repeated: &[0],
+    },
+    Crash {
+        line: "apply A",
+        input: INSERT,
+        part: Part::Used,
+        is_update: true,
+        again: 0,
+        undone: &[0],
+        repeated: &[0],
+    },
+    Crash {
+        line: "apply A",
+        input: INSERT,
+        part: Part::Key,
+        is_update: true,
+        again: 0,
+        undone: &[0],
+        repeated: &[0],
+    },
 ];
 
 /// Whether what is there after a crash fits what the command answered.
@@ -69,7 +126,7 @@ fn is_right(row: &Crash<'_>, said: &Said, heads: &Said, again: &Said) -> bool {
 }
 
 /// Runs a command of which a disk stops after so many calls, restarts what it leaves, and asks what is there.
-fn crash(
+fn survives(
     alloc: Global,
     base: &MemShelf,
     row: &Crash<'_>,
@@ -78,7 +135,7 @@ fn crash(
 ) -> Result<bool, AllocError>
     requires { IsHome (shelf_of base.now) }
 {
-    let mut shelf = StoppingShelf::over(alloc, left_of(base, 1)?, row.part, calls);
+    let mut shelf = StoppingShelf::over(alloc, left_of(base, 1)?, "A", row.part, calls);
     let said = answer(alloc, &mut shelf, row.line, row.input.as_bytes())?;
     let mut left = shelf.left(choice)?;
     let heads = answer(alloc, &mut left, "heads A", b"")?;
@@ -92,11 +149,63 @@ fn wrong(alloc: Global, base: &MemShelf, rows: &[Crash<'_>]) -> Result<u64, Allo
 {
     let mut wrong: u64 = 0;
     'rows: for row in rows {
-        'calls: for calls in 0..CALLS {
-            'choices: for choice in 0..CHOICES {
-                if !crash(alloc, base, row, calls, choice)? {
-                    wrong = wrong.saturating_add(1);
-                }
+        'runs: for number in 0..CALLS * CHOICES {
+            if !survives(alloc, base, row, number / CHOICES, number % CHOICES)? {
+                wrong = wrong.saturating_add(1);
+            }
+        }
+    }
+    Ok(wrong)
+}
+
+/// A part of a directory.
+type Place = (&'static str, Part);
+
+/// The parts at which a merge of two directories stops.
+const MERGED: &[Place] = &[
+    ("A", Part::Schema),
+    ("A", Part::Updates),
+    ("A", Part::Peers),
+    ("B", Part::Schema),
+    ("B", Part::Updates),
+    ("B", Part::Peers),
+];
+
+/// Whether two dumps are one, in which the two lists are.
+fn is_united(one: &Said, other: &Said) -> bool {
+    one.status == 0
+        && one.bytes.as_slice() == other.bytes.as_slice()
+        && one.bytes.iter().filter(|byte| **byte == b'\n').count() == 4
+}
+
+/// Merges two stores of which a disk stops after so many calls, restarts what it leaves, and merges again.
+fn merge_survives(
+    alloc: Global,
+    base: &MemShelf,
+    place: Place,
+    calls: u64,
+    choice: u64,
+) -> Result<bool, AllocError>
+    requires { IsHome (shelf_of base.now) }
+{
+    let mut shelf = StoppingShelf::over(alloc, left_of(base, 1)?, place.0, place.1, calls);
+    let said = answer(alloc, &mut shelf, "merge A B", b"")?;
+    let mut left = shelf.left(choice)?;
+    let again = answer(alloc, &mut left, "merge A B", b"")?;
+    let one = answer(alloc, &mut left, "dump A", b"")?;
+    let other = answer(alloc, &mut left, "dump B", b"")?;
+    Ok((said.status == 0 || said.status == 3) && again.status == 0 && is_united(&one, &other))
+}
+
+/// How often a crash in a merge loses something, or stands in the way of the next one.
+fn wrong_merges(alloc: Global, base: &MemShelf) -> Result<u64, AllocError>
+    requires { IsHome (shelf_of base.now) }
+{
+    let mut wrong: u64 = 0;
+    'places: for place in MERGED {
+        'runs: for number in 0..CALLS * CHOICES {
+            if !merge_survives(alloc, base, *place, number / CHOICES, number % CHOICES)? {
+                wrong = wrong.saturating_add(1);
             }
         }
     }
@@ -106,6 +215,16 @@ fn wrong(alloc: Global, base: &MemShelf, rows: &[Crash<'_>]) -> Result<u64, Allo
 /// The directory of a store.
 const STORE: &[Step<'static>] = &[INIT];
 
+/// Two stores, in each of which a list is that the other one lacks.
+const APART: &[Step<'static>] = &[
+    INIT,
+    INIT_OTHER,
+    KEYGEN,
+    KEYGEN_OTHER,
+    ("apply A", INSERT, 0, "ID\n"),
+    ("apply B", "INSERT list \"Work\" 9\n", 0, "ID\n"),
+];
+
 #[test]
 fn a_crash_leaves_what_was_acknowledged(rt: HostRuntime) -> Result<(), Fail> {
     let mut base = MemShelf::new(rt.alloc());
@@ -114,5 +233,13 @@ fn a_crash_leaves_what_was_acknowledged(rt: HostRuntime) -> Result<(), Fail> {
     assert_eq!(rt; wrong(rt.alloc(), &base, ON_STORE)?, 0);
     assert_eq!(rt; played(rt.alloc(), &mut base, &[KEYGEN])?, 1);
     assert_eq!(rt; wrong(rt.alloc(), &base, ON_BOTH)?, 0);
+    Ok(())
+}
+
+#[test]
+fn a_crash_in_a_merge_loses_nothing(rt: HostRuntime) -> Result<(), Fail> {
+    let mut base = MemShelf::new(rt.alloc());
+    assert_eq!(rt; played(rt.alloc(), &mut base, APART)?, APART.len());
+    assert_eq!(rt; wrong_merges(rt.alloc(), &base)?, 0);
     Ok(())
 }

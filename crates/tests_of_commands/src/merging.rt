@@ -1,18 +1,26 @@
 //! Two stores that meet.
 
+ghost use Rattle.std.specs.Prelude.{IfOk};
+ghost use Rattle.bec_disk.specs.Shelved.{shelf_of};
+ghost use Rattle.store_directory.specs.Stores.{IsHome};
+
 use crate::steps::{Step, played};
 use crate::texts::{NUMBERS, TASKS};
 use crate::transactions::{INIT, KEYGEN};
-use bec_disk::MemShelf;
+use bec_disk::{Disk, MemDisk, MemShelf, Part};
+use std::alloc::{AllocError, Global};
 use std::test::Fail;
 
 /// Makes a second store of tasks.
-const INIT_OTHER: Step<'static> = (
+pub const INIT_OTHER: Step<'static> = (
     "init B",
     TASKS,
     0,
     "database 72b4cfcb445661f96887b540151da29ebfc0235405c1ad6cc079828cab70c0f7\n",
 );
+
+/// Draws the key of the second store.
+pub const KEYGEN_OTHER: Step<'static> = ("keygen B --height 5 --width 1", "", 0, "KEY\n");
 
 /// What one has and the other lacks goes over, once, in either direction.
 const GAINS: &[Step<'static>] = &[
@@ -34,7 +42,7 @@ const CONFLICT: &[Step<'static>] = &[
     INIT,
     INIT_OTHER,
     KEYGEN,
-    ("keygen B --height 5 --width 1", "", 0, "KEY\n"),
+    KEYGEN_OTHER,
     ("apply A", "INSERT list \"Home\" 9\n", 0, "ID\n"),
     ("merge A B", "", 0, "gained 0 1\nturns 4\n"),
     ("apply A", "DELETE #0:0\n", 0, "ID\n"),
@@ -67,6 +75,17 @@ const REFUSED: &[Step<'static>] = &[
     ("dump B", "", 0, "TABLE n\n"),
 ];
 
+/// A shelf on which the first directory has a part Peers that says nothing, and nothing else.
+fn confused(alloc: Global) -> Result<MemShelf, AllocError>
+    ensures { IfOk result (λ shelf. IsHome (shelf_of shelf)) }
+{
+    let mut disk = MemDisk::new(alloc);
+    let _written = disk.write_at(0, &[1, 0, 0, 0, 0]);
+    let mut shelf = MemShelf::new(alloc);
+    shelf.put("A", Part::Peers, disk)?;
+    Ok(shelf)
+}
+
 #[test]
 fn what_is_missing_goes_over_once(rt: HostRuntime) -> Result<(), Fail> {
     let mut shelf = MemShelf::new(rt.alloc());
@@ -85,5 +104,12 @@ fn a_list_is_deleted_while_a_task_is_put_on_it(rt: HostRuntime) -> Result<(), Fa
 fn stores_of_two_schemas_do_not_meet(rt: HostRuntime) -> Result<(), Fail> {
     let mut shelf = MemShelf::new(rt.alloc());
     assert_eq!(rt; played(rt.alloc(), &mut shelf, REFUSED)?, REFUSED.len());
+    Ok(())
+}
+
+#[test]
+fn peers_that_say_nothing_are_none(rt: HostRuntime) -> Result<(), Fail> {
+    let mut shelf = confused(rt.alloc())?;
+    assert_eq!(rt; played(rt.alloc(), &mut shelf, GAINS)?, GAINS.len());
     Ok(())
 }

@@ -1,4 +1,4 @@
-//! A shelf in memory on which the disk of one part stops.
+//! A shelf in memory on which the disk of one part of a directory stops.
 
 ghost use Rattle.std.specs.Prelude.{◌≡◌, IfOk};
 ghost use Rattle.bec_disk.specs.Replay.{state_of};
@@ -10,11 +10,13 @@ use bec_disk::{DiskFault, MemDisk, MemShelf, Part, Shelf};
 use std::alloc::{AllocError, Global};
 use std::marker::Model;
 
-/// A shelf in memory. Each disk that it hands out as one certain part passes so many calls, and fails every later one.
+/// A shelf in memory. The disk that it hands out as one certain part of a directory passes so many calls, and fails every later
+/// one.
 #[derive(Drop)]
 pub struct StoppingShelf {
     alloc: Global,
     shelf: MemShelf,
+    dir: &'static str,
     part: Part,
     calls: u64,
 }
@@ -28,13 +30,20 @@ impl Model for StoppingShelf {
 }
 
 impl StoppingShelf {
-    /// Over a shelf, for this part.
-    pub fn over(alloc: Global, shelf: MemShelf, part: Part, calls: u64) -> StoppingShelf
+    /// Over a shelf, for this part of a directory.
+    pub fn over(
+        alloc: Global,
+        shelf: MemShelf,
+        dir: &'static str,
+        part: Part,
+        calls: u64,
+    ) -> StoppingShelf
         ensures { result ≡ shelf }
     {
         StoppingShelf {
             alloc,
             shelf,
+            dir,
             part,
             calls,
         }
@@ -49,11 +58,11 @@ impl StoppingShelf {
     }
 
     /// Lets a disk stop, where it is handed out as the certain part.
-    fn arm(&self, part: Part, disk: &mut MemDisk)
+    fn arm(&self, dir: &str, part: Part, disk: &mut MemDisk)
         ensures state { state_of disk.new ≡ state_of disk.old }
         ensures faults { disk.new.plan.faults ≡ disk.old.plan.faults }
     {
-        if part == self.part {
+        if part == self.part && dir == self.dir {
             disk.arm(Vec::new(self.alloc), self.calls);
         }
     }
@@ -83,13 +92,13 @@ impl Shelf for StoppingShelf {
         let Some(mut disk) = found else {
             return Ok(None);
         };
-        self.arm(part, &mut disk);
+        self.arm(dir, part, &mut disk);
         Ok(Some(disk))
     }
 
     fn make(&mut self, dir: &str, part: Part) -> Result<MemDisk, DiskFault> {
         let mut disk = self.shelf.make(dir, part)?;
-        self.arm(part, &mut disk);
+        self.arm(dir, part, &mut disk);
         Ok(disk)
     }
 
