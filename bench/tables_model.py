@@ -13,6 +13,7 @@ It takes the bundle to be in form and signed, and the schema to be one that `bec
 fault in them, and knows no UNIQUE and no ATMOST lines.
 """
 import hashlib
+import json
 import operator
 import re
 import struct
@@ -451,20 +452,37 @@ def state_of(bundle):
     return state
 
 
-def dump(bundle):
-    """The text that `bec dump` prints for a bundle."""
+def shown_tables(bundle):
+    """The name of each table with its visible rows, each a name and its values, and the id, reason and operation of each void update."""
     state = state_of(bundle)
     is_visible = state.visible_in(state.past_of(range(len(state.ids))))
-    lines = []
+    tables = []
     for number, table in enumerate(state.tables):
-        lines.append(b"TABLE " + table.name.encode())
-        for name in sorted(name for name, row in state.rows.items() if row.table == number and is_visible(name)):
-            values = state.shown(state.rows[name], is_visible)
-            lines.append(b" ".join([printed_name(name), *map(printed, values)]))
-    for place in sorted(range(len(state.ids)), key=lambda place: state.ids[place]):
-        if state.verdicts[place] is not None:
-            lines.append(b"VOID %s %d %d" % (state.ids[place].hex().encode(), *state.verdicts[place]))
+        names = sorted(name for name, row in state.rows.items() if row.table == number and is_visible(name))
+        tables.append((table.name, [(name, *state.shown(state.rows[name], is_visible)) for name in names]))
+    places = sorted(range(len(state.ids)), key=lambda place: state.ids[place])
+    return tables, [(state.ids[place].hex(), *state.verdicts[place]) for place in places if state.verdicts[place] is not None]
+
+
+def dump(bundle):
+    """The text that `bec dump` prints for a bundle."""
+    tables, voids = shown_tables(bundle)
+    lines = []
+    for name, rows in tables:
+        lines.append(b"TABLE " + name.encode())
+        lines += [b" ".join(map(printed, row)) for row in rows]
+    lines += [b"VOID %s %d %d" % (name.encode(), reason, operation) for name, reason, operation in voids]
     return b"".join(line + b"\n" for line in lines)
+
+
+def dump_json(bundle):
+    """The text that `bec dump --json` prints for a bundle."""
+    tables, voids = shown_tables(bundle)
+
+    def plain(value):
+        return value.decode() if isinstance(value, bytes) else printed_name(value).decode() if isinstance(value, Row) else value
+    whole = {"tables": [{"name": name, "rows": [list(map(plain, row)) for row in rows]} for name, rows in tables], "voids": voids}
+    return json.dumps(whole, separators=(",", ":"), ensure_ascii=False).encode() + b"\n"
 
 
 def main():
