@@ -5,7 +5,7 @@ use std::alloc::{AllocError, Global};
 use std::test::Fail;
 
 /// Words, parted by `|`, and what they ask for.
-const ASKED: [(&str, &str); 23] = [
+const ASKED: [(&str, &str); 24] = [
     ("heads", "Heads { directory: None }"),
     ("heads|a b", "Heads { directory: Some(\"a b\") }"),
     ("heads|", "Heads { directory: Some(\"\") }"),
@@ -18,10 +18,7 @@ const ASKED: [(&str, &str); 23] = [
     ("check", "Check"),
     ("dump", "Dump { directory: None, json: false }"),
     ("dump|--json", "Dump { directory: None, json: true }"),
-    (
-        "dump|a",
-        "Dump { directory: Some(\"a\"), json: false }",
-    ),
+    ("dump|a", "Dump { directory: Some(\"a\"), json: false }"),
     (
         "dump|--json|a",
         "Dump { directory: Some(\"a\"), json: true }",
@@ -51,6 +48,10 @@ const ASKED: [(&str, &str); 23] = [
         "export|--updates|a",
         "Export { directory: \"a\", updates: true }",
     ),
+    (
+        "query|a|--json|SELECT * FROM t",
+        "Query { directory: \"a\", text: \"SELECT * FROM t\", json: true }",
+    ),
     ("merge|a|b", "Merge { first: \"a\", second: \"b\" }"),
     ("merge|a|./a", "Merge { first: \"a\", second: \"./a\" }"),
 ];
@@ -60,7 +61,8 @@ const REFUSED: [&str; 29] = [
     "",
     "Heads",
     "world",
-    "query|a|b",
+    "query|a",
+    "query|a|b|c",
     "heads|a|b",
     "heads|-x",
     "heads|--help",
