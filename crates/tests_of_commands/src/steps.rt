@@ -24,11 +24,11 @@ pub struct Said {
     pub bytes: Vec<u8>,
 }
 
-/// The words of a command line.
+/// The words of a command line, in which `~` stands for a blank.
 fn words(alloc: Global, line: &str) -> Result<Vec<String>, AllocError> {
     let mut words = Vec::new(alloc);
     for word in line.split_whitespace() {
-        words.push(String::from_str(alloc, word)?)?;
+        words.push(word.replace(alloc, "~", " ")?)?;
     }
     Ok(words)
 }
