@@ -18,10 +18,7 @@ const ASKED: [(&str, &str); 23] = [
     ("check", "Check"),
     ("dump", "Dump { directory: None, json: false }"),
     ("dump|--json", "Dump { directory: None, json: true }"),
-    (
-        "dump|a",
-        "Dump { directory: Some(\"a\"), json: false }",
-    ),
+    ("dump|a", "Dump { directory: Some(\"a\"), json: false }"),
     (
         "dump|--json|a",
         "Dump { directory: Some(\"a\"), json: true }",
@@ -57,10 +54,11 @@ const ASKED: [(&str, &str); 23] = [
 
 /// Words that are no command.
 const REFUSED: [&str; 29] = [
+    "dump|--json|--json",
     "",
     "Heads",
     "world",
-    "query|a|b",
+    "query|a",
     "heads|a|b",
     "heads|-x",
     "heads|--help",
