@@ -6,6 +6,7 @@ made, from fixed seeds: the same author of the same height is the same key again
 measurements alone. docs/FORMATS.md says how updates are spelled.
 """
 import hashlib
+import os
 import struct
 from typing import NamedTuple
 
@@ -132,3 +133,13 @@ def update(database, author, preds, operations):
 def record(spelling):
     """The record of a stream that holds an update, or the part of a bundle that holds the schema."""
     return struct.pack(">I", len(spelling)) + spelling
+
+
+def lay_out(store, schema, records, node=0):
+    """The parts of a new store of a schema with these records, whose node has 32 times this byte."""
+    os.makedirs(store)
+    payload = bytes([node]) * 32 + schema
+    with open(os.path.join(store, "schema"), "wb") as file:
+        file.write(b"\1" + struct.pack(">I", len(payload)) + payload)
+    with open(os.path.join(store, "updates"), "wb") as file:
+        file.writelines(records)
