@@ -30,12 +30,12 @@ pub returns : goal.returns
 returns g c =
     let same : c.store.inside.replica ≡ c.in_ok-store.store.replica = ap (λ (o : OpenData). o.replica) c.store.view_is in
     let stands : Stands c.in_ok-store.store.replica = subst Stands same c.each_stands.ensures in
-    let answers = subst (λ (r : ReplicaState). QueryAnswer c.args.text.now c.args.json (opened_store r) c.asked-outcome.result ⊎ (c.asked-outcome.result ≡ Err Memory)) same c.asked-outcome.ensures in
-    by stands answers
+    let told = subst (λ (r : ReplicaState). QueryAnswer c.args.text.now c.args.json (opened_store r) c.asked-outcome.result ⊎ (c.asked-outcome.result ≡ Err Memory)) same c.asked-outcome.ensures in
+    by stands told
   where
     by : Stands c.in_ok-store.store.replica → QueryAnswer c.args.text.now c.args.json (opened_store c.in_ok-store.store.replica) c.asked-outcome.result ⊎ (c.asked-outcome.result ≡ Err Memory)
         → ReadsShelf (ReadsStore (QueryAnswer c.args.text.now c.args.json)) c.args.dir.now (g.H.Shelf.state c.args.shelf.now) (g.H.Shelf.state c.put_store.new.shelf) (g.H.Counted.faults c.args.shelf.now) (g.H.Counted.faults c.put_store.new.shelf) c.asked-outcome.result
-    by stands (inl answers) = read_answered (QueryAnswer c.args.text.now c.args.json) c.args.dir.now (g.H.Shelf.state c.args.shelf.now) (g.H.Shelf.state c.put_store.new.shelf) (g.H.Counted.faults c.args.shelf.now) (g.H.Counted.faults c.put_store.new.shelf)
-        c.one_schema.ensures (g.H.Shelf.state c.take_store.new.shelf) c.in_ok-store.store c.requires c.in_ok-store.ensures.takes c.put_store.ensures.puts stands c.asked-outcome.result answers
+    by stands (inl told) = read_answered (QueryAnswer c.args.text.now c.args.json) c.args.dir.now (g.H.Shelf.state c.args.shelf.now) (g.H.Shelf.state c.put_store.new.shelf) (g.H.Counted.faults c.args.shelf.now) (g.H.Counted.faults c.put_store.new.shelf)
+        c.one_schema.ensures (g.H.Shelf.state c.take_store.new.shelf) c.in_ok-store.store c.requires c.in_ok-store.ensures.takes c.put_store.ensures.puts stands c.asked-outcome.result told
     by stands (inr memory) = rw memory (read_lacked (QueryAnswer c.args.text.now c.args.json) c.args.dir.now (g.H.Shelf.state c.args.shelf.now) (g.H.Shelf.state c.put_store.new.shelf) (g.H.Counted.faults c.args.shelf.now) (g.H.Counted.faults c.put_store.new.shelf)
         c.one_schema.ensures (g.H.Shelf.state c.take_store.new.shelf) c.in_ok-store.store c.requires c.in_ok-store.ensures.takes c.put_store.ensures.puts stands)
