@@ -1,0 +1,20 @@
+# shellcheck shell=bash
+# What bash offers behind the word bec.
+_bec() {
+    local word=${COMP_WORDS[COMP_CWORD]} command=${COMP_WORDS[1]} offered=''
+    if [ "$COMP_CWORD" -eq 1 ]; then
+        offered="init keygen apply join dump query heads export merge check help --help --version"
+    elif [ "$command" = help ]; then
+        offered="init keygen apply join dump query heads export merge check status"
+    else
+        case $command,${COMP_WORDS[COMP_CWORD - 1]} in
+        keygen,--height) offered="5 10 15" ;;
+        keygen,--width) offered="1 2 4 8" ;;
+        keygen,*) [[ $word == -* ]] && offered="--height --width" ;;
+        dump,* | query,*) [[ $word == -* ]] && offered="--json" ;;
+        export,*) [[ $word == -* ]] && offered="--updates" ;;
+        esac
+    fi
+    mapfile -t COMPREPLY < <(compgen -W "$offered" -- "$word")
+}
+complete -o default -F _bec bec
