@@ -6,7 +6,8 @@ import sys
 import tempfile
 
 TOP = os.path.dirname(os.path.dirname(os.path.abspath(__file__)))
-PROGRAM = os.path.join(TOP, "crates", "bec", "out", "bec")
+# (the launcher takes the same one)
+PROGRAM = os.environ.get("BEC_PROGRAM") or os.path.join(TOP, "crates", "bec", "out", "bec")
 
 
 def built():
