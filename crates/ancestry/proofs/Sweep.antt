@@ -178,3 +178,10 @@ swept_all graph a b marks swept = by_case (mark_at marks 0) refl (is_ancestor gr
         let first : found.0 ≡ 0 = omega (arith, found.1) in
         let marked : mark_at marks 0 ≡ true = subst (λ j. mark_at marks j ≡ true) first found.2 in
         cc)
+
+-- where all is done but perhaps the first
+pub swept_end : (graph : List (List ℕ)) (a b k : ℕ) (marks : List Bool) → k ≤ 1 → IsSwept graph a b k marks → mark_at marks 0 ≡ is_ancestor graph a b
+swept_end graph a b k marks last swept = swept_all graph a b marks record {
+  sound = swept.sound;
+  complete = λ above. let found = swept.complete above in (found.0, omega (arith, found.1, last), found.2, found.3);
+}

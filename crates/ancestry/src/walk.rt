@@ -1,6 +1,6 @@
 //! The walk from a member down to its ancestors.
 
-ghost use Rattle.std.specs.Prelude.{◌≡◌, ◌<◌, ◌≤◌, ◌+◌, ◌||◌, ◌==◌, ℕ, All, length, slice_index_or, false, IfOk};
+ghost use Rattle.std.specs.Prelude.{◌≡◌, ◌<◌, ◌≤◌, ◌+◌, ◌||◌, ◌==◌, ◌↔◌, ℕ, All, length, slice_index_or, false, IsTrue, IfOk};
 ghost use Rattle.std.specs.List.{list_any};
 ghost use Rattle.ancestry.specs.Since.{is_behind};
 ghost use Rattle.ancestry.specs.Walks.{AreLower, is_ancestor};
@@ -12,7 +12,7 @@ use update_model::PositionList;
 ///
 /// Predecessors stand below the member that names them. So one sweep from `b` down, which marks what each marked
 /// member names, comes to every member only after all that name it, and none has to be looked at twice. Nothing
-/// below `a` leads to it, and the sweep does not look there.
+/// below `a` leads to it, and the sweep does not look there; where the member at `b` names nothing above, there is none.
 pub(crate) fn reaches(
     alloc: Global,
     members: &[PositionList],
@@ -24,6 +24,9 @@ pub(crate) fn reaches(
     requires held { b < length members.now }
     ensures { IfOk result (λ answer. answer ≡ is_ancestor members.now a b) }
 {
+    if are_below(members[b].as_slice(), a) {
+        return Ok(false);
+    }
     let mut marks = vec![in alloc; false; b - a + 1]?;
     marks[b - a] = true;
     for offset in (1..b - a + 1).rev() {
@@ -32,6 +35,15 @@ pub(crate) fn reaches(
         }
     }
     Ok(marks[0])
+}
+
+/// Whether each of these positions is below the first.
+fn are_below(positions: &[u32], first: usize) -> bool
+    ensures { IsTrue result ↔ All (λ p. p < first) positions.now }
+{
+    positions
+        .iter()
+        .all(|position| (*position as usize) < first)
 }
 
 /// Marks the members that are among these positions or ancestors of one of them, in one sweep.

@@ -1,6 +1,8 @@
-use Rattle.std.proofs.Common.{◌≡◌, ◌+◌, ◌-◌, length, slice_set, true, false, ◌∙◌, refl, ap, arith, Bool, List}
+use Rattle.std.proofs.Common.{◌≡◌, ◌+◌, ◌-◌, length, slice_set, All, subst, sym, ◌<◌, true, false, ◌∙◌, refl, ap, arith, Bool, List}
 use Rattle.std.proofs.lemmas.List.{length-set, length-replicate}
-use Rattle.ancestry.proofs.Sweep.{swept_first, swept_next, named_within, put_back}
+use Rattle.ancestry.proofs.Steps.{names_below}
+use Rattle.std.proofs.lemmas.List.{get_or_read}
+use Rattle.ancestry.proofs.Sweep.{preds_read, swept_end, swept_first, swept_next, named_within, put_back}
 use Rattle.ancestry.proofs.walk.reaches.Goals as goal
 
 pub loop-offset-init : goal.loop-offset-init
@@ -15,8 +17,8 @@ loop-offset-init c =
 pub mark_all-requires : goal.mark_all-requires
 mark_all-requires c =
     let long : length c.deref_mut.result.now ≡ c.args.b - c.args.a + 1 = ap (length {A = Bool}) c.deref_mut.ensures.value ∙ c.loop-offset.invariant.long in
-    let is = c.as_slice.ensures in
-    named_within c.args.members.now c.args.a (c.loop-offset.offset - 1) (length c.deref_mut.result.now) c.as_slice.result.now c.requires.lower (omega arith)
+    let is = c.as_slice-then-index.ensures in
+    named_within c.args.members.now c.args.a (c.loop-offset.offset - 1) (length c.deref_mut.result.now) c.as_slice-then-index.result.now c.requires.lower (omega arith)
     (rw is c.index-members-a.is) (omega arith)
 
 pub loop-offset-preserved-then-index : goal.loop-offset-preserved-then-index
@@ -27,7 +29,19 @@ loop-offset-preserved-then-index c =
     let all : length c.mark_all.new.marks ≡ c.loop-offset.marks.len = same ∙ c.deref_mut.ensures.len in
     rw (put_back c.loop-offset.marks.len c.mark_all.new.marks c.loop-offset.marks.items all) record {
       long = same ∙ long;
-      swept = swept_next c.args.members.now c.args.a c.args.b (c.loop-offset.offset - 1) c.loop-offset.offset c.loop-offset.marks.items c.mark_all.new.marks c.as_slice.result.now c.index.result.now
+      swept = swept_next c.args.members.now c.args.a c.args.b (c.loop-offset.offset - 1) c.loop-offset.offset c.loop-offset.marks.items c.mark_all.new.marks c.as_slice-then-index.result.now c.index.result.now
           c.requires.lower (omega arith) (omega arith) (omega arith) (omega arith) c.index.ensures c.if-index.true
-          (rw c.as_slice.ensures c.index-members-a.is) (rw lent at same) (rw lent at c.mark_all.ensures) c.loop-offset.invariant.swept;
+          (rw c.as_slice-then-index.ensures c.index-members-a.is) (rw lent at same) (rw lent at c.mark_all.ensures) c.loop-offset.invariant.swept;
     }
+
+pub returns-then-are_below : goal.returns-then-are_below
+returns-then-are_below c =
+    sym (names_below c.args.members.now c.args.a c.args.b c.requires.lower
+    (subst (All (λ p. p < c.args.a)) (sym (preds_read c.args.members.now c.args.b c.as_slice.result.now c.requires.held (rw c.as_slice.ensures c.index-members-b.is)))
+    (c.are_below.ensures.0 c.if-are_below.true)))
+
+pub returns : goal.returns
+returns c =
+    let marks = c.loop-offset.marks.items in
+    get_or_read marks 0 c.index-2.result.now (omega (arith, c.loop-offset.invariant.long)) c.index-2.ensures false
+    ∙ swept_end c.args.members.now c.args.a c.args.b c.loop-offset.offset marks (omega arith) c.loop-offset.invariant.swept
