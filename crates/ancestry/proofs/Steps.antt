@@ -1,5 +1,5 @@
 -- Ancestors by steps: more steps than needed change nothing, nor do later members, and nothing below leads to a member.
-use Rattle.std.proofs.Common.{◌≡◌, ℕ, zero, suc, ◌<◌, ◌≤◌, Bool, false, ◌||◌, List, [], ◌∷◌, ◌++◌, length, refl, sym, ap, subst, ◌∙◌, arith, inl, inr}
+use Rattle.std.proofs.Common.{◌≡◌, ℕ, zero, suc, ◌<◌, ◌≤◌, Bool, false, ◌||◌, List, [], ◌∷◌, ◌++◌, length, refl, sym, ap, subst, ◌∙◌, arith, inl, inr, All}
 use Rattle.std.specs.Prelude.{◌==◌, Option, unwrap_or}
 use Rattle.std.specs.List.{list_any, AllByRecursion}
 use Rattle.std.proofs.lemmas.Bool.Decides.{eqb_tells}
@@ -65,6 +65,16 @@ no_steps graph lower (suc n) a b low =
 
 pub not_below : (graph : List (List ℕ)) (a b : ℕ) → AreLower graph → b ≤ a → is_ancestor graph a b ≡ false
 not_below graph a b lower low = no_steps graph lower (suc b) a b low
+
+-- what names only members below one does not have it as an ancestor
+pub names_below : (graph : List (List ℕ)) (a b : ℕ) → AreLower graph → All (λ p. p < a) (preds_at graph b) → is_ancestor graph a b ≡ false
+names_below graph a b lower below =
+    by_predecessors graph a b lower
+    ∙ none_passes (λ p. p < a) (λ p. (p == a) || is_ancestor graph a p) (preds_at graph b) (recursion_from_All (λ p. p < a) (preds_at graph b) below)
+    (λ p low. elim (eqb_tells p a) [
+      | inl same ↦ absurd (let e = same.1 in omega arith)
+      | inr apart ↦ rw (apart.0) (not_below graph a p lower (omega arith))
+    ])
 
 -- a position that no member has has no ancestors
 pub none_there : (graph : List (List ℕ)) (a b : ℕ) → length graph ≤ b → is_ancestor graph a b ≡ false

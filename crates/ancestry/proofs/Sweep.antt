@@ -178,3 +178,26 @@ swept_all graph a b marks swept = by_case (mark_at marks 0) refl (is_ancestor gr
         let first : found.0 ≡ 0 = omega (arith, found.1) in
         let marked : mark_at marks 0 ≡ true = subst (λ j. mark_at marks j ≡ true) first found.2 in
         cc)
+
+-- where all is done but perhaps the first
+pub swept_end : (graph : List (List ℕ)) (a b k : ℕ) (marks : List Bool) → k ≤ 1 → IsSwept graph a b k marks → mark_at marks 0 ≡ is_ancestor graph a b
+swept_end graph a b k marks last swept = swept_all graph a b marks record {
+  sound = swept.sound;
+  complete = λ above. let found = swept.complete above in (found.0, omega (arith, found.1, last), found.2, found.3);
+}
+
+-- ---- where nothing is marked below
+
+pub bare_first : (n j : ℕ) (marks : List Bool) → marks ≡ set (replicate (n + 1) false) n true → j < n → mark_at marks j ≡ false
+bare_first n j marks are low = rw are (get_or-set_other (replicate (n + 1) false) n j true false (omega arith) ∙ unmarked (n + 1) j)
+
+pub bare_next : (a j : ℕ) (marks new : List Bool) (preds : List ℕ) → mark_at new j ≡ (mark_at marks j || list_any (λ p. p == a + j) preds) → mark_at marks j ≡ false
+    → list_any (λ p. p == a + j) preds ≡ false → mark_at new j ≡ false
+bare_next a j marks new preds is none unnamed = is ∙ (λ i. none i || unnamed i)
+
+pub swept_bare : (graph : List (List ℕ)) (a b k low : ℕ) (marks : List Bool) → k ≤ low → ((j : ℕ) → j < low → mark_at marks j ≡ false) → IsSwept graph a b k marks → false ≡ is_ancestor graph a b
+swept_bare graph a b k low marks under bare swept = by_case (is_ancestor graph a b) refl
+  where
+    by_case : (t : Bool) → is_ancestor graph a b ≡ t → false ≡ is_ancestor graph a b
+    by_case false e = sym e
+    by_case true e = absurd (let found = swept.complete e in let none = bare found.0 (omega (arith, found.1, under)) in let marked = found.2 in cc)
