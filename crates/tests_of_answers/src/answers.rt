@@ -15,39 +15,298 @@ const TASKS: &str =
 TABLE task DELETABLE\nCOLUMN title TEXT 1 1024\nCOLUMN prio INT 0 9\nCOLUMN card TEXT 1 32 NULL\nREF list list CASCADE\n\
 REF after task SETNULL NULL\nSAMPLE \"Buy\" 3 NULL\n";
 
-/// A query, and the lines of its answer.
-const ANSWERS: [(&str, &str); 9] = [
-    (
-        "SELECT title, after FROM task WHERE title = \"Cook\"",
-        "\"Cook\"\tNULL\n",
-    ),
-    (
-        "SELECT title, prio, list.title FROM task WHERE prio >= 3 ORDER BY prio DESC, title LIMIT 2",
-        "\"Ash\"\t5\t\"Home\"\n\"Cook\"\t5\t\"Home\"\n",
-    ),
-    (
-        "SELECT title FROM task ORDER BY card",
-        "\"Ash\"\n\"Zip\"\n\"Cook\"\n",
-    ),
-    (
-        "SELECT title FROM task ORDER BY card DESC",
-        "\"Cook\"\n\"Ash\"\n\"Zip\"\n",
-    ),
-    (
-        "SELECT title FROM task WHERE card = card OR NOT card = card",
-        "\"Cook\"\n\"Ash\"\n\"Zip\"\n",
-    ),
-    ("SELECT title FROM task WHERE card != \"1\"", "\"Cook\"\n"),
-    (
-        "SELECT title, after.title FROM task WHERE NOT after IS NULL",
-        "\"Zip\"\t\"Ash\"\n",
-    ),
-    (
-        "SELECT title FROM task ORDER BY after.title DESC, prio LIMIT 2",
-        "\"Zip\"\n\"Cook\"\n",
-    ),
-    ("SELECT title FROM task LIMIT 0", ""),
-];
+/// Queries, each with the lines of its answer behind it. A line `;` stands between two.
+const ANSWERS: &str = "SELECT title, after FROM task WHERE title = \"Cook\"\n\
+\"Cook\"\tNULL\n\
+;\n\
+SELECT title, prio, list.title FROM task WHERE prio >= 3 ORDER BY prio DESC, title LIMIT 2\n\
+\"Ash\"\t5\t\"Home\"\n\
+\"Cook\"\t5\t\"Home\"\n\
+;\n\
+SELECT title FROM task ORDER BY card\n\
+\"Ash\"\n\
+\"Zip\"\n\
+\"Cook\"\n\
+;\n\
+SELECT title FROM task ORDER BY card DESC\n\
+\"Cook\"\n\
+\"Ash\"\n\
+\"Zip\"\n\
+;\n\
+SELECT title FROM task WHERE card = card OR NOT card = card\n\
+\"Cook\"\n\
+\"Ash\"\n\
+\"Zip\"\n\
+;\n\
+SELECT title FROM task WHERE card != \"1\"\n\
+\"Cook\"\n\
+;\n\
+SELECT title, after.title FROM task WHERE NOT after IS NULL\n\
+\"Zip\"\t\"Ash\"\n\
+;\n\
+SELECT title FROM task ORDER BY after.title DESC, prio LIMIT 2\n\
+\"Zip\"\n\
+\"Cook\"\n\
+;\n\
+SELECT title FROM task LIMIT 0\n\
+;\n\
+SELECT title FROM task WHERE prio = 5\n\
+\"Cook\"\n\
+\"Ash\"\n\
+;\n\
+SELECT title FROM task WHERE title = \"Cook\"\n\
+\"Cook\"\n\
+;\n\
+SELECT title FROM task WHERE card = \"5\"\n\
+;\n\
+SELECT title FROM task WHERE LEN title = 3\n\
+\"Ash\"\n\
+\"Zip\"\n\
+;\n\
+SELECT title FROM task WHERE after.prio = prio\n\
+;\n\
+SELECT title FROM task WHERE prio = list.cap\n\
+;\n\
+SELECT title FROM task WHERE prio != 5\n\
+\"Zip\"\n\
+;\n\
+SELECT title FROM task WHERE title != \"Cook\"\n\
+\"Ash\"\n\
+\"Zip\"\n\
+;\n\
+SELECT title FROM task WHERE card != \"5\"\n\
+\"Cook\"\n\
+;\n\
+SELECT title FROM task WHERE LEN title != 3\n\
+\"Cook\"\n\
+;\n\
+SELECT title FROM task WHERE after.prio != prio\n\
+\"Zip\"\n\
+;\n\
+SELECT title FROM task WHERE prio != list.cap\n\
+\"Cook\"\n\
+\"Ash\"\n\
+\"Zip\"\n\
+;\n\
+SELECT title FROM task WHERE prio < 5\n\
+\"Zip\"\n\
+;\n\
+SELECT title FROM task WHERE title < \"Cook\"\n\
+\"Ash\"\n\
+;\n\
+SELECT title FROM task WHERE card < \"5\"\n\
+;\n\
+SELECT title FROM task WHERE LEN title < 3\n\
+;\n\
+SELECT title FROM task WHERE after.prio < prio\n\
+;\n\
+SELECT title FROM task WHERE prio < list.cap\n\
+\"Cook\"\n\
+\"Ash\"\n\
+\"Zip\"\n\
+;\n\
+SELECT title FROM task WHERE prio <= 5\n\
+\"Cook\"\n\
+\"Ash\"\n\
+\"Zip\"\n\
+;\n\
+SELECT title FROM task WHERE title <= \"Cook\"\n\
+\"Cook\"\n\
+\"Ash\"\n\
+;\n\
+SELECT title FROM task WHERE card <= \"5\"\n\
+;\n\
+SELECT title FROM task WHERE LEN title <= 3\n\
+\"Ash\"\n\
+\"Zip\"\n\
+;\n\
+SELECT title FROM task WHERE after.prio <= prio\n\
+;\n\
+SELECT title FROM task WHERE prio <= list.cap\n\
+\"Cook\"\n\
+\"Ash\"\n\
+\"Zip\"\n\
+;\n\
+SELECT title FROM task WHERE prio > 5\n\
+;\n\
+SELECT title FROM task WHERE title > \"Cook\"\n\
+\"Zip\"\n\
+;\n\
+SELECT title FROM task WHERE card > \"5\"\n\
+\"Cook\"\n\
+;\n\
+SELECT title FROM task WHERE LEN title > 3\n\
+\"Cook\"\n\
+;\n\
+SELECT title FROM task WHERE after.prio > prio\n\
+\"Zip\"\n\
+;\n\
+SELECT title FROM task WHERE prio > list.cap\n\
+;\n\
+SELECT title FROM task WHERE prio >= 5\n\
+\"Cook\"\n\
+\"Ash\"\n\
+;\n\
+SELECT title FROM task WHERE title >= \"Cook\"\n\
+\"Cook\"\n\
+\"Zip\"\n\
+;\n\
+SELECT title FROM task WHERE card >= \"5\"\n\
+\"Cook\"\n\
+;\n\
+SELECT title FROM task WHERE LEN title >= 3\n\
+\"Cook\"\n\
+\"Ash\"\n\
+\"Zip\"\n\
+;\n\
+SELECT title FROM task WHERE after.prio >= prio\n\
+\"Zip\"\n\
+;\n\
+SELECT title FROM task WHERE prio >= list.cap\n\
+;\n\
+SELECT title FROM task WHERE card IS NULL\n\
+\"Ash\"\n\
+\"Zip\"\n\
+;\n\
+SELECT title FROM task WHERE NOT card IS NULL\n\
+\"Cook\"\n\
+;\n\
+SELECT title FROM task WHERE after IS NULL\n\
+\"Cook\"\n\
+\"Ash\"\n\
+;\n\
+SELECT title FROM task WHERE after.title IS NULL\n\
+\"Cook\"\n\
+\"Ash\"\n\
+;\n\
+SELECT title FROM task WHERE list.title IS NULL\n\
+;\n\
+SELECT title FROM task WHERE NOT card = \"5\"\n\
+\"Cook\"\n\
+\"Ash\"\n\
+\"Zip\"\n\
+;\n\
+SELECT title FROM task WHERE NOT LEN card < 20\n\
+\"Ash\"\n\
+\"Zip\"\n\
+;\n\
+SELECT title FROM task WHERE prio = 5 AND card IS NULL\n\
+\"Ash\"\n\
+;\n\
+SELECT title FROM task WHERE prio = 1 OR prio = 5 AND NOT card IS NULL\n\
+\"Cook\"\n\
+\"Zip\"\n\
+;\n\
+SELECT title FROM task WHERE (prio = 1 OR prio = 5) AND NOT card IS NULL\n\
+\"Cook\"\n\
+;\n\
+SELECT title FROM task WHERE NOT prio = 1 AND NOT prio = 5\n\
+;\n\
+SELECT title FROM task WHERE TRUE = TRUE\n\
+\"Cook\"\n\
+\"Ash\"\n\
+\"Zip\"\n\
+;\n\
+SELECT title FROM task WHERE TRUE < FALSE\n\
+;\n\
+SELECT title FROM task WHERE NOT NOT prio = 1\n\
+\"Zip\"\n\
+;\n\
+SELECT title, prio FROM task ORDER BY prio\n\
+\"Zip\"\t1\n\
+\"Cook\"\t5\n\
+\"Ash\"\t5\n\
+;\n\
+SELECT title, prio FROM task ORDER BY prio DESC\n\
+\"Cook\"\t5\n\
+\"Ash\"\t5\n\
+\"Zip\"\t1\n\
+;\n\
+SELECT title, prio FROM task ORDER BY prio, title\n\
+\"Zip\"\t1\n\
+\"Ash\"\t5\n\
+\"Cook\"\t5\n\
+;\n\
+SELECT title, prio FROM task ORDER BY prio DESC, title DESC\n\
+\"Cook\"\t5\n\
+\"Ash\"\t5\n\
+\"Zip\"\t1\n\
+;\n\
+SELECT prio, prio FROM task ORDER BY title\n\
+5\t5\n\
+5\t5\n\
+1\t1\n\
+;\n\
+SELECT title, list.cap FROM task ORDER BY list.cap, title\n\
+\"Ash\"\t9\n\
+\"Cook\"\t9\n\
+\"Zip\"\t9\n\
+;\n\
+SELECT after.title, title FROM task ORDER BY after.title\n\
+NULL\t\"Cook\"\n\
+NULL\t\"Ash\"\n\
+\"Ash\"\t\"Zip\"\n\
+;\n\
+SELECT after.title, title FROM task ORDER BY after.title DESC\n\
+\"Ash\"\t\"Zip\"\n\
+NULL\t\"Cook\"\n\
+NULL\t\"Ash\"\n\
+;\n\
+SELECT title, after.card FROM task ORDER BY after, title DESC\n\
+\"Cook\"\tNULL\n\
+\"Ash\"\tNULL\n\
+\"Zip\"\tNULL\n\
+;\n\
+SELECT title FROM task ORDER BY after DESC\n\
+\"Zip\"\n\
+\"Cook\"\n\
+\"Ash\"\n\
+;\n\
+SELECT title FROM task ORDER BY list, title\n\
+\"Ash\"\n\
+\"Cook\"\n\
+\"Zip\"\n\
+;\n\
+SELECT title FROM task LIMIT 1\n\
+\"Cook\"\n\
+;\n\
+SELECT title FROM task LIMIT 3\n\
+\"Cook\"\n\
+\"Ash\"\n\
+\"Zip\"\n\
+;\n\
+SELECT title FROM task LIMIT 4294967295\n\
+\"Cook\"\n\
+\"Ash\"\n\
+\"Zip\"\n\
+;\n\
+SELECT title FROM task WHERE prio < 9 ORDER BY title DESC LIMIT 2\n\
+\"Zip\"\n\
+\"Cook\"\n\
+;\n\
+SELECT title FROM task WHERE prio > 9\n\
+;\n\
+SELECT title, after FROM task WHERE NOT after IS NULL\n\
+\"Zip\"\t0404040404040404040404040404040404040404040404040404040404040404:0\n\
+;\n\
+SELECT title FROM list WHERE cap > 9\n\
+;\n\
+SELECT title, cap FROM list WHERE title = \"Home\"\n\
+\"Home\"\t9\n\
+;\n\
+SELECT title, list.cap FROM task ORDER BY prio, title DESC LIMIT 2\n\
+\"Zip\"\t9\n\
+\"Cook\"\t9\n\
+;\n\
+SELECT title FROM task WHERE prio < 5 OR after.title = \"Ash\" AND prio = 5\n\
+\"Zip\"\n\
+;\n\
+SELECT title FROM task WHERE NOT prio = 5 ORDER BY card, title\n\
+\"Zip\"\n\
+;\n\
+SELECT title, card FROM task ORDER BY card DESC, title DESC LIMIT 2\n\
+\"Cook\"\t\"79927398713\"\n\
+\"Zip\"\tNULL\n";
 
 /// A name that rises with the number.
 fn name_of(number: u8) -> RowName {
@@ -134,7 +393,8 @@ fn queries_are_answered(rt: HostRuntime) -> Result<(), Fail> {
     let native: Native<Luhn, Luhn> = Native::new(Luhn);
     let schema = read_schema(alloc, TASKS.as_bytes(), &native)?;
     let tables = lists(alloc)?;
-    for (query, wanted) in ANSWERS {
+    for case in ANSWERS.split(";\n") {
+        let (query, wanted) = case.split_once('\n').unwrap_or((case, ""));
         let (lines, _json) = answered(alloc, &schema, &native, tables.as_slice(), query)?;
         assert_eq!(rt; lines.as_slice(), wanted.as_bytes(), "at {query}");
     }

@@ -1,11 +1,12 @@
 //! The visible rows of a table, and what their values show.
 
-ghost use Rattle.std.specs.Prelude.{◌≡◌, ◌++◌, ◌&&◌, IfOk, OnOk, filter, map};
+ghost use Rattle.std.specs.Prelude.{◌≡◌, ◌<◌, ◌++◌, ◌&&◌, IfOk, OnOk, Some, filter, length, map, slice_get};
 ghost use Rattle.table_model.specs.Tables.{listed};
 ghost use Rattle.table_model.specs.Verdicts.{in_table};
 ghost use Rattle.table_model.specs.Visible.{is_visible, shown};
 ghost use Rattle.tuple_state.specs.Showing.{is_shown_null, shown_by, shown_values_by};
 ghost use Rattle.tuple_state.specs.State.{done_in, row_of, rules_of};
+ghost use Rattle.tuple_state.specs.declared.inserted.Inserted.{Inserted as Row};
 
 use crate::{Inserted, Tables};
 use schema::{Action, Column, ColumnKind};
@@ -101,27 +102,28 @@ fn shown_row(alloc: Global, tables: &Tables, row: &Inserted) -> Result<ShownRow,
     })
 }
 
-/// Whether a row is one of the table with this number, and visible.
-fn is_listed(tables: &Tables, table: u8, row: &Inserted) -> bool
-    ensures { result ≡ (in_table table (row_of row.now) && is_visible (rules_of tables.now) (done_in tables.now) row.now.name) }
+/// Whether the row at a place is one of the table with this number, and visible.
+fn is_listed(tables: &Tables, table: u8, place: usize) -> bool
+    requires { place < length tables.now.inserted }
+    ensures { (it : Row) → slice_get tables.now.inserted place ≡ Some it
+        → result ≡ (in_table table (row_of it) && is_visible (rules_of tables.now) (done_in tables.now) it.name) }
 {
-    row.entry.table == table && tables.is_shown(&row.name)
+    tables.is_in(place, table) && tables.is_marked(place)
 }
 
-/// Those of these rows that are visible rows of the table with this number, as it lists them.
-pub(crate) fn listed_among(
+/// The visible rows of the table with this number in order of arrival, as it lists them.
+pub(crate) fn listed_rows(
     alloc: Global,
     tables: &Tables,
     table: u8,
-    rows: &[Inserted],
 ) -> Result<Vec<ShownRow>, AllocError>
     ensures { IfOk result (λ lines. lines.items ≡ map (λ it. listed (shown (rules_of tables.now) (done_in tables.now) (row_of it)))
-        (filter (λ it. in_table table (row_of it) && is_visible (rules_of tables.now) (done_in tables.now) it.name) rows.now)) }
+        (filter (λ it. in_table table (row_of it) && is_visible (rules_of tables.now) (done_in tables.now) it.name) tables.now.inserted)) }
 {
     let mut lines = Vec::new(alloc);
-    for row in rows {
-        if is_listed(tables, table, row) {
-            lines.push(shown_row(alloc, tables, row)?)?;
+    for place in 0..tables.row_len() {
+        if is_listed(tables, table, place) {
+            lines.push(shown_row(alloc, tables, tables.row(place))?)?;
         }
     }
     Ok(lines)

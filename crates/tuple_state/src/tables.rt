@@ -27,7 +27,7 @@ use crate::deleters::grow_links;
 use crate::links::Links;
 use crate::parents::{add_parents, add_places, remove_places};
 use crate::restricts::{is_held, restricts};
-use crate::showing::{copy_rows, listed_among};
+use crate::showing::{copy_rows, listed_rows};
 use crate::steps::{dropped_by, inserted_by};
 use crate::{At, Dropped, Inserted, Voided};
 use row_check::{Cmp, compare};
@@ -357,7 +357,7 @@ impl Tables {
     pub fn rows(&self, alloc: Global, table: u8) -> Result<ShownRowList, AllocError>
         ensures { IfOk result (λ rows. (rules : Rules) (nodes : List NodeData) → IsStateOf rules nodes self.now → AreRowsIn rules nodes table rows) }
     {
-        let lines = listed_among(alloc, self, table, self.rows.as_slice())?;
+        let lines = listed_rows(alloc, self, table)?;
         Ok(ShownRowList::from_vec(sort_rows(lines)))
     }
 
