@@ -15,7 +15,7 @@ const TASKS: &str =
 TABLE task DELETABLE\nCOLUMN title TEXT 1 1024\nCOLUMN prio INT 0 9\nCOLUMN card TEXT 1 32 NULL\nREF list list CASCADE\n\
 REF after task SETNULL NULL\nSAMPLE \"Buy\" 3 NULL\n";
 
-/// Queries, each with the lines of its answer behind it. A line `;` stands between two.
+/// Queries, each with the lines of its answer behind it, or its first fault. A line `;` stands between two.
 const ANSWERS: &str = "SELECT title, after FROM task WHERE title = \"Cook\"\n\
 \"Cook\"\tNULL\n\
 ;\n\
@@ -306,7 +306,43 @@ SELECT title FROM task WHERE NOT prio = 5 ORDER BY card, title\n\
 ;\n\
 SELECT title, card FROM task ORDER BY card DESC, title DESC LIMIT 2\n\
 \"Cook\"\t\"79927398713\"\n\
-\"Zip\"\tNULL\n";
+\"Zip\"\tNULL\n\
+;\n\
+SELECT title FROM\n\
+! 1:18: unknown word\n\
+;\n\
+SELECT title FROM lst\n\
+! 1:19: unknown table\n\
+;\n\
+SELECT name FROM task\n\
+! 1:8: unknown column\n\
+;\n\
+SELECT title FROM task WHERE prio > \"x\"\n\
+! 1:37: types differ\n\
+;\n\
+SELECT title FROM task LIMIT x\n\
+! 1:30: not a value\n\
+;\n\
+SELECT title FROM task ORDER prio\n\
+! 1:30: unknown word\n\
+;\n\
+SELECT list.name FROM task\n\
+! 1:8: unknown column\n\
+;\n\
+SELECT title FROM task WHERE LEN prio = 3\n\
+! 1:34: types differ\n\
+;\n\
+SELECT title FROM task LIMIT 4294967296\n\
+! 1:30: not a value\n\
+;\n\
+SELECT title FROM task WHERE\n\
+! 1:29: unknown word\n\
+;\n\
+SELECT title FROM task WHERE list = 1\n\
+! 1:30: types differ\n\
+;\n\
+SELECT nothing FROM nowhere WHERE prio >\n\
+! 1:41: unknown word\n";
 
 /// A name that rises with the number.
 fn name_of(number: u8) -> RowName {
@@ -387,6 +423,24 @@ fn answered(
     }
 }
 
+/// The lines of the answer, or the first fault.
+fn told(
+    alloc: Global,
+    schema: &Schema,
+    native: &Native<Luhn, Luhn>,
+    tables: &[ShownRowList],
+    query: &str,
+) -> Result<Vec<u8>, QueryError> {
+    match answered(alloc, schema, native, tables, query) {
+        Ok((lines, _json)) => Ok(lines),
+        Err(QueryError::Fault(fault)) => match format!(in alloc; "! {fault}\n") {
+            Ok(line) => Ok(line.into_bytes()),
+            Err(_) => Err(QueryError::Memory),
+        },
+        Err(QueryError::Memory) => Err(QueryError::Memory),
+    }
+}
+
 #[test]
 fn queries_are_answered(rt: HostRuntime) -> Result<(), Fail> {
     let alloc = rt.alloc();
@@ -395,7 +449,7 @@ fn queries_are_answered(rt: HostRuntime) -> Result<(), Fail> {
     let tables = lists(alloc)?;
     for case in ANSWERS.split(";\n") {
         let (query, wanted) = case.split_once('\n').unwrap_or((case, ""));
-        let (lines, _json) = answered(alloc, &schema, &native, tables.as_slice(), query)?;
+        let lines = told(alloc, &schema, &native, tables.as_slice(), query)?;
         assert_eq!(rt; lines.as_slice(), wanted.as_bytes(), "at {query}");
     }
     Ok(())
