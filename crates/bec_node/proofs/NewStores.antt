@@ -35,7 +35,7 @@ use Rattle.bec_node.specs.declared.refusal.Refusal.TheVariants as refusals
 use Rattle.bec_node.specs.Comes.{readings}
 use Rattle.bec_node.specs.Creating.{HasSchema, InitAnswer, Inits, IsInitFault, IsRefused, Lasts, LeavesOldOrNew, created, refused, there as store_there}
 use Rattle.bec_node.specs.Inputs.{ReadsText}
-use Rattle.bec_node.specs.Outcome.{Outcome, from_creating, from_disk, from_reading, from_taking}
+use Rattle.bec_node.specs.Outcome.{from_creating, from_disk, from_reading, from_taking}
 use Rattle.bec_node.specs.Outside.{Outside}
 use Rattle.bec_node.specs.StoreAnswers.{next_bytes}
 use Rattle.bec_node.specs.Texts.{database_text}
