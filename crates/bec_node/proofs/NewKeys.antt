@@ -6,12 +6,13 @@ use Rattle.std.specs.Int.{w32, to_be_bytes}
 use Rattle.hex.specs.Hex.{encode_lower, encode_with, lower_digits}
 use Rattle.update_model.specs.declared.author_key.AuthorKey.{AuthorKey}
 use Rattle.bec_bytes.specs.Causes.{Rose}
-use Rattle.bec_disk.specs.Disk.{DiskState}
+use Rattle.bec_disk.specs.Disk.{DiskState, IsSettled}
 use Rattle.bec_disk.specs.Gated.{gated_of}
 use Rattle.bec_disk.specs.declared.gated.Gated.TheVariants.{Absent}
 use Rattle.bec_disk.specs.declared.part.Part.TheVariants.{Key, Used}
 use Rattle.bec_disk.specs.Shelf.{PartState, ShelfState, absent, out, stands}
 use Rattle.bec_disk.specs.Slot.{Slot, slot}
+use Rattle.bec_disk.proofs.Images.{settled_image}
 use Rattle.lm_ots.specs.declared.ots_type.OtsType.{OtsType}
 use Rattle.lms_tree.specs.declared.lms_type.LmsType.{LmsType}
 use Rattle.lms_tree.specs.LmsKind.{leaf_count}
@@ -26,13 +27,13 @@ use Rattle.store_directory.specs.Keys.{IsNoKey, PutsKey}
 use Rattle.store_directory.specs.Making.{IsHanded, IsNewKeyCause, LetsNewGo, MakesKey, seen_in}
 use Rattle.store_directory.specs.Stores.{IsHome, IsUntouched, KeepsAllBut, part_in, reading}
 use Rattle.store_directory.proofs.Handing.{untouched_by}
-use Rattle.store_directory.proofs.Making.{handed_slot}
+use Rattle.store_directory.proofs.Making.{gated_since, handed_slot, untouched_since}
 use Rattle.store_directory.proofs.Places.{home_again, keeps_through, stands-not-out}
 use Rattle.store_directory.proofs.Putting.{told}
 use Rattle.bec_node.specs.declared.refusal.Refusal.{Refusal}
 use Rattle.bec_node.specs.declared.refusal.Refusal.TheVariants as refusals
 use Rattle.bec_node.specs.Comes.{readings}
-use Rattle.bec_node.specs.Creating.{DrawsKey, HasKeyPart, drawn, there as key_there}
+use Rattle.bec_node.specs.Creating.{DrawsKey, HasKeyPart, Lasts, LeavesOldOrNew, drawn, there as key_there}
 use Rattle.bec_node.specs.Outcome.{from_creating_key}
 use Rattle.bec_node.specs.Texts.{key_text}
 
@@ -71,6 +72,10 @@ key_pushed start s1 s2 s3 s4 s5 a b c d key is_a is_b is_c is_d x1 x2 x3 x4 x5 =
     x5 ∙ ap (λ (w : List ℕ). w ++ 10 ∷ []) (x4 ∙ ap (λ (w : List ℕ). w ++ d) (x3 ∙ ap (λ (w : List ℕ). w ++ c) (x2 ∙ ap (λ (w : List ℕ). w ++ b) x1))) ∙ key_line_is start a b c d key is_a is_b is_c is_d
 
 -- ---- a key
+
+-- a part that was put back on the disk lasts
+pub lasting : (part : PartState) (disk : DiskState) → part ≡ stands disk → IsSettled disk → Lasts part
+lasting part disk back settled = subst Lasts (sym back) (settled_image disk (λ image. image ≡ disk.seen) settled refl)
 
 -- a part that is there and not absent is not absent as it is read
 key_full : (part : PartState) → (IsNoKey (reading part) → ⊥) → gated_of (seen_in part) ≢ Absent
@@ -114,16 +119,17 @@ module _ (lms : LmsType) (ots : OtsType) (stream : Stream) (dir : List ℕ) (bef
     pub key_refused : (why : CreateKeyKind) → (IsTrue before.tells → IsNewKeyCause (reading (part_in before dir Key)) why) → (why ≡ key_kinds.DiskFault → Rose old new)
         → DrawsKey lms ots stream dir before after old new (Err (from_creating_key why))
     key_refused key_kinds.KeyThere cause failed =
-        record { comes = inl (λ tells. key_there (cause tells) refl); kept = kept; others = lets.others; home = λ tells. lets.home tells (home tells) }
-    key_refused key_kinds.DiskFault cause failed = record { comes = inr (inr (refl, failed refl)); kept = kept; others = lets.others; home = λ tells. lets.home tells (home tells) }
-    key_refused key_kinds.Memory cause failed = record { comes = inr (inl refl); kept = kept; others = lets.others; home = λ tells. lets.home tells (home tells) }
+        record { comes = inl (λ tells. key_there (cause tells) refl); kept = kept; any_moment = lets.any_moment; lasts = λ tells. tt; others = lets.others; home = λ tells. lets.home tells (home tells) }
+    key_refused key_kinds.DiskFault cause failed = record { comes = inr (inr (refl, failed refl)); kept = kept; any_moment = lets.any_moment; lasts = λ tells. tt; others = lets.others; home = λ tells. lets.home tells (home tells) }
+    key_refused key_kinds.Memory cause failed = record { comes = inr (inl refl); kept = kept; any_moment = lets.any_moment; lasts = λ tells. tt; others = lets.others; home = λ tells. lets.home tells (home tells) }
 
   -- where none was asked for
   pub key_unasked : after ≡ before → DrawsKey lms ots stream dir before after old new (Err refusals.Memory)
   key_unasked same =
       let untouched : (p : PartState) → IsUntouched p p = λ p. untouched_by p p refl in
       let here : DrawsKey lms ots stream dir before before old new (Err refusals.Memory) =
-      record { comes = inr (inl refl); kept = λ tells there. (untouched (part_in before dir Key), untouched (part_in before dir Used)); others = λ tells other away. refl; home = home } in
+      record { comes = inr (inl refl); kept = λ tells there. (untouched (part_in before dir Key), untouched (part_in before dir Used));
+        any_moment = λ tells. untouched_since (part_in before dir Key) (part_in before dir Key) (payload_of (drawn_key lms ots stream)) (untouched (part_in before dir Key)); lasts = λ tells. tt; others = λ tells other away. refl; home = home } in
       subst (λ (s : ShelfState). DrawsKey lms ots stream dir before s old new (Err refusals.Memory)) (sym same) here
 
   -- where one was made and put back
@@ -133,6 +139,17 @@ module _ (lms : LmsType) (ots : OtsType) (stream : Stream) (dir : List ℕ) (bef
 
     untouched_key : IsTrue before.tells → HasKeyPart (readings before dir) → IsUntouched (part_in before dir Key) (part_in after dir Key) × IsUntouched (part_in before dir Used) (part_in after dir Used)
     untouched_key tells there = absurd (there (none_there (drawn_key lms ots stream) dir before opened key makes tells))
+
+    key_moments : IsTrue before.tells → LeavesOldOrNew (payload_of (drawn_key lms ots stream)) (part_in before dir Key) (part_in after dir Key)
+    key_moments tells =
+        let c = makes.created tells in
+        gated_since (slot dir Key) (part_in before dir Key) (part_in after dir Key) c.0.key key.parts.key (payload_of (drawn_key lms ots stream)) c.1 (puts.key_back (opened_tells tells)) c.3.creating.any_moment
+
+    key_lasts : IsTrue before.tells → Lasts (part_in after dir Key) × Lasts (part_in after dir Used)
+    key_lasts tells = (
+        lasting (part_in after dir Key) key.parts.key (puts.key_back (opened_tells tells)) ((makes.created tells).3.key (key_told (drawn_key lms ots stream) dir before opened key makes tells)).settled,
+        lasting (part_in after dir Used) key.parts.used (puts.used_back (opened_tells tells)) ((makes.created tells).3.used (used_told (drawn_key lms ots stream) dir before opened key makes tells)).settled,
+      )
 
     key_others : IsTrue before.tells → KeepsAllBut (Key ∷ Used ∷ []) dir before after
     key_others tells = keeps_through (Key ∷ Used ∷ []) dir before opened after makes.others (puts.others (opened_tells tells))
@@ -151,15 +168,17 @@ module _ (lms : LmsType) (ots : OtsType) (stream : Stream) (dir : List ℕ) (bef
           (ap reading (puts.used_back (opened_tells tells)) ∙ ap Some (c.3.used (used_told (drawn_key lms ots stream) dir before opened key makes tells)).seen)
           (printed ∙ ap (λ (s : SecretData). key_text (public_key s)) c.3.made));
       kept = untouched_key;
+      any_moment = key_moments;
+      lasts = key_lasts;
       others = key_others;
       home = key_home;
     }
 
     pub key_lacked : DrawsKey lms ots stream dir before after old new (Err refusals.Memory)
-    key_lacked = record { comes = inr (inl refl); kept = untouched_key; others = key_others; home = key_home }
+    key_lacked = record { comes = inr (inl refl); kept = untouched_key; any_moment = key_moments; lasts = λ tells. tt; others = key_others; home = key_home }
 
 -- ---- want of memory in place of a refusal
 
 pub key_without_memory : (lms : LmsType) (ots : OtsType) (stream : Stream) (dir : List ℕ) (before after : ShelfState) (old new : ℕ) (refusal : Refusal) → DrawsKey lms ots stream dir before after old new (Err refusal)
     → DrawsKey lms ots stream dir before after old new (Err refusals.Memory)
-key_without_memory lms ots stream dir before after old new refusal draws = record { comes = inr (inl refl); kept = draws.kept; others = draws.others; home = draws.home }
+key_without_memory lms ots stream dir before after old new refusal draws = record { comes = inr (inl refl); kept = draws.kept; any_moment = draws.any_moment; lasts = λ tells. tt; others = draws.others; home = draws.home }

@@ -1,9 +1,11 @@
 -- A command that makes the store of a directory.
-use Rattle.std.proofs.Common.{◌≡◌, ◌≢◌, ◌⊎◌, inl, inr, ℕ, Bool, true, false, List, [], ◌∷◌, length, refl, sym, ap, subst, ◌∙◌, IsTrue, Option, Some, None, Ok, Err, Vec}
-use Rattle.std.specs.Prelude.{◌||◌}
+use Rattle.std.proofs.Common.{◌≡◌, ◌≢◌, ◌⊎◌, inl, inr, ℕ, Bool, true, false, List, [], ◌∷◌, ◌++◌, ◌≤◌, length, refl, sym, ap, subst, ◌∙◌, IsTrue, Option, Some, None, Ok, Err, Vec}
+use Rattle.std.specs.Prelude.{◌||◌, IfSome}
 use Rattle.std.specs.declared.alloc.Global.{Global}
 use Rattle.row_check.specs.Checksum.{is_luhn}
 use Rattle.bec_bytes.specs.Causes.{Rose}
+use Rattle.bec_bytes.specs.declared.read_error.ReadError.{ReadError}
+use Rattle.bec_bytes.specs.declared.read_error.ReadError.TheVariants as read_errors
 use Rattle.bec_disk.specs.Gated.{gated_of}
 use Rattle.bec_disk.specs.declared.disk_error.DiskError.{DiskError}
 use Rattle.bec_disk.specs.declared.disk_error.DiskError.TheVariants as disk_errors
@@ -22,8 +24,8 @@ use Rattle.store_directory.specs.Holding.{OpenData, PutsStore}
 use Rattle.store_directory.specs.Making.{IsNewStoreCause, LetsNewGo, MakesStore}
 use Rattle.store_directory.specs.Stores.{IsHome, IsNoStore, IsStore, IsUntouched, KeepsAllBut, part_in, reading}
 use Rattle.store_directory.proofs.Handing.{untouched_by}
-use Rattle.store_directory.proofs.Made.{empty_store, made_is_store}
-use Rattle.store_directory.proofs.Making.{handed_slot}
+use Rattle.store_directory.proofs.Made.{empty_store, made_is_store, made_settled}
+use Rattle.store_directory.proofs.Making.{gated_since, handed_slot, untouched_since, untouched_then}
 use Rattle.store_directory.proofs.Places.{home_again, keeps_through, neither, stands-not-out}
 use Rattle.store_directory.proofs.Putting.{told}
 use Rattle.store_directory.proofs.Readings.{OneSchema}
@@ -31,13 +33,14 @@ use Rattle.store_directory.proofs.Working.{home_after_store}
 use Rattle.bec_node.specs.declared.refusal.Refusal.{Refusal}
 use Rattle.bec_node.specs.declared.refusal.Refusal.TheVariants as refusals
 use Rattle.bec_node.specs.Comes.{readings}
-use Rattle.bec_node.specs.Creating.{HasSchema, InitAnswer, Inits, IsInitFault, IsRefused, created, refused, there as store_there}
+use Rattle.bec_node.specs.Creating.{HasSchema, InitAnswer, Inits, IsInitFault, IsRefused, Lasts, LeavesOldOrNew, created, refused, there as store_there}
 use Rattle.bec_node.specs.Inputs.{ReadsText}
-use Rattle.bec_node.specs.Outcome.{Outcome, from_creating, from_disk, from_taking}
+use Rattle.bec_node.specs.Outcome.{from_creating, from_disk, from_reading, from_taking}
 use Rattle.bec_node.specs.Outside.{Outside}
 use Rattle.bec_node.specs.StoreAnswers.{next_bytes}
 use Rattle.bec_node.specs.Texts.{database_text}
-use Rattle.bec_node.proofs.Checking.{whole_refused, whole_taken}
+use Rattle.bec_node.proofs.Checking.{no_longer, whole_refused, whole_taken}
+use Rattle.bec_node.proofs.NewKeys.{lasting}
 
 -- a text has no reason to be refused that is taken
 abbrev pub TakenOrRefused : Type 0
@@ -81,37 +84,47 @@ module _ (dir : List ℕ) (before after : ShelfState) (home : IsTrue before.tell
 module _ {S H R : Type 0} (dir : List ℕ) (before after : Outside S H R) (home : IsTrue before.store.tells → IsHome before.store) where
   -- where nothing was made
   module _ (untouched : IsTrue before.store.tells → IsUntouched (part_in before.store dir Schema) (part_in after.store dir Schema)) (others : IsTrue before.store.tells → KeepsAllBut (Schema ∷ []) dir before.store after.store) where
-    init_looked : (outcome : Outcome) → (IsTrue before.store.tells → InitAnswer before.left after.left before.stream (readings before.store dir) (readings after.store dir) outcome) ⊎ IsInitFault before after outcome
-        → (IsTrue before.store.tells → HasSchema (readings before.store dir) → after.source ≡ before.source) → Inits dir before after outcome
-    init_looked outcome comes unread = record {
+    looked_moments : (left : Option (List ℕ)) → IsTrue before.store.tells → (text : List ℕ) × IfSome left (λ input. text ≡ input) × LeavesOldOrNew (next_bytes before.stream ++ text) (part_in before.store dir Schema) (part_in after.store dir Schema)
+    looked_moments None tells = ([], tt, untouched_since (part_in before.store dir Schema) (part_in after.store dir Schema) (next_bytes before.stream ++ []) (untouched tells))
+    looked_moments (Some input) tells = (input, refl, untouched_since (part_in before.store dir Schema) (part_in after.store dir Schema) (next_bytes before.stream ++ input) (untouched tells))
+
+    init_looked : (why : Refusal) → (IsTrue before.store.tells → InitAnswer before.left after.left before.stream (readings before.store dir) (readings after.store dir) (Err why)) ⊎ IsInitFault before after (Err why)
+        → (IsTrue before.store.tells → HasSchema (readings before.store dir) → after.source ≡ before.source) → Inits dir before after (Err why)
+    init_looked why comes unread = record {
       comes = comes;
       unread = unread;
-      kept = λ tells why. looked_kept dir before.store after.store home untouched others tells;
+      kept = λ tells is. looked_kept dir before.store after.store home untouched others tells;
+      any_moment = λ tells. looked_moments before.left tells;
+      lasts = λ tells. tt;
       others = looked_others dir before.store after.store home untouched others;
       home = looked_home dir before.store after.store home untouched others;
     }
 
     pub init_unlooked : (why : DiskError) → after.source ≡ before.source → (why ≡ disk_errors.DiskFault → Rose before.shelf_faults after.shelf_faults) → Inits dir before after (Err (from_disk why))
-    init_unlooked disk_errors.DiskFault same failed = init_looked (Err refusals.StoreFault) (inr (inr (inr (refl, failed refl)))) (λ tells there. same)
-    init_unlooked disk_errors.Memory same failed = init_looked (Err refusals.Memory) (inr (inr (inl refl))) (λ tells there. same)
+    init_unlooked disk_errors.DiskFault same failed = init_looked refusals.StoreFault (inr (inr (inr (refl, failed refl)))) (λ tells there. same)
+    init_unlooked disk_errors.Memory same failed = init_looked refusals.Memory (inr (inr (inl refl))) (λ tells there. same)
 
     pub init_there : after.source ≡ before.source → (IsTrue before.store.tells → HasSchema (readings before.store dir)) → Inits dir before after (Err refusals.StoreThere)
-    init_there same has = init_looked (Err refusals.StoreThere) (inl (λ tells. store_there (has tells) refl)) (λ tells there. same)
+    init_there same has = init_looked refusals.StoreThere (inl (λ tells. store_there (has tells) refl)) (λ tells there. same)
 
     -- where there was no store
     module _ (none : IsTrue before.store.tells → IsNoStore (reading (part_in before.store dir Schema))) where
       never : IsTrue before.store.tells → HasSchema (readings before.store dir) → after.source ≡ before.source
       never tells there = absurd (there (none tells))
 
-      pub init_failed : Rose before.source_faults after.source_faults → Inits dir before after (Err refusals.Stream)
-      init_failed rose = init_looked (Err refusals.Stream) (inr (inl (refl, rose))) never
+      init_failed : Rose before.source_faults after.source_faults → Inits dir before after (Err refusals.Stream)
+      init_failed rose = init_looked refusals.Stream (inr (inl (refl, rose))) never
 
       pub init_lacked : Inits dir before after (Err refusals.Memory)
-      init_lacked = init_looked (Err refusals.Memory) (inr (inr (inl refl))) never
+      init_lacked = init_looked refusals.Memory (inr (inr (inl refl))) never
+
+      pub init_unread : (why : ReadError) → (why ≡ read_errors.Failed → Rose before.source_faults after.source_faults) → Inits dir before after (Err (from_reading why))
+      init_unread read_errors.Failed failed = init_failed (failed refl)
+      init_unread read_errors.Memory failed = init_lacked
 
       pub init_refused : (read : List ℕ) (why : SchemaRefusal) → ReadsText 65536 before.left after.left read → RefusesSchema is_luhn read why ⊎ (why ≡ taking.Memory) → Inits dir before after (Err (from_taking why))
       init_refused read why reads (inr memory) = subst (λ (w : SchemaRefusal). Inits dir before after (Err (from_taking w))) (sym memory) init_lacked
-      init_refused read why reads (inl refuses) = init_looked (Err (from_taking why)) (inl (λ tells. by before.left reads refuses (none tells))) never
+      init_refused read why reads (inl refuses) = init_looked (from_taking why) (inl (λ tells. by before.left reads refuses (none tells))) never
         where
           by : (left : Option (List ℕ)) → ReadsText 65536 left after.left read → RefusesSchema is_luhn read why → IsNoStore (reading (part_in before.store dir Schema))
               → InitAnswer left after.left before.stream (readings before.store dir) (readings after.store dir) (Err (from_taking why))
@@ -128,28 +141,40 @@ module _ {S H R : Type 0} (dir : List ℕ) (before after : Outside S H R) (home 
     mid_home : IsTrue before.store.tells → IsHome mid
     mid_home tells = looked_home dir before.store mid home untouched others tells
 
+    -- the text is what the source has
+    text_is : (left : Option (List ℕ)) → ReadsText 65536 left after.left read → IfSome left (λ input. read ≡ input)
+    text_is None reads = tt
+    text_is (Some input) reads = reads.0 ∙ no_longer input (subst (λ (t : List ℕ). length t ≤ 65536) reads.0 takes.declares.0)
+
     unread_here : IsTrue before.store.tells → HasSchema (readings before.store dir) → after.source ≡ before.source
     unread_here tells there = absurd (there (none tells))
 
-    pub init_not_made : TakenOrRefused → (payload filling : List ℕ) (why : CreateKind) → LetsNewGo Schema Updates payload filling mid dir after.store
+    pub init_not_made : TakenOrRefused → (node : List ℕ) (why : CreateKind) → node ≡ next_bytes before.stream → ReadsText 65536 before.left after.left read → LetsNewGo Schema Updates (node ++ read) [] mid dir after.store
         → (IsTrue mid.tells → IsNewStoreCause is_luhn (reading (part_in mid dir Schema)) read why) → (why ≡ create_kinds.DiskFault → Rose before.shelf_faults after.shelf_faults)
         → Inits dir before after (Err (from_creating why))
-    init_not_made either payload filling why lets cause failed = by why cause failed
+    init_not_made either node why drawn reads lets cause failed = by why cause failed
       where
         Untouched : Type 0
         Untouched = IsUntouched (part_in before.store dir Schema) (part_in after.store dir Schema) × IsUntouched (part_in before.store dir Updates) (part_in after.store dir Updates)
 
-        so : (outcome : Outcome) → (IsTrue before.store.tells → InitAnswer before.left after.left before.stream (readings before.store dir) (readings after.store dir) outcome) ⊎ IsInitFault before after outcome
-            → (IsTrue before.store.tells → IsRefused outcome → ⊥) → Inits dir before after outcome
-        so outcome comes not = record {
+        run : IsTrue before.store.tells → LeavesOldOrNew (next_bytes before.stream ++ read) (part_in before.store dir Schema) (part_in after.store dir Schema)
+        run tells =
+            subst (λ (n : List ℕ). LeavesOldOrNew (n ++ read) (part_in before.store dir Schema) (part_in after.store dir Schema)) drawn
+            (untouched_then (part_in before.store dir Schema) (part_in mid dir Schema) (part_in after.store dir Schema) (node ++ read) (untouched tells) (lets.any_moment (mid_told tells)))
+
+        so : (refusal : Refusal) → (IsTrue before.store.tells → InitAnswer before.left after.left before.stream (readings before.store dir) (readings after.store dir) (Err refusal)) ⊎ IsInitFault before after (Err refusal)
+            → (IsTrue before.store.tells → IsRefused (Err refusal) → ⊥) → Inits dir before after (Err refusal)
+        so refusal comes not = record {
           comes = comes;
           unread = unread_here;
           kept = λ tells. kept tells;
+          any_moment = λ tells. (read, text_is before.left reads, run tells);
+          lasts = λ tells. tt;
           others = λ tells. keeps_through (Schema ∷ Updates ∷ []) dir before.store mid after.store (looked_others dir before.store mid home untouched others tells) (lets.others (mid_told tells));
           home = λ tells. lets.home (mid_told tells) (mid_home tells);
         }
           where
-            kept : IsTrue before.store.tells → HasSchema (readings before.store dir) ⊎ IsRefused outcome → Untouched
+            kept : IsTrue before.store.tells → HasSchema (readings before.store dir) ⊎ IsRefused (Err refusal) → Untouched
             kept tells (inl there) = absurd (there (none tells))
             kept tells (inr is) = absurd (not tells is)
 
@@ -158,15 +183,15 @@ module _ {S H R : Type 0} (dir : List ℕ) (before after : Outside S H R) (home 
 
         by : (kind : CreateKind) → (IsTrue mid.tells → IsNewStoreCause is_luhn (reading (part_in mid dir Schema)) read kind) → (kind ≡ create_kinds.DiskFault → Rose before.shelf_faults after.shelf_faults)
             → Inits dir before after (Err (from_creating kind))
-        by create_kinds.NotEmpty why_so rose = so (Err refusals.StoreThere) (inl (λ tells. absurd (why_so (mid_told tells) (still_none tells)))) (λ tells is. why_so (mid_told tells) (still_none tells))
+        by create_kinds.NotEmpty why_so rose = so refusals.StoreThere (inl (λ tells. absurd (why_so (mid_told tells) (still_none tells)))) (λ tells is. why_so (mid_told tells) (still_none tells))
         by (create_kinds.BadSchema fault) why_so rose =
             let never : IsTrue before.store.tells → ⊥ = λ tells. either is_luhn read schema (taking.Schema fault) takes (why_so (mid_told tells)).1 in
-            so (Err (refusals.Schema fault)) (inl (λ tells. absurd (never tells))) (λ tells is. never tells)
+            so (refusals.Schema fault) (inl (λ tells. absurd (never tells))) (λ tells is. never tells)
         by (create_kinds.NotConfluent declared which example) why_so rose =
             let never : IsTrue before.store.tells → ⊥ = λ tells. either is_luhn read schema (taking.NotConfluent declared which example) takes (why_so (mid_told tells)).1 in
-            so (Err (refusals.NotConfluent declared which example)) (inl (λ tells. absurd (never tells))) (λ tells is. never tells)
-        by create_kinds.DiskFault why_so rose = so (Err refusals.StoreFault) (inr (inr (inr (refl, rose refl)))) (λ tells is. is)
-        by create_kinds.Memory why_so rose = so (Err refusals.Memory) (inr (inr (inl refl))) (λ tells is. is)
+            so (refusals.NotConfluent declared which example) (inl (λ tells. absurd (never tells))) (λ tells is. never tells)
+        by create_kinds.DiskFault why_so rose = so refusals.StoreFault (inr (inr (inr (refl, rose refl)))) (λ tells is. is)
+        by create_kinds.Memory why_so rose = so refusals.Memory (inr (inr (inl refl))) (λ tells is. is)
 
     pub init_made : OneSchema → (opened : ShelfState) (node : List ℕ) (store : OpenData) → node ≡ next_bytes before.stream → length node ≡ 32 → MakesStore is_luhn mid dir node read store opened
         → AreMembers store.replica.history.schema.rule store.replica.history.members → PutsStore opened dir store.schema store.replica.log.disk after.store → ReadsText 65536 before.left after.left read
@@ -175,6 +200,8 @@ module _ {S H R : Type 0} (dir : List ℕ) (before after : Outside S H R) (home 
       comes = inl (λ tells. by before.left reads (none tells) (has tells));
       unread = unread_here;
       kept = λ tells. kept tells;
+      any_moment = λ tells. (read, text_is before.left reads, run tells);
+      lasts = lasts;
       others = all_others;
       home = λ tells. home_after_store opened after.store dir store.schema store.replica.log.disk (opened_told tells) puts
           (λ other away. subst (λ (p : PartState). p ≢ out) (sym (makes.others other away ∙ looked_others dir before.store mid home untouched others tells other away)) (home tells other));
@@ -182,6 +209,18 @@ module _ {S H R : Type 0} (dir : List ℕ) (before after : Outside S H R) (home 
       where
         opened_told : IsTrue before.store.tells → IsTrue opened.tells
         opened_told tells = told mid.tells opened.tells makes.tells (mid_told tells)
+
+        run : IsTrue before.store.tells → LeavesOldOrNew (next_bytes before.stream ++ read) (part_in before.store dir Schema) (part_in after.store dir Schema)
+        run tells =
+            let c = makes.created (mid_told tells) in
+            subst (λ (n : List ℕ). LeavesOldOrNew (n ++ read) (part_in before.store dir Schema) (part_in after.store dir Schema)) drawn
+            (untouched_then (part_in before.store dir Schema) (part_in mid dir Schema) (part_in after.store dir Schema) (node ++ read) (untouched tells)
+            (gated_since (slot dir Schema) (part_in mid dir Schema) (part_in after.store dir Schema) c.0 store.schema (node ++ read) c.2 (puts.schema_back (opened_told tells)) c.5.schema_moments))
+
+        lasts : IsTrue before.store.tells → Lasts (part_in after.store dir Schema) × Lasts (part_in after.store dir Updates)
+        lasts tells =
+            let settled = made_settled is_luhn mid opened dir node read store size (mid_told tells) makes in
+            (lasting (part_in after.store dir Schema) store.schema (puts.schema_back (opened_told tells)) settled.0, lasting (part_in after.store dir Updates) store.replica.log.disk (puts.updates_back (opened_told tells)) settled.1)
 
         all_others : IsTrue before.store.tells → KeepsAllBut (Schema ∷ Updates ∷ []) dir before.store after.store
         all_others tells =
@@ -200,7 +239,7 @@ module _ {S H R : Type 0} (dir : List ℕ) (before after : Outside S H R) (home 
         has tells =
             subst (λ (n : List ℕ). IsStore is_luhn after.store dir (empty_store n schema)) drawn
             (subst (λ (s : SchemaData). IsStore is_luhn after.store dir (empty_store node s)) (same tells)
-            (made_is_store is_luhn mid opened opened after.store dir node read store size (mid_told tells) (opened_told tells) makes closed puts))
+            (made_is_store is_luhn mid opened dir node read store size (mid_told tells) makes opened after.store (opened_told tells) closed puts))
 
         by : (left : Option (List ℕ)) → ReadsText 65536 left after.left read → IsNoStore (reading (part_in before.store dir Schema)) → IsStore is_luhn after.store dir (empty_store (next_bytes before.stream) schema)
             → InitAnswer left after.left before.stream (readings before.store dir) (readings after.store dir) (Ok line)
@@ -220,7 +259,8 @@ made_slots mid opened dir node text store makes tells =
 -- ---- want of memory in place of a refusal
 
 pub init_without_memory : {S H R : Type 0} (dir : List ℕ) (before after : Outside S H R) (refusal : Refusal) → Inits dir before after (Err refusal) → Inits dir before after (Err refusals.Memory)
-init_without_memory dir before after refusal inits = record { comes = inr (inr (inl refl)); unread = inits.unread; kept = λ tells. kept tells; others = inits.others; home = inits.home }
+init_without_memory dir before after refusal inits =
+    record { comes = inr (inr (inl refl)); unread = inits.unread; kept = λ tells. kept tells; any_moment = inits.any_moment; lasts = λ tells. tt; others = inits.others; home = inits.home }
   where
     kept : IsTrue before.store.tells → HasSchema (readings before.store dir) ⊎ IsRefused (Err refusals.Memory)
         → IsUntouched (part_in before.store dir Schema) (part_in after.store dir Schema) × IsUntouched (part_in before.store dir Updates) (part_in after.store dir Updates)

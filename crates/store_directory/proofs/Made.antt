@@ -5,7 +5,7 @@ use Rattle.std.specs.Int.{w32, to_be_bytes}
 use Rattle.bec_bytes.specs.Framed.{stream_of}
 use Rattle.bec_disk.specs.declared.gated.Gated.TheVariants.{Whole}
 use Rattle.bec_disk.specs.declared.part.Part.TheVariants.{Key, Updates, Used}
-use Rattle.bec_disk.specs.Disk.{DiskState}
+use Rattle.bec_disk.specs.Disk.{DiskState, IsSettled}
 use Rattle.bec_disk.specs.Gated.{gated_of, whole_of}
 use Rattle.bec_disk.specs.Shelf.{ShelfState}
 use Rattle.bec_disk.proofs.Gates.{gated-whole}
@@ -48,47 +48,46 @@ declared ask node text seen schema size taken is =
       taken = subst (λ (t : List ℕ). TakesSchema ask t schema) (sym text_is) taken;
     }
 
--- A store that was made and put back is what the directory has.
-pub made_is_store : (ask : Meaning) (before made closing after : ShelfState) (dir node text : List ℕ) (store : OpenData) → length node ≡ 32 → IsTrue before.tells → IsTrue closing.tells
-    → MakesStore ask before dir node text store made → AreMembers store.replica.history.schema.rule store.replica.history.members → PutsStore closing dir store.schema store.replica.log.disk after
-    → IsStore ask after dir (empty_store node store.replica.history.schema)
-made_is_store ask before made closing after dir node text store size tells tells' makes closed puts =
-    let as_updates : ReadsAs ask (Some store.schema.seen) (reading (part_in after dir Updates)) (empty_store node store.replica.history.schema) =
-    subst (λ (r : Option (List ℕ)). ReadsAs ask (Some store.schema.seen) r (empty_store node store.replica.history.schema)) (sym (ap reading (puts.updates_back tells')))
-    (declared ask node text store.schema.seen store.replica.history.schema size created.taken (created.seen schema_told), logset) in
-    subst (λ (r : Option (List ℕ)). ReadsAs ask r (reading (part_in after dir Updates)) (empty_store node store.replica.history.schema)) (sym (ap reading (puts.schema_back tells'))) as_updates
-  where
-    old_schema : DiskState
-    old_schema = (makes.created tells).0
+-- a store that was made
+module _ (ask : Meaning) (before made : ShelfState) (dir node text : List ℕ) (store : OpenData) (size : length node ≡ 32) (tells : IsTrue before.tells) (makes : MakesStore ask before dir node text store made) where
+  created : IsCreated ask (makes.created tells).0 (makes.created tells).1 node text store.replica store.schema
+  created = (makes.created tells).4
 
-    old_updates : DiskState
-    old_updates = (makes.created tells).1
+  creating : Creating (makes.created tells).0 (makes.created tells).1 (node ++ text) store.schema store.replica.log.disk
+  creating = (makes.created tells).5
 
-    created : IsCreated ask (makes.created tells).0 (makes.created tells).1 node text store.replica store.schema
-    created = (makes.created tells).4
+  schema_told : IsTrue (makes.created tells).0.tells
+  schema_told = told before.tells (makes.created tells).0.tells (sym creating.schema_moments.disk.tells ∙ makes.schema_tells) tells
 
-    creating : Creating (makes.created tells).0 (makes.created tells).1 (node ++ text) store.schema store.replica.log.disk
-    creating = (makes.created tells).5
+  updates_told : IsTrue (makes.created tells).1.tells
+  updates_told = told before.tells (makes.created tells).1.tells (sym creating.updates_disk.tells ∙ makes.updates_tells) tells
 
-    schema_told : IsTrue (makes.created tells).0.tells
-    schema_told = told before.tells (makes.created tells).0.tells (sym creating.schema_moments.disk.tells ∙ makes.schema_tells) tells
+  is_whole : gated_of store.schema.seen ≡ Whole (node ++ store.replica.history.schema.text)
+  is_whole = (declared ask node text store.schema.seen store.replica.history.schema size created.taken (created.seen schema_told)).whole
 
-    updates_told : IsTrue (makes.created tells).1.tells
-    updates_told = told before.tells (makes.created tells).1.tells (sym creating.updates_disk.tells ∙ makes.updates_tells) tells
+  filled : IsSettled store.replica.log.disk × (store.replica.log.disk.seen ≡ [])
+  filled = by creating.order
+    where
+      by : (store.schema ≡ (makes.created tells).0) ⊎ (IsTrue (makes.created tells).1.tells → IsSettled store.replica.log.disk × (store.replica.log.disk.seen ≡ [])) → IsSettled store.replica.log.disk × (store.replica.log.disk.seen ≡ [])
+      by (inl same) = absurd (whole-not-absent store.schema.seen (node ++ store.replica.history.schema.text) is_whole (ap (λ (d : DiskState). gated_of d.seen) same ∙ created.absent schema_told))
+      by (inr fills) = fills updates_told
 
-    is_whole : gated_of store.schema.seen ≡ Whole (node ++ store.replica.history.schema.text)
-    is_whole = (declared ask node text store.schema.seen store.replica.history.schema size created.taken (created.seen schema_told)).whole
+  logset : AreMembers store.replica.history.schema.rule store.replica.history.members → IsLogset store.replica.history.schema.rule store.replica.log.disk.seen []
+  logset closed = subst (λ (bytes : List ℕ). IsLogset store.replica.history.schema.rule bytes []) (stream-none ∙ sym filled.1)
+      (records_logset store.replica.history.schema.rule [] (subst (λ (l : List (List ℕ)). AreMembers store.replica.history.schema.rule l) (created.members updates_told) closed))
 
-    empty : store.replica.log.disk.seen ≡ []
-    empty = by creating.order
-      where
-        by : (store.schema ≡ (makes.created tells).0) ⊎ (IsTrue (makes.created tells).1.tells → Rattle.bec_disk.specs.Disk.IsSettled store.replica.log.disk × (store.replica.log.disk.seen ≡ [])) → store.replica.log.disk.seen ≡ []
-        by (inl same) = absurd (whole-not-absent store.schema.seen (node ++ store.replica.history.schema.text) is_whole (ap (λ (d : DiskState). gated_of d.seen) same ∙ created.absent schema_told))
-        by (inr filled) = (filled updates_told).1
+  -- Both its parts are on the disk.
+  pub made_settled : IsSettled store.schema × IsSettled store.replica.log.disk
+  made_settled = (created.settled schema_told, filled.0)
 
-    logset : IsLogset store.replica.history.schema.rule store.replica.log.disk.seen []
-    logset = subst (λ (bytes : List ℕ). IsLogset store.replica.history.schema.rule bytes []) (stream-none ∙ sym empty)
-        (records_logset store.replica.history.schema.rule [] (subst (λ (l : List (List ℕ)). AreMembers store.replica.history.schema.rule l) (created.members updates_told) closed))
+  -- Put back, it is what the directory has.
+  pub made_is_store : (closing after : ShelfState) → IsTrue closing.tells → AreMembers store.replica.history.schema.rule store.replica.history.members → PutsStore closing dir store.schema store.replica.log.disk after
+      → IsStore ask after dir (empty_store node store.replica.history.schema)
+  made_is_store closing after tells' closed puts =
+      let as_updates : ReadsAs ask (Some store.schema.seen) (reading (part_in after dir Updates)) (empty_store node store.replica.history.schema) =
+      subst (λ (r : Option (List ℕ)). ReadsAs ask (Some store.schema.seen) r (empty_store node store.replica.history.schema)) (sym (ap reading (puts.updates_back tells')))
+      (declared ask node text store.schema.seen store.replica.history.schema size created.taken (created.seen schema_told), logset closed) in
+      subst (λ (r : Option (List ℕ)). ReadsAs ask r (reading (part_in after dir Updates)) (empty_store node store.replica.history.schema)) (sym (ap reading (puts.schema_back tells'))) as_updates
 
 length_payload : (secret : SecretData) → length secret.ident ≡ 16 → length secret.start ≡ 32 → length (payload_of secret) ≡ 56
 length_payload secret i s =

@@ -12,7 +12,7 @@ use Rattle.bec_disk.proofs.Gates.{gated-whole}
 use Rattle.bec_disk.specs.Shelf.{HandsOut, IsOfOut, PartState, PutsBack, ShelfState, absent, moments_of, out, stands}
 use Rattle.bec_disk.specs.Slot.{Slot, same_slot, slot}
 use Rattle.bec_disk.proofs.Images.{settled_image}
-use Rattle.bec_disk.proofs.Moments.{no_moment, one_moment, since_then, stays}
+use Rattle.bec_disk.proofs.Moments.{no_moment, one_moment, since_then, since_weakened, stays}
 use Rattle.schema.specs.Schemas.{Meaning}
 use Rattle.lms_tree.specs.SecretKey.{SecretData}
 use Rattle.key_index.specs.Creating.{CreatesKey, IsOnDisk}
@@ -55,12 +55,33 @@ handed_leaves place out disk new P is leaves = absurd is
 handed_leaves place (stands part) disk new P is leaves = handed_since place part new P (subst (λ (d : DiskState). LeavesOnly d new P) is leaves)
 
 -- and of one that was written as a gated part is
-gated_since : (place : Slot) (old now : PartState) (disk new : DiskState) (payload : List ℕ) → IsHanded place old disk → now ≡ stands new → LeavesOnly disk new (IsOldOrNew disk.seen payload)
+pub gated_since : (place : Slot) (old now : PartState) (disk new : DiskState) (payload : List ℕ) → IsHanded place old disk → now ≡ stands new → LeavesOnly disk new (IsOldOrNew disk.seen payload)
     → LeavesSince (moments_of old) (moments_of now) (IsOldOrNew (seen_in old) payload)
 gated_since place old now disk new payload is back leaves =
     subst (λ (p : PartState). LeavesSince (moments_of old) (moments_of p) (IsOldOrNew (seen_in old) payload)) (sym back)
     (subst (λ (bytes : List ℕ). LeavesSince (moments_of old) (moments new) (IsOldOrNew bytes payload)) (handed_seen place old disk is)
     (handed_leaves place old disk new (IsOldOrNew disk.seen payload) is leaves))
+
+-- a part that was at most read
+pub untouched_since : (old new : PartState) (payload : List ℕ) → IsUntouched old new → LeavesSince (moments_of old) (moments_of new) (IsOldOrNew (seen_in old) payload)
+untouched_since (stands old) (stands new) payload same = since_weakened (moments old) (moments new) (λ image. image ≡ old.seen) (IsOldOrNew old.seen payload) same.1 (λ image is. inr (inr (ap gated_of is)))
+untouched_since (stands old) absent payload same = absurd same
+untouched_since (stands old) out payload same = absurd same
+untouched_since absent new payload same = no_moment [] (moments_of new) (IsOldOrNew [] payload) (ap moments_of same)
+untouched_since out new payload same = no_moment [] (moments_of new) (IsOldOrNew [] payload) (ap moments_of same)
+
+pub untouched_seen : (old new : PartState) → IsUntouched old new → seen_in new ≡ seen_in old
+untouched_seen (stands old) (stands new) same = same.0
+untouched_seen (stands old) absent same = absurd same
+untouched_seen (stands old) out same = absurd same
+untouched_seen absent new same = ap seen_in same
+untouched_seen out new same = ap seen_in same
+
+-- a part that was at most read, and was then handed out and written as a gated part is
+pub untouched_then : (old mid new : PartState) (payload : List ℕ) → IsUntouched old mid → LeavesSince (moments_of mid) (moments_of new) (IsOldOrNew (seen_in mid) payload) → LeavesSince (moments_of old) (moments_of new) (IsOldOrNew (seen_in old) payload)
+untouched_then old mid new payload same run =
+    since_then (moments_of old) (moments_of mid) (moments_of new) (IsOldOrNew (seen_in old) payload) (untouched_since old mid payload same)
+    (subst (λ (bytes : List ℕ). LeavesSince (moments_of mid) (moments_of new) (IsOldOrNew bytes payload)) (untouched_seen old mid same) run)
 
 untouched_leaves : (place : Slot) (old : PartState) (disk : DiskState) (payload : List ℕ) → IsHanded place old disk → LeavesOnly disk disk (IsOldOrNew disk.seen payload)
 untouched_leaves place old disk payload is =

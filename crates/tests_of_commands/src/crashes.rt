@@ -102,6 +102,15 @@ const ON_BOTH: &[Crash<'static>] = &[
         repeated: &[0],
     },
     Crash {
+        line: "join A",
+        input: "",
+        part: Part::Updates,
+        is_update: true,
+        again: 0,
+        undone: &[0],
+        repeated: &[0],
+    },
+    Crash {
         line: "apply A",
         input: INSERT,
         part: Part::Key,
