@@ -14,6 +14,8 @@
 //! ```
 #![tactic(auto)]
 
+mod acting;
+mod acts;
 mod entry;
 mod shared;
 mod stored;
