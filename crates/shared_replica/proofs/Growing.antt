@@ -1,8 +1,8 @@
 -- A stored replica that grows by an act.
-use Rattle.std.proofs.Common.{◌≡◌, ℕ, ◌+◌, ◌-◌, ◌^◌, ◌≤◌, min, Bool, true, false, List, [], ◌∷◌, ◌++◌, length, Err, refl, ap, sym, ◌∙◌, subst, arith, append-nil}
+use Rattle.std.proofs.Common.{◌≡◌, ℕ, ◌+◌, ◌≤◌, Bool, true, false, List, [], ◌∷◌, ◌++◌, length, Err, refl, ap, sym, ◌∙◌, subst, arith, append-nil}
 use Rattle.shared_replica.specs.declared.entry.Run.{Run}
 use Rattle.shared_replica.specs.Acts.{Grows, met_fault}
-use Rattle.shared_replica.specs.Entries.{Story, entries_by, one_if, counted, met, HasFaults, listed, IsStored, IsStoreOf, updates_of}
+use Rattle.shared_replica.specs.Entries.{Story, entries_by, one_if, counted, met, listed, IsStored, IsStoreOf, updates_of}
 use Rattle.shared_replica.proofs.Lists.{grows_listed, grows_stored, store_of, updates_listed}
 use Rattle.replica.specs.declared.make_fault.MakeFault.{MakeFault}
 use Rattle.replica.specs.declared.make_fault.MakeFault.TheVariants.{NotListed, TooManyHeads, Invalid, TooLong, Full, Spent, Taken, DiskFault, Memory}

@@ -1,13 +1,13 @@
 -- Lists that grow by an act.
-use Rattle.std.proofs.Common.{◌≡◌, ℕ, ◌+◌, ◌-◌, ◌^◌, ◌≤◌, Bool, true, false, List, [], ◌∷◌, ◌++◌, length, min, map, take, drop, None, Some, refl, ap, sym, ◌∙◌, subst, arith, length-append, append-nil, append_assoc, length-drop, take_all, take-append-drop}
+use Rattle.std.proofs.Common.{◌≡◌, ℕ, ◌+◌, ◌≤◌, Bool, true, false, List, [], ◌∷◌, ◌++◌, length, map, take, drop, None, Some, refl, ap, sym, ◌∙◌, subst, arith, length-append, append-nil, append_assoc, length-drop, take_all, take-append-drop}
 use Rattle.std.specs.Prelude.{All}
-use Rattle.std.proofs.lemmas.List.{take-append-le, drop-append-le, drop_all}
+use Rattle.std.proofs.lemmas.List.{take-append-le, drop-append-le}
 use Rattle.std.proofs.lemmas.List.Elements.{All-nil, All-same, All-cons, All-map}
 use mathlib.Core.List.{IsPrefix}
 use Rattle.shared_replica.specs.declared.entry.Entry.{Entry}
 use Rattle.shared_replica.specs.declared.entry.Entry.TheVariants.{First, Opened, Added, Fault}
 use Rattle.shared_replica.specs.declared.entry.Run.{Run}
-use Rattle.shared_replica.specs.Entries.{entries_by, entries_of, faults_by, one_if, counted, met, HasFaults, updates_of, faults_of, maker_of, listed, IsStored, IsStoreOf}
+use Rattle.shared_replica.specs.Entries.{entries_by, entries_of, one_if, counted, met, HasFaults, updates_of, faults_of, maker_of, listed, IsStored, IsStoreOf}
 use Rattle.replica.specs.Holding.{IsOnDisk}
 use Rattle.replica.specs.Replicas.{ReplicaState}
 

@@ -1,12 +1,12 @@
-use Rattle.std.proofs.Common.{rules, ◌≡◌, ◌+◌, ◌≤◌, [], ◌∷◌, ◌++◌, length, true, false, Bool, ℕ, List, Ok, Err, Result, refl, sym, ap, ◌∙◌, subst, arith, append-nil}
-use Rattle.replica.specs.Making.{IsMakeCause, Makes}
+use Rattle.std.proofs.Common.{rules, ◌≡◌, ◌+◌, [], ◌∷◌, ◌++◌, length, true, false, Err, refl, sym, ap, ◌∙◌, subst, arith, append-nil}
+use Rattle.replica.specs.Making.{IsMakeCause}
 use Rattle.replica.specs.declared.make_fault.MakeFault.TheVariants.{DiskFault}
 use Rattle.replica.specs.declared.make_fault.Side.TheVariants.{Log}
 use Rattle.row_check.specs.Checksum.{is_luhn}
 use Rattle.shared_replica.specs.declared.entry.Run.{Run}
 use Rattle.shared_replica.specs.Acts.{met_fault}
 use Rattle.shared_replica.specs.Entries.{Story}
-use Rattle.shared_replica.proofs.Growing.{added_stored, added_grows, fault_stored, fault_grows, nothing_stored, nothing_grows, no_fault}
+use Rattle.shared_replica.proofs.Growing.{added_stored, added_grows, fault_stored, fault_grows, nothing_grows, no_fault}
 use Rattle.shared_replica.proofs.Lists.{met_few}
 use Rattle.shared_replica.proofs.stored.Stored.make.Goals as goal
 

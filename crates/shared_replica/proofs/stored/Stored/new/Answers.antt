@@ -1,4 +1,4 @@
-use Rattle.std.proofs.Common.{rules, ◌≡◌, [], refl}
+use Rattle.std.proofs.Common.{rules, ◌≡◌, []}
 use Rattle.shared_replica.proofs.Lists.{opens, opens_listed}
 use Rattle.shared_replica.proofs.stored.Stored.new.Goals as goal
 

@@ -1,4 +1,4 @@
-use Rattle.std.proofs.Common.{rules, ◌≡◌, ℕ, List, map, sym, ap, ◌∙◌, subst}
+use Rattle.std.proofs.Common.{rules, ℕ, List, map, subst}
 use Rattle.history.specs.Histories.{nodes_of}
 use Rattle.row_check.specs.Checksum.{is_luhn}
 use Rattle.shared_replica.specs.Entries.{Story}

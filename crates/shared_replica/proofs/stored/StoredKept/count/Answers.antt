@@ -1,4 +1,4 @@
-use Rattle.std.proofs.Common.{rules, ◌≡◌, ◌+◌, ◌≤◌, length, sym, ap, ◌∙◌, arith}
+use Rattle.std.proofs.Common.{rules, ◌≡◌, length, ap, arith}
 use Rattle.shared_replica.proofs.Lists.{length_listed, met_few}
 use Rattle.shared_replica.proofs.stored.StoredKept.count.Goals as goal
 
