@@ -1,0 +1,90 @@
+-- The list of a shared replica, and what it says of the replica.
+use Rattle.std.specs.Prelude.{◌≡◌, ℕ, ◌+◌, ◌-◌, ◌^◌, ◌≤◌, Bool, true, false, List, [], ◌∷◌, ◌++◌, length, map, take, drop, min, Option, Some, None}
+use Rattle.shared_replica.specs.declared.entry.Entry.{Entry}
+use Rattle.shared_replica.specs.declared.entry.Entry.TheVariants.{First, Opened, Added, Fault}
+use Rattle.shared_replica.specs.declared.entry.Run.{Run}
+use Rattle.replica.specs.Holding.{IsOnDisk}
+use Rattle.replica.specs.Replicas.{ReplicaState}
+
+-- the seat and the act that added the entry
+abbrev pub maker_of : Entry → Option (ℕ × ℕ)
+maker_of (First node schema faults) = None
+maker_of (Opened u) = None
+maker_of (Added u seat act) = Some (seat, act)
+maker_of (Fault seat act) = Some (seat, act)
+
+-- the updates of a list, in order
+abbrev pub updates_of : List Entry → List (List ℕ)
+updates_of [] = []
+updates_of (First node schema faults ∷ es) = updates_of es
+updates_of (Opened u ∷ es) = u ∷ updates_of es
+updates_of (Added u seat act ∷ es) = u ∷ updates_of es
+updates_of (Fault seat act ∷ es) = updates_of es
+
+-- the number of fault entries
+abbrev pub faults_of : List Entry → ℕ
+faults_of [] = 0
+faults_of (First node schema faults ∷ es) = faults_of es
+faults_of (Opened u ∷ es) = faults_of es
+faults_of (Added u seat act ∷ es) = faults_of es
+faults_of (Fault seat act ∷ es) = faults_of es + 1
+
+-- the fault entry of an act, where it met a fault
+abbrev pub faults_by : ℕ → ℕ → Bool → List Entry
+faults_by seat act true = Fault seat act ∷ []
+faults_by seat act false = []
+
+-- the entries of one act: the updates that it added, and the fault
+abbrev pub entries_by : ℕ → ℕ → List (List ℕ) → Bool → List Entry
+entries_by seat act [] fault = faults_by seat act fault
+entries_by seat act (u ∷ us) fault = Added u seat act ∷ entries_by seat act us fault
+
+-- the entries of acts in order, which share these updates
+abbrev pub entries_of : List Run → List (List ℕ) → List Entry
+entries_of [] us = []
+entries_of (r ∷ rs) us = entries_by r.seat r.act (take r.count us) r.fault ++ entries_of rs (drop r.count us)
+
+abbrev pub one_if : Bool → ℕ
+one_if true = 1
+one_if false = 0
+
+-- how many updates acts added, and how many faults they met
+abbrev pub counted : List Run → ℕ
+counted [] = 0
+counted (r ∷ rs) = r.count + counted rs
+
+abbrev pub met : List Run → ℕ
+met [] = 0
+met (r ∷ rs) = one_if r.fault + met rs
+
+-- the list: what the replica was at the start, the updates that were there, and what acts added since
+abbrev pub listed : ReplicaState → ℕ → List Run → List (List ℕ) → List Entry
+listed opening opened runs members = First opening.node opening.history.schema opening.log.faults ∷ (map Opened (take opened members) ++ entries_of runs (drop opened members))
+
+-- what a stored replica is to its callers: its list, and the replica
+pub record Story : Type 0 where
+  pub entries : List Entry
+  pub store : ReplicaState
+
+-- the count has risen since the start by at least the number of faults, or stands at its last value
+abbrev pub HasFaults : ℕ → ℕ → ℕ → Type 0
+HasFaults start faults now = min (start + faults) (2 ^ 64 - 1) ≤ now
+
+-- what ties a replica to what it was at the start and to the acts since
+pub record IsStored (opening : ReplicaState) (opened : ℕ) (runs : List Run) (faults : ℕ) (replica : ReplicaState) : Type 0 where
+  pub node : replica.node ≡ opening.node
+  pub schema : replica.history.schema ≡ opening.history.schema
+  pub all : opened + counted runs ≡ length replica.history.members
+  pub faults_are : met runs ≡ faults
+  pub rose : HasFaults opening.log.faults faults replica.log.faults
+  pub on_disk : IsOnDisk replica
+
+-- The replica is as the list says: its node id and schema are those of the first entry, its updates are those of the list, the count of its log
+-- has risen for each fault, and a crash at this moment leaves the updates in front of the log.
+pub record IsStoreOf (list : List Entry) (store : ReplicaState) : Type 0 where
+  pub start : ℕ
+  pub rest : List Entry
+  pub first : list ≡ First store.node store.history.schema start ∷ rest
+  pub updates : updates_of list ≡ store.history.members
+  pub faults : HasFaults start (faults_of list) store.log.faults
+  pub on_disk : IsOnDisk store

@@ -1,0 +1,25 @@
+//! One replica for many callers.
+//!
+//! A [`Shared`] is a replica under a turn lock. A caller has a [`Pass`], which knows a beginning of one list: what the replica was at the start,
+//! and each update and each fault of the log's disk since, with the seat and the act that added it. Each act has its turn, and answers what the
+//! replica answers at that point of the list.
+//!
+//! ```text
+//! let (shared, first) = Shared::new(alloc, replica)?;
+//! let (first, second) = shared.split(first)?; // for another thread
+//! let acted = shared.make(rt, alloc, first, ops, &mut key, &c);
+//! let acted = shared.fetch(rt, alloc, acted.pass, 0);
+//! let pass = shared.meet(acted.pass, second)?;
+//! let replica = shared.end(rt, pass);
+//! ```
+#![tactic(auto)]
+
+mod acting;
+mod acts;
+mod entry;
+mod shared;
+mod stored;
+
+pub use entry::{Entry, Run};
+pub use shared::{Acted, Pass, Shared};
+pub use stored::{Picture, Stored};
