@@ -128,8 +128,14 @@ module _ (lms : LmsType) (ots : OtsType) (stream : Stream) (dir : List ℕ) (bef
   key_unasked same =
       let untouched : (p : PartState) → IsUntouched p p = λ p. untouched_by p p refl in
       let here : DrawsKey lms ots stream dir before before old new (Err refusals.Memory) =
-      record { comes = inr (inl refl); kept = λ tells there. (untouched (part_in before dir Key), untouched (part_in before dir Used));
-        any_moment = λ tells. untouched_since (part_in before dir Key) (part_in before dir Key) (payload_of (drawn_key lms ots stream)) (untouched (part_in before dir Key)); lasts = λ tells. tt; others = λ tells other away. refl; home = home } in
+      record {
+        comes = inr (inl refl);
+        kept = λ tells there. (untouched (part_in before dir Key), untouched (part_in before dir Used));
+        any_moment = λ tells. untouched_since (part_in before dir Key) (part_in before dir Key) (payload_of (drawn_key lms ots stream)) (untouched (part_in before dir Key));
+        lasts = λ tells. tt;
+        others = λ tells other away. refl;
+        home = home;
+      } in
       subst (λ (s : ShelfState). DrawsKey lms ots stream dir before s old new (Err refusals.Memory)) (sym same) here
 
   -- where one was made and put back
@@ -147,9 +153,9 @@ module _ (lms : LmsType) (ots : OtsType) (stream : Stream) (dir : List ℕ) (bef
 
     key_lasts : IsTrue before.tells → Lasts (part_in after dir Key) × Lasts (part_in after dir Used)
     key_lasts tells = (
-        lasting (part_in after dir Key) key.parts.key (puts.key_back (opened_tells tells)) ((makes.created tells).3.key (key_told (drawn_key lms ots stream) dir before opened key makes tells)).settled,
-        lasting (part_in after dir Used) key.parts.used (puts.used_back (opened_tells tells)) ((makes.created tells).3.used (used_told (drawn_key lms ots stream) dir before opened key makes tells)).settled,
-      )
+      lasting (part_in after dir Key) key.parts.key (puts.key_back (opened_tells tells)) ((makes.created tells).3.key (key_told (drawn_key lms ots stream) dir before opened key makes tells)).settled,
+      lasting (part_in after dir Used) key.parts.used (puts.used_back (opened_tells tells)) ((makes.created tells).3.used (used_told (drawn_key lms ots stream) dir before opened key makes tells)).settled,
+    )
 
     key_others : IsTrue before.tells → KeepsAllBut (Key ∷ Used ∷ []) dir before after
     key_others tells = keeps_through (Key ∷ Used ∷ []) dir before opened after makes.others (puts.others (opened_tells tells))
