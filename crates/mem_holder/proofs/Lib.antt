@@ -1,0 +1,4 @@
+pub mod Adding
+pub mod Heads
+pub mod Lists
+pub mod Sweeping
