@@ -1,4 +1,4 @@
-pub mod Adding
+pub mod Amounts
 pub mod Heads
 pub mod Lists
-pub mod Sweeping
+pub mod Sweeps

@@ -1,5 +1,5 @@
 use Rattle.std.specs.BTreeSet.{keys}
-use Rattle.mem_holder.proofs.Sweeping.{Swept}
+use Rattle.mem_holder.proofs.Sweeps.{Swept}
 use Rattle.mem_holder.proofs.sweeping.since_of.Given as goal
 
 abbrev pub invariant-loop-positions : goal.invariant-loop-positions
