@@ -1,5 +1,5 @@
 -- What is added, or is too much.
-use Rattle.std.proofs.Common.{◌≡◌, ℕ, ◌≤◌, ◌<◌, Bool, true, false, ◌&&◌, List, ◌++◌, length, map, take, sym, ap, subst, ◌∙◌, arith, All, IsTrue}
+use Rattle.std.proofs.Common.{◌≡◌, ℕ, ◌≤◌, ◌<◌, Bool, true, false, ◌&&◌, List, ◌++◌, length, map, take, sym, ap, subst, ◌∙◌, arith, All, Err}
 use Rattle.std.specs.Prelude.{nat_le}
 use Rattle.std.proofs.lemmas.Bool.Decides.{nat_tests}
 use Rattle.std.proofs.lemmas.List.{length-map, map-append, take_at}
@@ -9,7 +9,9 @@ use Rattle.update_model.specs.Entry.{Entry}
 use Rattle.update_model.specs.Graph.{byte_count, is_within}
 use Rattle.update_codec.specs.Parts.{entry_of}
 use Rattle.ready_batch.specs.Ready.{AddsReady, IsBehind}
-use Rattle.mem_holder.specs.Holders.{limits_of}
+use Rattle.update_check.specs.declared.holder.CommitFault.{CommitFault}
+use Rattle.update_check.specs.declared.holder.CommitFault.TheVariants.{Full, DiskFault, Memory}
+use Rattle.mem_holder.specs.Holders.{Grows, limits_of}
 
 fewer : (count bytes most : ℕ) → most ≤ MAX_MEMBERS → (nat_le count MAX_MEMBERS && nat_le bytes MAX_BYTES) ≡ false → (nat_le count most && nat_le bytes MAX_BYTES) ≡ false
 fewer count bytes most low passes = grind (arith, nat_tests)
@@ -51,3 +53,8 @@ still_fit most after few within =
 -- what was held stands in front
 pub cut_back : (before after : List (List ℕ)) (len : ℕ) → IsBehind before after → len ≡ length before → take len after ≡ before
 cut_back before after len behind is = ap (take len) behind.1 ∙ take_at before behind.0 len (sym is)
+
+pub refused_behind : (most : ℕ) (before batch after : List (List ℕ)) (fault : CommitFault) → Grows most before batch (Err fault) after → IsBehind before after
+refused_behind most before batch after Full grows = grows.1
+refused_behind most before batch after Memory grows = grows
+refused_behind most before batch after DiskFault grows = absurd grows

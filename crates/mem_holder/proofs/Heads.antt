@@ -1,6 +1,7 @@
 -- The ids that are named, and those that are not, of one more member.
-use Rattle.std.proofs.Common.{◌≡◌, ℕ, ◌+◌, Bool, true, false, cond, not, ◌||◌, ◌&&◌, List, [], ◌∷◌, ◌++◌, take, map, refl, sym, ap, ◌∙◌, Some, slice_get}
+use Rattle.std.proofs.Common.{◌≡◌, ℕ, ◌+◌, ◌<◌, Bool, true, false, cond, not, ◌||◌, ◌&&◌, List, [], ◌∷◌, ◌++◌, take, get_or, length, map, refl, sym, ap, ◌∙◌, Some, slice_get}
 use Rattle.std.specs.List.{list_any}
+use Rattle.std.proofs.lemmas.List.{take_more}
 use Rattle.std.proofs.lemmas.List.Folds.{list_any-append}
 use Rattle.update_model.specs.declared.update_id.UpdateId.{UpdateId}
 use Rattle.update_model.specs.Entry.{Entry, same_id}
@@ -26,10 +27,6 @@ pub named_next : (members : List (List ℕ)) (i : ℕ) (bytes : List ℕ) (preds
 named_next members i bytes preds old new at are grows so id =
     grows id ∙ ap (λ b. b || has preds id) (so id) ∙ ap (λ (ids : List UpdateId). names (map entry_of (take i members)) id || has ids id) are
     ∙ sym (any_next (λ e. has e.preds id) members i bytes at)
-
--- what is held of the first members and not named
-pub IsUnnamed : List Entry → List Entry → List UpdateId → Type 0
-IsUnnamed graph front heads = (id : UpdateId) → has heads id ≡ (holds front id && not (names graph id))
 
 passed_over : (was held same calls : Bool) → was ≡ (held && not calls) → (same ≡ true → calls ≡ true) → was ≡ ((held || same) && not calls)
 passed_over was held true calls so is = let all = is refl in so ∙ rw all (none held)
@@ -73,3 +70,25 @@ module _ (members : List (List ℕ)) (i : ℕ) (bytes : List ℕ) (id : UpdateId
   unnamed_is_one none grows q =
       taken_in (has new q) (has old q) (holds (map entry_of (take i members)) q) (same_id q (entry_of bytes).id) (names (map entry_of members) q)
       (grows q ∙ ap (λ b. cond b true (has old q)) (same_id-symm id q ∙ ap (same_id q) is_id)) (so q) (λ same. same_names q same ∙ none) ∙ next q
+
+-- ---- ids taken into a set
+
+put_in : (old new was taken same : Bool) → new ≡ cond same true old → old ≡ (was || taken) → new ≡ (was || (taken || (same || false)))
+put_in old new was taken true e f = e ∙ all was taken
+  where
+    all : (a b : Bool) → true ≡ (a || (b || true))
+    all true b = refl
+    all false true = refl
+    all false false = refl
+put_in old new was taken false e f = e ∙ f ∙ ap (λ b. was || b) (none taken)
+  where
+    none : (b : Bool) → b ≡ (b || false)
+    none true = refl
+    none false = refl
+
+pub id_put_in : (ids : List UpdateId) (i : ℕ) (d : UpdateId) (old new before : List UpdateId) (q : UpdateId) → i < length ids → has new q ≡ cond (same_id (get_or ids i d) q) true (has old q)
+    → has old q ≡ (has before q || has (take i ids) q) → has new q ≡ (has before q || has (take (i + 1) ids) q)
+id_put_in ids i d old new before q low grows so =
+    put_in (has old q) (has new q) (has before q) (has (take i ids) q) (same_id (get_or ids i d) q) grows so
+    ∙ ap (λ b. has before q || (has (take i ids) q || (b || false))) (same_id-symm (get_or ids i d) q)
+    ∙ ap (λ b. has before q || b) (sym (ap (λ (xs : List UpdateId). has xs q) (take_more ids i d low) ∙ list_any-append (same_id q) (take i ids) (get_or ids i d ∷ [])))

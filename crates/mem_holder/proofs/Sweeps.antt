@@ -1,25 +1,30 @@
 -- The sweep over a graph, from its last member to its first.
-use Rattle.std.proofs.Common.{nat_lt, ◌≡◌, ◌⊎◌, inl, inr, ℕ, zero, suc, ◌<◌, ◌≤◌, ◌+◌, ◌==◌, Bool, true, false, cond, ◌||◌, List, [], ◌∷◌, ◌++◌, length, map, take, drop, reverse, refl, sym, ap, subst, ◌∙◌, arith, All, Contains, Option, Some, None, slice_get}
+use Rattle.std.proofs.Common.{nat_lt, ◌≡◌, ◌⊎◌, inl, inr, ℕ, zero, suc, ◌<◌, ◌≤◌, ◌+◌, ◌-◌, ◌==◌, Bool, true, false, cond, ◌||◌, List, [], ◌∷◌, ◌++◌, length, map, take, drop, reverse, refl, sym, ap, subst, ◌∙◌, arith, All, Contains, Option, Some, None, slice_get}
 use Rattle.std.specs.List.{cons_option, filter_map, list_any, AllByRecursion}
 use Rattle.std.specs.List.Sorted.{IsStrictlySortedBy}
 use Rattle.std.specs.Ordering.{nat_cmp}
 use Rattle.std.specs.declared.cmp.Ordering.TheVariants.{Less, Equal, Greater}
 use Rattle.std.proofs.lemmas.Bool.{or_cases, or_left, or_right}
 use Rattle.std.proofs.lemmas.Bool.Decides.{nat_tests}
-use Rattle.std.proofs.lemmas.List.{length-map, length-take-le, reverse-append, take-append-drop}
+use Rattle.std.proofs.lemmas.List.{length-map, length-take-le, map-append, reverse-append, take-append-drop}
 use Rattle.std.proofs.lemmas.List.Elements.{All-cons, All-contains, All-nil, Contains-append_cases}
 use Rattle.update_model.specs.declared.update_id.UpdateId.{UpdateId}
 use Rattle.update_model.specs.Entry.{Entry, same_id}
 use Rattle.update_model.specs.Graph.{has, holds, IsAncestor, IsClosed, named, names, through}
 use Rattle.update_model.specs.Since.{IsBehind, Picks}
 use Rattle.update_model.proofs.Closed.{Follows-at, Follows-front}
-use Rattle.update_model.proofs.Heads.{any_from_member, further, holds-named, witness}
+use Rattle.update_model.proofs.Heads.{any_from_member, holds-named, witness}
 use Rattle.update_model.proofs.Ids.{id_from_same}
 use Rattle.update_codec.specs.Parts.{entry_of}
 use Rattle.update_check.specs.Holding.{ArePositionsSince, at_positions}
 use Rattle.mem_holder.proofs.Lists.{cons_cases, drop_next, held_at}
 
 -- ---- ancestors, by their successors
+
+-- whom an ancestor names is an ancestor too
+further : (g : List Entry) (e s d : Entry) → Contains g e → Contains g s → has s.preds e.id ≡ true → IsAncestor g s d → IsAncestor g e d
+further g e s d held_e held_s calls (named _ held calls_s) = through s d held_s calls_s (named s held_e calls)
+further g e s d held_e held_s calls (through p _ held calls_p rest) = through p d held calls_p (further g e s p held_e held_s calls rest)
 
 -- whom a member that is behind names is behind
 named_behind : (g : List Entry) (old : List UpdateId) (s e : Entry) → Contains g s → Contains g e → has s.preds e.id ≡ true → IsBehind g old s → IsBehind g old e
@@ -134,12 +139,6 @@ entry_in_front (b ∷ members) (suc below) (suc i) bytes low at = entry_in_front
 
 module _ (members : List (List ℕ)) (below : ℕ) (old : List UpdateId) (n : ℕ) (behind : List UpdateId) (positions : List ℕ) (bytes : List ℕ) (closed : IsClosed (map entry_of members))
     (at : slice_get members n ≡ Some bytes) (so : Swept members below old (suc n) behind positions) where
-  g : List Entry
-  g = map entry_of (take below members)
-
-  e : Entry
-  e = entry_of bytes
-
   here : slice_get (map entry_of (take below members)) n ≡ Some (entry_of bytes)
   here = let low = so.low in entry_in_front members below n bytes (omega arith) at
 
@@ -178,11 +177,15 @@ module _ (members : List (List ℕ)) (below : ℕ) (old : List UpdateId) (n : �
         ];
       }
 
+  front_is : IsClosed (map entry_of (take below members))
+  front_is = Follows-front [] (map entry_of (take below members)) (map entry_of (drop below members))
+      (subst IsClosed (ap (map entry_of) (sym (take-append-drop below members)) ∙ map-append entry_of (take below members) (drop below members)) closed)
+
   parts : map entry_of (take below members) ≡ take n (map entry_of (take below members)) ++ entry_of bytes ∷ drop (suc n) (map entry_of (take below members))
   parts = sym (take-append-drop n (map entry_of (take below members))) ∙ ap (λ (l : List Entry). take n (map entry_of (take below members)) ++ l) rest
 
-  not_behind : IsClosed (map entry_of (take below members)) → has behind (entry_of bytes).id ≡ false → IsBehind (map entry_of (take below members)) old (entry_of bytes) → ⊥
-  not_behind front_is none it = elim (called (map entry_of (take below members)) old (entry_of bytes) it) [
+  not_behind : has behind (entry_of bytes).id ≡ false → IsBehind (map entry_of (take below members)) old (entry_of bytes) → ⊥
+  not_behind none it = elim (called (map entry_of (take below members)) old (entry_of bytes) it) [
     | inl is_old ↦ let there = so.olds (entry_of bytes).id is_old in absurd cc
     | inr s ↦
         let after = later (take n (map entry_of (take below members))) (drop (suc n) (map entry_of (take below members))) (entry_of bytes) s.0 (subst IsClosed parts front_is)
@@ -196,8 +199,8 @@ module _ (members : List (List ℕ)) (below : ℕ) (old : List UpdateId) (n : �
   found : map entry_of (at_positions members (n ∷ reverse positions)) ≡ entry_of bytes ∷ map entry_of (at_positions members (reverse positions))
   found = ap (λ (o : Option (List ℕ)). map entry_of (cons_option o (at_positions members (reverse positions)))) at
 
-  pub sweep_new : IsClosed (map entry_of (take below members)) → has behind (entry_of bytes).id ≡ false → Swept members below old n behind (positions ++ n ∷ [])
-  sweep_new front_is none =
+  pub sweep_new : has behind (entry_of bytes).id ≡ false → Swept members below old n behind (positions ++ n ∷ [])
+  sweep_new none =
       let low = so.low in
       record {
         low = omega arith;
@@ -205,10 +208,10 @@ module _ (members : List (List ℕ)) (below : ℕ) (old : List UpdateId) (n : �
         high = subst (AllByRecursion (λ p. n ≤ p)) (sym turned) (omega arith, all_lower n (reverse positions) so.high);
         within = subst (All (λ p. p < below)) (sym turned) (All-cons (λ p. p < below) n (reverse positions) (omega arith) so.within);
         picks = subst (λ (l : List Entry). Picks (λ x. ¬ (IsBehind (map entry_of (take below members)) old x)) l (map entry_of (at_positions members (reverse (positions ++ n ∷ []))))) (sym rest)
-            (inl (not_behind front_is none, (map entry_of (at_positions members (reverse positions)), ap (λ (l : List ℕ). map entry_of (at_positions members l)) turned ∙ found, so.picks)));
+            (inl (not_behind none, (map entry_of (at_positions members (reverse positions)), ap (λ (l : List ℕ). map entry_of (at_positions members l)) turned ∙ found, so.picks)));
         olds = so.olds;
         calls = λ s id there behind_s named_s. elim (cons_cases (entry_of bytes) (drop (suc n) (map entry_of (take below members))) s (subst (λ (l : List Entry). Contains l s) rest there)) [
-          | inl same ↦ absurd (not_behind front_is none (subst (IsBehind (map entry_of (take below members)) old) (sym same) behind_s))
+          | inl same ↦ absurd (not_behind none (subst (IsBehind (map entry_of (take below members)) old) (sym same) behind_s))
           | inr further_on ↦ so.calls s id further_on behind_s named_s
         ];
         sound = so.sound;
@@ -218,3 +221,8 @@ module _ (members : List (List ℕ)) (below : ℕ) (old : List UpdateId) (n : �
 pub sweep_ends : (members : List (List ℕ)) (below : ℕ) (old behind : List UpdateId) (positions : List ℕ) → Swept members below old 0 behind positions
     → ArePositionsSince members below old (reverse positions)
 sweep_ends members below old behind positions so = record { rising = so.rising; within = so.within; exact = so.picks }
+
+-- the position before
+pub position_before : (members : List (List ℕ)) (below : ℕ) (old : List UpdateId) (k : ℕ) (behind : List UpdateId) (positions : List ℕ) → 0 < k → Swept members below old k behind positions
+    → Swept members below old (suc (k - 1)) behind positions
+position_before members below old k behind positions some so = let same : k ≡ suc (k - 1) = omega arith in subst (λ (n : ℕ). Swept members below old n behind positions) same so

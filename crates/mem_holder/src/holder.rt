@@ -1,6 +1,5 @@
 //! It holds updates as whoever exchanges them wants it.
 
-ghost use Rattle.std.specs.Prelude.{◌≡◌, Unit, tt};
 ghost use Rattle.mem_holder.specs.Holders.{Fails, limits_of};
 
 use crate::adding::add_within;

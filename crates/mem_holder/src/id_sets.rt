@@ -22,6 +22,13 @@ pub(crate) fn insert_all(set: &mut BTreeSet<UpdateId>, ids: &[UpdateId]) -> Resu
     Ok(())
 }
 
+/// Whether an id is in the set.
+pub(crate) fn has_id(set: &BTreeSet<UpdateId>, id: &UpdateId) -> bool
+    ensures { result ≡ has (keys set.now) id.now }
+{
+    set.contains(id)
+}
+
 /// The ids that updates of a graph name as predecessors.
 fn named_ids(alloc: Global, graph: &Graph<Checked>) -> Result<BTreeSet<UpdateId>, AllocError>
     ensures { IfOk result (λ named. (id : Id) → has (keys named) id ≡ names (map entry_of graph.now) id) }
@@ -41,7 +48,7 @@ pub(crate) fn heads_of(alloc: Global, graph: &Graph<Checked>) -> Result<Vec<Upda
     let mut heads = BTreeSet::new(alloc);
     for position in 0..graph.len() {
         let id = graph.at(position).id();
-        if !named.contains(&id) {
+        if !has_id(&named, &id) {
             heads.insert(id)?;
         }
     }

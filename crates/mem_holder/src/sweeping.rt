@@ -3,7 +3,7 @@
 ghost use Rattle.std.specs.Prelude.{◌≤◌, length, IfOk};
 ghost use Rattle.update_check.specs.Holding.{ArePositionsSince};
 
-use crate::id_sets::insert_all;
+use crate::id_sets::{has_id, insert_all};
 use hash_graph::Graph;
 use std::alloc::{AllocError, Global};
 use std::collections::BTreeSet;
@@ -30,7 +30,7 @@ pub(crate) fn since_of(
     'positions: while position > 0 {
         position -= 1;
         let update = graph.at(position);
-        if behind.contains(&update.id()) {
+        if has_id(&behind, &update.id()) {
             insert_all(&mut behind, update.preds())?;
         } else {
             positions.push(position)?;
