@@ -1,6 +1,6 @@
 -- The sweep over a graph, from its last member to its first.
-use Rattle.std.proofs.Common.{nat_lt, ◌≡◌, ◌⊎◌, inl, inr, ℕ, zero, suc, ◌<◌, ◌≤◌, ◌+◌, ◌-◌, ◌==◌, Bool, true, false, cond, ◌||◌, List, [], ◌∷◌, ◌++◌, length, map, take, drop, reverse, refl, sym, ap, subst, ◌∙◌, arith, All, Contains, Option, Some, None, slice_get}
-use Rattle.std.specs.List.{cons_option, filter_map, list_any, AllByRecursion}
+use Rattle.std.proofs.Common.{nat_lt, ◌≡◌, ◌⊎◌, inl, inr, ℕ, zero, suc, ◌<◌, ◌≤◌, ◌-◌, ◌==◌, true, false, cond, ◌||◌, List, [], ◌∷◌, ◌++◌, length, map, take, drop, reverse, refl, sym, ap, subst, ◌∙◌, arith, All, Contains, Option, Some, slice_get}
+use Rattle.std.specs.List.{cons_option, AllByRecursion}
 use Rattle.std.specs.List.Sorted.{IsStrictlySortedBy}
 use Rattle.std.specs.Ordering.{nat_cmp}
 use Rattle.std.specs.declared.cmp.Ordering.TheVariants.{Less, Equal, Greater}
@@ -10,7 +10,7 @@ use Rattle.std.proofs.lemmas.List.{length-map, length-take-le, map-append, rever
 use Rattle.std.proofs.lemmas.List.Elements.{All-cons, All-contains, All-nil, Contains-append_cases}
 use Rattle.update_model.specs.declared.update_id.UpdateId.{UpdateId}
 use Rattle.update_model.specs.Entry.{Entry, same_id}
-use Rattle.update_model.specs.Graph.{has, holds, IsAncestor, IsClosed, named, names, through}
+use Rattle.update_model.specs.Graph.{has, holds, IsAncestor, IsClosed, named, through}
 use Rattle.update_model.specs.Since.{IsBehind, Picks}
 use Rattle.update_model.proofs.Closed.{Follows-at, Follows-front}
 use Rattle.update_model.proofs.Heads.{any_from_member, holds-named, witness}
@@ -35,11 +35,15 @@ named_behind g old s e held_s held_e calls (inr d) = inr (d.0, d.1, d.2, further
 first_step : (g : List Entry) (e d : Entry) → Contains g d → IsAncestor g e d → (s : Entry) × Contains g s × (has s.preds e.id ≡ true) × ((s ≡ d) ⊎ IsAncestor g s d)
 first_step g e d held (named _ held_e calls) = (d, held, calls, inl refl)
 first_step g e d held (through p _ held_p calls rest) =
-    let s = first_step g e p held_p rest in
-    (s.0, s.1, s.2, elim s.3 [
-      | inl is ↦ inr (subst (λ (x : Entry). IsAncestor g x d) (sym is) (named d held_p calls))
-      | inr above ↦ inr (through p d held_p calls above)
-    ])
+    let s = first_step g e p held_p rest in (
+      s.0,
+      s.1,
+      s.2,
+      elim s.3 [
+        | inl is ↦ inr (subst (λ (x : Entry). IsAncestor g x d) (sym is) (named d held_p calls))
+        | inr above ↦ inr (through p d held_p calls above)
+      ],
+    )
 
 -- whoever is behind has an old id, or one that is behind names it
 abbrev IsCalled : List Entry → List UpdateId → UpdateId → Type 0
@@ -49,10 +53,15 @@ called : (g : List Entry) (old : List UpdateId) (e : Entry) → IsBehind g old e
 called g old e (inl is_old) = inl is_old
 called g old e (inr d) =
     let s = first_step g e d.0 d.1 d.3 in
-    inr (s.0, s.1, s.2, elim s.3 [
-      | inl is ↦ inl (subst (λ (x : Entry). has old x.id ≡ true) (sym is) d.2)
-      | inr above ↦ inr (d.0, d.1, d.2, above)
-    ])
+    inr (
+      s.0,
+      s.1,
+      s.2,
+      elim s.3 [
+        | inl is ↦ inl (subst (λ (x : Entry). has old x.id ≡ true) (sym is) d.2)
+        | inr above ↦ inr (d.0, d.1, d.2, above)
+      ],
+    )
 
 -- whoever names a member stands behind it
 later : (front back : List Entry) (e s : Entry) → IsClosed (front ++ e ∷ back) → Contains (front ++ e ∷ back) s → has s.preds e.id ≡ true → Contains back s
@@ -189,7 +198,7 @@ module _ (members : List (List ℕ)) (below : ℕ) (old : List UpdateId) (n : �
     | inl is_old ↦ let there = so.olds (entry_of bytes).id is_old in absurd cc
     | inr s ↦
         let after = later (take n (map entry_of (take below members))) (drop (suc n) (map entry_of (take below members))) (entry_of bytes) s.0 (subst IsClosed parts front_is)
-            (subst (λ (l : List Entry). Contains l s.0) parts s.1) s.2 in
+        (subst (λ (l : List Entry). Contains l s.0) parts s.1) s.2 in
         let there = so.calls s.0 (entry_of bytes).id after s.3 s.2 in absurd cc
   ]
 

@@ -1,6 +1,5 @@
-use Rattle.std.proofs.Common.{take, [], slice_index_or}
+use Rattle.std.proofs.Common.{[]}
 use Rattle.update_model.specs.declared.update_id.UpdateId.{UpdateId}
-use Rattle.update_model.specs.Graph.{has}
 use Rattle.mem_holder.proofs.Heads.{id_put_in}
 use Rattle.mem_holder.proofs.id_sets.insert_all.Goals as goal
 

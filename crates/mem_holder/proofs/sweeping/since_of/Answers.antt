@@ -1,4 +1,4 @@
-use Rattle.std.proofs.Common.{◌≡◌, ◌-◌, ◌∙◌, ◌||◌, ℕ, List, ap, subst, sym}
+use Rattle.std.proofs.Common.{◌-◌, ◌∙◌, ◌||◌, ℕ, List, ap, subst, sym}
 use Rattle.std.specs.BTreeSet.{keys}
 use Rattle.update_model.specs.declared.update_id.UpdateId.{UpdateId}
 use Rattle.update_model.specs.Graph.{has}
