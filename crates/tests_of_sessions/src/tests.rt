@@ -73,6 +73,14 @@ fn hello(alloc: Global, database: [u8; 32], head: Option<UpdateId>) -> Result<He
     ))
 }
 
+/// An update as a frame.
+fn item(alloc: Global, rule: &DbRule, update: &Checked) -> Result<CheckedFrame, AllocError>
+    requires { IsChecked rule.now update.now }
+    ensures { IfOk result (IsFrameUnder rule.now) }
+{
+    Ok(CheckedFrame::Item(update.copy(alloc)?))
+}
+
 /// The frame that a letter stands for, where the holder of this rule is offered two updates.
 fn frame_for(
     alloc: Global,
@@ -91,8 +99,8 @@ fn frame_for(
         b'l' => Ok(CheckedFrame::Hello(hello(alloc, DATABASE, Some(UNKNOWN))?)),
         b'd' => Ok(CheckedFrame::Hello(hello(alloc, [0; 32], None)?)),
         b'v' => Ok(CheckedFrame::OtherVersion(2)),
-        b'i' => Ok(CheckedFrame::Item(one.copy(alloc)?)),
-        b'j' => Ok(CheckedFrame::Item(other.copy(alloc)?)),
+        b'i' => item(alloc, rule, one),
+        b'j' => item(alloc, rule, other),
         b'b' => Ok(CheckedFrame::BadItem(CheckFault::BadSignature)),
         b'f' => Ok(CheckedFrame::Turn(Turn::all_held(alloc))),
         b't' => Ok(CheckedFrame::Turn(Turn::asking(ids(alloc, None)?))),
