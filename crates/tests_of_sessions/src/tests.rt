@@ -224,12 +224,7 @@ const fn begins(frames: &'static str, words: &'static str, held: u32) -> Row {
 }
 
 /// A holder as in a row.
-fn holder_for(
-    alloc: Global,
-    rule: &DbRule,
-    row: &Row,
-    one: &Checked,
-) -> Result<MemHolder, Fail>
+fn holder_for(alloc: Global, rule: &DbRule, row: &Row, one: &Checked) -> Result<MemHolder, Fail>
     requires { IsChecked rule.now one.now }
     ensures { IfOk result (λ holder. holder.rule ≡ rule.now) }
 {
@@ -243,6 +238,23 @@ fn holder_for(
     Ok(holder)
 }
 
+/// What a holder as in a row answers to frames, and how many updates it has then.
+fn answered(
+    alloc: Global,
+    rule: &DbRule,
+    row: &Row,
+    frames: &[u8],
+    one: &Checked,
+    other: &Checked,
+) -> Result<(String, u32), Fail>
+    requires one { IsChecked rule.now one.now }
+    requires other { IsChecked rule.now other.now }
+{
+    let mut holder = holder_for(alloc, rule, row, one)?;
+    let words = answers_to(alloc, &mut holder, row.role, frames, one, other)?;
+    Ok((words, holder.len()))
+}
+
 /// Whether a row is as it says.
 fn is_so(
     alloc: Global,
@@ -254,10 +266,9 @@ fn is_so(
     requires one { IsChecked rule.now one.now }
     requires other { IsChecked rule.now other.now }
 {
-    let mut holder = holder_for(alloc, rule, row, one)?;
     let frames = row.frames.as_bytes();
-    let words = answers_to(alloc, &mut holder, row.role, frames, one, other)?;
-    Ok(words.as_str() == row.words && holder.len() == row.held)
+    let (words, held) = answered(alloc, rule, row, frames, one, other)?;
+    Ok(words.as_str() == row.words && held == row.held)
 }
 
 #[test]
@@ -316,9 +327,8 @@ fn a_turn_has_so_many_updates(rt: HostRuntime) -> Result<(), Fail> {
         frames.push(b'i')?;
     }
     frames.push(b'i')?;
-    let mut holder = holder_for(alloc, &rule, &begins("", "", 0), &one)?;
-    let words = answers_to(alloc, &mut holder, Role::Initiator, &frames, &one, &one)?;
-    assert!(rt; words.len() == 131_075 && words.ends_with("|9|"));
-    assert_eq!(rt; holder.len(), 0);
+    let row = begins("", "", 0);
+    let (words, held) = answered(alloc, &rule, &row, &frames, &one, &one)?;
+    assert!(rt; words.len() == 131_075 && words.ends_with("|9|") && held == 0);
     Ok(())
 }
