@@ -1,0 +1,4 @@
+pub mod Amounts
+pub mod Heads
+pub mod Lists
+pub mod Sweeps
