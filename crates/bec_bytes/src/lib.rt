@@ -38,6 +38,7 @@ mod source;
 pub use counted::Counted;
 pub use cursor::Cursor;
 pub use failed::Failed;
+pub use fault_plan::FaultPlan;
 pub use framed::{Framed, read_framed};
 pub use laws::{framed_length, one_piece};
 pub use mem_sink::MemSink;
