@@ -1,4 +1,4 @@
-ghost use Rattle.std.specs.Prelude.{◌≡◌, ◌⊎◌, ◌↔◌, ◌≤◌, ◌<◌, ◌+◌, ◌^◌, ◌∷◌, [], Some, All, IsErr, IfOk, OnErr, OnOk, length, map, vec_len, slice_index_or};
+ghost use Rattle.std.specs.Prelude.{◌≡◌, ◌⊎◌, ◌↔◌, ◌≤◌, ◌<◌, ◌+◌, ◌-◌, ◌∷◌, ◌++◌, [], Some, All, IsErr, IfOk, OnErr, OnOk, length, map, vec_len, slice_index_or};
 ghost use Rattle.std.specs.Vec.{vec_capacity};
 ghost use Rattle.std.specs.Vec.Iter.{into_iter_items};
 ghost use Rattle.bec_bytes.specs.Causes.{HasCause, one_more, faults_after};
@@ -79,6 +79,7 @@ impl MemNet {
         ensures handed { IfOk result (λ link. HandsOutFirst self.old link self.new) }
         ensures fresh { IfOk result IsFresh }
         ensures unchanged { OnErr result (self.new ≡ after_failure self.old) }
+        ensures later { self.old.faults ≤ self.new.faults }
     {
         let handed = self.next_link();
         self.counted(handed)
@@ -92,37 +93,42 @@ impl MemNet {
         ensures unchanged { OnErr result (self.new ≡ record self.old { plan = after_call result self.old.plan }) }
     {
         self.plan.count_call()?;
-        if self.make_room().is_err() {
+        let Ok(out) = make_room(&mut self.given, self.out) else {
             return Err(self.plan.count_fault());
-        }
+        };
         match self.coming.next() {
             Some(link) => {
-                self.out += 1;
+                self.out = out;
                 Ok(link)
             }
             None => Err(self.plan.count_fault()),
         }
     }
 
-    /// Makes room for the return of one link more than are out.
-    fn make_room(&mut self) -> Result<(), AllocError>
-        ensures same { self.new ≡ self.old }
-        ensures fits { OnOk result (self.old.out + 1 < 2 ^ 64) }
-    {
-        let out = self.out.checked_add(1).ok_or(AllocError)?;
-        self.given.reserve(out)
-    }
-
     /// Counts a fault where `outcome` is one.
     fn counted<T>(&mut self, outcome: Result<T, Failed>) -> Result<T, Failed>
         ensures same { result ≡ outcome }
         ensures count { self.new ≡ record self.old { faults = faults_after outcome self.old.faults } }
+        ensures later { self.old.faults ≤ self.new.faults }
     {
         if outcome.is_err() {
             self.faults = self.faults.saturating_add(1);
         }
         outcome
     }
+}
+
+/// Makes room for the return of one link more than are out, and answers how many that is.
+fn make_room(given: &mut Vec<MemLink>, out: usize) -> Result<usize, AllocError>
+    ensures items { given.new.items ≡ given.old.items }
+    ensures len { vec_len given.new ≡ vec_len given.old }
+    ensures capacity { vec_capacity given.old ≤ vec_capacity given.new }
+    ensures one_more { IfOk result (λ n. n ≡ out + 1) }
+    ensures room { IfOk result (λ n. vec_len given.new + n ≤ vec_capacity given.new) }
+{
+    let out = out.checked_add(1).ok_or(AllocError)?;
+    given.reserve(out)?;
+    Ok(out)
 }
 
 impl Counted for MemNet {
@@ -182,7 +188,11 @@ impl Net for MemNet {
         ensures later { self.old.faults ≤ self.new.faults }
         ensures faulted { 0 < link.plan.faults → self.new.faults ≡ one_more self.old.faults }
         ensures clean { link.plan.faults ≡ 0 → self.new.faults ≡ self.old.faults }
-        ensures rest { (self.new.coming ≡ self.old.coming) × (self.new.plan ≡ self.old.plan) }
+        ensures kept { self.new ≡ record self.old {
+          given = self.old.given ++ link.held ∷ [];
+          out = self.old.out - 1;
+          faults = self.new.faults;
+        } }
     {
         if link.faults() > 0 {
             self.faults = self.faults.saturating_add(1);
