@@ -3,6 +3,7 @@ ghost use Rattle.std.specs.Io.{ReadsAtMost, WritesAtMost};
 ghost use Rattle.std.specs.Io.KnownBytes.{ReadConsumes, WriteAppends};
 ghost use Rattle.bec_bytes.specs.Causes.{HasCause};
 ghost use Rattle.bec_bytes.specs.Memory.{filled_from};
+ghost use Rattle.bec_bytes.specs.Moved.{TakesAll};
 ghost use Rattle.bec_links.specs.Memory.{MemLinkState, IsToFail, after_call};
 
 use crate::link::Link;
@@ -120,4 +121,31 @@ impl Sink for MemLink {
     }
 }
 
-impl Link for MemLink {}
+impl Link for MemLink {
+    /// Just as `take`.
+    fn receive(&mut self, buf: &mut [u8]) -> Result<usize, Failed>
+        ensures bound { ReadsAtMost result buf.new }
+        ensures bytes { ReadConsumes (Some self.old.left) (Some self.new.left) result buf.new }
+        ensures held { Some self.new.held ≡ Some self.old.held }
+        ensures cause { HasCause self.old.plan.faults self.new.plan.faults result }
+        ensures fails { IsErr result ↔ IsToFail self.old.plan }
+        ensures count { IfOk result (λ n. n ≡ min (length buf.old) (length self.old.left)) }
+        ensures plan { self.new.plan ≡ after_call result self.old.plan }
+    {
+        self.take(buf)
+    }
+
+    /// Sends all in one `put`, which takes the bytes whole or fails.
+    fn send(&mut self, bytes: &[u8]) -> Result<(), Failed>
+        ensures bytes { TakesAll (Some self.old.held) (Some self.new.held) result bytes.now }
+        ensures left { Some self.new.left ≡ Some self.old.left }
+        ensures cause { HasCause self.old.plan.faults self.new.plan.faults result }
+        ensures fails { IsToFail self.old.plan → IsErr result }
+        ensures refused { OnErr result (IsToFail self.old.plan ⊎ (0 < length bytes.now)) }
+        ensures unchanged { OnErr result (self.new.held ≡ self.old.held) }
+        ensures plan { self.new.plan ≡ after_call result self.old.plan }
+    {
+        self.put(bytes)?;
+        Ok(())
+    }
+}
