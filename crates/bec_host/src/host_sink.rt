@@ -62,7 +62,7 @@ impl<W: Write> Sink for HostSink<W> {
 }
 
 /// Writes a front of `bytes` and flushes it.
-fn write_flushed<W: Write>(writer: &mut W, bytes: &[u8]) -> Result<usize, Failed>
+pub(crate) fn write_flushed<W: Write>(writer: &mut W, bytes: &[u8]) -> Result<usize, Failed>
     ensures bound { WritesAtMost result bytes.now }
     ensures some { 0 < length bytes.now → IfOk result (λ n. 0 < n) }
     ensures wrote { IfOk result

@@ -66,7 +66,7 @@ impl<R: Read> Source for HostSource<R> {
 }
 
 /// One read, made again where a signal interrupted it.
-fn read_retrying<R: Read>(reader: &mut R, buf: &mut [u8]) -> Result<usize, Failed>
+pub(crate) fn read_retrying<R: Read>(reader: &mut R, buf: &mut [u8]) -> Result<usize, Failed>
     ensures bound { ReadsAtMost result buf.new }
     ensures bytes { ReadConsumes (R.remaining reader.old) (R.remaining reader.new) result buf.new }
 {

@@ -22,6 +22,8 @@ mod hash_rng;
 mod host_sink;
 mod host_source;
 mod laws;
+mod tcp_link;
+mod tcp_net;
 
 pub use file_disk::FileDisk;
 pub use file_shelf::FileShelf;
@@ -29,3 +31,5 @@ pub use hash_rng::HashRng;
 pub use host_sink::HostSink;
 pub use host_source::HostSource;
 pub use laws::blocks_follow_one_another;
+pub use tcp_link::TcpLink;
+pub use tcp_net::TcpNet;

@@ -143,6 +143,7 @@ impl Net for MemNet {
     /// Succeeds, whatever the address, unless the call is one of those that are to fail.
     fn listen(&mut self, _address: &str) -> Result<(), Failed>
         ensures tried { net_of self.new ≡ after_try result (net_of self.old) }
+        ensures count { self.new.faults ≡ faults_after result self.old.faults }
         ensures cause { HasCause self.old.faults self.new.faults result }
         ensures fails { IsErr result ↔ IsToFail self.old.plan }
         ensures counted { self.new ≡ record self.old {
@@ -160,6 +161,7 @@ impl Net for MemNet {
         ensures handed { IfOk result (λ link. HandsOut (net_of self.old) (Some link.left) (Some link.held) (net_of self.new)) }
         ensures clean { IfOk result (λ link. link.plan.faults ≡ 0) }
         ensures refused { OnErr result (net_of self.new ≡ after_try result (net_of self.old)) }
+        ensures count { self.new.faults ≡ faults_after result self.old.faults }
         ensures cause { HasCause self.old.faults self.new.faults result }
         ensures fails { IsToFail self.old.plan ⊎ (self.old.coming ≡ []) → IsErr result }
         ensures first { IfOk result (λ link. HandsOutFirst self.old link self.new) }
@@ -173,6 +175,7 @@ impl Net for MemNet {
         ensures handed { IfOk result (λ link. HandsOut (net_of self.old) (Some link.left) (Some link.held) (net_of self.new)) }
         ensures clean { IfOk result (λ link. link.plan.faults ≡ 0) }
         ensures refused { OnErr result (net_of self.new ≡ after_try result (net_of self.old)) }
+        ensures count { self.new.faults ≡ faults_after result self.old.faults }
         ensures cause { HasCause self.old.faults self.new.faults result }
         ensures fails { IsToFail self.old.plan ⊎ (self.old.coming ≡ []) → IsErr result }
         ensures first { IfOk result (λ link. HandsOutFirst self.old link self.new) }
