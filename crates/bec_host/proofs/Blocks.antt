@@ -1,5 +1,5 @@
 -- 32 bytes from the start of a block are that block.
-use Rattle.std.proofs.Common.{◌≡◌, ◌∙◌, ◌+◌, ◌%◌, ◌^◌, ◌<◌, ◌==◌, ℕ, zero, suc, List, false, length, take, ap, refl, rules, subst, sym, arith, add-one, slice_index}
+use Rattle.std.proofs.Common.{◌≡◌, ◌∙◌, ◌+◌, ◌%◌, ◌^◌, ◌<◌, ◌==◌, ℕ, zero, suc, List, false, length, take, ap, refl, subst, sym, arith, add-one, slice_index}
 use Rattle.std.proofs.lemmas.Bool.Decides.{nat_tests}
 use Rattle.std.proofs.lemmas.List.{take_all, take_more}
 use Rattle.rand_core.specs.Stream.{fill_bytes}

@@ -1,8 +1,10 @@
-//! The edge of the program: real streams as the sources and sinks of `bec_bytes`.
+//! The edge of the program: real streams, connections and files as `bec_bytes`, `bec_links` and
+//! `bec_disk` see them.
 //!
 //! [`HostSource`] reads a reader of std through a buffer, and [`HostSink`] writes to a writer of std.
-//! Each counts the errors that it meets, retries a call that a signal interrupted, and answers
-//! `Failed` for any other error.
+//! [`TcpNet`] listens and dials, and hands each connection out as a [`TcpLink`]. [`FileShelf`] hands the
+//! files of directories out as [`FileDisk`]s. Each counts the errors that it meets, retries a call
+//! that a signal interrupted, and fails at any other error.
 //!
 //! ```
 //! fn main(rt: HostRuntime) -> Result<ExitCode, AllocError> {

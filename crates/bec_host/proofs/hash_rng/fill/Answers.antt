@@ -1,8 +1,8 @@
-use Rattle.std.proofs.Common.{rules, ◌≡◌, ◌<◌, ◌≤◌, ℕ, List, length, subst, refl, arith}
+use Rattle.std.proofs.Common.{rules, ◌≡◌, ◌<◌, ◌≤◌, ℕ, length, subst, refl, arith}
 use Rattle.std.proofs.lemmas.List.{take_all, take_more_set}
 use Rattle.rand_core.specs.Steps.{word_bytes}
 use Rattle.rand_core.proofs.StepsLemmas.{word_bytes_more}
-use Rattle.bec_host.specs.HashStream.{HashState, next_byte, one_byte}
+use Rattle.bec_host.specs.HashStream.{next_byte, one_byte}
 use Rattle.bec_host.proofs.hash_rng.fill.Goals as goal
 
 pub bytes-init : goal.bytes-init

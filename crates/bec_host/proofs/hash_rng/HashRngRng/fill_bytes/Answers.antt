@@ -1,4 +1,3 @@
-use Rattle.std.proofs.Common.{rules}
 use Rattle.rand_core.proofs.StepsLemmas.{meets_fill_bytes}
 use Rattle.bec_host.proofs.hash_rng.HashRngRng.fill_bytes.Goals as goal
 

@@ -1,4 +1,4 @@
-use Rattle.std.proofs.Common.{◌≡◌, ◌∙◌, ap, ℕ, List, w32}
+use Rattle.std.proofs.Common.{◌∙◌, ap, ℕ, List, w32}
 use Rattle.std.specs.Int.{from_le_bytes}
 use Rattle.rand_core.proofs.StepsLemmas.{meets_next_u32}
 use Rattle.bec_host.specs.HashStream.{HashState}
