@@ -1,4 +1,4 @@
-ghost use Rattle.std.specs.Prelude.{◌≡◌, ◌<◌, None, IfOk, OnErr, length, take};
+ghost use Rattle.std.specs.Prelude.{◌≡◌, ◌<◌, None, IfOk, OnErr, OnOk, length, take};
 ghost use Rattle.std.specs.Io.{WritesAtMost};
 ghost use Rattle.std.specs.Io.KnownBytes.{WriteAppends, Appends, Keeps};
 ghost use Rattle.bec_bytes.specs.Causes.{HasCause, faults_after};
@@ -76,6 +76,16 @@ pub(crate) fn write_flushed<W: Write>(writer: &mut W, bytes: &[u8]) -> Result<us
         return Err(Failed);
     }
     Ok(count)
+}
+
+/// Writes all the bytes and flushes them. A write that a signal interrupted is made again.
+pub(crate) fn write_all_flushed<W: Write>(writer: &mut W, bytes: &[u8]) -> Result<(), Failed>
+    ensures wrote { OnOk result (Appends (W.contents writer.old) (W.contents writer.new) bytes.now) }
+{
+    match writer.write_all(bytes) {
+        Ok(()) => flush_retrying(writer),
+        Err(_) => Err(Failed),
+    }
 }
 
 /// One write, made again where a signal interrupted it.

@@ -1,12 +1,13 @@
-ghost use Rattle.std.specs.Prelude.{◌≡◌, ◌<◌, ◌↔◌, None, IsTrue, IfOk, OnErr, length, take};
+ghost use Rattle.std.specs.Prelude.{◌≡◌, ◌<◌, ◌↔◌, None, IsTrue, IfOk, OnErr, OnOk, length, take};
 ghost use Rattle.std.specs.Io.{ReadsAtMost, WritesAtMost};
 ghost use Rattle.std.specs.Io.KnownBytes.{ReadConsumes, WriteAppends, Appends};
 ghost use Rattle.bec_bytes.specs.Causes.{HasCause, faults_after};
+ghost use Rattle.bec_bytes.specs.Moved.{TakesAll};
 ghost use Rattle.bec_host.specs.Streams.{HostLink, WritesFront};
 
-use crate::host_sink::write_flushed;
+use crate::host_sink::{write_all_flushed, write_flushed};
 use crate::host_source::read_retrying;
-use bec_bytes::{Counted, Failed, Sink, Source, write_all_of};
+use bec_bytes::{Counted, Failed, Sink, Source};
 use bec_links::Link;
 use std::io::{Read, Write};
 use std::marker::Model;
@@ -53,7 +54,7 @@ impl<S: Read + Write> TcpLink<S> {
     }
 
     /// Counts a fault where `outcome` is one.
-    fn counted(&mut self, outcome: Result<usize, Failed>) -> Result<usize, Failed>
+    fn counted<T>(&mut self, outcome: Result<T, Failed>) -> Result<T, Failed>
         ensures same { result ≡ outcome }
         ensures count { self.new ≡ record self.old { faults = faults_after outcome self.old.faults } }
         ensures cause { HasCause self.old.faults self.new.faults result }
@@ -115,7 +116,14 @@ impl<S: Read + Write + Send + Drop> Link for TcpLink<S> {
         self.take(buf)
     }
 
-    fn send(&mut self, bytes: &[u8]) -> Result<(), Failed> {
-        write_all_of(self, bytes)
+    /// Writes all the bytes, in as many writes as the stream takes.
+    fn send(&mut self, bytes: &[u8]) -> Result<(), Failed>
+        ensures bytes { TakesAll None None result bytes.now }
+        ensures cause { HasCause self.old.faults self.new.faults result }
+        ensures count { self.new.faults ≡ faults_after result self.old.faults }
+        ensures wrote { OnOk result (Appends self.old.gone self.new.gone bytes.now) }
+    {
+        let sent = write_all_flushed(&mut self.stream, bytes);
+        self.counted(sent)
     }
 }
