@@ -10,11 +10,7 @@ use std::test::Fail;
 fn link(alloc: Global, coming: &[u8], failing: &[u32]) -> Result<MemLink, AllocError>
     ensures { IfOk result IsFresh }
 {
-    Ok(MemLink::new(
-        alloc,
-        coming.to_vec(alloc)?,
-        failing.to_vec(alloc)?,
-    ))
+    Ok(MemLink::new(alloc, coming.to_vec(alloc)?, failing.to_vec(alloc)?))
 }
 
 /// Adds a link, unless there is no memory.
