@@ -1,3 +1,4 @@
+mod Going
 mod Growing
 mod Lists
 mod Turns

@@ -27,7 +27,7 @@ use replica::{MakeFault, Side};
 use row_check::Luhn;
 use session_rules::{End, Role};
 use std::alloc::{AllocError, Global};
-use sync_session::{CheckedFrame, Out, Session, belongs_when_grown};
+use sync_session::{CheckedFrame, Out, Session};
 use update_model::{ByteList, IdList, OpList, UpdateId};
 
 impl<D: Disk> Stored<D> {
@@ -72,6 +72,14 @@ impl<D: Disk> Stored<D> {
             }
         }
         made
+    }
+
+    /// How many updates the list has.
+    pub fn len(&self) -> u32
+        ensures value { result ≡ length (updates_of self.now.entries) }
+        ensures list { IsStoreOf self.now.entries self.now.store }
+    {
+        self.replica.len()
     }
 
     /// The bytes of the update at a position, counted over the updates of the list.
@@ -131,7 +139,6 @@ impl<D: Disk> Stored<D> {
         ensures failed { OnErr result (session.new.failed ≡ true) }
         ensures gains { GrowsBy (updates_in session.old) self.old.store.history.members self.new.store.history.members }
     {
-        belongs_when_grown(); // others may have added to the list
         if let Err(fault) = self.runs.reserve(1) {
             session.give_up();
             return Err(fault);

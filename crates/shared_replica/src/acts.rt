@@ -62,6 +62,20 @@ impl<D: Disk> Shared<D> {
         }
     }
 
+    /// How many updates there are. The pass that comes back has seen them all.
+    pub fn len<R: Wait>(&self, rt: &R, pass: Pass<D>) -> Acted<D, u32>
+        requires { pass.lock ≡ self.now.lock }
+        ensures act { (P : List Entry) × (store : ReplicaState) × IsAct pass result.pass P store store false }
+        ensures value { result.answer ≡ length (updates_of result.pass.seen) }
+    {
+        let (held, stored) = self.lock.take(rt, pass);
+        let answer = stored.len();
+        Acted {
+            pass: self.lock.give(held, stored),
+            answer,
+        }
+    }
+
     /// The bytes of the update at a position below the number of updates that the pass has seen. The error is want of memory.
     pub fn fetch<R: Wait>(
         &self,

@@ -1,6 +1,6 @@
 //! Laws of passes. Each function does nothing: its contract is a theorem for callers to cite.
 
-ghost use Rattle.std.specs.Prelude.{◌≡◌, ◌∷◌, ℕ, Bool, List};
+ghost use Rattle.std.specs.Prelude.{◌≡◌, ◌≤◌, ◌∷◌, ℕ, Bool, List, length};
 ghost use mathlib.Core.List.{IsPrefix};
 ghost use Rattle.replica.specs.Replicas.{ReplicaState};
 ghost use Rattle.schema.specs.Data.{SchemaData};
@@ -22,9 +22,10 @@ pub fn rules_stay()
     ensures one { (list : List Entry) (rule other : RuleData) → IsRuledBy list rule → IsRuledBy list other → rule ≡ other }
 {}
 
-/// What a pass has seen begins what it has seen after an act.
+/// What a pass has seen begins what it has seen after an act, and a longer list has no fewer updates.
 pub fn acts_see_more()
-    ensures { (before after : Known Entry) (P : List Entry) (old new : ReplicaState) (fault : Bool) → IsAct before after P old new fault → IsPrefix before.seen after.seen }
+    ensures updates { (list longer : List Entry) → IsPrefix list longer → length (updates_of list) ≤ length (updates_of longer) }
+    ensures seen { (before after : Known Entry) (P : List Entry) (old new : ReplicaState) (fault : Bool) → IsAct before after P old new fault → IsPrefix before.seen after.seen }
 {}
 
 /// A session belongs to what its pass has seen, after the act that began it and after each that gave it a frame, and to each longer list.
