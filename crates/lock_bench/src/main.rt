@@ -1,7 +1,7 @@
 //! Takes turns at a lock, for `bench/lock` to time.
 //!
-//! The words are how many threads, 1, 2, 4 or 8, and how many turns each takes. In its turn a thread adds one to a sum. What is printed is a line
-//! `ready`, behind which the turns begin, and then the sum.
+//! The words are how many threads, 1, 2, 4 or 8, and how many turns each takes. In its turn a thread adds one to a sum. The turns begin once a line was
+//! read, and then the sum is printed.
 #![tactic(auto)]
 
 mod turns;
@@ -26,7 +26,7 @@ fn main(rt: HostRuntime) -> anyhow::Result<ExitCode> {
     let Ok((lock, seat)) = made else {
         return Ok(ExitCode::from(5));
     };
-    println!(rt; "ready")?;
+    rt.read_line(&mut String::new(alloc))?;
     let seat = match threads.as_str() {
         "1" => take_turns(&rt, &lock, seat, count),
         "2" => two(&rt, &lock, seat, count),

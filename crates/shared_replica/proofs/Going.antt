@@ -1,11 +1,15 @@
 -- What a pass that sees more still has.
-use Rattle.std.proofs.Common.{◌≡◌, ◌≤◌, ℕ, Bool, List, ◌∷◌, ◌++◌, length, refl, sym, ap, ◌∙◌, subst}
+use Rattle.std.proofs.Common.{◌≡◌, ◌≤◌, ℕ, Bool, true, List, ◌∷◌, ◌++◌, length, Option, Some, None, Result, Ok, Err, IfOk, refl, sym, ap, ◌∙◌, subst}
+use Rattle.std.specs.declared.alloc.AllocError.{AllocError}
 use mathlib.Core.List.{IsPrefix}
 use Rattle.replica.specs.Replicas.{ReplicaState}
 use Rattle.schema.specs.Data.{SchemaData}
+use Rattle.session_rules.specs.declared.end.End.{End}
+use Rattle.session_rules.specs.declared.end.End.TheVariants.{Done, Peer, Full, Store}
 use Rattle.sync_session.proofs.Growing.{belongs_grown}
 use Rattle.sync_session.specs.Kept.{Kept, BelongsTo, IsFrameUnder}
 use Rattle.sync_session.specs.declared.checked_frame.CheckedFrame.{CheckedFrame}
+use Rattle.sync_session.specs.declared.out.Out.{Out}
 use Rattle.turn_lock.proofs.Prefixes.{prefix_more, prefix_self}
 use Rattle.turn_lock.specs.Seats.{Known}
 use Rattle.update_model.specs.Batch.{store_limits}
@@ -16,7 +20,7 @@ use Rattle.shared_replica.specs.declared.entry.Entry.{Entry}
 use Rattle.shared_replica.specs.declared.entry.Entry.TheVariants.{First}
 use Rattle.shared_replica.specs.Acts.{IsAct}
 use Rattle.shared_replica.specs.Entries.{IsStoreOf, updates_of}
-use Rattle.shared_replica.specs.Sessions.{BelongsIn, IsRuledBy, IsUnder}
+use Rattle.shared_replica.specs.Sessions.{BelongsIn, IsRuledBy, IsUnder, is_store, met_store}
 
 -- ---- the rule of a list
 
@@ -75,6 +79,20 @@ module _ (before after : Known Entry) (P : List Entry) (old new : ReplicaState) 
 
     pub stepped_after : BelongsTo store_limits old.history.schema.rule session (updates_of after.seen) → BelongsIn after.seen session
     stepped_after b = record { rule = old.history.schema.rule; ruled = ruled_after; front = after.seen; begins = prefix_self after.seen; belongs = b }
+
+-- ---- faults
+
+store_is : (end : Option End) → is_store end ≡ true → end ≡ Some Store
+store_is None met = cc
+store_is (Some Done) met = cc
+store_is (Some (Peer fault)) met = cc
+store_is (Some Full) met = cc
+store_is (Some Store) met = refl
+
+-- what holds where the session ended by the store
+pub store_then : (answer : Result Out AllocError) (X : Type 0) → IfOk answer (λ out. out.end ≡ Some Store → X) → met_store answer ≡ true → X
+store_then (Ok out) X then met = then (store_is out.end met)
+store_then (Err fault) X then met = absurd cc
 
 -- ---- a store and its list
 

@@ -112,14 +112,13 @@ impl<D: Disk> Stored<D> {
     ) -> Result<(Session, Out), AllocError>
         requires few { length recalled ≤ MAX_NEEDS }
         requires rising { IsStrictlySortedBy id_cmp recalled }
-        ensures starts { IfOk result (λ p. StartsAs role self.now.store.history.schema.rule.database self.now.store.node recalled self.now.store.history.members p.0 p.1) }
-        ensures belongs { IfOk result (λ p. BelongsTo store_limits self.now.store.history.schema.rule p.0 self.now.store.history.members) }
+        ensures starts { IfOk result (λ p. StartsAs role self.now.store.history.schema.rule.database self.now.store.node recalled (updates_of self.now.entries) p.0 p.1) }
+        ensures belongs { IfOk result (λ p. BelongsTo store_limits self.now.store.history.schema.rule p.0 (updates_of self.now.entries)) }
         ensures list { IsStoreOf self.now.entries self.now.store }
     {
         let database = self.replica.schema().rule().database;
         let node = self.replica.node();
-        let begun = Session::start(alloc, &self.replica, role, database, node, recalled)?;
-        Ok(begun)
+        Session::start(alloc, &self.replica, role, database, node, recalled)
     }
 
     /// One frame to a session, as an act of this seat. The room for what it may add is taken first; where there is none, the session is over.
@@ -134,10 +133,10 @@ impl<D: Disk> Stored<D> {
         requires belongs { BelongsIn self.old.entries session.old }
         requires under { IsUnder self.old.entries frame }
         ensures grows { Grows self.old self.new seat act (met_store result) }
-        ensures steps { IfOk result (λ out. StepsTo store_limits session.old self.old.store.history.members frame session.new out self.new.store.history.members) }
-        ensures belongs { BelongsTo store_limits self.old.store.history.schema.rule session.new self.new.store.history.members }
+        ensures steps { IfOk result (λ out. StepsTo store_limits session.old (updates_of self.old.entries) frame session.new out (updates_of self.new.entries)) }
+        ensures belongs { BelongsTo store_limits self.old.store.history.schema.rule session.new (updates_of self.new.entries) }
         ensures failed { OnErr result (session.new.failed ≡ true) }
-        ensures gains { GrowsBy (updates_in session.old) self.old.store.history.members self.new.store.history.members }
+        ensures gains { GrowsBy (updates_in session.old) (updates_of self.old.entries) (updates_of self.new.entries) }
     {
         if let Err(fault) = self.runs.reserve(1) {
             session.give_up();
