@@ -1,5 +1,6 @@
 //! What an act does to the replica and its list.
-ghost use Rattle.std.specs.Prelude.{◌≡◌, ◌<◌, ◌≤◌, ◌+◌, List, Some, ℕ, IfOk, IfErr, OnErr, OnOk, false, length, map, slice_get};
+ghost use Rattle.std.specs.Prelude.{◌≡◌, ◌<◌, ◌≤◌, ◌+◌, List, Some, ℕ, IfOk, IfErr, OnErr, OnOk, true, false, length, map, slice_get};
+ghost use Rattle.std.specs.List.Sorted.{IsStrictlySortedBy};
 ghost use Rattle.replica.specs.Making.{IsMakeCause, Makes};
 ghost use Rattle.replica.specs.Signing.{KeyAfter};
 ghost use Rattle.shared_replica.specs.Acts.{Grows, met_fault};
