@@ -1,17 +1,24 @@
 -- A stored replica before and after a step of a session.
-use Rattle.std.proofs.Common.{◌≡◌, ◌-◌, ℕ, List, [], ◌∷◌, ◌++◌, length, Result, IfOk, refl, sym, ap, ◌∙◌, subst, arith, append-nil, length-append}
+use Rattle.std.proofs.Common.{◌≡◌, ◌≤◌, ◌-◌, ℕ, List, [], ◌∷◌, ◌++◌, length, map, Result, IfOk, refl, sym, ap, ◌∙◌, subst, arith, append-nil, length-append}
+use Rattle.std.proofs.lemmas.Bool.Decides.{nat_tests}
+use Rattle.std.proofs.lemmas.List.{length-map}
 use Rattle.std.proofs.lemmas.List.Elements.{All-nil}
-use Rattle.std.specs.Prelude.{Contains}
+use Rattle.std.specs.Prelude.{Contains, nat_le, ◌&&◌, true}
 use Rattle.std.specs.declared.alloc.AllocError.{AllocError}
 use Rattle.replica.specs.Replicas.{ReplicaState}
 use Rattle.sync_session.specs.Kept.{Kept, BelongsTo, GrowsBy, StepsTo}
 use Rattle.sync_session.specs.declared.checked_frame.CheckedFrame.{CheckedFrame}
 use Rattle.sync_session.specs.declared.out.Out.{Out}
+use Rattle.update_codec.specs.Parts.{entry_of}
 use Rattle.update_model.specs.Batch.{store_limits}
+use Rattle.update_model.specs.Graph.{byte_count, is_within}
+use Rattle.update_model.specs.declared.limits.TheConstants.{MAX_BYTES, MAX_MEMBERS}
 use Rattle.shared_replica.specs.declared.entry.Run.{Run}
 use Rattle.shared_replica.specs.Entries.{Story, listed, IsStored, updates_of}
+use Rattle.shared_replica.specs.Sessions.{BelongsIn}
+use Rattle.shared_replica.proofs.Going.{belongs_now}
 use Rattle.shared_replica.proofs.Growing.{story, updates_now}
-use Rattle.shared_replica.proofs.Lists.{updates_listed}
+use Rattle.shared_replica.proofs.Lists.{store_of, updates_listed}
 
 -- how many stand behind those before
 pub count_added : (before added after : List (List ℕ)) (m n : ℕ) → after ≡ before ++ added → m ≡ length before → n ≡ length after → n - m ≡ length added
@@ -24,6 +31,18 @@ none_added before (u ∷ us) after behind none = absurd (omega arith)
 -- nothing comes from anywhere
 pub gains_none : (from members : List (List ℕ)) → GrowsBy from members members
 gains_none from members = record { added = []; behind = sym (append-nil members); of = All-nil (Contains from) }
+
+few_within : (members bytes : ℕ) → (nat_le members MAX_MEMBERS && nat_le bytes MAX_BYTES) ≡ true → members ≤ MAX_MEMBERS
+few_within members bytes within = grind (arith, nat_tests)
+
+-- a session that belongs to a beginning of the list belongs to all updates
+pub belongs_inside : (opening : ReplicaState) (opened : ℕ) (runs : List Run) (faults : ℕ) (replica : ReplicaState) → IsStored opening opened runs faults replica → (now : Story)
+    → story opening opened runs replica ≡ now → (k : Kept) → is_within (map entry_of replica.history.members) ≡ true → BelongsIn now.entries k
+    → BelongsTo store_limits replica.history.schema.rule k replica.history.members
+belongs_inside opening opened runs faults replica is now was k within b =
+    let few : length (map entry_of replica.history.members) ≤ MAX_MEMBERS = few_within (length (map entry_of replica.history.members)) (byte_count (map entry_of replica.history.members)) within in
+    belongs_now (listed opening opened runs replica.history.members) replica (store_of opening opened runs faults replica is) k (omega (arith, few, length-map replica.history.members entry_of))
+    (subst (λ (s : Story). BelongsIn s.entries k) (sym was) b)
 
 -- what is said of the members, said of the updates of the list
 module _ (opening : ReplicaState) (opened : ℕ) (runs runs' : List Run) (faults faults' : ℕ) (replica new : ReplicaState) (is : IsStored opening opened runs faults replica)

@@ -1,4 +1,4 @@
-use Rattle.std.proofs.Common.{List, ℕ, IfOk, ap, subst, sym}
+use Rattle.std.proofs.Common.{◌≡◌, List, ℕ, IfOk, ap, subst, sym}
 use Rattle.update_model.specs.Batch.{store_limits}
 use Rattle.sync_session.specs.Kept.{updates_in, BelongsTo, GrowsBy, StepsTo}
 use Rattle.shared_replica.specs.declared.entry.Entry.{Entry}
@@ -26,7 +26,7 @@ returns g c =
     let s = c.take-held.result.1 in
     let answer = c.session_step-answer.result in
     let session = c.session_step-answer.new.session in
-    let seen = sym (ap (λ k. k.seen) c.give.ensures) in
+    let seen : c.session_step-answer.new.self.entries ≡ c.give.result.seen = sym (ap (λ k. k.seen) c.give.ensures) in
     (
       s.entries,
       s.store,
