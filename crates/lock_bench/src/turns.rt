@@ -86,14 +86,10 @@ pub fn two<R: Threads + Wait + Sync>(
                 rt,
                 ||
                     requires { first.lock ≡ lock.now }
-                {
-                    take_turns(rt, lock, first, count)
-                },
+                { take_turns(rt, lock, first, count) },
                 ||
                     requires { second.lock ≡ lock.now }
-                {
-                    take_turns(rt, lock, second, count)
-                },
+                { take_turns(rt, lock, second, count) },
             );
             meet(lock, a, b)
         }
@@ -117,14 +113,10 @@ pub fn four<R: Threads + Wait + Sync>(
                 rt,
                 ||
                     requires { first.lock ≡ lock.now }
-                {
-                    two(rt, lock, first, count)
-                },
+                { two(rt, lock, first, count) },
                 ||
                     requires { second.lock ≡ lock.now }
-                {
-                    two(rt, lock, second, count)
-                },
+                { two(rt, lock, second, count) },
             );
             meet(lock, a, b)
         }
@@ -148,14 +140,10 @@ pub fn eight<R: Threads + Wait + Sync>(
                 rt,
                 ||
                     requires { first.lock ≡ lock.now }
-                {
-                    four(rt, lock, first, count)
-                },
+                { four(rt, lock, first, count) },
                 ||
                     requires { second.lock ≡ lock.now }
-                {
-                    four(rt, lock, second, count)
-                },
+                { four(rt, lock, second, count) },
             );
             meet(lock, a, b)
         }

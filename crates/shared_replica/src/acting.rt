@@ -172,10 +172,12 @@ fn ended_by_store(answer: &Result<Out, AllocError>) -> bool
     ensures { result ≡ met_store answer.now }
 {
     match answer {
-        Ok(Out {
-            end: Some(End::Store),
-            ..
-        }) => true,
+        Ok(
+            Out {
+                end: Some(End::Store),
+                ..
+            },
+        ) => true,
         _ => false,
     }
 }

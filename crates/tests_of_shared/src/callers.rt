@@ -114,14 +114,10 @@ fn two<R: Threads + Wait + Sync>(
                 rt,
                 ||
                     requires { first.lock ≡ shared.now.lock }
-                {
-                    calls(rt, alloc, shared, first, number)
-                },
+                { calls(rt, alloc, shared, first, number) },
                 ||
                     requires { second.lock ≡ shared.now.lock }
-                {
-                    calls(rt, alloc, shared, second, number.wrapping_add(1))
-                },
+                { calls(rt, alloc, shared, second, number.wrapping_add(1)) },
             );
             both(shared, a, b)
         }
@@ -149,14 +145,10 @@ fn four<R: Threads + Wait + Sync>(
                 rt,
                 ||
                     requires { first.lock ≡ shared.now.lock }
-                {
-                    two(rt, alloc, shared, first, number)
-                },
+                { two(rt, alloc, shared, first, number) },
                 ||
                     requires { second.lock ≡ shared.now.lock }
-                {
-                    two(rt, alloc, shared, second, number.wrapping_add(2))
-                },
+                { two(rt, alloc, shared, second, number.wrapping_add(2)) },
             );
             both(shared, a, b)
         }
@@ -183,14 +175,10 @@ fn eight<R: Threads + Wait + Sync>(
                 rt,
                 ||
                     requires { first.lock ≡ shared.now.lock }
-                {
-                    four(rt, alloc, shared, first, 0)
-                },
+                { four(rt, alloc, shared, first, 0) },
                 ||
                     requires { second.lock ≡ shared.now.lock }
-                {
-                    four(rt, alloc, shared, second, 4)
-                },
+                { four(rt, alloc, shared, second, 4) },
             );
             both(shared, a, b)
         }

@@ -148,7 +148,10 @@ fn carry<R: Wait>(
     ensures to { IfOk result (λ r. IsParty r.1) }
 {
     let Out {
-        hello, send, turn, ..
+        hello,
+        send,
+        turn,
+        ..
     } = out;
     if let Some(hello) = hello {
         to = to.take(rt, alloc, CheckedFrame::Hello(hello))?.0;

@@ -26,8 +26,7 @@ returns g c =
     let s = c.take-held.result.1 in
     let answer = c.session_step-answer.result in
     let session = c.session_step-answer.new.session in
-    let seen : c.session_step-answer.new.self.entries ≡ c.give.result.seen = sym (ap (λ k. k.seen) c.give.ensures) in
-    (
+    let seen : c.session_step-answer.new.self.entries ≡ c.give.result.seen = sym (ap (λ k. k.seen) c.give.ensures) in (
       s.entries,
       s.store,
       c.session_step-answer.new.self.store,
