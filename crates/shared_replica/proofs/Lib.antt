@@ -1,3 +1,5 @@
+mod Going
 mod Growing
 mod Lists
+mod Stepping
 mod Turns

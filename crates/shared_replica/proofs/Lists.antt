@@ -13,7 +13,7 @@ use Rattle.replica.specs.Replicas.{ReplicaState}
 
 -- ---- lists one behind the other
 
-updates_more : (es fs : List Entry) → updates_of (es ++ fs) ≡ updates_of es ++ updates_of fs
+pub updates_more : (es fs : List Entry) → updates_of (es ++ fs) ≡ updates_of es ++ updates_of fs
 updates_more [] fs = refl
 updates_more (First node schema faults ∷ es) fs = updates_more es fs
 updates_more (Opened u ∷ es) fs = ap (λ us. u ∷ us) (updates_more es fs)

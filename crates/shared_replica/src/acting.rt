@@ -1,15 +1,22 @@
 //! What an act does to the replica and its list.
-ghost use Rattle.std.specs.Prelude.{◌≡◌, ◌<◌, ◌≤◌, ◌+◌, List, Some, ℕ, IfOk, IfErr, OnErr, OnOk, false, length, map, slice_get};
+ghost use Rattle.std.specs.Prelude.{◌≡◌, ◌<◌, ◌≤◌, ◌+◌, List, Some, ℕ, IfOk, IfErr, OnErr, OnOk, true, false, length, map, slice_get};
+ghost use Rattle.std.specs.List.Sorted.{IsStrictlySortedBy};
 ghost use Rattle.replica.specs.Making.{IsMakeCause, Makes};
 ghost use Rattle.replica.specs.Signing.{KeyAfter};
 ghost use Rattle.shared_replica.specs.Acts.{Grows, met_fault};
 ghost use Rattle.shared_replica.specs.Entries.{IsStoreOf, updates_of};
+ghost use Rattle.shared_replica.specs.Sessions.{BelongsIn, IsUnder, met_store};
+ghost use Rattle.session_rules.specs.declared.limits.TheConstants.{MAX_NEEDS};
+ghost use Rattle.sync_session.specs.Kept.{updates_in, BelongsTo, GrowsBy, StepsTo};
+ghost use Rattle.sync_session.specs.Starts.{StartsAs};
 ghost use Rattle.row_check.specs.Checksum.{is_luhn};
 ghost use Rattle.table_model.specs.Visible.{rules_with};
 ghost use Rattle.tuple_state.specs.State.{IsStateOf};
 ghost use Rattle.history.specs.Histories.{nodes_of};
 ghost use Rattle.update_codec.specs.Parts.{entry_of};
 ghost use Rattle.update_model.specs.declared.limits.TheConstants.{MAX_OPS};
+ghost use Rattle.update_model.specs.Batch.{store_limits};
+ghost use Rattle.update_model.specs.Entry.{id_cmp};
 ghost use Rattle.update_model.specs.Graph.{AreHeads};
 ghost use Rattle.update_model.specs.Rows.{AreOps};
 
@@ -19,7 +26,9 @@ use bec_disk::Disk;
 use key_index::KeyStore;
 use replica::{MakeFault, Side};
 use row_check::Luhn;
+use session_rules::{End, Role};
 use std::alloc::{AllocError, Global};
+use sync_session::{CheckedFrame, Out, Session};
 use update_model::{ByteList, IdList, OpList, UpdateId};
 
 impl<D: Disk> Stored<D> {
@@ -66,6 +75,14 @@ impl<D: Disk> Stored<D> {
         made
     }
 
+    /// How many updates the list has.
+    pub fn len(&self) -> u32
+        ensures value { result ≡ length (updates_of self.now.entries) }
+        ensures list { IsStoreOf self.now.entries self.now.store }
+    {
+        self.replica.len()
+    }
+
     /// The bytes of the update at a position, counted over the updates of the list.
     pub fn fetch(&self, alloc: Global, position: u32) -> Result<ByteList, AllocError>
         requires { position < length (updates_of self.now.entries) }
@@ -85,5 +102,82 @@ impl<D: Disk> Stored<D> {
         let heads = IdList::from_vec(self.replica.heads(alloc)?);
         let tables = self.replica.tables().copy(alloc)?;
         Ok(Picture { heads, tables })
+    }
+
+    /// Begins a session over the updates of the list, of the replica's database and under its node id.
+    pub fn session_start(
+        &self,
+        alloc: Global,
+        role: Role,
+        recalled: IdList,
+    ) -> Result<(Session, Out), AllocError>
+        requires few { length recalled ≤ MAX_NEEDS }
+        requires rising { IsStrictlySortedBy id_cmp recalled }
+        ensures starts { IfOk result (λ p. StartsAs role self.now.store.history.schema.rule.database self.now.store.node recalled (updates_of self.now.entries) p.0 p.1) }
+        ensures belongs { IfOk result (λ p. BelongsTo store_limits self.now.store.history.schema.rule p.0 (updates_of self.now.entries)) }
+        ensures list { IsStoreOf self.now.entries self.now.store }
+    {
+        let database = self.replica.schema().rule().database;
+        let node = self.replica.node();
+        Session::start(alloc, &self.replica, role, database, node, recalled)
+    }
+
+    /// One frame to a session, as an act of this seat. The room for what it may add is taken first; where there is none, the session is over.
+    pub fn session_step(
+        &mut self,
+        alloc: Global,
+        session: &mut Session,
+        frame: CheckedFrame,
+        seat: u64,
+        act: u64,
+    ) -> Result<Out, AllocError>
+        requires belongs { BelongsIn self.old.entries session.old }
+        requires under { IsUnder self.old.entries frame }
+        ensures grows { Grows self.old self.new seat act (met_store result) }
+        ensures steps { IfOk result (λ out. StepsTo store_limits session.old (updates_of self.old.entries) frame session.new out (updates_of self.new.entries)) }
+        ensures belongs { BelongsTo store_limits self.old.store.history.schema.rule session.new (updates_of self.new.entries) }
+        ensures failed { OnErr result (session.new.failed ≡ true) }
+        ensures gains { GrowsBy (updates_in session.old) (updates_of self.old.entries) (updates_of self.new.entries) }
+    {
+        if let Err(fault) = self.runs.reserve(1) {
+            session.give_up();
+            return Err(fault);
+        }
+        let before = self.replica.len();
+        let answer = session.step(alloc, &mut self.replica, frame);
+        let count = self.replica.len() - before; // what is held is on the disk
+        if ended_by_store(&answer) {
+            self.runs.push_reserved(Run {
+                seat,
+                act,
+                count,
+                fault: true,
+            });
+            self.runs.len(); // there are no more faults than acts
+            self.faults += 1;
+        } else if count > 0 {
+            self.runs.push_reserved(Run {
+                seat,
+                act,
+                count,
+                fault: false,
+            });
+        }
+        answer
+    }
+}
+
+/// Whether the log's disk failed in a step of a session.
+fn ended_by_store(answer: &Result<Out, AllocError>) -> bool
+    ensures { result ≡ met_store answer.now }
+{
+    match answer {
+        Ok(
+            Out {
+                end: Some(End::Store),
+                ..
+            },
+        ) => true,
+        _ => false,
     }
 }

@@ -1,5 +1,6 @@
 //! The acts of a shared replica.
-ghost use Rattle.std.specs.Prelude.{◌≡◌, ◌<◌, ◌≤◌, ℕ, List, Some, false, IfOk, IfErr, length, map, slice_get};
+ghost use Rattle.std.specs.Prelude.{◌≡◌, ◌<◌, ◌≤◌, ℕ, List, Some, false, true, IfOk, IfErr, OnErr, length, map, slice_get};
+ghost use Rattle.std.specs.List.Sorted.{IsStrictlySortedBy};
 ghost use Rattle.history.specs.Histories.{nodes_of};
 ghost use Rattle.replica.specs.Making.{IsMakeCause, Makes};
 ghost use Rattle.replica.specs.Replicas.{ReplicaState};
@@ -7,11 +8,17 @@ ghost use Rattle.replica.specs.Signing.{KeyAfter};
 ghost use Rattle.shared_replica.specs.declared.entry.Entry.{Entry};
 ghost use Rattle.shared_replica.specs.Acts.{IsAct, met_fault};
 ghost use Rattle.shared_replica.specs.Entries.{updates_of};
+ghost use Rattle.shared_replica.specs.Sessions.{BelongsIn, IsUnder, met_store};
+ghost use Rattle.session_rules.specs.declared.limits.TheConstants.{MAX_NEEDS};
+ghost use Rattle.sync_session.specs.Kept.{updates_in, BelongsTo, GrowsBy, StepsTo};
+ghost use Rattle.sync_session.specs.Starts.{StartsAs};
 ghost use Rattle.row_check.specs.Checksum.{is_luhn};
 ghost use Rattle.table_model.specs.Visible.{rules_with};
 ghost use Rattle.tuple_state.specs.State.{IsStateOf};
 ghost use Rattle.update_codec.specs.Parts.{entry_of};
 ghost use Rattle.update_model.specs.declared.limits.TheConstants.{MAX_OPS};
+ghost use Rattle.update_model.specs.Batch.{store_limits};
+ghost use Rattle.update_model.specs.Entry.{id_cmp};
 ghost use Rattle.update_model.specs.Graph.{AreHeads};
 ghost use Rattle.update_model.specs.Rows.{AreOps};
 
@@ -21,9 +28,11 @@ use bec_disk::Disk;
 use key_index::KeyStore;
 use replica::MakeFault;
 use row_check::Luhn;
+use session_rules::Role;
 use std::alloc::{AllocError, Global};
 use std::sync::Wait;
-use update_model::{ByteList, OpList, UpdateId};
+use sync_session::{CheckedFrame, Out, Session};
+use update_model::{ByteList, IdList, OpList, UpdateId};
 
 impl<D: Disk> Shared<D> {
     /// Makes an update of these operations by a key, after all heads, as `Replica::make` does, and answers its id. There are at most 64
@@ -47,6 +56,20 @@ impl<D: Disk> Shared<D> {
     {
         let (held, mut stored) = self.lock.take(rt, pass);
         let answer = stored.make(alloc, ops, key, c, held.seat(), held.act());
+        Acted {
+            pass: self.lock.give(held, stored),
+            answer,
+        }
+    }
+
+    /// How many updates there are. The pass that comes back has seen them all.
+    pub fn len<R: Wait>(&self, rt: &R, pass: Pass<D>) -> Acted<D, u32>
+        requires { pass.lock ≡ self.now.lock }
+        ensures act { (P : List Entry) × (store : ReplicaState) × IsAct pass result.pass P store store false }
+        ensures value { result.answer ≡ length (updates_of result.pass.seen) }
+    {
+        let (held, stored) = self.lock.take(rt, pass);
+        let answer = stored.len();
         Acted {
             pass: self.lock.give(held, stored),
             answer,
@@ -88,6 +111,62 @@ impl<D: Disk> Shared<D> {
     {
         let (held, stored) = self.lock.take(rt, pass);
         let answer = stored.snapshot(alloc);
+        Acted {
+            pass: self.lock.give(held, stored),
+            answer,
+        }
+    }
+
+    /// Begins a session over the updates of the list, of the replica's database and under its node id, as `Session::start` does. `recalled` are
+    /// the ids that were remembered of the peer when they last met, which rise: none where they never did. The error is want of memory.
+    pub fn session_start<R: Wait>(
+        &self,
+        rt: &R,
+        alloc: Global,
+        pass: Pass<D>,
+        role: Role,
+        recalled: IdList,
+    ) -> Acted<D, Result<(Session, Out), AllocError>>
+        requires lock { pass.lock ≡ self.now.lock }
+        requires few { length recalled ≤ MAX_NEEDS }
+        requires rising { IsStrictlySortedBy id_cmp recalled }
+        ensures { (P : List Entry) × (store : ReplicaState) × IsAct pass result.pass P store store false
+            × IfOk result.answer (λ p. StartsAs role store.history.schema.rule.database store.node recalled (updates_of P) p.0 p.1)
+            × IfOk result.answer (λ p. BelongsTo store_limits store.history.schema.rule p.0 (updates_of P)) }
+    {
+        let (held, stored) = self.lock.take(rt, pass);
+        let answer = stored.session_start(alloc, role, recalled);
+        Acted {
+            pass: self.lock.give(held, stored),
+            answer,
+        }
+    }
+
+    /// Takes the peer's next frame, and answers what is to be sent, as `Session::step` does. An update has to be under the rule of the schema with
+    /// which the pass's list begins, and the session has to belong to what the pass has seen, as it does after [`Shared::session_start`] and after
+    /// each call of this, however many acts the pass has made since.
+    ///
+    /// The act adds what the step added, and one fault exactly where the session ends by the store. The error is want of memory, also of room for
+    /// an entry. The session is over then, and what was added stays.
+    pub fn session_step<R: Wait>(
+        &self,
+        rt: &R,
+        alloc: Global,
+        pass: Pass<D>,
+        session: &mut Session,
+        frame: CheckedFrame,
+    ) -> Acted<D, Result<Out, AllocError>>
+        requires lock { pass.lock ≡ self.now.lock }
+        requires belongs { BelongsIn pass.seen session.old }
+        requires under { IsUnder pass.seen frame }
+        ensures { (P : List Entry) × (old : ReplicaState) × (new : ReplicaState) × IsAct pass result.pass P old new (met_store result.answer)
+            × IfOk result.answer (λ out. StepsTo store_limits session.old (updates_of P) frame session.new out (updates_of result.pass.seen))
+            × BelongsTo store_limits old.history.schema.rule session.new (updates_of result.pass.seen)
+            × OnErr result.answer (session.new.failed ≡ true)
+            × GrowsBy (updates_in session.old) (updates_of P) (updates_of result.pass.seen) }
+    {
+        let (held, mut stored) = self.lock.take(rt, pass);
+        let answer = stored.session_step(alloc, session, frame, held.seat(), held.act());
         Acted {
             pass: self.lock.give(held, stored),
             answer,

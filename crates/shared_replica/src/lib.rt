@@ -9,6 +9,8 @@
 //! let (first, second) = shared.split(first)?; // for another thread
 //! let acted = shared.make(rt, alloc, first, ops, &mut key, &c);
 //! let acted = shared.fetch(rt, alloc, acted.pass, 0);
+//! let acted = shared.session_start(rt, alloc, acted.pass, Role::Responder, recalled);
+//! let acted = shared.session_step(rt, alloc, acted.pass, &mut session, frame);
 //! let pass = shared.meet(acted.pass, second)?;
 //! let replica = shared.end(rt, pass);
 //! ```
@@ -17,9 +19,11 @@
 mod acting;
 mod acts;
 mod entry;
+mod laws;
 mod shared;
 mod stored;
 
 pub use entry::{Entry, Run};
+pub use laws::{acts_see_more, frames_stay, rules_stay, sessions_go_on};
 pub use shared::{Acted, Pass, Shared};
 pub use stored::{Picture, Stored};

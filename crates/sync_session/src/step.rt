@@ -56,6 +56,13 @@ impl Session {
         }
     }
 
+    /// Ends the session where the caller's memory ran out over a frame: it is over, as where its own did.
+    pub fn give_up(&mut self)
+        ensures { self.new ≡ record self.old { failed = true } }
+    {
+        self.failed = true;
+    }
+
     /// Whether no frame is answered any more.
     fn is_over(&self) -> bool
         ensures { result ≡ (self.now.failed || is_some self.now.state.ended) }
