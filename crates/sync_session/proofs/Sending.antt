@@ -1,5 +1,5 @@
 -- The positions that are handed out are positions of the holder's list.
-use Rattle.std.proofs.Common.{◌≡◌, ◌<◌, ◌≤◌, ◌+◌, ℕ, zero, suc, List, [], ◌∷◌, ◌++◌, All, length, get_or, map, take, filter_map, slice_get, Bool, Some, refl, sym, ap, subst, inl, inr, arith}
+use Rattle.std.proofs.Common.{◌≡◌, ◌<◌, ◌≤◌, ◌+◌, ℕ, zero, suc, List, [], ◌∷◌, ◌++◌, All, length, get_or, map, take, filter_map, slice_get, Bool, Some, refl, ap, subst, inl, inr, arith}
 use Rattle.std.specs.List.{cons_option, position_from}
 use Rattle.std.proofs.lemmas.List.{length-map, length-take}
 use Rattle.std.proofs.lemmas.List.Elements.{All-append, All-cons, All-get_or, All-nil}
@@ -26,6 +26,7 @@ reaching zero = some_entry ∷ []
 reaching (suc p) = some_entry ∷ reaching p
 
 at_end : (p : ℕ) → slice_get (reaching p) p ≡ Some some_entry
+unfolding reaching
 at_end zero = refl
 at_end (suc p) = at_end p
 
