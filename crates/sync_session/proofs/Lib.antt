@@ -27,3 +27,4 @@ pub mod Moving
 pub mod Sessions
 pub mod Weights
 pub mod Room
+pub mod Sending

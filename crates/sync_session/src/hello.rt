@@ -1,6 +1,6 @@
 //! What a session does with the peer's Hello.
 
-ghost use Rattle.std.specs.Prelude.{◌≡◌, [], ◌+◌, ◌<◌, ◌≤◌, ◌^◌, IfOk, OnOk, List, length, map};
+ghost use Rattle.std.specs.Prelude.{◌≡◌, [], ◌+◌, ◌<◌, ◌≤◌, ◌^◌, All, IfOk, OnOk, List, length, map};
 ghost use Rattle.session_rules.specs.State.{Hello as hello_frame};
 ghost use Rattle.session_rules.specs.Steps.{silent, Takes};
 ghost use Rattle.update_check.specs.Holding.{IsHeld};
@@ -32,6 +32,7 @@ impl Session {
         ensures takes { IfOk result (λ out. (limits : Limits) →
             Takes limits (seen (H.members holder.now) self.old) (map entry_of (H.members holder.now)) (hello_frame (hello_of hello))
             (seen (H.members holder.now) self.new) (out_of (map entry_of (H.members holder.now)) out) (map entry_of (H.members holder.now))) }
+        ensures within { IfOk result (λ out. All (λ p. p < length (H.members holder.now)) out.send) }
         ensures stands { OnOk result (Stands (H.rule holder.now) self.new (H.members holder.now)) }
         ensures failed { OnOk result (self.new.failed ≡ self.old.failed) }
     {
@@ -67,6 +68,7 @@ impl Session {
         requires running { IsRunning self.old }
         requires stands { Stands (H.rule holder.now) self.old (H.members holder.now) }
         ensures greets { IfOk result (λ out. GreetsOver (map entry_of (H.members holder.now)) hello self.old self.new out) }
+        ensures within { IfOk result (λ out. All (λ p. p < length (H.members holder.now)) out.send) }
         ensures below { OnOk result (self.new.below ≡ length (H.members holder.now)) }
     {
         let len = holder.len();

@@ -1,6 +1,6 @@
 //! What a session asks its holder, by the holder's list and the first part of it that is the start set.
 
-ghost use Rattle.std.specs.Prelude.{◌≡◌, ◌≤◌, map, take, length, not, find, filter_map, slice_get, IfOk};
+ghost use Rattle.std.specs.Prelude.{◌≡◌, ◌<◌, ◌≤◌, All, map, take, length, not, find, filter_map, slice_get, IfOk};
 ghost use Rattle.std.specs.List.{list_all};
 ghost use Rattle.session_rules.specs.Steps.{answers};
 ghost use Rattle.update_codec.specs.Parts.{entry_of};
@@ -51,8 +51,9 @@ pub(crate) fn positions_of<H: Holder>(
     below: u32,
     ids: &[UpdateId],
 ) -> Result<Vec<u32>, AllocError>
-    ensures { IfOk result (λ positions. filter_map (slice_get (map entry_of (H.members holder.now))) positions.items
+    ensures exact { IfOk result (λ positions. filter_map (slice_get (map entry_of (H.members holder.now))) positions.items
         ≡ answers (take below (map entry_of (H.members holder.now))) ids.now) }
+    ensures within { IfOk result (λ positions. All (λ p. p < length (H.members holder.now)) positions.items) }
 {
     let mut positions = Vec::new(alloc);
     for id in ids {

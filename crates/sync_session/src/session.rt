@@ -136,6 +136,7 @@ impl Session {
         requires { IsRunning self.old }
         ensures takes { IfOk result (λ out. (limits : Limits) (start list : List Entry) →
             Takes limits (whole start self.old) list (item (entry_of update)) (whole start self.new) (out_of list out) list) }
+        ensures nothing { IfOk result (λ out. out.send ≡ []) }
         ensures stands { OnOk result ((rule : RuleData) (members : List (List ℕ)) → IsChecked rule update → Stands rule self.old members → Stands rule self.new members) }
         ensures below { OnOk result (self.new.below ≡ self.old.below) }
         ensures failed { OnOk result (self.new.failed ≡ self.old.failed) }
@@ -159,6 +160,7 @@ impl Session {
     pub(crate) fn take_bad_item(&mut self, alloc: Global, fault: CheckFault) -> Out
         ensures takes { (limits : Limits) (start list : List Entry) →
             Takes limits (whole start self.old) list (bad_item (number_of fault)) (whole start self.new) (out_of list result) list }
+        ensures nothing { result.send ≡ [] }
         ensures stands { (rule : RuleData) (members : List (List ℕ)) → Stands rule self.old members → Stands rule self.new members }
         ensures below { self.new.below ≡ self.old.below }
         ensures failed { self.new.failed ≡ self.old.failed }

@@ -1,6 +1,6 @@
 //! What follows a commit: the own Turn, the judgement of the peer's, and the next turn.
 
-ghost use Rattle.std.specs.Prelude.{◌≡◌, ◌≢◌, [], ◌+◌, ◌<◌, ◌≤◌, ◌^◌, true, ◌&&◌, Some, None, if◌then◌else◌, IfOk, OnOk, length, map};
+ghost use Rattle.std.specs.Prelude.{◌≡◌, ◌≢◌, [], ◌+◌, ◌<◌, ◌≤◌, ◌^◌, true, ◌&&◌, Some, None, if◌then◌else◌, All, IfOk, OnOk, length, map};
 ghost use Rattle.bec_bytes.specs.Causes.{Rose};
 ghost use Rattle.session_rules.specs.declared.end.End.TheVariants.{Done as done, Full as full, Store as store};
 ghost use Rattle.session_rules.specs.declared.limits.TheConstants.{MAX_TURNS};
@@ -35,6 +35,7 @@ impl Session {
         requires stands { Stands (H.rule holder.old) self.old (H.members holder.old) }
         requires rising { IsOrdered self.old }
         ensures takes { IfOk result (λ out. TakesTurn (H.limits holder.old) self.old (H.members holder.old) (turn_of turn) self.new out (H.members holder.new)) }
+        ensures within { IfOk result (λ out. All (λ p. p < length (H.members holder.new)) out.send) }
         ensures stands { OnOk result (Stands (H.rule holder.old) self.new (H.members holder.new)) }
         ensures failed { OnOk result (self.new.failed ≡ self.old.failed) }
         ensures grows { GrowsBy (updates_in self.old) (H.members holder.old) (H.members holder.new) }
@@ -72,7 +73,8 @@ impl Session {
         requires fits { self.old.state.gained + length committed.added < 2 ^ 32 }
         requires below { self.old.below ≤ length (H.members holder.now) }
         requires rising { IsOrdered self.old }
-        ensures { IfOk result (λ out. SettlesTo (map entry_of (H.members holder.now)) (length committed.added) committed.waiting (turn_of turn) self.old self.new out) }
+        ensures settles { IfOk result (λ out. SettlesTo (map entry_of (H.members holder.now)) (length committed.added) committed.waiting (turn_of turn) self.old self.new out) }
+        ensures within { IfOk result (λ out. All (λ p. p < length (H.members holder.now)) out.send) }
     {
         let first = is_first(self.role, &self.reading);
         let both = have_both(self.sent_have, turn.have);
@@ -101,7 +103,8 @@ impl Session {
         requires closed { IsClosed (map entry_of (H.members holder.now)) }
         requires below { self.old.below ≤ length (H.members holder.now) }
         requires rising { IsOrdered self.old }
-        ensures { IfOk result (λ out. RepliesTo (map entry_of (H.members holder.now)) first (turn_of turn) (turn_of own) self.old self.new out) }
+        ensures replies { IfOk result (λ out. RepliesTo (map entry_of (H.members holder.now)) first (turn_of turn) (turn_of own) self.old self.new out) }
+        ensures within { IfOk result (λ out. All (λ p. p < length (H.members holder.now)) out.send) }
     {
         let send = self.sent(alloc, holder, first, &turn)?;
         join(&mut self.asked, own.needs.as_slice())?;

@@ -1,6 +1,6 @@
 //! How a session begins.
 
-ghost use Rattle.std.specs.Prelude.{◌≡◌, ◌≤◌, IfOk, length};
+ghost use Rattle.std.specs.Prelude.{◌≡◌, ◌<◌, ◌≤◌, All, IfOk, length};
 ghost use Rattle.std.specs.List.Sorted.{IsStrictlySortedBy};
 ghost use Rattle.session_rules.specs.declared.limits.TheConstants.{MAX_NEEDS};
 ghost use Rattle.update_model.specs.Entry.{id_cmp};
@@ -34,6 +34,7 @@ impl Session {
         requires few { length recalled ≤ MAX_NEEDS }
         requires rising { IsStrictlySortedBy id_cmp recalled }
         ensures starts { IfOk result (λ p. StartsAs role database node recalled (H.members holder.now) p.0 p.1) }
+        ensures within { IfOk result (λ p. All (λ i. i < length (H.members holder.now)) p.1.send) }
         ensures belongs { IfOk result (λ p. BelongsTo (H.limits holder.now) (H.rule holder.now) p.0 (H.members holder.now)) }
     {
         let below = holder.len();

@@ -1,6 +1,6 @@
 //! One frame to a session.
 
-ghost use Rattle.std.specs.Prelude.{◌≡◌, ◌≢◌, ◌≤◌, ◌||◌, true, is_some, Some, IfOk, OnOk, OnErr, length, map};
+ghost use Rattle.std.specs.Prelude.{◌≡◌, ◌≢◌, ◌<◌, ◌≤◌, ◌||◌, true, is_some, Some, All, IfOk, OnOk, OnErr, length, map};
 ghost use Rattle.bec_bytes.specs.Causes.{Rose};
 ghost use Rattle.session_rules.specs.declared.end.End.TheVariants.{Full as full, Store as store};
 ghost use Rattle.session_rules.specs.Steps.{Takes};
@@ -15,7 +15,8 @@ use std::alloc::{AllocError, Global};
 use update_check::Holder;
 
 impl Session {
-    /// Takes the peer's next frame, and answers what is to be sent.
+    /// Takes the peer's next frame, and answers what is to be sent. Each position that is handed out is one of the
+    /// holder's list as this leaves it.
     ///
     /// The session has to belong to the holder, as it does after [`Session::start`] and after each call of this: since then
     /// the holder's list has at most grown. An update has to be under the holder's rule. A session that has ended, or
@@ -33,6 +34,7 @@ impl Session {
         requires belongs { BelongsTo (H.limits holder.old) (H.rule holder.old) self.old (H.members holder.old) }
         requires under { IsFrameUnder (H.rule holder.old) frame }
         ensures steps { IfOk result (λ out. StepsTo (H.limits holder.old) self.old (H.members holder.old) frame self.new out (H.members holder.new)) }
+        ensures within { IfOk result (λ out. All (λ p. p < length (H.members holder.new)) out.send) }
         ensures belongs { BelongsTo (H.limits holder.old) (H.rule holder.old) self.new (H.members holder.new) }
         ensures failed { OnErr result (self.new.failed ≡ true) }
         ensures grows { GrowsBy (updates_in self.old) (H.members holder.old) (H.members holder.new) }
@@ -85,6 +87,7 @@ impl Session {
         requires under { IsFrameUnder (H.rule holder.old) frame }
         ensures takes { IfOk result (λ out. Takes (H.limits holder.old) (seen (H.members holder.old) self.old) (map entry_of (H.members holder.old)) (frame_of frame)
             (seen (H.members holder.new) self.new) (out_of (map entry_of (H.members holder.new)) out) (map entry_of (H.members holder.new))) }
+        ensures within { IfOk result (λ out. All (λ p. p < length (H.members holder.new)) out.send) }
         ensures stands { OnOk result (Stands (H.rule holder.old) self.new (H.members holder.new)) }
         ensures failed { OnOk result (self.new.failed ≡ self.old.failed) }
         ensures grows { GrowsBy (updates_in self.old) (H.members holder.old) (H.members holder.new) }

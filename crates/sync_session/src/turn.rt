@@ -1,6 +1,6 @@
 //! What a session does with the peer's Turn.
 
-ghost use Rattle.std.specs.Prelude.{◌≡◌, [], ◌+◌, ◌<◌, ◌≤◌, ◌^◌, true, IfOk, OnOk, List, length, map, take, slice_get, filter_map, not, ◌&&◌, ◌||◌};
+ghost use Rattle.std.specs.Prelude.{◌≡◌, [], ◌+◌, ◌<◌, ◌≤◌, ◌^◌, true, All, IfOk, OnOk, List, length, map, take, slice_get, filter_map, not, ◌&&◌, ◌||◌};
 ghost use Rattle.std.specs.BTreeSet.{keys};
 ghost use Rattle.session_rules.specs.Steps.{closing, is_empty, IsSent, IsTurn};
 ghost use Rattle.session_rules.specs.declared.limits.TheConstants.{MAX_TURNS};
@@ -83,7 +83,8 @@ impl Session {
     ) -> Result<Vec<u32>, AllocError>
         requires within { self.now.below ≤ length (H.members holder.now) }
         requires closed { IsClosed (map entry_of (H.members holder.now)) }
-        ensures { IfOk result (λ positions. IsSent first (seen (H.members holder.now) self.now) (turn_of turn.now) (filter_map (slice_get (map entry_of (H.members holder.now))) positions.items)) }
+        ensures exact { IfOk result (λ positions. IsSent first (seen (H.members holder.now) self.now) (turn_of turn.now) (filter_map (slice_get (map entry_of (H.members holder.now))) positions.items)) }
+        ensures within { IfOk result (λ positions. All (λ p. p < length (H.members holder.now)) positions.items) }
     {
         if !first {
             return positions_of(alloc, holder, self.below, turn.needs.as_slice());

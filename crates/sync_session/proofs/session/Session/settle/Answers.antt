@@ -6,10 +6,12 @@ use Rattle.sync_session.specs.Kept.{Kept, turn_of, with_commit, late_fault_at}
 use Rattle.sync_frames.specs.Payload.{TurnData}
 use Rattle.sync_session.specs.Turns.{RepliesTo, SettlesTo}
 use Rattle.sync_session.proofs.Settling.{settled_fault, settled_done, settled_reply}
+use Rattle.session_rules.specs.declared.end.End.TheVariants.{Done, Peer}
+use Rattle.sync_session.proofs.Sending.{closing_sends, none_within}
 use Rattle.sync_session.proofs.session.Session.settle.Goals as goal
 
-pub returns-in-Some : goal.returns-in-Some
-returns-in-Some g c =
+pub returns-in-Some-clause-settles : goal.returns-in-Some-clause-settles
+returns-in-Some-clause-settles g c =
     settled_fault (map entry_of (g.H.Holder.members c.args.holder.now)) (length c.args.committed.added) c.args.committed.waiting (turn_of c.args.turn) (turn_of c.in_ok-own.own) c.args.self.now c.keep.new.self c.end.new.self c.end.result c.is_first-first.result c.in-Some.fault
     (record {
       kept = c.in_ok-keep.ensures ∙ ap (λ (t : TurnData). with_commit (length c.args.committed.added) c.args.committed.waiting t.have c.args.self.now) c.turn.view_is;
@@ -19,8 +21,8 @@ returns-in-Some g c =
     })
     c.end.ensures.state c.end.ensures.out
 
-pub returns-then-both : goal.returns-then-both
-returns-then-both g c =
+pub returns-then-both-clause-settles : goal.returns-then-both-clause-settles
+returns-then-both-clause-settles g c =
     settled_done (map entry_of (g.H.Holder.members c.args.holder.now)) (length c.args.committed.added) c.args.committed.waiting (turn_of c.args.turn) (turn_of c.in_ok-own.own) c.args.self.now c.keep.new.self c.end-then-both.new.self c.end-then-both.result c.is_first-first.result c.have_both-both.result
     (record {
       kept = c.in_ok-keep.ensures ∙ ap (λ (t : TurnData). with_commit (length c.args.committed.added) c.args.committed.waiting t.have c.args.self.now) c.turn.view_is;
@@ -30,8 +32,8 @@ returns-then-both g c =
     })
     (c.have_both-both.ensures ∙ ap (λ (k : Kept). k.state.sent_have && c.turn.inside.have) c.self.view_is ∙ ap (λ (t : TurnData). c.args.self.now.state.sent_have && t.have) c.turn.view_is) c.if-both.true c.end-then-both.ensures.state c.end-then-both.ensures.out
 
-pub returns : goal.returns
-returns g c =
+pub returns-clause-settles : goal.returns-clause-settles
+returns-clause-settles g c =
     IfOk-weaker c.reply.result (λ out. RepliesTo (map entry_of (g.H.Holder.members c.args.holder.now)) c.is_first-first.result (turn_of c.args.turn) (turn_of c.in_ok-own.own) c.keep.new.self c.reply.new.self out)
     (λ out. SettlesTo (map entry_of (g.H.Holder.members c.args.holder.now)) (length c.args.committed.added) c.args.committed.waiting (turn_of c.args.turn) c.args.self.now c.reply.new.self out)
     (λ out replies. settled_reply (map entry_of (g.H.Holder.members c.args.holder.now)) (length c.args.committed.added) c.args.committed.waiting (turn_of c.args.turn) (turn_of c.in_ok-own.own) c.args.self.now c.keep.new.self c.reply.new.self out c.is_first-first.result c.have_both-both.result
@@ -42,4 +44,10 @@ returns g c =
       fault_is = sym c.in_default.is ∙ c.late_fault-fault.ensures ∙ ap (λ (k : Kept). late_fault_at c.is_first-first.result (take k.below (map entry_of (g.H.Holder.members c.args.holder.now))) k.state.peer_asked (turn_of c.args.turn) (turn_of c.in_ok-own.own)) c.self-2.view_is;
     })
     (c.have_both-both.ensures ∙ ap (λ (k : Kept). k.state.sent_have && c.turn.inside.have) c.self.view_is ∙ ap (λ (t : TurnData). c.args.self.now.state.sent_have && t.have) c.turn.view_is) c.if-both.false replies)
-    c.reply.ensures
+    c.reply.ensures.replies
+
+pub returns-in-Some-clause-within : goal.returns-in-Some-clause-within
+returns-in-Some-clause-within g c = none_within (g.H.Holder.members c.args.holder.now) c.end.result.send (closing_sends (Peer _) c.end.result c.end.ensures.out)
+
+pub returns-then-both-clause-within : goal.returns-then-both-clause-within
+returns-then-both-clause-within g c = none_within (g.H.Holder.members c.args.holder.now) c.end-then-both.result.send (closing_sends Done c.end-then-both.result c.end-then-both.ensures.out)

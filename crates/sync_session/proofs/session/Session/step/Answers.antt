@@ -1,6 +1,7 @@
 use Rattle.std.proofs.Common.{◌∙◌, sym}
 use Rattle.sync_session.proofs.Stepping.{gained_few, not_over, ordered, over_is, runs, stays_belonging}
 use Rattle.sync_session.proofs.Quiet.{silent_not_store}
+use Rattle.sync_session.proofs.Sending.{none_within, silent_sends}
 use Rattle.sync_session.proofs.session.Session.step.Goals as goal
 
 pub returns-then-is_over-clause-steps : goal.returns-then-is_over-clause-steps
@@ -32,3 +33,6 @@ returns-in-Ok-clause-belongs g c =
 
 pub returns-then-is_over-clause-store : goal.returns-then-is_over-clause-store
 returns-then-is_over-clause-store g c = λ is. absurd (silent_not_store c.silent.result c.silent.ensures is)
+
+pub returns-then-is_over-clause-within : goal.returns-then-is_over-clause-within
+returns-then-is_over-clause-within g c = none_within (g.H.Holder.members c.args.holder.now) c.silent.result.send (silent_sends c.silent.result c.silent.ensures)

@@ -8,12 +8,13 @@ use Rattle.sync_session.specs.declared.checked_frame.CheckedFrame.{CheckedFrame}
 use Rattle.sync_session.specs.Kept.{IsFrameUnder, frame_of, hello_of, number_of, out_of, seen}
 use Rattle.sync_session.proofs.Standing.{stands_end}
 use Rattle.sync_session.proofs.Stepping.{answer_seen, take_seen}
-use Rattle.std.proofs.Common.{[], List}
+use Rattle.std.proofs.Common.{◌≡◌, ◌<◌, [], All, List, length}
 use Rattle.update_model.specs.Entry.{Entry}
 use Rattle.session_rules.specs.declared.end.End.TheVariants.{Peer}
 use Rattle.sync_session.specs.Kept.{whole}
 use Rattle.sync_session.proofs.Quiet.{closed_not_store, plain_not_store, store_free}
 use Rattle.sync_session.proofs.Keeping.{whole_anyway}
+use Rattle.sync_session.proofs.Sending.{closing_sends, none_within}
 use Rattle.sync_session.proofs.session.Session.take.Goals as goal
 
 pub returns-in-Hello-clause-takes : goal.returns-in-Hello-clause-takes
@@ -76,3 +77,17 @@ returns-in-Item-clause-keeps g c = g.H.Holder.keeps_itself c.args.holder.now
 
 pub returns-in-Item-clause-whole : goal.returns-in-Item-clause-whole
 returns-in-Item-clause-whole g c = λ held. whole_anyway c.take_item.result (g.H.Holder.is_whole c.args.holder.now) held
+
+pub returns-in-OtherVersion-clause-within : goal.returns-in-OtherVersion-clause-within
+returns-in-OtherVersion-clause-within g c = none_within (g.H.Holder.members c.args.holder.now) c.end.result.send (closing_sends (Peer _) c.end.result c.end.ensures.out)
+
+pub returns-in-Item-clause-within : goal.returns-in-Item-clause-within
+returns-in-Item-clause-within g c =
+    let members = g.H.Holder.members c.args.holder.now in
+    IfOk-weaker c.take_item.result (λ out. out.send ≡ []) (λ out. All (λ p. p < length members) out.send) (λ out none. none_within members out.send none) c.take_item.ensures.nothing
+
+pub returns-in-BadItem-clause-within : goal.returns-in-BadItem-clause-within
+returns-in-BadItem-clause-within g c = none_within (g.H.Holder.members c.args.holder.now) c.take_bad_item.result.send c.take_bad_item.ensures.nothing
+
+pub returns-in-BadFrame-clause-within : goal.returns-in-BadFrame-clause-within
+returns-in-BadFrame-clause-within g c = none_within (g.H.Holder.members c.args.holder.now) c.end-in-BadFrame.result.send (closing_sends (Peer _) c.end-in-BadFrame.result c.end-in-BadFrame.ensures.out)

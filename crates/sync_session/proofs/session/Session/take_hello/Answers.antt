@@ -2,6 +2,8 @@ use Rattle.std.proofs.Common.{◌≡◌, length, map}
 use Rattle.update_codec.specs.Parts.{entry_of}
 use Rattle.sync_session.specs.Kept.{GreetsOver, Stands}
 use Rattle.sync_session.proofs.Standing.{stands_end, stands_hello, stands_greeting, on_both}
+use Rattle.session_rules.specs.declared.end.End.TheVariants.{Peer}
+use Rattle.sync_session.proofs.Sending.{closing_sends, none_within, silent_sends}
 use Rattle.sync_session.proofs.session.Session.take_hello.Goals as goal
 
 pub returns-in-Some-clause-stands : goal.returns-in-Some-clause-stands
@@ -16,3 +18,9 @@ returns-in-Responder-clause-stands g c =
     (Stands (g.H.Holder.rule c.args.holder.now) c.greet.new.self (g.H.Holder.members c.args.holder.now))
     (λ out greets all. stands_greeting c.args.hello c.args.self.now c.greet.new.self out (g.H.Holder.rule c.args.holder.now) (g.H.Holder.members c.args.holder.now) greets all c.requires.stands)
     c.greet.ensures.greets c.greet.ensures.below
+
+pub returns-in-Some-clause-within : goal.returns-in-Some-clause-within
+returns-in-Some-clause-within g c = none_within (g.H.Holder.members c.args.holder.now) c.end.result.send (closing_sends (Peer _) c.end.result c.end.ensures.out)
+
+pub returns-in-Initiator-clause-within : goal.returns-in-Initiator-clause-within
+returns-in-Initiator-clause-within g c = none_within (g.H.Holder.members c.args.holder.now) c.hear.result.send (silent_sends c.hear.result c.hear.ensures.out)

@@ -5,6 +5,8 @@ use Rattle.sync_session.specs.Kept.{Kept}
 use Rattle.sync_session.specs.Pending.{has_room_for}
 use Rattle.sync_session.proofs.Items.{item_ends, item_again, item_new, item_full, fault_from, repeated_is}
 use Rattle.sync_session.proofs.Standing.{stands_end, stands_again, stands_new}
+use Rattle.session_rules.specs.declared.end.End.TheVariants.{Full, Peer}
+use Rattle.sync_session.proofs.Sending.{closing_sends, silent_sends}
 use Rattle.sync_session.proofs.session.Session.take_item.Goals as goal
 
 pub count_item-requires-clause-few : goal.count_item-requires-clause-few
@@ -52,3 +54,15 @@ returns-clause-takes c limits start list =
 
 pub returns-clause-stands : goal.returns-clause-stands
 returns-clause-stands c rule members checked stands = stands_new c.args.update c.args.self.now c.gather.new.self c.in_ok-gather.ensures rule members checked stands
+
+pub returns-in-Some-clause-nothing : goal.returns-in-Some-clause-nothing
+returns-in-Some-clause-nothing c = closing_sends (Peer _) c.end.result c.end.ensures.out
+
+pub returns-then-is_repeated-clause-nothing : goal.returns-then-is_repeated-clause-nothing
+returns-then-is_repeated-clause-nothing c = silent_sends c.silent.result c.silent.ensures
+
+pub returns-then-not-has_room-clause-nothing : goal.returns-then-not-has_room-clause-nothing
+returns-then-not-has_room-clause-nothing c = closing_sends Full c.end-then-not-has_room.result c.end-then-not-has_room.ensures.out
+
+pub returns-clause-nothing : goal.returns-clause-nothing
+returns-clause-nothing c = silent_sends c.silent-2.result c.silent-2.ensures

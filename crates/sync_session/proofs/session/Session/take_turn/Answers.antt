@@ -13,6 +13,7 @@ use Rattle.sync_session.specs.Kept.{GrowsBy}
 use Rattle.sync_session.specs.Turns.{SettlesTo}
 use Rattle.sync_session.proofs.Gains.{grows_commit}
 use Rattle.sync_session.proofs.Quiet.{closed_not_store, settles_not_store, store_free}
+use Rattle.sync_session.proofs.Sending.{closing_sends, none_within}
 use Rattle.sync_session.proofs.session.Session.take_turn.Goals as goal
 
 pub returns-in-Some-clause-stands : goal.returns-in-Some-clause-stands
@@ -33,13 +34,13 @@ returns-in-Ok-clause-takes g c =
     (ap (λ (k : Kept). record k { pending = c.take.new.self }) c.self.view_is ∙ ap (λ (p : PendingData). record c.args.self.now { pending = p }) c.in_ok-batch.ensures.state)
     refl (fault_at _ c.args.self.now c.turn_fault-fault.result _ c.args.turn (g.H.Holder.members c.args.holder.now) c.self.view_is refl c.turn_fault-fault.ensures c.in_default.is)
     c.requires.stands.below
-    (subst (λ (k : Kept). c.in_ok-batch.batch.items ≡ k.pending.waiting ++ k.pending.gathered) c.self.view_is c.in_ok-batch.ensures.batch) c.in-Ok.ensures.commits c.settle.ensures
+    (subst (λ (k : Kept). c.in_ok-batch.batch.items ≡ k.pending.waiting ++ k.pending.gathered) c.self.view_is c.in_ok-batch.ensures.batch) c.in-Ok.ensures.commits c.settle.ensures.settles
 
 pub returns-in-Ok-clause-stands : goal.returns-in-Ok-clause-stands
 returns-in-Ok-clause-stands g c =
     answers_stands (g.H.Holder.limits c.args.holder.now) (g.H.Holder.rule c.args.holder.now) c.args.self.now _ c.settle.new.self (g.H.Holder.members c.args.holder.now) c.in_ok-batch.batch.items (g.H.Holder.members c.commit.new.self) c.in-Ok.committed _ c.settle.result
     (ap (λ (k : Kept). record k { pending = c.take.new.self }) c.self.view_is ∙ ap (λ (p : PendingData). record c.args.self.now { pending = p }) c.in_ok-batch.ensures.state)
-    (subst (λ (k : Kept). c.in_ok-batch.batch.items ≡ k.pending.waiting ++ k.pending.gathered) c.self.view_is c.in_ok-batch.ensures.batch) c.in-Ok.ensures.commits c.requires.stands c.settle.ensures
+    (subst (λ (k : Kept). c.in_ok-batch.batch.items ≡ k.pending.waiting ++ k.pending.gathered) c.self.view_is c.in_ok-batch.ensures.batch) c.in-Ok.ensures.commits c.requires.stands c.settle.ensures.settles
 
 pub returns-in-Err-DiskFault-clause-takes : goal.returns-in-Err-DiskFault-clause-takes
 returns-in-Err-DiskFault-clause-takes g c =
@@ -61,7 +62,7 @@ returns-in-Ok-clause-grows g c =
 pub returns-in-Ok-clause-store : goal.returns-in-Ok-clause-store
 returns-in-Ok-clause-store g c =
     store_free c.settle.result (λ out. SettlesTo (map entry_of (g.H.Holder.members c.commit.new.self)) (length c.in-Ok.committed.added) c.in-Ok.committed.waiting _ _ c.settle.new.self out) _
-    (λ out s. settles_not_store _ _ _ _ _ _ out s) c.settle.ensures
+    (λ out s. settles_not_store _ _ _ _ _ _ out s) c.settle.ensures.settles
 
 pub returns-in-Err-Full-clause-store : goal.returns-in-Err-Full-clause-store
 returns-in-Err-Full-clause-store g c = λ is. absurd (closed_not_store Full c.refuse.result (λ h. cc) c.refuse.ensures.out is)
@@ -71,3 +72,13 @@ returns-in-Err-Full-clause-whole g c = λ held room disk. absurd (room (ap (λ (
 
 pub returns-in-Err-DiskFault-clause-whole : goal.returns-in-Err-DiskFault-clause-whole
 returns-in-Err-DiskFault-clause-whole g c = λ held room disk. absurd (disk (ap (λ (o : OutData). o.end) (c.refuse-in-Err-DiskFault.ensures.out [])))
+
+pub returns-in-Some-clause-within : goal.returns-in-Some-clause-within
+returns-in-Some-clause-within g c = none_within (g.H.Holder.members c.args.holder.now) c.end.result.send (closing_sends (Peer _) c.end.result c.end.ensures.out)
+
+pub returns-in-Err-Full-clause-within : goal.returns-in-Err-Full-clause-within
+returns-in-Err-Full-clause-within g c = none_within (g.H.Holder.members c.commit.new.self) c.refuse.result.send (closing_sends Full c.refuse.result c.refuse.ensures.out)
+
+pub returns-in-Err-DiskFault-clause-within : goal.returns-in-Err-DiskFault-clause-within
+returns-in-Err-DiskFault-clause-within g c =
+    none_within (g.H.Holder.members c.commit.new.self) c.refuse-in-Err-DiskFault.result.send (closing_sends Store c.refuse-in-Err-DiskFault.result c.refuse-in-Err-DiskFault.ensures.out)
