@@ -1,5 +1,8 @@
 pub mod Compact
 pub mod Filling
+pub mod Fronts
+pub mod InOrder
+pub mod Kept
 pub mod Looking
 pub mod Orders
 pub mod Seeing

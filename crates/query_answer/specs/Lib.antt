@@ -1,4 +1,5 @@
 pub mod Answers
+pub mod Fronts
 pub mod Json
 pub mod Lines
 pub mod Order

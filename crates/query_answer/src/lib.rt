@@ -16,6 +16,7 @@
 mod answer_value;
 mod answering;
 mod asking;
+mod front;
 mod json_text;
 mod laws;
 mod line;

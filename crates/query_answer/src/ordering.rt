@@ -86,7 +86,7 @@ fn found_cmp(keys: &[Key], a: &[Value], b: &[Value]) -> Ordering
 }
 
 /// The order of two rows, by their keys and then by their names.
-fn line_cmp(keys: &[Key], a: &Line, b: &Line) -> Ordering
+pub(crate) fn line_cmp(keys: &[Key], a: &Line, b: &Line) -> Ordering
     ensures { result ≡ line_cmp keys.now a.now b.now }
 {
     let order = found_cmp(keys, a.keys.as_slice(), b.keys.as_slice());
@@ -94,10 +94,9 @@ fn line_cmp(keys: &[Key], a: &Line, b: &Line) -> Ordering
 }
 
 /// Puts rows in order.
-pub(crate) fn sort_lines<'a>(keys: &[Key], mut lines: Vec<Line<'a>>) -> Vec<Line<'a>>
-    ensures exact { IsPermutation lines.entry.items result.items }
-    ensures ordered { IsSorted (line_cmp keys.now) result.items }
+pub(crate) fn sort_lines(keys: &[Key], lines: &mut Vec<Line>)
+    ensures exact { IsPermutation lines.old.items lines.new.items }
+    ensures ordered { IsSorted (line_cmp keys.now) lines.new.items }
 {
     lines.sort_unstable_by(|a, b| line_cmp(keys, a, b));
-    lines
 }

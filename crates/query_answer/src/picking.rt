@@ -1,7 +1,7 @@
 //! The columns that a query asks for.
 
-ghost use Rattle.std.specs.Prelude.{◌≡◌, IfOk, map, take};
-ghost use Rattle.query_answer.specs.Answers.{limited, picked, keys_of};
+ghost use Rattle.std.specs.Prelude.{◌≡◌, IfOk, map};
+ghost use Rattle.query_answer.specs.Answers.{picked, keys_of};
 ghost use Rattle.query_answer.specs.Values.{AreRising};
 
 use crate::line::Line;
@@ -68,25 +68,4 @@ pub(crate) fn picked_rows(
         rows.push(picked(alloc, tables, items, line.row)?)?;
     }
     Ok(rows)
-}
-
-/// Not more rows than the limit.
-pub(crate) fn limited<'a, 'b>(limit: Option<u32>, lines: &'b [Line<'a>]) -> &'b [Line<'a>]
-    ensures { result.now ≡ limited limit lines.now }
-{
-    match limit {
-        None => lines,
-        Some(limit) => front(limit as usize, lines),
-    }
-}
-
-/// Not more rows than this.
-fn front<'a, 'b>(len: usize, lines: &'b [Line<'a>]) -> &'b [Line<'a>]
-    ensures { result.now ≡ take len lines.now }
-{
-    if len < lines.len() {
-        &lines[..len]
-    } else {
-        lines
-    }
 }
