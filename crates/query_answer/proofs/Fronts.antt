@@ -14,7 +14,8 @@ use Rattle.table_model.proofs.Rising.{rising_from_sort}
 use Rattle.table_model.proofs.SameTables.{one_list, permuted_on}
 use Rattle.query_answer.proofs.InOrder.{AreUpTo, Climbs, climbing_in_order, climbs_sorted, climbs_take, over_bound, take_over, up_to_last, up_to_put, put_all_climbs, put_all_permutes, put_push, take_put}
 use Rattle.query_answer.specs.Answers.{limited}
-use Rattle.query_answer.specs.Fronts.{IsBounded, IsFront, in_order, put}
+use Rattle.query_answer.specs.Fronts.{IsBounded, IsFront}
+use Rattle.query_answer.specs.InOrder.{in_order, put}
 
 module _ {X : Type 0} (R : X → X → Ordering) (total : IsTotalOrder R) where
   pub in_order_permutes : (xs : List X) → IsPermutation (in_order R xs) xs

@@ -10,7 +10,8 @@ use Rattle.query.specs.declared.item.Key.{Key}
 use Rattle.query_answer.specs.declared.front.Front.{Front}
 use Rattle.query_answer.specs.declared.line.Line.{Line}
 use Rattle.query_answer.specs.Answers.{LineData, data_cmp, limited, line_cmp, line_data}
-use Rattle.query_answer.specs.Fronts.{AreApart, Holds, IsBounded, IsBoundedAt, IsFront, IsLastPlace, IsReached, in_order}
+use Rattle.query_answer.specs.Fronts.{AreApart, Holds, IsBounded, IsBoundedAt, IsFront, IsLastPlace, IsReached}
+use Rattle.query_answer.specs.InOrder.{in_order}
 use Rattle.query_answer.proofs.Fronts.{bounded_cut, bounded_more, front_cut, front_late, front_more, in_order_permutes, kept_distinct, sorted_is_in_order}
 use Rattle.query_answer.proofs.Orders.{data_total}
 

@@ -3,6 +3,7 @@ pub mod Filling
 pub mod Fronts
 pub mod InOrder
 pub mod Kept
+pub mod Lending
 pub mod Looking
 pub mod Orders
 pub mod Seeing

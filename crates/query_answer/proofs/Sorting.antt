@@ -7,7 +7,7 @@ use Rattle.std.specs.List.{AllByRecursion, IsDistinct}
 use Rattle.std.specs.List.Sorted.{IsPermutation, IsSorted}
 use Rattle.std.specs.Ordering.{eq_by_cmp, is_eq, is_lt, ordering_then}
 use Rattle.std.proofs.lemmas.List.{get_or-map, length-map, map-append, take-map}
-use Rattle.std.proofs.lemmas.List.Elements.{All-from_recursion, filter_more}
+use Rattle.std.proofs.lemmas.List.Elements.{All-from_recursion, filter-append, filter_more}
 use Rattle.std.proofs.lemmas.List.Sorted.{All-permutation, IsPermutation-map, IsPermutation-sym}
 use Rattle.table_model.specs.declared.shown_row.ShownRow.{ShownRow}
 use Rattle.table_model.specs.Tables.{HasDistinctNames, name_cmp}
@@ -15,14 +15,16 @@ use Rattle.table_model.proofs.Rising.{distinct_kept}
 use Rattle.query.specs.declared.item.Key.{Key}
 use Rattle.query_answer.specs.declared.line.Line.{Line}
 use Rattle.query_answer.specs.Answers.{LineData, data_cmp, keyed, keys_of, limited, line_data}
-use Rattle.query_answer.specs.Fronts.{AreApart, first_lines, in_order}
+use Rattle.query_answer.specs.Fronts.{AreApart, asked_lines, first_lines}
+use Rattle.query_answer.specs.InOrder.{in_order}
+use Rattle.query_answer.specs.Rows.{shown_row}
 use Rattle.query_answer.specs.Order.{found_cmp, row_cmp}
 use Rattle.query_answer.proofs.Fronts.{in_order_permutes, in_order_sorted}
 use Rattle.query_answer.proofs.Orders.{data_total, found_as_keys}
 
 -- the row of a line, and of what it says
 abbrev pub row_of : Line → ShownRow
-row_of line = line.row.now
+row_of line = shown_row line.row
 
 abbrev pub row_in : LineData → ShownRow
 row_in line = line.0
@@ -32,18 +34,6 @@ told_apart : (a b : Ordering) → is_eq b ≡ false → is_eq (ordering_then a b
 told_apart Less b e = refl
 told_apart Equal b e = e
 told_apart Greater b e = refl
-
-pub distinct_front : (n : ℕ) (rows : List ShownRow) → HasDistinctNames rows → HasDistinctNames (take n rows)
-unfolding IsDistinct
-distinct_front zero rows h = tt
-distinct_front (suc n) [] h = tt
-distinct_front (suc n) (row ∷ rows) h = (each n rows h.0, distinct_front n rows h.1)
-  where
-    each : (m : ℕ) (xs : List ShownRow) → AllByRecursion (λ other. eq_by_cmp name_cmp row.name other ≡ false) (map (λ x. x.name) xs)
-        → AllByRecursion (λ other. eq_by_cmp name_cmp row.name other ≡ false) (map (λ x. x.name) (take m xs))
-    each zero xs h = tt
-    each (suc m) [] h = tt
-    each (suc m) (x ∷ xs) h = (h.0, each m xs h.1)
 
 module _ (tables : List (List ShownRow)) (keys : List Key) where
   -- the values are those of the keys
@@ -63,14 +53,8 @@ module _ (tables : List (List ShownRow)) (keys : List Key) where
       ap (λ o. ordering_then o (name_cmp (row_in a).name (row_in b).name))
       (ap₂ (found_cmp 0 keys) left right ∙ found_as_keys tables keys (row_in a) (row_in b))
 
-  -- one row more, which is asked for or not
-  pub next_keyed : (asked : ShownRow → Bool) (rows : List ShownRow) (i : ℕ) (row : ShownRow) (b : Bool) → i < length rows → row ≡ get_or rows i row → b ≡ asked row
-      → map (keyed tables keys) (filter asked (take (i + 1) rows)) ≡ map (keyed tables keys) (filter asked (take i rows)) ++ map (keyed tables keys) (cond b (row ∷ []) [])
-  next_keyed asked rows i row b low is answer =
-      let front = filter asked (take i rows) in
-      let wanted : filter asked (take (i + 1) rows) ≡ front ++ cond b (row ∷ []) [] =
-      filter_more asked rows i row low ∙ ap (λ (x : ShownRow). front ++ cond (asked x) (x ∷ []) []) (sym is) ∙ ap (λ (c : Bool). front ++ cond c (row ∷ []) []) (sym answer) in
-      ap (map (keyed tables keys)) wanted ∙ map-append (keyed tables keys) front (cond b (row ∷ []) [])
+  pub asked_both : (asked : ShownRow → Bool) (xs ys : List ShownRow) → asked_lines tables keys asked (xs ++ ys) ≡ asked_lines tables keys asked xs ++ asked_lines tables keys asked ys
+  asked_both asked xs ys = ap (map (keyed tables keys)) (filter-append asked xs ys) ∙ map-append (keyed tables keys) (filter asked xs) (filter asked ys)
 
   -- rows whose names differ do not tie
   apart_keyed : (rows : List ShownRow) → HasDistinctNames rows → AreApart keys (map (keyed tables keys) rows)
@@ -83,7 +67,7 @@ module _ (tables : List (List ShownRow)) (keys : List Key) where
       each [] h = tt
       each (x ∷ xs) h = (told_apart (found_cmp 0 keys (keys_of tables keys row) (keys_of tables keys x)) (name_cmp row.name x.name) h.0, each xs h.1)
 
-  pub asked_apart : (asked : ShownRow → Bool) (rows : List ShownRow) → HasDistinctNames rows → AreApart keys (map (keyed tables keys) (filter asked rows))
+  pub asked_apart : (asked : ShownRow → Bool) (rows : List ShownRow) → HasDistinctNames rows → AreApart keys (asked_lines tables keys asked rows)
   asked_apart asked rows h = apart_keyed (filter asked rows) (distinct_kept (λ (row : ShownRow). row.name) (eq_by_cmp name_cmp) asked rows h)
 
   -- ---- the rows of an answer

@@ -14,6 +14,7 @@ use Rattle.query.specs.Queries.{QueryData}
 use Rattle.query_answer.specs.declared.answer_value.Answer.{Answer}
 use Rattle.query_answer.specs.declared.line.Line.{Line}
 use Rattle.query_answer.specs.Order.{row_cmp, found_cmp}
+use Rattle.query_answer.specs.Rows.{shown_row, told}
 use Rattle.query_answer.specs.Values.{rows_in, value_of, is_asked}
 
 -- an answer: the names of its columns, and its rows
@@ -66,7 +67,7 @@ abbrev pub LineData : Type 0
 LineData = ShownRow × List Value
 
 abbrev pub line_data : Line → LineData
-line_data line = (line.row.now, line.keys.items)
+line_data line = (shown_row line.row, map told line.keys.items)
 
 -- a row, and the values of its keys
 abbrev pub keyed : List (List ShownRow) → List Key → ShownRow → LineData

@@ -1,27 +1,14 @@
--- Lists in order, and the first of them while more come.
-use Rattle.std.specs.Prelude.{◌≡◌, ℕ, suc, ◌<◌, ◌≤◌, false, List, [], ◌∷◌, ◌++◌, length, map, slice_index_or, take, Option, Some, None, if◌then◌else◌}
+-- The first of a list in order, while more come.
+use Rattle.std.specs.Prelude.{◌≡◌, ℕ, suc, ◌<◌, ◌≤◌, Bool, false, List, filter, [], ◌∷◌, ◌++◌, length, map, slice_index_or, take, Option, Some, None}
 use Rattle.std.specs.List.Sorted.{IsPermutation}
 use Rattle.std.specs.declared.cmp.Ordering.{Ordering}
-use Rattle.std.specs.Ordering.{eq_by_cmp, is_gt, is_lt}
+use Rattle.std.specs.Ordering.{eq_by_cmp, is_gt}
 use Rattle.query.specs.declared.item.Key.{Key}
 use Rattle.table_model.specs.declared.shown_row.ShownRow.{ShownRow}
 use Rattle.query_answer.specs.declared.front.Front.{Front}
+use Rattle.query_answer.specs.InOrder.{in_order}
 use Rattle.query_answer.specs.Answers.{LineData, data_cmp, keyed, limited, line_data}
 use Rattle.std.specs.List.{AllByRecursion, IsDistinct}
-
--- an element before the first that it is below
-abbrev pub put : {X : Type 0} → (X → X → Ordering) → X → List X → List X
-put cmp x [] = x ∷ []
-put cmp x (y ∷ ys) = if is_lt (cmp x y) then x ∷ y ∷ ys else y ∷ put cmp x ys
-
--- one after another
-abbrev pub put_all : {X : Type 0} → (X → X → Ordering) → List X → List X → List X
-put_all cmp sorted [] = sorted
-put_all cmp sorted (x ∷ xs) = put_all cmp (put cmp x sorted) xs
-
--- these in order
-abbrev pub in_order : {X : Type 0} → (X → X → Ordering) → List X → List X
-in_order cmp xs = put_all cmp [] xs
 
 -- Of all of these some are kept, among them the first in order, as many as the limit.
 pub record IsFront {X : Type 0} (cmp : X → X → Ordering) (limit : Option ℕ) (kept all : List X) : Type 0 where
@@ -39,6 +26,10 @@ pub record IsBounded {X : Type 0} (cmp : X → X → Ordering) (limit : ℕ) (ke
 -- the first of these rows in order, no more than the limit, with the values of their keys
 abbrev pub first_lines : List (List ShownRow) → List Key → Option ℕ → List ShownRow → List LineData
 first_lines tables keys limit rows = limited limit (in_order (data_cmp keys) (map (keyed tables keys) rows))
+
+-- those of these rows that are asked for, with the values of their keys
+abbrev pub asked_lines : List (List ShownRow) → List Key → (ShownRow → Bool) → List ShownRow → List LineData
+asked_lines tables keys asked rows = map (keyed tables keys) (filter asked rows)
 
 -- No two of these tie.
 abbrev pub AreApart : List Key → List LineData → Type 0

@@ -3,7 +3,8 @@
 ghost use Rattle.std.specs.Prelude.{◌≡◌, ◌++◌, ◌∷◌, [], ℕ, List, Option, true, OnOk, length, map};
 ghost use Rattle.query.specs.declared.item.Key.{Key as KeyData};
 ghost use Rattle.query_answer.specs.Answers.{LineData, data_cmp, limited, line_data};
-ghost use Rattle.query_answer.specs.Fronts.{AreApart, Holds, IsLastPlace, IsReached, in_order};
+ghost use Rattle.query_answer.specs.Fronts.{AreApart, Holds, IsLastPlace, IsReached};
+ghost use Rattle.query_answer.specs.InOrder.{in_order};
 
 use crate::line::Line;
 use crate::ordering::{line_cmp, sort_lines};

@@ -16,6 +16,7 @@
 mod answer_value;
 mod answering;
 mod asking;
+mod found;
 mod front;
 mod json_text;
 mod laws;
@@ -23,6 +24,7 @@ mod line;
 mod lines;
 mod ordering;
 mod picking;
+mod rows;
 mod shown;
 mod tables_object;
 mod values;
