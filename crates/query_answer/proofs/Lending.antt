@@ -1,17 +1,17 @@
 -- The rows that a query goes over, and the lists that have them in order.
 use Rattle.std.proofs.Common.{◌≡◌, ◌∙◌, ℕ, zero, suc, ◌+◌, ◌<◌, ◌≤◌, Bool, Bor, true, false, cond, List, [], ◌∷◌, ◌++◌, append-nil, filter, length, get_or, map, nat_lt, take, drop, Option, Some, None, refl, sym, ap, subst, arith}
-use Rattle.std.specs.Prelude.{All, Contains, find, option_map, option_to_list, slice_get, unwrap_or}
+use Rattle.std.specs.Prelude.{All, Contains, option_to_list, slice_get, unwrap_or}
 use Rattle.std.specs.Cmp.{IsTotalOrder}
 use Rattle.std.specs.List.{AllByRecursion, IsDistinct}
-use Rattle.std.specs.List.Sorted.{IsPermutation, IsSorted, IsStrictlySortedBy}
+use Rattle.std.specs.List.Sorted.{IsPermutation}
 use Rattle.std.specs.Ordering.{eq_by_cmp, is_eq, is_gt, is_lt}
 use Rattle.std.specs.declared.cmp.Ordering.{Ordering}
 use Rattle.std.specs.declared.cmp.Ordering.TheVariants.{Less, Equal, Greater}
 use Rattle.std.proofs.lemmas.Bool.{ltb-true, ltb-false}
 use Rattle.std.proofs.lemmas.Cmp.{eq_by_cmp_equiv, on_total}
-use Rattle.std.proofs.lemmas.List.{map-append, take-append-drop, take_all}
-use Rattle.std.proofs.lemmas.List.Elements.{All-from_recursion, filter-append, recursion_from_All}
-use Rattle.std.proofs.lemmas.List.Sorted.{All-permutation, Contains-permutation, IsPermutation-append_left, IsPermutation-append_right, IsPermutation-cons, IsPermutation-map, IsPermutation-middle, IsPermutation-refl, IsPermutation-sym, IsPermutation-trans}
+use Rattle.std.proofs.lemmas.List.{map-append, take-append-drop}
+use Rattle.std.proofs.lemmas.List.Elements.{All-from_recursion, filter-append}
+use Rattle.std.proofs.lemmas.List.Sorted.{All-permutation, Contains-permutation, IsPermutation-append_left, IsPermutation-cons, IsPermutation-map, IsPermutation-middle, IsPermutation-refl, IsPermutation-sym, IsPermutation-trans}
 use Rattle.std.proofs.lemmas.Map.Keys.{IsDistinct-IsPermutation, IsDistinct-from_sorted}
 use Rattle.std.proofs.lemmas.Option.{slice_get_past}
 use Rattle.update_model.specs.Node.{NodeData}
@@ -28,8 +28,8 @@ use Rattle.query_answer.specs.declared.rows.Rows.{Rows}
 use Rattle.query_answer.specs.declared.rows.Rows.TheVariants as rows
 use Rattle.query_answer.specs.Answers.{AreShown}
 use Rattle.query_answer.specs.InOrder.{in_order, put, put_all}
-use Rattle.query_answer.specs.Rows.{AreListsOf, AreSound, by_name, row_at, rows_before, rows_of}
-use Rattle.query_answer.specs.Values.{AreRising, IsRising, row_named, rows_in}
+use Rattle.query_answer.specs.Rows.{AreListsOf, by_name, row_at, rows_before, rows_of}
+use Rattle.query_answer.specs.Values.{AreRising, row_named, rows_in}
 use Rattle.query_answer.proofs.Fronts.{in_order_permutes, in_order_sorted}
 use Rattle.query_answer.proofs.InOrder.{Climbs, climbing_in_order}
 use Rattle.query_answer.proofs.Looking.{Rises, found_nowhere, found_there, rises}

@@ -1,7 +1,6 @@
 -- The rows that a query goes over, of lists or of tables that lend them.
-use Rattle.std.specs.Prelude.{◌≡◌, ℕ, nat_lt, List, [], map, option_to_list, slice_get, take, if◌then◌else◌}
+use Rattle.std.specs.Prelude.{◌≡◌, ℕ, nat_lt, List, [], option_to_list, slice_get, take, if◌then◌else◌}
 use Rattle.std.specs.declared.cmp.Ordering.{Ordering}
-use Rattle.std.specs.List.Sorted.{IsPermutation}
 use Rattle.update_model.specs.declared.value.Value.{Value}
 use Rattle.table_model.specs.declared.shown_row.ShownRow.{ShownRow}
 use Rattle.table_model.specs.Tables.{name_cmp}

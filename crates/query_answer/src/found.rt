@@ -1,9 +1,9 @@
-use std::alloc::{AllocError, Global};
-use update_model::Value;
-
 ghost use Rattle.std.specs.Prelude.{◌≡◌, IfOk, option_copied, unwrap_or};
 ghost use Rattle.update_model.specs.declared.value.Value.TheVariants.{Null};
 ghost use Rattle.query_answer.specs.Rows.{told};
+
+use std::alloc::{AllocError, Global};
+use update_model::Value;
 
 /// What a row has somewhere: a value that is lent, or one that was made, as of a row's name.
 #[derive(Debug, Drop)]

@@ -41,12 +41,7 @@ pub(crate) fn names_of(alloc: Global, items: &[Item]) -> Result<Vec<ByteList>, A
 }
 
 /// What a row has in the columns.
-fn picked(
-    alloc: Global,
-    rows: Rows,
-    items: &[Item],
-    row: &Row,
-) -> Result<ValueList, AllocError>
+fn picked(alloc: Global, rows: Rows, items: &[Item], row: &Row) -> Result<ValueList, AllocError>
     ensures { IfOk result (λ values. (lists : List (List Shown)) → AreListsOf rows.entry lists → values ≡ picked lists items.now (shown_row row.now)) }
 {
     let mut values = Vec::with_capacity(alloc, items.len())?;

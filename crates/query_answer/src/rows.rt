@@ -65,13 +65,7 @@ impl<'a> Rows<'a> {
     {
         match self {
             Rows::Listed(lists) => rows_in(lists, table).len(),
-            Rows::Lent(tables, count) => {
-                if table < count {
-                    tables.row_len()
-                } else {
-                    0
-                }
-            }
+            Rows::Lent(tables, count) => { if table < count { tables.row_len() } else { 0 } }
         }
     }
 

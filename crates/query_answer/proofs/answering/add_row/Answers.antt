@@ -1,6 +1,5 @@
 use Rattle.std.proofs.Common.{◌≡◌, ◌∙◌, Bool, true, cond, List, [], ◌∷◌, ◌++◌, ap, map, subst, sym}
 use Rattle.update_model.specs.declared.value.Value.{Value}
-use Rattle.table_model.specs.declared.shown_row.ShownRow.{ShownRow}
 use Rattle.query.specs.declared.item.Key.{Key}
 use Rattle.query_answer.specs.Answers.{LineData, keyed, keys_of}
 use Rattle.query_answer.specs.Fronts.{AreApart, Holds, asked_lines}

@@ -1,10 +1,8 @@
-use Rattle.std.proofs.Common.{◌≡◌, ◌∙◌, List, map, filter, ap, ap₂}
+use Rattle.std.proofs.Common.{◌∙◌, List, map, filter, ap, ap₂}
 use Rattle.std.proofs.lemmas.List.Sorted.{IsPermutation-trans}
-use Rattle.table_model.specs.declared.shown_row.ShownRow.{ShownRow}
 use Rattle.query.specs.declared.item.Item.{Item}
 use Rattle.query_answer.specs.declared.line.Line.{Line}
-use Rattle.query_answer.specs.Answers.{line_data, picked}
-use Rattle.query_answer.specs.Fronts.{first_lines}
+use Rattle.query_answer.specs.Answers.{picked}
 use Rattle.query_answer.specs.Rows.{rows_of}
 use Rattle.query_answer.specs.Values.{is_asked, rows_in}
 use Rattle.query_answer.proofs.Lending.{kept_listed}

@@ -1,4 +1,4 @@
-use Rattle.std.proofs.Common.{◌≡◌, ◌∙◌, List, [], ◌∷◌, ◌++◌, ap, ap₂, map, sym}
+use Rattle.std.proofs.Common.{◌∙◌, List, [], ◌∷◌, ◌++◌, ap, ap₂, map, sym}
 use Rattle.std.proofs.lemmas.List.{map-append, map_more}
 use Rattle.update_model.specs.declared.value.Value.{Value}
 use Rattle.query.specs.declared.item.Key.{Key}

@@ -1,4 +1,4 @@
-use Rattle.std.proofs.Common.{◌≡◌, ◌∙◌, List, [], ◌∷◌, ◌++◌, ap, ap₂, map, sym}
+use Rattle.std.proofs.Common.{◌∙◌, List, [], ◌∷◌, ◌++◌, ap, ap₂, map, sym}
 use Rattle.std.proofs.lemmas.List.{map_more, take_all}
 use Rattle.update_model.specs.declared.value.Value.{Value}
 use Rattle.query_answer.specs.declared.line.Line.{Line}

@@ -1,4 +1,4 @@
-use Rattle.std.proofs.Common.{length, subst, ℕ}
+use Rattle.std.proofs.Common.{subst, ℕ}
 use Rattle.table_model.specs.Visible.{rules_with}
 use Rattle.query_answer.specs.Answers.{AreShown}
 use Rattle.query_answer.proofs.Lending.{lists_from, lists_lent, lists_shown}

@@ -1,4 +1,4 @@
-use Rattle.std.proofs.Common.{◌≡◌, ◌∙◌, ◌<◌, Bool, true, cond, List, [], ap, arith, nat_lt, subst, sym}
+use Rattle.std.proofs.Common.{◌∙◌, Bool, cond, List, [], ap, subst, sym}
 use Rattle.table_model.specs.declared.shown_row.ShownRow.{ShownRow}
 use Rattle.tuple_state.specs.Arrived.{arrived}
 use Rattle.query_answer.specs.declared.rows.Rows.{Rows}
