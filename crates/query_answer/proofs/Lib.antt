@@ -1,5 +1,9 @@
 pub mod Compact
 pub mod Filling
+pub mod Fronts
+pub mod InOrder
+pub mod Kept
+pub mod Lending
 pub mod Looking
 pub mod Orders
 pub mod Seeing

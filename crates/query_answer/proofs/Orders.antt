@@ -14,8 +14,7 @@ use Rattle.table_model.specs.declared.shown_row.ShownRow.{ShownRow}
 use Rattle.table_model.specs.Tables.{name_cmp}
 use Rattle.table_model.proofs.Rising.{name_cmp_total}
 use Rattle.query.specs.declared.item.Key.{Key}
-use Rattle.query_answer.specs.declared.line.Line.{Line}
-use Rattle.query_answer.specs.Answers.{keys_of, line_cmp}
+use Rattle.query_answer.specs.Answers.{LineData, data_cmp, keys_of, line_cmp, line_data}
 use Rattle.query_answer.specs.Order.{rank_of, value_cmp, key_cmp, keys_cmp, row_cmp, found_cmp}
 use Rattle.query_answer.specs.Values.{value_of}
 
@@ -115,8 +114,11 @@ found_total : (at : ℕ) (keys : List Key) → IsTotalOrder (found_cmp at keys)
 found_total at [] = tied
 found_total at (key ∷ keys) = then_total (on_total (λ (values : List Value). value_at values at) (key_total key.descending)) (found_total (at + 1) keys)
 
+pub data_total : (keys : List Key) → IsTotalOrder (data_cmp keys)
+data_total keys = then_total (on_total (λ (line : LineData). line.1) (found_total 0 keys)) (on_total (λ (line : LineData). line.0.name) name_cmp_total)
+
 pub line_total : (keys : List Key) → IsTotalOrder (line_cmp keys)
-line_total keys = then_total (on_total (λ (line : Line). line.keys.items) (found_total 0 keys)) (on_total (λ (line : Line). line.row.now.name) name_cmp_total)
+line_total keys = on_total line_data (data_total keys)
 
 shift : (keys : List Key) (at : ℕ) (x y : Value) (a b : List Value) → found_cmp (suc at) keys (x ∷ a) (y ∷ b) ≡ found_cmp at keys a b
 shift [] at x y a b = refl

@@ -14,6 +14,7 @@ use Rattle.query.specs.Queries.{QueryData}
 use Rattle.query_answer.specs.declared.answer_value.Answer.{Answer}
 use Rattle.query_answer.specs.declared.line.Line.{Line}
 use Rattle.query_answer.specs.Order.{row_cmp, found_cmp}
+use Rattle.query_answer.specs.Rows.{shown_row, told}
 use Rattle.query_answer.specs.Values.{rows_in, value_of, is_asked}
 
 -- an answer: the names of its columns, and its rows
@@ -62,12 +63,19 @@ abbrev pub keys_of : List (List ShownRow) → List Key → ShownRow → List Val
 keys_of tables keys row = map (λ key. value_of tables row key.source) keys
 
 -- a row, and the values that were found
-abbrev pub line_data : Line → ShownRow × List Value
-line_data line = (line.row.now, line.keys.items)
+abbrev pub LineData : Type 0
+LineData = ShownRow × List Value
+
+abbrev pub line_data : Line → LineData
+line_data line = (shown_row line.row, map told line.keys.items)
 
 -- a row, and the values of its keys
-abbrev pub keyed : List (List ShownRow) → List Key → ShownRow → ShownRow × List Value
+abbrev pub keyed : List (List ShownRow) → List Key → ShownRow → LineData
 keyed tables keys row = (row, keys_of tables keys row)
 
+-- by the values, and where these tie by the rows' own names
+abbrev pub data_cmp : List Key → LineData → LineData → Ordering
+data_cmp keys a b = ordering_then (found_cmp 0 keys a.1 b.1) (name_cmp a.0.name b.0.name)
+
 abbrev pub line_cmp : List Key → Line → Line → Ordering
-line_cmp keys a b = ordering_then (found_cmp 0 keys a.keys.items b.keys.items) (name_cmp a.row.now.name b.row.now.name)
+line_cmp keys a b = data_cmp keys (line_data a) (line_data b)

@@ -1,6 +1,9 @@
 pub mod Answers
+pub mod Fronts
+pub mod InOrder
 pub mod Json
 pub mod Lines
 pub mod Order
+pub mod Rows
 pub mod TablesJson
 pub mod Values

@@ -1,45 +1,47 @@
 //! Which rows a query asks for.
 
-ghost use Rattle.std.specs.Prelude.{◌≡◌, IfOk, map};
+ghost use Rattle.std.specs.Prelude.{◌≡◌, IfOk, List, map};
 ghost use Rattle.expression_text.specs.Kinds.{FitsKinds};
 ghost use Rattle.query.specs.Columns.{seen_kinds};
-ghost use Rattle.query_answer.specs.Values.{AreRising, seen, seen_at, is_asked};
+ghost use Rattle.table_model.specs.declared.shown_row.ShownRow.{ShownRow as Shown};
+ghost use Rattle.query_answer.specs.Rows.{AreListsOf, shown_row};
+ghost use Rattle.query_answer.specs.Values.{is_asked, seen, seen_at};
 
+use crate::rows::{Row, Rows};
 use crate::values::value_of;
 use expression_text::Kind;
 use query::{Condition, Slot};
 use row_check::{Checks, Native, Relation};
 use std::alloc::{AllocError, Global};
-use table_model::{ShownRow, ShownRowList};
 use update_model::Value;
 
 /// What a condition sees of a value in a column of this kind.
-fn seen(kind: Kind, value: Value) -> Value
-    ensures { result ≡ seen kind value }
+fn seen(alloc: Global, kind: Kind, value: &Value) -> Result<Value, AllocError>
+    ensures { IfOk result (λ it. it ≡ seen kind value.now) }
 {
     match (kind, value) {
-        (Kind::Int, Value::Int(n)) => Value::Int(n),
-        (Kind::Text, Value::Text(text)) => Value::Text(text),
-        (Kind::Flag, Value::Flag(flag)) => Value::Flag(flag),
-        (Kind::Reference, Value::Row(_)) => Value::Flag(true),
-        _ => Value::Null,
+        (Kind::Int, Value::Int(_)) => value.copy(alloc),
+        (Kind::Text, Value::Text(_)) => value.copy(alloc),
+        (Kind::Flag, Value::Flag(_)) => value.copy(alloc),
+        (Kind::Reference, Value::Row(_)) => Ok(Value::Flag(true)),
+        _ => Ok(Value::Null),
     }
 }
 
 /// What a condition sees of a row, in the columns that it names.
 fn seen_values(
     alloc: Global,
-    tables: &[ShownRowList],
-    row: &ShownRow,
+    rows: Rows,
+    row: &Row,
     slots: &[Slot],
 ) -> Result<Vec<Value>, AllocError>
     ensures kinds { IfOk result (λ values. FitsKinds (seen_kinds slots.now) values.items) }
-    ensures values { IfOk result (λ values. AreRising tables.now → values.items ≡ map (seen_at tables.now row.now) slots.now) }
+    ensures values { IfOk result (λ values. (lists : List (List Shown)) → AreListsOf rows.entry lists → values.items ≡ map (seen_at lists (shown_row row.now)) slots.now) }
 {
     let mut values = Vec::with_capacity(alloc, slots.len())?;
     for slot in slots {
-        let value = value_of(alloc, tables, row, slot.source)?;
-        values.push(seen(slot.kind, value))?;
+        let found = value_of(rows, row, slot.source);
+        values.push(seen(alloc, slot.kind, found.value())?)?;
     }
     Ok(values)
 }
@@ -48,16 +50,17 @@ fn seen_values(
 pub(crate) fn is_asked<L: Relation, C: Checks<L>>(
     alloc: Global,
     native: &Native<L, C>,
-    tables: &[ShownRowList],
+    rows: Rows,
     condition: &Option<Condition>,
-    row: &ShownRow,
+    row: &Row,
 ) -> Result<bool, AllocError>
-    ensures { IfOk result (λ answer. AreRising tables.now → answer ≡ is_asked L.answer tables.now condition.now row.now) }
+    ensures { IfOk result (λ answer. (lists : List (List Shown)) → AreListsOf rows.entry lists
+        → answer ≡ is_asked L.answer lists condition.now (shown_row row.now)) }
 {
     match condition {
         None => Ok(true),
         Some(condition) => {
-            let values = seen_values(alloc, tables, row, condition.slots())?;
+            let values = seen_values(alloc, rows, row, condition.slots())?;
             condition.holds(alloc, native, values.as_slice())
         }
     }

@@ -16,12 +16,15 @@
 mod answer_value;
 mod answering;
 mod asking;
+mod found;
+mod front;
 mod json_text;
 mod laws;
 mod line;
 mod lines;
 mod ordering;
 mod picking;
+mod rows;
 mod shown;
 mod tables_object;
 mod values;

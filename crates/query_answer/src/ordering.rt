@@ -1,11 +1,13 @@
 //! The order of the rows of an answer.
 
-ghost use Rattle.std.specs.Prelude.{◌≡◌, slice_get, unwrap_or};
+ghost use Rattle.std.specs.Prelude.{◌≡◌, map, slice_get, unwrap_or};
 ghost use Rattle.row_check.specs.Meaning.{value_at};
 ghost use Rattle.std.specs.List.Sorted.{IsPermutation, IsSorted};
 ghost use Rattle.query_answer.specs.Answers.{line_cmp};
+ghost use Rattle.query_answer.specs.Rows.{told};
 ghost use Rattle.query_answer.specs.Order.{rank_of, value_cmp, key_cmp, found_cmp};
 
+use crate::found::Found;
 use crate::line::Line;
 use crate::values::name_cmp;
 use query::Key;
@@ -51,18 +53,18 @@ fn key_cmp(descending: bool, a: &Value, b: &Value) -> Ordering
 }
 
 /// The value at a place, and this one where there is none.
-fn value_or<'a>(values: &'a [Value], at: usize, absent: &'a Value) -> &'a Value
-    ensures { result.now ≡ unwrap_or (slice_get values.now at) absent.now }
+fn value_or<'b>(values: &'b [Found], at: usize, absent: &'b Value) -> &'b Value
+    ensures { result.now ≡ unwrap_or (slice_get (map told values.now) at) absent.now }
 {
     match values.get(at) {
-        Some(value) => value,
+        Some(found) => found.value(),
         None => absent,
     }
 }
 
 /// The order by one key, whose values stand at a place.
-fn place_cmp(descending: bool, a: &[Value], b: &[Value], at: usize) -> Ordering
-    ensures { result ≡ key_cmp descending (value_at a.now at) (value_at b.now at) }
+fn place_cmp(descending: bool, a: &[Found], b: &[Found], at: usize) -> Ordering
+    ensures { result ≡ key_cmp descending (value_at (map told a.now) at) (value_at (map told b.now) at) }
 {
     let absent = Value::Null;
     key_cmp(
@@ -73,8 +75,8 @@ fn place_cmp(descending: bool, a: &[Value], b: &[Value], at: usize) -> Ordering
 }
 
 /// The order by values of one key after another.
-fn found_cmp(keys: &[Key], a: &[Value], b: &[Value]) -> Ordering
-    ensures { result ≡ found_cmp 0 keys.now a.now b.now }
+fn found_cmp(keys: &[Key], a: &[Found], b: &[Found]) -> Ordering
+    ensures { result ≡ found_cmp 0 keys.now (map told a.now) (map told b.now) }
 {
     for (at, key) in keys.iter().enumerate() {
         let order = place_cmp(key.descending, a, b, at);
@@ -86,18 +88,17 @@ fn found_cmp(keys: &[Key], a: &[Value], b: &[Value]) -> Ordering
 }
 
 /// The order of two rows, by their keys and then by their names.
-fn line_cmp(keys: &[Key], a: &Line, b: &Line) -> Ordering
+pub(crate) fn line_cmp(keys: &[Key], a: &Line, b: &Line) -> Ordering
     ensures { result ≡ line_cmp keys.now a.now b.now }
 {
     let order = found_cmp(keys, a.keys.as_slice(), b.keys.as_slice());
-    order.then(name_cmp(&a.row.name, &b.row.name))
+    order.then(name_cmp(a.row.name(), b.row.name()))
 }
 
 /// Puts rows in order.
-pub(crate) fn sort_lines<'a>(keys: &[Key], mut lines: Vec<Line<'a>>) -> Vec<Line<'a>>
-    ensures exact { IsPermutation lines.entry.items result.items }
-    ensures ordered { IsSorted (line_cmp keys.now) result.items }
+pub(crate) fn sort_lines(keys: &[Key], lines: &mut Vec<Line>)
+    ensures exact { IsPermutation lines.old.items lines.new.items }
+    ensures ordered { IsSorted (line_cmp keys.now) lines.new.items }
 {
     lines.sort_unstable_by(|a, b| line_cmp(keys, a, b));
-    lines
 }

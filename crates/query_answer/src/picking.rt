@@ -1,28 +1,30 @@
 //! The columns that a query asks for.
 
-ghost use Rattle.std.specs.Prelude.{◌≡◌, IfOk, map, take};
-ghost use Rattle.query_answer.specs.Answers.{limited, picked, keys_of};
-ghost use Rattle.query_answer.specs.Values.{AreRising};
+ghost use Rattle.std.specs.Prelude.{◌≡◌, IfOk, List, map};
+ghost use Rattle.query_answer.specs.Answers.{picked, keys_of};
+ghost use Rattle.table_model.specs.declared.shown_row.ShownRow.{ShownRow as Shown};
+ghost use Rattle.query_answer.specs.Rows.{AreListsOf, shown_row, told};
 
+use crate::found::Found;
 use crate::line::Line;
+use crate::rows::{Row, Rows};
 use crate::values::value_of;
 use query::{Item, Key};
 use std::alloc::{AllocError, Global};
-use table_model::{ShownRow, ShownRowList};
-use update_model::{ByteList, Value, ValueList};
+use update_model::{ByteList, ValueList};
 
 /// The values of the keys.
-pub(crate) fn keys_of(
+pub(crate) fn keys_of<'a>(
     alloc: Global,
-    tables: &[ShownRowList],
+    rows: Rows<'a>,
     keys: &[Key],
-    row: &ShownRow,
-) -> Result<Vec<Value>, AllocError>
-    ensures { IfOk result (λ values. AreRising tables.now → values.items ≡ keys_of tables.now keys.now row.now) }
+    row: &Row<'a>,
+) -> Result<Vec<Found<'a>>, AllocError>
+    ensures { IfOk result (λ values. (lists : List (List Shown)) → AreListsOf rows.entry lists → map told values.items ≡ keys_of lists keys.now (shown_row row.now)) }
 {
     let mut values = Vec::with_capacity(alloc, keys.len())?;
     for key in keys {
-        values.push(value_of(alloc, tables, row, key.source)?)?;
+        values.push(value_of(rows, row, key.source))?;
     }
     Ok(values)
 }
@@ -39,17 +41,13 @@ pub(crate) fn names_of(alloc: Global, items: &[Item]) -> Result<Vec<ByteList>, A
 }
 
 /// What a row has in the columns.
-fn picked(
-    alloc: Global,
-    tables: &[ShownRowList],
-    items: &[Item],
-    row: &ShownRow,
-) -> Result<ValueList, AllocError>
-    ensures { IfOk result (λ values. AreRising tables.now → values ≡ picked tables.now items.now row.now) }
+fn picked(alloc: Global, rows: Rows, items: &[Item], row: &Row) -> Result<ValueList, AllocError>
+    ensures { IfOk result (λ values. (lists : List (List Shown)) → AreListsOf rows.entry lists → values ≡ picked lists items.now (shown_row row.now)) }
 {
     let mut values = Vec::with_capacity(alloc, items.len())?;
     for item in items {
-        values.push(value_of(alloc, tables, row, item.source)?)?;
+        let found = value_of(rows, row, item.source);
+        values.push(found.copy(alloc)?)?;
     }
     Ok(ValueList::from_vec(values))
 }
@@ -57,36 +55,16 @@ fn picked(
 /// What rows have in the columns.
 pub(crate) fn picked_rows(
     alloc: Global,
-    tables: &[ShownRowList],
+    rows: Rows,
     items: &[Item],
     lines: &[Line],
 ) -> Result<Vec<ValueList>, AllocError>
-    ensures { IfOk result (λ rows. AreRising tables.now → rows.items ≡ map (λ line. picked tables.now items.now line.row.now) lines.now) }
+    ensures { IfOk result (λ values. (lists : List (List Shown)) → AreListsOf rows.entry lists
+        → values.items ≡ map (λ line. picked lists items.now (shown_row line.row)) lines.now) }
 {
-    let mut rows = Vec::with_capacity(alloc, lines.len())?;
+    let mut values = Vec::with_capacity(alloc, lines.len())?;
     for line in lines {
-        rows.push(picked(alloc, tables, items, line.row)?)?;
+        values.push(picked(alloc, rows, items, &line.row)?)?;
     }
-    Ok(rows)
-}
-
-/// Not more rows than the limit.
-pub(crate) fn limited<'a, 'b>(limit: Option<u32>, lines: &'b [Line<'a>]) -> &'b [Line<'a>]
-    ensures { result.now ≡ limited limit lines.now }
-{
-    match limit {
-        None => lines,
-        Some(limit) => front(limit as usize, lines),
-    }
-}
-
-/// Not more rows than this.
-fn front<'a, 'b>(len: usize, lines: &'b [Line<'a>]) -> &'b [Line<'a>]
-    ensures { result.now ≡ take len lines.now }
-{
-    if len < lines.len() {
-        &lines[..len]
-    } else {
-        lines
-    }
+    Ok(values)
 }

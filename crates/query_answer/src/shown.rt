@@ -8,7 +8,9 @@ ghost use Rattle.tuple_state.specs.State.{IsStateOf};
 ghost use Rattle.query.specs.Outcome.{data_of as query_data};
 ghost use Rattle.query_answer.specs.Answers.{AreShown, IsAnswerOver, data_of};
 
-use crate::{Answer, answer_lists};
+use crate::Answer;
+use crate::answering::answer_rows;
+use crate::rows::Rows;
 use query::Query;
 use row_check::{Checks, Native, Relation};
 use schema::Schema;
@@ -18,8 +20,8 @@ use tuple_state::Tables;
 
 /// The answer of a query over the rows that the tables of a set of updates show.
 ///
-/// It takes the time and the memory of listing the tables besides those of [`answer_lists`], and gives up where memory runs
-/// out.
+/// It goes over the rows of one table as the tables lend them, and looks the rows of others up by their names. It gives up where
+/// memory runs out.
 pub fn answer<L: Relation, C: Checks<L>>(
     alloc: Global,
     native: &Native<L, C>,
@@ -30,8 +32,8 @@ pub fn answer<L: Relation, C: Checks<L>>(
     ensures { IfOk result (λ answer. (nodes : List NodeData) → IsStateOf (rules_with L.answer schema.now.tables) nodes tables.now
         → IsAnswerOver (rules_with L.answer schema.now.tables) nodes (query_data query.now) (data_of answer)) }
 {
-    let lists = shown_lists(alloc, schema, tables)?;
-    let answer = answer_lists(alloc, native, query, lists.as_slice())?;
+    let rows = Rows::Lent(tables, schema.tables());
+    let answer = answer_rows(alloc, native, query, rows)?;
     Ok(answer)
 }
 

@@ -1,12 +1,15 @@
 //! The values that rows show to a query.
 
-ghost use Rattle.std.specs.Prelude.{◌≡◌, IfOk, option_copied};
-ghost use Rattle.row_check.specs.Meaning.{value_at};
+ghost use Rattle.std.specs.Prelude.{◌≡◌, List, option_copied, option_map, unwrap_or};
+ghost use Rattle.update_model.specs.declared.value.Value.TheVariants.{Null};
+ghost use Rattle.table_model.specs.declared.shown_row.ShownRow.{ShownRow as Shown};
 ghost use Rattle.table_model.specs.Tables.{name_cmp};
-ghost use Rattle.query_answer.specs.Values.{rows_in, IsRising, AreRising, row_named, value_in, value_through, value_of};
+ghost use Rattle.query_answer.specs.Rows.{AreListsOf, shown_row, told};
+ghost use Rattle.query_answer.specs.Values.{IsRising, row_named, rows_in, value_in, value_of, value_through};
 
+use crate::found::Found;
+use crate::rows::{Row, Rows};
 use query::Source;
-use std::alloc::{AllocError, Global};
 use std::cmp::Ordering;
 use table_model::{ShownRow, ShownRowList};
 use update_model::{RowName, Value};
@@ -30,7 +33,7 @@ pub(crate) fn name_cmp(a: &RowName, b: &RowName) -> Ordering
 }
 
 /// The row with this name.
-fn row_named<'a>(rows: &'a [ShownRow], name: &RowName) -> Option<&'a ShownRow>
+pub(crate) fn row_named<'a>(rows: &'a [ShownRow], name: &RowName) -> Option<&'a ShownRow>
     ensures { IsRising rows.now → option_copied result ≡ row_named rows.now name.now }
 {
     match rows.binary_search_by(|row| name_cmp(&row.name, name)) {
@@ -39,79 +42,44 @@ fn row_named<'a>(rows: &'a [ShownRow], name: &RowName) -> Option<&'a ShownRow>
     }
 }
 
-/// The value in a column.
-fn value_at(alloc: Global, values: &[Value], column: usize) -> Result<Value, AllocError>
-    ensures { IfOk result (λ value. value ≡ value_at values.now column) }
-{
-    match values.get(column) {
-        Some(value) => value.copy(alloc),
-        None => Ok(Value::Null),
-    }
-}
-
 /// The value in a column of a row, and null where there is no row.
-fn value_in(alloc: Global, row: Option<&ShownRow>, column: usize) -> Result<Value, AllocError>
-    ensures { IfOk result (λ value. value ≡ value_in (option_copied row.entry) column) }
+fn value_in<'a>(row: Option<Row<'a>>, column: usize) -> Found<'a>
+    ensures { told result ≡ value_in (option_map shown_row row.entry) column }
 {
     match row {
-        Some(row) => value_at(alloc, row.values.as_slice(), column),
-        None => Ok(Value::Null),
+        Some(row) => Found::new(row.value(column)),
+        None => Found::Made(Value::Null),
     }
 }
 
 /// The value in a column of the row that a reference names.
-fn value_through(
-    alloc: Global,
-    rows: &[ShownRow],
+fn value_through<'a>(
+    rows: Rows<'a>,
+    table: u8,
     column: usize,
-    reference: &Value,
-) -> Result<Value, AllocError>
-    ensures { IfOk result (λ value. IsRising rows.now → value ≡ value_through rows.now column reference.now) }
+    reference: Option<&Value>,
+) -> Found<'a>
+    ensures { (lists : List (List Shown)) → AreListsOf rows.entry lists
+        → told result ≡ value_through (rows_in lists table) column (unwrap_or (option_copied reference.entry) Null) }
 {
     match reference {
-        Value::Row(name) => value_in(alloc, row_named(rows, name), column),
-        _ => Ok(Value::Null),
+        Some(Value::Row(name)) => value_in(rows.named(table, name), column),
+        _ => Found::Made(Value::Null),
     }
 }
 
-/// The same, where the row has the reference in this column.
-fn value_behind(
-    alloc: Global,
-    rows: &[ShownRow],
-    column: usize,
-    values: &[Value],
-    reference: usize,
-) -> Result<Value, AllocError>
-    ensures { IfOk result (λ value. IsRising rows.now → value ≡ value_through rows.now column (value_at values.now reference)) }
-{
-    match values.get(reference) {
-        Some(name) => value_through(alloc, rows, column, name),
-        None => Ok(Value::Null),
-    }
-}
-
-/// The value that a row has there. Row by row it takes time that is logarithmic in the rows of a referenced table.
-pub(crate) fn value_of(
-    alloc: Global,
-    tables: &[ShownRowList],
-    row: &ShownRow,
-    source: Source,
-) -> Result<Value, AllocError>
-    ensures { IfOk result (λ value. AreRising tables.now → value ≡ value_of tables.now row.now source) }
+/// The value that a row has there. Row by row it takes time that is logarithmic in the rows of a referenced table, and no
+/// memory.
+pub(crate) fn value_of<'a>(rows: Rows<'a>, row: &Row<'a>, source: Source) -> Found<'a>
+    ensures { (lists : List (List Shown)) → AreListsOf rows.entry lists → told result ≡ value_of lists (shown_row row.now) source }
 {
     match source {
-        Source::Name => Ok(Value::Row(row.name)),
-        Source::Own(column) => value_at(alloc, row.values.as_slice(), column),
+        Source::Name => Found::Made(Value::Row(*row.name())),
+        Source::Own(column) => Found::new(row.value(column)),
         Source::Through {
             reference,
             target,
             column,
-        } => value_behind(
-            alloc,
-            rows_in(tables, target),
-            column,
-            row.values.as_slice(),
-            reference,
-        ),
+        } => value_through(rows, target, column, row.value(reference)),
     }
 }

@@ -37,7 +37,7 @@ find_none vis name hidden (x ∷ xs) =
     ] in
     step (vis x.name) (same_row x.name name) refl refl
 
-find_one : (t v : TableRow → Bool) (r : TableRow) (xs : List TableRow) → AllByRecursion (λ x. t x ≡ true → x ≡ r) xs → list_any (λ x. t x && v x) xs ≡ true → find t (filter v xs) ≡ Some r
+pub find_one : (t v : TableRow → Bool) (r : TableRow) (xs : List TableRow) → AllByRecursion (λ x. t x ≡ true → x ≡ r) xs → list_any (λ x. t x && v x) xs ≡ true → find t (filter v xs) ≡ Some r
 find_one t v r [] a h = absurd (cc)
 find_one t v r (x ∷ xs) a h =
     let step : (b c : Bool) → v x ≡ b → t x ≡ c → ((c && b) || list_any (λ y. t y && v y) xs) ≡ true → find t (cond b (x ∷ filter v xs) (filter v xs)) ≡ Some r =

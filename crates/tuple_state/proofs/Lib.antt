@@ -12,6 +12,7 @@ pub mod Holding
 pub mod Keeping
 pub mod Lasting
 pub mod Layers
+pub mod Lending
 pub mod Linking
 pub mod Listing
 pub mod Lookups

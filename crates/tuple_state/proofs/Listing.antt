@@ -21,6 +21,7 @@ use Rattle.table_model.proofs.Rising.{listed_distinct, name_cmp_total, shown_dis
 use Rattle.table_model.specs.Verdicts.{in_table}
 use Rattle.table_model.specs.Visible.{Effects, Rules, TableRow, is_visible, shown, shown_rows, shown_value, shown_values, table_of}
 use Rattle.tuple_state.specs.declared.inserted.Inserted.{Inserted}
+use Rattle.tuple_state.specs.Arrived.{arrived, listed_rows}
 use Rattle.tuple_state.specs.Kept.{place_of}
 use Rattle.tuple_state.specs.Parents.{columns_at}
 use Rattle.tuple_state.specs.Showing.{shown_by, shown_values_by}
@@ -123,16 +124,6 @@ mapped_kept f g p (x ∷ xs) =
 
 -- ---- the rows that a state lists in a table, in order of arrival
 
--- what a table lists of some of the rows
-abbrev pub listed_rows : State → ℕ → List Inserted → List ShownRow
-listed_rows state table rows =
-    map (λ (it : Inserted). listed (shown (rules_of state) (done_in state) (row_of it)))
-    (filter (λ (it : Inserted). in_table table (row_of it) && is_visible (rules_of state) (done_in state) it.name) rows)
-
--- and of all of them
-abbrev pub arrived : State → ℕ → List ShownRow
-arrived state table = listed_rows state table state.inserted
-
 -- one place more, whose row is listed or not
 pub listed_more : (state : State) (table place : ℕ) (it : Inserted) (b : Bool) (old new more : List ShownRow) → slice_get state.inserted place ≡ Some it → place < length state.inserted
     → b ≡ (in_table table (row_of it) && is_visible (rules_of state) (done_in state) it.name)
@@ -183,3 +174,17 @@ rows_now rules nodes state held table lines sorted is rising moved =
           (IsPermutation-map (λ (l : ShownRow). l.name) (reverse lines) lines turned) apart);
       exact = subst (λ (l : List ShownRow). IsPermutation sorted l) last (IsPermutation-trans sorted lines (reverse lines) moved (IsPermutation-reverse lines));
     }
+
+-- ---- the rows that are lent
+
+-- they have names of their own, and are those that a closed list shows
+pub arrived_distinct : (rules : Rules) (nodes : List NodeData) (state : State) → IsStateOf rules nodes state → (table : ℕ) → HasDistinctNames (arrived state table)
+arrived_distinct rules nodes state held table =
+    let lines = arrived state table in
+    let apart : HasDistinctNames (reverse lines) = listed_distinct (shown_in rules nodes) table (reverse lines) (shown_distinct rules nodes held.closed) (listed_now rules nodes state held table) in
+    IsDistinct-IsPermutation (eq_by_cmp name_cmp) ((eq_by_cmp_equiv name_cmp_total).symm) (map (λ (l : ShownRow). l.name) (reverse lines)) (map (λ (l : ShownRow). l.name) lines)
+    (IsPermutation-map (λ (l : ShownRow). l.name) (reverse lines) lines (IsPermutation-sym lines (reverse lines) (IsPermutation-reverse lines))) apart
+
+pub arrived_shown : (rules : Rules) (nodes : List NodeData) (state : State) (table : ℕ) (rows : List ShownRow) → IsStateOf rules nodes state → IsStrictlySortedBy name_cmp (map (λ row. row.name) rows)
+    → IsPermutation rows (arrived state table) → AreRowsIn rules nodes table rows
+arrived_shown rules nodes state table rows held rising moved = rows_now rules nodes state held table (arrived state table) rows refl (λ _. rising) moved

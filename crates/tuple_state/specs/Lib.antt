@@ -1,4 +1,5 @@
 pub mod Absence
+pub mod Arrived
 pub mod Causes
 pub mod Kept
 pub mod Links

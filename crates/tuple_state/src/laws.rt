@@ -1,16 +1,19 @@
 //! Laws of tables. Each function does nothing: its contract is a theorem for callers to cite. Lists of nodes stand newest
 //! first.
 
-ghost use Rattle.std.specs.Prelude.{◌≡◌, true, List, ◌∷◌, map, reverse};
+ghost use Rattle.std.specs.Prelude.{◌≡◌, ℕ, true, List, ◌∷◌, map, reverse};
 ghost use Rattle.update_model.specs.Node.{NodeData};
 ghost use Rattle.table_model.specs.declared.verdict.Verdict.{Verdict};
 ghost use Rattle.table_model.specs.Nodes.{IsClosed, IsNext};
-ghost use Rattle.table_model.specs.Tables.{void_lines};
+ghost use Rattle.std.specs.List.Sorted.{IsPermutation, IsStrictlySortedBy};
+ghost use Rattle.table_model.specs.declared.shown_row.ShownRow.{ShownRow};
+ghost use Rattle.table_model.specs.Tables.{AreRowsIn, HasDistinctNames, name_cmp, void_lines};
 ghost use Rattle.table_model.specs.Verdicts.{effects_in, judge_next, judged};
 ghost use Rattle.table_model.specs.Visible.{Rules, is_visible};
 ghost use Rattle.tuple_state.specs.Kept.{is_named};
 ghost use Rattle.tuple_state.specs.Past.{effects_before};
 ghost use Rattle.update_model.specs.declared.row_name.RowName.{RowName};
+ghost use Rattle.tuple_state.specs.Arrived.{arrived};
 ghost use Rattle.tuple_state.specs.State.{IsStateOf, State, after, done_in};
 
 /// Tables that hold what nodes do hold, after one more node is applied with its verdict, what all of them do.
@@ -31,4 +34,12 @@ pub fn visible_rows_were_visible()
 pub fn states_are_effects()
     ensures did { (rules : Rules) (nodes : List NodeData) (state : State) → IsStateOf rules nodes state → done_in state ≡ effects_in rules nodes }
     ensures voids { (rules : Rules) (nodes : List NodeData) (state : State) → IsStateOf rules nodes state → reverse (map (λ it. it.line) state.voids) ≡ void_lines (judged rules nodes) }
+{}
+
+/// The rows that tables lend, which hold what nodes do, have names of their own, and in rising order of these they are the rows
+/// that the nodes show.
+pub fn lent_rows_are_listed()
+    ensures distinct { (rules : Rules) (nodes : List NodeData) (state : State) (table : ℕ) → IsStateOf rules nodes state → HasDistinctNames (arrived state table) }
+    ensures shown { (rules : Rules) (nodes : List NodeData) (state : State) (table : ℕ) (rows : List ShownRow) → IsStateOf rules nodes state
+        → IsStrictlySortedBy name_cmp (map (λ row. row.name) rows) → IsPermutation rows (arrived state table) → AreRowsIn rules nodes table rows }
 {}

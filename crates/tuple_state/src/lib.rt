@@ -2,7 +2,7 @@
 //!
 //! [`Tables`] takes one update after another with its verdict. It keeps the rows that the valid ones inserted, the names
 //! that they deleted, and a line for each update that does nothing, and it answers which rows are visible: now
-//! ([`Tables::visible`], [`Tables::rows`]), or after the ancestors of one update ([`Tables::at`], by which the next
+//! ([`Tables::visible`], [`Tables::rows`], and [`Tables::lend`], which copies nothing), or after the ancestors of one update ([`Tables::at`], by which the next
 //! verdict is found). What is visible now was visible before, so of a row that nobody hides no history is walked. The last
 //! updates can be taken back ([`Tables::cut`]).
 //!
@@ -18,6 +18,7 @@ mod deleters;
 mod dropped;
 mod inserted;
 mod laws;
+mod lent;
 mod links;
 mod parents;
 mod restricts;
@@ -29,6 +30,9 @@ mod voided;
 pub use at::At;
 pub use dropped::Dropped;
 pub use inserted::Inserted;
-pub use laws::{applied_is_next, states_are_effects, visible_rows_were_visible};
+pub use laws::{
+    applied_is_next, lent_rows_are_listed, states_are_effects, visible_rows_were_visible,
+};
+pub use lent::Lent;
 pub use tables::Tables;
 pub use voided::Voided;

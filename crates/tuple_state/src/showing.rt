@@ -15,7 +15,7 @@ use table_model::ShownRow;
 use update_model::{Value, ValueList};
 
 /// Whether a value is a `SETNULL` reference to a row that is not visible.
-fn is_nulled(tables: &Tables, column: &Column, value: &Value) -> bool
+pub(crate) fn is_nulled(tables: &Tables, column: &Column, value: &Value) -> bool
     ensures { result ≡ is_shown_null (is_visible (rules_of tables.now) (done_in tables.now)) column.now.kind value.now }
 {
     match (value, column.kind) {
@@ -103,7 +103,7 @@ fn shown_row(alloc: Global, tables: &Tables, row: &Inserted) -> Result<ShownRow,
 }
 
 /// Whether the row at a place is one of the table with this number, and visible.
-fn is_listed(tables: &Tables, table: u8, place: usize) -> bool
+pub(crate) fn is_listed(tables: &Tables, table: u8, place: usize) -> bool
     requires { place < length tables.now.inserted }
     ensures { (it : Row) → slice_get tables.now.inserted place ≡ Some it
         → result ≡ (in_table table (row_of it) && is_visible (rules_of tables.now) (done_in tables.now) it.name) }

@@ -173,8 +173,9 @@ impl Tables {
         }
     }
 
-    /// How many rows were inserted. No update has more than 256 operations, and no more than 131,072 updates are applied.
-    pub(crate) fn row_len(&self) -> usize
+    /// How many rows were inserted, whether they are visible or not: their places are below this number. No update has more
+    /// than 256 operations, and no more than 131,072 updates are applied.
+    pub fn row_len(&self) -> usize
         ensures len { result ≡ length self.now.inserted }
         ensures few { result ≤ 256 * 131072 }
     {

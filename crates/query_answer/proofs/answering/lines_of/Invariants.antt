@@ -1,9 +1,13 @@
-use Rattle.std.proofs.Common.{◌≡◌, map, filter, take}
-use Rattle.query_answer.specs.Answers.{keyed, line_data}
-use Rattle.query_answer.specs.Values.{AreRising, is_asked}
+use Rattle.std.proofs.Common.{List}
+use Rattle.table_model.specs.declared.shown_row.ShownRow.{ShownRow}
+use Rattle.query_answer.specs.Fronts.{Holds, asked_lines}
+use Rattle.query_answer.specs.Rows.{AreListsOf, rows_before}
+use Rattle.query_answer.specs.Values.{is_asked}
 use Rattle.query_answer.proofs.answering.lines_of.Given as goal
 
--- the rows so far that are asked for
-abbrev pub invariant-loop-row : goal.invariant-loop-row
-invariant-loop-row g l =
-    AreRising l.tables → map line_data l.lines.items ≡ map (keyed l.tables l.query.keys.items) (filter (is_asked g.L.Relation.answer l.tables l.query.condition) (take l.row-index l.rows))
+-- a front of the rows so far that are asked for
+abbrev pub invariant-loop-place : goal.invariant-loop-place
+invariant-loop-place g l =
+    (lists : List (List ShownRow)) → AreListsOf l.rows lists
+    → Holds l.query.keys.items l.query.limit l.front
+    (asked_lines lists l.query.keys.items (is_asked g.L.Relation.answer lists l.query.condition) (rows_before l.rows l.query.table l.place))

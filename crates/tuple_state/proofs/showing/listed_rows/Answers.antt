@@ -2,7 +2,8 @@ use Rattle.std.proofs.Common.{◌≤◌, ◌<◌, ◌∙◌, [], ◌∷◌, ap, 
 use Rattle.std.proofs.lemmas.List.{take_all}
 use Rattle.table_model.specs.declared.shown_row.ShownRow.{ShownRow}
 use Rattle.tuple_state.proofs.Dropping.{row_there}
-use Rattle.tuple_state.proofs.Listing.{listed_more, listed_rows}
+use Rattle.tuple_state.specs.Arrived.{listed_rows}
+use Rattle.tuple_state.proofs.Listing.{listed_more}
 use Rattle.tuple_state.proofs.showing.listed_rows.Goals.{then-is_listed+in_ok-shown_row+in_ok-push, else-is_listed}
 use Rattle.tuple_state.proofs.showing.listed_rows.Goals as goal
 

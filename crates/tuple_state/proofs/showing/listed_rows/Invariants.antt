@@ -1,5 +1,5 @@
 use Rattle.std.proofs.Common.{◌≡◌, take}
-use Rattle.tuple_state.proofs.Listing.{listed_rows}
+use Rattle.tuple_state.specs.Arrived.{listed_rows}
 use Rattle.tuple_state.proofs.showing.listed_rows.Given as goal
 
 -- the visible rows of the table so far are listed
