@@ -5,6 +5,7 @@ mod Goings
 mod Lists
 mod Newest
 mod Listing
+mod Parting
 mod Same
 pub mod Singles
 mod Sight

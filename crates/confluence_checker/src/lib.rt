@@ -21,6 +21,7 @@ mod ids;
 mod inserted_row;
 mod judged_node;
 mod judging;
+mod laws;
 mod limits;
 mod reasons;
 mod references;
@@ -35,6 +36,7 @@ mod visibility;
 
 pub use confirming::confirms;
 pub use ids::is_closed;
+pub use laws::{shared_updates_are_a_base, unconfirmed_is_confluent};
 pub use row_lists::RowLists;
 pub use table_list::TableList;
 pub use tables::tables_of;

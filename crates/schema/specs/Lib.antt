@@ -7,6 +7,7 @@ pub mod Forms
 pub mod Kept
 pub mod Numbers
 pub mod Outcome
+pub mod Printing
 pub mod Rows
 pub mod Samples
 pub mod Schemas

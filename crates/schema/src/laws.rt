@@ -1,12 +1,17 @@
 //! Laws of the definitions. Each function does no work: its contract is a theorem for callers to cite.
 
-ghost use Rattle.std.specs.Prelude.{◌≡◌, ℕ, List};
+ghost use Rattle.std.specs.Prelude.{◌≡◌, ℕ, List, Some, IsUtf8};
+ghost use Rattle.text_words.specs.Words.{skip_blanks};
 ghost use Rattle.schema.specs.declared.fault.SchemaKind.{SchemaKind};
+ghost use Rattle.schema.specs.declared.form.Form.{Form};
+ghost use Rattle.schema.specs.Forms.{HasForm, IsWhole, form_at};
+ghost use Rattle.schema.specs.Printing.{HasLine, form_text};
 ghost use Rattle.schema.specs.Samples.{SamplesPass};
 ghost use Rattle.schema.specs.Schemas.{Meaning, SchemaData, Declares, FirstFault};
 ghost use Rattle.schema.specs.Sound.{IsSchema};
 
 use expression_text::one_expression;
+use text_words::{integers_are_as_printed, values_are_read_again, words_are_by_rule};
 
 /// A text declares at most one schema.
 pub fn one_schema()
@@ -44,4 +49,15 @@ pub fn declared_samples_pass()
     ensures { (relation : Meaning) (text : List ℕ) (schema : SchemaData) → Declares relation text schema → SamplesPass relation schema.tables }
 {
     one_expression();
+}
+
+/// What is printed of a form is read as that form. Its names are to be words as they stand, as every name is, and a table that is
+/// owned has to be deletable.
+pub fn forms_are_read_again()
+    ensures words { (form : Form) → HasLine form → form_at (skip_blanks (form_text form)) ≡ Some form }
+    ensures form { (form : Form) → HasLine form → IsUtf8 (form_text form) → IsWhole form → HasForm (form_text form) form }
+{
+    words_are_by_rule();
+    integers_are_as_printed();
+    values_are_read_again();
 }

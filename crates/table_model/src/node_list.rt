@@ -1,4 +1,4 @@
-ghost use Rattle.std.specs.Prelude.{◌≡◌, ◌∷◌, [], ◌++◌, OnOk};
+ghost use Rattle.std.specs.Prelude.{◌≡◌, ◌∷◌, [], ◌++◌, OnErr, OnOk};
 
 use std::alloc::AllocError;
 use std::marker::Model;
@@ -42,9 +42,10 @@ impl NodeList {
         nodes
     }
 
-    /// Puts one more at the end. It gives up where memory runs out.
+    /// Puts one more at the end. Where memory runs out the list is as it was.
     pub fn push(&mut self, node: Node) -> Result<(), AllocError>
-        ensures { OnOk result (self.new ≡ self.old ++ node ∷ []) }
+        ensures added { OnOk result (self.new ≡ self.old ++ node ∷ []) }
+        ensures same { OnErr result (self.new ≡ self.old) }
     {
         self.nodes.push(node)?;
         Ok(())

@@ -1,4 +1,4 @@
-ghost use Rattle.std.specs.Prelude.{◌≡◌, ◌∷◌, [], ◌++◌, OnOk};
+ghost use Rattle.std.specs.Prelude.{◌≡◌, ◌∷◌, [], ◌++◌, OnErr, OnOk};
 
 use crate::ShownRow;
 use std::alloc::AllocError;
@@ -42,9 +42,10 @@ impl ShownRowList {
         rows
     }
 
-    /// Puts one more at the end. It gives up where memory runs out.
+    /// Puts one more at the end. Where memory runs out the list is as it was.
     pub fn push(&mut self, row: ShownRow) -> Result<(), AllocError>
-        ensures { OnOk result (self.new ≡ self.old ++ row ∷ []) }
+        ensures added { OnOk result (self.new ≡ self.old ++ row ∷ []) }
+        ensures same { OnErr result (self.new ≡ self.old) }
     {
         self.rows.push(row)?;
         Ok(())

@@ -1,4 +1,4 @@
-ghost use Rattle.std.specs.Prelude.{◌≡◌, ◌∷◌, [], ◌++◌, OnOk};
+ghost use Rattle.std.specs.Prelude.{◌≡◌, ◌∷◌, [], ◌++◌, OnErr, OnOk};
 
 use crate::VoidLine;
 use std::alloc::AllocError;
@@ -42,9 +42,10 @@ impl VoidList {
         voids
     }
 
-    /// Puts one more at the end. It gives up where memory runs out.
+    /// Puts one more at the end. Where memory runs out the list is as it was.
     pub fn push(&mut self, line: VoidLine) -> Result<(), AllocError>
-        ensures { OnOk result (self.new ≡ self.old ++ line ∷ []) }
+        ensures added { OnOk result (self.new ≡ self.old ++ line ∷ []) }
+        ensures same { OnErr result (self.new ≡ self.old) }
     {
         self.voids.push(line)?;
         Ok(())
