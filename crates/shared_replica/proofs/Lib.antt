@@ -1,5 +1,5 @@
-mod Going
+pub mod Going
 mod Growing
-mod Lists
+pub mod Lists
 mod Stepping
 mod Turns

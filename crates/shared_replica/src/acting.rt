@@ -1,5 +1,5 @@
 //! What an act does to the replica and its list.
-ghost use Rattle.std.specs.Prelude.{◌≡◌, ◌<◌, ◌≤◌, ◌+◌, List, Some, ℕ, IfOk, IfErr, OnErr, OnOk, true, false, length, map, slice_get};
+ghost use Rattle.std.specs.Prelude.{◌≡◌, ◌<◌, ◌≤◌, ◌+◌, All, List, Some, ℕ, IfOk, IfErr, OnErr, OnOk, true, false, length, map, slice_get};
 ghost use Rattle.std.specs.List.Sorted.{IsStrictlySortedBy};
 ghost use Rattle.replica.specs.Making.{IsMakeCause, Makes};
 ghost use Rattle.replica.specs.Signing.{KeyAfter};
@@ -14,6 +14,7 @@ ghost use Rattle.table_model.specs.Visible.{rules_with};
 ghost use Rattle.tuple_state.specs.State.{IsStateOf};
 ghost use Rattle.history.specs.Histories.{nodes_of};
 ghost use Rattle.update_codec.specs.Parts.{entry_of};
+ghost use Rattle.update_codec.specs.declared.limits.TheConstants.{UPDATE_LIMIT};
 ghost use Rattle.update_model.specs.declared.limits.TheConstants.{MAX_OPS};
 ghost use Rattle.update_model.specs.Batch.{store_limits};
 ghost use Rattle.update_model.specs.Entry.{id_cmp};
@@ -87,6 +88,7 @@ impl<D: Disk> Stored<D> {
     pub fn fetch(&self, alloc: Global, position: u32) -> Result<ByteList, AllocError>
         requires { position < length (updates_of self.now.entries) }
         ensures bytes { IfOk result (λ bytes. slice_get (updates_of self.now.entries) position ≡ Some bytes) }
+        ensures short { IfOk result (λ bytes. length bytes ≤ UPDATE_LIMIT) }
         ensures list { IsStoreOf self.now.entries self.now.store }
     {
         let copy = self.replica.update_at(position).copy(alloc)?;
@@ -136,6 +138,7 @@ impl<D: Disk> Stored<D> {
         ensures grows { Grows self.old self.new seat act (met_store result) }
         ensures steps { IfOk result (λ out. StepsTo store_limits session.old (updates_of self.old.entries) frame session.new out (updates_of self.new.entries)) }
         ensures belongs { BelongsTo store_limits self.old.store.history.schema.rule session.new (updates_of self.new.entries) }
+        ensures within { IfOk result (λ out. All (λ p. p < length self.new.store.history.members) out.send) }
         ensures failed { OnErr result (session.new.failed ≡ true) }
         ensures gains { GrowsBy (updates_in session.old) (updates_of self.old.entries) (updates_of self.new.entries) }
     {

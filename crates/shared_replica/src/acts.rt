@@ -1,5 +1,5 @@
 //! The acts of a shared replica.
-ghost use Rattle.std.specs.Prelude.{◌≡◌, ◌<◌, ◌≤◌, ℕ, List, Some, false, true, IfOk, IfErr, OnErr, length, map, slice_get};
+ghost use Rattle.std.specs.Prelude.{◌≡◌, ◌<◌, ◌≤◌, ℕ, All, List, Some, false, true, IfOk, IfErr, OnErr, length, map, slice_get};
 ghost use Rattle.std.specs.List.Sorted.{IsStrictlySortedBy};
 ghost use Rattle.history.specs.Histories.{nodes_of};
 ghost use Rattle.replica.specs.Making.{IsMakeCause, Makes};
@@ -16,6 +16,7 @@ ghost use Rattle.row_check.specs.Checksum.{is_luhn};
 ghost use Rattle.table_model.specs.Visible.{rules_with};
 ghost use Rattle.tuple_state.specs.State.{IsStateOf};
 ghost use Rattle.update_codec.specs.Parts.{entry_of};
+ghost use Rattle.update_codec.specs.declared.limits.TheConstants.{UPDATE_LIMIT};
 ghost use Rattle.update_model.specs.declared.limits.TheConstants.{MAX_OPS};
 ghost use Rattle.update_model.specs.Batch.{store_limits};
 ghost use Rattle.update_model.specs.Entry.{id_cmp};
@@ -76,7 +77,7 @@ impl<D: Disk> Shared<D> {
         }
     }
 
-    /// The bytes of the update at a position below the number of updates that the pass has seen. The error is want of memory.
+    /// The bytes of the update at a position below the number of updates that the pass has seen, at most 262,144. The error is want of memory.
     pub fn fetch<R: Wait>(
         &self,
         rt: &R,
@@ -87,7 +88,8 @@ impl<D: Disk> Shared<D> {
         requires lock { pass.lock ≡ self.now.lock }
         requires seen { position < length (updates_of pass.seen) }
         ensures { (P : List Entry) × (store : ReplicaState) × IsAct pass result.pass P store store false
-            × IfOk result.answer (λ bytes. slice_get (updates_of P) position ≡ Some bytes) }
+            × IfOk result.answer (λ bytes. slice_get (updates_of P) position ≡ Some bytes)
+            × IfOk result.answer (λ bytes. length bytes ≤ UPDATE_LIMIT) }
     {
         let (held, stored) = self.lock.take(rt, pass);
         let answer = stored.fetch(alloc, position);
@@ -163,7 +165,8 @@ impl<D: Disk> Shared<D> {
             × IfOk result.answer (λ out. StepsTo store_limits session.old (updates_of P) frame session.new out (updates_of result.pass.seen))
             × BelongsTo store_limits old.history.schema.rule session.new (updates_of result.pass.seen)
             × OnErr result.answer (session.new.failed ≡ true)
-            × GrowsBy (updates_in session.old) (updates_of P) (updates_of result.pass.seen) }
+            × GrowsBy (updates_in session.old) (updates_of P) (updates_of result.pass.seen)
+            × IfOk result.answer (λ out. All (λ p. p < length (updates_of result.pass.seen)) out.send) }
     {
         let (held, mut stored) = self.lock.take(rt, pass);
         let answer = stored.session_step(alloc, session, frame, held.seat(), held.act());

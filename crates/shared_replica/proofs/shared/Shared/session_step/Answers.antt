@@ -1,4 +1,4 @@
-use Rattle.std.proofs.Common.{◌≡◌, List, ℕ, IfOk, ap, subst, sym}
+use Rattle.std.proofs.Common.{◌≡◌, ◌<◌, All, List, ℕ, IfOk, length, ap, subst, sym}
 use Rattle.update_model.specs.Batch.{store_limits}
 use Rattle.sync_session.specs.Kept.{updates_in, BelongsTo, GrowsBy, StepsTo}
 use Rattle.shared_replica.specs.declared.entry.Entry.{Entry}
@@ -35,4 +35,5 @@ returns g c =
       subst (λ (l : List Entry). BelongsTo store_limits s.store.history.schema.rule session (updates_of l)) seen e.belongs,
       e.failed,
       subst (λ (l : List Entry). GrowsBy (updates_in c.args.session.now) (updates_of s.entries) (updates_of l)) seen e.gains,
+      subst (λ (l : List Entry). IfOk answer (λ out. All (λ p. p < length (updates_of l)) out.send)) seen (subst (λ (us : List (List ℕ)). IfOk answer (λ out. All (λ p. p < length us) out.send)) (sym e.grows.after.updates) e.within),
     )

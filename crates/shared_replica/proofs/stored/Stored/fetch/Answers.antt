@@ -1,4 +1,5 @@
-use Rattle.std.proofs.Common.{rules, ◌≡◌, ◌<◌, ℕ, List, Some, length, slice_get, sym, ap, ◌∙◌, subst}
+use Rattle.std.proofs.Common.{rules, ◌≡◌, ◌<◌, ◌≤◌, ℕ, List, Some, length, slice_get, sym, ap, ◌∙◌, subst}
+use Rattle.update_codec.specs.declared.limits.TheConstants.{UPDATE_LIMIT}
 use Rattle.shared_replica.proofs.Growing.{known, updates_now}
 use Rattle.shared_replica.proofs.stored.Stored.fetch.Goals as goal
 
@@ -16,3 +17,8 @@ returns-clause-bytes g c =
 
 pub returns-clause-list : goal.returns-clause-list
 returns-clause-list g c = known _ _ _ _ _ c.self.invariant _ c.self.view_is
+
+pub returns-clause-short : goal.returns-clause-short
+returns-clause-short g c =
+    let bytes : c.from_vec.result ≡ c.in_ok-copy.copy = search rules in
+    subst (λ (b : List ℕ). length b ≤ UPDATE_LIMIT) (sym bytes) c.into_bytes.ensures.signed.1.spells.short
