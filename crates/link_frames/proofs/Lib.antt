@@ -1,0 +1,4 @@
+pub mod Coming
+pub mod Having
+pub mod Pieces
+pub mod Sentences
