@@ -1,0 +1,357 @@
+//! One end of a session over a link, frame by frame.
+
+ghost use Rattle.std.specs.Prelude.{◌≡◌, ◌≤◌, ◌<◌, ◌++◌, ◌∷◌, [], ℕ, None, Some, true, false, IfOk, IfErr, List, Option, length};
+ghost use Rattle.std.specs.List.Sorted.{IsStrictlySortedBy};
+ghost use Rattle.session_rules.specs.declared.limits.TheConstants.{MAX_NEEDS};
+ghost use Rattle.session_rules.specs.State.{FrameData};
+ghost use Rattle.session_rules.specs.declared.role.Role.{Role as AnyRole};
+ghost use Rattle.sync_session.specs.Kept.{frame_of};
+ghost use Rattle.update_model.specs.Entry.{id_cmp};
+ghost use Rattle.update_model.specs.Rule.{RuleData};
+ghost use Rattle.update_model.specs.declared.update_id.UpdateId.{UpdateId as Id};
+ghost use Rattle.shared_replica.specs.Sessions.{BelongsIn, IsRuledBy, IsUnder};
+ghost use Rattle.session_server.specs.Recalling.{recalled as recalled_by};
+ghost use Rattle.link_frames.specs.Hearing.{Reads};
+ghost use Rattle.session_server.specs.Talks.{Begins, Goes, HeardFront, HeardNext, HeardOne, IsStill, IsTalk, IsTalkWith, ReadsBy, ReadsTo, Start, TookOne, first_node_of, is_cut, over_by};
+ghost use Rattle.session_server.specs.declared.ending.Ending.TheVariants.{Memory as memory};
+
+use crate::Ending;
+use crate::saying::say;
+use bec_disk::Disk;
+use bec_links::Link;
+use link_frames::{Halt, Heard, checked, listen};
+use peer_memory::Peers;
+use session_rules::{End, Role};
+use shared_replica::{Acted, Pass, Shared};
+use std::alloc::{AllocError, Global};
+use std::sync::Wait;
+use sync_frames::{Frame, Frames};
+use sync_session::{CheckedFrame, Out, Session};
+use update_model::{DbRule, IdList, UpdateId};
+
+/// How many bytes are read at once at most.
+const PIECE: usize = 32_768;
+
+/// A session, and the pass with which it takes its turns.
+#[derive(Drop)]
+pub(crate) struct Talk<D: Disk> {
+    /// The pass.
+    pub(crate) pass: Pass<D>,
+    /// The session.
+    pub(crate) session: Session,
+    /// Whether no frame was heard yet.
+    pub(crate) is_fresh: bool,
+}
+
+/// Begins a session with what is remembered of the peer. Where there is no memory, the pass comes back.
+pub(crate) fn begin<R: Wait, D: Disk>(
+    rt: &R,
+    alloc: Global,
+    shared: &Shared<D>,
+    pass: Pass<D>,
+    role: Role,
+    recalled: &[UpdateId],
+) -> Result<(Talk<D>, Out), Pass<D>>
+    requires lock { pass.lock ≡ shared.now.lock }
+    requires few { length recalled.now ≤ MAX_NEEDS }
+    requires rising { IsStrictlySortedBy id_cmp recalled.now }
+    ensures begun { IfOk result (λ r. Begins pass r.0.pass role recalled.now r.0.session r.1 × (r.0.is_fresh ≡ true)) }
+    ensures refused { IfErr result (λ p. IsStill pass p) }
+{
+    let ids = match Vec::from_slice(alloc, recalled) {
+        Ok(ids) => IdList::from_vec(ids),
+        Err(_) => return Err(pass),
+    };
+    let Acted { pass, answer } = shared.session_start(rt, alloc, pass, role, ids);
+    match answer {
+        Ok((session, out)) => {
+            let talk = Talk {
+                pass,
+                session,
+                is_fresh: true,
+            };
+            Ok((talk, out))
+        }
+        Err(_) => Err(pass),
+    }
+}
+
+/// A responder knows its peer by the first Hello: its session begins again then, with what is remembered of that node. Where there is no memory, the
+/// session comes back as it was.
+fn recall<R: Wait, D: Disk>(
+    rt: &R,
+    alloc: Global,
+    shared: &Shared<D>,
+    peers: &Peers,
+    role: Role,
+    talk: Talk<D>,
+    frame: &CheckedFrame,
+) -> Result<Talk<D>, Talk<D>>
+    requires lock { talk.pass.lock ≡ shared.now.lock }
+    requires belongs { BelongsIn talk.pass.seen talk.session }
+    ensures fresh { IfOk result (λ next. next.is_fresh ≡ talk.is_fresh) }
+    ensures ok { IfOk result (λ next. Goes talk.pass next.pass next.session
+        × ((rule : RuleData) (start : Start) (held : Option (List ℕ)) (faults : ℕ) (heard : List FrameData) → IsTalkWith rule role peers.now start talk.pass talk.session talk.is_fresh held faults heard None
+        → (old : List Id) × (old ≡ recalled_by role peers.now start.name (heard ++ frame_of frame.now ∷ [])) × IsTalk rule role start old next.pass next.session next.is_fresh held faults heard None)) }
+    ensures err { IfErr result (λ next. Goes talk.pass next.pass next.session
+        × ((rule : RuleData) (start : Start) (held : Option (List ℕ)) (faults : ℕ) (heard : List FrameData) → IsTalkWith rule role peers.now start talk.pass talk.session talk.is_fresh held faults heard None
+        → IsTalkWith rule role peers.now start next.pass next.session next.is_fresh held faults heard (Some memory))) }
+{
+    let Some(node) = first_node(role, talk.is_fresh, frame) else {
+        return Ok(talk);
+    };
+    let Talk { pass, session, .. } = talk;
+    match begin(rt, alloc, shared, pass, role, peers.heads_of(&node)) {
+        Ok((talk, _)) => Ok(talk),
+        Err(pass) => Err(Talk {
+            pass,
+            session,
+            is_fresh: true,
+        }),
+    }
+}
+
+/// The node of the first Hello, by which a responder knows its peer.
+fn first_node(role: Role, is_fresh: bool, frame: &CheckedFrame) -> Option<[u8; 32]>
+    ensures { result ≡ first_node_of role is_fresh (frame_of frame.now) }
+{
+    match (role, is_fresh, frame) {
+        (Role::Responder, true, CheckedFrame::Hello(hello)) => Some(hello.node),
+        _ => None,
+    }
+}
+
+/// Takes a frame of the peer, and says what is to be said. It answers how the session ended, where it did.
+fn take<R: Wait, K: Link, D: Disk>(
+    rt: &R,
+    alloc: Global,
+    shared: &Shared<D>,
+    link: &mut K,
+    talk: Talk<D>,
+    frame: CheckedFrame,
+) -> (Talk<D>, Option<Ending>)
+    requires lock { talk.pass.lock ≡ shared.now.lock }
+    requires belongs { BelongsIn talk.pass.seen talk.session }
+    requires under { IsUnder talk.pass.seen frame }
+    ensures goes { Goes talk.pass result.0.pass result.0.session }
+    ensures uncut { is_cut result.1 ≡ false }
+    ensures left { K.left link.new ≡ K.left link.old }
+    ensures talk { (rule : RuleData) (role : AnyRole) (start : Start) (old : List Id) (heard : List FrameData) → IsTalk rule role start old talk.pass talk.session talk.is_fresh (K.held link.old) (K.faults link.old) heard None
+        → (all : List FrameData) × TookOne (frame_of frame) heard result.1 all result.0.session talk.is_fresh result.0.is_fresh (K.held link.old) (K.held link.new) (K.faults link.old) (K.faults link.new)
+        × IsTalk rule role start old result.0.pass result.0.session result.0.is_fresh (K.held link.new) (K.faults link.new) all result.1 }
+{
+    let Talk {
+        pass,
+        mut session,
+        is_fresh,
+    } = talk;
+    let Acted { pass, answer } = shared.session_step(rt, alloc, pass, &mut session, frame);
+    match answer {
+        Err(_) => {
+            let talk = Talk {
+                pass,
+                session,
+                is_fresh,
+            };
+            (talk, Some(Ending::Memory))
+        }
+        Ok(out) => {
+            let (pass, told) = say(rt, alloc, shared, pass, link, &out);
+            let talk = Talk {
+                pass,
+                session,
+                is_fresh: false,
+            };
+            (talk, over(told, out.end))
+        }
+    }
+}
+
+/// How a session ended, by whether all was said and by how the session of the rules ended, if it did.
+fn over(told: Result<(), Halt>, end: Option<End>) -> Option<Ending>
+    ensures value { result ≡ over_by told end }
+    ensures uncut { is_cut result ≡ false }
+{
+    match told {
+        Err(Halt::Broken) => Some(Ending::Broken),
+        Err(Halt::Memory) => Some(Ending::Memory),
+        Ok(()) => match end {
+            None => None,
+            Some(End::Done) => Some(Ending::Done),
+            Some(End::Peer(fault)) => Some(Ending::Peer(fault)),
+            Some(End::Full) => Some(Ending::Full),
+            Some(End::Store) => Some(Ending::Store),
+        },
+    }
+}
+
+/// Hears a frame that was checked: the first Hello tells a responder who its peer is.
+fn hear_checked<R: Wait, K: Link, D: Disk>(
+    rt: &R,
+    alloc: Global,
+    shared: &Shared<D>,
+    peers: &Peers,
+    role: Role,
+    link: &mut K,
+    talk: Talk<D>,
+    frame: CheckedFrame,
+) -> (Talk<D>, Option<Ending>)
+    requires lock { talk.pass.lock ≡ shared.now.lock }
+    requires belongs { BelongsIn talk.pass.seen talk.session }
+    requires under { IsUnder talk.pass.seen frame }
+    ensures goes { Goes talk.pass result.0.pass result.0.session }
+    ensures uncut { is_cut result.1 ≡ false }
+    ensures left { K.left link.new ≡ K.left link.old }
+    ensures talk { (rule : RuleData) (start : Start) (heard : List FrameData) → IsTalkWith rule role peers.now start talk.pass talk.session talk.is_fresh (K.held link.old) (K.faults link.old) heard None
+        → (all : List FrameData) × HeardOne (frame_of frame) heard result.1 all × IsTalkWith rule role peers.now start result.0.pass result.0.session result.0.is_fresh (K.held link.new) (K.faults link.new) all result.1 }
+{
+    match recall(rt, alloc, shared, peers, role, talk, &frame) {
+        Ok(talk) => take(rt, alloc, shared, link, talk, frame),
+        Err(talk) => (talk, Some(Ending::Memory)),
+    }
+}
+
+/// Hears a frame: checks it outside the turn, takes it, and says what is to be said.
+fn hear<R: Wait, K: Link, D: Disk>(
+    rt: &R,
+    alloc: Global,
+    shared: &Shared<D>,
+    rule: &DbRule,
+    peers: &Peers,
+    role: Role,
+    link: &mut K,
+    talk: Talk<D>,
+    frame: Frame,
+) -> (Talk<D>, Option<Ending>)
+    requires lock { talk.pass.lock ≡ shared.now.lock }
+    requires belongs { BelongsIn talk.pass.seen talk.session }
+    requires ruled { IsRuledBy talk.pass.seen rule.now }
+    ensures goes { Goes talk.pass result.0.pass result.0.session }
+    ensures uncut { is_cut result.1 ≡ false }
+    ensures left { K.left link.new ≡ K.left link.old }
+    ensures talk { (start : Start) (heard : List FrameData) → IsTalkWith rule.now role peers.now start talk.pass talk.session talk.is_fresh (K.held link.old) (K.faults link.old) heard None
+        → (all : List FrameData) × HeardNext rule.now frame heard result.1 all × IsTalkWith rule.now role peers.now start result.0.pass result.0.session result.0.is_fresh (K.held link.new) (K.faults link.new) all result.1 }
+{
+    match checked(alloc, rule, frame) {
+        Ok(frame) => hear_checked(rt, alloc, shared, peers, role, link, talk, frame),
+        Err(_) => (talk, Some(Ending::Memory)),
+    }
+}
+
+/// Hears frames in order, up to the one at which the session ends.
+fn hear_all<R: Wait, K: Link, D: Disk>(
+    rt: &R,
+    alloc: Global,
+    shared: &Shared<D>,
+    rule: &DbRule,
+    peers: &Peers,
+    role: Role,
+    link: &mut K,
+    talk: Talk<D>,
+    frames: Vec<Frame>,
+) -> (Talk<D>, Option<Ending>)
+    requires lock { talk.pass.lock ≡ shared.now.lock }
+    requires belongs { BelongsIn talk.pass.seen talk.session }
+    requires ruled { IsRuledBy talk.pass.seen rule.now }
+    ensures goes { Goes talk.pass result.0.pass result.0.session }
+    ensures uncut { is_cut result.1 ≡ false }
+    ensures left { K.left link.new ≡ K.left link.old }
+    ensures talk { (start : Start) (heard : List FrameData) → IsTalkWith rule.now role peers.now start talk.pass talk.session talk.is_fresh (K.held link.old) (K.faults link.old) heard None
+        → (all : List FrameData) × HeardFront rule.now frames.items heard result.1 all × IsTalkWith rule.now role peers.now start result.0.pass result.0.session result.0.is_fresh (K.held link.new) (K.faults link.new) all result.1 }
+{
+    let mut talk = talk;
+    let mut frames = frames.into_iter();
+    'frames: while let Some(frame) = frames.next() {
+        let (next, over) = hear(rt, alloc, shared, rule, peers, role, link, talk, frame);
+        talk = next;
+        if over.is_some() {
+            return (talk, over);
+        }
+    }
+    (talk, None)
+}
+
+/// Reads a piece of the link, and hears the frames that are whole then.
+fn go_on<R: Wait, K: Link, D: Disk>(
+    rt: &R,
+    alloc: Global,
+    shared: &Shared<D>,
+    rule: &DbRule,
+    peers: &Peers,
+    role: Role,
+    link: &mut K,
+    talk: Talk<D>,
+    frames: &mut Frames,
+    buffer: &mut [u8],
+) -> (Talk<D>, Option<Ending>)
+    requires lock { talk.pass.lock ≡ shared.now.lock }
+    requires belongs { BelongsIn talk.pass.seen talk.session }
+    requires ruled { IsRuledBy talk.pass.seen rule.now }
+    requires room { 0 < length buffer.old }
+    ensures goes { Goes talk.pass result.0.pass result.0.session }
+    ensures len { length buffer.new ≡ length buffer.old }
+    ensures talk { (start : Start) (before : Option (List ℕ)) (heard : List FrameData) → IsTalkWith rule.now role peers.now start talk.pass talk.session talk.is_fresh (K.held link.old) (K.faults link.old) heard None
+        → Reads rule.now before (K.left link.old) frames.old heard
+        → (all : List FrameData) × IsTalkWith rule.now role peers.now start result.0.pass result.0.session result.0.is_fresh (K.held link.new) (K.faults link.new) all result.1
+        × ReadsBy result.1 rule.now before (K.left link.new) frames.new all }
+{
+    match listen(alloc, link, frames, buffer) {
+        Heard::Frames(all) => hear_all(rt, alloc, shared, rule, peers, role, link, talk, all),
+        Heard::NoFrame(place) => hear_checked(
+            rt,
+            alloc,
+            shared,
+            peers,
+            role,
+            link,
+            talk,
+            CheckedFrame::BadFrame(place),
+        ),
+        Heard::End => (talk, Some(Ending::Cut)),
+        Heard::Broken => (talk, Some(Ending::Broken)),
+        Heard::Memory => (talk, Some(Ending::Memory)),
+    }
+}
+
+/// Goes on with a session until it ends, and answers how.
+pub(crate) fn go_through<R: Wait, K: Link, D: Disk>(
+    rt: &R,
+    alloc: Global,
+    shared: &Shared<D>,
+    rule: &DbRule,
+    peers: &Peers,
+    role: Role,
+    link: &mut K,
+    talk: Talk<D>,
+) -> (Talk<D>, Ending)
+    requires lock { talk.pass.lock ≡ shared.now.lock }
+    requires belongs { BelongsIn talk.pass.seen talk.session }
+    requires ruled { IsRuledBy talk.pass.seen rule.now }
+    ensures lock { result.0.pass.lock ≡ talk.pass.lock }
+    ensures talk { (start : Start) (heard : List FrameData) → IsTalkWith rule.now role peers.now start talk.pass talk.session talk.is_fresh (K.held link.old) (K.faults link.old) heard None → heard ≡ []
+        → (all : List FrameData) × IsTalkWith rule.now role peers.now start result.0.pass result.0.session result.0.is_fresh (K.held link.new) (K.faults link.new) all (Some result.1)
+        × ReadsTo rule.now (K.left link.old) (K.left link.new) all result.1 }
+{
+    let mut frames = Frames::new(alloc);
+    let mut buffer = [0u8; PIECE];
+    let mut talk = talk;
+    for _ in rt.forever() {
+        let (next, over) = go_on(
+            rt,
+            alloc,
+            shared,
+            rule,
+            peers,
+            role,
+            link,
+            talk,
+            &mut frames,
+            &mut buffer,
+        );
+        talk = next;
+        if let Some(ending) = over {
+            return (talk, ending);
+        }
+    }
+    unreachable!()
+}
