@@ -28,9 +28,9 @@ any_step limits s next before after out frame (Some e) is t h = subst (λ (k : S
 any_step limits s next before after out frame None is t h =
     (step_has limits s before next out after is frame (subst (λ (e : Option End). StepsBy e limits s before frame next out after) (sym is) t)).goes_on h
 
-module _ (limits : Limits) (role : Role) (database node : List ℕ) (old : List UpdateId) where
-  pub comes_has : (s : SessionData) (members : List (List ℕ)) (heard said : List FrameData) → Comes limits role database node old s members heard said → Has s (map entry_of members)
-  comes_has s members heard said (opens s' members' heard' said' out is greets none frames) =
+module _ (limits : Limits) (role : Role) (database node : List ℕ) (old : List UpdateId) (known : List (List ℕ)) where
+  pub comes_has : (s : SessionData) (members : List (List ℕ)) (heard said : List FrameData) → Comes limits role database node old known s members heard said → Has s (map entry_of members)
+  comes_has s members heard said (opens s' members' heard' said' out is greets none frames knows) =
       subst (λ (k : SessionData). Has k (map entry_of members)) (sym is) (opened_has role database node old (map entry_of members) (map entry_of members))
   comes_has t after all answers (hears s t' members before after' heard said all' answers' frame out comes begins step grew says) =
       any_step limits s t (map entry_of before) (map entry_of after) out frame s.ended refl step (prefix_has s members before begins (comes_has s members heard said comes))

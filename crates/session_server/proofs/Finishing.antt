@@ -80,7 +80,7 @@ module _ (rule : RuleData) (role : Role) (pass after : Known Entry) (name : Opti
         members = updates_of b.point;
         said = hello_frames (option_map hello_of out.hello);
         course = opens reached (updates_of b.point) [] (hello_frames (option_map hello_of out.hello)) (out_of (map entry_of (updates_of b.point)) out) reached_is b.starts.greets refl
-            (sym (greeting_frames role reached (out_of (map entry_of (updates_of b.point)) out) b.starts.greets));
+            (sym (greeting_frames role reached (out_of (map entry_of (updates_of b.point)) out) b.starts.greets)) (updates_prefix pass.seen b.point b.act.began);
         within = updates_prefix b.point after.seen (entries_by b.act.seat after.acts b.act.added false, sym b.act.ended);
         stands = λ e. (refl, begun_stands rule pass after role old k out b same.1);
         put = more;
@@ -150,7 +150,7 @@ module _ (rule : RuleData) (role : Role) (peers : List Peer) (s : Start) (after 
   all_held : served.ending ≡ Done → list_all (holds (map entry_of (updates_of after.seen))) (heads_in talk.reached.peer) ≡ true
   all_held is =
       let done = ended_done c.ends in
-      let has = comes_has store_limits role rule.database talk.ruled.node t.0 talk.reached talk.members all talk.said talk.course in
+      let has = comes_has store_limits role rule.database talk.ruled.node t.0 (updates_of s.first.seen) talk.reached talk.members all talk.said talk.course in
       held_more (map entry_of talk.members) (map entry_of talk.within.0) (map entry_of (updates_of after.seen)) talk.reached.peer (sym (ap (map entry_of) talk.within.1) ∙ map-append entry_of talk.members talk.within.0)
       (has.done (subst (λ (e : Ending). HasCause e talk.reached s.first after s.faults faults') done talk.cause))
     where
@@ -174,7 +174,7 @@ module _ (rule : RuleData) (role : Role) (peers : List Peer) (s : Start) (after 
     members = talk.members;
     heard = all;
     said = talk.said;
-    course = subst (λ (ids : List UpdateId). Comes store_limits role rule.database talk.ruled.node ids talk.reached talk.members all talk.said) t.1 talk.course;
+    course = subst (λ (ids : List UpdateId). Comes store_limits role rule.database talk.ruled.node ids (updates_of s.first.seen) talk.reached talk.members all talk.said) t.1 talk.course;
     within = talk.within;
     read = r.read;
     later = r.later;

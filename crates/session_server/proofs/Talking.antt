@@ -106,17 +106,13 @@ talk_stops rule role start old pass after k next fresh held faults heard t s or 
 
 -- ---- the beginning
 
-fresh_said : (limits : Limits) (database node : List ℕ) (old : List UpdateId) (s : SessionData) (members : List (List ℕ)) (heard said : List FrameData) → Comes limits Responder database node old s members heard said → heard ≡ [] → said ≡ []
-fresh_said limits database node old s members heard said (opens s' m' h' d' out is greets none frames) empty = frames ∙ ap frames_of greets
-fresh_said limits database node old t after all answers (hears s t' members before after' heard said all' answers' frame out comes begins step grew says) empty = absurd (no_more heard frame (sym grew ∙ empty))
+fresh_said : (limits : Limits) (database node : List ℕ) (old : List UpdateId) (known : List (List ℕ)) (s : SessionData) (members : List (List ℕ)) (heard said : List FrameData) → Comes limits Responder database node old known s members heard said → heard ≡ [] → said ≡ []
+fresh_said limits database node old known s members heard said (opens s' m' h' d' out is greets none frames knows) empty = frames ∙ ap frames_of greets
+fresh_said limits database node old known t after all answers (hears s t' members before after' heard said all' answers' frame out comes begins step grew says) empty = absurd (no_more heard frame (sym grew ∙ empty))
   where
     no_more : (xs : List FrameData) (x : FrameData) → xs ++ x ∷ [] ≡ [] → ⊥
     no_more [] x is = cc
     no_more (y ∷ ys) x is = cc
-
-not_ended : (role : Role) (database node : List ℕ) (old : List UpdateId) (list : List GraphEntry) → (opened role database node old list).ended ≡ None
-not_ended Initiator database node old list = refl
-not_ended Responder database node old list = refl
 
 -- a session that began belongs to what its pass has seen
 pub begins_goes : (pass after : Known Entry) (role : Role) (old : List UpdateId) (k : Kept) (out : Out) → Begins pass after role old k out → Goes pass after k
@@ -134,7 +130,7 @@ talk_again rule start old again pass after k next fresh held faults heard out t 
     let still = act_still pass after b.point b.store b.store false b.act in
     let before = prefix_then start.first.seen pass.seen b.point t.seen_more b.act.began in
     let same = same_replica start.first.seen b.point rule b.store t.ruled before b.act.stood in
-    let none = fresh_said store_limits rule.database t.ruled.node old t.reached t.members heard t.said t.course empty in
+    let none = fresh_said store_limits rule.database t.ruled.node old (updates_of start.first.seen) t.reached t.members heard t.said t.course empty in
     let is : seen (updates_of b.point) next ≡ opened Responder rule.database t.ruled.node again (map entry_of (updates_of b.point)) =
     b.starts.state ∙ ap (λ (d : List ℕ). opened Responder d b.store.node again (map entry_of (updates_of b.point))) (ap (λ (r : RuleData). r.database) same.1)
     ∙ ap (λ (n : List ℕ). opened Responder rule.database n again (map entry_of (updates_of b.point))) same.0 in
@@ -146,7 +142,7 @@ talk_again rule start old again pass after k next fresh held faults heard out t 
       reached = seen (updates_of b.point) next;
       members = updates_of b.point;
       said = [];
-      course = opens (seen (updates_of b.point) next) (updates_of b.point) heard [] silent is refl empty refl;
+      course = opens (seen (updates_of b.point) next) (updates_of b.point) heard [] silent is refl empty refl (updates_prefix start.first.seen b.point before);
       within = updates_prefix b.point after.seen (entries_by b.act.seat after.acts b.act.added false, sym b.act.ended);
       stands = λ e. (refl, begun_stands rule pass after Responder again next out b same.1);
       put = t.put;
@@ -492,14 +488,14 @@ none_ends : (limits : Limits) (s next : SessionData) (before after : List GraphE
 none_ends limits s next before after place out None is t none = cc (sym none ∙ ap (λ (x : SessionData). x.ended) t.0)
 none_ends limits s next before after place out (Some e) is t none = cc (sym none ∙ ap (λ (x : SessionData). x.ended) t.0 ∙ is)
 
-no_frame_ends : (limits : Limits) (role : Role) (database node : List ℕ) (old : List UpdateId) (s : SessionData) (members : List (List ℕ)) (heard all said : List FrameData) (place : ℕ)
-    → Comes limits role database node old s members all said → all ≡ heard ++ NoFrame place ∷ [] → s.ended ≡ None → ⊥
-no_frame_ends limits role database node old s members heard all said place (opens s' m' h' d' out is greets none frames) are running = absurd (no_more heard (NoFrame place) (sym are ∙ none))
+no_frame_ends : (limits : Limits) (role : Role) (database node : List ℕ) (old : List UpdateId) (known : List (List ℕ)) (s : SessionData) (members : List (List ℕ)) (heard all said : List FrameData) (place : ℕ)
+    → Comes limits role database node old known s members all said → all ≡ heard ++ NoFrame place ∷ [] → s.ended ≡ None → ⊥
+no_frame_ends limits role database node old known s members heard all said place (opens s' m' h' d' out is greets none frames knows) are running = absurd (no_more heard (NoFrame place) (sym are ∙ none))
   where
     no_more : (xs : List FrameData) (x : FrameData) → xs ++ x ∷ [] ≡ [] → ⊥
     no_more [] x is = cc
     no_more (y ∷ ys) x is = cc
-no_frame_ends limits role database node old t after heard all answers place (hears s t' members before after' was said all' answers' frame out comes begins step grew says) are running =
+no_frame_ends limits role database node old known t after heard all answers place (hears s t' members before after' was said all' answers' frame out comes begins step grew says) are running =
     let same : frame ≡ NoFrame place = last_frame was heard frame (NoFrame place) (sym grew ∙ are) in
     none_ends limits s t (map entry_of before) (map entry_of after) place out s.ended refl (subst (λ (f : FrameData). Steps limits s (map entry_of before) f t out (map entry_of after)) same step) running
 
@@ -565,7 +561,7 @@ pub reads_none : (rule : RuleData) (role : Role) (peers : List Peer) (start : St
     (heard all : List FrameData) (place : ℕ) (ending : Option Ending) → Reads rule before left fed heard → IsBroken fed.rest → place ≡ fed.place → after ≡ left → is_cut ending ≡ false → HeardOne (NoFrame place) heard ending all
     → IsTalkWith rule role peers start pass k fresh held faults all ending → ReadsBy ending rule before after new all
 reads_none rule role peers start pass k fresh held faults before left after fed new heard all place None r broken is same uncut (inl are) t =
-    absurd (no_frame_ends store_limits role rule.database t.2.ruled.node t.0 t.2.reached t.2.members heard all t.2.said place t.2.course are t.2.cause)
+    absurd (no_frame_ends store_limits role rule.database t.2.ruled.node t.0 (updates_of start.first.seen) t.2.reached t.2.members heard all t.2.said place t.2.course are t.2.cause)
 reads_none rule role peers start pass k fresh held faults before left after fed new heard all place None r broken is same uncut (inr none) t = absurd (cc (none.0))
 reads_none rule role peers start pass k fresh held faults before left after fed new heard all place (Some ending) r broken is same uncut (inl are) t = record {
   read = r.front ++ fed.rest;

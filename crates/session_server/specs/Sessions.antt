@@ -87,7 +87,8 @@ pub record Counts (s : SessionData) (served : Served) : Type 0 where
   pub peer : served.peer ≡ option_map node_of s.peer
 
 -- A session ran over a link, as the end of this role, from a pass to a pass that has seen more: it came to a state by the rules of sessions. The frames that it
--- heard are those that were read of the link, the lists over which it went are growing fronts of the updates that the pass has seen, and what it said was put on the link.
+-- heard are those that were read of the link. The lists over which it went are growing fronts of the updates that the pass has seen, and begin with those that it had seen before.
+-- What it said was put on the link.
 pub record Runs (rule : RuleData) (role : Role) (peers : List Peer) (name : Option (List ℕ)) (before after : Known Entry) (left left' held held' : Option (List ℕ)) (faults faults' : ℕ) (served : Served) : Type 0 where
   pub same_lock : after.lock ≡ before.lock
   pub seen : IsPrefix before.seen after.seen
@@ -96,7 +97,7 @@ pub record Runs (rule : RuleData) (role : Role) (peers : List Peer) (name : Opti
   pub members : List (List ℕ)
   pub heard : List FrameData
   pub said : List FrameData
-  pub course : Comes store_limits role rule.database ruled.node (recalled role peers name heard) reached members heard said
+  pub course : Comes store_limits role rule.database ruled.node (recalled role peers name heard) (updates_of before.seen) reached members heard said
   pub within : IsPrefix members (updates_of after.seen)
   pub read : List ℕ
   pub later : List ℕ
