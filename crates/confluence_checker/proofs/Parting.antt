@@ -131,7 +131,7 @@ besides_same xs ys (z ∷ zs) within =
     let rest = besides_same xs ys zs (λ id h. within id (or_right (same_id id z.id) _ h)) in
     let held : holds ys z.id ≡ true = within z.id (or_left _ _ (equal_ids z.id z.id refl)) in
     let in_union : holds (union (shared xs ys) xs) z.id ≡ holds xs z.id =
-        held-found (union (shared xs ys) xs) z.id ∙ ap is_some (same_as (shared xs ys) xs (shared_in_first xs ys) z.id) ∙ sym (held-found xs z.id) in
+    held-found (union (shared xs ys) xs) z.id ∙ ap is_some (same_as (shared xs ys) xs (shared_in_first xs ys) z.id) ∙ sym (held-found xs z.id) in
     let in_base : holds (shared xs ys) z.id ≡ holds xs z.id = shared_held xs ys z.id ∙ rw held refl in
     rw (in_union, in_base, rest) refl
 
@@ -168,13 +168,13 @@ parted_confirms law rules earlier claim xs ys c d agree on_left on_right on_both
     let closed_both : IsClosed (right ++ (left ++ base)) = subst IsClosed (sym together) (union_closed (left ++ base) ys closed_left d) in
     let same_both : IsSameSet (right ++ (left ++ base)) (union xs ys) = subst (λ (l : List NodeData). IsSameSet l (union xs ys)) (sym together) (same_union xs (left ++ base) ys same_left) in
     let broken : breaks rules earlier claim base left right ≡ true =
-        and_from _ _
-        (and_from _ _
-        (and_from _ _
-        (and_from _ _ (and_from _ _ (test_from_closed (left ++ base) closed_left) (test_from_closed (right ++ base) closed_right)) (test_from_closed (right ++ (left ++ base)) closed_both))
-        (same_satisfied law rules (left ++ base) xs closed_left c same_left (earlier ++ claim ∷ []) ∙ on_left))
-        (same_satisfied law rules (right ++ base) ys closed_right d same_right (earlier ++ claim ∷ []) ∙ on_right))
-        (not_from_false _ (law rules (right ++ (left ++ base)) (union xs ys) claim closed_both (union_closed xs ys c d) same_both ∙ on_both)) in
+    and_from _ _
+    (and_from _ _
+    (and_from _ _
+    (and_from _ _ (and_from _ _ (test_from_closed (left ++ base) closed_left) (test_from_closed (right ++ base) closed_right)) (test_from_closed (right ++ (left ++ base)) closed_both))
+    (same_satisfied law rules (left ++ base) xs closed_left c same_left (earlier ++ claim ∷ []) ∙ on_left))
+    (same_satisfied law rules (right ++ base) ys closed_right d same_right (earlier ++ claim ∷ []) ∙ on_right))
+    (not_from_false _ (law rules (right ++ (left ++ base)) (union xs ys) claim closed_both (union_closed xs ys c d) same_both ∙ on_both)) in
     subst (λ (l : List NodeData). breaks rules earlier claim l (reverse (reverse left)) (reverse (reverse right)) ≡ true) (sym (reverse-reverse base))
     (subst (λ (l : List NodeData). breaks rules earlier claim base l (reverse (reverse right)) ≡ true) (sym (reverse-reverse left))
     (subst (λ (l : List NodeData). breaks rules earlier claim base left l ≡ true) (sym (reverse-reverse right)) broken))

@@ -146,7 +146,7 @@ author_again rule key sizes =
     let digits = encode_lower (key_bytes key) in
     let bare : IsBare Spaced digits = stands_bare rule digits (digits_there key) (lower_stand digits (digits_lower (key_bytes key) block.each)) in
     let read : author_in digits ≡ Some (form.Author key) =
-        ap (option_map (λ xs. form.Author (key_in xs))) (block_read 56 (key_bytes key) block) ∙ ap (λ (k : AuthorKey). Some (form.Author k)) (key_read key sizes) in
+    ap (option_map (λ xs. form.Author (key_in xs))) (block_read 56 (key_bytes key) block) ∙ ap (λ (k : AuthorKey). Some (form.Author k)) (key_read key sizes) in
     line_read rule keyword.Author (digits ∷ []) (word.Plain digits ∷ []) (form.Author key) (bare, tt) read
 
 -- ---- bytes up to a mark
