@@ -62,10 +62,7 @@ const ASKED_OVER_A_NET: [(&str, &str); 6] = [
         "sync|a|localhost:7000",
         "Sync { directory: \"a\", address: \"localhost:7000\" }",
     ),
-    (
-        "sync|--|-a|",
-        "Sync { directory: \"-a\", address: \"\" }",
-    ),
+    ("sync|--|-a|", "Sync { directory: \"-a\", address: \"\" }"),
     (
         "serve|a|b|--sessions|1",
         "Serve { directory: \"a\", address: \"b\", sessions: 1 }",
@@ -192,7 +189,10 @@ fn words_that_ask_for_nothing_over_a_net(rt: HostRuntime) -> Result<(), Fail> {
     let alloc = rt.alloc();
     for line in REFUSED_OVER_A_NET {
         let words = words_of(alloc, line)?;
-        assert!(rt; net_request_in(alloc, words.as_slice())?.is_none(), "{line}");
+        assert!(rt;
+            net_request_in(alloc, words.as_slice())?.is_none(),
+            "{line}"
+        );
     }
     assert!(rt; net_request_in(alloc, &[])?.is_none());
     Ok(())
