@@ -40,6 +40,15 @@ invariant_of-self-then-count-gt0 g c =
     let more : c.push_reserved-then-count-gt0.new.self.items ≡ inside.runs.items ++ r ∷ [] = search rules in
     added_stored _ _ _ _ inside.replica _ c.self.invariant e.keeps.store.node e.keeps.store.schema e.later (same_after _ _ e.keeps c.self.invariant.on_disk) c.len.ensures.on_disk _ r e.keeps.added more count e.keeps.members refl
 
+pub invariant_of-self-else-count-gt0 : goal.invariant_of-self-else-count-gt0
+invariant_of-self-else-count-gt0 g c =
+    let inside = c.self.inside in let e = c.step-answer.ensures in
+    let count = count_added inside.replica.history.members e.keeps.added c.step-answer.new.holder.history.members _ _ e.keeps.members c.len-before.ensures.value c.len.ensures.value in
+    let same_runs : c.reserve.new.self.items ≡ inside.runs.items = search rules in
+    let none : 0 ≡ length e.keeps.added = omega (arith, count, c.if-count-gt0.false) in
+    let same = none_added inside.replica.history.members e.keeps.added c.step-answer.new.holder.history.members e.keeps.members none in
+    nothing_stored _ _ _ _ inside.replica _ c.self.invariant e.keeps.store.node e.keeps.store.schema e.later (same_after _ _ e.keeps c.self.invariant.on_disk) c.len.ensures.on_disk _ same_runs same
+
 pub returns-then-ended_by_store-clause-grows : goal.returns-then-ended_by_store-clause-grows
 returns-then-ended_by_store-clause-grows g c =
     let inside = c.self.inside in let e = c.step-answer.ensures in
