@@ -1,5 +1,5 @@
 -- What a run of the program does, with what it does over a net.
-use Rattle.std.specs.Prelude.{◌≡◌, ◌≢◌, ℕ, List, [], map, Result, Ok, Err, String, Option}
+use Rattle.std.specs.Prelude.{◌≡◌, ℕ, ◌<◌, List, [], map, Result, Ok, Err, String, Option}
 use Rattle.std.specs.declared.alloc.Global.{Global}
 use Rattle.std.specs.Io.KnownBytes.{Appends}
 use Rattle.std.specs.String.{string_bytes}
@@ -34,6 +34,11 @@ pub record ComesOver {S H R : Type 0} (Does : Told → Type 0) (before after : O
   pub source : after.source ≡ before.source
   pub random : after.random ≡ before.random
   pub said : EndsTold sink.faults sink_new.faults sink.held sink_new.held told status
+
+-- Where a request asks for sessions, it asks for one at least.
+abbrev pub AsksForSome : NetText → Type 0
+AsksForSome (sync dir address) = Unit {0}
+AsksForSome (serve dir address sessions) = 0 < sessions
 
 -- What a request of a net does, by what is told.
 abbrev pub DoesOver : NetText → (store store_new : ShelfState) (net net_new : NetState) (faults faults_new net_faults net_faults_new : ℕ) → Told → Type 0

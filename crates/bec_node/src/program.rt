@@ -2,7 +2,7 @@ ghost use Rattle.std.specs.Prelude.{IsTrue};
 ghost use Rattle.command_words.specs.Seen.{net_seen};
 ghost use Rattle.node_commands.specs.Outside.{outside};
 ghost use Rattle.store_directory.specs.Stores.{IsHome};
-ghost use Rattle.bec_node.specs.Run.{DoesOver, RunsOver};
+ghost use Rattle.bec_node.specs.Run.{AsksForSome, DoesOver, RunsOver};
 
 use crate::commands::serve::serve_in;
 use crate::commands::sync::sync_in;
@@ -62,7 +62,8 @@ fn meet_others<T: Threads + Wait + Sync, H: Shelf, N: Net>(
 ) -> Result<Reply, Refusal>
 where
     H::D: Send,
-    requires { IsTrue (H.state shelf.old).tells → IsHome (H.state shelf.old) }
+    requires home { IsTrue (H.state shelf.old).tells → IsHome (H.state shelf.old) }
+    requires some { AsksForSome (net_seen request.now) }
     ensures { DoesOver (net_seen request.now) (H.state shelf.old) (H.state shelf.new) (N.state net.old) (N.state net.new) (H.faults shelf.old) (H.faults shelf.new) (N.faults net.old) (N.faults net.new) result }
 {
     match request {

@@ -1,6 +1,6 @@
 //! The command `serve DIR ADDR --sessions N`: a session with each of the nodes that dial.
 
-ghost use Rattle.std.specs.Prelude.{◌≡◌, ◌≢◌, IsTrue, OnOk};
+ghost use Rattle.std.specs.Prelude.{◌≡◌, ◌≢◌, ◌<◌, IsTrue, OnOk};
 ghost use Rattle.bec_disk.specs.declared.part.Part.TheVariants.{Peers as PeersPart};
 ghost use Rattle.bec_disk.specs.Shelf.{out};
 ghost use Rattle.store_directory.specs.Stores.{IsHome, part_in};
@@ -13,7 +13,7 @@ use crate::words::{has_status, serve_status, serve_text};
 use bec_disk::{Disk, Shelf};
 use bec_links::Net;
 use node_commands::status::{DONE, OUT_OF_MEMORY};
-use node_commands::{Refusal, peers_of};
+use node_commands::{Refusal, each_stands, peers_of};
 use peer_memory::Peers;
 use replica::Replica;
 use row_check::{Luhn, Native};
@@ -39,6 +39,7 @@ pub(crate) fn serve_in<T: Threads + Wait + Sync, H: Shelf, N: Net>(
 where
     H::D: Send,
     requires home { IsTrue (H.state shelf.old).tells → IsHome (H.state shelf.old) }
+    requires some { 0 < asked }
     ensures { ServesStore directory.now asked (H.state shelf.old) (H.state shelf.new) (N.state net.old) (N.state net.new) (H.faults shelf.old) (H.faults shelf.new) (N.faults net.old) (N.faults net.new) result }
 {
     one_schema();
@@ -64,8 +65,10 @@ fn serve_open<T: Threads + Wait + Sync, H: Shelf, N: Net>(
 where
     H::D: Send,
     requires peers_in { IsTrue (H.state shelf.old).tells → part_in (H.state shelf.old) directory.now PeersPart ≢ out }
+    requires some { 0 < asked }
     ensures { ServesOpen directory.now asked (H.state shelf.old) (H.state shelf.new) (N.state net.old) (N.state net.new) (H.faults shelf.old) (H.faults shelf.new) (N.faults net.old) (N.faults net.new) replica result.0 result.1 }
 {
+    each_stands(&replica);
     let peers = match peers_of(alloc, shelf, directory) {
         Ok(peers) => peers,
         Err(refusal) => return (replica, Err(refusal)),
@@ -79,12 +82,16 @@ where
         Ok(met) => conclude_all(alloc, shelf, directory, &mut replica, peers, &met),
         Err(_) => Err(Refusal::Memory),
     };
+    each_stands(&replica);
     (replica, told)
 }
 
 /// The sessions that were held, and whether the net failed before all of them were.
+#[derive(Drop)]
 struct Met {
+    /// The sessions, in the order of acceptance.
     sessions: ServedList,
+    /// Whether the net failed.
     net_failed: bool,
 }
 
@@ -99,7 +106,8 @@ fn serve_peers<T: Threads + Wait + Sync, N: Net, D: Disk + Send>(
     asked: u32,
     replica: Replica<D, Luhn, Luhn>,
 ) -> (Replica<D, Luhn, Luhn>, Result<Met, AllocError>)
-    requires { rule.now ≡ replica.history.schema.rule }
+    requires rule { rule.now ≡ replica.history.schema.rule }
+    requires some { 0 < asked }
     ensures { ServesPeersOpen peers.now asked (N.state net.old) (N.state net.new) (N.faults net.old) (N.faults net.new) replica result.0 result.1 }
 {
     let (shared, pass) = match Shared::new(alloc, replica) {

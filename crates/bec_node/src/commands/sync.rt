@@ -12,7 +12,7 @@ use crate::settling::settle;
 use crate::words::{status_by, sync_text};
 use bec_disk::{Disk, Shelf};
 use bec_links::Net;
-use node_commands::{Refusal, keep_peers, peers_of};
+use node_commands::{Refusal, each_stands, keep_peers, peers_of};
 use peer_memory::Peers;
 use replica::Replica;
 use row_check::{Luhn, Native};
@@ -58,6 +58,7 @@ fn sync_open<T: Wait, H: Shelf, N: Net>(
     requires peers_in { IsTrue (H.state shelf.old).tells → part_in (H.state shelf.old) directory.now PeersPart ≢ out }
     ensures { SyncsOpen directory.now address.now (H.state shelf.old) (H.state shelf.new) (N.state net.old) (N.state net.new) (H.faults shelf.old) (H.faults shelf.new) (N.faults net.old) (N.faults net.new) replica result.0 result.1 }
 {
+    each_stands(&replica);
     let peers = match peers_of(alloc, shelf, directory) {
         Ok(peers) => peers,
         Err(refusal) => return (replica, Err(refusal)),
@@ -72,6 +73,7 @@ fn sync_open<T: Wait, H: Shelf, N: Net>(
         Ok(served) => conclude(alloc, shelf, directory, &mut replica, peers, name, &served),
         Err(refusal) => Err(refusal),
     };
+    each_stands(&replica);
     (replica, told)
 }
 
