@@ -1,1 +1,5 @@
+pub mod Meetings
+pub mod Open
+pub mod OpenServing
 pub mod Run
+pub mod Words

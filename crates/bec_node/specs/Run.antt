@@ -1,9 +1,48 @@
--- What a run of the program does.
-use Rattle.std.specs.Prelude.{List, String, map}
+-- What a run of the program does, with what it does over a net.
+use Rattle.std.specs.Prelude.{◌≡◌, ◌≢◌, ℕ, List, [], map, Result, Ok, Err, String, Option}
 use Rattle.std.specs.declared.alloc.Global.{Global}
+use Rattle.std.specs.Io.KnownBytes.{Appends}
 use Rattle.std.specs.String.{string_bytes}
-use Rattle.command_words.specs.NetRequests.{AsksNet, NetText}
+use Rattle.bec_disk.specs.Shelf.{ShelfState}
+use Rattle.bec_links.specs.Nets.{NetState}
+use Rattle.command_words.specs.NetRequests.{AsksNet, NetText, sync, serve}
+use Rattle.node_commands.specs.declared.status.TheConstants.{OUT_OF_MEMORY}
+use Rattle.node_commands.specs.Outcome.{Ends, Puts}
+use Rattle.node_commands.specs.Outside.{IsUntouched, Outside, SinkState}
+use Rattle.node_commands.specs.Run.{Runs}
+use Rattle.bec_node.specs.Meetings.{ServesStore, SyncsStore, Told}
 
--- the words ask for nothing over a net
-abbrev pub NeedsNoNet : List (String Global) → Type 0
-NeedsNoNet words = (request : NetText) → AsksNet (map string_bytes words) request → ⊥
+-- the words ask for this of a net
+abbrev pub IsNetCommand : NetText → List (String Global) → Type 0
+IsNetCommand request words = AsksNet (map string_bytes words) request
+
+-- What is told is written whole, with its status, or a front of it where the sink failed; a refusal may lack memory for its lines.
+abbrev pub EndsTold : ℕ → ℕ → Option (List ℕ) → Option (List ℕ) → Told → ℕ → Type 0
+EndsTold old new held held_new (Ok reply) status = Puts old new held held_new reply.status reply.text.items status
+EndsTold old new held held_new (Err refusal) status = Ends old new held held_new (Err refusal) status
+
+-- A net: the net itself, what it tells, and its count of faults.
+pub record NetSeen (N : Type 0) : Type 0 where
+  pub net : N
+  pub state : NetState
+  pub faults : ℕ
+
+-- What a request of a net comes to. It uses neither the source nor the generator.
+pub record ComesOver {S H R : Type 0} (Does : Told → Type 0) (before after : Outside S H R) (sink sink_new : SinkState) (status : ℕ) : Type 0 where
+  pub told : Told
+  pub does : Does told
+  pub source : after.source ≡ before.source
+  pub random : after.random ≡ before.random
+  pub said : EndsTold sink.faults sink_new.faults sink.held sink_new.held told status
+
+-- What a request of a net does, by what is told.
+abbrev pub DoesOver : NetText → (store store_new : ShelfState) (net net_new : NetState) (faults faults_new net_faults net_faults_new : ℕ) → Told → Type 0
+DoesOver (sync dir address) store store_new net net_new faults faults_new net_faults net_faults_new told = SyncsStore dir address store store_new net net_new faults faults_new net_faults net_faults_new told
+DoesOver (serve dir address sessions) store store_new net net_new faults faults_new net_faults net_faults_new told = ServesStore dir sessions store store_new net net_new faults faults_new net_faults net_faults_new told
+
+-- A run of the program. Words that ask for no net do what they do without one, and leave it as it was; words that ask for one come to what that comes to;
+-- and without memory for reading the words nothing is done.
+pub data RunsOver {S H R N : Type 0} (words : List (String Global)) (before after : Outside S H R) (net net_new : NetSeen N) (sink sink_new : SinkState) (status : ℕ) : Type 0 where
+  alone : ((request : NetText) → IsNetCommand request words → ⊥) → Runs words before after sink sink_new status → net_new ≡ net → RunsOver words before after net net_new sink sink_new status
+  over_net : (request : NetText) → IsNetCommand request words → ComesOver (DoesOver request before.store after.store net.state net_new.state before.shelf_faults after.shelf_faults net.faults net_new.faults) before after sink sink_new status → RunsOver words before after net net_new sink sink_new status
+  unread : IsUntouched before after → net_new ≡ net → status ≡ OUT_OF_MEMORY → Appends sink.held sink_new.held [] → RunsOver words before after net net_new sink sink_new status

@@ -12,11 +12,15 @@
 //! Only these two wait for others, use the net and start threads.
 #![tactic(auto)]
 
-mod meeting;
+mod commands;
 mod program;
+mod reply;
+mod settling;
+mod words;
 
 pub use node_commands::{
     Refusal, command_apply, command_check, command_dump, command_export, command_heads,
     command_init, command_join, command_keygen, command_merge, command_query, heads_of, status,
 };
 pub use program::run;
+pub use reply::Reply;

@@ -1,27 +1,31 @@
-ghost use Rattle.std.specs.Prelude.{◌≡◌, IsTrue};
-ghost use Rattle.bec_node.specs.Run.{NeedsNoNet};
+ghost use Rattle.std.specs.Prelude.{IsTrue};
+ghost use Rattle.command_words.specs.Seen.{net_seen};
 ghost use Rattle.node_commands.specs.Outside.{outside};
-ghost use Rattle.node_commands.specs.Run.{Runs};
 ghost use Rattle.store_directory.specs.Stores.{IsHome};
+ghost use Rattle.bec_node.specs.Run.{DoesOver, RunsOver};
 
-use crate::meeting::meet_others;
+use crate::commands::serve::serve_in;
+use crate::commands::sync::sync_in;
+use crate::reply::{Reply, end};
 use bec_bytes::{Sink, Source};
 use bec_disk::Shelf;
 use bec_links::Net;
-use command_words::net_request_in;
-use node_commands::run_alone;
+use command_words::{NetRequest, net_request_in};
 use node_commands::status::OUT_OF_MEMORY;
+use node_commands::{Refusal, run_alone};
 use rand_core::Rng;
 use std::alloc::Global;
 use std::sync::Wait;
 use std::thread::Threads;
 
-/// Does what the words of a command line ask for, over a shelf of directories, a net, a generator of random words, a source and
-/// a sink, and answers the exit status. No part of the shelf may be handed out.
+/// Does what the words of a command line ask for, over a shelf of directories, a net of links, a generator of random words, a source and a
+/// sink, and answers the exit status. No part of the shelf may be handed out, and none is afterwards; nor is a link of the net.
 ///
-/// Words that ask for nothing over a net do what `node_commands::run_alone` says of them, and leave the net as it was.
+/// Words that ask for no net come to what [`run_alone`] says, and leave the net as it was. `sync` meets the node at an address, and `serve` meets those
+/// that dial; what they come to is told of the net's next links, of what the parts of the directory read as, and of the sessions that were held. Where the
+/// shelf or the net failed or memory ran out, that comes in its place. `sync` and `serve` wait for other nodes, and no other command waits.
 pub fn run<T: Threads + Wait + Sync, H: Shelf, N: Net, R: Rng, S: Source, K: Sink>(
-    _rt: &T,
+    rt: &T,
     alloc: Global,
     words: &[String],
     shelf: &mut H,
@@ -32,17 +36,43 @@ pub fn run<T: Threads + Wait + Sync, H: Shelf, N: Net, R: Rng, S: Source, K: Sin
 ) -> u8
 where
     H::D: Send,
-    requires home { IsTrue (H.state shelf.old).tells → IsHome (H.state shelf.old) }
-    ensures alone { NeedsNoNet words.now → Runs words.now
+    requires { IsTrue (H.state shelf.old).tells → IsHome (H.state shelf.old) }
+    ensures { RunsOver words.now
         (outside S.left S.faults H.state H.faults R.stream input.old shelf.old random.old) (outside S.left S.faults H.state H.faults R.stream input.new shelf.new random.new)
+        (record { net = net.old; state = N.state net.old; faults = N.faults net.old }) (record { net = net.new; state = N.state net.new; faults = N.faults net.new })
         (record { held = K.held out.old; faults = K.faults out.old }) (record { held = K.held out.new; faults = K.faults out.new }) result }
-    ensures net { NeedsNoNet words.now → net.new ≡ net.old }
 {
     let Ok(asked) = net_request_in(alloc, words) else {
         return OUT_OF_MEMORY;
     };
-    match asked {
-        None => run_alone(alloc, words, shelf, random, input, out),
-        Some(request) => meet_others(alloc, &request, out),
+    let Some(request) = asked else {
+        return run_alone(alloc, words, shelf, random, input, out);
+    };
+    let told = meet_others(rt, alloc, &request, shelf, net);
+    end(alloc, out, told)
+}
+
+/// What a request of a net comes to.
+fn meet_others<T: Threads + Wait + Sync, H: Shelf, N: Net>(
+    rt: &T,
+    alloc: Global,
+    request: &NetRequest,
+    shelf: &mut H,
+    net: &mut N,
+) -> Result<Reply, Refusal>
+where
+    H::D: Send,
+    requires { IsTrue (H.state shelf.old).tells → IsHome (H.state shelf.old) }
+    ensures { DoesOver (net_seen request.now) (H.state shelf.old) (H.state shelf.new) (N.state net.old) (N.state net.new) (H.faults shelf.old) (H.faults shelf.new) (N.faults net.old) (N.faults net.new) result }
+{
+    match request {
+        NetRequest::Sync { directory, address } => {
+            sync_in(rt, alloc, shelf, net, directory, address)
+        }
+        NetRequest::Serve {
+            directory,
+            address,
+            sessions,
+        } => serve_in(rt, alloc, shelf, net, directory, address, *sessions),
     }
 }

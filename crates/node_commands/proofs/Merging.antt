@@ -44,10 +44,10 @@ three false false true e = absurd (true≢false e)
 three false false false e = (refl, refl)
 
 -- a place that is none of three parts is none of a store's, nor that of the peers
-of_store : (dir : List ℕ) (other : Slot) → list_any (λ part. same_slot (slot dir part) other) touched ≡ false → list_any (λ part. same_slot (slot dir part) other) (Schema ∷ Updates ∷ []) ≡ false
+pub of_store : (dir : List ℕ) (other : Slot) → list_any (λ part. same_slot (slot dir part) other) touched ≡ false → list_any (λ part. same_slot (slot dir part) other) (Schema ∷ Updates ∷ []) ≡ false
 of_store dir other away = (three (same_slot (slot dir Schema) other) (same_slot (slot dir Updates) other) (same_slot (slot dir Peers) other) away).0
 
-of_peers : (dir : List ℕ) (other : Slot) → list_any (λ part. same_slot (slot dir part) other) touched ≡ false → list_any (λ part. same_slot (slot dir part) other) (Peers ∷ []) ≡ false
+pub of_peers : (dir : List ℕ) (other : Slot) → list_any (λ part. same_slot (slot dir part) other) touched ≡ false → list_any (λ part. same_slot (slot dir part) other) (Peers ∷ []) ≡ false
 of_peers dir other away = (three (same_slot (slot dir Schema) other) (same_slot (slot dir Updates) other) (same_slot (slot dir Peers) other) away).1
 
 neither_of : (x y : Bool) → x ≡ false → y ≡ false → x || y ≡ false

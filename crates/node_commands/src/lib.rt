@@ -55,7 +55,7 @@ pub use commands::merge::command_merge;
 pub use commands::query_store::command_query;
 pub use heads::heads_of;
 pub use laws::{one_answer, one_answer_of_makers, one_answer_of_merge, one_answer_of_parts};
-pub use lines::refuse;
+pub use lines::{peer_line, refuse};
 pub use program::run_alone;
 pub use refusal::Refusal;
 pub use remembering::{keep_peers, peers_of};

@@ -67,7 +67,7 @@ fn plain_line(refusal: &Refusal) -> Option<&'static [u8]>
 }
 
 /// The line for a peer that shows this fault.
-fn peer_line(fault: &PeerFault) -> &'static [u8]
+pub fn peer_line(fault: &PeerFault) -> &'static [u8]
     ensures { result.now ≡ peer_text fault.now }
 {
     match fault {

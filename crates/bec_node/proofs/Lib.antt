@@ -1,0 +1,4 @@
+pub mod Open
+pub mod OpenServing
+pub mod Serving
+pub mod Sharing

@@ -1,0 +1,4 @@
+//! The commands that meet other nodes.
+
+pub(crate) mod serve;
+pub(crate) mod sync;
