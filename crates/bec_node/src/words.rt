@@ -1,10 +1,12 @@
 //! The words for how sessions ended, and the exit statuses.
 
-ghost use Rattle.std.specs.Prelude.{◌≡◌, ◌≢◌, IfOk, map};
+ghost use Rattle.std.specs.Prelude.{◌≡◌, IfOk, drop};
+ghost use Rattle.node_commands.specs.Texts.{peer_text};
 ghost use Rattle.bec_node.specs.Words.{has_status, lines_from, said_last, serve_status, serve_text, session_line, status_by, sync_text, text_by, words_by};
 
 use node_commands::peer_line;
 use node_commands::status::{DONE, FULL, OUT_OF_MEMORY, PEER, STORE_FAULT, STREAM_FAULT};
+use session_rules::PeerFault;
 use session_server::{Ending, Served};
 use std::alloc::{AllocError, Global};
 
@@ -121,10 +123,11 @@ fn session_line(alloc: Global, number: u64, served: &Served) -> Result<Vec<u8>, 
     } = served;
     let mut line = format!(in alloc; "session {number} ")?.into_bytes();
     match ending {
-        Ending::Done => line.extend_from_slice(
-            format!(in alloc; "done gained {gained} turns {turns}\n")?.as_bytes(),
-        )?,
-        Ending::Peer(fault) => line.extend_from_slice(&peer_line(fault)[2..])?,
+        Ending::Done => {
+            let counts = format!(in alloc; "done gained {gained} turns {turns}\n")?;
+            line.extend_from_slice(counts.as_bytes())?
+        }
+        Ending::Peer(fault) => line.extend_from_slice(peer_words(fault))?,
         Ending::Cut => line.extend_from_slice(b"cut\n")?,
         Ending::Full => line.extend_from_slice(b"full\n")?,
         Ending::Broken => line.extend_from_slice(b"broken\n")?,
@@ -132,4 +135,12 @@ fn session_line(alloc: Global, number: u64, served: &Served) -> Result<Vec<u8>, 
         Ending::Memory => line.extend_from_slice(b"memory\n")?,
     }
     Ok(line)
+}
+
+/// The words for a peer that shows this fault: its line without the mark of a refusal.
+fn peer_words(fault: &PeerFault) -> &'static [u8]
+    ensures { result.now ≡ drop 2 (peer_text fault.now) }
+{
+    let line = peer_line(fault);
+    &line[2..]
 }
