@@ -57,6 +57,8 @@ module _ {rule : RuleData} {peers : List Peer} where
   pub goes_then : (a b c : Standing) (xs ys : List Begun) (ds es : List Ran) → GoesOn rule peers a b xs ds → GoesOn rule peers b c ys es → GoesOn rule peers a c (xs ++ ys) (ds ++ es)
   goes_then a b c xs ys ds es p q = record {
     same_lock = q.same_lock ∙ p.same_lock;
+    same_number = q.same_number ∙ p.same_number;
+    same_acts = q.same_acts ∙ p.same_acts;
     seen = prefix_then a.pass.seen b.pass.seen c.pass.seen p.seen q.seen;
     links = leaves_then a.net.coming b.net.coming c.net.coming xs ys p.links q.links;
     fresh = All-append (IsFresh a.pass) xs ys p.fresh
@@ -99,6 +101,8 @@ module _ {rule : RuleData} {peers : List Peer} where
       → GoesOn rule peers (record a { running = a.running ++ more }) (record b { running = b.running ++ more }) [] ds
   goes_beside a b ds more p = record {
     same_lock = p.same_lock;
+    same_number = p.same_number;
+    same_acts = p.same_acts;
     seen = p.seen;
     links = p.links;
     fresh = p.fresh;
@@ -127,6 +131,8 @@ module _ {rule : RuleData} {peers : List Peer} where
       → GoesOn rule peers a b [] []
   goes_nowhere a b coming given out faults running pass served memory steady failed stays = record {
     same_lock = ap (λ (k : Known Entry). k.lock) pass;
+    same_number = ap (λ (k : Known Entry). k.number) pass;
+    same_acts = ap (λ (k : Known Entry). k.acts) pass;
     seen = ([], append-nil a.pass.seen ∙ sym (ap (λ (k : Known Entry). k.seen) pass));
     links = coming;
     fresh = All-nil (IsFresh a.pass);
@@ -152,6 +158,8 @@ module _ {rule : RuleData} {peers : List Peer} where
       let served = ap (λ (t : Tally). t.served.items) tally in
       record {
         same_lock = ap (λ (k : Known Entry). k.lock) pass;
+        same_number = ap (λ (k : Known Entry). k.number) pass;
+        same_acts = ap (λ (k : Known Entry). k.acts) pass;
         seen = ([], append-nil a.pass.seen ∙ sym (ap (λ (k : Known Entry). k.seen) pass));
         links = (b.net.coming, first, refl);
         fresh = All-cons (IsFresh a.pass) begun [] (record { seen = ([], append-nil a.pass.seen ∙ sym seen); clean = clean }) (All-nil (IsFresh a.pass));
@@ -172,11 +180,13 @@ module _ {rule : RuleData} {peers : List Peer} where
 
   -- the session whose link was accepted first has ended, and its link came back
   pub goes_end : (a b : Standing) (r : Ran) → b.net ≡ taken_back a.net r.held' → 0 < a.net.out → a.faults ≤ b.faults → (0 < r.faults' → Rose a.faults b.faults) → a.running ≡ begun_of r ∷ b.running
-      → b.pass.lock ≡ a.pass.lock → IsPrefix a.pass.seen b.pass.seen → r.before.lock ≡ a.pass.lock → IsRun rule peers r
+      → (b.pass.lock ≡ a.pass.lock) × (b.pass.number ≡ a.pass.number) × (b.pass.acts ≡ a.pass.acts) → IsPrefix a.pass.seen b.pass.seen → r.before.lock ≡ a.pass.lock → IsRun rule peers r
       → (b.tally.memory ≡ false → (a.tally.memory ≡ false) × (b.tally.served.items ≡ a.tally.served.items ++ r.served ∷ []) × IsPrefix r.after.seen b.pass.seen)
       → length b.tally.served.items ≤ length a.tally.served.items + 1 → b.tally.net_failed ≡ a.tally.net_failed → GoesOn rule peers a b [] (r ∷ [])
-  goes_end a b r net some faults told running lock seen same_lock run counted few failed = record {
-    same_lock = lock;
+  goes_end a b r net some faults told running pass seen same_lock run counted few failed = record {
+    same_lock = pass.0;
+    same_number = pass.1;
+    same_acts = pass.2;
     seen = seen;
     links = ap (λ (n : NetState). n.coming) net;
     fresh = All-nil (IsFresh a.pass);
@@ -231,6 +241,8 @@ module _ {rule : RuleData} {peers : List Peer} where
       let counted : c.tally.memory ≡ false → sessions ≡ map served_of ds = λ none. is ∙ p.counted none ∙ ap (λ (l : List Served). l ++ map served_of ds) empty in
       record {
         same_lock = p.same_lock;
+        same_number = p.same_number;
+        same_acts = p.same_acts;
         seen = p.seen;
         ran = ds;
         links = subst leaves are p.links;

@@ -51,6 +51,8 @@ pub record IsEnded (rule : RuleData) (peers : List Peer) (pass : Known Entry) (r
 -- What serving did from one moment to a later one, with the sessions whose links were accepted and those that ended, both in the order of acceptance.
 pub record GoesOn (rule : RuleData) (peers : List Peer) (now next : Standing) (accepted : List Begun) (ended : List Ran) : Type 0 where
   pub same_lock : next.pass.lock ≡ now.pass.lock
+  pub same_number : next.pass.number ≡ now.pass.number
+  pub same_acts : next.pass.acts ≡ now.pass.acts
   pub seen : IsPrefix now.pass.seen next.pass.seen
   pub links : Leaves now.net.coming accepted next.net.coming
   pub fresh : All (IsFresh now.pass) accepted

@@ -73,6 +73,8 @@ IsTold faults now r = 0 < r.faults' → Rose faults now
 -- call of the net failed, which is then one.
 pub record Serves (rule : RuleData) (peers : List Peer) (asked : ℕ) (first last : Known Entry) (net net' : NetState) (faults faults' : ℕ) (sessions : List Served) (net_failed memory : Bool) : Type 0 where
   pub same_lock : last.lock ≡ first.lock
+  pub same_number : last.number ≡ first.number
+  pub same_acts : last.acts ≡ first.acts
   pub seen : IsPrefix first.seen last.seen
   pub ran : List Ran
   pub links : Leaves net.coming (map begun_of ran) net'.coming

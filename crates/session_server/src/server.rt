@@ -234,7 +234,8 @@ fn settle<N: Net, D: Disk>(
 ) -> Pass<D>
     requires locks { (pass.lock ≡ shared.now.lock) × (ended.pass.lock ≡ shared.now.lock) }
     requires out { 0 < (N.state net.old).out }
-    ensures pass { (result.lock ≡ pass.lock) × IsPrefix pass.seen result.seen }
+    ensures pass { (result.lock ≡ pass.lock) × (result.number ≡ pass.number) × (result.acts ≡ pass.acts) }
+    ensures seen { IsPrefix pass.seen result.seen }
     ensures net { N.state net.new ≡ taken_back (N.state net.old) (N.L.held ended.link) }
     ensures later { N.faults net.old ≤ N.faults net.new }
     ensures faulted { 0 < N.L.faults ended.link → Rose (N.faults net.old) (N.faults net.new) }

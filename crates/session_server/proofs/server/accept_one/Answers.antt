@@ -1,6 +1,7 @@
 use Rattle.std.proofs.Common.{rules, inr, ◌≡◌, ◌+◌, ◌∷◌, ◌++◌, ◌≤◌, ◌<◌, [], map, None, true, false, length, refl, sym, ap, ◌∙◌, arith}
 use Rattle.std.proofs.lemmas.List.{map-append}
 use Rattle.std.proofs.lemmas.List.Elements.{All-push, All-same, All-weaker}
+use Rattle.bec_bytes.specs.Causes.{Rose}
 use Rattle.bec_links.specs.Nets.{NetState}
 use Rattle.turn_lock.specs.Seats.{Known}
 use Rattle.shared_replica.specs.declared.entry.Entry.{Entry}
@@ -86,11 +87,11 @@ returns-in-Err-start-clause-accepts g c =
       faults' = g.N.L.Counted.faults back.link;
       served = back.served;
     } in
-    let first = goes_link _ _ begun h.first h.given h.out h.failed e.cause.later (ap (λ l. map (λ h. h.promise.begun) l ++ begun ∷ []) c.reserve.ensures.items)
-        same.0 (ap (λ (p : Known Entry). p.seen) same.1) e.clean refl in
     let kept = ap length c.reserve.ensures.items in let within = c.requires.out in let away = all.out in let more = h.out in
     let some : 0 < (g.N.Net.state c.settle_all-pass.new.net).out = omega (arith, kept, within, away, more) in
-    let last = goes_end _ _ r did.net some did.later did.faulted refl did.pass.0 did.pass.1
+    let first = goes_link _ _ begun h.first h.given h.out h.failed e.cause.later (ap (λ l. map (λ h. h.promise.begun) l ++ begun ∷ []) c.reserve.ensures.items)
+        same.0 (ap (λ (p : Known Entry). p.seen) same.1) e.clean refl in
+    let last = goes_end _ _ r did.net some did.later did.faulted refl did.pass did.seen
         (ap (λ (p : Known Entry). p.lock) same.1 ∙ sym (ap (λ (p : Known Entry). p.lock) same.0) ∙ sym goes.same_lock) c.in-Err-start.ensures.here did.counted did.few did.failed in
     record {
       accepted = begun ∷ [];
@@ -123,12 +124,14 @@ returns-in-Err-split-clause-accepts g c =
       served = record { ending = Memory; gained = 0; turns = 0; peer = None; heads = [] };
     } in
     let begun : Begun = record { before = pass; left = g.N.L.Source.left link; held = g.N.L.Sink.held link; faults = g.N.L.Counted.faults link } in
-    let first = goes_link _ _ begun h.first h.given h.out h.failed e.cause.later (ap (λ l. map (λ h. h.promise.begun) l ++ begun ∷ []) c.reserve.ensures.items)
-        same (ap (λ (p : Known Entry). p.seen) same) e.clean refl in
     let kept = ap length c.reserve.ensures.items in let within = c.requires.out in let away = all.out in let more = h.out in let clean = e.clean in
     let some : 0 < (g.N.Net.state c.settle_all-pass-in-Err-split.new.net).out = omega (arith, kept, within, away, more) in
+    let told : 0 < r.faults' → Rose (g.N.Counted.faults c.settle_all-pass-in-Err-split.new.net) (g.N.Counted.faults c.put_back.new.self) = λ some. omega (arith, some, clean) in
+    let few : length c.settle_all-pass-in-Err-split.new.tally.served.items ≤ length c.settle_all-pass-in-Err-split.new.tally.served.items + 1 = omega arith in
+    let first = goes_link _ _ begun h.first h.given h.out h.failed e.cause.later (ap (λ l. map (λ h. h.promise.begun) l ++ begun ∷ []) c.reserve.ensures.items)
+        same (ap (λ (p : Known Entry). p.seen) same) e.clean refl in
     let never = inr (record { same_lock = refl; seen = prefix_self pass.seen; ending = refl; heads = refl; unread = refl; unsaid = refl }) in
-    let last = goes_end _ _ r did.taken some did.later (λ some. omega (arith, some, clean)) refl refl (prefix_self _) (sym goes.same_lock) never (λ none. not_both true refl none) (omega arith) refl in
+    let last = goes_end _ _ r did.taken some did.later told refl (refl, refl, refl) (prefix_self _) (sym goes.same_lock) never (λ none. not_both true refl none) few refl in
     record {
       accepted = begun ∷ [];
       ended = settled.0 ++ r ∷ [];

@@ -9,6 +9,8 @@ pub returns-in-Err : goal.returns-in-Err
 returns-in-Err g c =
     let e = c.in-Err.ensures in let empty : c.from_vec.result ≡ [] = search rules in let none = ap length empty in record {
       same_lock = refl;
+      same_number = refl;
+      same_acts = refl;
       seen = prefix_self c.args.pass.seen;
       ran = [];
       links = ap (λ (s : NetState). s.coming) e.tried;

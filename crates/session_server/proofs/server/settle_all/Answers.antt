@@ -44,7 +44,7 @@ loop-child-preserved g c =
             All-rest (λ h. IsDue rule peers c.args.pass h.promise) child rest c.loop-child.children.items items was.0,
             was.1 ++ r ∷ [],
             goes_then _ _ _ [] [] was.1 (r ∷ []) (goes_to _ _ _ _ _ _ _ _ _ (ap (map (λ h. h.promise.begun)) items) was.2)
-                (goes_end _ _ r did.net (omega (arith, out, within, n)) did.later did.faulted refl did.pass.0 did.pass.1 (mine.same_lock ∙ sym inv.lock)
+                (goes_end _ _ r did.net (omega (arith, out, within, n)) did.later did.faulted refl did.pass did.seen (mine.same_lock ∙ sym inv.lock)
                     (run_due c.args.pass child.promise r mine c.join-ended.ensures) did.counted did.few did.failed),
           );
       failed = did.failed ∙ inv.failed;
