@@ -1,6 +1,6 @@
 -- How serving goes on, step by step.
-use Rattle.std.proofs.Common.{◌≡◌, ℕ, ◌+◌, ◌≤◌, ◌<◌, List, [], ◌∷◌, ◌++◌, length, map, Bool, true, false, Option, refl, sym, ap, ◌∙◌, subst, arith, append_assoc, length-append, zero-le}
-use Rattle.std.specs.Prelude.{All, min, if◌then◌else◌}
+use Rattle.std.proofs.Common.{◌≡◌, ℕ, ◌+◌, ◌≤◌, ◌<◌, List, [], ◌∷◌, ◌++◌, length, map, Bool, true, false, Option, refl, sym, ap, ◌∙◌, subst, arith, append_assoc, length-append}
+use Rattle.std.specs.Prelude.{All, if◌then◌else◌}
 use Rattle.std.proofs.lemmas.List.{append-nil, length-map, map-append}
 use Rattle.std.proofs.lemmas.List.Elements.{All-append, All-cons, All-head, All-nil, All-rest, All-same, All-weaker}
 use mathlib.Core.List.{IsPrefix}
@@ -14,7 +14,7 @@ use Rattle.session_server.specs.declared.served.Served.{Served}
 use Rattle.session_server.specs.declared.server.Tally.{Tally}
 use Rattle.session_server.specs.Accepting.{Given, GoesOn, IsDue, IsEnded, IsFresh, Standing, given_to}
 use Rattle.session_server.specs.Serving.{Begun, Ran, IsResponse, IsRun, IsTold, IsWithin, Leaves, begun_of, given_with, served_of, Serves}
-use Rattle.session_server.proofs.Passing.{prefix_then, prefix_self}
+use Rattle.session_server.proofs.Passing.{prefix_then}
 
 -- ---- counts, links and what came back
 
@@ -210,9 +210,9 @@ module _ {rule : RuleData} {peers : List Peer} where
       → b.running ≡ [] → GoesOn rule peers (record b { running = begun ∷ [] }) c [] (r ∷ []) → GoesOn rule peers a c (begun ∷ []) (ds ++ r ∷ [])
   goes_here a m b c begun ds r first more none last =
       let all = goes_to (record m { running = m.running ++ begun ∷ [] }) b.net b.faults (b.running ++ begun ∷ []) (begun ∷ []) b.pass b.tally [] ds (ap (λ (l : List Begun). l ++ begun ∷ []) none)
-          (goes_beside m b ds (begun ∷ []) more) in
+      (goes_beside m b ds (begun ∷ []) more) in
       goes_then a (record m { running = m.running ++ begun ∷ [] }) c (begun ∷ []) [] [] (ds ++ r ∷ []) first
-          (goes_then (record m { running = m.running ++ begun ∷ [] }) (record b { running = begun ∷ [] }) c [] [] ds (r ∷ []) all last)
+      (goes_then (record m { running = m.running ++ begun ∷ [] }) (record b { running = begun ∷ [] }) c [] [] ds (r ∷ []) all last)
 
   -- ---- the whole
 
@@ -222,7 +222,7 @@ module _ {rule : RuleData} {peers : List Peer} where
   responses pass (r ∷ ds) fresh ended =
       let f = All-head (IsFresh pass) (begun_of r) (map begun_of ds) fresh in let e = All-head (IsEnded rule peers pass) r ds ended in
       All-cons (IsResponse rule peers pass) r ds (record { same_lock = e.same_lock; seen = f.seen; clean = f.clean; run = e.run })
-          (responses pass ds (All-rest (IsFresh pass) (begun_of r) (map begun_of ds) (begun_of r ∷ map begun_of ds) refl fresh) (All-rest (IsEnded rule peers pass) r ds (r ∷ ds) refl ended))
+      (responses pass ds (All-rest (IsFresh pass) (begun_of r) (map begun_of ds) (begun_of r ∷ map begun_of ds) refl fresh) (All-rest (IsEnded rule peers pass) r ds (r ∷ ds) refl ended))
 
   -- where no session runs before and after, the links that were accepted are those of the sessions that ended
   pub all_ended : (a b : Standing) (xs : List Begun) (ds : List Ran) → GoesOn rule peers a b xs ds → a.running ≡ [] → b.running ≡ [] → xs ≡ map begun_of ds

@@ -20,13 +20,10 @@ use Rattle.schema.specs.contracts.draft_lists.TableList as TableList
 use Rattle.schema.specs.contracts.schema.Schema as Schema
 use Rattle.bec_disk.specs.declared.disk.Disk as disk
 use Rattle.bec_bytes.specs.declared.counted.Counted as counted
-use Rattle.history.proofs.views.Views.TheSendSync as views
 use Rattle.hash_graph.proofs.graph.Graph.TheSendSync as graph
 use Rattle.update_check.proofs.checked_update.Checked.TheSendSync as checked
-use Rattle.row_check.proofs.native.Native.TheSendSync as native
 use Rattle.row_check.proofs.luhn.Luhn.TheSendSync as luhn
 use Rattle.update_log.proofs.log.Log.TheSendSync as log
-use Rattle.shared_replica.proofs.entry.Run.TheSendSync as run
 use Rattle.shared_replica.specs.contracts.stored.Stored as Stored
 use Rattle.replica.specs.contracts.replica.Replica as Replica
 use Rattle.history.specs.contracts.history.History as History

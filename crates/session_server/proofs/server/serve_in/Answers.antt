@@ -1,5 +1,5 @@
-use Rattle.std.proofs.Common.{rules, ◌≡◌, ◌+◌, ◌++◌, ◌≤◌, ◌<◌, [], map, true, false, length, refl, sym, ap, ◌∙◌, arith, length-append, zero-le}
-use Rattle.std.proofs.lemmas.List.{append-nil, length-map}
+use Rattle.std.proofs.Common.{rules, ◌≡◌, ◌++◌, [], map, length, refl, sym, ap, ◌∙◌, arith, length-append, zero-le}
+use Rattle.std.proofs.lemmas.List.{length-map}
 use Rattle.std.proofs.lemmas.List.Elements.{All-nil, All-same}
 use Rattle.session_server.specs.Accepting.{IsDue}
 use Rattle.session_server.proofs.Accepting.{goes_nowhere, goes_then, serves_all}
@@ -47,6 +47,6 @@ returns g c =
     let empty : c.new.result.items ≡ [] = search rules in
     let counted : c.from_vec.result ≡ c.settle_all-pass.new.tally.served.items = search rules in
     serves_all _ _ _ (inv.accepted ++ []) (inv.ended ++ settled.0) (goes_then _ _ _ inv.accepted [] inv.ended settled.0 inv.goes settled.1) refl refl empty refl
-        (λ none not. let on = inv.stops (settled.1.memory none) (sym fin.failed ∙ not) in let a = inv.tries on in let w = inv.within in
-            elim c.loop-goes_on-test.branch [ then-loop-goes_on-test+else-tries-sessions w ↦ (let h = w.if-tries-sessions.false in omega (arith, h, a, n)) | else-loop-goes_on-test w ↦ absurd (cc (on, w.loop-goes_on-test.false)) ])
-        (λ is. let m = inv.missed (sym fin.failed ∙ is) in let w = inv.within in omega (arith, m, w, n)) c.from_vec.result counted
+    (λ none not. let on = inv.stops (settled.1.memory none) (sym fin.failed ∙ not) in let a = inv.tries on in let w = inv.within in
+    elim c.loop-goes_on-test.branch [ then-loop-goes_on-test+else-tries-sessions w ↦ (let h = w.if-tries-sessions.false in omega (arith, h, a, n)) | else-loop-goes_on-test w ↦ absurd (cc (on, w.loop-goes_on-test.false)) ])
+    (λ is. let m = inv.missed (sym fin.failed ∙ is) in let w = inv.within in omega (arith, m, w, n)) c.from_vec.result counted

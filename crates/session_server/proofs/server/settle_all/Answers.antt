@@ -1,4 +1,4 @@
-use Rattle.std.proofs.Common.{rules, ◌≡◌, ◌+◌, ◌∷◌, ◌≤◌, ◌<◌, [], ◌++◌, map, length, refl, sym, ap, ◌∙◌, arith}
+use Rattle.std.proofs.Common.{rules, ◌≡◌, ◌+◌, ◌∷◌, [], ◌++◌, map, length, refl, sym, ap, ◌∙◌, arith}
 use Rattle.std.proofs.lemmas.List.Elements.{All-rest, All-head, All-same}
 use Rattle.bec_links.specs.Nets.{NetState}
 use Rattle.session_server.specs.Accepting.{IsDue}
@@ -39,13 +39,12 @@ loop-child-preserved g c =
       out = omega (arith, out, within, less, n);
       goes = λ rule peers due.
           let was = inv.goes rule peers due in
-          let mine = All-head (λ h. IsDue rule peers c.args.pass h.promise) child rest (All-same (λ h. IsDue rule peers c.args.pass h.promise) (child ∷ rest) c.loop-child.children.items (sym items) was.0) in
-          (
+          let mine = All-head (λ h. IsDue rule peers c.args.pass h.promise) child rest (All-same (λ h. IsDue rule peers c.args.pass h.promise) (child ∷ rest) c.loop-child.children.items (sym items) was.0) in (
             All-rest (λ h. IsDue rule peers c.args.pass h.promise) child rest c.loop-child.children.items items was.0,
             was.1 ++ r ∷ [],
             goes_then _ _ _ [] [] was.1 (r ∷ []) (goes_to _ _ _ _ _ _ _ _ _ (ap (map (λ h. h.promise.begun)) items) was.2)
                 (goes_end _ _ r did.net (omega (arith, out, within, n)) did.later did.faulted refl did.pass did.seen (mine.same_lock ∙ sym inv.lock)
-                    (run_due c.args.pass child.promise r mine c.join-ended.ensures) did.counted did.few did.failed),
+                (run_due c.args.pass child.promise r mine c.join-ended.ensures) did.counted did.few did.failed),
           );
       failed = did.failed ∙ inv.failed;
     }
