@@ -1,4 +1,5 @@
 mod Accepting
+mod Crossing
 mod Finishing
 mod Passing
 mod Talking

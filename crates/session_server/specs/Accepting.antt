@@ -1,7 +1,7 @@
 -- How serving goes on, from one moment to a later one.
 use Rattle.std.specs.Prelude.{◌≡◌, ℕ, ◌+◌, ◌≤◌, Bool, true, false, All, List, [], ◌++◌, length, map, Option}
 use mathlib.Core.List.{IsPrefix}
-use Rattle.bec_bytes.specs.Causes.{Rose}
+use Rattle.bec_bytes.specs.Causes.{Rose, one_more}
 use Rattle.bec_links.specs.Nets.{NetState}
 use Rattle.update_model.specs.Rule.{RuleData}
 use Rattle.peer_memory.specs.declared.peer.Peer.{Peer}
@@ -51,6 +51,8 @@ pub record IsEnded (rule : RuleData) (peers : List Peer) (pass : Known Entry) (r
 -- What serving did from one moment to a later one, with the sessions whose links were accepted and those that ended, both in the order of acceptance.
 pub record GoesOn (rule : RuleData) (peers : List Peer) (now next : Standing) (accepted : List Begun) (ended : List Ran) : Type 0 where
   pub same_lock : next.pass.lock ≡ now.pass.lock
+  pub same_number : next.pass.number ≡ now.pass.number
+  pub same_acts : next.pass.acts ≡ now.pass.acts
   pub seen : IsPrefix now.pass.seen next.pass.seen
   pub links : Leaves now.net.coming accepted next.net.coming
   pub fresh : All (IsFresh now.pass) accepted
@@ -58,14 +60,15 @@ pub record GoesOn (rule : RuleData) (peers : List Peer) (now next : Standing) (a
   pub runs : All (IsEnded rule peers now.pass) ended
   pub given : next.net.given ≡ given_with now.net.given ended
   pub out : next.net.out + length now.running ≡ now.net.out + length next.running
-  pub failed : now.net.failed ≤ next.net.failed
   pub later : now.faults ≤ next.faults
   pub told : All (IsTold now.faults next.faults) ended
   pub memory : next.tally.memory ≡ false → now.tally.memory ≡ false
   pub counted : next.tally.memory ≡ false → next.tally.served.items ≡ now.tally.served.items ++ map served_of ended
   pub within : next.tally.memory ≡ false → All (IsWithin next.pass) ended
   pub few : length next.tally.served.items ≤ length now.tally.served.items + length ended
-  pub net_failed : next.tally.net_failed ≡ true → now.tally.net_failed ≡ false → Rose now.net.failed next.net.failed × Rose now.faults next.faults
+  pub steady : next.tally.net_failed ≡ now.tally.net_failed → next.net.failed ≡ now.net.failed
+  pub failed : now.tally.net_failed ≡ false → next.tally.net_failed ≡ true → (next.net.failed ≡ one_more now.net.failed) × Rose now.faults next.faults
+  pub stays : now.tally.net_failed ≡ true → next.tally.net_failed ≡ true
 
 -- What accepting one link did. It is to go on exactly where the link was accepted and its session runs or has ended: not where the net failed, nor where memory ran out before.
 pub record Accepts (rule : RuleData) (peers : List Peer) (now next : Standing) (goes_on : Bool) : Type 0 where

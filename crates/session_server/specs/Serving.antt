@@ -1,7 +1,7 @@
 -- What serving many links comes to.
-use Rattle.std.specs.Prelude.{◌≡◌, ℕ, ◌<◌, ◌≤◌, Bool, true, false, All, List, [], ◌∷◌, length, map, Option, None}
+use Rattle.std.specs.Prelude.{◌≡◌, ℕ, ◌<◌, ◌≤◌, Bool, true, false, All, List, [], ◌∷◌, length, map, Option, None, if◌then◌else◌}
 use mathlib.Core.List.{IsPrefix}
-use Rattle.bec_bytes.specs.Causes.{Rose}
+use Rattle.bec_bytes.specs.Causes.{Rose, one_more}
 use Rattle.bec_links.specs.Nets.{NetState, IsFirst, with_held}
 use Rattle.update_model.specs.Rule.{RuleData}
 use Rattle.session_rules.specs.declared.role.Role.TheVariants.{Responder}
@@ -70,16 +70,18 @@ IsTold faults now r = 0 < r.faults' → Rose faults now
 
 -- A net was served, with so many sessions asked for. The links that it handed out came back in the order in which it did, each after its session was run. The answer counts
 -- each session in this order, and the last pass has seen what each has, unless memory ran out. Fewer sessions than were asked for are counted only where memory ran out or a
--- call of the net failed.
+-- call of the net failed, which is then one.
 pub record Serves (rule : RuleData) (peers : List Peer) (asked : ℕ) (first last : Known Entry) (net net' : NetState) (faults faults' : ℕ) (sessions : List Served) (net_failed memory : Bool) : Type 0 where
   pub same_lock : last.lock ≡ first.lock
+  pub same_number : last.number ≡ first.number
+  pub same_acts : last.acts ≡ first.acts
   pub seen : IsPrefix first.seen last.seen
   pub ran : List Ran
   pub links : Leaves net.coming (map begun_of ran) net'.coming
   pub responses : All (IsResponse rule peers first) ran
   pub given : net'.given ≡ given_with net.given ran
   pub out : net'.out ≡ net.out
-  pub failed : net.failed ≤ net'.failed
+  pub failed : net'.failed ≡ (if net_failed then one_more net.failed else net.failed)
   pub later : faults ≤ faults'
   pub told : All (IsTold faults faults') ran
   pub within : memory ≡ false → All (IsWithin last) ran

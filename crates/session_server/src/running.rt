@@ -33,9 +33,13 @@ pub(crate) struct Task<D: Disk, K: Link> {
 }
 
 impl<D: Disk, K: Link> Model for Task<D, K> {
+    ghost use Rattle.schema.specs.Checks.{coded_tree};
     ghost use Rattle.session_server.specs.Accepting.{Given, given_to};
+    ghost use Rattle.std.specs.Coded.{codes};
 
     ghost Value = { Given };
+
+    ghost coded = { Prim.hlevel (codes, coded_tree) };
 
     ghost view = { λ t. given_to t.rule.value t.peers.value t.pass.value (K.left t.link.value) (K.held t.link.value) (K.faults t.link.value) };
 }

@@ -4,6 +4,8 @@ ghost use Rattle.std.specs.Prelude.{◌≡◌, ◌+◌, ◌<◌, ◌≤◌, ◌+
 ghost use mathlib.Core.List.{IsPrefix};
 ghost use Rattle.bec_bytes.specs.Causes.{Rose};
 ghost use Rattle.bec_links.specs.Nets.{taken_back};
+ghost use Rattle.update_model.specs.Rule.{RuleData};
+ghost use Rattle.peer_memory.specs.declared.peer.Peer.{Peer};
 ghost use Rattle.shared_replica.specs.Sessions.{IsRuledBy};
 ghost use Rattle.session_server.specs.Accepting.{Accepts, GoesOn, IsDue};
 ghost use Rattle.session_server.specs.Serving.{Ran, Serves};
@@ -123,7 +125,7 @@ where
             &mut tally,
         );
     }
-    let pass = settle_all(rt, net, shared, rule, pass, peers, &mut children, &mut tally);
+    let pass = settle_all(rt, net, shared, pass, &mut children, &mut tally);
     let Tally {
         served,
         net_failed,
@@ -181,12 +183,12 @@ where
                 (mine, true)
             }
             Err(ended) => {
-                let pass = settle_all(rt, net, shared, rule, mine, peers, children, tally);
+                let pass = settle_all(rt, net, shared, mine, children, tally);
                 (settle(net, shared, pass, ended, tally), true)
             }
         },
         Err(refused) => {
-            let pass = settle_all(rt, net, shared, rule, refused.back, peers, children, tally);
+            let pass = settle_all(rt, net, shared, refused.back, children, tally);
             net.put_back(link);
             tally.memory = true;
             (pass, false)
@@ -194,22 +196,22 @@ where
     }
 }
 
-/// Joins the threads in the order of acceptance.
+/// Joins the threads in the order of acceptance, whatever rule and peers their sessions were given.
 fn settle_all<R: Threads, N: Net, D: Disk>(
     rt: &R,
     net: &mut N,
     shared: &Shared<D>,
-    rule: &DbRule,
     pass: Pass<D>,
-    peers: &Peers,
     children: &mut VecDeque<Child<D, N::L>>,
     tally: &mut Tally,
 ) -> Pass<D>
     requires lock { pass.lock ≡ shared.now.lock }
-    requires due { All (λ h. IsDue rule.now peers.now pass h.promise) children.old.items }
+    requires locks { All (λ h. h.promise.begun.before.lock ≡ shared.now.lock) children.old.items }
     requires out { length children.old.items ≤ (N.state net.old).out }
     ensures children { children.new.items ≡ [] }
-    ensures goes { (ended : List Ran) × GoesOn rule.now peers.now
+    ensures lock { result.lock ≡ pass.lock }
+    ensures out { (N.state net.new).out + length children.old.items ≡ (N.state net.old).out }
+    ensures goes { (rule : RuleData) (peers : List Peer) → All (λ h. IsDue rule peers pass h.promise) children.old.items → (ended : List Ran) × GoesOn rule peers
         (record { net = N.state net.old; faults = N.faults net.old; running = map (λ h. h.promise.begun) children.old.items; pass = pass; tally = tally.old })
         (record { net = N.state net.new; faults = N.faults net.new; running = []; pass = result; tally = tally.new }) [] ended }
     ensures failed { tally.new.net_failed ≡ tally.old.net_failed }
@@ -232,7 +234,8 @@ fn settle<N: Net, D: Disk>(
 ) -> Pass<D>
     requires locks { (pass.lock ≡ shared.now.lock) × (ended.pass.lock ≡ shared.now.lock) }
     requires out { 0 < (N.state net.old).out }
-    ensures pass { (result.lock ≡ pass.lock) × IsPrefix pass.seen result.seen }
+    ensures pass { (result.lock ≡ pass.lock) × (result.number ≡ pass.number) × (result.acts ≡ pass.acts) }
+    ensures seen { IsPrefix pass.seen result.seen }
     ensures net { N.state net.new ≡ taken_back (N.state net.old) (N.L.held ended.link) }
     ensures later { N.faults net.old ≤ N.faults net.new }
     ensures faulted { 0 < N.L.faults ended.link → Rose (N.faults net.old) (N.faults net.new) }
