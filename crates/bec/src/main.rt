@@ -1,7 +1,7 @@
 //! The program `bec`: it makes the real objects, calls [`bec_node::run`], and ends with its status.
 #![tactic(auto)]
 
-use bec_host::{FileShelf, HashRng, HostSink, HostSource};
+use bec_host::{FileShelf, HashRng, HostSink, HostSource, TcpNet};
 use bec_node::run;
 use bec_node::status::{OUT_OF_MEMORY, STREAM_FAULT};
 use std::alloc::AllocError;
@@ -22,16 +22,23 @@ fn main(rt: HostRuntime) -> ExitCode {
     let Ok(files) = files else {
         return ExitCode::from(OUT_OF_MEMORY);
     };
+    let sockets: Result<_, _> = rt.clone();
+    let Ok(sockets) = sockets else {
+        return ExitCode::from(OUT_OF_MEMORY);
+    };
     let Ok(mut input) = HostSource::new(rt.alloc(), rt.stdin()) else {
         return ExitCode::from(OUT_OF_MEMORY);
     };
     let mut random = HashRng::new(key);
     let mut shelf = FileShelf::new(files, rt.stderr());
+    let mut net = TcpNet::new(sockets, rt.stderr());
     let mut output = HostSink::new(rt.stdout());
     ExitCode::from(run(
+        &rt,
         rt.alloc(),
         &words,
         &mut shelf,
+        &mut net,
         &mut random,
         &mut input,
         &mut output,

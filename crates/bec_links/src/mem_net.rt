@@ -65,6 +65,13 @@ impl MemNet {
         }
     }
 
+    /// How many links came back.
+    pub fn returned(&self) -> usize
+        ensures { result ≡ length self.now.given }
+    {
+        self.given.len()
+    }
+
     /// The bytes that were put on the link that came back as this one, counted from 0.
     pub fn given(&self, link: usize) -> &[u8]
         requires { link < length self.now.given }

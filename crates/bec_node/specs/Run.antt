@@ -1,105 +1,48 @@
--- What a run of the program does.
-use Rattle.std.specs.Prelude.{◌≡◌, ◌⊎◌, ℕ, List, map, IfSome, IsTrue, Err, String, slice_get, Some, None}
+-- What a run of the program does, with what it does over a net.
+use Rattle.std.specs.Prelude.{◌≡◌, ◌≢◌, ℕ, List, [], map, Result, Ok, Err, String, Option}
 use Rattle.std.specs.declared.alloc.Global.{Global}
-use Rattle.std.specs.declared.option.Option.{Option}
+use Rattle.std.specs.Io.KnownBytes.{Appends}
 use Rattle.std.specs.String.{string_bytes}
 use Rattle.bec_disk.specs.Shelf.{ShelfState}
-use Rattle.command_words.specs.Requests.{Asks, RequestText, heads, check, dump, init, keygen, apply, join, export, query, merge}
-use Rattle.bec_node.specs.declared.refusal.Refusal.TheVariants.{Memory, Words}
-use Rattle.bec_node.specs.declared.status.TheConstants.{STORE_FAULT, STREAM_FAULT, OUT_OF_MEMORY}
-use Rattle.bec_node.specs.Bundle.{DumpAnswer}
-use Rattle.bec_node.specs.Comes.{ReadsStoreOnly, readings}
-use Rattle.bec_node.specs.Creating.{DrawsKeyOnly, InitAnswer, Inits, KeygenAnswer}
-use Rattle.bec_node.specs.Heads.{HeadsAnswer}
-use Rattle.bec_node.specs.Merging.{IsSureOfMerge, Merges}
-use Rattle.bec_node.specs.Outcome.{ComesTo, Outcome, Says, status_of}
-use Rattle.bec_node.specs.Outside.{IsUntouched, Outside, SinkState}
-use Rattle.bec_node.specs.Signing.{Applies, IsSureOfApply, JoinAnswer, JoinsHeads, SignAnswer, StoreAnswer}
-use Rattle.bec_node.specs.Asking.{QueryAnswer}
-use Rattle.bec_node.specs.StoreAnswers.{Readings, Printing, ReadsStore, ShowsHeads, ShowsRecords, ShowsTables}
-use Rattle.bec_node.specs.Verdict.{CheckAnswer}
+use Rattle.bec_links.specs.Nets.{NetState}
+use Rattle.command_words.specs.NetRequests.{AsksNet, NetText, sync, serve}
+use Rattle.node_commands.specs.declared.status.TheConstants.{OUT_OF_MEMORY}
+use Rattle.node_commands.specs.Outcome.{Ends, Puts}
+use Rattle.node_commands.specs.Outside.{IsUntouched, Outside, SinkState}
+use Rattle.node_commands.specs.Run.{Runs}
+use Rattle.bec_node.specs.Meetings.{ServesStore, SyncsStore, Told}
 
--- the words ask for this
-abbrev pub IsCommand : RequestText → List (String Global) → Type 0
-IsCommand request words = Asks (map string_bytes words) request
+-- the words ask for this of a net
+abbrev pub IsNetCommand : NetText → List (String Global) → Type 0
+IsNetCommand request words = AsksNet (map string_bytes words) request
 
--- the words are no command
-abbrev pub IsNoCommand : List (String Global) → Type 0
-IsNoCommand words = (request : RequestText) → IsCommand request words → ⊥
+-- What is told is written whole, with its status, or a front of it where the sink failed; a refusal may lack memory for its lines.
+abbrev pub EndsTold : ℕ → ℕ → Option (List ℕ) → Option (List ℕ) → Told → ℕ → Type 0
+EndsTold old new held held_new (Ok reply) status = Puts old new held held_new reply.status reply.text.items status
+EndsTold old new held held_new (Err refusal) status = Ends old new held held_new (Err refusal) status
 
--- the first word is this one
-abbrev pub HasFirstWord : List ℕ → List (String Global) → Type 0
-HasFirstWord word words = slice_get (map string_bytes words) 0 ≡ Some word
+-- A net: the net itself, what it tells, and its count of faults.
+pub record NetSeen (N : Type 0) : Type 0 where
+  pub net : N
+  pub state : NetState
+  pub faults : ℕ
 
--- A command over the source alone.
-pub record ReadsSource {S H R : Type 0} (Answer : Option (List ℕ) → Option (List ℕ) → Outcome → Type 0) (before after : Outside S H R) (outcome : Outcome) : Type 0 where
-  pub comes : ComesTo Answer before.left after.left before.source_faults after.source_faults outcome
-  pub shelf : after.shelf ≡ before.shelf
+-- What a request of a net comes to. It uses neither the source nor the generator.
+pub record ComesOver {S H R : Type 0} (Does : Told → Type 0) (before after : Outside S H R) (sink sink_new : SinkState) (status : ℕ) : Type 0 where
+  pub told : Told
+  pub does : Does told
+  pub source : after.source ≡ before.source
   pub random : after.random ≡ before.random
+  pub said : EndsTold sink.faults sink_new.faults sink.held sink_new.held told status
 
--- What a request comes to.
-abbrev pub Comes : {S H R : Type 0} → RequestText → Outside S H R → Outside S H R → Outcome → Type 0
-Comes (heads None) before after outcome = ReadsSource HeadsAnswer before after outcome
-Comes (heads (Some dir)) before after outcome = ReadsStoreOnly (ReadsStore (Printing ShowsHeads)) dir before after outcome
-Comes check before after outcome = ReadsSource CheckAnswer before after outcome
-Comes (dump None json) before after outcome = ReadsSource (DumpAnswer json) before after outcome
-Comes (dump (Some dir) json) before after outcome = ReadsStoreOnly (ReadsStore (Printing (ShowsTables json))) dir before after outcome
-Comes (init dir) before after outcome = Inits dir before after outcome
-Comes (keygen dir lms ots) before after outcome = DrawsKeyOnly lms ots dir before after outcome
-Comes (apply dir) before after outcome = Applies dir before after outcome
-Comes (join dir) before after outcome = JoinsHeads dir before after outcome
-Comes (export dir updates_only) before after outcome = ReadsStoreOnly (ReadsStore (Printing (ShowsRecords updates_only))) dir before after outcome
-Comes (query dir text json) before after outcome = ReadsStoreOnly (ReadsStore (QueryAnswer text json)) dir before after outcome
-Comes (merge first second) before after outcome = Merges first second before after outcome
+-- What a request of a net does, by what is told.
+abbrev pub DoesOver : NetText → (store store_new : ShelfState) (net net_new : NetState) (faults faults_new net_faults net_faults_new : ℕ) → Told → Type 0
+DoesOver (sync dir address) store store_new net net_new faults faults_new net_faults net_faults_new told = SyncsStore dir address store store_new net net_new faults faults_new net_faults net_faults_new told
+DoesOver (serve dir address sessions) store store_new net net_new faults faults_new net_faults net_faults_new told = ServesStore dir sessions store store_new net net_new faults faults_new net_faults net_faults_new told
 
--- Words that ask for something come to what that comes to; other words leave all as it was; and so does want of memory for reading the words.
-pub data AsksFor {S H R : Type 0} (words : List (String Global)) (before after : Outside S H R) (outcome : Outcome) : Type 0 where
-  named : (request : RequestText) → IsCommand request words → Comes request before after outcome → AsksFor words before after outcome
-  none : IsNoCommand words → IsUntouched before after → outcome ≡ Err Words → AsksFor words before after outcome
-  unread : IsUntouched before after → outcome ≡ Err Memory → AsksFor words before after outcome
-
--- the status, or one of a fault of the store or of a stream, or of want of memory, in its place
-abbrev pub ComesAs : ℕ → ℕ → Type 0
-ComesAs status own = (status ≡ own) ⊎ ((status ≡ STORE_FAULT) ⊎ ((status ≡ STREAM_FAULT) ⊎ (status ≡ OUT_OF_MEMORY)))
-
--- Each outcome that may be comes with its status.
-abbrev pub EachAs : (Outcome → Type 0) → ℕ → Type 0
-EachAs MayBe status = (outcome : Outcome) → MayBe outcome → ComesAs status (status_of outcome)
-
--- Each answer to what the source tells comes with its status.
-abbrev pub SourceOnly : (Option (List ℕ) → Option (List ℕ) → Outcome → Type 0) → Option (List ℕ) → ℕ → Type 0
-SourceOnly Answer before status = IfSome before (λ input. (after : Option (List ℕ)) → EachAs (Answer (Some input) after) status)
-
--- Each answer to what the parts of a directory read as comes with its status, where the shelf tells.
-abbrev pub ShelfOnly : (Readings → List (List ℕ) → Outcome → Type 0) → List ℕ → ShelfState → ℕ → Type 0
-ShelfOnly Answer dir shelf status = IsTrue shelf.tells → (added : List (List ℕ)) → EachAs (Answer (readings shelf dir) added) status
-
--- Each answer of a command that makes an update comes with its status, whether what it leaves unused was used or not.
-abbrev pub SignOnly : SignAnswer → List ℕ → ShelfState → ℕ → Type 0
-SignOnly Answer dir shelf status = ShelfOnly (StoreAnswer (Unit {0}) Answer) dir shelf status
-
--- Each answer that a request has to what stands outside comes with its status, unless a disk or a stream failed or memory ran out. Of
--- `apply` it is each refusal that comes before the operations are judged, and every answer where none is that they are invalid; of `merge` each refusal of
--- a store, and that it is done where nothing stands in the way.
-abbrev pub AnswersOnly : {S H R : Type 0} → RequestText → Outside S H R → ℕ → Type 0
-AnswersOnly (heads None) before status = SourceOnly HeadsAnswer before.left status
-AnswersOnly (heads (Some dir)) before status = ShelfOnly (ReadsStore (Printing ShowsHeads)) dir before.store status
-AnswersOnly check before status = SourceOnly CheckAnswer before.left status
-AnswersOnly (dump None json) before status = SourceOnly (DumpAnswer json) before.left status
-AnswersOnly (dump (Some dir) json) before status = ShelfOnly (ReadsStore (Printing (ShowsTables json))) dir before.store status
-AnswersOnly (init dir) before status =
-    IsTrue before.store.tells → IfSome before.left (λ input. (after : Option (List ℕ)) (later : Readings) → EachAs (InitAnswer (Some input) after before.stream (readings before.store dir) later) status)
-AnswersOnly (keygen dir lms ots) before status =
-    IsTrue before.store.tells → (later : Readings) → EachAs (KeygenAnswer lms ots before.stream (readings before.store dir) later) status
-AnswersOnly (apply dir) before status = IsTrue before.store.tells → IfSome before.left (λ input. EachAs (IsSureOfApply input before.stream (readings before.store dir)) status)
-AnswersOnly (join dir) before status = SignOnly (JoinAnswer before.stream) dir before.store status
-AnswersOnly (export dir updates_only) before status = ShelfOnly (ReadsStore (Printing (ShowsRecords updates_only))) dir before.store status
-AnswersOnly (query dir text json) before status = ShelfOnly (ReadsStore (QueryAnswer text json)) dir before.store status
-AnswersOnly (merge first second) before status = IsTrue before.store.tells → EachAs (IsSureOfMerge (readings before.store first) (readings before.store second)) status
-
--- A run of the program: the words and what stands outside ask for an outcome, the sink is told it, and the status is its own.
-pub record Runs {S H R : Type 0} (words : List (String Global)) (before after : Outside S H R) (sink sink_new : SinkState) (status : ℕ) : Type 0 where
-  pub outcome : Outcome
-  pub asked : AsksFor words before after outcome
-  pub said : Says sink.faults sink_new.faults sink.held sink_new.held outcome status
-  pub only : (request : RequestText) → IsCommand request words → AnswersOnly request before status
+-- A run of the program. Words that ask for no net do what they do without one, and leave it as it was; words that ask for one come to what that comes to;
+-- and without memory for reading the words nothing is done.
+pub data RunsOver {S H R N : Type 0} (words : List (String Global)) (before after : Outside S H R) (net net_new : NetSeen N) (sink sink_new : SinkState) (status : ℕ) : Type 0 where
+  alone : ((request : NetText) → IsNetCommand request words → ⊥) → Runs words before after sink sink_new status → net_new ≡ net → RunsOver words before after net net_new sink sink_new status
+  over_net : (request : NetText) → IsNetCommand request words → ComesOver (DoesOver request before.store after.store net.state net_new.state before.shelf_faults after.shelf_faults net.faults net_new.faults) before after sink sink_new status → RunsOver words before after net net_new sink sink_new status
+  unread : IsUntouched before after → net_new ≡ net → status ≡ OUT_OF_MEMORY → Appends sink.held sink_new.held [] → RunsOver words before after net net_new sink sink_new status

@@ -1,12 +1,4 @@
-//! The commands.
+//! The commands that meet other nodes.
 
-pub mod apply;
-pub mod check;
-pub mod dump;
-pub mod export;
-pub mod heads;
-pub mod init;
-pub mod join;
-pub mod keygen;
-pub mod merge;
-pub mod query_store;
+pub(crate) mod serve;
+pub(crate) mod sync;

@@ -1,55 +1,26 @@
-//! What the program `bec` does: [`run`] takes the words of a command line, a shelf of directories, a generator of random
+//! What the program `bec` does: [`run`] takes the words of a command line, a shelf of directories, a net, a generator of random
 //! words, a source and a sink, and answers an exit status.
 //!
-//! The program itself makes the real objects and calls [`run`]; tests call it over objects in memory. Each command has a
-//! function of its own, for a caller that knows the first word.
+//! The program itself makes the real objects and calls [`run`]; tests call it over objects in memory. What needs no net is done
+//! as `node_commands` says, whose functions for each command are passed on from here.
 //!
 //! ```text
-//! bec heads < stream        the ids of the heads of an update stream, rising, one per line
-//! bec check < schema        whether what a schema declares survives merging, and what is wrong first
-//! bec dump < bundle         the tables of a schema and an update stream, and the updates that do nothing
-//!
-//! bec heads DIR             the same of the store in a directory
-//! bec dump DIR              with `--json`, here and of a bundle, as one JSON object
-//! bec init DIR < schema     makes a store of a schema in a directory that has none, and prints the id of its database
-//! bec keygen DIR            draws a key for a directory that has none, and prints its public key
-//! bec apply DIR < text      makes an update of a transaction by the key of the directory, and prints its id
-//! bec join DIR              joins the heads of the store by an update, and prints its id
-//! bec export DIR            the bundle of the store, or with `--updates` its update stream alone
+//! bec sync DIR ADDR                  reconciles the store of a directory with the one that is served at an address
+//! bec serve DIR ADDR --sessions N    waits at an address, and reconciles the store of a directory over N sessions
 //! ```
 //!
-//! A command comes to an outcome: the text that it prints, or a [`Refusal`], which says why it is not done. The exit
-//! statuses stand in [`status`].
-//!
-//! It waits for nobody but its source and its sink, and opens nothing by itself.
+//! Only these two wait for others, use the net and start threads.
 #![tactic(auto)]
 
-mod bundle;
 mod commands;
-mod graph_tables;
-mod heads;
-mod laws;
-mod lines;
-mod printed_lines;
 mod program;
-mod refusal;
 mod reply;
-mod standing;
-pub mod status;
-mod stream;
-mod text_input;
+mod settling;
+mod words;
 
-pub use commands::apply::command_apply;
-pub use commands::check::command_check;
-pub use commands::dump::command_dump;
-pub use commands::export::command_export;
-pub use commands::heads::command_heads;
-pub use commands::init::command_init;
-pub use commands::join::command_join;
-pub use commands::keygen::command_keygen;
-pub use commands::merge::command_merge;
-pub use commands::query_store::command_query;
-pub use heads::heads_of;
-pub use laws::{one_answer, one_answer_of_makers, one_answer_of_merge, one_answer_of_parts};
+pub use node_commands::{
+    Refusal, command_apply, command_check, command_dump, command_export, command_heads,
+    command_init, command_join, command_keygen, command_merge, command_query, heads_of, status,
+};
 pub use program::run;
-pub use refusal::Refusal;
+pub use reply::Reply;

@@ -1,107 +1,78 @@
 ghost use Rattle.std.specs.Prelude.{IsTrue};
-ghost use Rattle.bec_node.specs.Merging.{NamesApart};
-ghost use Rattle.bec_node.specs.Outside.{outside};
-ghost use Rattle.bec_node.specs.Run.{Comes, Runs};
-ghost use Rattle.command_words.specs.Seen.{request_seen};
+ghost use Rattle.command_words.specs.Seen.{net_seen};
+ghost use Rattle.node_commands.specs.Outside.{outside};
 ghost use Rattle.store_directory.specs.Stores.{IsHome};
+ghost use Rattle.bec_node.specs.Run.{DoesOver, RunsOver};
 
-use crate::commands::apply::apply_in;
-use crate::commands::check::verdict;
-use crate::commands::dump::{bundle_tables, dump_in};
-use crate::commands::export::export_in;
-use crate::commands::heads::{heads_in, stream_heads};
-use crate::commands::init::init_in;
-use crate::commands::join::join_in;
-use crate::commands::keygen::keygen_in;
-use crate::commands::merge::merge_in;
-use crate::commands::query_store::query_in;
-use crate::laws::{one_answer, one_answer_of_makers, one_answer_of_merge, one_answer_of_parts};
-use crate::lines::no_command;
-use crate::refusal::Refusal;
-use crate::reply::finish;
-use crate::status::OUT_OF_MEMORY;
+use crate::commands::serve::serve_in;
+use crate::commands::sync::sync_in;
+use crate::reply::{Reply, end};
 use bec_bytes::{Sink, Source};
 use bec_disk::Shelf;
-use command_words::{Request, one_request, request_in};
+use bec_links::Net;
+use command_words::{NetRequest, net_request_in};
+use node_commands::status::OUT_OF_MEMORY;
+use node_commands::{Refusal, run_alone};
 use rand_core::Rng;
 use std::alloc::Global;
+use std::sync::Wait;
+use std::thread::Threads;
 
-/// Does what the words of a command line ask for, over a shelf of directories, a generator of random words, a source and a
-/// sink, and answers the exit status. No part of the shelf may be handed out, and none is afterwards.
+/// Does what the words of a command line ask for, over a shelf of directories, a net of links, a generator of random words, a source and a
+/// sink, and answers the exit status. No part of the shelf may be handed out, and none is afterwards; nor is a link of the net.
 ///
-/// Words that ask for something come to an outcome: it is done and prints a text, or it is refused, and why is printed. Each
-/// outcome has its cause in the words, in what the source has left and in what the parts of a directory read as; only where
-/// the source or the shelf failed, or memory ran out, another one comes in its place. The outcome is written whole, with its status; or the sink failed, and a front of it is
-/// written, with the status of a stream fault.
-pub fn run<H: Shelf, R: Rng, S: Source, K: Sink>(
+/// Words that ask for no net come to what [`run_alone`] says, and leave the net as it was. `sync` meets the node at an address, and `serve` meets those
+/// that dial; what they come to is told of the net's next links, of what the parts of the directory read as, and of the sessions that were held. Where the
+/// shelf or the net failed or memory ran out, that comes in its place. `sync` and `serve` wait for other nodes, and no other command waits.
+pub fn run<T: Threads + Wait + Sync, H: Shelf, N: Net, R: Rng, S: Source, K: Sink>(
+    rt: &T,
     alloc: Global,
     words: &[String],
     shelf: &mut H,
+    net: &mut N,
     random: &mut R,
     input: &mut S,
     out: &mut K,
 ) -> u8
+where
+    H::D: Send,
     requires { IsTrue (H.state shelf.old).tells → IsHome (H.state shelf.old) }
-    ensures { Runs words.now
+    ensures { RunsOver words.now
         (outside S.left S.faults H.state H.faults R.stream input.old shelf.old random.old) (outside S.left S.faults H.state H.faults R.stream input.new shelf.new random.new)
+        (record { net = net.old; state = N.state net.old; faults = N.faults net.old }) (record { net = net.new; state = N.state net.new; faults = N.faults net.new })
         (record { held = K.held out.old; faults = K.faults out.old }) (record { held = K.held out.new; faults = K.faults out.new }) result }
 {
-    one_answer();
-    one_answer_of_makers();
-    one_answer_of_merge();
-    one_answer_of_parts();
-    one_request();
-    let Ok(asked) = request_in(alloc, words) else {
+    let Ok(asked) = net_request_in(alloc, words) else {
         return OUT_OF_MEMORY;
     };
     let Some(request) = asked else {
-        return no_command(out);
+        return run_alone(alloc, words, shelf, random, input, out);
     };
-    let outcome = outcome_of(alloc, &request, shelf, random, input);
-    finish(alloc, out, outcome)
+    let told = meet_others(rt, alloc, &request, shelf, net);
+    end(alloc, out, told)
 }
 
-/// What a request comes to.
-fn outcome_of<H: Shelf, R: Rng, S: Source>(
+/// What a request of a net comes to.
+fn meet_others<T: Threads + Wait + Sync, H: Shelf, N: Net>(
+    rt: &T,
     alloc: Global,
-    request: &Request,
+    request: &NetRequest,
     shelf: &mut H,
-    random: &mut R,
-    input: &mut S,
-) -> Result<Vec<u8>, Refusal>
-    requires home { IsTrue (H.state shelf.old).tells → IsHome (H.state shelf.old) }
-    requires apart { NamesApart (request_seen request.now) }
-    ensures { Comes (request_seen request.now) (outside S.left S.faults H.state H.faults R.stream input.old shelf.old random.old)
-        (outside S.left S.faults H.state H.faults R.stream input.new shelf.new random.new) result }
+    net: &mut N,
+) -> Result<Reply, Refusal>
+where
+    H::D: Send,
+    requires { IsTrue (H.state shelf.old).tells → IsHome (H.state shelf.old) }
+    ensures { DoesOver (net_seen request.now) (H.state shelf.old) (H.state shelf.new) (N.state net.old) (N.state net.new) (H.faults shelf.old) (H.faults shelf.new) (N.faults net.old) (N.faults net.new) result }
 {
     match request {
-        Request::Heads { directory: None } => stream_heads(alloc, input),
-        Request::Heads {
-            directory: Some(directory),
-        } => heads_in(alloc, shelf, directory),
-        Request::Check => verdict(alloc, input),
-        Request::Dump {
-            directory: None,
-            json,
-        } => bundle_tables(alloc, input, *json),
-        Request::Dump {
-            directory: Some(directory),
-            json,
-        } => dump_in(alloc, shelf, directory, *json),
-        Request::Init { directory } => init_in(alloc, shelf, directory, random, input),
-        Request::Keygen {
+        NetRequest::Sync { directory, address } => {
+            sync_in(rt, alloc, shelf, net, directory, address)
+        }
+        NetRequest::Serve {
             directory,
-            height,
-            width,
-        } => keygen_in(alloc, shelf, directory, *height, *width, random),
-        Request::Apply { directory } => apply_in(alloc, shelf, directory, random, input),
-        Request::Join { directory } => join_in(alloc, shelf, directory, random),
-        Request::Export { directory, updates } => export_in(alloc, shelf, directory, *updates),
-        Request::Query {
-            directory,
-            text,
-            json,
-        } => query_in(alloc, shelf, directory, text, *json),
-        Request::Merge { first, second } => merge_in(alloc, shelf, first, second),
+            address,
+            sessions,
+        } => serve_in(rt, alloc, shelf, net, directory, address, *sessions),
     }
 }

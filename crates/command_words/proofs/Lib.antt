@@ -1,3 +1,4 @@
 mod Building
+mod NetRules
 mod Refusing
 mod Rules

@@ -16,7 +16,7 @@ first_is : (name : Text) (app : App) (words : List Text) → Takes name app word
 first_is name app words h =
     ap (λ (ws : List Text). option_and_then (λ first. request_by first words) (slice_get ws 0)) h.named
 
-rows_are : (name : Text) (app : App) (words : List Text) → Takes name app words → rows_given app words ≡ Some (matches_of app words)
+pub rows_are : (name : Text) (app : App) (words : List Text) → Takes name app words → rows_given app words ≡ Some (matches_of app words)
 rows_are name app words h = ap (λ (b : Bool). cond b (Some (matches_of app words)) None) h.taken
 
 -- a directory that a command takes alone
@@ -62,11 +62,11 @@ by_rule words request (for_merge first second h f s differ) =
 
 -- ---- to the rules
 
-mapped : {A B : Type 0} (g : A → B) (o : Option A) (b : B) → option_map g o ≡ Some b → (a : A) × (o ≡ Some a) × (g a ≡ b)
+pub mapped : {A B : Type 0} (g : A → B) (o : Option A) (b : B) → option_map g o ≡ Some b → (a : A) × (o ≡ Some a) × (g a ≡ b)
 mapped g None b e = absurd (cc)
 mapped g (Some a) b e = (a, refl, cc)
 
-chained : {A B : Type 0} (f : A → Option B) (o : Option A) (b : B) → option_and_then f o ≡ Some b → (a : A) × (o ≡ Some a) × (f a ≡ Some b)
+pub chained : {A B : Type 0} (f : A → Option B) (o : Option A) (b : B) → option_and_then f o ≡ Some b → (a : A) × (o ≡ Some a) × (f a ≡ Some b)
 chained f None b e = absurd (cc)
 chained f (Some a) b e = (a, refl, e)
 
@@ -78,7 +78,7 @@ rows_taken app words rows e =
     ] in
     step (is_taken app words) refl e
 
-takes : (name : Text) (app : App) (words rest : List Text) (rows : List Row) → words ≡ name ∷ rest → rows_given app words ≡ Some rows → Takes name app words × (rows ≡ matches_of app words)
+pub takes : (name : Text) (app : App) (words rest : List Text) (rows : List Row) → words ≡ name ∷ rest → rows_given app words ≡ Some rows → Takes name app words × (rows ≡ matches_of app words)
 takes name app words rest rows n e = let t = rows_taken app words rows e in (record { rest = rest; named = n; taken = t.0 }, t.1)
 
 from_heads : (words rest : List Text) (request : RequestText) → words ≡ codes "heads" ∷ rest → heads_of words ≡ Some request → Asks words request
@@ -160,14 +160,14 @@ from_merge words rest request n e =
     (for_merge a.0 b.0 t.0 (ap (first_of (codes "DIR")) (sym t.1) ∙ a.1) (ap (first_of (codes "OTHER")) (sym t.1) ∙ b.1) p.0)
 
 -- one of two by a test
-chosen : (b : Bool) (x y : Option RequestText) (request : RequestText) → cond b x y ≡ Some request → ((b ≡ true) × (x ≡ Some request)) ⊎ ((b ≡ false) × (y ≡ Some request))
+chosen : {A : Type 0} (b : Bool) (x y : Option A) (request : A) → cond b x y ≡ Some request → ((b ≡ true) × (x ≡ Some request)) ⊎ ((b ≡ false) × (y ≡ Some request))
 chosen true x y request e = inl (refl, e)
 chosen false x y request e = inr (refl, e)
 
 -- a command where the first word is its name, and otherwise another
-either : (first name : Text) (rest : List Text) (request : RequestText) (here others : Option RequestText)
-    → (first ∷ rest ≡ name ∷ rest → here ≡ Some request → Asks (first ∷ rest) request) → (others ≡ Some request → Asks (first ∷ rest) request)
-    → cond (bytes_eq first name) here others ≡ Some request → Asks (first ∷ rest) request
+pub either : {A Asked : Type 0} (first name : Text) (rest : List Text) (request : A) (here others : Option A)
+    → (first ∷ rest ≡ name ∷ rest → here ≡ Some request → Asked) → (others ≡ Some request → Asked)
+    → cond (bytes_eq first name) here others ≡ Some request → Asked
 either first name rest request here others f g e = elim (chosen (bytes_eq first name) here others request e) [
   | inl h ↦ f (ap (λ (w : Text). w ∷ rest) ((bytes_eq-Decides first name).0 h.0)) h.1
   | inr h ↦ g h.1

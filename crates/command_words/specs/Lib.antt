@@ -1,4 +1,6 @@
 pub mod Commands
+pub mod NetCommands
+pub mod NetRequests
 pub mod Requests
 pub mod Seen
 pub mod Words

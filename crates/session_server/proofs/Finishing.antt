@@ -61,10 +61,10 @@ module _ (rule : RuleData) (role : Role) (pass after : Known Entry) (name : Opti
   abbrev reached : SessionData
   reached = seen (updates_of b.point) k
 
-  same : (b.store.node ≡ ruled.node) × (b.store.history.schema.rule ≡ rule)
+  same : (b.store.node ≡ ruled.opening.node) × (b.store.history.schema.rule ≡ rule)
   same = same_replica pass.seen b.point rule b.store ruled b.act.began b.act.stood
 
-  reached_is : reached ≡ opened role rule.database ruled.node old (map entry_of (updates_of b.point))
+  reached_is : reached ≡ opened role rule.database ruled.opening.node old (map entry_of (updates_of b.point))
   reached_is = b.starts.state ∙ ap (λ (d : List ℕ). opened role d b.store.node old (map entry_of (updates_of b.point))) (ap (λ (r : RuleData). r.database) same.1)
       ∙ ap (λ (n : List ℕ). opened role rule.database n old (map entry_of (updates_of b.point))) same.0
 
@@ -94,7 +94,7 @@ module _ (rule : RuleData) (role : Role) (pass after : Known Entry) (name : Opti
 
   -- the Hello was said or not
   pub begun_talk : (T : Type 0) (told : Result T Halt) → Says held held' told (hello_frames (option_map hello_of out.hello)) → HasHalt faults faults' told → IsTalk rule role start old after k true held' faults' [] (over_by told None)
-  begun_talk T (Ok t) says halt = begin_talk None says.0 says.1 says.2 (ap (λ (s : SessionData). s.ended) reached_is ∙ not_ended role rule.database ruled.node old (map entry_of (updates_of b.point))) halt.later
+  begun_talk T (Ok t) says halt = begin_talk None says.0 says.1 says.2 (ap (λ (s : SessionData). s.ended) reached_is ∙ not_ended role rule.database ruled.opening.node old (map entry_of (updates_of b.point))) halt.later
   begun_talk T (Err halts.Broken) says halt = begin_talk (Some Broken) says.0 says.1 says.2 halt.halted halt.later
   begun_talk T (Err halts.Memory) says halt = begin_talk (Some Memory) says.0 says.1 says.2 tt halt.later
 
@@ -150,7 +150,7 @@ module _ (rule : RuleData) (role : Role) (peers : List Peer) (s : Start) (after 
   all_held : served.ending ≡ Done → list_all (holds (map entry_of (updates_of after.seen))) (heads_in talk.reached.peer) ≡ true
   all_held is =
       let done = ended_done c.ends in
-      let has = comes_has store_limits role rule.database talk.ruled.node t.0 (updates_of s.first.seen) talk.reached talk.members all talk.said talk.course in
+      let has = comes_has store_limits role rule.database talk.ruled.opening.node t.0 (updates_of s.first.seen) talk.reached talk.members all talk.said talk.course in
       held_more (map entry_of talk.members) (map entry_of talk.within.0) (map entry_of (updates_of after.seen)) talk.reached.peer (sym (ap (map entry_of) talk.within.1) ∙ map-append entry_of talk.members talk.within.0)
       (has.done (subst (λ (e : Ending). HasCause e talk.reached s.first after s.faults faults') done talk.cause))
     where
@@ -174,7 +174,7 @@ module _ (rule : RuleData) (role : Role) (peers : List Peer) (s : Start) (after 
     members = talk.members;
     heard = all;
     said = talk.said;
-    course = subst (λ (ids : List UpdateId). Comes store_limits role rule.database talk.ruled.node ids (updates_of s.first.seen) talk.reached talk.members all talk.said) t.1 talk.course;
+    course = subst (λ (ids : List UpdateId). Comes store_limits role rule.database talk.ruled.opening.node ids (updates_of s.first.seen) talk.reached talk.members all talk.said) t.1 talk.course;
     within = talk.within;
     read = r.read;
     later = r.later;

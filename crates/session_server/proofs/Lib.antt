@@ -1,3 +1,4 @@
+mod Accepting
 mod Finishing
 mod Passing
 mod Talking

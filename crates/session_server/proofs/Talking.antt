@@ -26,8 +26,9 @@ use Rattle.sync_session.specs.declared.checked_frame.CheckedFrame.{CheckedFrame}
 use Rattle.sync_session.specs.declared.out.Out.{Out}
 use Rattle.turn_lock.specs.Seats.{Known}
 use Rattle.shared_replica.specs.declared.entry.Entry.{Entry}
+use Rattle.shared_replica.specs.declared.entry.Opening.{Opening}
 use Rattle.shared_replica.specs.Acts.{IsAct}
-use Rattle.shared_replica.specs.Entries.{IsStoreOf, entries_by, updates_of}
+use Rattle.shared_replica.specs.Entries.{IsStoreOf, entries_by, opening_of, updates_of}
 use Rattle.shared_replica.specs.Sessions.{IsRuledBy, is_store, met_store}
 use Rattle.shared_replica.proofs.Going.{begun_after, ruled_longer}
 use Rattle.link_frames.specs.Course.{Comes, opens, hears}
@@ -55,13 +56,12 @@ use Rattle.session_server.proofs.Passing.{act_still, prefix_then, still_then, up
 -- ---- the replica of a list
 
 -- a list that begins with a replica of this rule is that of a replica of this rule
-pub same_replica : (list P : List Entry) (rule : RuleData) (store : ReplicaState) (r : IsRuledBy list rule) → IsPrefix list P → IsStoreOf P store → (store.node ≡ r.node) × (store.history.schema.rule ≡ rule)
+pub same_replica : (list P : List Entry) (rule : RuleData) (store : ReplicaState) (r : IsRuledBy list rule) → IsPrefix list P → IsStoreOf P store → (store.node ≡ r.opening.node) × (store.history.schema.rule ≡ rule)
 same_replica list P rule store r p s =
     let longer = ruled_longer list P rule p r in
     let firsts = sym s.first ∙ longer.first in
-    let nodes : store.node ≡ r.node = cc in
-    let schemas : store.history.schema ≡ r.schema = cc in
-    (nodes, ap (λ k. k.rule) schemas ∙ r.same)
+    let openings : record (opening_of store) { faults = s.start } ≡ r.opening = cc in
+    (ap (λ (o : Opening). o.node) openings, ap (λ (o : Opening). o.schema.rule) openings ∙ r.same)
 
 -- ---- a list that has grown
 
@@ -130,8 +130,8 @@ talk_again rule start old again pass after k next fresh held faults heard out t 
     let still = act_still pass after b.point b.store b.store false b.act in
     let before = prefix_then start.first.seen pass.seen b.point t.seen_more b.act.began in
     let same = same_replica start.first.seen b.point rule b.store t.ruled before b.act.stood in
-    let none = fresh_said store_limits rule.database t.ruled.node old (updates_of start.first.seen) t.reached t.members heard t.said t.course empty in
-    let is : seen (updates_of b.point) next ≡ opened Responder rule.database t.ruled.node again (map entry_of (updates_of b.point)) =
+    let none = fresh_said store_limits rule.database t.ruled.opening.node old (updates_of start.first.seen) t.reached t.members heard t.said t.course empty in
+    let is : seen (updates_of b.point) next ≡ opened Responder rule.database t.ruled.opening.node again (map entry_of (updates_of b.point)) =
     b.starts.state ∙ ap (λ (d : List ℕ). opened Responder d b.store.node again (map entry_of (updates_of b.point))) (ap (λ (r : RuleData). r.database) same.1)
     ∙ ap (λ (n : List ℕ). opened Responder rule.database n again (map entry_of (updates_of b.point))) same.0 in
     record {
@@ -561,7 +561,7 @@ pub reads_none : (rule : RuleData) (role : Role) (peers : List Peer) (start : St
     (heard all : List FrameData) (place : ℕ) (ending : Option Ending) → Reads rule before left fed heard → IsBroken fed.rest → place ≡ fed.place → after ≡ left → is_cut ending ≡ false → HeardOne (NoFrame place) heard ending all
     → IsTalkWith rule role peers start pass k fresh held faults all ending → ReadsBy ending rule before after new all
 reads_none rule role peers start pass k fresh held faults before left after fed new heard all place None r broken is same uncut (inl are) t =
-    absurd (no_frame_ends store_limits role rule.database t.2.ruled.node t.0 (updates_of start.first.seen) t.2.reached t.2.members heard all t.2.said place t.2.course are t.2.cause)
+    absurd (no_frame_ends store_limits role rule.database t.2.ruled.opening.node t.0 (updates_of start.first.seen) t.2.reached t.2.members heard all t.2.said place t.2.course are t.2.cause)
 reads_none rule role peers start pass k fresh held faults before left after fed new heard all place None r broken is same uncut (inr none) t = absurd (cc (none.0))
 reads_none rule role peers start pass k fresh held faults before left after fed new heard all place (Some ending) r broken is same uncut (inl are) t = record {
   read = r.front ++ fed.rest;

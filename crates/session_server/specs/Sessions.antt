@@ -97,7 +97,7 @@ pub record Runs (rule : RuleData) (role : Role) (peers : List Peer) (name : Opti
   pub members : List (List ℕ)
   pub heard : List FrameData
   pub said : List FrameData
-  pub course : Comes store_limits role rule.database ruled.node (recalled role peers name heard) (updates_of before.seen) reached members heard said
+  pub course : Comes store_limits role rule.database ruled.opening.node (recalled role peers name heard) (updates_of before.seen) reached members heard said
   pub within : IsPrefix members (updates_of after.seen)
   pub read : List ℕ
   pub later : List ℕ

@@ -88,7 +88,7 @@ pub record IsTalk (rule : RuleData) (role : Role) (start : Start) (old : List Up
   pub reached : SessionData
   pub members : List (List ℕ)
   pub said : List FrameData
-  pub course : Comes store_limits role rule.database ruled.node old (updates_of start.first.seen) reached members heard said
+  pub course : Comes store_limits role rule.database ruled.opening.node old (updates_of start.first.seen) reached members heard said
   pub within : IsPrefix members (updates_of pass.seen)
   pub stands : k.failed ≡ false → (reached ≡ seen members k) × Stands rule k members
   pub put : List ℕ

@@ -13,11 +13,16 @@
 #![tactic(auto)]
 
 mod ending;
+mod running;
 mod saying;
 mod served;
+mod served_all;
+mod server;
 mod session;
 mod talk;
 
 pub use ending::Ending;
 pub use served::Served;
+pub use served_all::{ServedAll, ServedList};
+pub use server::serve;
 pub use session::run_session;

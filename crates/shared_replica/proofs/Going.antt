@@ -1,9 +1,11 @@
 -- What a pass that sees more still has.
-use Rattle.std.proofs.Common.{◌≡◌, ◌≤◌, ℕ, Bool, true, List, ◌∷◌, ◌++◌, length, Option, Some, None, Result, Ok, Err, IfOk, refl, sym, ap, ◌∙◌, subst}
+use Rattle.std.proofs.Common.{◌≡◌, ◌≤◌, ℕ, Bool, true, List, ◌∷◌, ◌++◌, length, Option, Some, None, option_map, Result, Ok, Err, IfOk, refl, sym, ap, ◌∙◌, subst}
 use Rattle.std.specs.declared.alloc.AllocError.{AllocError}
 use mathlib.Core.List.{IsPrefix}
-use Rattle.replica.specs.Replicas.{ReplicaState}
-use Rattle.schema.specs.Data.{SchemaData}
+use Rattle.bec_disk.specs.Disk.{IsSameDisk}
+use Rattle.bec_disk.specs.Slot.{Slot, slot}
+use Rattle.bec_disk.specs.declared.part.Part.{Part}
+use Rattle.replica.specs.Replicas.{IsSameStore, ReplicaState}
 use Rattle.session_rules.specs.declared.end.End.{End}
 use Rattle.session_rules.specs.declared.end.End.TheVariants.{Done, Peer, Full, Store}
 use Rattle.sync_session.proofs.Growing.{belongs_grown}
@@ -18,27 +20,28 @@ use Rattle.update_model.specs.declared.limits.TheConstants.{MAX_MEMBERS}
 use Rattle.shared_replica.proofs.Lists.{updates_more}
 use Rattle.shared_replica.specs.declared.entry.Entry.{Entry}
 use Rattle.shared_replica.specs.declared.entry.Entry.TheVariants.{First}
+use Rattle.shared_replica.specs.declared.entry.Opening.{Opening}
 use Rattle.shared_replica.specs.Acts.{IsAct}
-use Rattle.shared_replica.specs.Entries.{IsStoreOf, updates_of}
+use Rattle.shared_replica.specs.Entries.{HasFaults, IsStoreOf, faults_of, opening_of, place_of, updates_of}
 use Rattle.shared_replica.specs.Sessions.{BelongsIn, IsRuledBy, IsUnder, is_store, met_store}
 
 -- ---- the rule of a list
 
-pub ruled_first : (node : List ℕ) (schema : SchemaData) (start : ℕ) (rest : List Entry) → IsRuledBy (First node schema start ∷ rest) schema.rule
-ruled_first node schema start rest = record { node = node; schema = schema; start = start; rest = rest; first = refl; same = refl }
+pub ruled_first : (opening : Opening) (rest : List Entry) → IsRuledBy (First opening ∷ rest) opening.schema.rule
+ruled_first opening rest = record { opening = opening; rest = rest; first = refl; same = refl }
 
 pub ruled_longer : (list longer : List Entry) (rule : RuleData) → IsPrefix list longer → IsRuledBy list rule → IsRuledBy longer rule
 ruled_longer list longer rule p r =
-    record { node = r.node; schema = r.schema; start = r.start; rest = r.rest ++ p.0; first = sym p.1 ∙ ap (λ (l : List Entry). l ++ p.0) r.first; same = r.same }
+    record { opening = r.opening; rest = r.rest ++ p.0; first = sym p.1 ∙ ap (λ (l : List Entry). l ++ p.0) r.first; same = r.same }
 
 pub ruled_once : (list : List Entry) (rule other : RuleData) → IsRuledBy list rule → IsRuledBy list other → rule ≡ other
 ruled_once list rule other r s =
     let firsts = sym r.first ∙ s.first in
-    let schemas : r.schema ≡ s.schema = cc in
-    sym r.same ∙ ap (λ (k : SchemaData). k.rule) schemas ∙ s.same
+    let openings : r.opening ≡ s.opening = cc in
+    sym r.same ∙ ap (λ (o : Opening). o.schema.rule) openings ∙ s.same
 
 ruled_store : (list : List Entry) (store : ReplicaState) → IsStoreOf list store → IsRuledBy list store.history.schema.rule
-ruled_store list store s = record { node = store.node; schema = store.history.schema; start = s.start; rest = s.rest; first = s.first; same = refl }
+ruled_store list store s = record { opening = record (opening_of store) { faults = s.start }; rest = s.rest; first = s.first; same = refl }
 
 -- ---- longer lists
 
@@ -108,3 +111,31 @@ module _ (list : List Entry) (store : ReplicaState) (is : IsStoreOf list store) 
 
   pub under_now : (frame : CheckedFrame) → IsUnder list frame → IsFrameUnder store.history.schema.rule frame
   under_now frame u = subst (λ (rule : RuleData). IsFrameUnder rule frame) (ruled_once list u.rule store.history.schema.rule u.ruled (ruled_store list store is)) u.under
+
+-- ---- a store and the replica of the first entry
+
+abbrev slot_at : List ℕ × Part → Slot
+slot_at place = slot place.0 place.1
+
+slot_again : (place : Option Slot) → option_map slot_at (option_map place_of place) ≡ place
+slot_again None = refl
+slot_again (Some place) = refl
+
+module _ (replica store : ReplicaState) (rest last : List Entry) (begins : IsPrefix (First (opening_of replica) ∷ rest) last) (is : IsStoreOf last store) where
+  opened_as : record (opening_of store) { faults = is.start } ≡ opening_of replica
+  opened_as = let firsts = sym is.first ∙ sym begins.1 in cc
+
+  pub store_stays : IsSameStore replica store
+  store_stays = record { node = ap (λ (o : Opening). o.node) opened_as; schema = ap (λ (o : Opening). o.schema) opened_as }
+
+  pub disk_stays : IsSameDisk replica.log.disk store.log.disk
+  disk_stays = record {
+    tells = ap (λ (o : Opening). o.tells) opened_as;
+    slot = sym (slot_again store.log.disk.slot) ∙ ap (λ (o : Opening). option_map slot_at o.place) opened_as ∙ slot_again replica.log.disk.slot;
+  }
+
+  pub faults_rise : HasFaults replica.log.faults (faults_of last) store.log.faults
+  faults_rise = subst (λ (start : ℕ). HasFaults start (faults_of last) store.log.faults) (ap (λ (o : Opening). o.faults) opened_as) is.faults
+
+pub updates_stay : (seen last : List Entry) (store : ReplicaState) → IsPrefix seen last → IsStoreOf last store → IsPrefix (updates_of seen) store.history.members
+updates_stay seen last store begins is = (updates_of begins.0, sym (updates_more seen begins.0) ∙ ap updates_of begins.1 ∙ is.updates)

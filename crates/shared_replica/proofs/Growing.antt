@@ -7,6 +7,8 @@ use Rattle.shared_replica.proofs.Lists.{grows_listed, grows_stored, store_of, up
 use Rattle.replica.specs.declared.make_fault.MakeFault.{MakeFault}
 use Rattle.replica.specs.declared.make_fault.MakeFault.TheVariants.{NotListed, TooManyHeads, Invalid, TooLong, Full, Spent, Taken, DiskFault, Memory}
 use Rattle.replica.specs.declared.make_fault.Side.TheVariants.{Key, Log}
+use Rattle.bec_disk.proofs.Moments.{then_same}
+use Rattle.bec_disk.specs.Disk.{IsSameDisk}
 use Rattle.replica.specs.Holding.{IsOnDisk}
 use Rattle.replica.specs.Replicas.{ReplicaState}
 use Rattle.bec_bytes.specs.Causes.{Rose}
@@ -15,12 +17,12 @@ abbrev pub story : ReplicaState → ℕ → List Run → ReplicaState → Story
 story opening opened runs replica = record { entries = listed opening opened runs replica.history.members; store = replica }
 
 module _ (opening : ReplicaState) (opened : ℕ) (runs : List Run) (faults : ℕ) (replica new : ReplicaState) (is : IsStored opening opened runs faults replica)
-    (node : new.node ≡ replica.node) (schema : new.history.schema ≡ replica.history.schema) (later : replica.log.faults ≤ new.log.faults) (on_disk : IsOnDisk new) where
+    (node : new.node ≡ replica.node) (schema : new.history.schema ≡ replica.history.schema) (later : replica.log.faults ≤ new.log.faults) (disk : IsSameDisk replica.log.disk new.log.disk) (on_disk : IsOnDisk new) where
   -- the act added these updates and met no fault
   module _ (runs' : List Run) (r : Run) (added : List (List ℕ)) (more : runs' ≡ runs ++ r ∷ []) (count : r.count ≡ length added) (members : new.history.members ≡ replica.history.members ++ added) where
     pub added_stored : r.fault ≡ false → IsStored opening opened runs' faults new
     added_stored well = grows_stored opening opened runs runs' faults faults replica new r added is more count (let k : one_if r.fault ≡ 0 = ap one_if well in omega arith) members
-        node schema (let h = is.rose in omega arith) on_disk
+        node schema (let h = is.rose in omega arith) disk on_disk
 
     pub added_grows : (old : Story) → story opening opened runs replica ≡ old → r.fault ≡ false → (fault : Bool) → fault ≡ false → Grows old (story opening opened runs' new) r.seat r.act fault
     added_grows old was well fault none = record {
@@ -35,7 +37,7 @@ module _ (opening : ReplicaState) (opened : ℕ) (runs : List Run) (faults : ℕ
     -- it met a fault behind them
     pub fault_stored : r.fault ≡ true → Rose replica.log.faults new.log.faults → IsStored opening opened runs' (faults + 1) new
     fault_stored ill rose = grows_stored opening opened runs runs' faults (faults + 1) replica new r added is more count (let k : one_if r.fault ≡ 1 = ap one_if ill in omega arith) members
-        node schema (let h = is.rose in omega (arith, rose)) on_disk
+        node schema (let h = is.rose in omega (arith, rose)) disk on_disk
 
     pub fault_grows : (old : Story) → story opening opened runs replica ≡ old → r.fault ≡ true → Rose replica.log.faults new.log.faults → (fault : Bool) → fault ≡ true → Grows old (story opening opened runs' new) r.seat r.act fault
     fault_grows old was ill rose fault one = record {
@@ -56,6 +58,7 @@ module _ (opening : ReplicaState) (opened : ℕ) (runs : List Run) (faults : ℕ
       all = (λ i. opened + counted (same_runs i)) ∙ is.all ∙ ap length (sym same);
       faults_are = ap met same_runs ∙ is.faults_are;
       rose = let h = is.rose in omega arith;
+      disk = then_same opening.log.disk replica.log.disk new.log.disk is.disk disk;
       on_disk = on_disk;
     }
 

@@ -1,13 +1,15 @@
 -- Lists that grow by an act.
-use Rattle.std.proofs.Common.{◌≡◌, ℕ, ◌+◌, ◌≤◌, Bool, true, false, List, [], ◌∷◌, ◌++◌, length, map, take, drop, None, Some, refl, ap, sym, ◌∙◌, subst, arith, length-append, append-nil, append_assoc, length-drop, take_all, take-append-drop}
+use Rattle.std.proofs.Common.{◌≡◌, ℕ, ◌+◌, ◌≤◌, Bool, true, false, List, [], ◌∷◌, ◌++◌, length, map, take, drop, None, Some, option_map, refl, ap, sym, ◌∙◌, subst, arith, length-append, append-nil, append_assoc, length-drop, take_all, take-append-drop}
 use Rattle.std.specs.Prelude.{All}
 use Rattle.std.proofs.lemmas.List.{take-append-le, drop-append-le}
 use Rattle.std.proofs.lemmas.List.Elements.{All-nil, All-same, All-cons, All-map}
 use mathlib.Core.List.{IsPrefix}
+use Rattle.bec_disk.proofs.Moments.{same_disk, then_same}
+use Rattle.bec_disk.specs.Disk.{IsSameDisk}
 use Rattle.shared_replica.specs.declared.entry.Entry.{Entry}
 use Rattle.shared_replica.specs.declared.entry.Entry.TheVariants.{First, Opened, Added, Fault}
 use Rattle.shared_replica.specs.declared.entry.Run.{Run}
-use Rattle.shared_replica.specs.Entries.{entries_by, entries_of, one_if, counted, met, HasFaults, updates_of, faults_of, maker_of, listed, IsStored, IsStoreOf}
+use Rattle.shared_replica.specs.Entries.{entries_by, entries_of, one_if, counted, met, HasFaults, updates_of, faults_of, maker_of, listed, opening_of, place_of, IsStored, IsStoreOf}
 use Rattle.replica.specs.Holding.{IsOnDisk}
 use Rattle.replica.specs.Replicas.{ReplicaState}
 
@@ -15,14 +17,14 @@ use Rattle.replica.specs.Replicas.{ReplicaState}
 
 pub updates_more : (es fs : List Entry) → updates_of (es ++ fs) ≡ updates_of es ++ updates_of fs
 updates_more [] fs = refl
-updates_more (First node schema faults ∷ es) fs = updates_more es fs
+updates_more (First opening ∷ es) fs = updates_more es fs
 updates_more (Opened u ∷ es) fs = ap (λ us. u ∷ us) (updates_more es fs)
 updates_more (Added u seat act ∷ es) fs = ap (λ us. u ∷ us) (updates_more es fs)
 updates_more (Fault seat act ∷ es) fs = updates_more es fs
 
 faults_more : (es fs : List Entry) → faults_of (es ++ fs) ≡ faults_of es + faults_of fs
 faults_more [] fs = omega arith
-faults_more (First node schema faults ∷ es) fs = faults_more es fs
+faults_more (First opening ∷ es) fs = faults_more es fs
 faults_more (Opened u ∷ es) fs = faults_more es fs
 faults_more (Added u seat act ∷ es) fs = faults_more es fs
 faults_more (Fault seat act ∷ es) fs = omega (arith, faults_more es fs)
@@ -92,7 +94,7 @@ faults_entries [] us = refl
 faults_entries (r ∷ rs) us =
     omega (arith, faults_more (entries_by r.seat r.act (take r.count us) r.fault) (entries_of rs (drop r.count us)), faults_in r.seat r.act (take r.count us) r.fault, faults_entries rs (drop r.count us))
 
-updates_opened : (us : List (List ℕ)) → updates_of (map Opened us) ≡ us
+pub updates_opened : (us : List (List ℕ)) → updates_of (map Opened us) ≡ us
 updates_opened [] = refl
 updates_opened (u ∷ us) = ap (λ l. u ∷ l) (updates_opened us)
 
@@ -145,7 +147,13 @@ module _ (opening : ReplicaState) (opened : ℕ) (runs : List Run) (faults : ℕ
   store_of = record {
     start = opening.log.faults;
     rest = map Opened (take opened us) ++ entries_of runs (drop opened us);
-    first = λ i. First (sym is.node i) (sym is.schema i) opening.log.faults ∷ (map Opened (take opened us) ++ entries_of runs (drop opened us));
+    first = λ i. First (record {
+      node = sym is.node i;
+      schema = sym is.schema i;
+      faults = opening.log.faults;
+      tells = sym is.disk.tells i;
+      place = option_map place_of (sym is.disk.slot i);
+    }) ∷ (map Opened (take opened us) ++ entries_of runs (drop opened us));
     updates = updates_listed;
     faults = subst (λ (n : ℕ). HasFaults opening.log.faults n replica.log.faults) (sym faults_listed) is.rose;
     on_disk = is.on_disk;
@@ -161,18 +169,19 @@ module _ (replica opening : ReplicaState) (opened : ℕ) (runs : List Run) (same
     all = let n : counted runs ≡ 0 = ap counted none in omega arith;
     faults_are = ap met none;
     rose = let n : opening.log.faults ≡ replica.log.faults = ap (λ r. r.log.faults) same in omega arith;
+    disk = same_disk opening.log.disk replica.log.disk (ap (λ r. r.log.disk) (sym same));
     on_disk = on_disk;
   }
 
-  pub opens_listed : listed opening opened runs replica.history.members ≡ First replica.node replica.history.schema replica.log.faults ∷ map Opened replica.history.members
+  pub opens_listed : listed opening opened runs replica.history.members ≡ First (opening_of replica) ∷ map Opened replica.history.members
   opens_listed =
-      (λ i. First (same i).node (same i).history.schema (same i).log.faults ∷ (map Opened (take opened replica.history.members) ++ entries_of (none i) (drop opened replica.history.members)))
-      ∙ ap (λ l. First replica.node replica.history.schema replica.log.faults ∷ l) (append-nil _ ∙ ap (map Opened) (take_all opened replica.history.members (omega arith)))
+      (λ i. First (opening_of (same i)) ∷ (map Opened (take opened replica.history.members) ++ entries_of (none i) (drop opened replica.history.members)))
+      ∙ ap (λ l. First (opening_of replica) ∷ l) (append-nil _ ∙ ap (map Opened) (take_all opened replica.history.members (omega arith)))
 
 -- an opening list has no entry of a seat
-pub opening_made : (replica : ReplicaState) (list : List Entry) → list ≡ First replica.node replica.history.schema replica.log.faults ∷ map Opened replica.history.members → All (λ e. maker_of e ≡ None) list
+pub opening_made : (replica : ReplicaState) (list : List Entry) → list ≡ First (opening_of replica) ∷ map Opened replica.history.members → All (λ e. maker_of e ≡ None) list
 opening_made replica list is = All-same (λ e. maker_of e ≡ None) list _ is
-    (All-cons (λ e. maker_of e ≡ None) (First replica.node replica.history.schema replica.log.faults) _ refl (All-map (λ e. maker_of e ≡ None) Opened replica.history.members (λ k d inside. refl)))
+    (All-cons (λ e. maker_of e ≡ None) (First (opening_of replica)) _ refl (All-map (λ e. maker_of e ≡ None) Opened replica.history.members (λ k d inside. refl)))
 
 -- a list has the updates with which it begins
 pub updates_begin : (es list : List Entry) → IsPrefix es list → length (updates_of es) ≤ length (updates_of list)
@@ -189,18 +198,19 @@ module _ (opening : ReplicaState) (opened : ℕ) (runs runs' : List Run) (faults
       let a = is.all in
       let less : opened ≤ length us = omega arith in
       let left : counted runs ≡ length (drop opened us) = omega (arith, length-drop opened us) in
-      let first = First opening.node opening.history.schema opening.log.faults in
+      let first = First (opening_of opening) in
       (λ i. first ∷ (map Opened (take opened (members i)) ++ entries_of (more i) (drop opened (members i))))
       ∙ (λ i. first ∷ (map Opened (take-append-le opened us added less i) ++ entries_of (runs ++ r ∷ []) (drop-append-le opened us added less i)))
       ∙ ap (λ l. first ∷ (map Opened (take opened us) ++ l)) (entries_more runs r (drop opened us) added left count)
       ∙ ap (λ l. first ∷ l) (sym (append_assoc (map Opened (take opened us)) (entries_of runs (drop opened us)) (entries_by r.seat r.act added r.fault)))
 
-  pub grows_stored : new.node ≡ replica.node → new.history.schema ≡ replica.history.schema → HasFaults opening.log.faults faults' new.log.faults → IsOnDisk new → IsStored opening opened runs' faults' new
-  grows_stored node schema rose on_disk = record {
+  pub grows_stored : new.node ≡ replica.node → new.history.schema ≡ replica.history.schema → HasFaults opening.log.faults faults' new.log.faults → IsSameDisk replica.log.disk new.log.disk → IsOnDisk new → IsStored opening opened runs' faults' new
+  grows_stored node schema rose disk on_disk = record {
     node = node ∙ is.node;
     schema = schema ∙ is.schema;
     all = let a = is.all in let n = ap length members in let c : counted runs' ≡ counted (runs ++ r ∷ []) = ap counted more in omega (arith, counted_more runs r, length-append replica.history.members added);
     faults_are = let f = is.faults_are in let c : met runs' ≡ met (runs ++ r ∷ []) = ap met more in omega (arith, met_more runs r);
     rose = rose;
+    disk = then_same opening.log.disk replica.log.disk new.log.disk is.disk disk;
     on_disk = on_disk;
   }

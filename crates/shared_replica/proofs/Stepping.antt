@@ -5,6 +5,8 @@ use Rattle.std.proofs.lemmas.List.{length-map}
 use Rattle.std.proofs.lemmas.List.Elements.{All-nil}
 use Rattle.std.specs.Prelude.{Contains, nat_le, ◌&&◌, true}
 use Rattle.std.specs.declared.alloc.AllocError.{AllocError}
+use Rattle.bec_disk.specs.Disk.{IsSameDisk}
+use Rattle.replica.specs.Holding.{IsOnDisk, KeepsOn}
 use Rattle.replica.specs.Replicas.{ReplicaState}
 use Rattle.sync_session.specs.Kept.{Kept, BelongsTo, GrowsBy, StepsTo}
 use Rattle.sync_session.specs.declared.checked_frame.CheckedFrame.{CheckedFrame}
@@ -27,6 +29,10 @@ count_added before added after m n behind low high = let all = ap length behind 
 pub none_added : (before added after : List (List ℕ)) → after ≡ before ++ added → 0 ≡ length added → after ≡ before
 none_added before [] after behind none = behind ∙ append-nil before
 none_added before (u ∷ us) after behind none = absurd (omega arith)
+
+-- the log is on the same disk after a step
+pub same_after : (replica new : ReplicaState) → KeepsOn replica new → IsOnDisk replica → IsSameDisk replica.log.disk new.log.disk
+same_after replica new keeps here = (keeps.disk here).any_moment.disk
 
 -- nothing comes from anywhere
 pub gains_none : (from members : List (List ℕ)) → GrowsBy from members members

@@ -2,7 +2,6 @@
 use Rattle.std.specs.Prelude.{◌≡◌, ℕ, Bool, true, false, List, ◌∷◌, Option, Some, None, Result, Ok, Err}
 use Rattle.std.specs.declared.alloc.AllocError.{AllocError}
 use mathlib.Core.List.{IsPrefix}
-use Rattle.schema.specs.Data.{SchemaData}
 use Rattle.session_rules.specs.declared.end.End.{End}
 use Rattle.session_rules.specs.declared.end.End.TheVariants.{Done, Peer, Full, Store}
 use Rattle.sync_session.specs.Kept.{Kept, BelongsTo, IsFrameUnder}
@@ -12,16 +11,15 @@ use Rattle.update_model.specs.Batch.{store_limits}
 use Rattle.update_model.specs.Rule.{RuleData}
 use Rattle.shared_replica.specs.declared.entry.Entry.{Entry}
 use Rattle.shared_replica.specs.declared.entry.Entry.TheVariants.{First}
+use Rattle.shared_replica.specs.declared.entry.Opening.{Opening}
 use Rattle.shared_replica.specs.Entries.{updates_of}
 
 -- The list begins with a first entry, and this is the rule of its schema.
 pub record IsRuledBy (list : List Entry) (rule : RuleData) : Type 0 where
-  pub node : List ℕ
-  pub schema : SchemaData
-  pub start : ℕ
+  pub opening : Opening
   pub rest : List Entry
-  pub first : list ≡ First node schema start ∷ rest
-  pub same : schema.rule ≡ rule
+  pub first : list ≡ First opening ∷ rest
+  pub same : opening.schema.rule ≡ rule
 
 -- A frame is under the rule of the list.
 pub record IsUnder (list : List Entry) (frame : CheckedFrame) : Type 0 where

@@ -23,7 +23,7 @@ mod laws;
 mod shared;
 mod stored;
 
-pub use entry::{Entry, Run};
-pub use laws::{acts_see_more, frames_stay, rules_stay, sessions_go_on};
+pub use entry::{Entry, Opening, Run};
+pub use laws::{acts_see_more, frames_stay, rules_stay, sessions_go_on, stores_stay};
 pub use shared::{Acted, Pass, Shared};
 pub use stored::{Picture, Stored};

@@ -3,7 +3,7 @@ ghost use Rattle.std.specs.Prelude.{◌≡◌, ◌⊎◌, ◌<◌, ◌+◌, ℕ,
 ghost use mathlib.Core.List.{IsPrefix};
 ghost use Rattle.shared_replica.specs.declared.entry.Entry.{Entry};
 ghost use Rattle.shared_replica.specs.declared.entry.Entry.TheVariants.{First, Opened};
-ghost use Rattle.shared_replica.specs.Entries.{IsStoreOf};
+ghost use Rattle.shared_replica.specs.Entries.{IsStoreOf, opening_of};
 
 use crate::stored::Stored;
 use bec_disk::Disk;
@@ -37,7 +37,7 @@ impl<D: Disk> Shared<D> {
         alloc: Global,
         replica: Replica<D, Luhn, Luhn>,
     ) -> Result<(Shared<D>, Pass<D>), Back<Replica<D, Luhn, Luhn>>>
-        ensures ok { IfOk result (λ r. r.1 ≡ record { lock = r.0.lock; seen = First replica.node replica.history.schema replica.log.faults ∷ map Opened replica.history.members; number = None; acts = 0 }) }
+        ensures ok { IfOk result (λ r. r.1 ≡ record { lock = r.0.lock; seen = First (opening_of replica) ∷ map Opened replica.history.members; number = None; acts = 0 }) }
         ensures err { IfErr result (λ b. b.back ≡ replica) }
     {
         match TurnLock::new(alloc, Stored::new(alloc, replica)) {

@@ -4,7 +4,7 @@ ghost use Rattle.replica.specs.Making.{IsMakeCause, Makes};
 ghost use Rattle.replica.specs.Signing.{KeyAfter};
 ghost use Rattle.shared_replica.specs.declared.entry.Entry.TheVariants.{First, Opened};
 ghost use Rattle.shared_replica.specs.Acts.{Grows, met_fault};
-ghost use Rattle.shared_replica.specs.Entries.{IsStoreOf, updates_of};
+ghost use Rattle.shared_replica.specs.Entries.{IsStoreOf, opening_of, updates_of};
 ghost use Rattle.table_model.specs.Visible.{rules_with};
 ghost use Rattle.tuple_state.specs.State.{IsStateOf};
 ghost use Rattle.history.specs.Histories.{nodes_of};
@@ -84,7 +84,7 @@ impl<D: Disk> Stored<D> {
     /// A replica with its list: the first entry, and an opening entry for each update.
     pub fn new(alloc: Global, replica: Replica<D, Luhn, Luhn>) -> Stored<D>
         ensures store { result.store ≡ replica }
-        ensures entries { result.entries ≡ First replica.node replica.history.schema replica.log.faults ∷ map Opened replica.history.members }
+        ensures entries { result.entries ≡ First (opening_of replica) ∷ map Opened replica.history.members }
     {
         let opening = Snapshot::of(&replica);
         let opened = replica.len();

@@ -15,8 +15,8 @@ use Rattle.update_log.specs.Logset.{BeginsWith, IsLogset}
 use Rattle.update_log.proofs.Logsets.{records_logset}
 use Rattle.replica.specs.Opening.{IsOpened, KeepsStore}
 use Rattle.replica.specs.Replicas.{ReplicaState}
-use Rattle.store_directory.specs.Holding.{OpenData, PutsStore, TakesStore, WorksOn}
-use Rattle.store_directory.specs.Stores.{IsHome, IsStore, KeepsList, ReadsAs, StoreData, StoreRun, part_in, reading, with_added}
+use Rattle.store_directory.specs.Holding.{HoldsOn, OpenData, PutsStore, TakesStore, WorksOn}
+use Rattle.store_directory.specs.Stores.{HoldsList, HoldsRun, IfStands, IsHome, IsStore, KeepsList, ReadsAs, StoreData, StoreRun, part_in, reading, with_added}
 use Rattle.store_directory.proofs.Handing.{handed_since, put_untouched}
 use Rattle.store_directory.proofs.Places.{home_again, stands-not-out}
 use Rattle.store_directory.proofs.Putting.{reads_handed, told}
@@ -56,44 +56,80 @@ list_of_opened ask place part taken now added done tells opened keeps works =
       from_now = inr (subst (λ (l : List (List ℕ)). EveryImage now.log.disk.now (BeginsWith (stream_of l))) works.members (works.on_disk (moments.told (handed_out place part) now.log.disk whole.disk refl)));
     }
 
--- A run over the store of a directory: the store is taken, updates are added, and its parts are put back. What is done to other parts in between
--- is left open.
+-- what was done at each moment, at the end alone
+holds_on : (taken : OpenData) (now : ReplicaState) (added : List (List ℕ)) (done : Bool) → WorksOn taken now added done → HoldsOn taken.replica now added done
+holds_on taken now added done works =
+    record { schema = works.schema; members = works.members; closed = works.closed; disk = works.any_moment.disk; on_disk = works.on_disk; log = works.log; clean = works.clean }
+
+pub holds_run : (ask : Meaning) (before after : ShelfState) (dir : List ℕ) (added : List (List ℕ)) (done : Bool) → StoreRun ask before after dir added done → HoldsRun ask before after dir added done
+holds_run ask before after dir added done run = record {
+  list = λ store is. let kept = run.list store is in record { closed = kept.closed; from_now = kept.from_now };
+  reads = run.reads;
+  schema = run.schema;
+}
+
+-- A run over the store of a directory: the store is taken, something is done to it and to other parts, and its parts are put back.
+module _ (one : OneSchema) (ask : Meaning) (before opened closing after : ShelfState) (dir : List ℕ) (taken : OpenData) (now : ReplicaState) (added : List (List ℕ)) (done : Bool)
+    (tells : IsTrue before.tells) (tells' : IsTrue closing.tells) (takes : TakesStore ask before dir taken opened) (puts : PutsStore closing dir taken.schema now.log.disk after) where
+  schema_told : IsTrue taken.schema.tells
+  schema_told = told before.tells taken.schema.tells takes.schema_tells tells
+
+  same : (store : StoreData) → IsStore ask before dir store → store_of taken.replica ≡ store
+  same store is = same_store one ask (reading (part_in before dir Schema)) (reading (part_in before dir Updates)) (store_of taken.replica) store (read_before ask before opened dir taken tells takes) is
+
+  module _ (holds : HoldsOn taken.replica now added done) where
+    log_told : IsTrue now.log.disk.tells
+    log_told = told before.tells now.log.disk.tells (holds.disk.tells ∙ takes.updates_tells) tells
+
+    held : HoldsList (store_of taken.replica) added (part_in before dir Updates) (part_in after dir Updates)
+    held = record {
+      closed =
+          subst (λ (d : SchemaData). AreMembers d.rule (taken.replica.history.members ++ added)) holds.schema
+          (subst (λ (l : List (List ℕ)). AreMembers now.history.schema.rule l) holds.members holds.closed);
+      from_now = inr (subst (λ (p : PartState). IfStands p (λ part. EveryImage part.now (BeginsWith (stream_of (taken.replica.history.members ++ added))))) (sym (puts.updates_back tells'))
+          (subst (λ (l : List (List ℕ)). EveryImage now.log.disk.now (BeginsWith (stream_of l))) holds.members (holds.on_disk log_told)));
+    }
+
+    again : done ≡ true → IsStore ask after dir (with_added (store_of taken.replica) added)
+    again is_done =
+        let stream = clean_stream now.log now.history.members log_told (holds.log is_done) (holds.clean is_done log_told) in
+        let logset : IsLogset now.history.schema.rule now.log.disk.seen now.history.members =
+        subst (λ (bytes : List ℕ). IsLogset now.history.schema.rule bytes now.history.members) (sym stream) (records_logset now.history.schema.rule now.history.members holds.closed) in
+        let as_taken : IsLogset taken.replica.history.schema.rule now.log.disk.seen (taken.replica.history.members ++ added) =
+        subst (λ (d : SchemaData). IsLogset d.rule now.log.disk.seen (taken.replica.history.members ++ added)) holds.schema
+        (subst (λ (l : List (List ℕ)). IsLogset now.history.schema.rule now.log.disk.seen l) holds.members logset) in
+        let as_updates : ReadsAs ask (Some taken.schema.seen) (reading (part_in after dir Updates)) (with_added (store_of taken.replica) added) =
+        subst (λ (r : Option (List ℕ)). ReadsAs ask (Some taken.schema.seen) r (with_added (store_of taken.replica) added)) (sym (ap reading (puts.updates_back tells')))
+        ((takes.updates tells).2.declared schema_told, as_taken) in
+        subst (λ (r : Option (List ℕ)). ReadsAs ask r (reading (part_in after dir Updates)) (with_added (store_of taken.replica) added)) (sym (ap reading (puts.schema_back tells'))) as_updates
+
+    -- of which the end is told
+    pub held_run : HoldsRun ask before after dir added done
+    held_run = record {
+      list = λ store is. subst (λ (s : StoreData). HoldsList s added (part_in before dir Updates) (part_in after dir Updates)) (same store is) held;
+      reads = λ is_done store is. subst (λ (s : StoreData). IsStore ask after dir (with_added s added)) (same store is) (again is_done);
+      schema = put_untouched (slot dir Schema) (takes.schema tells).0 taken.schema (part_in before dir Schema) (part_in after dir Schema) (takes.schema tells).1 (takes.schema tells).2 (puts.schema_back tells');
+    }
+
+-- The same, of which each moment is told.
 pub worked_run : OneSchema → (ask : Meaning) (before opened closing after : ShelfState) (dir : List ℕ) (taken : OpenData) (now : ReplicaState) (added : List (List ℕ)) (done : Bool)
     → IsTrue before.tells → IsTrue closing.tells → TakesStore ask before dir taken opened → WorksOn taken now added done → PutsStore closing dir taken.schema now.log.disk after
     → StoreRun ask before after dir added done
 worked_run one ask before opened closing after dir taken now added done tells tells' takes works puts = record {
-  list = λ store is. subst (λ (s : StoreData). KeepsList s added (part_in before dir Updates) (part_in after dir Updates)) (same store is) list;
-  reads = λ is_done store is. subst (λ (s : StoreData). IsStore ask after dir (with_added s added)) (same store is) (again is_done);
-  schema = put_untouched (slot dir Schema) (takes.schema tells).0 taken.schema (part_in before dir Schema) (part_in after dir Schema) (takes.schema tells).1 (takes.schema tells).2 (puts.schema_back tells');
+  list = λ store is. subst (λ (s : StoreData). KeepsList s added (part_in before dir Updates) (part_in after dir Updates))
+      (same_store one ask (reading (part_in before dir Schema)) (reading (part_in before dir Updates)) (store_of taken.replica) store (read_before ask before opened dir taken tells takes) is) list;
+  reads = run.reads;
+  schema = run.schema;
 }
   where
-    schema_told : IsTrue taken.schema.tells
-    schema_told = told before.tells taken.schema.tells takes.schema_tells tells
-
-    same : (store : StoreData) → IsStore ask before dir store → store_of taken.replica ≡ store
-    same store is = same_store one ask (reading (part_in before dir Schema)) (reading (part_in before dir Updates)) (store_of taken.replica) store (read_before ask before opened dir taken tells takes) is
+    run : HoldsRun ask before after dir added done
+    run = held_run one ask before opened closing after dir taken now added done tells tells' takes puts (holds_on taken now added done works)
 
     list : KeepsList (store_of taken.replica) added (part_in before dir Updates) (part_in after dir Updates)
     list =
         subst (λ (p : PartState). KeepsList (store_of taken.replica) added p (part_in after dir Updates)) (sym (takes.updates tells).1)
         (subst (λ (p : PartState). KeepsList (store_of taken.replica) added (stands (takes.updates tells).0) p) (sym (puts.updates_back tells'))
-        (list_of_opened ask (slot dir Updates) (takes.updates tells).0 taken now added done schema_told (takes.updates tells).2 (takes.updates tells).3 works))
-
-    log_told : IsTrue now.log.disk.tells
-    log_told = told before.tells now.log.disk.tells (works.any_moment.disk.tells ∙ takes.updates_tells) tells
-
-    again : done ≡ true → IsStore ask after dir (with_added (store_of taken.replica) added)
-    again is_done =
-        let stream = clean_stream now.log now.history.members log_told (works.log is_done) (works.clean is_done log_told) in
-        let logset : IsLogset now.history.schema.rule now.log.disk.seen now.history.members =
-        subst (λ (bytes : List ℕ). IsLogset now.history.schema.rule bytes now.history.members) (sym stream) (records_logset now.history.schema.rule now.history.members works.closed) in
-        let as_taken : IsLogset taken.replica.history.schema.rule now.log.disk.seen (taken.replica.history.members ++ added) =
-        subst (λ (d : SchemaData). IsLogset d.rule now.log.disk.seen (taken.replica.history.members ++ added)) works.schema
-        (subst (λ (l : List (List ℕ)). IsLogset now.history.schema.rule now.log.disk.seen l) works.members logset) in
-        let as_updates : ReadsAs ask (Some taken.schema.seen) (reading (part_in after dir Updates)) (with_added (store_of taken.replica) added) =
-        subst (λ (r : Option (List ℕ)). ReadsAs ask (Some taken.schema.seen) r (with_added (store_of taken.replica) added)) (sym (ap reading (puts.updates_back tells')))
-        ((takes.updates tells).2.declared schema_told, as_taken) in
-        subst (λ (r : Option (List ℕ)). ReadsAs ask r (reading (part_in after dir Updates)) (with_added (store_of taken.replica) added)) (sym (ap reading (puts.schema_back tells'))) as_updates
+        (list_of_opened ask (slot dir Updates) (takes.updates tells).0 taken now added done (told before.tells taken.schema.tells takes.schema_tells tells) (takes.updates tells).2 (takes.updates tells).3 works))
 
 -- After it no part is handed out, where no other part is before the store is put back.
 pub home_after_store : (closing after : ShelfState) (dir : List ℕ) (schema updates : DiskState) → IsTrue closing.tells → PutsStore closing dir schema updates after

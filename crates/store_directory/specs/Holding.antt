@@ -1,7 +1,7 @@
 -- A store that is taken from a shelf, and put back.
 use Rattle.std.specs.Prelude.{◌≡◌, ◌≢◌, ℕ, Bool, true, false, List, [], ◌∷◌, ◌++◌, IsTrue, Option, Some}
 use Rattle.bec_bytes.specs.Framed.{stream_of}
-use Rattle.bec_disk.specs.Disk.{DiskState, EveryImage, LeavesOnly, handed_out}
+use Rattle.bec_disk.specs.Disk.{DiskState, EveryImage, IsSameDisk, LeavesOnly, handed_out}
 use Rattle.bec_disk.specs.declared.part.Part.TheVariants.{Schema, Updates}
 use Rattle.bec_disk.specs.Shelf.{KeepsOthers, ShelfState, out, stands}
 use Rattle.bec_disk.specs.Slot.{slot}
@@ -41,6 +41,17 @@ pub record WorksOn (taken : OpenData) (now : ReplicaState) (added : List (List �
   pub members : now.history.members ≡ taken.replica.history.members ++ added
   pub closed : AreMembers now.history.schema.rule now.history.members
   pub any_moment : LeavesOnly taken.replica.log.disk now.log.disk (BeginsWith (stream_of taken.replica.history.members))
+  pub on_disk : IsTrue now.log.disk.tells → EveryImage now.log.disk.now (BeginsWith (stream_of now.history.members))
+  pub log : is_done ≡ true → IsLogOf now.history.members now.log
+  pub clean : is_done ≡ true → IsTrue now.log.disk.tells → IsClean now.log.end now.log.disk
+
+-- What a store that was open is by now: these updates stand behind its list, and a crash now leaves them in front. Where it is done, the log has nothing
+-- else. What a crash leaves in between is not told.
+pub record HoldsOn (old now : ReplicaState) (added : List (List ℕ)) (is_done : Bool) : Type 0 where
+  pub schema : now.history.schema ≡ old.history.schema
+  pub members : now.history.members ≡ old.history.members ++ added
+  pub closed : AreMembers now.history.schema.rule now.history.members
+  pub disk : IsSameDisk old.log.disk now.log.disk
   pub on_disk : IsTrue now.log.disk.tells → EveryImage now.log.disk.now (BeginsWith (stream_of now.history.members))
   pub log : is_done ≡ true → IsLogOf now.history.members now.log
   pub clean : is_done ≡ true → IsTrue now.log.disk.tells → IsClean now.log.end now.log.disk

@@ -68,6 +68,11 @@ pub record KeepsList (store : StoreData) (added : List (List ℕ)) (old new : Pa
   pub any_moment : LeavesSince (moments_of old) (moments_of new) (BeginsWith (stream_of store.members))
   pub from_now : ((new ≡ old) × (added ≡ [])) ⊎ IfStands new (λ part. EveryImage part.now (BeginsWith (stream_of (store.members ++ added))))
 
+-- The same of the end of a run alone.
+pub record HoldsList (store : StoreData) (added : List (List ℕ)) (old new : PartState) : Type 0 where
+  pub closed : AreMembers store.schema.rule (store.members ++ added)
+  pub from_now : ((new ≡ old) × (added ≡ [])) ⊎ IfStands new (λ part. EveryImage part.now (BeginsWith (stream_of (store.members ++ added))))
+
 -- A part that was at most read.
 abbrev pub IsUntouched : PartState → PartState → Type 0
 IsUntouched (stands old) (stands new) = (new.seen ≡ old.seen) × LeavesSince (moments old) (moments new) (λ image. image ≡ old.seen)
@@ -92,5 +97,11 @@ IsHome shelf = (place : Slot) → shelf.parts place ≢ out
 -- directory has the store with them.
 pub record StoreRun (ask : Meaning) (before after : ShelfState) (dir : List ℕ) (added : List (List ℕ)) (is_done : Bool) : Type 0 where
   pub list : (store : StoreData) → IsStore ask before dir store → KeepsList store added (part_in before dir Updates) (part_in after dir Updates)
+  pub reads : is_done ≡ true → (store : StoreData) → IsStore ask before dir store → IsStore ask after dir (with_added store added)
+  pub schema : IsUntouched (part_in before dir Schema) (part_in after dir Schema)
+
+-- The same of the end of a run alone: what a crash leaves at the moments of the run is not told.
+pub record HoldsRun (ask : Meaning) (before after : ShelfState) (dir : List ℕ) (added : List (List ℕ)) (is_done : Bool) : Type 0 where
+  pub list : (store : StoreData) → IsStore ask before dir store → HoldsList store added (part_in before dir Updates) (part_in after dir Updates)
   pub reads : is_done ≡ true → (store : StoreData) → IsStore ask before dir store → IsStore ask after dir (with_added store added)
   pub schema : IsUntouched (part_in before dir Schema) (part_in after dir Schema)

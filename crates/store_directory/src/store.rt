@@ -20,7 +20,7 @@ use std::marker::Model;
 #[derive(Drop)]
 pub struct OpenStore<D: Disk, L: Relation, C: Checks<L>> {
     /// The disk of the part Schema.
-    pub(crate) schema: D,
+    pub schema: D,
     /// The store.
     pub replica: Replica<D, L, C>,
 }

@@ -6,7 +6,7 @@ ghost use Rattle.store_directory.specs.Stores.{IsHome};
 
 use bec_bytes::{MemSink, MemSource};
 use bec_disk::{MemShelf, Shelf};
-use bec_node::run;
+use node_commands::run_alone;
 use rand_pcg::Pcg32;
 use std::alloc::{AllocError, Global};
 
@@ -47,7 +47,7 @@ pub fn answer<H: Shelf>(
     let mut random = Pcg32::new(42, 54);
     let mut input = MemSource::new(Vec::from_slice(alloc, input)?, Vec::new(alloc));
     let mut out = MemSink::new(alloc, Vec::new(alloc));
-    let status = run(alloc, &words, shelf, &mut random, &mut input, &mut out);
+    let status = run_alone(alloc, &words, shelf, &mut random, &mut input, &mut out);
     let bytes = out.bytes().to_vec(alloc)?;
     Ok(Said { status, bytes })
 }

@@ -2,7 +2,7 @@
 
 use bec_bytes::{MemSink, MemSource, Sink, Source};
 use bec_disk::MemShelf;
-use bec_node::run;
+use node_commands::run_alone;
 use rand_pcg::Pcg32;
 use std::alloc::{AllocError, Global};
 use std::test::Fail;
@@ -26,12 +26,12 @@ pub fn answers(
 ) -> Result<bool, Fail> {
     let mut input = MemSource::new(bytes, Vec::new(alloc));
     let mut out = MemSink::new(alloc, Vec::new(alloc));
-    let got = run_alone(alloc, &words(alloc, line)?, &mut input, &mut out);
+    let got = run_over_nothing(alloc, &words(alloc, line)?, &mut input, &mut out);
     Ok(got == status && out.bytes() == text.as_bytes())
 }
 
 /// Runs the program over a shelf on which nothing is.
-pub fn run_alone<S: Source, K: Sink>(
+pub fn run_over_nothing<S: Source, K: Sink>(
     alloc: Global,
     words: &[String],
     input: &mut S,
@@ -39,5 +39,5 @@ pub fn run_alone<S: Source, K: Sink>(
 ) -> u8 {
     let mut shelf = MemShelf::new(alloc);
     let mut random = Pcg32::new(42, 54);
-    run(alloc, words, &mut shelf, &mut random, input, out)
+    run_alone(alloc, words, &mut shelf, &mut random, input, out)
 }

@@ -1,9 +1,9 @@
 //! Words that are no command, and streams that fail.
 
 use crate::records::{authors, signed};
-use crate::runs::{answers, run_alone, words};
+use crate::runs::{answers, run_over_nothing, words};
 use bec_bytes::{MemSink, MemSource, PlainSink, PlainSource};
-use bec_node::status;
+use node_commands::status;
 use std::test::Fail;
 
 #[test]
@@ -40,19 +40,19 @@ fn streams_that_fail(rt: HostRuntime) -> Result<(), Fail> {
     let mut failing = MemSource::new(root.clone()?, vec![in alloc; 2]?);
     let mut out = MemSink::new(alloc, Vec::new(alloc));
     assert_eq!(rt;
-        run_alone(alloc, &heads, &mut failing, &mut out),
+        run_over_nothing(alloc, &heads, &mut failing, &mut out),
         status::STREAM_FAULT
     );
     assert_eq!(rt; out.bytes(), b"! stream fault\n".as_slice());
     let mut shut = MemSink::new(alloc, vec![in alloc; 1]?);
     let mut plain = PlainSource::new(root.clone()?);
     assert_eq!(rt;
-        run_alone(alloc, &heads, &mut plain, &mut shut),
+        run_over_nothing(alloc, &heads, &mut plain, &mut shut),
         status::STREAM_FAULT
     );
     let mut plain = PlainSource::new(root);
     assert_eq!(rt;
-        run_alone(alloc, &heads, &mut plain, &mut PlainSink::new()),
+        run_over_nothing(alloc, &heads, &mut plain, &mut PlainSink::new()),
         status::DONE
     );
     Ok(())

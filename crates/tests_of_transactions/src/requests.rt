@@ -1,6 +1,6 @@
 //! Words of the command line.
 
-use command_words::request_in;
+use command_words::{net_request_in, request_in};
 use std::alloc::{AllocError, Global};
 use std::test::Fail;
 
@@ -56,8 +56,57 @@ const ASKED: [(&str, &str); 24] = [
     ("merge|a|./a", "Merge { first: \"a\", second: \"./a\" }"),
 ];
 
+/// The same of those that ask for something over a net.
+const ASKED_OVER_A_NET: [(&str, &str); 6] = [
+    (
+        "sync|a|localhost:7000",
+        "Sync { directory: \"a\", address: \"localhost:7000\" }",
+    ),
+    ("sync|--|-a|", "Sync { directory: \"-a\", address: \"\" }"),
+    (
+        "serve|a|b|--sessions|1",
+        "Serve { directory: \"a\", address: \"b\", sessions: 1 }",
+    ),
+    (
+        "serve|--sessions=8|a|b",
+        "Serve { directory: \"a\", address: \"b\", sessions: 8 }",
+    ),
+    (
+        "serve|a|--sessions|3|b",
+        "Serve { directory: \"a\", address: \"b\", sessions: 3 }",
+    ),
+    (
+        "serve|--sessions|2|--|a|--sessions",
+        "Serve { directory: \"a\", address: \"--sessions\", sessions: 2 }",
+    ),
+];
+
+/// Words that ask for nothing over a net.
+const REFUSED_OVER_A_NET: [&str; 20] = [
+    "",
+    "Sync",
+    "heads|a",
+    "merge|a|b",
+    "sync",
+    "sync|a",
+    "sync|a|b|c",
+    "sync|a|b|--sessions|1",
+    "sync|a|-b",
+    "serve|a|b",
+    "serve|a|--sessions|1",
+    "serve|a|b|c|--sessions|1",
+    "serve|a|b|--sessions",
+    "serve|a|b|--sessions|",
+    "serve|a|b|--sessions|0",
+    "serve|a|b|--sessions|9",
+    "serve|a|b|--sessions|10",
+    "serve|a|b|--sessions|01",
+    "serve|a|b|--sessions|+1",
+    "serve|a|b|--sessions|1|--sessions|1",
+];
+
 /// Words that are no command.
-const REFUSED: [&str; 29] = [
+const REFUSED: [&str; 31] = [
     "",
     "Heads",
     "world",
@@ -87,6 +136,8 @@ const REFUSED: [&str; 29] = [
     "merge|a",
     "merge|a|a",
     "merge|a|b|c",
+    "sync|a|b",
+    "serve|a|b|--sessions|1",
 ];
 
 /// The words that `|` parts.
@@ -118,5 +169,31 @@ fn words_that_are_no_command(rt: HostRuntime) -> Result<(), Fail> {
         assert!(rt; request_in(alloc, words.as_slice())?.is_none(), "{line}");
     }
     assert!(rt; request_in(alloc, &[])?.is_none());
+    Ok(())
+}
+
+#[test]
+fn words_that_ask_over_a_net(rt: HostRuntime) -> Result<(), Fail> {
+    let alloc = rt.alloc();
+    for (line, wanted) in ASKED_OVER_A_NET {
+        let words = words_of(alloc, line)?;
+        let request = net_request_in(alloc, words.as_slice())?.ok_or("no command")?;
+        let found = format!(in alloc; "{request:?}")?;
+        assert_eq!(rt; found.as_str(), wanted, "{line}");
+    }
+    Ok(())
+}
+
+#[test]
+fn words_that_ask_for_nothing_over_a_net(rt: HostRuntime) -> Result<(), Fail> {
+    let alloc = rt.alloc();
+    for line in REFUSED_OVER_A_NET {
+        let words = words_of(alloc, line)?;
+        assert!(rt;
+            net_request_in(alloc, words.as_slice())?.is_none(),
+            "{line}"
+        );
+    }
+    assert!(rt; net_request_in(alloc, &[])?.is_none());
     Ok(())
 }

@@ -1,6 +1,0 @@
-use Rattle.std.proofs.Common.{◌≡◌, take}
-use Rattle.bec_node.specs.Texts.{printed}
-use Rattle.bec_node.proofs.commands.heads.heads_text.Given as goal
-
-abbrev pub invariant-loop-id : goal.invariant-loop-id
-invariant-loop-id l = l.text.items ≡ printed (take l.id-index l.heads)

@@ -1,9 +1,0 @@
-use Rattle.bec_node.specs.Bundle.{nodes_of}
-use Rattle.bec_node.specs.Verdict.{rules_of}
-use Rattle.bec_node.proofs.graph_tables.graph_text.Goals as goal
-
-pub replay-requires-after_bounds : goal.replay-requires-after_bounds
-replay-requires-after_bounds c κs = c.accepted_is_unlimited.ensures (rules_of c.args.schema.now) c.requires
-
-pub returns : goal.returns
-returns c = c.in_ok-text.ensures (nodes_of c.args.graph.now) c.in_ok-tables.ensures

@@ -1,0 +1,187 @@
+//! The command `serve DIR ADDR --sessions N`: a session with each of the nodes that dial.
+
+ghost use Rattle.std.specs.Prelude.{◌≡◌, ◌≢◌, IsTrue, OnOk};
+ghost use Rattle.bec_disk.specs.declared.part.Part.TheVariants.{Peers as PeersPart};
+ghost use Rattle.bec_disk.specs.Shelf.{out};
+ghost use Rattle.store_directory.specs.Stores.{IsHome, part_in};
+ghost use Rattle.bec_node.specs.Meetings.{RemembersAll, ServesStore};
+ghost use Rattle.bec_node.specs.OpenServing.{ConcludesAll, KeepsSessions, ServesOpen, ServesPeersOpen};
+
+use crate::reply::Reply;
+use crate::settling::settle;
+use crate::words::{has_status, serve_status, serve_text};
+use bec_disk::{Disk, Shelf};
+use bec_links::Net;
+use node_commands::status::{DONE, OUT_OF_MEMORY};
+use node_commands::{Refusal, peers_of};
+use peer_memory::Peers;
+use replica::Replica;
+use row_check::{Luhn, Native};
+use schema::one_schema;
+use session_server::{Ending, Served, ServedAll, ServedList, serve};
+use shared_replica::Shared;
+use std::alloc::{AllocError, Global};
+use std::sync::Wait;
+use std::thread::Threads;
+use store_directory::{OpenStore, put_store, take_store, write_memory};
+use update_model::DbRule;
+
+/// Serves so many sessions at an address, and tells how each ended.
+pub(crate) fn serve_in<T: Threads + Wait + Sync, H: Shelf, N: Net>(
+    rt: &T,
+    alloc: Global,
+    shelf: &mut H,
+    net: &mut N,
+    directory: &str,
+    address: &str,
+    asked: u32,
+) -> Result<Reply, Refusal>
+where
+    H::D: Send,
+    requires home { IsTrue (H.state shelf.old).tells → IsHome (H.state shelf.old) }
+    ensures { ServesStore directory.now asked (H.state shelf.old) (H.state shelf.new) (N.state net.old) (N.state net.new) (H.faults shelf.old) (H.faults shelf.new) (N.faults net.old) (N.faults net.new) result }
+{
+    one_schema();
+    let OpenStore { schema, replica } = take_store(alloc, shelf, directory, Native::new(Luhn))?;
+    let (replica, told) = serve_open(
+        rt, alloc, shelf, net, directory, address, asked, replica,
+    );
+    put_store(shelf, directory, OpenStore { schema, replica });
+    told
+}
+
+/// The same over the store, which is open and comes back.
+fn serve_open<T: Threads + Wait + Sync, H: Shelf, N: Net>(
+    rt: &T,
+    alloc: Global,
+    shelf: &mut H,
+    net: &mut N,
+    directory: &str,
+    address: &str,
+    asked: u32,
+    replica: Replica<H::D, Luhn, Luhn>,
+) -> (Replica<H::D, Luhn, Luhn>, Result<Reply, Refusal>)
+where
+    H::D: Send,
+    requires peers_in { IsTrue (H.state shelf.old).tells → part_in (H.state shelf.old) directory.now PeersPart ≢ out }
+    ensures { ServesOpen directory.now asked (H.state shelf.old) (H.state shelf.new) (N.state net.old) (N.state net.new) (H.faults shelf.old) (H.faults shelf.new) (N.faults net.old) (N.faults net.new) replica result.0 result.1 }
+{
+    let peers = match peers_of(alloc, shelf, directory) {
+        Ok(peers) => peers,
+        Err(refusal) => return (replica, Err(refusal)),
+    };
+    let rule = match replica.schema().rule().copy(alloc) {
+        Ok(rule) => rule,
+        Err(_) => return (replica, Err(Refusal::Memory)),
+    };
+    let (mut replica, met) = serve_peers(rt, alloc, net, &rule, &peers, address, asked, replica);
+    let told = match met {
+        Ok(met) => conclude_all(alloc, shelf, directory, &mut replica, peers, &met),
+        Err(_) => Err(Refusal::Memory),
+    };
+    (replica, told)
+}
+
+/// The sessions that were held, and whether the net failed before all of them were.
+struct Met {
+    sessions: ServedList,
+    net_failed: bool,
+}
+
+/// Serves the peers of a replica, which comes back. The one refusal is want of memory.
+fn serve_peers<T: Threads + Wait + Sync, N: Net, D: Disk + Send>(
+    rt: &T,
+    alloc: Global,
+    net: &mut N,
+    rule: &DbRule,
+    peers: &Peers,
+    address: &str,
+    asked: u32,
+    replica: Replica<D, Luhn, Luhn>,
+) -> (Replica<D, Luhn, Luhn>, Result<Met, AllocError>)
+    requires { rule.now ≡ replica.history.schema.rule }
+    ensures { ServesPeersOpen peers.now asked (N.state net.old) (N.state net.new) (N.faults net.old) (N.faults net.new) replica result.0 result.1 }
+{
+    let (shared, pass) = match Shared::new(alloc, replica) {
+        Ok(both) => both,
+        Err(refused) => return (refused.back, Err(AllocError)),
+    };
+    let ServedAll {
+        pass,
+        sessions,
+        net_failed,
+        memory,
+    } = serve(
+        rt, alloc, net, &shared, rule, pass, address, asked, peers,
+    );
+    let replica = shared.end(rt, pass);
+    if memory || has_status(OUT_OF_MEMORY, sessions.as_slice()) {
+        return (replica, Err(AllocError));
+    }
+    let met = Met {
+        sessions,
+        net_failed,
+    };
+    (replica, Ok(met))
+}
+
+/// Tells how the sessions ended. After those that are done, the directory remembers what their peers held; that its disk failed then is told besides.
+fn conclude_all<H: Shelf>(
+    alloc: Global,
+    shelf: &mut H,
+    directory: &str,
+    replica: &mut Replica<H::D, Luhn, Luhn>,
+    peers: Peers,
+    met: &Met,
+) -> Result<Reply, Refusal>
+    requires { IsTrue (H.state shelf.old).tells → part_in (H.state shelf.old) directory.now PeersPart ≢ out }
+    ensures { ConcludesAll directory.now (H.state shelf.old) (H.state shelf.new) (H.faults shelf.old) (H.faults shelf.new) replica.old replica.new peers met.now result }
+{
+    let sessions = met.sessions.as_slice();
+    let store_failed = match keep_sessions(alloc, shelf, directory, replica, peers, sessions) {
+        Ok(()) => false,
+        Err(Refusal::StoreFault) => true,
+        Err(_) => return Err(Refusal::Memory),
+    };
+    Ok(Reply {
+        text: serve_text(alloc, sessions, store_failed, met.net_failed)?,
+        status: serve_status(sessions, store_failed, met.net_failed),
+    })
+}
+
+/// Settles the log, and where a session is done keeps what is to be remembered of the peers.
+fn keep_sessions<H: Shelf>(
+    alloc: Global,
+    shelf: &mut H,
+    directory: &str,
+    replica: &mut Replica<H::D, Luhn, Luhn>,
+    peers: Peers,
+    sessions: &[Served],
+) -> Result<(), Refusal>
+    requires { IsTrue (H.state shelf.old).tells → part_in (H.state shelf.old) directory.now PeersPart ≢ out }
+    ensures { KeepsSessions directory.now (H.state shelf.old) (H.state shelf.new) (H.faults shelf.old) (H.faults shelf.new) replica.old replica.new peers sessions.now result }
+{
+    settle(alloc, replica)?;
+    if !has_status(DONE, sessions) {
+        return Ok(());
+    }
+    let mut peers = peers;
+    remember_all(alloc, &mut peers, sessions)?;
+    let payload = peers.payload(alloc)?;
+    match write_memory(shelf, directory, &payload) {
+        Ok(()) => Ok(()),
+        Err(_fault) => Err(Refusal::StoreFault),
+    }
+}
+
+/// Remembers what is to be remembered of each peer, in the order of the sessions.
+fn remember_all(alloc: Global, peers: &mut Peers, sessions: &[Served]) -> Result<(), AllocError>
+    ensures { OnOk result (RemembersAll peers.old sessions.now peers.new) }
+{
+    for served in sessions {
+        if let (Ending::Done, Some(node)) = (served.ending, served.peer) {
+            peers.remember(alloc, node, served.heads.as_slice())?;
+        }
+    }
+    Ok(())
+}

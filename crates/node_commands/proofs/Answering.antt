@@ -1,0 +1,74 @@
+-- From what the parts of a command answer to what it comes to.
+use Rattle.std.proofs.Common.{◌≡◌, ◌≢◌, ◌⊎◌, inl, inr, ℕ, ◌≤◌, Bool, List, refl, ap, subst, Option, None, Some, Ok, Err, Vec, arith}
+use Rattle.std.specs.declared.alloc.Global.{Global}
+use Rattle.update_model.specs.Rule.{RuleData}
+use Rattle.update_stream.specs.declared.reading.Reading.TheVariants.{Whole}
+use Rattle.update_stream.specs.Told.{Reads}
+use Rattle.row_check.specs.Checksum.{is_luhn}
+use Rattle.confluence_test.specs.Taking.{RefusesSchema, TakesSchema}
+use Rattle.confluence_test.specs.declared.refusal.SchemaRefusal.{SchemaRefusal}
+use Rattle.confluence_test.specs.declared.refusal.SchemaRefusal.TheVariants as taking
+use Rattle.schema.specs.declared.limits.TheConstants.{MAX_SCHEMA_BYTES}
+use Rattle.schema.specs.Schemas.{SchemaData}
+use Rattle.bec_bytes.specs.Causes.{Rose}
+use Rattle.node_commands.specs.declared.refusal.Refusal.{Refusal}
+use Rattle.node_commands.specs.declared.refusal.Refusal.TheVariants.{Memory}
+use Rattle.update_check.specs.Members.{AreMembers}
+use Rattle.node_commands.specs.Bundle.{DumpAnswer, holds, HoldsText, lacks, LacksText, PrintsTables, stopped, taken, refused as text_refused, whole}
+use Rattle.node_commands.specs.Heads.{HeadsAnswer, refused, StopsAt}
+use Rattle.node_commands.specs.Outcome.{ComesTo, IsFault, Puts, Says, from_taking, status_for, text_for}
+use Rattle.node_commands.specs.Inputs.{ReadsText}
+use Rattle.node_commands.specs.Verdict.{CheckAnswer}
+use Rattle.node_commands.proofs.Checking.{refused_read}
+
+-- ---- refusals of commands
+
+pub heads_refused : (before after : Option (List ℕ)) (old new : ℕ) (r : Refusal) → StopsAt None before after old new r → ComesTo HeadsAnswer before after old new (Err r)
+heads_refused before after old new r (inl s) = inl (refused s.0 s.1.0 s.1.1 (λ i. Err (s.1.2 i)))
+heads_refused before after old new r (inr fault) = inr fault
+
+pub check_refused : (before after : Option (List ℕ)) (old new : ℕ) (read : List ℕ) (why : SchemaRefusal) → ReadsText MAX_SCHEMA_BYTES before after read
+    → RefusesSchema is_luhn read why ⊎ (why ≡ taking.Memory) → ComesTo CheckAnswer before after old new (Err (from_taking why))
+check_refused before after old new read why reads (inl refuses) = inl (refused_read before after read why reads refuses)
+check_refused before after old new read why reads (inr memory) = inr (inl (ap from_taking memory))
+
+pub dump_lacks : (json : Bool) (before after : Option (List ℕ)) (old new : ℕ) (r : Refusal) → LacksText before after r ⊎ IsFault old new r → ComesTo (DumpAnswer json) before after old new (Err r)
+dump_lacks json before after old new r (inl none) = inl (lacks r none refl)
+dump_lacks json before after old new r (inr fault) = inr fault
+
+pub dump_refused : (json : Bool) (before after : Option (List ℕ)) (old new : ℕ) (declared : List ℕ) (why : SchemaRefusal) → HoldsText before after declared
+    → RefusesSchema is_luhn declared why ⊎ (why ≡ taking.Memory) → ComesTo (DumpAnswer json) before after old new (Err (from_taking why))
+dump_refused json before after old new declared why held (inl refuses) = inl (holds declared after held (text_refused why refuses refl refl))
+dump_refused json before after old new declared why held (inr memory) = inr (inl (ap from_taking memory))
+
+-- a count that rose since a later moment rose since an earlier one
+pub rose_later : (old mid new : ℕ) → old ≤ mid → Rose mid new → Rose old new
+rose_later old mid new later rose = omega (arith, later, rose)
+
+pub dump_stopped : (json : Bool) (before mid after : Option (List ℕ)) (old between new : ℕ) (declared : List ℕ) (schema : SchemaData) (given : Option RuleData) (r : Refusal) → HoldsText before mid declared
+    → TakesSchema is_luhn declared schema → given ≡ Some schema.rule → old ≤ between → StopsAt given mid after between new r → ComesTo (DumpAnswer json) before after old new (Err r)
+dump_stopped json before mid after old between new declared schema given r held takes is later stops = by (subst (λ (g : Option RuleData). StopsAt g mid after between new r) is stops)
+  where
+    by : StopsAt (Some schema.rule) mid after between new r → ComesTo (DumpAnswer json) before after old new (Err r)
+    by (inl s) = inl (holds declared mid held (taken schema takes (stopped s.0 s.1.0 s.1.1 (λ i. Err (s.1.2 i)))))
+    by (inr (inl memory)) = inr (inl memory)
+    by (inr (inr failed)) = inr (inr (failed.0, rose_later old between new later failed.1))
+
+pub dump_done : (json : Bool) (before mid after : Option (List ℕ)) (declared : List ℕ) (schema : SchemaData) (given : Option RuleData) (members : List (List ℕ)) (text : Vec ℕ Global) → HoldsText before mid declared
+    → TakesSchema is_luhn declared schema → given ≡ Some schema.rule → Reads given mid after (Whole members) → (AreMembers schema.rule members → PrintsTables json schema members text.items) → DumpAnswer json before after (Ok text)
+dump_done json before mid after declared schema given members text held takes is reads tables =
+    holds declared mid held (taken schema takes (whole members text.items (subst (λ (g : Option RuleData). Reads g mid after (Whole members)) is reads) tables refl))
+
+-- ---- lines of refusals
+
+-- a refusal that is not want of memory is said where its text is put
+pub says_refused : (old new : ℕ) (held held_new : Option (List ℕ)) (refusal : Refusal) (own : ℕ) (text : List ℕ) (status : ℕ) → own ≡ status_for refusal
+    → (text ≡ text_for refusal) × (refusal ≢ Memory) → Puts old new held held_new own text status → Says old new held held_new (Err refusal) status
+says_refused old new held held_new refusal own text status is_own line put =
+    let P : ℕ → Type 0 = λ s. Puts old new held held_new s (text_for refusal) status in
+    let Q : List ℕ → Type 0 = λ t. Puts old new held held_new own t status in
+    by refusal line.1 (subst P is_own (subst Q line.0 put))
+  where
+    by : (r : Refusal) → r ≢ Memory → Puts old new held held_new (status_for r) (text_for r) status → Says old new held held_new (Err r) status
+    by Memory not said = absurd (not refl)
+    by r not said = said

@@ -1,0 +1,326 @@
+-- Merging the stores of two directories.
+use Rattle.std.proofs.Common.{◌≡◌, ◌≢◌, ◌⊎◌, inl, inr, ℕ, ◌<◌, ◌≤◌, Bool, true, false, List, [], ◌∷◌, ◌++◌, refl, sym, ap, subst, ◌∙◌, IsTrue, Some, Err, arith}
+use Rattle.std.specs.Prelude.{◌||◌, Contains}
+use Rattle.std.specs.List.{list_any}
+use Rattle.std.proofs.lemmas.Bool.{true≢false}
+use Rattle.std.proofs.lemmas.List.Elements.{All-nil}
+use Rattle.row_check.specs.Checksum.{is_luhn}
+use Rattle.bec_bytes.specs.Causes.{Rose}
+use Rattle.bec_disk.specs.Disk.{handed_out}
+use Rattle.bec_disk.specs.declared.part.Part.{Part}
+use Rattle.bec_disk.specs.declared.part.Part.TheVariants.{Schema, Updates, Key, Used, Peers}
+use Rattle.bec_disk.specs.Shelf.{PartState, ShelfState, out}
+use Rattle.bec_disk.specs.Slot.{Slot, same_slot, slot}
+use Rattle.replica.specs.Holding.{IsWhole}
+use Rattle.replica.specs.Replicas.{ReplicaState}
+use Rattle.store_directory.specs.Holding.{IsStoreCause, LetsGo, OpenData, PutsStore, TakesStore}
+use Rattle.store_directory.specs.Memory.{remembered_in}
+use Rattle.store_directory.specs.Stores.{IsHome, IsStore, IsUntouched, KeepsList, KeepsPlaces, StoreData, StoreRun, part_in, reading, with_added}
+use Rattle.store_directory.specs.declared.store_refusal.StoreRefusal.{StoreRefusal}
+use Rattle.store_directory.specs.declared.store_refusal.StoreRefusal.TheVariants as store_refusals
+use Rattle.store_directory.proofs.Handing.{list_as_it_was, untouched_by}
+use Rattle.store_directory.proofs.Places.{place_again, same_place, stands-not-out}
+use Rattle.store_directory.proofs.Putting.{slot_of, told}
+use Rattle.store_directory.proofs.Readings.{OneSchema, same_store}
+use Rattle.store_directory.proofs.Working.{read_before, store_of, worked_run}
+use Rattle.node_commands.specs.declared.refusal.Refusal.TheVariants as refusals
+use Rattle.node_commands.specs.Comes.{IsShelfFault, is_done, readings}
+use Rattle.node_commands.specs.Merging.{BesideAnswer, IsBesideFault, IsMergeFault, IsWithin, KeepsAllButIn, Meets, MergeAnswer, MergesBeside, MergesOpen, MergesStores, memory_in, opened_store, touched, with_both, with_it, without, without_first, without_second}
+use Rattle.node_commands.specs.Outcome.{Outcome, from_store}
+use Rattle.node_commands.specs.Signing.{WorksFrom}
+use Rattle.node_commands.specs.Standing.{Stands}
+use Rattle.node_commands.specs.StoreAnswers.{bad_store, no_store}
+use Rattle.node_commands.proofs.Signs.{works_not}
+
+abbrev pub no_updates : List (List ℕ)
+no_updates = []
+
+-- ---- places of two directories
+
+three : (x y z : Bool) → x || (y || (z || false)) ≡ false → (x || (y || false) ≡ false) × (z || false ≡ false)
+three true y z e = absurd (true≢false e)
+three false true z e = absurd (true≢false e)
+three false false true e = absurd (true≢false e)
+three false false false e = (refl, refl)
+
+-- a place that is none of three parts is none of a store's, nor that of the peers
+pub of_store : (dir : List ℕ) (other : Slot) → list_any (λ part. same_slot (slot dir part) other) touched ≡ false → list_any (λ part. same_slot (slot dir part) other) (Schema ∷ Updates ∷ []) ≡ false
+of_store dir other away = (three (same_slot (slot dir Schema) other) (same_slot (slot dir Updates) other) (same_slot (slot dir Peers) other) away).0
+
+pub of_peers : (dir : List ℕ) (other : Slot) → list_any (λ part. same_slot (slot dir part) other) touched ≡ false → list_any (λ part. same_slot (slot dir part) other) (Peers ∷ []) ≡ false
+of_peers dir other away = (three (same_slot (slot dir Schema) other) (same_slot (slot dir Updates) other) (same_slot (slot dir Peers) other) away).1
+
+neither_of : (x y : Bool) → x ≡ false → y ≡ false → x || y ≡ false
+neither_of true y e f = absurd (true≢false e)
+neither_of false y e f = f
+
+-- parts of two directories stand in two places
+apart : (first second : List ℕ) → first ≢ second → (p q : Part) → same_slot (slot first p) (slot second q) ≡ false
+apart first second differ p q = by (same_slot (slot first p) (slot second q)) refl
+  where
+    by : (b : Bool) → same_slot (slot first p) (slot second q) ≡ b → same_slot (slot first p) (slot second q) ≡ false
+    by true e = absurd (differ (ap (λ (s : Slot). s.dir) (same_place (slot first p) (slot second q) e)))
+    by false e = e
+
+pub away_from : (first second : List ℕ) → first ≢ second → (parts : List Part) (q : Part) → list_any (λ part. same_slot (slot first part) (slot second q)) parts ≡ false
+away_from first second differ [] q = refl
+away_from first second differ (p ∷ parts) q =
+    neither_of (same_slot (slot first p) (slot second q)) (list_any (λ part. same_slot (slot first part) (slot second q)) parts) (apart first second differ p q) (away_from first second differ parts q)
+
+-- the peers of a directory whose part Peers is as it was
+pub same_memory : (old new : ShelfState) (dir : List ℕ) → part_in new dir Peers ≡ part_in old dir Peers → memory_in new dir ≡ memory_in old dir
+same_memory old new dir same = ap (λ (p : PartState). remembered_in (reading p)) same
+
+-- nothing was done to the store of a directory
+not_run : (before after : ShelfState) (dir : List ℕ) → part_in after dir Schema ≡ part_in before dir Schema → part_in after dir Updates ≡ part_in before dir Updates → StoreRun is_luhn before after dir [] false
+not_run before after dir schema updates = record {
+  list = λ store is. list_as_it_was is_luhn (reading (part_in before dir Schema)) store (part_in before dir Updates) (part_in after dir Updates) is updates;
+  reads = λ e. absurd (true≢false (sym e));
+  schema = untouched_by (part_in before dir Schema) (part_in after dir Schema) schema;
+}
+
+-- what was done to a store, between moments at which its parts are as they are at others
+same_run : (before opened closing after : ShelfState) (dir : List ℕ) (added : List (List ℕ)) (done : Bool)
+    → part_in opened dir Schema ≡ part_in before dir Schema → part_in opened dir Updates ≡ part_in before dir Updates
+    → part_in after dir Schema ≡ part_in closing dir Schema → part_in after dir Updates ≡ part_in closing dir Updates
+    → StoreRun is_luhn opened closing dir added done → StoreRun is_luhn before after dir added done
+same_run before opened closing after dir added done s u s2 u2 run = record {
+  list = λ store is.
+      subst (λ (p : PartState). KeepsList store added p (part_in after dir Updates)) u
+      (subst (λ (p : PartState). KeepsList store added (part_in opened dir Updates) p) (sym u2) (run.list store (there store is)));
+  reads = λ is_done store is. again (with_added store added) (run.reads is_done store (there store is));
+  schema =
+      subst (λ (p : PartState). IsUntouched p (part_in after dir Schema)) s
+      (subst (λ (p : PartState). IsUntouched (part_in opened dir Schema) p) (sym s2) run.schema);
+}
+  where
+    there : (store : StoreData) → IsStore is_luhn before dir store → IsStore is_luhn opened dir store
+    there store is = rw (s, u) is
+
+    again : (store : StoreData) → IsStore is_luhn closing dir store → IsStore is_luhn after dir store
+    again store is = rw (s2, u2) is
+
+-- ---- a store that is taken and put back around something else
+
+-- the disks of a store that is taken are those of its parts, whatever was done to other parts
+pub disks_of : (dir : List ℕ) (before opened closing : ShelfState) (taken : OpenData) (now : ReplicaState) → TakesStore is_luhn before dir taken opened → closing.tells ≡ opened.tells
+    → now.log.disk.slot ≡ taken.replica.log.disk.slot
+    → (IsTrue opened.tells → (part_in closing dir Schema ≡ part_in opened dir Schema) × (part_in closing dir Updates ≡ part_in opened dir Updates)) → IsTrue closing.tells
+    → ((taken.schema.slot ≡ Some (slot dir Schema)) × (part_in closing dir Schema ≡ out)) × ((now.log.disk.slot ≡ Some (slot dir Updates)) × (part_in closing dir Updates ≡ out))
+disks_of dir before opened closing taken now takes same same_slot_now kept tells =
+    let opened_tells : IsTrue opened.tells = told closing.tells opened.tells (sym same) tells in
+    let before_tells : IsTrue before.tells = told opened.tells before.tells (sym takes.tells) opened_tells in
+    let s = takes.schema before_tells in
+    let u = takes.updates before_tells in (
+      (slot_of (slot dir Schema) s.0 taken.schema s.2, (kept opened_tells).0 ∙ takes.schema_out before_tells),
+      (same_slot_now ∙ u.3.disk.slot ∙ slot_of (slot dir Updates) u.0 (handed_out (slot dir Updates) u.0) refl, (kept opened_tells).1 ∙ takes.updates_out before_tells),
+    )
+
+-- What holds while the store of one directory is taken, something is done to other parts, and it is put back.
+module _ (dir : List ℕ) (before opened closing after : ShelfState) (taken : OpenData) (now : ReplicaState) (takes : TakesStore is_luhn before dir taken opened)
+    (puts : PutsStore closing dir taken.schema now.log.disk after) (same : closing.tells ≡ opened.tells) (places : IsTrue opened.tells → KeepsPlaces opened closing) where
+  pub opened_told : IsTrue before.tells → IsTrue opened.tells
+  opened_told tells = told before.tells opened.tells takes.tells tells
+
+  pub closing_told : IsTrue before.tells → IsTrue closing.tells
+  closing_told tells = told opened.tells closing.tells same (opened_told tells)
+
+  pub tells_still : after.tells ≡ before.tells
+  tells_still = puts.tells ∙ same ∙ takes.tells
+
+  -- where it is put back each part is in its place that was
+  pub places_around : IsTrue before.tells → KeepsPlaces before after
+  places_around tells place here =
+      place_again Schema Updates dir after (stands-not-out (part_in after dir Schema) taken.schema (puts.schema_back (closing_told tells)))
+      (stands-not-out (part_in after dir Updates) now.log.disk (puts.updates_back (closing_told tells))) place
+      (λ away. subst (λ (p : PartState). p ≢ out) (sym (puts.others (closing_told tells) place away))
+      (places (opened_told tells) place (subst (λ (p : PartState). p ≢ out) (sym (takes.others place away)) here)))
+
+  -- where the shelf told what it had, the log was whole
+  pub whole_before : IsWhole taken.replica
+  whole_before log_tells = (takes.updates (told taken.replica.log.disk.tells before.tells (sym takes.updates_tells) log_tells)).2.clean refl
+
+-- ---- beside a store that is open
+
+-- the parts of the second store stay while both are open
+pub second_kept : (first second : List ℕ) → first ≢ second → (opened closing : ShelfState) → (IsTrue opened.tells → KeepsAllButIn (Peers ∷ []) first (Peers ∷ []) second opened closing)
+    → IsTrue opened.tells → (part_in closing second Schema ≡ part_in opened second Schema) × (part_in closing second Updates ≡ part_in opened second Updates)
+second_kept first second differ opened closing others tells = (
+  others tells (slot second Schema) (away_from first second differ (Peers ∷ []) Schema) refl,
+  others tells (slot second Updates) (away_from first second differ (Peers ∷ []) Updates) refl,
+)
+
+-- the parts of the first store stay while it is open
+pub first_kept : (first second : List ℕ) → first ≢ second → (opened closing : ShelfState) → (IsTrue opened.tells → KeepsAllButIn (Peers ∷ []) first touched second opened closing)
+    → IsTrue opened.tells → (part_in closing first Schema ≡ part_in opened first Schema) × (part_in closing first Updates ≡ part_in opened first Updates)
+first_kept first second differ opened closing others tells = (
+  others tells (slot first Schema) refl (away_from second first (λ e. differ (sym e)) touched Schema),
+  others tells (slot first Updates) refl (away_from second first (λ e. differ (sym e)) touched Updates),
+)
+
+module _ (first second : List ℕ) (differ : first ≢ second) (before after : ShelfState) (old new : ℕ) (one one_new : ReplicaState) where
+  -- where the second store was refused
+  pub beside_none : (why : StoreRefusal) → Stands one → one_new ≡ one → LetsGo is_luhn before second after → (IsTrue before.tells → IsStoreCause is_luhn before second why)
+      → (why ≡ store_refusals.DiskFault → Rose old new) → old ≤ new → MergesBeside first second before after old new one one_new (Err (from_store why))
+  beside_none why stands same lets cause failed later = record {
+    added = [];
+    added_other = [];
+    comes = by why cause failed;
+    works = subst (λ (r : ReplicaState). WorksFrom one r [] false) (sym same) (works_not one false stands);
+    slot = ap (λ (r : ReplicaState). r.log.disk.slot) same;
+    run_other = λ whole. lets.run;
+    within = λ tells other is. record { first = All-nil (Contains (one.history.members ++ other.members)); second = All-nil (Contains (one.history.members ++ other.members)) };
+    tells = lets.tells;
+    places = lets.places;
+    others = λ tells other away away_too. lets.others tells other (of_store second other away_too);
+    later = later;
+    log_later = subst (λ (r : ReplicaState). one.log.faults ≤ r.log.faults) (sym same) (omega arith);
+  }
+    where
+      by : (why : StoreRefusal) → (IsTrue before.tells → IsStoreCause is_luhn before second why) → (why ≡ store_refusals.DiskFault → Rose old new)
+          → (IsTrue before.tells → BesideAnswer (opened_store one) (readings before second) (memory_in before first) (memory_in before second) (memory_in after first) (memory_in after second) [] [] (Err (from_store why)))
+          ⊎ IsBesideFault old new one one_new (Err (from_store why))
+      by store_refusals.NoStore so f = inl (λ tells. without refusals.NoStore (no_store (so tells) refl) refl refl refl)
+      by store_refusals.BadStore so f = inl (λ tells. without refusals.BadStore (bad_store (so tells) refl) refl refl refl)
+      by store_refusals.DiskFault so f = inr (inr (refl, inl (f refl)))
+      by store_refusals.Memory so f = inr (inl refl)
+
+  -- where it was taken and put back
+  pub beside_taken : OneSchema → (opened closing : ShelfState) (opened_faults closing_faults : ℕ) (taken : OpenData) (now : ReplicaState) (outcome : Outcome)
+      → TakesStore is_luhn before second taken opened → MergesOpen first second opened closing opened_faults closing_faults one taken.replica one_new now outcome
+      → PutsStore closing second taken.schema now.log.disk after → old ≤ opened_faults → closing_faults ≤ new → (0 < now.log.faults → Rose closing_faults new)
+      → MergesBeside first second before after old new one one_new outcome
+  beside_taken schemas opened closing opened_faults closing_faults taken now outcome takes merges puts one_later two_later faulted = record {
+    added = merges.added;
+    added_other = merges.added_other;
+    comes = by merges.comes;
+    works = merges.works (whole_before second before opened closing after taken now takes puts merges.tells merges.places);
+    slot = merges.slot;
+    run_other = λ whole tells. worked_run schemas is_luhn before opened closing after second taken now merges.added_other (is_done outcome) tells (still tells) takes
+        (merges.works_other whole (whole_before second before opened closing after taken now takes puts merges.tells merges.places) taken refl) puts;
+    within = λ tells other is.
+        subst (λ (s : StoreData). IsWithin one.history.members s.members merges.added merges.added_other)
+        (same_store schemas is_luhn (reading (part_in before second Schema)) (reading (part_in before second Updates)) (store_of taken.replica) other (read_before is_luhn before opened second taken tells takes) is) merges.within;
+    tells = tells_still second before opened closing after taken now takes puts merges.tells merges.places;
+    places = places_around second before opened closing after taken now takes puts merges.tells merges.places;
+    others = λ tells other away away_too.
+        puts.others (still tells) other (of_store second other away_too) ∙ merges.others (inside tells) other away (of_peers second other away_too) ∙ takes.others other (of_store second other away_too);
+    later = let mid = merges.later in omega (arith, one_later, mid, two_later);
+    log_later = merges.log_later;
+  }
+    where
+      inside : IsTrue before.tells → IsTrue opened.tells
+      inside = opened_told second before opened closing after taken now takes puts merges.tells merges.places
+
+      still : IsTrue before.tells → IsTrue closing.tells
+      still = closing_told second before opened closing after taken now takes puts merges.tells merges.places
+
+      to_first : List Part → Type 0
+      to_first parts = (list_any (λ part. same_slot (slot second part) (slot first Peers)) parts ≡ false)
+
+      away : to_first (Schema ∷ Updates ∷ [])
+      away = away_from second first (λ e. differ (sym e)) (Schema ∷ Updates ∷ []) Peers
+
+      by : (IsTrue opened.tells → Meets (opened_store one) (opened_store taken.replica) (memory_in opened first) (memory_in opened second) (memory_in closing first) (memory_in closing second) merges.added merges.added_other outcome)
+          ⊎ IsMergeFault opened_faults closing_faults one taken.replica one_new now outcome
+          → (IsTrue before.tells → BesideAnswer (opened_store one) (readings before second) (memory_in before first) (memory_in before second) (memory_in after first) (memory_in after second) merges.added merges.added_other outcome)
+          ⊎ IsBesideFault old new one one_new outcome
+      by (inl meets) = inl (λ tells.
+          with_it (store_of taken.replica) (read_before is_luhn before opened second taken tells takes)
+          (rw (
+            sym (same_memory before opened first (takes.others (slot first Peers) away)),
+            sym (same_memory before opened second (takes.others (slot second Peers) refl)),
+            same_memory closing after first (puts.others (still tells) (slot first Peers) away),
+            same_memory closing after second (puts.others (still tells) (slot second Peers) refl),
+          )
+          (meets (inside tells))))
+      by (inr (inl memory)) = inr (inl memory)
+      by (inr (inr (is, inl shelf))) = inr (inr (is, inl (omega (arith, one_later, two_later, shelf))))
+      by (inr (inr (is, inr (inl log)))) = inr (inr (is, inr log))
+      by (inr (inr (is, inr (inr log)))) = let some : 0 < now.log.faults = omega (arith, log) in let mid = merges.later in let more = faulted some in inr (inr (is, inl (omega (arith, one_later, mid, more))))
+
+-- ---- of two directories
+
+module _ (first second : List ℕ) (differ : first ≢ second) (before after : ShelfState) (old new : ℕ) where
+  -- where the first store was refused
+  pub merges_none : (why : StoreRefusal) → (IsTrue before.tells → IsHome before) → LetsGo is_luhn before first after → (IsTrue before.tells → IsStoreCause is_luhn before first why)
+      → (why ≡ store_refusals.DiskFault → Rose old new) → MergesStores first second before after old new (Err (from_store why))
+  merges_none why home lets cause failed = record {
+    added = [];
+    added_other = [];
+    comes = by why cause failed;
+    run = lets.run;
+    run_other = λ tells. not_run before after second (lets.others tells (slot second Schema) (away_from first second differ (Schema ∷ Updates ∷ []) Schema))
+        (lets.others tells (slot second Updates) (away_from first second differ (Schema ∷ Updates ∷ []) Updates));
+    within = λ tells one other is_one is_other. record { first = All-nil (Contains (one.members ++ other.members)); second = All-nil (Contains (one.members ++ other.members)) };
+    others = λ tells other away away_too. lets.others tells other (of_store first other away);
+    home = λ tells place. lets.places tells place (home tells place);
+  }
+    where
+      by : (why : StoreRefusal) → (IsTrue before.tells → IsStoreCause is_luhn before first why) → (why ≡ store_refusals.DiskFault → Rose old new)
+          → (IsTrue before.tells → MergeAnswer (readings before first) (readings before second) (memory_in before first) (memory_in before second) (memory_in after first) (memory_in after second) [] [] (Err (from_store why)))
+          ⊎ IsShelfFault old new (Err (from_store why))
+      by store_refusals.NoStore so f = inl (λ tells. without_first refusals.NoStore (no_store (so tells) refl) refl refl refl)
+      by store_refusals.BadStore so f = inl (λ tells. without_first refusals.BadStore (bad_store (so tells) refl) refl refl refl)
+      by store_refusals.DiskFault so f = inr (inr (refl, f refl))
+      by store_refusals.Memory so f = inr (inl refl)
+
+  -- where it was taken and put back
+  pub merges_taken : OneSchema → (opened closing : ShelfState) (opened_faults closing_faults : ℕ) (taken : OpenData) (now : ReplicaState) (outcome : Outcome) → (IsTrue before.tells → IsHome before)
+      → TakesStore is_luhn before first taken opened → MergesBeside first second opened closing opened_faults closing_faults taken.replica now outcome
+      → PutsStore closing first taken.schema now.log.disk after → old ≤ opened_faults → closing_faults ≤ new → (0 < now.log.faults → Rose closing_faults new)
+      → MergesStores first second before after old new outcome
+  merges_taken schemas opened closing opened_faults closing_faults taken now outcome home takes merges puts one_later two_later faulted = record {
+    added = merges.added;
+    added_other = merges.added_other;
+    comes = by merges.comes;
+    run = λ tells. worked_run schemas is_luhn before opened closing after first taken now merges.added (is_done outcome) tells (still tells) takes
+        (merges.works (λ log_tells. (takes.updates tells).2.clean refl) taken refl) puts;
+    run_other = λ tells. same_run before opened closing after second merges.added_other (is_done outcome)
+        (takes.others (slot second Schema) (away Schema)) (takes.others (slot second Updates) (away Updates))
+        (puts.others (still tells) (slot second Schema) (away Schema)) (puts.others (still tells) (slot second Updates) (away Updates))
+        (merges.run_other (whole_before first before opened closing after taken now takes puts merges.tells merges.places) (inside tells));
+    within = λ tells one other is_one is_other.
+        subst (λ (s : StoreData). IsWithin s.members other.members merges.added merges.added_other)
+        (same_store schemas is_luhn (reading (part_in before first Schema)) (reading (part_in before first Updates)) (store_of taken.replica) one (read_before is_luhn before opened first taken tells takes) is_one)
+        (merges.within (inside tells) other (rw (takes.others (slot second Schema) (away Schema), takes.others (slot second Updates) (away Updates)) is_other));
+    others = λ tells other away_one away_two.
+        puts.others (still tells) other (of_store first other away_one) ∙ merges.others (inside tells) other (of_peers first other away_one) away_two ∙ takes.others other (of_store first other away_one);
+    home = λ tells place. places_around first before opened closing after taken now takes puts merges.tells merges.places tells place (home tells place);
+  }
+    where
+      inside : IsTrue before.tells → IsTrue opened.tells
+      inside = opened_told first before opened closing after taken now takes puts merges.tells merges.places
+
+      still : IsTrue before.tells → IsTrue closing.tells
+      still = closing_told first before opened closing after taken now takes puts merges.tells merges.places
+
+      away : (part : Part) → list_any (λ other. same_slot (slot first other) (slot second part)) (Schema ∷ Updates ∷ []) ≡ false
+      away part = away_from first second differ (Schema ∷ Updates ∷ []) part
+
+      by : (IsTrue opened.tells → BesideAnswer (opened_store taken.replica) (readings opened second) (memory_in opened first) (memory_in opened second) (memory_in closing first) (memory_in closing second) merges.added merges.added_other outcome)
+          ⊎ IsBesideFault opened_faults closing_faults taken.replica now outcome
+          → (IsTrue before.tells → MergeAnswer (readings before first) (readings before second) (memory_in before first) (memory_in before second) (memory_in after first) (memory_in after second) merges.added merges.added_other outcome)
+          ⊎ IsShelfFault old new outcome
+      by (inl answers) = inl (λ tells. whole tells (beside tells (answers (inside tells))))
+        where
+          beside : IsTrue before.tells → BesideAnswer (opened_store taken.replica) (readings opened second) (memory_in opened first) (memory_in opened second) (memory_in closing first) (memory_in closing second) merges.added merges.added_other outcome
+              → BesideAnswer (opened_store taken.replica) (readings before second) (memory_in before first) (memory_in before second) (memory_in after first) (memory_in after second) merges.added merges.added_other outcome
+          beside tells answer = rw (
+            sym (takes.others (slot second Schema) (away Schema)),
+            sym (takes.others (slot second Updates) (away Updates)),
+            sym (takes.others (slot second Key) (away Key)),
+            sym (takes.others (slot second Used) (away Used)),
+            sym (same_memory before opened first (takes.others (slot first Peers) refl)),
+            sym (same_memory before opened second (takes.others (slot second Peers) (away Peers))),
+            same_memory closing after first (puts.others (still tells) (slot first Peers) refl),
+            same_memory closing after second (puts.others (still tells) (slot second Peers) (away Peers)),
+          ) answer
+
+          whole : IsTrue before.tells → BesideAnswer (opened_store taken.replica) (readings before second) (memory_in before first) (memory_in before second) (memory_in after first) (memory_in after second) merges.added merges.added_other outcome
+              → MergeAnswer (readings before first) (readings before second) (memory_in before first) (memory_in before second) (memory_in after first) (memory_in after second) merges.added merges.added_other outcome
+          whole tells (without refusal refuses nothing none is) = without_second (store_of taken.replica) refusal (read_before is_luhn before opened first taken tells takes) refuses nothing none is
+          whole tells (with_it other has meets) = with_both (store_of taken.replica) other (read_before is_luhn before opened first taken tells takes) has meets
+      by (inr (inl memory)) = inr (inl memory)
+      by (inr (inr (is, inl shelf))) = inr (inr (is, omega (arith, one_later, two_later, shelf)))
+      by (inr (inr (is, inr log))) = let some : 0 < now.log.faults = omega (arith, log) in let mid = merges.later in let more = faulted some in inr (inr (is, omega (arith, one_later, mid, more)))

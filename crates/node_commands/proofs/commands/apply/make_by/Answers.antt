@@ -1,0 +1,40 @@
+use Rattle.std.proofs.Common.{◌≡◌, ◌∙◌, Err, List, Ok, ap, inl, inr, refl, rules, subst, sym, ℕ}
+use Rattle.std.proofs.lemmas.Result.{err_from_is_err_and}
+use Rattle.store_directory.proofs.Signing.{tried_by}
+use Rattle.lms_tree.specs.SecretKey.{SecretData}
+use Rattle.update_model.specs.declared.update_id.UpdateId.{UpdateId}
+use Rattle.node_commands.specs.declared.refusal.Refusal.{Refusal}
+use Rattle.node_commands.specs.Outcome.{from_make}
+use Rattle.node_commands.specs.Signing.{IsNoStop, MakeAnswer, SignsOpen}
+use Rattle.node_commands.specs.StoreAnswers.{next_bytes}
+use Rattle.node_commands.proofs.Signs.{makes, makes_not, same_secret, signs_nothing}
+use Rattle.node_commands.proofs.commands.apply.make_by.Goals as goal
+
+pub returns-in_err-room : goal.returns-in_err-room
+returns-in_err-room g c =
+    let p = err_from_is_err_and c.from_residual.result c.from_residual.ensures.1 in
+    rw (p.1, p.2) (signs_nothing (MakeAnswer c.args.ops (next_bytes (g.R.Rng.stream c.args.random.now))) IsNoStop c.args.replica.now c.args.key.now (Err _) c.each_stands.ensures (inr (inl refl)))
+
+pub returns-in-Ok : goal.returns-in-Ok
+returns-in-Ok g c =
+    let old = c.args.replica.now in
+    let key = c.args.key.now in
+    let new = c.make-made.new.self in
+    let key_new = c.make-made.new.key in
+    let e = c.in-Ok.ensures in
+    let drawn : c.fill_bytes.new.dst ≡ next_bytes (g.R.Rng.stream c.args.random.now) = search rules in
+    subst (λ (w : List ℕ). SignsOpen (MakeAnswer c.args.ops w) IsNoStop old key new key_new (Ok c.id_line.result)) drawn
+    (makes old key new key_new c.each_stands-2.ensures e.any_moment e.used e.later e.key_later (tried_by key (Ok c.in-Ok.id) key_new e.key) c.args.ops c.fill_bytes.new.dst c.in-Ok.id c.id_line.result e.made e.clean c.id_line.ensures)
+
+pub returns-in-Err : goal.returns-in-Err
+returns-in-Err g c =
+    let old = c.args.replica.now in
+    let key = c.args.key.now in
+    let new = c.make-made.new.self in
+    let key_new = c.make-made.new.key in
+    let e = c.in-Err.ensures in
+    let tried = tried_by {T = UpdateId} key (Err c.in-Err.fault) key_new e.key in
+    let drawn : c.fill_bytes.new.dst ≡ next_bytes (g.R.Rng.stream c.args.random.now) = search rules in
+    subst (λ (w : List ℕ). SignsOpen (MakeAnswer c.args.ops w) IsNoStop old key new key_new (Err c.made_refusal.result)) drawn
+    (subst (λ (r : Refusal). SignsOpen (MakeAnswer c.args.ops c.fill_bytes.new.dst) IsNoStop old key new key_new (Err r)) (sym (c.made_refusal.ensures ∙ ap (λ (s : SecretData). from_make s c.in-Err.fault) (same_secret key key_new tried)))
+    (makes_not old key new key_new c.each_stands-2.ensures e.any_moment e.used e.later e.key_later tried c.args.ops c.fill_bytes.new.dst c.in-Err.fault e.same e.refused (λ is. e.key_failed (ap Err is)) (λ is. e.log_failed (ap Err is))))

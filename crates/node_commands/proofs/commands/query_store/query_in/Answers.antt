@@ -1,0 +1,41 @@
+use Rattle.std.proofs.Common.{◌≡◌, ◌⊎◌, inl, inr, Err, ap, subst}
+use Rattle.std.proofs.lemmas.Result.{err_from_is_err_and}
+use Rattle.replica.specs.Replicas.{ReplicaState}
+use Rattle.store_directory.specs.Holding.{OpenData}
+use Rattle.node_commands.specs.declared.refusal.Refusal.TheVariants.{Memory}
+use Rattle.node_commands.specs.Asking.{QueryAnswer}
+use Rattle.node_commands.specs.Comes.{ReadsShelf}
+use Rattle.node_commands.specs.Merging.{opened_store}
+use Rattle.node_commands.specs.Standing.{Stands}
+use Rattle.node_commands.specs.StoreAnswers.{ReadsStore}
+use Rattle.node_commands.proofs.Reading.{put_slots, read_answered, read_lacked, read_refused}
+use Rattle.node_commands.proofs.commands.query_store.query_in.Goals as goal
+
+pub put_store-requires-clause-schema_of : goal.put_store-requires-clause-schema_of
+put_store-requires-clause-schema_of g c κs lives tells =
+    (put_slots (g.H.Shelf.state c.args.shelf.now) (g.H.Shelf.state c.take_store.new.shelf) c.args.dir.now c.in_ok-store.store c.in_ok-store.ensures.takes tells).0
+
+pub put_store-requires-clause-updates_of : goal.put_store-requires-clause-updates_of
+put_store-requires-clause-updates_of g c κs lives tells =
+    (put_slots (g.H.Shelf.state c.args.shelf.now) (g.H.Shelf.state c.take_store.new.shelf) c.args.dir.now c.in_ok-store.store c.in_ok-store.ensures.takes tells).1
+
+pub returns-in_err-store : goal.returns-in_err-store
+returns-in_err-store g c =
+    let p = err_from_is_err_and c.from_residual.result c.from_residual.ensures.1 in
+    let e = c.in_err-store.ensures in
+    rw (p.1, p.2) (read_refused (QueryAnswer c.args.text.now c.args.json) c.args.dir.now (g.H.Shelf.state c.args.shelf.now) (g.H.Shelf.state c.take_store.new.shelf) (g.H.Counted.faults c.args.shelf.now) (g.H.Counted.faults c.take_store.new.shelf)
+    c.in_err-store.field-0.0 c.requires e.lets_go e.refused (λ is. e.failed (ap Err is)))
+
+pub returns : goal.returns
+returns g c =
+    let same : c.store.inside.replica ≡ c.in_ok-store.store.replica = ap (λ (o : OpenData). o.replica) c.store.view_is in
+    let stands : Stands c.in_ok-store.store.replica = subst Stands same c.each_stands.ensures in
+    let told = subst (λ (r : ReplicaState). QueryAnswer c.args.text.now c.args.json (opened_store r) c.asked-outcome.result ⊎ (c.asked-outcome.result ≡ Err Memory)) same c.asked-outcome.ensures in
+    by stands told
+  where
+    by : Stands c.in_ok-store.store.replica → QueryAnswer c.args.text.now c.args.json (opened_store c.in_ok-store.store.replica) c.asked-outcome.result ⊎ (c.asked-outcome.result ≡ Err Memory)
+        → ReadsShelf (ReadsStore (QueryAnswer c.args.text.now c.args.json)) c.args.dir.now (g.H.Shelf.state c.args.shelf.now) (g.H.Shelf.state c.put_store.new.shelf) (g.H.Counted.faults c.args.shelf.now) (g.H.Counted.faults c.put_store.new.shelf) c.asked-outcome.result
+    by stands (inl told) = read_answered (QueryAnswer c.args.text.now c.args.json) c.args.dir.now (g.H.Shelf.state c.args.shelf.now) (g.H.Shelf.state c.put_store.new.shelf) (g.H.Counted.faults c.args.shelf.now) (g.H.Counted.faults c.put_store.new.shelf)
+        c.one_schema.ensures (g.H.Shelf.state c.take_store.new.shelf) c.in_ok-store.store c.requires c.in_ok-store.ensures.takes c.put_store.ensures.puts stands c.asked-outcome.result told
+    by stands (inr memory) = rw memory (read_lacked (QueryAnswer c.args.text.now c.args.json) c.args.dir.now (g.H.Shelf.state c.args.shelf.now) (g.H.Shelf.state c.put_store.new.shelf) (g.H.Counted.faults c.args.shelf.now) (g.H.Counted.faults c.put_store.new.shelf)
+        c.one_schema.ensures (g.H.Shelf.state c.take_store.new.shelf) c.in_ok-store.store c.requires c.in_ok-store.ensures.takes c.put_store.ensures.puts stands)

@@ -1,0 +1,9 @@
+use Rattle.node_commands.specs.Bundle.{nodes_of}
+use Rattle.node_commands.specs.Verdict.{rules_of}
+use Rattle.node_commands.proofs.graph_tables.graph_text.Goals as goal
+
+pub replay-requires-after_bounds : goal.replay-requires-after_bounds
+replay-requires-after_bounds c κs = c.accepted_is_unlimited.ensures (rules_of c.args.schema.now) c.requires
+
+pub returns : goal.returns
+returns c = c.in_ok-text.ensures (nodes_of c.args.graph.now) c.in_ok-tables.ensures

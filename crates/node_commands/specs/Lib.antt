@@ -1,0 +1,15 @@
+pub mod Texts
+pub mod Outcome
+pub mod Outside
+pub mod Inputs
+pub mod Heads
+pub mod Verdict
+pub mod Bundle
+pub mod Standing
+pub mod StoreAnswers
+pub mod Comes
+pub mod Creating
+pub mod Signing
+pub mod Asking
+pub mod Run
+pub mod Merging

@@ -1,0 +1,199 @@
+-- What the commands that make an update by the key of a directory answer, and what they leave.
+use Rattle.std.specs.Prelude.{◌≡◌, ◌≢◌, ◌⊎◌, ℕ, ◌≤◌, Bool, List, [], ◌∷◌, ◌++◌, IsTrue, Err, Option, Some, None}
+use Rattle.rand_core.specs.Stream.{Stream}
+use Rattle.row_check.specs.Checksum.{is_luhn}
+use Rattle.bec_bytes.specs.Causes.{Rose}
+use Rattle.bec_disk.specs.declared.part.Part.TheVariants.{Schema, Updates, Key, Used}
+use Rattle.bec_disk.specs.Shelf.{ShelfState, out}
+use Rattle.update_model.specs.declared.op.Op.{Op}
+use Rattle.update_model.specs.declared.update_id.UpdateId.{UpdateId}
+use Rattle.update_log.specs.Log.{IsClean}
+use Rattle.lms_tree.specs.SecretKey.{SecretData}
+use Rattle.history.specs.Histories.{HistoryData}
+use Rattle.key_index.specs.KeyState.{KeyState}
+use Rattle.key_index.specs.Used.{used_in}
+use Rattle.replica.specs.declared.make_fault.MakeFault.{MakeFault}
+use Rattle.replica.specs.Making.{HasNoneToJoin, IsJoinCause, IsMakeCause, Joins, Makes}
+use Rattle.replica.specs.Replicas.{ReplicaState}
+use Rattle.store_directory.specs.Holding.{OpenData, WorksOn}
+use Rattle.store_directory.specs.Keys.{IsBadKey, IsNoKey, KeepsUsed, ReadsAsKey, WorksWith}
+use Rattle.store_directory.specs.Stores.{IsUntouched, KeepsAllBut, StoreData, part_in, reading}
+use Rattle.txn_text.specs.declared.fault.TextFault.{TextFault}
+use Rattle.txn_text.specs.declared.limits.TheConstants.{MAX_TRANSACTION_BYTES}
+use Rattle.txn_text.specs.Transactions.{Reads, FirstFault}
+use Rattle.node_commands.specs.declared.refusal.Refusal.{Refusal}
+use Rattle.node_commands.specs.declared.refusal.Refusal.TheVariants.{BadKey, Memory, NoKey, StoreFault, Transaction}
+use Rattle.node_commands.specs.declared.refusal.Refusal.TheVariants as refusals
+use Rattle.node_commands.specs.Comes.{IsShelfFault, RunsStore, is_done}
+use Rattle.node_commands.specs.Creating.{IsRefused}
+use Rattle.node_commands.specs.Inputs.{IsWholeText}
+use Rattle.schema.specs.Schemas.{SchemaData}
+use Rattle.node_commands.specs.Outcome.{IsFault, Outcome, Prints, from_make}
+use Rattle.node_commands.specs.Outside.{Outside}
+use Rattle.node_commands.specs.StoreAnswers.{HasStore, Readings, RefusesStore, next_bytes}
+use Rattle.node_commands.specs.Texts.{line_of}
+
+-- the history with one more update, the last
+abbrev pub with_update : HistoryData → List ℕ → HistoryData
+with_update history bytes = record { schema = history.schema; members = history.members ++ bytes ∷ [] }
+
+-- the schema and the updates of a store
+abbrev pub history_of : StoreData → HistoryData
+history_of store = record { schema = store.schema; members = store.members }
+
+-- the indices of a key that a part Used has used
+abbrev pub taken_of : Option (List ℕ) → List Bool
+taken_of None = []
+taken_of (Some used) = used_in used
+
+-- An answer over the updates of a store, a key, and which of its indices are used, with what is added to the updates.
+abbrev pub SignAnswer : Type 1
+SignAnswer = HistoryData → SecretData → List Bool → List (List ℕ) → Outcome → Type 0
+
+-- What is answered where an update of these operations is to be made, with C: it is made, stands last, and its id is printed; or why it is not made.
+pub data MakeAnswer (ops : List Op) (c : List ℕ) (history : HistoryData) (secret : SecretData) (taken : List Bool) (added : List (List ℕ)) (outcome : Outcome) : Type 0 where
+  made : (id : UpdateId) (bytes : List ℕ) → Makes is_luhn history secret taken ops c id (with_update history bytes) → added ≡ bytes ∷ [] → Prints outcome (line_of id)
+      → MakeAnswer ops c history secret taken added outcome
+  not_made : (why : MakeFault) → IsMakeCause is_luhn history secret taken ops c why → IsRefused outcome → added ≡ [] → outcome ≡ Err (from_make secret why)
+      → MakeAnswer ops c history secret taken added outcome
+
+-- What `apply` answers to what the source has left before and after, and to the generator's next bytes: the text is no transaction, or an update of
+-- its operations is to be made.
+pub data ApplyAnswer (before after : Option (List ℕ)) (stream : Stream) (history : HistoryData) (secret : SecretData) (taken : List Bool) (added : List (List ℕ)) (outcome : Outcome) : Type 0 where
+  bad_text : (text : List ℕ) (fault : TextFault) → IsWholeText MAX_TRANSACTION_BYTES before after text → FirstFault history.schema text fault.kind fault.line fault.column → added ≡ []
+      → outcome ≡ Err (Transaction fault) → ApplyAnswer before after stream history secret taken added outcome
+  asked : (text : List ℕ) (ops : List Op) → IsWholeText MAX_TRANSACTION_BYTES before after text → Reads history.schema text ops
+      → MakeAnswer ops (next_bytes stream) history secret taken added outcome → ApplyAnswer before after stream history secret taken added outcome
+
+-- What `join` answers to the generator's next bytes: the heads are joined by an update that stands last, and its id is printed; or there are fewer than
+-- two, and nothing is printed; or why they are not joined.
+pub data JoinAnswer (stream : Stream) (history : HistoryData) (secret : SecretData) (taken : List Bool) (added : List (List ℕ)) (outcome : Outcome) : Type 0 where
+  joined : (id : UpdateId) (bytes : List ℕ) → Joins history secret taken (next_bytes stream) id (with_update history bytes) → added ≡ bytes ∷ [] → Prints outcome (line_of id)
+      → JoinAnswer stream history secret taken added outcome
+  none : HasNoneToJoin history → added ≡ [] → Prints outcome [] → JoinAnswer stream history secret taken added outcome
+  not_joined : (why : MakeFault) → IsJoinCause history secret taken (next_bytes stream) why → IsRefused outcome → added ≡ [] → outcome ≡ Err (from_make secret why)
+      → JoinAnswer stream history secret taken added outcome
+
+-- Why the key of a directory is not opened, by what its parts read as.
+pub data RefusesKey (key used : Option (List ℕ)) (refusal : Refusal) : Type 0 where
+  no_key : IsNoKey key → refusal ≡ NoKey → RefusesKey key used refusal
+  bad_key : IsBadKey key used → refusal ≡ BadKey → RefusesKey key used refusal
+
+-- What is answered over an open store, by what the parts of the key read as. Where the key is refused, the source and the generator are not used.
+pub data KeyedAnswer (Unused : Type 0) (Answer : SignAnswer) (key used : Option (List ℕ)) (history : HistoryData) (added : List (List ℕ)) (outcome : Outcome) : Type 0 where
+  without_key : (refusal : Refusal) → RefusesKey key used refusal → Unused → added ≡ [] → outcome ≡ Err refusal → KeyedAnswer Unused Answer key used history added outcome
+  with_key : (secret : SecretData) → ReadsAsKey key used secret → Answer history secret (taken_of used) added outcome → KeyedAnswer Unused Answer key used history added outcome
+
+-- What is answered by what the parts of a directory read as. The store is judged before the key.
+pub data StoreAnswer (Unused : Type 0) (Answer : SignAnswer) (parts : Readings) (added : List (List ℕ)) (outcome : Outcome) : Type 0 where
+  without_store : (refusal : Refusal) → RefusesStore parts refusal → Unused → added ≡ [] → outcome ≡ Err refusal → StoreAnswer Unused Answer parts added outcome
+  with_store : (store : StoreData) → HasStore parts store → KeyedAnswer Unused Answer parts.key parts.used (history_of store) added outcome → StoreAnswer Unused Answer parts added outcome
+
+-- A command that makes an update by the key of a directory. Its part Key is at most read, and at most one index is used besides. In place of an answer
+-- comes a fault of the shelf, or what else may stop it.
+pub record MakesUpdate (Unused : Type 0) (Answer : SignAnswer) (Stops : Outcome → Type 0) (dir : List ℕ) (before after : ShelfState) (old new : ℕ) (outcome : Outcome) : Type 0 where
+  pub runs : RunsStore (λ given. IsShelfFault old new given ⊎ Stops given) (StoreAnswer Unused Answer) (Schema ∷ Updates ∷ Key ∷ Used ∷ []) dir before after outcome
+  pub key : IsTrue before.tells → IsUntouched (part_in before dir Key) (part_in after dir Key)
+  pub used : IsTrue before.tells → KeepsUsed (part_in before dir Used) (part_in after dir Used)
+
+-- The source failed, and its count of faults rose.
+abbrev pub IsSourceFault : ℕ → ℕ → Outcome → Type 0
+IsSourceFault old new outcome = (outcome ≡ Err refusals.Stream) × Rose old new
+
+-- Nothing else stops it.
+abbrev pub IsNoStop : Outcome → Type 0
+IsNoStop outcome = ⊥
+
+-- A refusal that comes before operations are judged: of the store, of the key, of the text, of the author, or of the number of heads.
+abbrev pub IsBeforeOperations : Outcome → Type 0
+IsBeforeOperations (Err refusals.NoStore) = Unit {0}
+IsBeforeOperations (Err refusals.BadStore) = Unit {0}
+IsBeforeOperations (Err NoKey) = Unit {0}
+IsBeforeOperations (Err BadKey) = Unit {0}
+IsBeforeOperations (Err (Transaction fault)) = Unit {0}
+IsBeforeOperations (Err refusals.AuthorNotListed) = Unit {0}
+IsBeforeOperations (Err (refusals.Heads count)) = Unit {0}
+IsBeforeOperations outcome = ⊥
+
+-- The operations are judged, and are invalid.
+abbrev pub IsInvalid : Outcome → Type 0
+IsInvalid (Err (refusals.Invalid reason operation)) = Unit {0}
+IsInvalid outcome = ⊥
+
+-- What `apply` may answer to an input, whatever is left of it, and whether what an answer leaves unused was used or not.
+abbrev pub MayApply : List ℕ → Stream → Readings → Outcome → Type 0
+MayApply input stream parts outcome = (after : Option (List ℕ)) × (added : List (List ℕ)) × StoreAnswer (Unit {0}) (ApplyAnswer (Some input) after stream) parts added outcome
+
+-- Of these the answers that exclude each other one: each refusal that comes before the operations are judged; and every answer, where none is that
+-- they are invalid.
+abbrev pub IsSureOfApply : List ℕ → Stream → Readings → Outcome → Type 0
+IsSureOfApply input stream parts outcome =
+    MayApply input stream parts outcome × (IsBeforeOperations outcome ⊎ ((other : Outcome) → MayApply input stream parts other → IsInvalid other → ⊥))
+
+-- `apply`.
+abbrev pub Applies : {S H R : Type 0} → List ℕ → Outside S H R → Outside S H R → Outcome → Type 0
+Applies dir before after outcome =
+    MakesUpdate ((after.source ≡ before.source) × (after.random ≡ before.random)) (ApplyAnswer before.left after.left before.stream) (IsSourceFault before.source_faults after.source_faults)
+    dir before.store after.store before.shelf_faults after.shelf_faults outcome
+
+-- `join`, which does not use the source.
+pub record JoinsHeads {S H R : Type 0} (dir : List ℕ) (before after : Outside S H R) (outcome : Outcome) : Type 0 where
+  pub joins : MakesUpdate (after.random ≡ before.random) (JoinAnswer before.stream) IsNoStop dir before.store after.store before.shelf_faults after.shelf_faults outcome
+  pub source : after.source ≡ before.source
+
+-- ---- the same of what is open
+
+-- What may come in place of an answer over an open store and key: memory ran out, or it was stopped, or a disk of either failed, whose count rose.
+abbrev pub IsOpenFault : (Outcome → Type 0) → ReplicaState → KeyState → ReplicaState → KeyState → Outcome → Type 0
+IsOpenFault Stops old key new key_new outcome =
+    (outcome ≡ Err Memory) ⊎ (Stops outcome ⊎ ((outcome ≡ Err StoreFault) × (Rose old.log.faults new.log.faults ⊎ Rose key.parts.used_faults key_new.parts.used_faults)))
+
+-- What is done to the list of an open store, as from its taking on.
+abbrev pub WorksFrom : ReplicaState → ReplicaState → List (List ℕ) → Bool → Type 0
+WorksFrom old new added done = (IsTrue old.log.disk.tells → IsClean old.log.end old.log.disk) → (taken : OpenData) → taken.replica ≡ old → WorksOn taken new added done
+
+-- A command over an open store and an open key.
+pub record SignsOpen (Answer : SignAnswer) (Stops : Outcome → Type 0) (old : ReplicaState) (key : KeyState) (new : ReplicaState) (key_new : KeyState) (outcome : Outcome) : Type 0 where
+  pub added : List (List ℕ)
+  pub comes : Answer old.history key.secret key.taken added outcome ⊎ (IsOpenFault Stops old key new key_new outcome × (added ≡ []))
+  pub works : WorksFrom old new added (is_done outcome)
+  pub works_with : WorksWith key key_new
+  pub log_later : old.log.faults ≤ new.log.faults
+  pub key_later : key.parts.used_faults ≤ key_new.parts.used_faults
+
+-- What may come in place of an answer over an open store and the key of a directory.
+abbrev pub IsInnerFault : (Outcome → Type 0) → ℕ → ℕ → ReplicaState → ReplicaState → Outcome → Type 0
+IsInnerFault Stops faults faults_new old new outcome = (outcome ≡ Err Memory) ⊎ (Stops outcome ⊎ ((outcome ≡ Err StoreFault) × (Rose faults faults_new ⊎ Rose old.log.faults new.log.faults)))
+
+-- A command over an open store, by the key of the directory.
+pub record SignsIn (Unused : Type 0) (Answer : SignAnswer) (Stops : Outcome → Type 0) (dir : List ℕ) (before after : ShelfState) (faults faults_new : ℕ) (old new : ReplicaState) (outcome : Outcome) : Type 0 where
+  pub added : List (List ℕ)
+  pub comes : (IsTrue before.tells → KeyedAnswer Unused Answer (reading (part_in before dir Key)) (reading (part_in before dir Used)) old.history added outcome)
+      ⊎ (IsInnerFault Stops faults faults_new old new outcome × (added ≡ []))
+  pub works : WorksFrom old new added (is_done outcome)
+  pub tells : after.tells ≡ before.tells
+  pub key : IsTrue before.tells → IsUntouched (part_in before dir Key) (part_in after dir Key)
+  pub used : IsTrue before.tells → KeepsUsed (part_in before dir Used) (part_in after dir Used)
+  pub key_home : IsTrue before.tells → part_in after dir Key ≢ out
+  pub used_home : IsTrue before.tells → part_in after dir Used ≢ out
+  pub others : IsTrue before.tells → KeepsAllBut (Key ∷ Used ∷ []) dir before after
+  pub later : faults ≤ faults_new
+  pub log_later : old.log.faults ≤ new.log.faults
+
+-- These are the operations of the text that was read.
+pub record TakesText (before after : Option (List ℕ)) (schema : SchemaData) (ops : List Op) : Type 0 where
+  pub text : List ℕ
+  pub whole : IsWholeText MAX_TRANSACTION_BYTES before after text
+  pub reads : Reads schema text ops
+
+-- The text that was read is no transaction, and this is its first fault.
+pub record FaultsText (before after : Option (List ℕ)) (schema : SchemaData) (refusal : Refusal) : Type 0 where
+  pub text : List ℕ
+  pub fault : TextFault
+  pub whole : IsWholeText MAX_TRANSACTION_BYTES before after text
+  pub first : FirstFault schema text fault.kind fault.line fault.column
+  pub is : refusal ≡ Transaction fault
+
+-- Why no operations were read: by the text, or the source failed, or memory ran out.
+abbrev pub StopsReading : Option (List ℕ) → Option (List ℕ) → ℕ → ℕ → SchemaData → Refusal → Type 0
+StopsReading before after old new schema refusal = FaultsText before after schema refusal ⊎ IsFault old new refusal

@@ -1,0 +1,137 @@
+ghost use Rattle.std.specs.Prelude.{◌≡◌, ◌≢◌, ◌≤◌, ◌⊎◌, Err, IfErr, IfOk, IsTrue, codes, length};
+ghost use Rattle.bec_disk.specs.Shelf.{out};
+ghost use Rattle.bec_disk.specs.declared.part.Part.TheVariants.{Key, Used};
+ghost use Rattle.node_commands.specs.Inputs.{IsWholeText};
+ghost use Rattle.node_commands.specs.Outside.{outside};
+ghost use Rattle.node_commands.specs.Run.{HasFirstWord, Runs};
+ghost use Rattle.node_commands.specs.Signing.{ApplyAnswer, Applies, IsNoStop, IsSourceFault, MakeAnswer, SignsIn, SignsOpen, StopsReading, TakesText};
+ghost use Rattle.node_commands.specs.StoreAnswers.{next_bytes};
+ghost use Rattle.store_directory.specs.Stores.{IsHome, part_in};
+ghost use Rattle.txn_text.specs.Outcome.{MayStand};
+
+use crate::printed_lines::{id_line, room_for_id};
+use crate::program::run_alone;
+use crate::refusal::{Refusal, made_refusal};
+use crate::standing::each_stands;
+use crate::text_input::read_text;
+use bec_bytes::{Sink, Source};
+use bec_disk::{Disk, Shelf};
+use key_index::KeyStore;
+use rand_core::Rng;
+use replica::Replica;
+use row_check::{Luhn, Native};
+use schema::{Schema, one_schema};
+use std::alloc::Global;
+use store_directory::{put_key, put_store, take_key, take_store};
+use txn_text::{MAX_TRANSACTION_BYTES, read_txn};
+use update_model::OpList;
+
+/// The command `apply DIR`: makes an update of the transaction that it reads, by the key of the directory, adds it to the
+/// directory's store, and prints its id. The first word has to be `apply`.
+///
+/// Its clause is that of [`run_alone`](crate::run_alone) for these words.
+pub fn command_apply<H: Shelf, R: Rng, S: Source, K: Sink>(
+    alloc: Global,
+    words: &[String],
+    shelf: &mut H,
+    random: &mut R,
+    input: &mut S,
+    out: &mut K,
+) -> u8
+    requires first { HasFirstWord (codes "apply") words.now }
+    requires home { IsTrue (H.state shelf.old).tells → IsHome (H.state shelf.old) }
+    ensures { Runs words.now
+        (outside S.left S.faults H.state H.faults R.stream input.old shelf.old random.old) (outside S.left S.faults H.state H.faults R.stream input.new shelf.new random.new)
+        (record { held = K.held out.old; faults = K.faults out.old }) (record { held = K.held out.new; faults = K.faults out.new }) result }
+{
+    run_alone(alloc, words, shelf, random, input, out)
+}
+
+/// Makes an update in the store of a directory, by its key, and answers the line of its id.
+pub fn apply_in<H: Shelf, R: Rng, S: Source>(
+    alloc: Global,
+    shelf: &mut H,
+    dir: &str,
+    random: &mut R,
+    input: &mut S,
+) -> Result<Vec<u8>, Refusal>
+    requires { IsTrue (H.state shelf.old).tells → IsHome (H.state shelf.old) }
+    ensures { Applies dir.now (outside S.left S.faults H.state H.faults R.stream input.old shelf.old random.old)
+        (outside S.left S.faults H.state H.faults R.stream input.new shelf.new random.new) result }
+{
+    one_schema();
+    let mut store = take_store(alloc, shelf, dir, Native::new(Luhn))?;
+    let outcome = apply_to(alloc, shelf, dir, &mut store.replica, random, input);
+    put_store(shelf, dir, store);
+    outcome
+}
+
+/// The same over the store, which is open.
+fn apply_to<H: Shelf, R: Rng, S: Source>(
+    alloc: Global,
+    shelf: &mut H,
+    dir: &str,
+    replica: &mut Replica<H::D, Luhn, Luhn>,
+    random: &mut R,
+    input: &mut S,
+) -> Result<Vec<u8>, Refusal>
+    requires key_in { IsTrue (H.state shelf.old).tells → part_in (H.state shelf.old) dir.now Key ≢ out }
+    requires used_in { IsTrue (H.state shelf.old).tells → part_in (H.state shelf.old) dir.now Used ≢ out }
+    ensures { SignsIn ((input.new ≡ input.old) × (random.new ≡ random.old)) (ApplyAnswer (S.left input.old) (S.left input.new) (R.stream random.old)) (IsSourceFault (S.faults input.old) (S.faults input.new))
+        dir.now (H.state shelf.old) (H.state shelf.new) (H.faults shelf.old) (H.faults shelf.new) replica.old replica.new result }
+{
+    each_stands(replica);
+    let mut key = take_key(alloc, shelf, dir)?;
+    let outcome = apply_by(alloc, replica, &mut key, random, input);
+    put_key(shelf, dir, key);
+    outcome
+}
+
+/// The same over the store and the key, which are open.
+fn apply_by<D: Disk, R: Rng, S: Source>(
+    alloc: Global,
+    replica: &mut Replica<D, Luhn, Luhn>,
+    key: &mut KeyStore<D>,
+    random: &mut R,
+    input: &mut S,
+) -> Result<Vec<u8>, Refusal>
+    ensures { SignsOpen (ApplyAnswer (S.left input.old) (S.left input.new) (R.stream random.old)) (IsSourceFault (S.faults input.old) (S.faults input.new)) replica.old key.old replica.new key.new result }
+{
+    each_stands(replica);
+    let ops = read_ops(alloc, replica.schema(), input)?;
+    make_by(alloc, replica, key, ops, random)
+}
+
+/// The operations of the transaction that is read.
+fn read_ops<S: Source>(alloc: Global, schema: &Schema, input: &mut S) -> Result<OpList, Refusal>
+    ensures read { IfOk result (λ ops. TakesText (S.left input.old) (S.left input.new) schema.now ops) }
+    ensures form { IfOk result (λ ops. MayStand ops) }
+    ensures stopped { IfErr result (λ refusal. StopsReading (S.left input.old) (S.left input.new) (S.faults input.old) (S.faults input.new) schema.now refusal) }
+{
+    let text = read_text(alloc, input, MAX_TRANSACTION_BYTES)?;
+    let ops = read_txn(alloc, schema, &text)?;
+    Ok(ops)
+}
+
+/// Makes an update of these operations. The memory for the line of its id is taken before.
+fn make_by<D: Disk, R: Rng>(
+    alloc: Global,
+    replica: &mut Replica<D, Luhn, Luhn>,
+    key: &mut KeyStore<D>,
+    ops: OpList,
+    random: &mut R,
+) -> Result<Vec<u8>, Refusal>
+    requires { MayStand ops }
+    ensures { SignsOpen (MakeAnswer ops (next_bytes (R.stream random.old))) IsNoStop replica.old key.old replica.new key.new result }
+{
+    each_stands(replica);
+    let room = room_for_id(alloc)?;
+    let mut c = [0; 32];
+    random.fill_bytes(&mut c);
+    let made = replica.make(alloc, ops, key, &c);
+    each_stands(replica);
+    match made {
+        Ok(id) => Ok(id_line(room, &id)),
+        Err(fault) => Err(made_refusal(key, fault)),
+    }
+}

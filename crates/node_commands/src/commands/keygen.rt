@@ -1,0 +1,81 @@
+ghost use Rattle.std.specs.Prelude.{◌≡◌, ◌++◌, IsTrue, OnOk, codes};
+ghost use Rattle.node_commands.specs.Creating.{DrawsKey};
+ghost use Rattle.node_commands.specs.Outside.{outside};
+ghost use Rattle.node_commands.specs.Run.{HasFirstWord, Runs};
+ghost use Rattle.node_commands.specs.Texts.{key_text};
+ghost use Rattle.store_directory.specs.Stores.{IsHome};
+
+use crate::program::run_alone;
+use crate::refusal::Refusal;
+use bec_bytes::{Sink, Source};
+use bec_disk::Shelf;
+use lm_ots::OtsType;
+use lms_tree::LmsType;
+use rand_core::Rng;
+use std::alloc::{AllocError, Global};
+use store_directory::{new_key, put_key};
+use update_model::AuthorKey;
+
+/// How many bytes the line of a public key has: 112 digits and the end.
+const KEY_LINE: usize = 113;
+
+/// The command `keygen DIR [--height 5,10,15] [--width 1,2,4,8]`: draws a key for a directory that has none, and prints its
+/// public key in lower-case hexadecimal. The first word has to be `keygen`.
+///
+/// Its clause is that of [`run_alone`](crate::run_alone) for these words.
+pub fn command_keygen<H: Shelf, R: Rng, S: Source, K: Sink>(
+    alloc: Global,
+    words: &[String],
+    shelf: &mut H,
+    random: &mut R,
+    input: &mut S,
+    out: &mut K,
+) -> u8
+    requires first { HasFirstWord (codes "keygen") words.now }
+    requires home { IsTrue (H.state shelf.old).tells → IsHome (H.state shelf.old) }
+    ensures { Runs words.now
+        (outside S.left S.faults H.state H.faults R.stream input.old shelf.old random.old) (outside S.left S.faults H.state H.faults R.stream input.new shelf.new random.new)
+        (record { held = K.held out.old; faults = K.faults out.old }) (record { held = K.held out.new; faults = K.faults out.new }) result }
+{
+    run_alone(alloc, words, shelf, random, input, out)
+}
+
+/// Draws a key of these types for a directory that has none, and answers the line of its public key. Room for the line is
+/// there before anything is made.
+pub fn keygen_in<H: Shelf, R: Rng>(
+    alloc: Global,
+    shelf: &mut H,
+    dir: &str,
+    height: LmsType,
+    width: OtsType,
+    random: &mut R,
+) -> Result<Vec<u8>, Refusal>
+    requires { IsTrue (H.state shelf.old).tells → IsHome (H.state shelf.old) }
+    ensures { DrawsKey height width (R.stream random.old) dir.now (H.state shelf.old) (H.state shelf.new) (H.faults shelf.old) (H.faults shelf.new) result }
+{
+    let mut line = Vec::with_capacity(alloc, KEY_LINE)?;
+    let key = new_key(alloc, shelf, dir, height, width, random)?;
+    let told = push_key(&mut line, &key.public());
+    put_key(shelf, dir, key);
+    told?;
+    Ok(line)
+}
+
+/// Adds the line of a public key: the digits of its types, of its identifier and of its root, and the end.
+fn push_key(line: &mut Vec<u8>, key: &AuthorKey) -> Result<(), AllocError>
+    ensures { OnOk result (line.new.items ≡ line.old.items ++ key_text key.now) }
+{
+    let mut word = [0u8; 8];
+    let _ = hex::encode_to_slice(key.lms.to_be_bytes(), &mut word);
+    line.extend_from_slice(&word)?;
+    let _ = hex::encode_to_slice(key.ots.to_be_bytes(), &mut word);
+    line.extend_from_slice(&word)?;
+    let mut ident = [0u8; 32];
+    let _ = hex::encode_to_slice(key.ident, &mut ident);
+    line.extend_from_slice(&ident)?;
+    let mut root = [0u8; 64];
+    let _ = hex::encode_to_slice(key.root, &mut root);
+    line.extend_from_slice(&root)?;
+    line.push(b'\n')?;
+    Ok(())
+}

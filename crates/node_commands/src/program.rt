@@ -1,0 +1,108 @@
+ghost use Rattle.std.specs.Prelude.{IsTrue};
+ghost use Rattle.node_commands.specs.Merging.{NamesApart};
+ghost use Rattle.node_commands.specs.Outside.{outside};
+ghost use Rattle.node_commands.specs.Run.{Comes, Runs};
+ghost use Rattle.command_words.specs.Seen.{request_seen};
+ghost use Rattle.store_directory.specs.Stores.{IsHome};
+
+use crate::commands::apply::apply_in;
+use crate::commands::check::verdict;
+use crate::commands::dump::{bundle_tables, dump_in};
+use crate::commands::export::export_in;
+use crate::commands::heads::{heads_in, stream_heads};
+use crate::commands::init::init_in;
+use crate::commands::join::join_in;
+use crate::commands::keygen::keygen_in;
+use crate::commands::merge::merge_in;
+use crate::commands::query_store::query_in;
+use crate::laws::{one_answer, one_answer_of_makers, one_answer_of_merge, one_answer_of_parts};
+use crate::lines::no_command;
+use crate::refusal::Refusal;
+use crate::reply::finish;
+use crate::status::OUT_OF_MEMORY;
+use bec_bytes::{Sink, Source};
+use bec_disk::Shelf;
+use command_words::{Request, one_request, request_in};
+use rand_core::Rng;
+use std::alloc::Global;
+
+/// Does what the words of a command line ask for without a net, over a shelf of directories, a generator of random words, a
+/// source and a sink, and answers the exit status. No part of the shelf may be handed out, and none is afterwards. Words that
+/// ask for something over a net are no command here.
+///
+/// Words that ask for something come to an outcome: it is done and prints a text, or it is refused, and why is printed. Each
+/// outcome has its cause in the words, in what the source has left and in what the parts of a directory read as; only where
+/// the source or the shelf failed, or memory ran out, another one comes in its place. The outcome is written whole, with its status; or the sink failed, and a front of it is
+/// written, with the status of a stream fault.
+pub fn run_alone<H: Shelf, R: Rng, S: Source, K: Sink>(
+    alloc: Global,
+    words: &[String],
+    shelf: &mut H,
+    random: &mut R,
+    input: &mut S,
+    out: &mut K,
+) -> u8
+    requires { IsTrue (H.state shelf.old).tells → IsHome (H.state shelf.old) }
+    ensures { Runs words.now
+        (outside S.left S.faults H.state H.faults R.stream input.old shelf.old random.old) (outside S.left S.faults H.state H.faults R.stream input.new shelf.new random.new)
+        (record { held = K.held out.old; faults = K.faults out.old }) (record { held = K.held out.new; faults = K.faults out.new }) result }
+{
+    one_answer();
+    one_answer_of_makers();
+    one_answer_of_merge();
+    one_answer_of_parts();
+    one_request();
+    let Ok(asked) = request_in(alloc, words) else {
+        return OUT_OF_MEMORY;
+    };
+    let Some(request) = asked else {
+        return no_command(out);
+    };
+    let outcome = outcome_of(alloc, &request, shelf, random, input);
+    finish(alloc, out, outcome)
+}
+
+/// What a request comes to.
+fn outcome_of<H: Shelf, R: Rng, S: Source>(
+    alloc: Global,
+    request: &Request,
+    shelf: &mut H,
+    random: &mut R,
+    input: &mut S,
+) -> Result<Vec<u8>, Refusal>
+    requires home { IsTrue (H.state shelf.old).tells → IsHome (H.state shelf.old) }
+    requires apart { NamesApart (request_seen request.now) }
+    ensures { Comes (request_seen request.now) (outside S.left S.faults H.state H.faults R.stream input.old shelf.old random.old)
+        (outside S.left S.faults H.state H.faults R.stream input.new shelf.new random.new) result }
+{
+    match request {
+        Request::Heads { directory: None } => stream_heads(alloc, input),
+        Request::Heads {
+            directory: Some(directory),
+        } => heads_in(alloc, shelf, directory),
+        Request::Check => verdict(alloc, input),
+        Request::Dump {
+            directory: None,
+            json,
+        } => bundle_tables(alloc, input, *json),
+        Request::Dump {
+            directory: Some(directory),
+            json,
+        } => dump_in(alloc, shelf, directory, *json),
+        Request::Init { directory } => init_in(alloc, shelf, directory, random, input),
+        Request::Keygen {
+            directory,
+            height,
+            width,
+        } => keygen_in(alloc, shelf, directory, *height, *width, random),
+        Request::Apply { directory } => apply_in(alloc, shelf, directory, random, input),
+        Request::Join { directory } => join_in(alloc, shelf, directory, random),
+        Request::Export { directory, updates } => export_in(alloc, shelf, directory, *updates),
+        Request::Query {
+            directory,
+            text,
+            json,
+        } => query_in(alloc, shelf, directory, text, *json),
+        Request::Merge { first, second } => merge_in(alloc, shelf, first, second),
+    }
+}
