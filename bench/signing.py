@@ -135,6 +135,16 @@ def record(spelling):
     return struct.pack(">I", len(spelling)) + spelling
 
 
+def records_of(stream):
+    """The spellings of the updates of a stream."""
+    found, at = [], 0
+    while at < len(stream):
+        (size,) = struct.unpack(">I", stream[at:at + 4])
+        found.append(stream[at + 4:at + 4 + size])
+        at += 4 + size
+    return found
+
+
 def lay_out(store, schema, records, node=0):
     """The parts of a new store of a schema with these records, whose node has 32 times this byte."""
     os.makedirs(store)
