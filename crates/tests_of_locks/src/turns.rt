@@ -10,8 +10,8 @@ use turn_lock::{Held, Kept, Seat, TurnLock};
 
 /// The seats and acts that had a turn.
 #[derive(Drop)]
-struct Turns {
-    all: Vec<(u64, u64)>,
+pub(crate) struct Turns {
+    pub(crate) all: Vec<(u64, u64)>,
 }
 
 impl Kept for Turns {
@@ -35,7 +35,7 @@ fn add(turns: &mut Turns, held: &Held<Turns>)
 }
 
 /// Takes so many turns, and adds an entry in each.
-fn take_turns<R: Wait>(
+pub(crate) fn take_turns<R: Wait>(
     rt: &R,
     lock: &TurnLock<Turns>,
     mut seat: Seat<Turns>,
