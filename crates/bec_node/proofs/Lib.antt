@@ -1,4 +1,8 @@
+pub mod Asking
+pub mod Concluding
+pub mod Dialling
 pub mod Open
 pub mod OpenServing
+pub mod Remembering
 pub mod Serving
 pub mod Sharing

@@ -1,11 +1,11 @@
 -- A store that is open while it meets others, and how it is put back.
-use Rattle.std.proofs.Common.{◌≡◌, ◌≢◌, ◌⊎◌, inl, inr, ℕ, ◌<◌, ◌≤◌, Bool, true, false, List, [], ◌++◌, refl, sym, ap, subst, ◌∙◌, IsTrue, Ok, Err, Result, arith}
+use Rattle.std.proofs.Common.{◌≡◌, ◌≢◌, ◌⊎◌, inl, inr, ℕ, ◌<◌, ◌≤◌, Bool, true, false, List, [], ◌++◌, refl, sym, ap, subst, ◌∙◌, IsTrue, Some, Ok, Err, Result, arith}
 use Rattle.std.proofs.lemmas.Bool.{true≢false}
 use Rattle.sha2.specs.Sha256.{sha256}
 use Rattle.row_check.specs.Checksum.{is_luhn}
 use Rattle.bec_bytes.specs.Causes.{Rose}
 use Rattle.bec_disk.specs.declared.part.Part.TheVariants.{Peers}
-use Rattle.bec_disk.specs.Shelf.{ShelfState}
+use Rattle.bec_disk.specs.Shelf.{PartState, ShelfState, out}
 use Rattle.bec_disk.specs.Slot.{slot}
 use Rattle.bec_links.specs.Nets.{NetState}
 use Rattle.peer_memory.specs.declared.peer.Peer.{Peer as PeerEntry}
@@ -14,13 +14,15 @@ use Rattle.replica.specs.Replicas.{ReplicaState}
 use Rattle.store_directory.specs.declared.store_refusal.StoreRefusal.{StoreRefusal}
 use Rattle.store_directory.specs.declared.store_refusal.StoreRefusal.TheVariants as store_refusals
 use Rattle.store_directory.specs.Holding.{HoldsOn, IsStoreCause, LetsGo, OpenData, PutsStore, TakesStore}
-use Rattle.store_directory.specs.Stores.{HoldsRun, IsHome, KeepsAllBut}
+use Rattle.store_directory.specs.Stores.{HoldsRun, IsHome, KeepsAllBut, part_in}
 use Rattle.store_directory.proofs.Putting.{told}
 use Rattle.store_directory.proofs.Readings.{OneSchema}
 use Rattle.store_directory.proofs.Working.{held_run, holds_run, read_before, store_of}
 use Rattle.session_server.specs.declared.ending.Ending.TheVariants as endings
 use Rattle.session_server.specs.declared.served.Served.{Served}
+use Rattle.session_rules.specs.declared.role.Role.TheVariants.{Initiator}
 use Rattle.session_server.specs.Serving.{Ran}
+use Rattle.session_server.specs.Sessions.{IsSession}
 use Rattle.node_commands.specs.declared.refusal.Refusal.{Refusal}
 use Rattle.node_commands.specs.declared.refusal.Refusal.TheVariants as refusals
 use Rattle.node_commands.specs.declared.status.TheConstants.{STORE_FAULT, STREAM_FAULT}
@@ -31,7 +33,7 @@ use Rattle.node_commands.specs.Standing.{Stands}
 use Rattle.node_commands.specs.StoreAnswers.{bad_store, no_store}
 use Rattle.node_commands.proofs.Merging.{closing_told, of_peers, of_store, opened_told, places_around, same_memory}
 use Rattle.bec_node.specs.Meetings.{Dials, HandsNone, IsMeetingFault, Meets, SyncAnswer, SyncsStore, Told, handed, met, no_meeting, not_asked, refused, told_done, told_status, touched}
-use Rattle.bec_node.specs.Open.{Concludes, ConcludesAs, HoldsSession, KeepsGrowing, SyncsOpen}
+use Rattle.bec_node.specs.Open.{Concludes, ConcludesAs, HoldsSession, KeepsGrowing, MeetsBy, MeetsOpen, SyncsOpen, held, no_memory, not_dialled}
 use Rattle.bec_node.proofs.Sharing.{grows_none, grows_then, holds_grown, passes_by}
 
 -- ---- the part Peers
@@ -46,11 +48,12 @@ keeps_peers_then dir before mid after a b = record {
     on : IsTrue before.tells → IsTrue mid.tells
     on tells = told before.tells mid.tells a.tells tells
 
--- ---- where it did not come to a session
+-- while the store of a directory is taken, its peers are in their place
+pub peers_home : (dir : List ℕ) (before opened : ShelfState) (taken : OpenData) → (IsTrue before.tells → IsHome before) → TakesStore is_luhn before dir taken opened → IsTrue opened.tells → part_in opened dir Peers ≢ out
+peers_home dir before opened taken home takes tells =
+    subst (λ (p : PartState). p ≢ out) (sym (takes.others (slot dir Peers) refl)) (home (told opened.tells before.tells (sym takes.tells) tells) (slot dir Peers))
 
--- a store to which nothing was done
-holds_not : (replica : ReplicaState) (done : Bool) → done ≡ false → Stands replica → HoldsOn replica replica [] done
-holds_not replica done not stands = holds_grown replica replica done (grows_none replica) stands (λ is. absurd (true≢false (sym is ∙ not)))
+-- ---- where it did not come to a session
 
 module _ (dir address : List ℕ) (before after : ShelfState) (net net_new : NetState) (faults faults_new net_faults net_faults_new : ℕ) (old now : ReplicaState) (keeps : KeepsPeers dir before after) (later : faults ≤ faults_new) where
   -- want of memory
@@ -89,8 +92,8 @@ open_stopped dir address before after net faults faults_new net_faults replica r
 open_stopped dir address before after net faults faults_new net_faults replica refusal keeps later stands (inr (is, rose)) =
     subst (λ (r : Refusal). SyncsOpen dir address before after net net faults faults_new net_faults net_faults replica replica (Err r)) (sym is)
     (record {
-      added = [];
-      holds = holds_not replica false refl stands;
+      added = (grows_none replica).added;
+      holds = holds_grown replica replica false (grows_none replica) stands (λ e. absurd (true≢false (sym e)));
       comes = inr (inr (inl refl));
       dials = not_asked refl;
       keeps = keeps;
@@ -107,22 +110,22 @@ module _ (dir address : List ℕ) (before mid after : ShelfState) (net net_new :
       → name ≡ sha256 address → KeepsGrowing old ended → served ≡ ran.served → HoldsSession peers name net net_new net_faults net_faults_new old ended ran
       → Concludes dir mid after between faults_new ended now peers name served answer → Stands now
       → SyncsOpen dir address before after net net_new faults faults_new net_faults net_faults_new old now answer
-  open_met keeps reads same one_later is_name grew is_served held concludes stands = record {
+  open_met keeps reads same one_later is_name grew is_served holds concludes stands = record {
     added = whole.added;
     holds = holds_grown old now (told_done answer) whole stands concludes.clean;
     comes = by concludes.comes;
-    dials = handed ran held.handed;
+    dials = handed ran holds.handed;
     keeps = keeps_peers_then dir before mid after keeps concludes.keeps;
     later = let two = concludes.later in omega (arith, one_later, two);
     store_fault = λ is. from (concludes.store_fault is);
-    stream_fault = λ is. held.broken (sym (ap (λ (s : Served). s.ending) is_served) ∙ concludes.stream_fault is);
+    stream_fault = λ is. holds.broken (sym (ap (λ (s : Served). s.ending) is_served) ∙ concludes.stream_fault is);
   }
     where
       whole : KeepsGrowing old now
       whole = grows_then old ended now grew concludes.grows
 
       from : (served.ending ≡ endings.Store) ⊎ (Rose between faults_new ⊎ (0 < now.log.faults)) → Rose faults faults_new ⊎ (0 < now.log.faults)
-      from (inl store) = let counted = held.stored (sym (ap (λ (s : Served). s.ending) is_served) ∙ store) in let more = concludes.log_later in inr (omega (arith, counted, more))
+      from (inl store) = let counted = holds.stored (sym (ap (λ (s : Served). s.ending) is_served) ∙ store) in let more = concludes.log_later in inr (omega (arith, counted, more))
       from (inr (inl rose)) = inl (omega (arith, one_later, rose))
       from (inr (inr some)) = inr some
 
@@ -133,19 +136,51 @@ module _ (dir address : List ℕ) (before mid after : ShelfState) (net net_new :
           → (IsTrue before.tells → Meets (opened_store old) address (memory_in before dir) (memory_in after dir) net net_new whole.added answer) ⊎ IsMeetingFault answer
       by (inr fault) = inr fault
       by (inl concluded) =
-          let as : ConcludesAs dir mid after peers (sha256 address) ran.served answer =
+          let said : ConcludesAs dir mid after peers (sha256 address) ran.served answer =
           subst (λ (s : Served). ConcludesAs dir mid after peers (sha256 address) s answer) is_served (subst (λ (n : List ℕ). ConcludesAs dir mid after peers n served answer) is_name concluded) in
           inl (λ tells. record {
             peers = peers;
             reads = reads tells;
             ran = ran;
-            handed = held.handed;
-            passes = passes_by old ended now ran.before ran.after whole concludes.grows held.opened held.seen held.within;
-            session = rw is_name held.session;
-            tells = as.tells;
-            remembers = λ is. as.remembers is (on tells);
-            forgets = λ not. as.forgets not (on tells) ∙ same tells;
+            handed = holds.handed;
+            passes = passes_by old ended now ran.before ran.after whole concludes.grows holds.opened holds.seen holds.within;
+            session = subst (λ (n : List ℕ). IsSession old.history.schema.rule Initiator peers (Some n) ran.before ran.after ran.left ran.left' ran.held ran.held' ran.faults ran.faults' ran.served) is_name holds.session;
+            tells = said.tells;
+            remembers = λ is. said.remembers is (on tells);
+            forgets = λ not. said.forgets not (on tells) ∙ same tells;
           })
+
+-- ---- what meeting came to
+
+module _ (dir address : List ℕ) (before mid : ShelfState) (net net_new : NetState) (faults between net_faults net_faults_new : ℕ) (old ended : ReplicaState) (peers : List PeerEntry) (name : List ℕ) (result : Result Served Refusal)
+    (keeps : KeepsPeers dir before mid) (one_later : faults ≤ between) (meets : MeetsOpen peers name net net_new net_faults net_faults_new old ended result) where
+  -- nobody was met
+  pub open_unmet : (refusal : Refusal) → result ≡ Err refusal → Stands ended → SyncsOpen dir address before mid net net_new faults between net_faults net_faults_new old ended (Err refusal)
+  open_unmet refusal is stands = by meets.comes
+    where
+      by : MeetsBy peers name net net_new net_faults net_faults_new old ended result → SyncsOpen dir address before mid net net_new faults between net_faults net_faults_new old ended (Err refusal)
+      by (no_memory same memory) =
+          let e : refusal ≡ refusals.Memory = cc (is, memory) in
+          subst (λ (r : Refusal). SyncsOpen dir address before mid net net_new faults between net_faults net_faults_new old ended (Err r)) (sym e)
+          (open_memory dir address before mid net net_new faults between net_faults net_faults_new old ended keeps one_later (not_asked same) meets.grows stands)
+      by (not_dialled none rose stream) =
+          let e : refusal ≡ refusals.Stream = cc (is, stream) in
+          subst (λ (r : Refusal). SyncsOpen dir address before mid net net_new faults between net_faults net_faults_new old ended (Err r)) (sym e)
+          (open_undialled dir address before mid net net_new faults between net_faults net_faults_new old ended keeps one_later none rose meets.grows stands)
+      by (held ran ok holds) = absurd (cc (is, ok))
+
+  -- somebody was
+  pub open_told : (after : ShelfState) (faults_new : ℕ) (now : ReplicaState) (served : Served) (answer : Told) → result ≡ Ok served → (IsTrue before.tells → Reads (memory_in before dir) peers)
+      → (IsTrue before.tells → memory_in mid dir ≡ memory_in before dir) → name ≡ sha256 address → Concludes dir mid after between faults_new ended now peers name served answer → Stands now
+      → SyncsOpen dir address before after net net_new faults faults_new net_faults net_faults_new old now answer
+  open_told after faults_new now served answer is reads same is_name concludes stands = by meets.comes
+    where
+      by : MeetsBy peers name net net_new net_faults net_faults_new old ended result → SyncsOpen dir address before after net net_new faults faults_new net_faults net_faults_new old now answer
+      by (no_memory unasked memory) = absurd (cc (is, memory))
+      by (not_dialled none rose stream) = absurd (cc (is, stream))
+      by (held ran ok holds) =
+          let e : served ≡ ran.served = cc (is, ok) in
+          open_met dir address before mid after net net_new faults between faults_new net_faults net_faults_new old ended now peers name ran served answer keeps reads same one_later is_name meets.grows e holds concludes stands
 
 -- ---- a store that is taken and put back
 

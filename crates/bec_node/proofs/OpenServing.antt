@@ -1,8 +1,7 @@
 -- A store that is open while it serves others, and how it is put back.
 use Rattle.std.proofs.Common.{◌≡◌, ◌≢◌, ◌⊎◌, inl, inr, ℕ, ◌<◌, ◌≤◌, Bool, true, false, List, [], ◌∷◌, ◌++◌, map, refl, sym, ap, subst, ◌∙◌, IsTrue, Ok, Err, Result, cond, ◌||◌, ◌==◌, arith}
-use Rattle.std.specs.List.{list_any}
+use Rattle.std.specs.Prelude.{IfErr, OnOk}
 use Rattle.std.proofs.lemmas.Bool.{true≢false}
-use mathlib.Core.List.{IsPrefix}
 use Rattle.row_check.specs.Checksum.{is_luhn}
 use Rattle.bec_bytes.specs.Causes.{Rose}
 use Rattle.bec_disk.specs.declared.part.Part.TheVariants.{Peers}
@@ -30,10 +29,12 @@ use Rattle.node_commands.specs.StoreAnswers.{bad_store, no_store}
 use Rattle.node_commands.proofs.Merging.{closing_told, of_peers, of_store, opened_told, places_around, same_memory}
 use Rattle.session_server.specs.declared.served.Served.{Served}
 use Rattle.bec_node.specs.declared.commands.serve.Met.{Met}
-use Rattle.bec_node.specs.Meetings.{IsMeetingFault, ServeAnswer, ServesPeers, ServesStore, Told, not_served, served, told_done, told_status, touched}
+use Rattle.bec_node.specs.Meetings.{IsMeetingFault, RemembersSessions, ServeAnswer, ServesPeers, ServesStore, Told, not_served, served, told_done, told_status, touched}
 use Rattle.bec_node.specs.Open.{KeepsGrowing}
-use Rattle.bec_node.specs.OpenServing.{ConcludesAll, ConcludesAllAs, HoldsSessions, ServesOpen}
-use Rattle.bec_node.specs.Words.{has_status, serve_status}
+use Rattle.bec_node.specs.OpenServing.{ConcludesAll, ConcludesAllAs, HasFailed, HoldsSessions, KeepsSessions, ServesOpen}
+use Rattle.bec_node.specs.Words.{has_status, serve_status, serve_text}
+use Rattle.bec_node.specs.declared.reply.Reply.{Reply}
+use Rattle.update_log.specs.Log.{IsClean}
 use Rattle.bec_node.proofs.Open.{keeps_peers_then}
 use Rattle.bec_node.proofs.Sharing.{grows_none, grows_then, holds_grown, passes_by}
 
@@ -67,6 +68,75 @@ stream_status sessions store_failed net_failed is = by store_failed (has_status 
     by false false false m false e true d is = absurd (cc (is))
     by false false false m false e false true is = absurd (cc (is))
     by false false false m false e false false is = absurd (cc (is))
+
+-- where the status is that of a thing done, no disk failed outside
+done_status : (sessions : List Served) (store_failed net_failed : Bool) → (serve_status sessions store_failed net_failed == DONE) ≡ true → store_failed ≡ false
+done_status sessions true net_failed is = absurd (cc (is))
+done_status sessions false net_failed is = refl
+
+-- ---- what is told
+
+module _ (dir : List ℕ) (before after : ShelfState) (faults faults_new : ℕ) (old now : ReplicaState) (peers : List PeerEntry) (held : Met) (sessions : List Served) (same : sessions ≡ held.sessions) {T : Type 0}
+    (result : Result T Refusal) (kept_of : KeepsSessions dir before after faults faults_new old now peers sessions result) where
+  kept : KeepsSessions dir before after faults faults_new old now peers held.sessions result
+  kept = subst (λ (l : List Served). KeepsSessions dir before after faults faults_new old now peers l result) same kept_of
+
+  -- memory ran out
+  pub concludes_all_not : ConcludesAll dir before after faults faults_new old now peers held (Err refusals.Memory)
+  concludes_all_not = record {
+    grows = kept.grows;
+    clean = λ is. absurd (true≢false (sym is));
+    keeps = kept.keeps;
+    comes = inr refl;
+    later = kept.later;
+    log_later = kept.log_later;
+    store_fault = λ is. absurd (cc (is));
+    stream_fault = λ is. absurd (cc (is));
+  }
+
+  clean_by : (result : Result T Refusal) (store_failed : Bool) → HasFailed result store_failed → store_failed ≡ false → OnOk result (IsTrue now.log.disk.tells → IsClean now.log.end now.log.disk)
+      → IsTrue now.log.disk.tells → IsClean now.log.end now.log.disk
+  clean_by (Ok done) store_failed failed not clean = clean
+  clean_by (Err refusal) store_failed failed not clean = let yes_failed = failed.1 in absurd (true≢false (sym yes_failed ∙ not))
+
+  remembers_by : (result : Result T Refusal) (store_failed : Bool) → HasFailed result store_failed → store_failed ≡ false
+      → OnOk result (IsTrue before.tells → RemembersSessions peers held.sessions (memory_in before dir) (memory_in after dir)) → IsTrue before.tells → RemembersSessions peers held.sessions (memory_in before dir) (memory_in after dir)
+  remembers_by (Ok done) store_failed failed not remembers = remembers
+  remembers_by (Err refusal) store_failed failed not remembers = let yes_failed = failed.1 in absurd (true≢false (sym yes_failed ∙ not))
+
+  fault_by : (result : Result T Refusal) (store_failed : Bool) → HasFailed result store_failed → store_failed ≡ true
+      → IfErr result (λ refusal. (refusal ≡ refusals.Memory) ⊎ ((refusal ≡ refusals.StoreFault) × (Rose faults faults_new ⊎ (0 < now.log.faults)))) → Rose faults faults_new ⊎ (0 < now.log.faults)
+  fault_by (Ok done) store_failed failed is why = absurd (true≢false (sym is ∙ failed))
+  fault_by (Err refusal) store_failed failed is (inl memory) = let store = failed.0 in absurd (cc (memory, store))
+  fault_by (Err refusal) store_failed failed is (inr (store, rose)) = rose
+
+  -- it is told how the sessions ended
+  pub concludes_all : (store_failed : Bool) → HasFailed result store_failed → (reply : Reply) → reply.text.items ≡ serve_text sessions store_failed held.net_failed
+      → reply.status ≡ serve_status sessions store_failed held.net_failed → ConcludesAll dir before after faults faults_new old now peers held (Ok reply)
+  concludes_all store_failed failed reply text_of status_of = record {
+    grows = kept.grows;
+    clean = λ is. clean_by result store_failed failed (done_status held.sessions store_failed held.net_failed (subst (λ (n : ℕ). (n == DONE) ≡ true) status is)) kept.clean;
+    keeps = kept.keeps;
+    comes = inl (record {
+      store_failed = store_failed;
+      tells = record { reply = reply; is = refl; text_is = text; status_is = status };
+      remembers = λ not. remembers_by result store_failed failed not kept.remembers;
+    });
+    later = kept.later;
+    log_later = kept.log_later;
+    store_fault = λ is. by (store_status held.sessions store_failed held.net_failed (sym status ∙ is));
+    stream_fault = λ is. stream_status held.sessions store_failed held.net_failed (sym status ∙ is);
+  }
+    where
+      text : reply.text.items ≡ serve_text held.sessions store_failed held.net_failed
+      text = text_of ∙ ap (λ (l : List Served). serve_text l store_failed held.net_failed) same
+
+      status : reply.status ≡ serve_status held.sessions store_failed held.net_failed
+      status = status_of ∙ ap (λ (l : List Served). serve_status l store_failed held.net_failed) same
+
+      by : (store_failed ≡ true) ⊎ (has_status STORE_FAULT held.sessions ≡ true) → (has_status STORE_FAULT held.sessions ≡ true) ⊎ (Rose faults faults_new ⊎ (0 < now.log.faults))
+      by (inl outside) = inr (fault_by result store_failed failed outside kept.failed)
+      by (inr session) = inl session
 
 -- ---- where nobody was served
 
@@ -137,7 +207,7 @@ serving_held dir asked before mid after net net_new faults between faults_new ne
     by : ConcludesAllAs dir mid after peers held answer ⊎ (answer ≡ Err refusals.Memory)
         → (IsTrue before.tells → ServesPeers (opened_store old) asked (memory_in before dir) (memory_in after dir) net net_new net_faults net_faults_new whole.added answer) ⊎ IsMeetingFault answer
     by (inr memory) = inr (inl memory)
-    by (inl as) = inl (λ tells. record {
+    by (inl said) = inl (λ tells. record {
       peers = peers;
       reads = reads tells;
       first = holds.first;
@@ -145,10 +215,10 @@ serving_held dir asked before mid after net net_new faults between faults_new ne
       passes = passes_by old ended now holds.first holds.last whole concludes.grows holds.opened holds.serves.seen holds.within;
       sessions = held.sessions;
       net_failed = held.net_failed;
-      store_failed = as.store_failed;
+      store_failed = said.store_failed;
       serves = holds.serves;
-      tells = as.tells;
-      remembers = λ not. rw (sym (same tells)) (as.remembers not (on tells));
+      tells = said.tells;
+      remembers = λ not. subst (λ (m : List ℕ). RemembersSessions peers held.sessions m (memory_in after dir)) (same tells) (said.remembers not (on tells));
     })
 
 -- ---- a store that is taken and put back

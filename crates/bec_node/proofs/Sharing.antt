@@ -9,10 +9,10 @@ use Rattle.replica.specs.Replicas.{ReplicaState}
 use Rattle.turn_lock.specs.Seats.{Known}
 use Rattle.turn_lock.proofs.Prefixes.{prefix_more}
 use Rattle.shared_replica.specs.declared.entry.Entry.{Entry}
-use Rattle.shared_replica.specs.declared.entry.Entry.TheVariants.{First, Opened}
+use Rattle.shared_replica.specs.declared.entry.Entry.TheVariants.{Added, Fault, First, Opened}
 use Rattle.shared_replica.specs.Entries.{HasFaults, IsStoreOf, entries_by, faults_of, opening_of, updates_of}
-use Rattle.shared_replica.proofs.Going.{disk_stays, prefix_then, store_stays, updates_stay}
-use Rattle.shared_replica.proofs.Lists.{faults_in, faults_more, updates_opened}
+use Rattle.shared_replica.proofs.Going.{disk_stays, store_stays, updates_stay}
+use Rattle.shared_replica.proofs.Lists.{updates_opened}
 use Rattle.session_server.specs.declared.ending.Ending.{Ending}
 use Rattle.session_server.specs.declared.ending.Ending.TheVariants as endings
 use Rattle.session_server.specs.declared.served.Served.{Served}
@@ -37,22 +37,28 @@ module _ (rule : RuleData) (role : Role) (peers : List Peer) (name : Option (Lis
   store_met (inl runs) is = (subst (λ (e : Ending). HasCause e runs.reached before after faults faults') is runs.cause).1
   store_met (inr never) is = let e = never.ending in absurd (cc (is, e))
 
-met_seen : (before after : Known Entry) → HasMetFault before after → 1 ≤ faults_of after.seen
-met_seen before after met =
-    let whole = ap faults_of met.ended in
-    let a = faults_more met.point (entries_by met.seat met.act met.added true ++ met.rest) in
-    let b = faults_more (entries_by met.seat met.act met.added true) met.rest in
-    let c = faults_in met.seat met.act met.added true in
-    omega arith
+-- an act that met a fault counts one, wherever it stands
+fault_in : (front rest : List Entry) (seat act : ℕ) (added : List (List ℕ)) → 1 ≤ faults_of (front ++ (entries_by seat act added true ++ rest))
+fault_in [] rest seat act [] = omega arith
+fault_in [] rest seat act (u ∷ added) = fault_in [] rest seat act added
+fault_in (First opening ∷ front) rest seat act added = fault_in front rest seat act added
+fault_in (Opened u ∷ front) rest seat act added = fault_in front rest seat act added
+fault_in (Added u seat' act' ∷ front) rest seat act added = fault_in front rest seat act added
+fault_in (Fault seat' act' ∷ front) rest seat act added = omega arith
 
 -- a fault that was met is counted by the log
 pub met_counted : (before after : Known Entry) (last : List Entry) (now : ReplicaState) → HasMetFault before after → IsPrefix after.seen last → IsStoreOf last now → 0 < now.log.faults
 met_counted before after last now met begins store =
-    let seen = met_seen before after met in
-    let whole = ap faults_of begins.1 in
-    let more = faults_more after.seen begins.0 in
+    let own = entries_by met.seat met.act met.added true in
+    let whole : last ≡ met.point ++ (own ++ (met.rest ++ begins.0)) =
+    sym begins.1 ∙ ap (λ (l : List Entry). l ++ begins.0) met.ended ∙ append_assoc met.point (own ++ met.rest) begins.0 ∙ ap (λ (l : List Entry). met.point ++ l) (append_assoc own met.rest begins.0) in
+    let some = fault_in met.point (met.rest ++ begins.0) met.seat met.act met.added in
+    let counted = ap faults_of whole in
     let faults = store.faults in
-    omega arith
+    omega (arith, some, counted, faults)
+
+pub prefix_then : (a b c : List Entry) → IsPrefix a b → IsPrefix b c → IsPrefix a c
+prefix_then a b c p q = subst (IsPrefix a) q.1 (prefix_more a b q.0 p)
 
 -- ---- how it grows
 

@@ -139,7 +139,7 @@ pub record SyncsStore (dir address : List ℕ) (before after : ShelfState) (net 
 -- what is remembered of peers after one session: of one that is done its ids, under the peer's node
 abbrev pub RemembersOne : List PeerEntry → Ending → Option (List ℕ) → List UpdateId → List PeerEntry → Type 0
 RemembersOne peers endings.Done (Some node) ids peers_new = Remembers peers node ids peers_new
-RemembersOne peers ending node ids peers_new = peers_new ≡ peers
+RemembersOne peers ending whose ids peers_new = peers_new ≡ peers
 
 -- and after all of them, in their order
 abbrev pub RemembersAll : List PeerEntry → List Served → List PeerEntry → Type 0

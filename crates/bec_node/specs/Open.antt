@@ -1,5 +1,5 @@
 -- What is done to a store that is open, in the middle of `sync` and `serve`.
-use Rattle.std.specs.Prelude.{◌≡◌, ◌≢◌, ◌⊎◌, ℕ, ◌<◌, ◌≤◌, Bool, true, false, List, ◌∷◌, ◌++◌, map, IsTrue, Option, Some, Result, Ok, Err}
+use Rattle.std.specs.Prelude.{◌≡◌, ◌≢◌, ◌⊎◌, ℕ, ◌<◌, ◌≤◌, Bool, true, false, List, ◌∷◌, ◌++◌, map, IsTrue, IfErr, OnOk, Option, Some, Result, Ok, Err}
 use mathlib.Core.List.{IsPrefix}
 use Rattle.bec_bytes.specs.Causes.{Rose}
 use Rattle.bec_disk.specs.Disk.{IsSameDisk}
@@ -61,6 +61,25 @@ pub data MeetsBy (peers : List PeerEntry) (name : List ℕ) (net net_new : NetSt
 pub record MeetsOpen (peers : List PeerEntry) (name : List ℕ) (net net_new : NetState) (net_faults net_faults_new : ℕ) (old now : ReplicaState) (result : Result Served Refusal) : Type 0 where
   pub grows : KeepsGrowing old now
   pub comes : MeetsBy peers name net net_new net_faults net_faults_new old now result
+
+-- What is left after a session of the store and of what is remembered: after one that is done its ids are, and the log has nothing else than the store's updates;
+-- after another nothing is.
+pub record AreKept (dir : List ℕ) (before after : ShelfState) (now : ReplicaState) (peers : List PeerEntry) (name : List ℕ) (served : Served) : Type 0 where
+  pub remembers : served.ending ≡ endings.Done → IsTrue before.tells → RemembersIn peers name served.heads (memory_in after dir)
+  pub forgets : served.ending ≢ endings.Done → IsTrue before.tells → memory_in after dir ≡ memory_in before dir
+  pub clean : served.ending ≡ endings.Done → IsTrue now.log.disk.tells → IsClean now.log.end now.log.disk
+
+-- Why it is not: memory ran out, or a disk failed.
+abbrev pub IsKeepFault : ℕ → ℕ → ReplicaState → Refusal → Type 0
+IsKeepFault faults faults_new now refusal = (refusal ≡ refusals.Memory) ⊎ ((refusal ≡ refusals.StoreFault) × (Rose faults faults_new ⊎ (0 < now.log.faults)))
+
+pub record Keeps (dir : List ℕ) (before after : ShelfState) (faults faults_new : ℕ) (old now : ReplicaState) (peers : List PeerEntry) (name : List ℕ) (served : Served) {T : Type 0} (result : Result T Refusal) : Type 0 where
+  pub grows : KeepsGrowing old now
+  pub keeps : KeepsPeers dir before after
+  pub kept : OnOk result (AreKept dir before after now peers name served)
+  pub failed : IfErr result (IsKeepFault faults faults_new now)
+  pub later : faults ≤ faults_new
+  pub log_later : old.log.faults ≤ now.log.faults
 
 -- What a session came to is told; after one that is done its ids are remembered, and after another nothing.
 pub record ConcludesAs (dir : List ℕ) (before after : ShelfState) (peers : List PeerEntry) (name : List ℕ) (served : Served) (told : Told) : Type 0 where

@@ -49,6 +49,11 @@ pub record KeepsSessions (dir : List ℕ) (before after : ShelfState) (faults fa
   pub later : faults ≤ faults_new
   pub log_later : old.log.faults ≤ now.log.faults
 
+-- Whether a disk failed while something was kept.
+abbrev pub HasFailed : {T : Type 0} → Result T Refusal → Bool → Type 0
+HasFailed (Ok kept) failed = failed ≡ false
+HasFailed (Err refusal) failed = (refusal ≡ refusals.StoreFault) × (failed ≡ true)
+
 -- How the sessions ended is told, and what failed besides.
 pub record ConcludesAllAs (dir : List ℕ) (before after : ShelfState) (peers : List PeerEntry) (met : Met) (told : Told) : Type 0 where
   pub store_failed : Bool

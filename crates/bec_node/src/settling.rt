@@ -1,6 +1,6 @@
 //! Leaving the log of a store with its updates and nothing else.
 
-ghost use Rattle.std.specs.Prelude.{◌≡◌, ◌<◌, IfErr, IsTrue, OnOk};
+ghost use Rattle.std.specs.Prelude.{◌≡◌, ◌<◌, ◌≤◌, IfErr, IsTrue, OnOk};
 ghost use Rattle.update_log.specs.Log.{IsClean};
 ghost use Rattle.bec_node.specs.Open.{IsSettleFault, KeepsGrowing};
 
@@ -19,6 +19,7 @@ pub(crate) fn settle<D: Disk>(
     ensures grows { KeepsGrowing replica.old replica.new }
     ensures clean { IsTrue replica.old.log.disk.tells → OnOk result (IsClean replica.new.log.end replica.new.log.disk) }
     ensures failed { IfErr result (IsSettleFault replica.new) }
+    ensures later { replica.old.log.faults ≤ replica.new.log.faults }
 {
     match replica.commit(alloc, Vec::new(alloc)) {
         Ok(_) => Ok(()),

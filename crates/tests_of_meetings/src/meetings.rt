@@ -101,7 +101,7 @@ fn nobody_is_accepted(rt: HostRuntime) -> Result<(), Fail> {
         failing,
     )?;
     assert_eq!(rt; said.status, 4);
-    assert!(rt; said.text.as_slice() == b"! stream fault\n");
+    assert!(rt; said.text.as_slice() == b"! stream fault\n".as_slice());
     Ok(())
 }
 
@@ -147,8 +147,8 @@ fn an_update_goes_over(rt: HostRuntime) -> Result<(), Fail> {
     let mut shelf = MemShelf::new(rt.alloc());
     assert!(rt; begins(&rt, rt.alloc(), &mut shelf)?);
     let (served, synced, are_equal) = carried(&rt, rt.alloc(), &shelf, 3)?;
-    assert!(rt; served.text.as_slice() == b"session 1 done gained 1 turns 4\n");
-    assert!(rt; synced.text.as_slice() == b"gained 0\nturns 4\n");
+    assert!(rt; served.text.as_slice() == b"session 1 done gained 1 turns 4\n".as_slice());
+    assert!(rt; synced.text.as_slice() == b"gained 0\nturns 4\n".as_slice());
     assert!(rt; are_equal);
     Ok(())
 }

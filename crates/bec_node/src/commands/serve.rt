@@ -1,11 +1,11 @@
 //! The command `serve DIR ADDR --sessions N`: a session with each of the nodes that dial.
 
-ghost use Rattle.std.specs.Prelude.{◌≡◌, ◌≢◌, ◌<◌, IsTrue, OnOk};
+ghost use Rattle.std.specs.Prelude.{◌≡◌, ◌≢◌, ◌<◌, IfOk, IsTrue, OnOk};
 ghost use Rattle.bec_disk.specs.declared.part.Part.TheVariants.{Peers as PeersPart};
 ghost use Rattle.bec_disk.specs.Shelf.{out};
 ghost use Rattle.store_directory.specs.Stores.{IsHome, part_in};
 ghost use Rattle.bec_node.specs.Meetings.{RemembersAll, ServesStore};
-ghost use Rattle.bec_node.specs.OpenServing.{ConcludesAll, KeepsSessions, ServesOpen, ServesPeersOpen};
+ghost use Rattle.bec_node.specs.OpenServing.{ConcludesAll, HasFailed, KeepsSessions, ServesOpen, ServesPeersOpen};
 
 use crate::reply::Reply;
 use crate::settling::settle;
@@ -43,7 +43,8 @@ where
     ensures { ServesStore directory.now asked (H.state shelf.old) (H.state shelf.new) (N.state net.old) (N.state net.new) (H.faults shelf.old) (H.faults shelf.new) (N.faults net.old) (N.faults net.new) result }
 {
     one_schema();
-    let OpenStore { schema, replica } = take_store(alloc, shelf, directory, Native::new(Luhn))?;
+    let store = take_store(alloc, shelf, directory, Native::new(Luhn))?;
+    let OpenStore { schema, replica } = store;
     let (replica, told) = serve_open(
         rt, alloc, shelf, net, directory, address, asked, replica,
     );
@@ -78,10 +79,12 @@ where
         Err(_) => return (replica, Err(Refusal::Memory)),
     };
     let (mut replica, met) = serve_peers(rt, alloc, net, &rule, &peers, address, asked, replica);
-    let told = match met {
-        Ok(met) => conclude_all(alloc, shelf, directory, &mut replica, peers, &met),
-        Err(_) => Err(Refusal::Memory),
+    each_stands(&replica);
+    let met = match met {
+        Ok(met) => met,
+        Err(_) => return (replica, Err(Refusal::Memory)),
     };
+    let told = conclude_all(alloc, shelf, directory, &mut replica, peers, &met);
     each_stands(&replica);
     (replica, told)
 }
@@ -146,15 +149,23 @@ fn conclude_all<H: Shelf>(
     ensures { ConcludesAll directory.now (H.state shelf.old) (H.state shelf.new) (H.faults shelf.old) (H.faults shelf.new) replica.old replica.new peers met.now result }
 {
     let sessions = met.sessions.as_slice();
-    let store_failed = match keep_sessions(alloc, shelf, directory, replica, peers, sessions) {
-        Ok(()) => false,
-        Err(Refusal::StoreFault) => true,
-        Err(_) => return Err(Refusal::Memory),
-    };
+    let kept = keep_sessions(alloc, shelf, directory, replica, peers, sessions);
+    let store_failed = has_store_failed(kept)?;
     Ok(Reply {
         text: serve_text(alloc, sessions, store_failed, met.net_failed)?,
         status: serve_status(sessions, store_failed, met.net_failed),
     })
+}
+
+/// Whether a disk failed while something was kept. The error is that memory ran out.
+fn has_store_failed(kept: Result<(), Refusal>) -> Result<bool, AllocError>
+    ensures { IfOk result (HasFailed kept) }
+{
+    match kept {
+        Ok(()) => Ok(false),
+        Err(Refusal::StoreFault) => Ok(true),
+        Err(_) => Err(AllocError),
+    }
 }
 
 /// Settles the log, and where a session is done keeps what is to be remembered of the peers.

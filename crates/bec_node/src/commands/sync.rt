@@ -5,7 +5,7 @@ ghost use Rattle.bec_disk.specs.declared.part.Part.TheVariants.{Peers as PeersPa
 ghost use Rattle.bec_disk.specs.Shelf.{out};
 ghost use Rattle.store_directory.specs.Stores.{IsHome, part_in};
 ghost use Rattle.bec_node.specs.Meetings.{SyncsStore};
-ghost use Rattle.bec_node.specs.Open.{Concludes, MeetsOpen, SyncsOpen};
+ghost use Rattle.bec_node.specs.Open.{Concludes, Keeps, MeetsOpen, SyncsOpen};
 
 use crate::reply::Reply;
 use crate::settling::settle;
@@ -39,7 +39,8 @@ pub(crate) fn sync_in<T: Wait, H: Shelf, N: Net>(
     ensures { SyncsStore directory.now address.now (H.state shelf.old) (H.state shelf.new) (N.state net.old) (N.state net.new) (H.faults shelf.old) (H.faults shelf.new) (N.faults net.old) (N.faults net.new) result }
 {
     one_schema();
-    let OpenStore { schema, replica } = take_store(alloc, shelf, directory, Native::new(Luhn))?;
+    let store = take_store(alloc, shelf, directory, Native::new(Luhn))?;
+    let OpenStore { schema, replica } = store;
     let (replica, told) = sync_open(rt, alloc, shelf, net, directory, address, replica);
     put_store(shelf, directory, OpenStore { schema, replica });
     told
@@ -69,10 +70,14 @@ fn sync_open<T: Wait, H: Shelf, N: Net>(
     };
     let name = Sha256::digest(address.as_bytes());
     let (mut replica, met) = meet(rt, alloc, net, &rule, &peers, name, address, replica);
-    let told = match met {
-        Ok(served) => conclude(alloc, shelf, directory, &mut replica, peers, name, &served),
-        Err(refusal) => Err(refusal),
+    each_stands(&replica);
+    let served = match met {
+        Ok(served) => served,
+        Err(refusal) => return (replica, Err(refusal)),
     };
+    let told = conclude(
+        alloc, shelf, directory, &mut replica, peers, name, &served,
+    );
     each_stands(&replica);
     (replica, told)
 }
@@ -127,16 +132,32 @@ fn conclude<H: Shelf>(
     requires { IsTrue (H.state shelf.old).tells → part_in (H.state shelf.old) directory.now PeersPart ≢ out }
     ensures { Concludes directory.now (H.state shelf.old) (H.state shelf.new) (H.faults shelf.old) (H.faults shelf.new) replica.old replica.new peers name served.now result }
 {
-    match served.ending {
-        Ending::Memory => return Err(Refusal::Memory),
-        Ending::Done => {
-            settle(alloc, replica)?;
-            keep_peers(alloc, shelf, directory, peers, name, &served.heads)?;
-        }
-        _ => {}
-    }
+    keep(alloc, shelf, directory, replica, peers, name, served)?;
     Ok(Reply {
         text: sync_text(alloc, served)?,
         status: status_by(&served.ending),
     })
+}
+
+/// Where a session is done, settles the log of the store, and keeps what is to be remembered of the peer.
+fn keep<H: Shelf>(
+    alloc: Global,
+    shelf: &mut H,
+    directory: &str,
+    replica: &mut Replica<H::D, Luhn, Luhn>,
+    peers: Peers,
+    name: [u8; 32],
+    served: &Served,
+) -> Result<(), Refusal>
+    requires { IsTrue (H.state shelf.old).tells → part_in (H.state shelf.old) directory.now PeersPart ≢ out }
+    ensures { Keeps directory.now (H.state shelf.old) (H.state shelf.new) (H.faults shelf.old) (H.faults shelf.new) replica.old replica.new peers name served.now result }
+{
+    match served.ending {
+        Ending::Done => {
+            settle(alloc, replica)?;
+            keep_peers(alloc, shelf, directory, peers, name, &served.heads)
+        }
+        Ending::Memory => Err(Refusal::Memory),
+        _ => Ok(()),
+    }
 }
