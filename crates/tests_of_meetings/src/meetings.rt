@@ -1,6 +1,6 @@
 //! What `sync` and `serve` answer.
 
-ghost use Rattle.std.specs.Prelude.{IfOk, IsTrue};
+ghost use Rattle.std.specs.Prelude.{IfOk};
 ghost use Rattle.bec_disk.specs.Shelved.{shelf_of};
 ghost use Rattle.store_directory.specs.Stores.{IsHome};
 
@@ -46,10 +46,11 @@ fn begins<T: Threads + Wait + Sync>(
     alloc: Global,
     shelf: &mut MemShelf,
 ) -> Result<bool, AllocError>
-    requires home { IsTrue (shelf_of shelf.old).tells → IsHome (shelf_of shelf.old) }
-    ensures home { IsTrue (shelf_of shelf.old).tells → IsHome (shelf_of shelf.new) }
+    requires home { IsHome (shelf_of shelf.old) }
+    ensures home { IsHome (shelf_of shelf.new) }
 {
-    for (line, input) in BEGIN {
+    for number in 0..BEGIN.len() {
+        let (line, input) = BEGIN[number];
         let said = answer(rt, alloc, shelf, line, input, b"", Vec::new(alloc))?;
         if said.status != 0 {
             return Ok(false);
@@ -64,12 +65,13 @@ fn answered<T: Threads + Wait + Sync>(
     alloc: Global,
     shelf: &mut MemShelf,
 ) -> Result<usize, AllocError>
-    requires home { IsTrue (shelf_of shelf.old).tells → IsHome (shelf_of shelf.old) }
+    requires home { IsHome (shelf_of shelf.old) }
 {
     let mut right = 0usize;
-    for (line, status, text) in ROWS {
+    for number in 0..ROWS.len() {
+        let (line, status, text) = ROWS[number];
         let said = answer(rt, alloc, shelf, line, b"", b"", Vec::new(alloc))?;
-        if said.status != *status || said.text.as_slice() != text.as_bytes() {
+        if said.status != status || said.text.as_slice() != text.as_bytes() {
             return Ok(right);
         }
         right = right.saturating_add(1);

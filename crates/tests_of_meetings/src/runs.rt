@@ -1,6 +1,5 @@
 //! Runs of the program over one shelf and a net of one link, both in memory.
 
-ghost use Rattle.std.specs.Prelude.{IsTrue};
 ghost use Rattle.bec_disk.specs.Shelved.{shelf_of};
 ghost use Rattle.store_directory.specs.Stores.{IsHome};
 
@@ -43,8 +42,8 @@ pub fn answer<T: Threads + Wait + Sync>(
     coming: &[u8],
     failing: Vec<u32>,
 ) -> Result<Said, AllocError>
-    requires home { IsTrue (shelf_of shelf.old).tells → IsHome (shelf_of shelf.old) }
-    ensures home { IsTrue (shelf_of shelf.old).tells → IsHome (shelf_of shelf.new) }
+    requires home { IsHome (shelf_of shelf.old) }
+    ensures home { IsHome (shelf_of shelf.new) }
 {
     let words = words(alloc, line)?;
     let mut random = Pcg32::new(42, 54);
