@@ -50,14 +50,17 @@ pub fn answer<T: Threads + Wait + Sync>(
     let mut input = MemSource::new(Vec::from_slice(alloc, input)?, Vec::new(alloc));
     let mut out = MemSink::new(alloc, Vec::new(alloc));
     let mut links = Vec::new(alloc);
-    links.push(MemLink::new(
-        alloc,
-        Vec::from_slice(alloc, coming)?,
-        Vec::new(alloc),
-    ))?;
+    links.push(MemLink::new(alloc, Vec::from_slice(alloc, coming)?, Vec::new(alloc)))?;
     let mut net = MemNet::new(alloc, links, failing);
     let status = run(
-        rt, alloc, &words, shelf, &mut net, &mut random, &mut input, &mut out,
+        rt,
+        alloc,
+        &words,
+        shelf,
+        &mut net,
+        &mut random,
+        &mut input,
+        &mut out,
     );
     let text = out.bytes().to_vec(alloc)?;
     let sent = match net.returned() {

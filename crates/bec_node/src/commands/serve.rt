@@ -45,9 +45,7 @@ where
     one_schema();
     let store = take_store(alloc, shelf, directory, Native::new(Luhn))?;
     let OpenStore { schema, replica } = store;
-    let (replica, told) = serve_open(
-        rt, alloc, shelf, net, directory, address, asked, replica,
-    );
+    let (replica, told) = serve_open(rt, alloc, shelf, net, directory, address, asked, replica);
     put_store(shelf, directory, OpenStore { schema, replica });
     told
 }
@@ -122,9 +120,7 @@ fn serve_peers<T: Threads + Wait + Sync, N: Net, D: Disk + Send>(
         sessions,
         net_failed,
         memory,
-    } = serve(
-        rt, alloc, net, &shared, rule, pass, address, asked, peers,
-    );
+    } = serve(rt, alloc, net, &shared, rule, pass, address, asked, peers);
     let replica = shared.end(rt, pass);
     if memory || has_status(OUT_OF_MEMORY, sessions.as_slice()) {
         return (replica, Err(AllocError));

@@ -75,9 +75,7 @@ fn sync_open<T: Wait, H: Shelf, N: Net>(
         Ok(served) => served,
         Err(refusal) => return (replica, Err(refusal)),
     };
-    let told = conclude(
-        alloc, shelf, directory, &mut replica, peers, name, &served,
-    );
+    let told = conclude(alloc, shelf, directory, &mut replica, peers, name, &served);
     each_stands(&replica);
     (replica, told)
 }
