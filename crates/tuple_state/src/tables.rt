@@ -16,7 +16,7 @@ ghost use Rattle.tuple_state.specs.Past.{IsNextVerdict, IsPastOf, StandsAt, done
 ghost use Rattle.tuple_state.specs.Absence.{causes_of};
 ghost use Rattle.tuple_state.specs.Kept.{are_layered, is_named, place_of};
 ghost use Rattle.tuple_state.specs.Parents.{columns_at, is_held, passes_place};
-ghost use Rattle.tuple_state.specs.State.{IsCut, IsStateOf, after, done_in, row_of, rules_of, voided_at};
+ghost use Rattle.tuple_state.specs.State.{IsCut, IsStateOf, after, done_in, row_of, rules_of_state, voided_at};
 ghost use Rattle.tuple_state.specs.declared.inserted.Inserted.{Inserted as Row};
 
 use crate::causes::{add_causes, clear, count_numbers, count_places, room_for};
@@ -36,7 +36,7 @@ use std::alloc::{AllocError, Global};
 use std::collections::{BTreeMap, BTreeSet};
 use std::marker::Model;
 use table_model::{ShownRowList, Verdict, VoidLine, VoidList, sort_lines, sort_rows};
-use update_model::{Ancestors, Node, RowName, RowsAt, Value};
+use update_model::{Ancestors, MAX_MEMBERS, Node, RowName, RowsAt, Value};
 
 /// What valid updates did, and which rows are visible for it. A contract sees the [state](mod@crate) of the definitions.
 #[derive(Debug, Drop)]
@@ -122,7 +122,7 @@ impl Tables {
     pub(crate) fn row(&self, place: usize) -> &Inserted
         requires { place < length self.now.inserted }
         ensures row { slice_get self.now.inserted place ≡ Some result.now }
-        ensures layered { are_layered (rules_of self.now) (done_in self.now).inserted ≡ true }
+        ensures layered { are_layered (rules_of_state self.now) (done_in self.now).inserted ≡ true }
     {
         &self.rows[place]
     }
@@ -130,7 +130,7 @@ impl Tables {
     /// Whether the row at a place is visible now.
     pub(crate) fn is_marked(&self, place: usize) -> bool
         requires { place < length self.now.inserted }
-        ensures { (it : Row) → slice_get self.now.inserted place ≡ Some it → result ≡ is_visible (rules_of self.now) (done_in self.now) it.name }
+        ensures { (it : Row) → slice_get self.now.inserted place ≡ Some it → result ≡ is_visible (rules_of_state self.now) (done_in self.now) it.name }
     {
         self.causes[place] == 0
     }
@@ -159,7 +159,7 @@ impl Tables {
     ) -> Result<(), AllocError>
         requires { place < length self.now.inserted }
         ensures { OnOk result ((it : Row) → slice_get self.now.inserted place ≡ Some it → (test : ℕ → Bool) → list_all test pending.new.keys
-            ≡ (list_all test pending.old.keys && list_all (λ r. passes_place test (place_of self.now.inserted r.name)) (cascade_refs (rules_of self.now) (row_of it)))) }
+            ≡ (list_all test pending.old.keys && list_all (λ r. passes_place test (place_of self.now.inserted r.name)) (cascade_refs (rules_of_state self.now) (row_of it)))) }
     {
         let entry = &self.rows[place].entry;
         match self.columns.get(usize::from(entry.table)) {
@@ -177,7 +177,7 @@ impl Tables {
     /// than 256 operations, and no more than 131,072 updates are applied.
     pub fn row_len(&self) -> usize
         ensures len { result ≡ length self.now.inserted }
-        ensures few { result ≤ 256 * 131072 }
+        ensures few { result ≤ 256 * MAX_MEMBERS }
     {
         self.rows.as_slice().len()
     }
@@ -193,7 +193,7 @@ impl Tables {
     pub(crate) fn restricts(&self, place: usize, name: &RowName) -> bool
         requires { place < length self.now.inserted }
         ensures { (it : Row) → slice_get self.now.inserted place ≡ Some it
-            → result ≡ list_any (λ r. is_restrict r.action && same_row r.name name.now) (refs (rules_of self.now) (row_of it)) }
+            → result ≡ list_any (λ r. is_restrict r.action && same_row r.name name.now) (refs (rules_of_state self.now) (row_of it)) }
     {
         let entry = &self.rows[place].entry;
         match self.columns.get(usize::from(entry.table)) {
@@ -297,7 +297,7 @@ impl Tables {
 
     /// Keeps the line of a void update.
     fn keep_void(&mut self, line: VoidLine) -> Result<(), AllocError>
-        requires few { self.old.count < 131072 }
+        requires few { self.old.count < MAX_MEMBERS }
         ensures { MatchResult result (λ _. self.new ≡ record self.old { count = self.old.count + 1; voids = self.old.voids ++ voided_at self.old.count line ∷ [] }) (λ _. self.new ≡ self.old) }
     {
         self.voids.push(Voided {
@@ -336,7 +336,7 @@ impl Tables {
 
     /// The same answer, told of what the tables hold.
     pub(crate) fn is_shown(&self, row: &RowName) -> bool
-        ensures { result ≡ is_visible (rules_of self.now) (done_in self.now) row.now }
+        ensures { result ≡ is_visible (rules_of_state self.now) (done_in self.now) row.now }
     {
         match self.places.get(row) {
             Some(place) => self.causes[*place] == 0,
