@@ -1,9 +1,11 @@
 //! The visible rows of a table, and what their values show.
 
-ghost use Rattle.std.specs.Prelude.{◌≡◌, ◌<◌, ◌++◌, ◌&&◌, IfOk, OnOk, Some, filter, length, map, slice_get};
-ghost use Rattle.table_model.specs.Tables.{listed};
+ghost use Rattle.std.specs.Prelude.{◌≡◌, ◌<◌, ◌++◌, ◌&&◌, IfOk, OnOk, Some, length, map, slice_get};
+ghost use Rattle.std.specs.List.Sorted.{IsPermutation, IsStrictlySortedBy};
+ghost use Rattle.table_model.specs.Tables.{listed, name_cmp};
 ghost use Rattle.table_model.specs.Verdicts.{in_table};
 ghost use Rattle.table_model.specs.Visible.{is_visible, shown};
+ghost use Rattle.tuple_state.specs.Arrived.{arrived};
 ghost use Rattle.tuple_state.specs.Showing.{is_shown_null, shown_by, shown_values_by};
 ghost use Rattle.tuple_state.specs.State.{done_in, row_of, rules_of_state};
 ghost use Rattle.tuple_state.specs.declared.inserted.Inserted.{Inserted as Row};
@@ -111,19 +113,21 @@ pub(crate) fn is_listed(tables: &Tables, table: u8, place: usize) -> bool
     tables.is_in(place, table) && tables.is_marked(place)
 }
 
-/// The visible rows of the table with this number in order of arrival, as it lists them.
+/// The visible rows of the table with this number in rising order of names, as it lists them. It goes over the rows of all
+/// tables.
 pub(crate) fn listed_rows(
     alloc: Global,
     tables: &Tables,
     table: u8,
 ) -> Result<Vec<ShownRow>, AllocError>
-    ensures { IfOk result (λ lines. lines.items ≡ map (λ it. listed (shown (rules_of_state tables.now) (done_in tables.now) (row_of it)))
-        (filter (λ it. in_table table (row_of it) && is_visible (rules_of_state tables.now) (done_in tables.now) it.name) tables.now.inserted)) }
+    ensures rising { IfOk result (λ lines. IsStrictlySortedBy name_cmp (map (λ line. line.name) lines.items)) }
+    ensures exact { IfOk result (λ lines. IsPermutation lines.items (arrived tables.now table)) }
 {
     let mut lines = Vec::new(alloc);
-    for place in 0..tables.row_len() {
-        if is_listed(tables, table, place) {
-            lines.push(shown_row(alloc, tables, tables.row(place))?)?;
+    let places = tables.places_by_name();
+    for (_, place) in places.iter() {
+        if is_listed(tables, table, *place) {
+            lines.push(shown_row(alloc, tables, tables.row(*place))?)?;
         }
     }
     Ok(lines)

@@ -6,10 +6,12 @@ ghost use Rattle.update_model.specs.declared.value.Value.{Value as Cell};
 ghost use Rattle.row_check.specs.declared.cmp.Cmp.TheVariants.{Eq};
 ghost use Rattle.row_check.specs.Comparisons.{compares};
 ghost use Rattle.row_check.specs.Meaning.{value_at};
+ghost use Rattle.std.specs.BTreeMap.{get};
+ghost use Rattle.update_model.specs.declared.row_name.RowName.{RowName as Name};
 ghost use Rattle.update_model.specs.Node.{NodeData};
-ghost use Rattle.table_model.specs.Tables.{AreRowsIn, AreVoidsIn};
+ghost use Rattle.table_model.specs.Tables.{AreRowsIn, AreVoidsIn, name_cmp};
 ghost use Rattle.table_model.specs.Verdicts.{effects_in, in_table};
-ghost use Rattle.table_model.specs.Visible.{Rules, TableRow, cascade_refs, is_deleted, is_visible, refs, same_row};
+ghost use Rattle.table_model.specs.Visible.{Rules, TableRow, cascade_refs, is_deleted, is_visible, refs, rules_with, same_row};
 ghost use Rattle.schema.specs.Columns.{is_restrict};
 ghost use Rattle.validity.specs.Answers.{AreAnswers};
 ghost use Rattle.tuple_state.specs.Past.{IsNextVerdict, IsPastOf, StandsAt, done_then, effects_before};
@@ -35,7 +37,7 @@ use schema::{Column, ColumnList, Schema};
 use std::alloc::{AllocError, Global};
 use std::collections::{BTreeMap, BTreeSet};
 use std::marker::Model;
-use table_model::{ShownRowList, Verdict, VoidLine, VoidList, sort_lines, sort_rows};
+use table_model::{ShownRowList, Verdict, VoidLine, VoidList, sort_lines};
 use update_model::{Ancestors, MAX_MEMBERS, Node, RowName, RowsAt, Value};
 
 /// What valid updates did, and which rows are visible for it. A contract sees the [state](mod@crate) of the definitions.
@@ -49,7 +51,8 @@ pub struct Tables {
     count: u32,
     /// The rows in order of arrival.
     rows: Vec<Inserted>,
-    /// Each row's place among these by its name. An ordered map, since strangers choose the names.
+    /// Each row's place among these by its name. An ordered map, since strangers choose the names, and since tables list rows
+    /// in rising order of names.
     places: BTreeMap<RowName, usize>,
     /// Of each row the number of its causes of absence: the updates that delete it, and its `CASCADE` columns that name an
     /// absent row. A row is visible where it is 0.
@@ -79,7 +82,7 @@ impl Model for Tables {
 impl Tables {
     /// Tables of this schema with no row. It gives up where memory runs out.
     pub fn new(alloc: Global, schema: &Schema) -> Result<Tables, AllocError>
-        ensures { IfOk result (λ tables. (ask : ℕ → List Cell → Bool) → IsStateOf (record { tables = schema.now.tables; ask = ask }) [] tables) }
+        ensures { IfOk result (λ tables. (ask : ℕ → List Cell → Bool) → IsStateOf (rules_with ask schema.now.tables) [] tables) }
     {
         Ok(Tables {
             alloc,
@@ -116,6 +119,14 @@ impl Tables {
         ensures { result ≡ place_of self.now.inserted name.now }
     {
         self.places.get(name).copied()
+    }
+
+    /// The place of each row among the rows in order of arrival, by its name.
+    pub(crate) fn places_by_name(&self) -> &BTreeMap<RowName, usize>
+        ensures placed { (name : Name) → get name_cmp result.now name ≡ place_of self.now.inserted name }
+        ensures layered { are_layered (rules_of_state self.now) (done_in self.now).inserted ≡ true }
+    {
+        &self.places
     }
 
     /// The row at a place.
@@ -225,6 +236,7 @@ impl Tables {
         requires next { IsNextVerdict self.old node Valid }
         ensures { MatchResult result (λ _. self.new ≡ after self.old node Valid) (λ _. self.new ≡ self.old) }
     {
+        // the type of a node's operations says that they are few, once they are read
         let _ops = &node.ops;
         let mut dropped = dropped_by(self.alloc, self.count, &node)?;
         let mut inserted = inserted_by(self.alloc, self.count, node)?;
@@ -322,6 +334,13 @@ impl Tables {
         self.is_shown(row)
     }
 
+    /// Whether a valid update inserted a row with this name, which may be hidden. It takes no memory, and logarithmic time.
+    pub fn has_inserted(&self, row: &RowName) -> bool
+        ensures { result ≡ is_named (done_in self.now).inserted row.now }
+    {
+        self.place(row).is_some()
+    }
+
     /// The number of causes for which a row is absent that a valid update inserted: of the valid updates that delete it, and
     /// of its `CASCADE` columns that name a row which is not visible. It takes no memory, and logarithmic time.
     pub fn causes(&self, row: &RowName) -> &u32
@@ -359,7 +378,7 @@ impl Tables {
         ensures { IfOk result (λ rows. (rules : Rules) (nodes : List NodeData) → IsStateOf rules nodes self.now → AreRowsIn rules nodes table rows) }
     {
         let lines = listed_rows(alloc, self, table)?;
-        Ok(ShownRowList::from_vec(sort_rows(lines)))
+        Ok(ShownRowList::from_vec(lines))
     }
 
     /// The updates that do nothing, in rising order of ids, each with its reason.
