@@ -4,6 +4,7 @@ use Rattle.std.specs.Prelude.{◌==◌, Option, unwrap_or}
 use Rattle.std.proofs.lemmas.Option.{slice_get_past, unwrap_or-slice_get}
 use Rattle.std.proofs.lemmas.Bool.{eq-eqb, ne_eqb, cases_lt, cases_eq, cond-true, cond-false}
 use Rattle.std.proofs.lemmas.List.{get_or_append_left, get_or_push, get_or-set_same, get_or-set_other, length-append, length-set, get_or-replicate, get_or-take, length-take-le, take-append-drop, take_more}
+use Rattle.update_model.specs.declared.limits.TheConstants.{MAX_MEMBERS}
 use Rattle.ancestry.specs.declared.clock.Clock.{Clock}
 use Rattle.ancestry.specs.Below.{count_below}
 use Rattle.ancestry.specs.Chains.{next_chain, chains, chain_of, members_below}
@@ -79,7 +80,7 @@ clocked_push graph preds clocks clock lower own clocked chain counts = record {
   ];
 }
 
-pub kept_in : (members : List (List ℕ)) (clocks : List Clock) (sizes preds : List ℕ) (clock : Clock) → IsKept members clocks sizes → length members < 131072 → All (λ p. p < length members) preds
+pub kept_in : (members : List (List ℕ)) (clocks : List Clock) (sizes preds : List ℕ) (clock : Clock) → IsKept members clocks sizes → length members < MAX_MEMBERS → All (λ p. p < length members) preds
     → clock.chain ≡ next_chain (chains members (length members)) preds → AreCounts (members ++ preds ∷ []) (length members) clock.counts → clock.chain < 64
     → IsKept (members ++ preds ∷ []) (clocks ++ clock ∷ []) (slice_set sizes clock.chain (slice_index_or sizes clock.chain 0 + 1))
 kept_in members clocks sizes preds clock kept few own chain counts in_one = record {
@@ -89,7 +90,7 @@ kept_in members clocks sizes preds clock kept few own chain counts in_one = reco
   sized = sizes_in members preds clock.chain sizes kept.sized chain in_one;
 }
 
-pub kept_out : (members : List (List ℕ)) (clocks : List Clock) (sizes preds : List ℕ) (clock : Clock) → IsKept members clocks sizes → length members < 131072 → All (λ p. p < length members) preds
+pub kept_out : (members : List (List ℕ)) (clocks : List Clock) (sizes preds : List ℕ) (clock : Clock) → IsKept members clocks sizes → length members < MAX_MEMBERS → All (λ p. p < length members) preds
     → clock.chain ≡ next_chain (chains members (length members)) preds → AreCounts (members ++ preds ∷ []) (length members) clock.counts → 64 ≤ clock.chain
     → IsKept (members ++ preds ∷ []) (clocks ++ clock ∷ []) sizes
 kept_out members clocks sizes preds clock kept few own chain counts out = record {
@@ -99,7 +100,7 @@ kept_out members clocks sizes preds clock kept few own chain counts out = record
   sized = sizes_out members preds clock.chain sizes kept.sized chain out;
 }
 
-pub size_fits : (graph : List (List ℕ)) (sizes : List ℕ) (c : ℕ) → AreSizes graph sizes → length graph ≤ 131072 → c < 64 → Fits w32 (slice_index_or sizes c 0 + 1)
+pub size_fits : (graph : List (List ℕ)) (sizes : List ℕ) (c : ℕ) → AreSizes graph sizes → length graph ≤ MAX_MEMBERS → c < 64 → Fits w32 (slice_index_or sizes c 0 + 1)
 size_fits graph sizes c sized few low = let is = sized.are c low in omega (arith, is, count_low (λ a. chain_of graph a == c) (length graph))
 
 pub kept_none : (sizes : List ℕ) → sizes ≡ replicate 64 0 → IsKept [] [] sizes

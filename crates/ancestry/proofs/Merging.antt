@@ -7,6 +7,7 @@ use Rattle.std.proofs.lemmas.List.{take_more, length-append, take_all}
 use Rattle.std.proofs.lemmas.List.Elements.{All-contains}
 use Rattle.std.proofs.lemmas.List.Folds.{list_any-append}
 use Rattle.std.proofs.lemmas.Option.{slice_get_past}
+use Rattle.update_model.specs.declared.limits.TheConstants.{MAX_MEMBERS}
 use Rattle.update_model.proofs.Heads.{witness}
 use Rattle.ancestry.specs.declared.clock.Clock.{Clock}
 use Rattle.ancestry.specs.Below.{any_below, count_below}
@@ -31,8 +32,8 @@ lower_push graph preds lower own b = elim (cases_lt b (length graph)) [
   ]
 ]
 
-pub counts_few : (graph : List (List ℕ)) (clocks : List Clock) (preds : List ℕ) (i c : ℕ) (d : Clock) → AreClocked graph clocks → length graph ≤ 131072 → All (λ p. p < length graph) preds → i < length preds → c < 64
-    → slice_index_or (slice_index_or clocks (slice_index_or preds i 0) d).counts c 0 ≤ 131072
+pub counts_few : (graph : List (List ℕ)) (clocks : List Clock) (preds : List ℕ) (i c : ℕ) (d : Clock) → AreClocked graph clocks → length graph ≤ MAX_MEMBERS → All (λ p. p < length graph) preds → i < length preds → c < 64
+    → slice_index_or (slice_index_or clocks (slice_index_or preds i 0) d).counts c 0 ≤ MAX_MEMBERS
 counts_few graph clocks preds i c d clocked few own low in_one =
     let p = slice_index_or preds i 0 in
     let held : p < length graph = at_place (λ p. p < length graph) preds i own low in
@@ -212,13 +213,13 @@ joins_new graph preds i least c high is past most free taken =
 
 -- ---- what the kept numbers tell
 
-pub own_count_few : (graph : List (List ℕ)) (clocks : List Clock) (p c : ℕ) (d : Clock) → AreClocked graph clocks → length graph ≤ 131072 → p < length graph → c < 64
-    → slice_index_or (slice_index_or clocks p d).counts c 0 ≤ 131072
+pub own_count_few : (graph : List (List ℕ)) (clocks : List Clock) (p c : ℕ) (d : Clock) → AreClocked graph clocks → length graph ≤ MAX_MEMBERS → p < length graph → c < 64
+    → slice_index_or (slice_index_or clocks p d).counts c 0 ≤ MAX_MEMBERS
 own_count_few graph clocks p c d clocked few held in_one =
     let is = (clocked.are p d held).counts.are c in_one in
     omega (arith, is, count_low (λ a. (chain_of graph a == c) && is_ancestor graph a p) p)
 
-pub own_count_fits : (graph : List (List ℕ)) (clocks : List Clock) (p c : ℕ) (d : Clock) → AreClocked graph clocks → length graph ≤ 131072 → p < length graph → c < 64
+pub own_count_fits : (graph : List (List ℕ)) (clocks : List Clock) (p c : ℕ) (d : Clock) → AreClocked graph clocks → length graph ≤ MAX_MEMBERS → p < length graph → c < 64
     → Fits w32 (slice_index_or (slice_index_or clocks p d).counts c 0 + 1)
 own_count_fits graph clocks p c d clocked few held in_one = omega (arith, own_count_few graph clocks p c d clocked few held in_one)
 

@@ -7,10 +7,7 @@ use crate::clock::{CHAINS, Clock, join, merged, uncount};
 use crate::walk::{behind, reaches};
 use std::alloc::{AllocError, Global};
 use std::marker::Model;
-use update_model::{Ancestors, PositionList};
-
-/// How many members an ancestry has at most.
-pub const MAX_MEMBERS: u32 = 131_072;
+use update_model::{Ancestors, MAX_MEMBERS, PositionList};
 
 /// The predecessors and the clock of each member of a graph. A contract sees, for each member in arrival order, the
 /// list of the positions that it names.

@@ -1,6 +1,7 @@
 //! The clock of a member: its chain, and how many members of each chain are its proper ancestors.
 
 ghost use Rattle.std.specs.Prelude.{◌≡◌, ◌<◌, ◌≤◌, ◌++◌, ◌∷◌, [], ℕ, All, length, slice_index_or, take};
+ghost use Rattle.update_model.specs.declared.limits.TheConstants.{MAX_MEMBERS};
 ghost use Rattle.ancestry.specs.Chains.{chains, ends_chain, next_chain};
 ghost use Rattle.ancestry.specs.Clocked.{AreClocked, AreCounts, AreSizes, raised, with_own};
 ghost use Rattle.ancestry.specs.Walks.{AreLower};
@@ -22,7 +23,7 @@ pub struct Clock {
 
 /// Raises these counts to what a predecessor with this clock brings: its own counts and itself.
 fn raise(counts: &mut [u32; CHAINS], clock: &Clock)
-    requires { (c : ℕ) → c < 64 → slice_index_or clock.now.counts c 0 ≤ 131072 }
+    requires { (c : ℕ) → c < 64 → slice_index_or clock.now.counts c 0 ≤ MAX_MEMBERS }
     ensures { (c : ℕ) → c < 64 → slice_index_or counts.new c 0
         ≡ raised (slice_index_or counts.old c 0) (with_own clock.now.chain c (slice_index_or clock.now.counts c 0)) }
 {
@@ -40,7 +41,7 @@ fn raise(counts: &mut [u32; CHAINS], clock: &Clock)
 /// The counts of the next member, which names these predecessors.
 pub(crate) fn merged(members: &[PositionList], clocks: &[Clock], preds: &[u32]) -> [u32; CHAINS]
     requires lower { AreLower members.now }
-    requires few { length members.now ≤ 131072 }
+    requires few { length members.now ≤ MAX_MEMBERS }
     requires clocked { AreClocked members.now clocks.now }
     requires earlier { All (λ p. p < length members.now) preds.now }
     ensures { AreCounts (members.now ++ preds.now ∷ []) (length members.now) result }
@@ -56,7 +57,7 @@ pub(crate) fn merged(members: &[PositionList], clocks: &[Clock], preds: &[u32]) 
 /// Whether the member at `p` is in a chain and the last of it.
 fn ends(members: &[PositionList], clocks: &[Clock], sizes: &[u32; CHAINS], p: usize) -> bool
     requires lower { AreLower members.now }
-    requires few { length members.now ≤ 131072 }
+    requires few { length members.now ≤ MAX_MEMBERS }
     requires clocked { AreClocked members.now clocks.now }
     requires sized { AreSizes members.now sizes.now }
     requires held { p < length members.now }
@@ -76,7 +77,7 @@ pub(crate) fn join(
     preds: &[u32],
 ) -> u32
     requires lower { AreLower members.now }
-    requires few { length members.now ≤ 131072 }
+    requires few { length members.now ≤ MAX_MEMBERS }
     requires clocked { AreClocked members.now clocks.now }
     requires sized { AreSizes members.now sizes.now }
     requires earlier { All (λ p. p < length members.now) preds.now }

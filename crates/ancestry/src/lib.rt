@@ -21,7 +21,7 @@ mod clock_laws;
 mod laws;
 mod walk;
 
-pub use ancestry::{Ancestry, MAX_MEMBERS};
+pub use ancestry::Ancestry;
 pub use clock::Clock;
 pub use clock_laws::{chains_are_ancestors, clocks_tell_ancestors};
 pub use laws::{

@@ -7,6 +7,7 @@ use Rattle.std.specs.Map.{keys_of}
 use Rattle.std.specs.Map.Calls.{RetainsPairs}
 use Rattle.std.proofs.lemmas.Bool.{cases_eq, lt-ltb, le-ltb}
 use Rattle.update_model.specs.declared.update_id.UpdateId.{UpdateId}
+use Rattle.update_model.specs.declared.limits.TheConstants.{MAX_MEMBERS}
 use Rattle.update_model.specs.Entry.{id_cmp, same_id}
 use Rattle.update_model.specs.Graph.{has}
 use Rattle.head_set.specs.declared.span.Span.{Span}
@@ -41,7 +42,7 @@ module _ (es mid : List (UpdateId × Span)) (n count : ℕ) (id : UpdateId) (kep
   mid_length : length (heads_at mid (n + 1)) ≡ length (heads_at es n) + 1
   mid_length = rw is (insert_length es id (begun n) (n + 1) (begun_now n) none_now ∙ ap (λ (ids : List UpdateId). length ids + 1) (heads_still es n kept.before))
 
-  pub mid_few : length (heads_at mid (n + 1)) ≤ 131073
+  pub mid_few : length (heads_at mid (n + 1)) ≤ MAX_MEMBERS + 1
   mid_few = let fewer = kept.fewer n (omega arith) in let few = kept.few in let long = mid_length in omega arith
 
   pub mid_is_before : AreBefore mid (n + 1)
@@ -52,7 +53,7 @@ module _ (es mid : List (UpdateId × Span)) (n count : ℕ) (id : UpdateId) (kep
   module _ (fs : List (UpdateId × Span)) (ended : ℕ) (preds : List UpdateId) (earlier : (m : ℕ) → m ≤ n → heads_at fs m ≡ heads_at mid m)
       (exact : (x : UpdateId) → has (heads_at fs (n + 1)) x ≡ (has (heads_at mid (n + 1)) x && not (has preds x)))
       (counted : ended + length (heads_at fs (n + 1)) ≡ length (heads_at mid (n + 1))) (before : AreBefore fs (n + 1)) (rising : IsStrictlySortedBy id_cmp (keys_of fs)) where
-    pub kept_more : n < 131072 → IsKept fs (n + 1) (count + 1 - ended)
+    pub kept_more : n < MAX_MEMBERS → IsKept fs (n + 1) (count + 1 - ended)
     kept_more low = record {
       rising = rising;
       before = before;
@@ -86,7 +87,7 @@ module _ {F : Type 0} (Call : F → UpdateId → Span → Bool → Span → F �
   left_before : AreBefore left len
   left_before = cut_before Call Holds len says f es left holds calls
 
-  pub left_few : length (unended left) ≤ 131072
+  pub left_few : length (unended left) ≤ MAX_MEMBERS
   left_few = rw (← heads_unended left len left_before, left_heads len (omega arith)) (let fewer = kept.fewer len low in let few = kept.few in omega arith)
 
   pub kept_fewer : IsStrictlySortedBy id_cmp (keys_of left) → IsKept left len (length (unended left))

@@ -13,10 +13,7 @@ use crate::span::Span;
 use std::alloc::{AllocError, Global};
 use std::collections::BTreeMap;
 use std::marker::Model;
-use update_model::UpdateId;
-
-/// How many adds there are at most, since a graph has no more members.
-pub const MAX_HEADS: u32 = 131_072;
+use update_model::{MAX_MEMBERS, UpdateId};
 
 /// The heads of a graph as it grew. A contract sees the list of the heads after each add: of their ids, each above the
 /// one before it.
@@ -61,7 +58,7 @@ impl Heads {
     /// closed graph are now those of the graph with the update: see [`new_ids_were_no_heads`](crate::new_ids_were_no_heads).
     /// It takes logarithmic time for each predecessor. It gives up where memory runs out, and then nothing has changed.
     pub fn add(&mut self, id: UpdateId, preds: &[UpdateId]) -> Result<(), AllocError>
-        requires room { length self.old < MAX_HEADS }
+        requires room { length self.old < MAX_MEMBERS }
         requires new { list_any (λ heads. has heads id) self.old ≡ false }
         ensures states { OnOk result (self.new ≡ self.old ++ present self.new ∷ []) }
         ensures exact { OnOk result ((x : Id) → has (present self.new) x ≡ ((same_id x id || has (present self.old) x) && not (has preds.now x))) }
@@ -120,7 +117,7 @@ impl Heads {
     /// How many heads there are, and what holds of them all. It takes constant time.
     pub fn len(&self) -> u32
         ensures value { result ≡ length (present self.now) }
-        ensures few { length self.now ≤ MAX_HEADS }
+        ensures few { length self.now ≤ MAX_MEMBERS }
         ensures rising { IsStrictlySortedBy id_cmp (present self.now) }
     {
         self.count
@@ -150,7 +147,7 @@ impl Heads {
 
 /// How many spans have no end.
 fn count_unended(spans: &BTreeMap<UpdateId, Span>) -> u32
-    requires { length (unended spans.now.entries) ≤ MAX_HEADS }
+    requires { length (unended spans.now.entries) ≤ MAX_MEMBERS }
     ensures { result ≡ length (unended spans.now.entries) }
 {
     let mut count = 0;
@@ -166,7 +163,7 @@ fn count_unended(spans: &BTreeMap<UpdateId, Span>) -> u32
 fn end_all(spans: &mut BTreeMap<UpdateId, Span>, ids: &[UpdateId], position: u32) -> u32
     requires rising { IsStrictlySortedBy id_cmp (keys spans.old) }
     requires before { AreBefore spans.old.entries (position + 1) }
-    requires few { length (heads_at spans.old.entries (position + 1)) ≤ 131073 }
+    requires few { length (heads_at spans.old.entries (position + 1)) ≤ MAX_MEMBERS + 1 }
     ensures earlier { (n : ℕ) → n ≤ position → heads_at spans.new.entries n ≡ heads_at spans.old.entries n }
     ensures exact { (x : Id) → has (heads_at spans.new.entries (position + 1)) x ≡ (has (heads_at spans.old.entries (position + 1)) x && not (has ids.now x)) }
     ensures count { result + length (heads_at spans.new.entries (position + 1)) ≡ length (heads_at spans.old.entries (position + 1)) }

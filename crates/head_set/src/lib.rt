@@ -20,7 +20,7 @@ mod heads;
 mod laws;
 mod span;
 
-pub use heads::{Heads, MAX_HEADS};
+pub use heads::Heads;
 pub use laws::{
     equal_heads_mean_equal_sets, heads_are_few, heads_begin, heads_of_a_front,
     new_ids_were_no_heads, no_heads_no_members, no_members_no_heads, present_heads_are_heads,

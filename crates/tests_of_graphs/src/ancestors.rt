@@ -1,9 +1,9 @@
 //! Ancestors: a small graph, more roots than chains, and graphs of as many members as may be.
 
-use ancestry::{Ancestry, MAX_MEMBERS};
+use ancestry::Ancestry;
 use std::alloc::{AllocError, Global};
 use std::test::Fail;
-use update_model::Ancestors;
+use update_model::{Ancestors, MAX_MEMBERS};
 
 // two roots, and a diamond over the first: 0, 1, then 2 and 3 above 0, and 4 above 2 and 3
 fn diamond(alloc: Global) -> Result<Ancestry, AllocError> {

@@ -1,9 +1,9 @@
 //! Heads: a small graph, and one of as many members as may be.
 
-use head_set::{Heads, MAX_HEADS};
+use head_set::Heads;
 use std::alloc::{AllocError, Global};
 use std::test::Fail;
-use update_model::UpdateId;
+use update_model::{MAX_MEMBERS, UpdateId};
 
 // an id that ends in this number
 fn id(number: u32) -> UpdateId {
@@ -36,7 +36,7 @@ fn follows_a_small_graph(rt: HostRuntime) -> Result<(), Fail> {
     ];
     for (number, preds, want) in steps {
         let new = id(number);
-        assert!(rt; heads.added() < MAX_HEADS && !heads.was_head(&new));
+        assert!(rt; heads.added() < MAX_MEMBERS && !heads.was_head(&new));
         heads.add(new, &ids(alloc, preds)?)?;
         assert!(rt; heads.list(alloc)? == ids(alloc, want)?, "after {number}");
     }
@@ -57,9 +57,9 @@ fn follows_a_small_graph(rt: HostRuntime) -> Result<(), Fail> {
 #[test]
 fn counts_quickly(rt: HostRuntime) -> Result<(), Fail> {
     let mut heads = Heads::new(rt.alloc());
-    for number in 0..MAX_HEADS {
+    for number in 0..MAX_MEMBERS {
         let new = id(number);
-        assert!(rt; heads.added() < MAX_HEADS && !heads.was_head(&new));
+        assert!(rt; heads.added() < MAX_MEMBERS && !heads.was_head(&new));
         if number < 2 {
             heads.add(new, &[])?;
         } else {

@@ -13,7 +13,7 @@ use Rattle.validity.specs.Answers.{AreAnswers, entry_in, equal_in, has_child_in}
 use Rattle.tuple_state.specs.Kept.{are_layered, is_named}
 use Rattle.tuple_state.specs.declared.inserted.Inserted.{Inserted}
 use Rattle.tuple_state.specs.Past.{IsPastOf, child_then, count_then, done_then, equal_then, row_then, visible_then}
-use Rattle.tuple_state.specs.State.{IsStateOf, State, done_in, row_of, rules_of}
+use Rattle.tuple_state.specs.State.{IsStateOf, State, done_in, row_of, rules_of_state}
 use Rattle.tuple_state.proofs.Lasting.{visible_before}
 use Rattle.tuple_state.proofs.Layers.{Stands, each_stands, layer_parts, same_child, same_layered, same_rows, same_visible}
 use Rattle.tuple_state.proofs.Lookups.{columns_same, visible_now}
@@ -69,7 +69,7 @@ module _ (rules : Rules) (nodes : List NodeData) (node : NodeData) (state : Stat
   done_is : done_then state past ≡ ancestors_did
   done_is = ap (λ (s : State). done_then s past) held.is ∙ done_past rules nodes node past of
 
-  pub layered_then : are_layered (rules_of state) (done_then state past).inserted ≡ true
+  pub layered_then : are_layered (rules_of_state state) (done_then state past).inserted ≡ true
   layered_then =
       same_layered (columns_same rules nodes state held) (done_then state past).inserted ∙ ap (λ (g : Effects). are_layered rules g.inserted) done_is
       ∙ layered_past rules nodes node held.closed
@@ -78,12 +78,12 @@ module _ (rules : Rules) (nodes : List NodeData) (node : NodeData) (state : Stat
   rows_is = same_rows (columns_same rules nodes state held) (done_then state past) ∙ ap (visible_rows rules) done_is
 
   -- what is visible now is visible then, where an ancestor inserted it
-  pub lasts_then : (place : ℕ) (it : Inserted) → slice_get state.inserted place ≡ Some it → past it.position ≡ true → is_visible (rules_of state) (done_in state) it.name ≡ true
-      → is_visible (rules_of state) (done_then state past) it.name ≡ true
+  pub lasts_then : (place : ℕ) (it : Inserted) → slice_get state.inserted place ≡ Some it → past it.position ≡ true → is_visible (rules_of_state state) (done_in state) it.name ≡ true
+      → is_visible (rules_of_state state) (done_then state past) it.name ≡ true
   lasts_then place it at here seen =
       let same = columns_same rules nodes state held in
       let stands = filtered_at (Stands (done_then state past).inserted) (λ (x : Inserted). past x.position) state.inserted place it
-      (each_back (Stands (done_then state past).inserted) (map row_of (filter (λ (x : Inserted). past x.position) state.inserted)) (each_stands (rules_of state) (done_then state past).inserted layered_then)) at here in
+      (each_back (Stands (done_then state past).inserted) (map row_of (filter (λ (x : Inserted). past x.position) state.inserted)) (each_stands (rules_of_state state) (done_then state past).inserted layered_then)) at here in
       same_visible same (done_then state past) it.name ∙ ap (λ (g : Effects). is_visible rules g it.name) done_is
       ∙ visible_before rules nodes node held.closed it.name (sym (visible_now rules nodes state held it.name) ∙ seen)
       (ap (λ (g : Effects). is_named g.inserted it.name) (sym done_is) ∙ stands.here (λ row. same_row row.name it.name) (same_row-refl it.name))

@@ -8,7 +8,7 @@ use Rattle.table_model.specs.Visible.{TableRow, is_deleted, is_visible}
 use Rattle.tuple_state.specs.declared.inserted.Inserted.{Inserted}
 use Rattle.tuple_state.specs.Kept.{are_layered}
 use Rattle.tuple_state.specs.Past.{done_then, visible_then}
-use Rattle.tuple_state.specs.State.{State, done_in, row_of, rules_of}
+use Rattle.tuple_state.specs.State.{State, done_in, row_of, rules_of_state}
 use Rattle.tuple_state.proofs.Lookups.{get_or_from, reverse_cons}
 use Rattle.tuple_state.proofs.Reaching.{hidden_row}
 use Rattle.tuple_state.proofs.Regrowth.{and_true}
@@ -43,12 +43,12 @@ count_mapped f t (x ∷ xs) =
 module _ (state : State) (past : ℕ → Bool) (t : TableRow → Bool) where
   -- whether a row passes the test, where it is visible
   abbrev pub seen_on : Inserted → Bool
-  seen_on it = past it.position && (is_visible (rules_of state) (done_then state past) it.name && t (row_of it))
+  seen_on it = past it.position && (is_visible (rules_of_state state) (done_then state past) it.name && t (row_of it))
 
   -- the count goes over the rows in order of arrival
   pub count_is : count_by t (visible_then state past) ≡ count_by seen_on state.inserted
   count_is =
-      let v : TableRow → Bool = λ row. is_visible (rules_of state) (done_then state past) row.name in
+      let v : TableRow → Bool = λ row. is_visible (rules_of_state state) (done_then state past) row.name in
       count_of_kept t v (done_then state past).inserted
       ∙ count_reversed (λ row. v row && t row) (map row_of (filter (λ (it : Inserted). past it.position) state.inserted))
       ∙ count_mapped row_of (λ row. v row && t row) (filter (λ (it : Inserted). past it.position) state.inserted)
@@ -56,19 +56,19 @@ module _ (state : State) (past : ℕ → Bool) (t : TableRow → Bool) where
 
   -- a row that passes the test is counted where it stands
   pub tested : {E : Type 0} (place : ℕ) (r : Result Bool E) (b : Bool) → b ≡ true → ((it : Inserted) → slice_get state.inserted place ≡ Some it → b ≡ t (row_of it))
-      → IfOk r (λ answer. (it : Inserted) → slice_get state.inserted place ≡ Some it → answer ≡ is_visible (rules_of state) (done_then state past) it.name)
-      → IfOk r (λ answer. (it : Inserted) → slice_get state.inserted place ≡ Some it → answer ≡ (is_visible (rules_of state) (done_then state past) it.name && t (row_of it)))
+      → IfOk r (λ answer. (it : Inserted) → slice_get state.inserted place ≡ Some it → answer ≡ is_visible (rules_of_state state) (done_then state past) it.name)
+      → IfOk r (λ answer. (it : Inserted) → slice_get state.inserted place ≡ Some it → answer ≡ (is_visible (rules_of_state state) (done_then state past) it.name && t (row_of it)))
   tested place r b holds is =
-      if_ok (λ (answer : Bool). (it : Inserted) → slice_get state.inserted place ≡ Some it → answer ≡ is_visible (rules_of state) (done_then state past) it.name)
-      (λ (answer : Bool). (it : Inserted) → slice_get state.inserted place ≡ Some it → answer ≡ (is_visible (rules_of state) (done_then state past) it.name && t (row_of it)))
-      r (λ answer f it at. f it at ∙ sym (ap (λ x. is_visible (rules_of state) (done_then state past) it.name && x) (sym (is it at) ∙ holds) ∙ and_true _))
+      if_ok (λ (answer : Bool). (it : Inserted) → slice_get state.inserted place ≡ Some it → answer ≡ is_visible (rules_of_state state) (done_then state past) it.name)
+      (λ (answer : Bool). (it : Inserted) → slice_get state.inserted place ≡ Some it → answer ≡ (is_visible (rules_of_state state) (done_then state past) it.name && t (row_of it)))
+      r (λ answer f it at. f it at ∙ sym (ap (λ x. is_visible (rules_of_state state) (done_then state past) it.name && x) (sym (is it at) ∙ holds) ∙ and_true _))
 
-  module _ (all : are_layered (rules_of state) (done_in state).inserted ≡ true) (some : are_layered (rules_of state) (done_then state past).inserted ≡ true) where
+  module _ (all : are_layered (rules_of_state state) (done_in state).inserted ≡ true) (some : are_layered (rules_of_state state) (done_then state past).inserted ≡ true) where
     -- what is visible is of the past
-    seen_at : (place : ℕ) (it : Inserted) (b : Bool) → slice_get state.inserted place ≡ Some it → b ≡ (is_visible (rules_of state) (done_then state past) it.name && t (row_of it)) → seen_on it ≡ b
+    seen_at : (place : ℕ) (it : Inserted) (b : Bool) → slice_get state.inserted place ≡ Some it → b ≡ (is_visible (rules_of_state state) (done_then state past) it.name && t (row_of it)) → seen_on it ≡ b
     seen_at place it b at is =
         let g = done_then state past in
-        let step : (p v : Bool) → past it.position ≡ p → is_visible (rules_of state) g it.name ≡ v → (p && (v && t (row_of it))) ≡ (v && t (row_of it)) =
+        let step : (p v : Bool) → past it.position ≡ p → is_visible (rules_of_state state) g it.name ≡ v → (p && (v && t (row_of it))) ≡ (v && t (row_of it)) =
         elim [
           | true ↦ λ v e f. refl
           | false ↦ elim [
@@ -76,17 +76,17 @@ module _ (state : State) (past : ℕ → Bool) (t : TableRow → Bool) where
             | false ↦ λ e f. refl
           ]
         ] in
-        step (past it.position) (is_visible (rules_of state) g it.name) refl refl ∙ sym is
+        step (past it.position) (is_visible (rules_of_state state) g it.name) refl refl ∙ sym is
 
     pub one_more : (place : ℕ) (it : Inserted) (b : Bool) (n : ℕ) → slice_get state.inserted place ≡ Some it → place < length state.inserted
-        → b ≡ (is_visible (rules_of state) (done_then state past) it.name && t (row_of it)) → b ≡ true → n ≡ count_by seen_on (take place state.inserted)
+        → b ≡ (is_visible (rules_of_state state) (done_then state past) it.name && t (row_of it)) → b ≡ true → n ≡ count_by seen_on (take place state.inserted)
         → n + 1 ≡ count_by seen_on (take (place + 1) state.inserted)
     one_more place it b n at below is holds before =
         ap (λ m. m + 1) before
         ∙ sym (count_by_more_yes seen_on state.inserted place it below (ap seen_on (get_or_from state.inserted place it it at) ∙ seen_at place it b at is ∙ holds))
 
     pub no_more : (place : ℕ) (it : Inserted) (b : Bool) (n : ℕ) → slice_get state.inserted place ≡ Some it → place < length state.inserted
-        → b ≡ (is_visible (rules_of state) (done_then state past) it.name && t (row_of it)) → b ≡ false → n ≡ count_by seen_on (take place state.inserted)
+        → b ≡ (is_visible (rules_of_state state) (done_then state past) it.name && t (row_of it)) → b ≡ false → n ≡ count_by seen_on (take place state.inserted)
         → n ≡ count_by seen_on (take (place + 1) state.inserted)
     no_more place it b n at below is fails before =
         before

@@ -16,7 +16,7 @@ use Rattle.tuple_state.specs.declared.inserted.Inserted.{Inserted}
 use Rattle.tuple_state.specs.Kept.{place_of}
 use Rattle.tuple_state.specs.Parents.{all_parents, columns_at, passes_place}
 use Rattle.tuple_state.specs.Past.{done_then}
-use Rattle.tuple_state.specs.State.{State, row_of, rules_with}
+use Rattle.tuple_state.specs.State.{State, row_of, rules_over_columns}
 use Rattle.table_model.proofs.Members.{any_mapped, any_reversed}
 use Rattle.tuple_state.proofs.Lookups.{get_or_from}
 use Rattle.tuple_state.proofs.Marking.{slice_get_from}
@@ -54,11 +54,11 @@ on_ok (Err e) f p = p
 -- the rows that the row at a place names, asked column by column
 pub parents_conv : (columns : List (List Column)) (rows : List Inserted) (places : RowName → Option ℕ) (it row : Inserted) (list : List Column) (test : ℕ → Bool)
     → ((name : RowName) → places name ≡ place_of rows name) → row ≡ it → columns_at columns row.entry.table ≡ list
-    → all_parents (λ name. passes_place test (places name)) list row.entry.values ≡ list_all (λ r. passes_place test (place_of rows r.name)) (cascade_refs (rules_with columns) (row_of it))
+    → all_parents (λ name. passes_place test (places name)) list row.entry.values ≡ list_all (λ r. passes_place test (place_of rows r.name)) (cascade_refs (rules_over_columns columns) (row_of it))
 parents_conv columns rows places it row list test placed same is =
     (λ i. all_parents (λ name. passes_place test (placed name i)) (sym is i) row.entry.values)
     ∙ sym (cascade_are columns row (λ name. passes_place test (place_of rows name)))
-    ∙ ap (λ (r : Inserted). list_all (λ x. passes_place test (place_of rows x.name)) (cascade_refs (rules_with columns) (row_of r))) same
+    ∙ ap (λ (r : Inserted). list_all (λ x. passes_place test (place_of rows x.name)) (cascade_refs (rules_over_columns columns) (row_of r))) same
 
 -- two names as the code compares them
 pub names_equal : (a b : RowName) → same_row b a ≡ (bytes_eq a.update.0 b.update.0 && (a.index == b.index))

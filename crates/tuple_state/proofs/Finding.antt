@@ -10,7 +10,7 @@ use Rattle.validity.specs.Answers.{entry_of_row}
 use Rattle.tuple_state.specs.declared.inserted.Inserted.{Inserted}
 use Rattle.tuple_state.specs.Kept.{are_layered, place_of}
 use Rattle.tuple_state.specs.Past.{done_then, row_then}
-use Rattle.tuple_state.specs.State.{State, done_in, row_of, rules_of}
+use Rattle.tuple_state.specs.State.{State, done_in, row_of, rules_of_state}
 use Rattle.tuple_state.proofs.Answering.{once_each, same_turned}
 use Rattle.tuple_state.proofs.Layers.{Stands, each_stands, unnamed_hidden}
 use Rattle.tuple_state.proofs.Lookups.{named_reversed, unnamed_from_none}
@@ -51,21 +51,21 @@ find_one t v r (x ∷ xs) a h =
     step (v x) (t x) refl refl h
 
 module _ (state : State) (past : ℕ → Bool) where
-  pub row_hidden : (name : RowName) → is_visible (rules_of state) (done_then state past) name ≡ false → None ≡ row_then state past name
-  row_hidden name hidden = sym (ap (option_map entry_of_row) (find_none (is_visible (rules_of state) (done_then state past)) name hidden (done_then state past).inserted))
+  pub row_hidden : (name : RowName) → is_visible (rules_of_state state) (done_then state past) name ≡ false → None ≡ row_then state past name
+  row_hidden name hidden = sym (ap (option_map entry_of_row) (find_none (is_visible (rules_of_state state) (done_then state past)) name hidden (done_then state past).inserted))
 
   pub row_absent : (name : RowName) → place_of state.inserted name ≡ None → None ≡ row_then state past name
   row_absent name none =
-      row_hidden name (unnamed_hidden (rules_of state) (done_then state past) name
+      row_hidden name (unnamed_hidden (rules_of_state state) (done_then state past) name
       (named_reversed (filter (λ (it : Inserted). past it.position) state.inserted) name
       ∙ fewer_any (λ (it : Inserted). same_row it.name name) (λ (it : Inserted). past it.position) state.inserted (sym (named_reversed state.inserted name) ∙ unnamed_from_none state.inserted name none))
       (length (done_then state past).inserted))
 
-  pub row_shown : are_layered (rules_of state) (done_in state).inserted ≡ true → are_layered (rules_of state) (done_then state past).inserted ≡ true → (place : ℕ) (it : Inserted) (name : RowName)
-      → slice_get state.inserted place ≡ Some it → it.name ≡ name → is_visible (rules_of state) (done_then state past) it.name ≡ true → Some it.entry ≡ row_then state past name
+  pub row_shown : are_layered (rules_of_state state) (done_in state).inserted ≡ true → are_layered (rules_of_state state) (done_then state past).inserted ≡ true → (place : ℕ) (it : Inserted) (name : RowName)
+      → slice_get state.inserted place ≡ Some it → it.name ≡ name → is_visible (rules_of_state state) (done_then state past) it.name ≡ true → Some it.entry ≡ row_then state past name
   row_shown all some place it name at named seen =
       let g = done_then state past in
-      let v : TableRow → Bool = λ row. is_visible (rules_of state) g row.name in
+      let v : TableRow → Bool = λ row. is_visible (rules_of_state state) g row.name in
       let t : TableRow → Bool = λ row. same_row row.name name in
       let there : past it.position ≡ true =
       (let step : (b : Bool) → past it.position ≡ b → b ≡ true =
@@ -73,8 +73,8 @@ module _ (state : State) (past : ℕ → Bool) where
       step (past it.position) refl) in
       let inside : (P : TableRow → Type 0) → AllByRecursion P g.inserted → P (row_of it) =
       λ P h. filtered_at P (λ (x : Inserted). past x.position) state.inserted place it (each_back P (map row_of (filter (λ (x : Inserted). past x.position) state.inserted)) h) at there in
-      let stands = inside (Stands g.inserted) (each_stands (rules_of state) g.inserted some) in
-      let once = inside (λ a. AllByRecursion (λ b. same_row a.name b.name ≡ true → a ≡ b) g.inserted) (once_each (rules_of state) g.inserted some) in
+      let stands = inside (Stands g.inserted) (each_stands (rules_of_state state) g.inserted some) in
+      let once = inside (λ a. AllByRecursion (λ b. same_row a.name b.name ≡ true → a ≡ b) g.inserted) (once_each (rules_of_state state) g.inserted some) in
       let only = each-map (λ b. same_row it.name b.name ≡ true → row_of it ≡ b) (λ b. t b ≡ true → b ≡ row_of it)
       (λ b h same. sym (h (subst (λ (n : RowName). same_row n b.name ≡ true) (sym named) (same_turned b.name name same)))) g.inserted once in
       let any = stands.here (λ x. t x && v x) (and_from _ _ (subst (λ (n : RowName). same_row it.name n ≡ true) named (same_row-refl it.name)) seen) in

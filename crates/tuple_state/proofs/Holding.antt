@@ -21,7 +21,7 @@ use Rattle.tuple_state.specs.declared.inserted.Inserted.{Inserted}
 use Rattle.tuple_state.specs.Kept.{are_layered, are_referred, place_of}
 use Rattle.tuple_state.specs.Parents.{columns_at, holds_on_to, is_held, some_holding}
 use Rattle.tuple_state.specs.Past.{child_then, done_then}
-use Rattle.tuple_state.specs.State.{IsStateOf, State, done_in, row_of, rules_of, rules_with}
+use Rattle.tuple_state.specs.State.{IsStateOf, State, done_in, row_of, rules_of_state, rules_over_columns}
 use Rattle.tuple_state.proofs.Layers.{SameColumns, Stands, each_stands, same_refs}
 use Rattle.tuple_state.proofs.Lookups.{columns_same, did_same, row_found, unnamed_from_none}
 use Rattle.tuple_state.proofs.Marks.{columns_there}
@@ -39,7 +39,7 @@ referred_among rules all (row ∷ older) s f =
 same_referred : {r q : Rules} → SameColumns r q → (rows : List TableRow) → are_referred r rows ≡ are_referred q rows
 same_referred s rows = λ i. list_all (λ row. list_all (stands_among rows) (same_refs s row i)) rows
 
-pub referred_now : (rules : Rules) (nodes : List NodeData) (state : State) → IsStateOf rules nodes state → are_referred (rules_of state) (done_in state).inserted ≡ true
+pub referred_now : (rules : Rules) (nodes : List NodeData) (state : State) → IsStateOf rules nodes state → are_referred (rules_of_state state) (done_in state).inserted ≡ true
 referred_now rules nodes state held =
     let rows = (effects_in rules nodes).inserted in
     same_referred (columns_same rules nodes state held) (done_in state).inserted ∙ ap (λ (g : Effects). are_referred rules g.inserted) (did_same rules nodes state held)
@@ -82,7 +82,7 @@ held_at [] number table h = absurd (cc)
 held_at (list ∷ columns) zero table h = or_left _ _ h
 held_at (list ∷ columns) (suc number) table h = or_right (some_holding table list) _ (held_at columns number table h)
 
-held_refs : (columns : List (List Column)) (row : TableRow) → list_all (held_by (is_held columns)) (refs (rules_with columns) row) ≡ true
+held_refs : (columns : List (List Column)) (row : TableRow) → list_all (held_by (is_held columns)) (refs (rules_over_columns columns) row) ≡ true
 held_refs columns row =
     ap (λ (l : List Column). list_all (held_by (is_held columns)) (refs_in l row.values)) (columns_there columns row.table)
     ∙ all_weaker (held_by (λ t. some_holding t (columns_at columns row.table))) (held_by (is_held columns))
@@ -111,24 +111,24 @@ module _ (columns : List (List Column)) (rows : List TableRow) (name : RowName) 
         | inr there ↦ named_by rs standing.1 held.1 there
       ]
 
-  named_among : (some : List TableRow) → list_all (λ row. list_all (stands_among rows) (refs (rules_with columns) row)) some ≡ true
-      → list_any (λ row. list_any (λ r. is_restrict r.action && same_row r.name name) (refs (rules_with columns) row)) some ≡ true → list_any is_held_row rows ≡ true
+  named_among : (some : List TableRow) → list_all (λ row. list_all (stands_among rows) (refs (rules_over_columns columns) row)) some ≡ true
+      → list_any (λ row. list_any (λ r. is_restrict r.action && same_row r.name name) (refs (rules_over_columns columns) row)) some ≡ true → list_any is_held_row rows ≡ true
   named_among [] s a = absurd (cc)
   named_among (row ∷ some) s a =
-      let parts = and_parts (list_all (stands_among rows) (refs (rules_with columns) row)) _ s in
-      elim (or_cases (list_any (λ r. is_restrict r.action && same_row r.name name) (refs (rules_with columns) row)) _ a) [
-        | inl here ↦ named_by (refs (rules_with columns) row) parts.0 (held_refs columns row) here
+      let parts = and_parts (list_all (stands_among rows) (refs (rules_over_columns columns) row)) _ s in
+      elim (or_cases (list_any (λ r. is_restrict r.action && same_row r.name name) (refs (rules_over_columns columns) row)) _ a) [
+        | inl here ↦ named_by (refs (rules_over_columns columns) row) parts.0 (held_refs columns row) here
         | inr there ↦ named_among some parts.1 there
       ]
 
-module _ (state : State) (past : ℕ → Bool) (name : RowName) (referred : are_referred (rules_of state) (done_in state).inserted ≡ true) where
+module _ (state : State) (past : ℕ → Bool) (name : RowName) (referred : are_referred (rules_of_state state) (done_in state).inserted ≡ true) where
   child_held : child_then state past name ≡ true → list_any (is_held_row state.columns (done_in state).inserted name) (done_in state).inserted ≡ true
   child_held h =
-      let c : TableRow → Bool = λ row. list_any (λ (r : RowRef). is_restrict r.action && same_row r.name name) (refs (rules_of state) row) in
+      let c : TableRow → Bool = λ row. list_any (λ (r : RowRef). is_restrict r.action && same_row r.name name) (refs (rules_of_state state) row) in
       named_among state.columns (done_in state).inserted name (done_in state).inserted referred
       (any_reversed c (map row_of state.inserted) ∙ any_mapped row_of c state.inserted
       ∙ any_weaker (holds_on state past name) (λ (it : Inserted). c (row_of it))
-      (λ it k. (and_parts (is_visible (rules_of state) (done_then state past) it.name) _ (and_parts (past it.position) _ k).1).1) state.inserted (sym (child_is state past name) ∙ h))
+      (λ it k. (and_parts (is_visible (rules_of_state state) (done_then state past) it.name) _ (and_parts (past it.position) _ k).1).1) state.inserted (sym (child_is state past name) ∙ h))
 
   -- nothing names a row that is not there
   pub unnamed_free : place_of state.inserted name ≡ None → child_then state past name ≡ false
@@ -137,13 +137,13 @@ module _ (state : State) (past : ℕ → Bool) (name : RowName) (referred : are_
       (any_weaker (is_held_row state.columns (done_in state).inserted name) (λ row. same_row row.name name) (λ row k. (and_parts _ _ k).0) (done_in state).inserted (child_held h)))
 
   -- nor one of a table that no column refers to by RESTRICT
-  pub unheld_free : are_layered (rules_of state) (done_in state).inserted ≡ true → (place : ℕ) (it : Inserted) → place_of state.inserted name ≡ Some place → slice_get state.inserted place ≡ Some it
+  pub unheld_free : are_layered (rules_of_state state) (done_in state).inserted ≡ true → (place : ℕ) (it : Inserted) → place_of state.inserted name ≡ Some place → slice_get state.inserted place ≡ Some it
       → is_held state.columns it.entry.table ≡ false → child_then state past name ≡ false
   unheld_free layered place it found at free =
       let row = row_found state.inserted name place found in
       let same : Some row.it ≡ Some it = sym row.at ∙ at in
       let one : row.it ≡ it = cc in
       let own : it.name ≡ name = ap (λ (r : Inserted). r.name) (sym one) ∙ row.name_is in
-      let stands = row_has (Stands (done_in state).inserted) state.inserted place it (each_stands (rules_of state) (done_in state).inserted layered) at in
+      let stands = row_has (Stands (done_in state).inserted) state.inserted place it (each_stands (rules_of_state state) (done_in state).inserted layered) at in
       false_from_ne_true _ (λ h. both_ways _ free (stands.only (λ (x : TableRow). is_held state.columns x.table)
       (subst (λ (n : RowName). list_any (λ (x : TableRow). same_row x.name n && is_held state.columns x.table) (done_in state).inserted ≡ true) (sym own) (child_held h))))

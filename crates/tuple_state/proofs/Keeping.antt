@@ -8,6 +8,7 @@ use Rattle.std.proofs.lemmas.List.{length-map, length-reverse, map-append}
 use Rattle.update_model.specs.declared.op.Op.{Op}
 use Rattle.update_model.specs.declared.op.Op.TheVariants.{Insert, Delete}
 use Rattle.update_model.specs.declared.row_name.RowName.{RowName}
+use Rattle.update_model.specs.declared.limits.TheConstants.{MAX_MEMBERS}
 use Rattle.update_model.specs.Node.{IsNode, NodeData}
 use Rattle.table_model.specs.declared.verdict.Verdict.{Verdict}
 use Rattle.table_model.specs.declared.verdict.Verdict.TheVariants as verdict
@@ -23,7 +24,7 @@ use Rattle.tuple_state.specs.Causes.{AreRising, absent_times, parents_from}
 use Rattle.tuple_state.specs.Links.{Linked, are_inside, is_of}
 use Rattle.tuple_state.specs.declared.links.Link.{Link}
 use Rattle.tuple_state.specs.Past.{IsNextVerdict}
-use Rattle.tuple_state.specs.State.{IsStateOf, State, after, done_in, dropped_at, inserted_at, rules_of, state_of}
+use Rattle.tuple_state.specs.State.{IsStateOf, State, after, done_in, dropped_at, inserted_at, rules_of_state, state_of}
 use Rattle.tuple_state.proofs.Adding.{NamesRise, all_rise, names_found, news_rise, parents-append, rising_inside, rising_links}
 use Rattle.tuple_state.proofs.Fronts.{bounded_next, dated_next}
 use Rattle.tuple_state.proofs.Deleting.{deleted_next, drops_found}
@@ -36,7 +37,7 @@ unfolding state_of
 state_next state node v next = record { closed = (next.next, next.is.closed); is = λ i. after (next.is.is i) node (next.judged i) }
 
 -- the rows of a state are layered
-pub layered_now : (rules : Rules) (nodes : List NodeData) (state : State) → IsStateOf rules nodes state → are_layered (rules_of state) (done_in state).inserted ≡ true
+pub layered_now : (rules : Rules) (nodes : List NodeData) (state : State) → IsStateOf rules nodes state → are_layered (rules_of_state state) (done_in state).inserted ≡ true
 layered_now rules nodes state held =
     same_layered (columns_same rules nodes state held) (done_in state).inserted ∙ ap (λ (g : Effects). are_layered rules g.inserted) (did_same rules nodes state held)
     ∙ layered_founded rules (effects_in rules nodes).inserted (founded_closed rules nodes held.closed).founded
@@ -55,7 +56,7 @@ few_inserted node number did (Insert table values ∷ ops) =
     let rest = few_inserted node (number + 1) (record did { inserted = row_inserted node number table values ∷ did.inserted }) ops in omega (arith, rest)
 few_inserted node number did (Delete name ∷ ops) = let rest = few_inserted node (number + 1) (record did { deleted = name ∷ did.deleted }) ops in omega (arith, rest)
 
-pub count_next : (state : State) (node : NodeData) (v : Verdict) → IsNextVerdict state node v → state.count < 131072
+pub count_next : (state : State) (node : NodeData) (v : Verdict) → IsNextVerdict state node v → state.count < MAX_MEMBERS
 count_next state node v next = let c = ap (λ (s : State). s.count) next.is.is ∙ count_is next.rules next.nodes in omega (arith, c, next.few)
 
 padded : (xs : List ℕ) (m k : ℕ) → get_or (xs ++ replicate m 0) k 0 ≡ get_or xs k 0
@@ -72,10 +73,10 @@ module _ (state : State) (node : NodeData) (places : BTreeMap RowName ℕ) (caus
   abbrev drops : List Dropped
   drops = map (dropped_at state.count) (reverse (effects_of node).deleted)
 
-  pub layered_next : are_layered (rules_of state) (done_in (after state node verdict.Valid)).inserted ≡ true
+  pub layered_next : are_layered (rules_of_state state) (done_in (after state node verdict.Valid)).inserted ≡ true
   layered_next = layered_now next.rules (node ∷ next.nodes) (after state node verdict.Valid) (state_next state node verdict.Valid next)
 
-  count_few : state.count < 131072
+  count_few : state.count < MAX_MEMBERS
   count_few = let c = ap (λ (s : State). s.count) next.is.is ∙ count_is next.rules next.nodes in omega (arith, c, next.few)
 
   pub news_few : IsNode node → length news ≤ 256
@@ -94,7 +95,7 @@ module _ (state : State) (node : NodeData) (places : BTreeMap RowName ℕ) (caus
 
   -- the names that the new rows name
   abbrev parents : List Dropped
-  parents = parents_from (rules_of state) (length state.inserted) news
+  parents = parents_from (rules_of_state state) (length state.inserted) news
 
   parents_rise : NamesRise (place_of whole) (length state.inserted) (length whole) parents
   parents_rise = news_rise state.columns state.inserted news layered_next
@@ -103,7 +104,7 @@ module _ (state : State) (node : NodeData) (places : BTreeMap RowName ℕ) (caus
   parents_found = names_found (place_of whole) (length state.inserted) (length whole) parents parents_rise
 
   pub known_rising : AreRising 0 (length state.inserted) children.links
-  known_rising = rising_links (place_of state.inserted) 0 (length state.inserted) children.links (parents_from (rules_of state) 0 state.inserted) kept.named (all_rise state.columns state.inserted kept.layered)
+  known_rising = rising_links (place_of state.inserted) 0 (length state.inserted) children.links (parents_from (rules_of_state state) 0 state.inserted) kept.named (all_rise state.columns state.inserted kept.layered)
 
   pub known_inside : are_inside (length state.inserted) children.links ≡ true
   known_inside = rising_inside 0 (length state.inserted) children.links known_rising
@@ -114,14 +115,14 @@ module _ (state : State) (node : NodeData) (places : BTreeMap RowName ℕ) (caus
       padded causes m k ∙ kept.counted k ∙ (λ i. count_by (is_of k) deleters.links + count_by (λ (link : Link). not (sym (padded causes m link.place) i == 0) && (link.number == k)) children.links)
 
   module _ (refs : List Link) (refs_are : pairs_of refs ≡ deletes_at (place_of whole) parents) where
-    pub named_next : pairs_of (children.links ++ refs) ≡ deletes_at (place_of whole) (parents_from (rules_of state) 0 whole)
+    pub named_next : pairs_of (children.links ++ refs) ≡ deletes_at (place_of whole) (parents_from (rules_of_state state) 0 whole)
     named_next =
-        deleted_next state.inserted news (parents_from (rules_of state) 0 state.inserted) parents children.links (children.links ++ refs) kept.named
+        deleted_next state.inserted news (parents_from (rules_of_state state) 0 state.inserted) parents children.links (children.links ++ refs) kept.named
         (map-append (λ (l : Link). (Some l.place, l.number)) children.links refs ∙ ap (λ l. pairs_of children.links ++ l) refs_are)
-        ∙ ap (deletes_at (place_of whole)) (ap (λ n. parents_from (rules_of state) 0 state.inserted ++ parents_from (rules_of state) n news) (sym (zero-add (length state.inserted))) ∙ sym (parents-append (rules_of state) 0 state.inserted news))
+        ∙ ap (deletes_at (place_of whole)) (ap (λ n. parents_from (rules_of_state state) 0 state.inserted ++ parents_from (rules_of_state state) n news) (sym (zero-add (length state.inserted))) ∙ sym (parents-append (rules_of_state state) 0 state.inserted news))
 
     pub rising_next : AreRising 0 (length whole) (children.links ++ refs)
-    rising_next = rising_links (place_of whole) 0 (length whole) (children.links ++ refs) (parents_from (rules_of state) 0 whole) named_next (all_rise state.columns whole layered_next)
+    rising_next = rising_links (place_of whole) 0 (length whole) (children.links ++ refs) (parents_from (rules_of_state state) 0 whole) named_next (all_rise state.columns whole layered_next)
 
     pub refs_rising : AreRising (length state.inserted) (length whole) refs
     refs_rising = rising_links (place_of whole) (length state.inserted) (length whole) refs parents refs_are parents_rise

@@ -15,7 +15,7 @@ use Rattle.tuple_state.specs.declared.inserted.Inserted.{Inserted}
 use Rattle.tuple_state.specs.Arrived.{arrived, is_listed, line_of}
 use Rattle.tuple_state.specs.Kept.{are_layered, place_of}
 use Rattle.tuple_state.specs.Showing.{shown_by, shown_values_by}
-use Rattle.tuple_state.specs.State.{State, done_in, row_of, rules_of}
+use Rattle.tuple_state.specs.State.{State, done_in, row_of, rules_of_state}
 use Rattle.tuple_state.proofs.Answering.{once_each, same_turned}
 use Rattle.tuple_state.proofs.Finding.{find_one}
 use Rattle.tuple_state.proofs.Lookups.{named_reversed, slice_get_mapped, unnamed_from_none}
@@ -103,10 +103,10 @@ module _ (state : State) (table : ℕ) (name : RowName) where
   t row = same_row row.name name
 
   abbrev v : TableRow → Bool
-  v row = in_table table row && is_visible (rules_of state) (done_in state) row.name
+  v row = in_table table row && is_visible (rules_of_state state) (done_in state) row.name
 
   abbrev g : TableRow → ShownRow
-  g row = listed (shown (rules_of state) (done_in state) row)
+  g row = listed (shown (rules_of_state state) (done_in state) row)
 
   abbrev rows : List TableRow
   rows = map row_of state.inserted
@@ -129,11 +129,11 @@ module _ (state : State) (table : ℕ) (name : RowName) where
       let nobody : list_any t rows ≡ false = any_mapped t state.inserted ∙ sym (named_reversed state.inserted name) ∙ unnamed_from_none state.inserted name none in
       sym (in_arrived ∙ ap (option_map g) (find_nothing t v rows nobody))
 
-  module _ (layered : are_layered (rules_of state) (done_in state).inserted ≡ true) (place : ℕ) (it : Inserted) (at : slice_get state.inserted place ≡ Some it) (named : it.name ≡ name) where
+  module _ (layered : are_layered (rules_of_state state) (done_in state).inserted ≡ true) (place : ℕ) (it : Inserted) (at : slice_get state.inserted place ≡ Some it) (named : it.name ≡ name) where
     only : AllByRecursion (λ b. t b ≡ true → b ≡ row_of it) rows
     only =
         let once : AllByRecursion (λ b. same_row it.name b.name ≡ true → row_of it ≡ b) (done_in state).inserted =
-        row_has (λ a. AllByRecursion (λ b. same_row a.name b.name ≡ true → a ≡ b) (done_in state).inserted) state.inserted place it (once_each (rules_of state) (done_in state).inserted layered) at in
+        row_has (λ a. AllByRecursion (λ b. same_row a.name b.name ≡ true → a ≡ b) (done_in state).inserted) state.inserted place it (once_each (rules_of_state state) (done_in state).inserted layered) at in
         each-map (λ b. same_row it.name b.name ≡ true → row_of it ≡ b) (λ b. t b ≡ true → b ≡ row_of it)
         (λ b h same. sym (h (subst (λ (n : RowName). same_row n b.name ≡ true) (sym named) (same_turned b.name name same)))) rows
         (each_back (λ b. same_row it.name b.name ≡ true → row_of it ≡ b) rows once)

@@ -20,6 +20,7 @@ pub mod Marking
 pub mod Marks
 pub mod Meaning
 pub mod Once
+pub mod Ordered
 pub mod Pasts
 pub mod Raising
 pub mod Reaching

@@ -25,7 +25,7 @@ use Rattle.tuple_state.specs.Arrived.{arrived, listed_rows}
 use Rattle.tuple_state.specs.Kept.{place_of}
 use Rattle.tuple_state.specs.Parents.{columns_at}
 use Rattle.tuple_state.specs.Showing.{shown_by, shown_values_by}
-use Rattle.tuple_state.specs.State.{IsStateOf, State, done_in, row_of, rules_of, rules_with}
+use Rattle.tuple_state.specs.State.{IsStateOf, State, done_in, row_of, rules_of_state, rules_over_columns}
 use Rattle.tuple_state.proofs.Layers.{SameColumns, same_visible, unnamed_hidden}
 use Rattle.tuple_state.proofs.Lookups.{columns_same, did_same, get_or_from, reverse_cons, unnamed_from_none}
 
@@ -45,23 +45,23 @@ all_shown rules did (column ∷ columns) [] = refl
 all_shown rules did (column ∷ columns) (v ∷ values) = λ i. one_shown rules did column.kind v i ∷ all_shown rules did columns values i
 
 -- the columns that the rules of a state give a table
-pub columns_with : (columns : List (List Column)) (number : ℕ) → columns_at columns number ≡ (table_of (rules_with columns) number).columns
+pub columns_with : (columns : List (List Column)) (number : ℕ) → columns_at columns number ≡ (table_of (rules_over_columns columns) number).columns
 columns_with [] number = refl
 columns_with (list ∷ columns) zero = refl
 columns_with (list ∷ columns) (suc number) = columns_with columns number
 
 -- what a row lists
 pub values_lined : (state : State) (it : Inserted) (columns : List Column) (values list : List Value) → columns ≡ columns_at state.columns it.entry.table → values ≡ it.entry.values
-    → list ≡ shown_values_by (is_visible (rules_of state) (done_in state)) columns values → list ≡ (listed (shown (rules_of state) (done_in state) (row_of it))).values
+    → list ≡ shown_values_by (is_visible (rules_of_state state) (done_in state)) columns values → list ≡ (listed (shown (rules_of_state state) (done_in state) (row_of it))).values
 values_lined state it columns values list at of is =
-    is ∙ (λ i. shown_values_by (is_visible (rules_of state) (done_in state)) ((at ∙ columns_with state.columns it.entry.table) i) (of i))
-    ∙ all_shown (rules_of state) (done_in state) (table_of (rules_of state) it.entry.table).columns it.entry.values
+    is ∙ (λ i. shown_values_by (is_visible (rules_of_state state) (done_in state)) ((at ∙ columns_with state.columns it.entry.table) i) (of i))
+    ∙ all_shown (rules_of_state state) (done_in state) (table_of (rules_of_state state) it.entry.table).columns it.entry.values
 
 -- ---- a name that no row has
 
-pub none_shown : (state : State) (name : RowName) → place_of state.inserted name ≡ None → false ≡ is_visible (rules_of state) (done_in state) name
+pub none_shown : (state : State) (name : RowName) → place_of state.inserted name ≡ None → false ≡ is_visible (rules_of_state state) (done_in state) name
 none_shown state name none =
-    sym (unnamed_hidden (rules_of state) (done_in state) name (unnamed_from_none state.inserted name none) (length (done_in state).inserted))
+    sym (unnamed_hidden (rules_of_state state) (done_in state) name (unnamed_from_none state.inserted name none) (length (done_in state).inserted))
 
 -- ---- rules with the same columns show the same
 
@@ -126,12 +126,12 @@ mapped_kept f g p (x ∷ xs) =
 
 -- one place more, whose row is listed or not
 pub listed_more : (state : State) (table place : ℕ) (it : Inserted) (b : Bool) (old new more : List ShownRow) → slice_get state.inserted place ≡ Some it → place < length state.inserted
-    → b ≡ (in_table table (row_of it) && is_visible (rules_of state) (done_in state) it.name)
-    → more ≡ map (λ (x : Inserted). listed (shown (rules_of state) (done_in state) (row_of x))) (cond b (it ∷ []) []) → new ≡ old ++ more
+    → b ≡ (in_table table (row_of it) && is_visible (rules_of_state state) (done_in state) it.name)
+    → more ≡ map (λ (x : Inserted). listed (shown (rules_of_state state) (done_in state) (row_of x))) (cond b (it ∷ []) []) → new ≡ old ++ more
     → old ≡ listed_rows state table (take place state.inserted) → new ≡ listed_rows state table (take (place + 1) state.inserted)
 listed_more state table place it b old new more at below answer last pushed before =
-    let p : Inserted → Bool = λ x. in_table table (row_of x) && is_visible (rules_of state) (done_in state) x.name in
-    let f : Inserted → ShownRow = λ x. listed (shown (rules_of state) (done_in state) (row_of x)) in
+    let p : Inserted → Bool = λ x. in_table table (row_of x) && is_visible (rules_of_state state) (done_in state) x.name in
+    let f : Inserted → ShownRow = λ x. listed (shown (rules_of_state state) (done_in state) (row_of x)) in
     let front = filter p (take place state.inserted) in
     let wanted : filter p (take (place + 1) state.inserted) ≡ front ++ cond b (it ∷ []) [] =
     filter_more p state.inserted place it below ∙ ap (λ (x : Inserted). front ++ cond (p x) (x ∷ []) []) (get_or_from state.inserted place it it at)
@@ -140,10 +140,10 @@ listed_more state table place it b old new more at below answer last pushed befo
 
 -- whether a row of a table is visible, and the row as the table lists it
 abbrev is_kept : State → ℕ → TableRow → Bool
-is_kept state table row = in_table table row && is_visible (rules_of state) (done_in state) row.name
+is_kept state table row = in_table table row && is_visible (rules_of_state state) (done_in state) row.name
 
 abbrev line_of : State → TableRow → ShownRow
-line_of state row = listed (shown (rules_of state) (done_in state) row)
+line_of state row = listed (shown (rules_of_state state) (done_in state) row)
 
 arrived_last : (state : State) (table : ℕ) → reverse (arrived state table) ≡ map (line_of state) (filter (is_kept state table) (done_in state).inserted)
 arrived_last state table =
@@ -154,7 +154,7 @@ arrived_last state table =
 -- they are those of a closed list, the newest last
 listed_now : (rules : Rules) (nodes : List NodeData) (state : State) → IsStateOf rules nodes state → (table : ℕ) → reverse (arrived state table) ≡ listed_in rules nodes table
 listed_now rules nodes state held table =
-    let r = rules_of state in
+    let r = rules_of_state state in
     let did = done_in state in
     let same = columns_same rules nodes state held in
     arrived_last state table

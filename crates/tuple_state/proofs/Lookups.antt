@@ -11,7 +11,7 @@ use Rattle.table_model.specs.Verdicts.{effects_in}
 use Rattle.table_model.proofs.Members.{any_mapped, any_reversed}
 use Rattle.table_model.proofs.Standing.{row_from_same}
 use Rattle.tuple_state.specs.declared.inserted.Inserted.{Inserted}
-use Rattle.tuple_state.specs.State.{IsStateOf, State, done_in, row_of, rules_of}
+use Rattle.tuple_state.specs.State.{IsStateOf, State, done_in, row_of, rules_of_state}
 use Rattle.tuple_state.specs.Kept.{is_named, place_of}
 use Rattle.tuple_state.proofs.Effects.{did_is, columns_are}
 use Rattle.tuple_state.proofs.Layers.{SameColumns, same_columns, same_visible}
@@ -78,7 +78,7 @@ pub unnamed_from_none : (rows : List Inserted) (name : RowName) → place_of row
 unnamed_from_none rows name h = named_reversed rows name ∙ sym (is_some-position (λ (it : Inserted). same_row it.name name) 0 rows) ∙ none_some _ h
 
 -- the rules of a state have the columns of those that it is a state of
-pub columns_same : (rules : Rules) (nodes : List NodeData) (state : State) → IsStateOf rules nodes state → SameColumns (rules_of state) rules
+pub columns_same : (rules : Rules) (nodes : List NodeData) (state : State) → IsStateOf rules nodes state → SameColumns (rules_of_state state) rules
 columns_same rules nodes state held = same_columns rules state.columns (λ number values. false) (ap (λ (s : State). s.columns) held.is ∙ columns_are rules nodes)
 
 pub did_same : (rules : Rules) (nodes : List NodeData) (state : State) → IsStateOf rules nodes state → done_in state ≡ effects_in rules nodes
@@ -86,6 +86,6 @@ did_same rules nodes state held = ap (λ (s : State). done_in s) held.is ∙ did
 
 -- what a state shows is what its nodes do
 pub visible_now : (rules : Rules) (nodes : List NodeData) (state : State) → IsStateOf rules nodes state → (name : RowName)
-    → is_visible (rules_of state) (done_in state) name ≡ is_visible rules (effects_in rules nodes) name
+    → is_visible (rules_of_state state) (done_in state) name ≡ is_visible rules (effects_in rules nodes) name
 visible_now rules nodes state held name =
     same_visible (columns_same rules nodes state held) (done_in state) name ∙ ap (λ (g : Effects). is_visible rules g name) (did_same rules nodes state held)

@@ -26,7 +26,7 @@ use Rattle.table_model.proofs.Standing.{row_from_same, same_row-refl}
 use Rattle.tuple_state.specs.declared.inserted.Inserted.{Inserted}
 use Rattle.tuple_state.specs.Kept.{are_layered, is_named, place_of}
 use Rattle.tuple_state.specs.Parents.{AreFresh, all_parents, columns_at, name_by_cascade, parent_in, passes}
-use Rattle.tuple_state.specs.State.{row_of, rules_with}
+use Rattle.tuple_state.specs.State.{row_of, rules_over_columns}
 use Rattle.tuple_state.proofs.Layers.{layer_parts}
 use Rattle.tuple_state.proofs.Lookups.{reverse_cons, named_reversed}
 
@@ -197,7 +197,7 @@ columns_there (list ∷ columns) (suc number) = columns_there columns number
 
 -- the rows that a row names by CASCADE, asked column by column
 pub cascade_are : (columns : List (List Column)) (it : Inserted) (test : RowName → Bool)
-    → list_all (λ r. test r.name) (cascade_refs (rules_with columns) (row_of it)) ≡ all_parents test (columns_at columns it.entry.table) it.entry.values
+    → list_all (λ r. test r.name) (cascade_refs (rules_over_columns columns) (row_of it)) ≡ all_parents test (columns_at columns it.entry.table) it.entry.values
 cascade_are columns it test =
     ap (λ (l : List Column). list_all (λ (r : RowRef). test r.name) (filter (λ (r : RowRef). is_cascade r.action) (refs_in l it.entry.values))) (columns_there columns it.entry.table)
     ∙ parents_are test (columns_at columns it.entry.table) it.entry.values
@@ -218,18 +218,18 @@ found_before t i (x ∷ before) after h =
     step (t x) refl h
 
 -- of a layered row, each row that it names by CASCADE stands before it
-pub named_before : (columns : List (List Column)) (rows : List Inserted) → are_layered (rules_with columns) (reverse (map row_of rows)) ≡ true → (p q : RowName → Bool) (k : ℕ) (it : Inserted) → slice_get rows k ≡ Some it
+pub named_before : (columns : List (List Column)) (rows : List Inserted) → are_layered (rules_over_columns columns) (reverse (map row_of rows)) ≡ true → (p q : RowName → Bool) (k : ℕ) (it : Inserted) → slice_get rows k ≡ Some it
     → ((j : ℕ) (name : RowName) → place_of rows name ≡ Some j → j < k → p name ≡ q name)
-    → list_all (λ r. p r.name) (cascade_refs (rules_with columns) (row_of it)) ≡ list_all (λ r. q r.name) (cascade_refs (rules_with columns) (row_of it))
+    → list_all (λ r. p r.name) (cascade_refs (rules_over_columns columns) (row_of it)) ≡ list_all (λ r. q r.name) (cascade_refs (rules_over_columns columns) (row_of it))
 named_before columns rows h p q k it at agree =
     let s = split_at rows k it at in
-    let layer = layer_parts (rules_with columns) (reverse (map row_of s.before)) (row_of it)
-    (layered_split (rules_with columns) s.before s.after it (subst (λ l. are_layered (rules_with columns) (reverse (map row_of l)) ≡ true) s.is h)) in
+    let layer = layer_parts (rules_over_columns columns) (reverse (map row_of s.before)) (row_of it)
+    (layered_split (rules_over_columns columns) s.before s.after it (subst (λ l. are_layered (rules_over_columns columns) (reverse (map row_of l)) ≡ true) s.is h)) in
     all_agree (λ r. p r.name) (λ r. q r.name) (λ r. is_named (reverse (map row_of s.before)) r.name)
     (λ r there.
     let f = found_before (λ (row : Inserted). same_row row.name r.name) 0 s.before (it ∷ s.after) (sym (named_reversed s.before r.name) ∙ there) in
     agree f.0 r.name (ap (λ l. place_of l r.name) s.is ∙ f.1) (omega (arith, f.2, s.len)))
-    (cascade_refs (rules_with columns) (row_of it)) layer.refers
+    (cascade_refs (rules_over_columns columns) (row_of it)) layer.refers
 
 -- what holds on `Ok`, where there is no `Err`
 pub ok_gives : {T E P : Type 0} (r : Result T E) → is_err r ≡ false → OnOk r P → P

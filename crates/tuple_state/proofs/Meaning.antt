@@ -17,7 +17,7 @@ use Rattle.tuple_state.specs.Causes.{absent_times, is_absent, parents_from}
 use Rattle.std.specs.BTreeMap.{BTreeMap}
 use Rattle.tuple_state.specs.Kept.{IsKept, are_layered, deletes_at, pairs_of, place_of}
 use Rattle.tuple_state.specs.Links.{Linked, is_of}
-use Rattle.tuple_state.specs.State.{State, done_in, dropped_at, row_of, rules_of, rules_with}
+use Rattle.tuple_state.specs.State.{State, done_in, dropped_at, row_of, rules_of_state, rules_over_columns}
 use Rattle.tuple_state.proofs.Deleting.{one_name, pair_parts}
 use Rattle.tuple_state.proofs.Layers.{each_stands, row_visible}
 use Rattle.tuple_state.proofs.Linking.{default_free}
@@ -169,35 +169,35 @@ all_true : {X : Type 0} (xs : List X) → list_all (λ x. true) xs ≡ true
 all_true [] = refl
 all_true (x ∷ xs) = all_true xs
 
-module _ (columns : List (List Column)) (rows : List Inserted) (layered : are_layered (rules_with columns) (reverse (map row_of rows)) ≡ true) where
+module _ (columns : List (List Column)) (rows : List Inserted) (layered : are_layered (rules_over_columns columns) (reverse (map row_of rows)) ≡ true) where
   -- what a row names stands before it
-  pub all_before : (k : ℕ) (it : Inserted) → slice_get rows k ≡ Some it → list_all (λ r. is_before k (place_of rows r.name)) (cascade_refs (rules_with columns) (row_of it)) ≡ true
+  pub all_before : (k : ℕ) (it : Inserted) → slice_get rows k ≡ Some it → list_all (λ r. is_before k (place_of rows r.name)) (cascade_refs (rules_over_columns columns) (row_of it)) ≡ true
   all_before k it at =
       named_before columns rows layered (λ name. is_before k (place_of rows name)) (λ name. true) k it at
-      (λ j name found below. ap (is_before k) found ∙ (let lt : nat_lt j k ≡ true = grind (arith, nat_tests) in lt)) ∙ all_true (cascade_refs (rules_with columns) (row_of it))
+      (λ j name found below. ap (is_before k) found ∙ (let lt : nat_lt j k ≡ true = grind (arith, nat_tests) in lt)) ∙ all_true (cascade_refs (rules_over_columns columns) (row_of it))
 
-  module _ (dropped : List Dropped) (causes : List ℕ) (children deleters : List Link) (named : pairs_of children ≡ deletes_at (place_of rows) (parents_from (rules_with columns) 0 rows))
+  module _ (dropped : List Dropped) (causes : List ℕ) (children deleters : List Link) (named : pairs_of children ≡ deletes_at (place_of rows) (parents_from (rules_over_columns columns) 0 rows))
       (deleted : pairs_of deleters ≡ deletes_at (place_of rows) dropped) (counted : (k : ℕ) → get_or causes k 0 ≡ count_by (is_of k) deleters + absent_times children causes k) where
     abbrev pub did : Effects
     did = record { inserted = reverse (map row_of rows); deleted = reverse (map (λ (d : Dropped). d.name) dropped) }
 
     abbrev pub seen : RowName → Bool
-    seen name = is_visible (rules_with columns) did name
+    seen name = is_visible (rules_over_columns columns) did name
 
     -- the count by names
     pub count_is : (k : ℕ) (it : Inserted) → slice_get rows k ≡ Some it
-        → get_or causes k 0 ≡ count_by (λ (d : Dropped). same_row it.name d.name) dropped + count_by (λ (r : RowRef). absent_place causes (place_of rows r.name)) (cascade_refs (rules_with columns) (row_of it))
+        → get_or causes k 0 ≡ count_by (λ (d : Dropped). same_row it.name d.name) dropped + count_by (λ (r : RowRef). absent_place causes (place_of rows r.name)) (cascade_refs (rules_over_columns columns) (row_of it))
     count_is k it at =
-        counted k ∙ (λ i. deleters_counted rows k it.name (found_layered (rules_with columns) rows layered k it at) deleters dropped deleted i
-        + (absent_by_name (place_of rows) causes k children (parents_from (rules_with columns) 0 rows) named
-        ∙ parents_counted (rules_with columns) (λ name. absent_place causes (place_of rows name)) k 0 rows k it at (omega arith)) i)
+        counted k ∙ (λ i. deleters_counted rows k it.name (found_layered (rules_over_columns columns) rows layered k it at) deleters dropped deleted i
+        + (absent_by_name (place_of rows) causes k children (parents_from (rules_over_columns columns) 0 rows) named
+        ∙ parents_counted (rules_over_columns columns) (λ name. absent_place causes (place_of rows name)) k 0 rows k it at (omega arith)) i)
 
     -- what is known of the rows before a place
     abbrev Known : ℕ → Type 0
     Known k = (j : ℕ) (it : Inserted) → j < k → slice_get rows j ≡ Some it → (get_or causes j 0 == 0) ≡ seen it.name
 
     hidden_refs : (k : ℕ) (it : Inserted) → Known k → slice_get rows k ≡ Some it
-        → count_by (λ (r : RowRef). absent_place causes (place_of rows r.name)) (cascade_refs (rules_with columns) (row_of it)) ≡ count_by (λ (r : RowRef). not (seen r.name)) (cascade_refs (rules_with columns) (row_of it))
+        → count_by (λ (r : RowRef). absent_place causes (place_of rows r.name)) (cascade_refs (rules_over_columns columns) (row_of it)) ≡ count_by (λ (r : RowRef). not (seen r.name)) (cascade_refs (rules_over_columns columns) (row_of it))
     hidden_refs k it known at =
         count_agree (λ (r : RowRef). is_before k (place_of rows r.name)) (λ (r : RowRef). absent_place causes (place_of rows r.name)) (λ (r : RowRef). not (seen r.name))
         (λ r before.
@@ -210,19 +210,19 @@ module _ (columns : List (List Column)) (rows : List Inserted) (layered : are_la
               ap not (known j row.it below row.at ∙ ap seen row.name_is)
         ] in
         step (place_of rows r.name) refl before)
-        (cascade_refs (rules_with columns) (row_of it)) (all_before k it at)
+        (cascade_refs (rules_over_columns columns) (row_of it)) (all_before k it at)
 
     any_deleted : (name : RowName) → is_deleted did name ≡ list_any (λ (d : Dropped). same_row name d.name) dropped
     any_deleted name = any_reversed (same_row name) (map (λ (d : Dropped). d.name) dropped) ∙ any_mapped (λ (d : Dropped). d.name) (same_row name) dropped
 
     mark_next : (k : ℕ) (it : Inserted) → Known k → slice_get rows k ≡ Some it → (get_or causes k 0 == 0) ≡ seen it.name
     mark_next k it known at =
-        let refs = cascade_refs (rules_with columns) (row_of it) in
-        let stands = row_has _ rows k it (each_stands (rules_with columns) did.inserted layered) at in
+        let refs = cascade_refs (rules_over_columns columns) (row_of it) in
+        let stands = row_has _ rows k it (each_stands (rules_over_columns columns) did.inserted layered) at in
         ap (λ n. n == 0) (count_is k it at ∙ ap (λ n. count_by (λ (d : Dropped). same_row it.name d.name) dropped + n) (hidden_refs k it known at))
         ∙ sum_zero (count_by (λ (d : Dropped). same_row it.name d.name) dropped) (count_by (λ (r : RowRef). not (seen r.name)) refs)
         ∙ (λ i. all_counted (λ (r : RowRef). seen r.name) refs i && (none_counted (λ (d : Dropped). same_row it.name d.name) dropped ∙ ap not (sym (any_deleted it.name))) i)
-        ∙ sym (row_visible (rules_with columns) did layered (row_of it) stands)
+        ∙ sym (row_visible (rules_over_columns columns) did layered (row_of it) stands)
 
     known_all : (k : ℕ) → Known k
     known_all zero j it below at = absurd (omega (arith, below))
@@ -240,27 +240,27 @@ module _ (columns : List (List Column)) (rows : List Inserted) (layered : are_la
 
     -- the count of a row
     pub causes_are : (k : ℕ) (it : Inserted) → slice_get rows k ≡ Some it
-        → get_or causes k 0 ≡ count_by (λ (d : Dropped). same_row it.name d.name) dropped + count_by (λ (r : RowRef). not (seen r.name)) (cascade_refs (rules_with columns) (row_of it))
+        → get_or causes k 0 ≡ count_by (λ (d : Dropped). same_row it.name d.name) dropped + count_by (λ (r : RowRef). not (seen r.name)) (cascade_refs (rules_over_columns columns) (row_of it))
     causes_are k it at = count_is k it at ∙ ap (λ n. count_by (λ (d : Dropped). same_row it.name d.name) dropped + n) (hidden_refs k it (known_all k) at)
 
 -- ---- the count of a row that tables keep
 
 module _ (state : State) (places : BTreeMap RowName ℕ) (causes : List ℕ) (children deleters : Linked) (kept : IsKept state places causes children deleters) where
-  pub mark_kept : (k : ℕ) (it : Inserted) → slice_get state.inserted k ≡ Some it → (get_or causes k 0 == 0) ≡ is_visible (rules_of state) (done_in state) it.name
+  pub mark_kept : (k : ℕ) (it : Inserted) → slice_get state.inserted k ≡ Some it → (get_or causes k 0 == 0) ≡ is_visible (rules_of_state state) (done_in state) it.name
   mark_kept k it at = mark_is state.columns state.inserted kept.layered state.dropped causes children.links deleters.links kept.named kept.deleted kept.counted k it at
 
   -- the same of a count that is read
-  pub mark_read : (n k : ℕ) (it : Inserted) → slice_get state.inserted k ≡ Some it → n ≡ get_or causes k n → (n == 0) ≡ is_visible (rules_of state) (done_in state) it.name
+  pub mark_read : (n k : ℕ) (it : Inserted) → slice_get state.inserted k ≡ Some it → n ≡ get_or causes k n → (n == 0) ≡ is_visible (rules_of_state state) (done_in state) it.name
   mark_read n k it at is =
       let below = slice_get_below state.inserted k it at in
       ap (λ m. m == 0) (is ∙ default_free causes k n 0 (omega (arith, below, kept.each))) ∙ mark_kept k it at
 
   -- the same, found by its name
-  pub mark_found : (name : RowName) (k : ℕ) → place_of state.inserted name ≡ Some k → (n : ℕ) → n ≡ get_or causes k n → (n == 0) ≡ is_visible (rules_of state) (done_in state) name
+  pub mark_found : (name : RowName) (k : ℕ) → place_of state.inserted name ≡ Some k → (n : ℕ) → n ≡ get_or causes k n → (n == 0) ≡ is_visible (rules_of_state state) (done_in state) name
   mark_found name k found n is =
       let row = row_found state.inserted name k found in
-      mark_read n k row.it row.at is ∙ ap (is_visible (rules_of state) (done_in state)) row.name_is
+      mark_read n k row.it row.at is ∙ ap (is_visible (rules_of_state state) (done_in state)) row.name_is
 
   pub causes_kept : (k : ℕ) (it : Inserted) → slice_get state.inserted k ≡ Some it
-      → get_or causes k 0 ≡ count_by (λ (d : Dropped). same_row it.name d.name) state.dropped + count_by (λ (r : RowRef). not (is_visible (rules_of state) (done_in state) r.name)) (cascade_refs (rules_of state) (row_of it))
+      → get_or causes k 0 ≡ count_by (λ (d : Dropped). same_row it.name d.name) state.dropped + count_by (λ (r : RowRef). not (is_visible (rules_of_state state) (done_in state) r.name)) (cascade_refs (rules_of_state state) (row_of it))
   causes_kept k it at = causes_are state.columns state.inserted kept.layered state.dropped causes children.links deleters.links kept.named kept.deleted kept.counted k it at

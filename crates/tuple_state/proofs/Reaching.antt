@@ -16,7 +16,7 @@ use Rattle.table_model.proofs.Standing.{row_from_same}
 use Rattle.tuple_state.specs.declared.inserted.Inserted.{Inserted}
 use Rattle.tuple_state.specs.Kept.{are_layered, place_of}
 use Rattle.tuple_state.specs.Parents.{limit_of, passes_place, passes_row}
-use Rattle.tuple_state.specs.State.{row_of, rules_with}
+use Rattle.tuple_state.specs.State.{row_of, rules_over_columns}
 use Rattle.tuple_state.proofs.Layers.{Stands, each_stands, row_visible, unnamed_hidden, visible_is}
 use Rattle.tuple_state.proofs.Lookups.{named_reversed, row_found}
 use Rattle.tuple_state.proofs.Marks.{found_layered, named_before}
@@ -88,25 +88,25 @@ module _ (columns : List (List Column)) (rows : List Inserted) (past : ℕ → B
   then = record { inserted = reverse (map row_of (filter (λ (it : Inserted). past it.position) rows)); deleted = gone }
 
   abbrev vis : RowName → Bool
-  vis = is_visible (rules_with columns) then
+  vis = is_visible (rules_over_columns columns) then
 
   abbrev at_place : ℕ → Bool
   at_place place = passes_row vis (slice_get rows place)
 
-  module _ (all : are_layered (rules_with columns) (reverse (map row_of rows)) ≡ true) (some : are_layered (rules_with columns) then.inserted ≡ true) (place : ℕ) (it : Inserted) (at : slice_get rows place ≡ Some it) where
+  module _ (all : are_layered (rules_over_columns columns) (reverse (map row_of rows)) ≡ true) (some : are_layered (rules_over_columns columns) then.inserted ≡ true) (place : ℕ) (it : Inserted) (at : slice_get rows place ≡ Some it) where
     pub hidden_row : (past it.position && not (is_deleted then it.name)) ≡ false → vis it.name ≡ false
     hidden_row h =
         let step : (b : Bool) → past it.position ≡ b → vis it.name ≡ false =
         elim [
           | true ↦ λ e.
               let gone_is : not (is_deleted then it.name) ≡ false = ap (λ b. b && not (is_deleted then it.name)) (sym e) ∙ h in
-              visible_is (rules_with columns) then some it.name ∙ and_right _ _ gone_is
+              visible_is (rules_over_columns columns) then some it.name ∙ and_right _ _ gone_is
           | false ↦ λ e.
-              unnamed_hidden (rules_with columns) then it.name
+              unnamed_hidden (rules_over_columns columns) then it.name
               (named_reversed (filter (λ (x : Inserted). past x.position) rows) it.name
               ∙ false_from_ne_true _ (λ found.
               let p = any_filtered_at (λ (x : Inserted). same_row x.name it.name) (λ (x : Inserted). past x.position) rows found in
-              let one : Some p.place ≡ Some place = sym (found_layered (rules_with columns) rows all p.place p.it p.at) ∙ ap (place_of rows) (row_from_same p.it.name it.name p.passes) ∙ found_layered (rules_with columns) rows all place it at in
+              let one : Some p.place ≡ Some place = sym (found_layered (rules_over_columns columns) rows all p.place p.it p.at) ∙ ap (place_of rows) (row_from_same p.it.name it.name p.passes) ∙ found_layered (rules_over_columns columns) rows all place it at in
               let here : p.place ≡ place = cc in
               let same : Some p.it ≡ Some it = sym p.at ∙ ap (slice_get rows) here ∙ at in
               let item : p.it ≡ it = cc in
@@ -115,20 +115,20 @@ module _ (columns : List (List Column)) (rows : List Inserted) (past : ℕ → B
         ] in
         step (past it.position) refl
 
-    pub kept_row : (past it.position && not (is_deleted then it.name)) ≡ true → vis it.name ≡ list_all (λ r. passes_place at_place (place_of rows r.name)) (cascade_refs (rules_with columns) (row_of it))
+    pub kept_row : (past it.position && not (is_deleted then it.name)) ≡ true → vis it.name ≡ list_all (λ r. passes_place at_place (place_of rows r.name)) (cascade_refs (rules_over_columns columns) (row_of it))
     kept_row h =
         let parts = and_parts (past it.position) _ h in
-        let stands = filtered_at (Stands then.inserted) (λ (x : Inserted). past x.position) rows place it (each_back (Stands then.inserted) (map row_of (filter (λ (x : Inserted). past x.position) rows)) (each_stands (rules_with columns) then.inserted some)) at parts.0 in
-        row_visible (rules_with columns) then some (row_of it) stands
-        ∙ ap (λ b. list_all (λ r. vis r.name) (cascade_refs (rules_with columns) (row_of it)) && b) parts.1 ∙ and_true _
+        let stands = filtered_at (Stands then.inserted) (λ (x : Inserted). past x.position) rows place it (each_back (Stands then.inserted) (map row_of (filter (λ (x : Inserted). past x.position) rows)) (each_stands (rules_over_columns columns) then.inserted some)) at parts.0 in
+        row_visible (rules_over_columns columns) then some (row_of it) stands
+        ∙ ap (λ b. list_all (λ r. vis r.name) (cascade_refs (rules_over_columns columns) (row_of it)) && b) parts.1 ∙ and_true _
         ∙ sym (named_before columns rows all (λ name. passes_place at_place (place_of rows name)) vis place it at
         (λ j name found below. let row = row_found rows name j found in ap (passes_place at_place) found ∙ ap (passes_row vis) row.at ∙ ap vis row.name_is))
 
-    pub parents_below : list_all (λ r. passes_place (λ k. nat_lt k place) (place_of rows r.name)) (cascade_refs (rules_with columns) (row_of it)) ≡ true
+    pub parents_below : list_all (λ r. passes_place (λ k. nat_lt k place) (place_of rows r.name)) (cascade_refs (rules_over_columns columns) (row_of it)) ≡ true
     parents_below =
         named_before columns rows all (λ name. passes_place (λ k. nat_lt k place) (place_of rows name)) (λ name. true) place it at
         (λ j name found below. ap (passes_place (λ k. nat_lt k place)) found ∙ (grind (arith, nat_tests)))
-        ∙ always (cascade_refs (rules_with columns) (row_of it))
+        ∙ always (cascade_refs (rules_over_columns columns) (row_of it))
 
 -- ---- one of the rows that are still to be looked at
 

@@ -17,7 +17,7 @@ use Rattle.tuple_state.specs.declared.inserted.Inserted.{Inserted}
 use Rattle.tuple_state.specs.Kept.{are_layered}
 use Rattle.tuple_state.specs.Parents.{any_restricts, columns_at, is_row, name_by_restrict, restricts_in}
 use Rattle.tuple_state.specs.Past.{child_then, done_then}
-use Rattle.tuple_state.specs.State.{State, done_in, row_of, rules_of, rules_with}
+use Rattle.tuple_state.specs.State.{State, done_in, row_of, rules_of_state, rules_over_columns}
 use Rattle.table_model.proofs.Members.{any_mapped, any_reversed}
 use Rattle.tuple_state.proofs.Lookups.{get_or_from}
 use Rattle.tuple_state.proofs.Marking.{length_drop}
@@ -80,11 +80,11 @@ restricts_are name (column ∷ columns) (v ∷ values) =
     ∙ sym (list_any-append (λ (r : RowRef). is_restrict r.action && same_row r.name name) (ref_in column.kind v) (refs_in columns values))
 
 pub restricts_row : (columns : List (List Column)) (name : RowName) (row it : Inserted) (list : List Column) → row ≡ it → columns_at columns row.entry.table ≡ list
-    → any_restricts name list row.entry.values ≡ list_any (λ (r : RowRef). is_restrict r.action && same_row r.name name) (refs (rules_with columns) (row_of it))
+    → any_restricts name list row.entry.values ≡ list_any (λ (r : RowRef). is_restrict r.action && same_row r.name name) (refs (rules_over_columns columns) (row_of it))
 restricts_row columns name row it list same is =
     restricts_are name list row.entry.values
     ∙ ap (λ (l : List Column). list_any (λ (r : RowRef). is_restrict r.action && same_row r.name name) (refs_in l row.entry.values)) (sym (columns_there columns row.entry.table ∙ is))
-    ∙ ap (λ (x : Inserted). list_any (λ (r : RowRef). is_restrict r.action && same_row r.name name) (refs (rules_with columns) (row_of x))) same
+    ∙ ap (λ (x : Inserted). list_any (λ (r : RowRef). is_restrict r.action && same_row r.name name) (refs (rules_over_columns columns) (row_of x))) same
 
 pub no_restricts : (name : RowName) (values : List Value) → false ≡ any_restricts name [] values
 unfolding any_restricts
@@ -99,25 +99,25 @@ any_of_kept t k (x ∷ xs) =
 module _ (state : State) (past : ℕ → Bool) (name : RowName) where
   -- whether a row names it, where it is visible
   abbrev pub holds_on : Inserted → Bool
-  holds_on it = past it.position && (is_visible (rules_of state) (done_then state past) it.name && list_any (λ (r : RowRef). is_restrict r.action && same_row r.name name) (refs (rules_of state) (row_of it)))
+  holds_on it = past it.position && (is_visible (rules_of_state state) (done_then state past) it.name && list_any (λ (r : RowRef). is_restrict r.action && same_row r.name name) (refs (rules_of_state state) (row_of it)))
 
   pub child_is : child_then state past name ≡ list_any holds_on state.inserted
   child_is =
-      let c : TableRow → Bool = λ row. list_any (λ (r : RowRef). is_restrict r.action && same_row r.name name) (refs (rules_of state) row) in
-      let v : TableRow → Bool = λ row. is_visible (rules_of state) (done_then state past) row.name in
+      let c : TableRow → Bool = λ row. list_any (λ (r : RowRef). is_restrict r.action && same_row r.name name) (refs (rules_of_state state) row) in
+      let v : TableRow → Bool = λ row. is_visible (rules_of_state state) (done_then state past) row.name in
       any_of_kept c v (done_then state past).inserted
       ∙ any_reversed (λ row. v row && c row) (map row_of (filter (λ (it : Inserted). past it.position) state.inserted))
       ∙ any_mapped row_of (λ row. v row && c row) (filter (λ (it : Inserted). past it.position) state.inserted)
       ∙ any_of_kept (λ (it : Inserted). v (row_of it) && c (row_of it)) (λ (it : Inserted). past it.position) state.inserted
 
-  module _ (all : are_layered (rules_of state) (done_in state).inserted ≡ true) (some : are_layered (rules_of state) (done_then state past).inserted ≡ true) where
+  module _ (all : are_layered (rules_of_state state) (done_in state).inserted ≡ true) (some : are_layered (rules_of_state state) (done_then state past).inserted ≡ true) where
     -- what is visible is of the past
     pub holds_at : (place : ℕ) (it : Inserted) (b : Bool) → slice_get state.inserted place ≡ Some it
-        → b ≡ (is_visible (rules_of state) (done_then state past) it.name && list_any (λ (r : RowRef). is_restrict r.action && same_row r.name name) (refs (rules_of state) (row_of it))) → holds_on it ≡ b
+        → b ≡ (is_visible (rules_of_state state) (done_then state past) it.name && list_any (λ (r : RowRef). is_restrict r.action && same_row r.name name) (refs (rules_of_state state) (row_of it))) → holds_on it ≡ b
     holds_at place it b at is =
         let g = done_then state past in
-        let c = list_any (λ (r : RowRef). is_restrict r.action && same_row r.name name) (refs (rules_of state) (row_of it)) in
-        let step : (p v : Bool) → past it.position ≡ p → is_visible (rules_of state) g it.name ≡ v → (p && (v && c)) ≡ (v && c) =
+        let c = list_any (λ (r : RowRef). is_restrict r.action && same_row r.name name) (refs (rules_of_state state) (row_of it)) in
+        let step : (p v : Bool) → past it.position ≡ p → is_visible (rules_of_state state) g it.name ≡ v → (p && (v && c)) ≡ (v && c) =
         elim [
           | true ↦ λ v e f. refl
           | false ↦ elim [
@@ -125,7 +125,7 @@ module _ (state : State) (past : ℕ → Bool) (name : RowName) where
             | false ↦ λ e f. refl
           ]
         ] in
-        step (past it.position) (is_visible (rules_of state) g it.name) refl refl ∙ sym is
+        step (past it.position) (is_visible (rules_of_state state) g it.name) refl refl ∙ sym is
 
 -- ---- one row after another
 

@@ -8,6 +8,7 @@ use Rattle.std.proofs.lemmas.Bool.Decides.{nat_tests}
 use Rattle.std.proofs.lemmas.List.Sums.{sum_by-cons}
 use Rattle.std.proofs.lemmas.List.{take-map}
 use Rattle.update_model.specs.declared.row_name.RowName.{RowName}
+use Rattle.update_model.specs.declared.limits.TheConstants.{MAX_MEMBERS}
 use Rattle.update_model.specs.Node.{NodeData}
 use Rattle.table_model.specs.Tables.{name_cmp}
 use Rattle.table_model.specs.Visible.{Rules}
@@ -18,7 +19,7 @@ use Rattle.tuple_state.specs.declared.voided.Voided.{Voided}
 use Rattle.tuple_state.specs.Kept.{IsKept, are_layered, deletes_at, pairs_of, place_of}
 use Rattle.tuple_state.specs.Causes.{AreRising, absent_times, parents_from}
 use Rattle.tuple_state.specs.Links.{Linked, are_inside, is_of}
-use Rattle.tuple_state.specs.State.{IsStateOf, State, done_in, row_of, rules_of, rules_with, state_of}
+use Rattle.tuple_state.specs.State.{IsStateOf, State, done_in, row_of, rules_of_state, rules_over_columns, state_of}
 use Rattle.tuple_state.proofs.Adding.{NamesRise, all_rise, names_found, news_rise, parents-append, rising_inside, rising_links}
 use Rattle.tuple_state.proofs.Deleting.{drops_found, links_inside, pair_parts, place_stays}
 use Rattle.tuple_state.proofs.Effects.{columns_are, count_is}
@@ -47,7 +48,7 @@ kept_places state places after_places causes children after_children deleters af
   deleted = ap (λ (d : Linked). pairs_of d.links) same ∙ kept.deleted;
 }
 
-pub kept_void : (state : State) (places : BTreeMap RowName ℕ) (causes : List ℕ) (children deleters : Linked) (voids : List Voided) → IsKept state places causes children deleters → state.count < 131072
+pub kept_void : (state : State) (places : BTreeMap RowName ℕ) (causes : List ℕ) (children deleters : Linked) (voids : List Voided) → IsKept state places causes children deleters → state.count < MAX_MEMBERS
     → IsKept (record state { count = state.count + 1; voids = voids }) places causes children deleters
 kept_void state places causes children deleters voids kept few = record {
   few = omega (arith, few);
@@ -160,7 +161,7 @@ module _ (rules : Rules) (newer older : List NodeData) (state : State) (len : �
   pub count_old : len ≡ old.count
   count_old = sym at ∙ sym (count_is rules older)
 
-  pub layered_old : are_layered (rules_of old) (done_in old).inserted ≡ true
+  pub layered_old : are_layered (rules_of_state old) (done_in old).inserted ≡ true
   layered_old = layered_now rules older old old_held
 
   pub deleted_old : (n : ℕ) (links : List Link) → n ≡ count_by (λ (it : Dropped). nat_lt it.position len) state.dropped → pairs_of links ≡ deletes_at (place_of state.inserted) state.dropped
@@ -177,36 +178,36 @@ module _ (rules : Rules) (newer older : List NodeData) (state : State) (len : �
       (λ name k found. let row = row_found old.inserted name k found in let size = rows_len rows is in omega (arith, row.below, size))
 
   abbrev front : List Dropped
-  front = parents_from (rules_of old) 0 old.inserted
+  front = parents_from (rules_of_state old) 0 old.inserted
 
   abbrev behind : List Dropped
-  behind = parents_from (rules_of state) (length old.inserted) rows_are.later
+  behind = parents_from (rules_of_state state) (length old.inserted) rows_are.later
 
   front_rises : NamesRise (place_of old.inserted) 0 (length old.inserted) front
   front_rises = all_rise old.columns old.inserted layered_old
 
   -- the names that all rows name are those that the first rows name, and others
-  fronts_are : Parted (λ (d : Dropped). d.position) (length old.inserted) (parents_from (rules_of state) 0 state.inserted) front
+  fronts_are : Parted (λ (d : Dropped). d.position) (length old.inserted) (parents_from (rules_of_state state) 0 state.inserted) front
   fronts_are = record {
     later = behind;
-    is = ap (parents_from (rules_of state) 0) rows_are.is ∙ parents-append (rules_of state) 0 old.inserted rows_are.later
-        ∙ (λ i. parents_from (rules_with (columns_stay i)) 0 old.inserted ++ parents_from (rules_of state) (zero-add (length old.inserted) i) rows_are.later);
+    is = ap (parents_from (rules_of_state state) 0) rows_are.is ∙ parents-append (rules_of_state state) 0 old.inserted rows_are.later
+        ∙ (λ i. parents_from (rules_over_columns (columns_stay i)) 0 old.inserted ++ parents_from (rules_of_state state) (zero-add (length old.inserted) i) rows_are.later);
     before = rise_below (place_of old.inserted) 0 (length old.inserted) front front_rises;
     beyond = rise_beyond (place_of (old.inserted ++ rows_are.later)) (length old.inserted) (length old.inserted) (length (old.inserted ++ rows_are.later)) behind (omega arith)
-        (news_rise state.columns old.inserted rows_are.later (subst (λ (l : List Inserted). are_layered (rules_of state) (reverse (map row_of l)) ≡ true) rows_are.is (layered_now rules (newer ++ older) state held)));
+        (news_rise state.columns old.inserted rows_are.later (subst (λ (l : List Inserted). are_layered (rules_of_state state) (reverse (map row_of l)) ≡ true) rows_are.is (layered_now rules (newer ++ older) state held)));
   }
 
-  module _ (children : List Link) (rows n : ℕ) (so : pairs_of children ≡ deletes_at (place_of state.inserted) (parents_from (rules_of state) 0 state.inserted))
+  module _ (children : List Link) (rows n : ℕ) (so : pairs_of children ≡ deletes_at (place_of state.inserted) (parents_from (rules_of_state state) 0 state.inserted))
       (is_rows : rows ≡ count_by (λ (it : Inserted). nat_lt it.position len) state.inserted) (is_n : n ≡ count_by (λ (l : Link). nat_lt l.number rows) children) where
     front_len : n ≡ length front
     front_len =
-        is_n ∙ ap (λ m. count_by (λ (l : Link). nat_lt l.number m) children) (rows_len rows is_rows) ∙ numbers_alike (place_of state.inserted) (length old.inserted) children (parents_from (rules_of state) 0 state.inserted) so
-        ∙ counted (λ (d : Dropped). d.position) (length old.inserted) (parents_from (rules_of state) 0 state.inserted) front fronts_are
+        is_n ∙ ap (λ m. count_by (λ (l : Link). nat_lt l.number m) children) (rows_len rows is_rows) ∙ numbers_alike (place_of state.inserted) (length old.inserted) children (parents_from (rules_of_state state) 0 state.inserted) so
+        ∙ counted (λ (d : Dropped). d.position) (length old.inserted) (parents_from (rules_of_state state) 0 state.inserted) front fronts_are
 
     pub named_old : pairs_of (take n children) ≡ deletes_at (place_of old.inserted) front
     unfolding fronts_are
     named_old =
-        sym (take-map (λ (l : Link). (Some l.place, l.number)) n children) ∙ ap (take n) so ∙ take-map (λ (d : Dropped). (place_of state.inserted d.name, d.position)) n (parents_from (rules_of state) 0 state.inserted)
+        sym (take-map (λ (l : Link). (Some l.place, l.number)) n children) ∙ ap (take n) so ∙ take-map (λ (d : Dropped). (place_of state.inserted d.name, d.position)) n (parents_from (rules_of_state state) 0 state.inserted)
         ∙ (λ i. deletes_at (place_of state.inserted) (take (front_len i) (fronts_are.is i))) ∙ ap (deletes_at (place_of state.inserted)) (take_front front behind)
         ∙ ap (λ l. deletes_at (place_of l) front) rows_are.is ∙ deletes_same old.inserted rows_are.later front (names_found (place_of old.inserted) 0 (length old.inserted) front front_rises)
 

@@ -5,15 +5,15 @@ use Rattle.table_model.specs.Tables.{listed}
 use Rattle.table_model.specs.Verdicts.{in_table}
 use Rattle.table_model.specs.Visible.{is_visible, shown}
 use Rattle.tuple_state.specs.declared.inserted.Inserted.{Inserted}
-use Rattle.tuple_state.specs.State.{State, done_in, row_of, rules_of}
+use Rattle.tuple_state.specs.State.{State, done_in, row_of, rules_of_state}
 
 -- a row as its table lists it
 abbrev pub line_of : State → Inserted → ShownRow
-line_of state it = listed (shown (rules_of state) (done_in state) (row_of it))
+line_of state it = listed (shown (rules_of_state state) (done_in state) (row_of it))
 
 -- whether a row is one of the table with this number, and visible
 abbrev pub is_listed : State → ℕ → Inserted → Bool
-is_listed state table it = in_table table (row_of it) && is_visible (rules_of state) (done_in state) it.name
+is_listed state table it = in_table table (row_of it) && is_visible (rules_of_state state) (done_in state) it.name
 
 -- what a table lists of some of the rows
 abbrev pub listed_rows : State → ℕ → List Inserted → List ShownRow

@@ -3,6 +3,7 @@ use Rattle.std.specs.Prelude.{◌≡◌, ℕ, ◌+◌, ◌*◌, ◌≤◌, Bool,
 use Rattle.std.specs.List.{list_any, list_all, position_from}
 use Rattle.std.specs.BTreeMap.{get, BTreeMap}
 use Rattle.update_model.specs.declared.row_name.RowName.{RowName}
+use Rattle.update_model.specs.declared.limits.TheConstants.{MAX_MEMBERS}
 use Rattle.table_model.specs.Tables.{name_cmp}
 use Rattle.table_model.specs.Verdicts.{stands_among}
 use Rattle.table_model.specs.Visible.{Rules, TableRow, cascade_refs, refs, same_row}
@@ -11,7 +12,7 @@ use Rattle.tuple_state.specs.declared.inserted.Inserted.{Inserted}
 use Rattle.tuple_state.specs.declared.links.Link.{Link}
 use Rattle.tuple_state.specs.Causes.{absent_times, parents_from}
 use Rattle.tuple_state.specs.Links.{Linked, is_of}
-use Rattle.tuple_state.specs.State.{State, done_in, rules_of}
+use Rattle.tuple_state.specs.State.{State, done_in, rules_of_state}
 
 -- whether one of these rows has this name
 abbrev pub is_named : List TableRow → RowName → Bool
@@ -42,15 +43,15 @@ deletes_at place dropped = map (λ (drop : Dropped). (place drop.name, drop.posi
 -- The rows are layered and each is found by its name. By its place the updates that delete it are found, and the rows that
 -- name it by CASCADE. Its count is that of the former and of the absent rows that it names.
 pub record IsKept (state : State) (places : BTreeMap RowName ℕ) (causes : List ℕ) (children deleters : Linked) : Type 0 where
-  pub few : state.count ≤ 131072
+  pub few : state.count ≤ MAX_MEMBERS
   pub bounded : (len : ℕ) → count_by (λ it. nat_lt it.position len) state.inserted ≤ 256 * len
   pub dated : list_all (λ it. nat_lt it.position state.count) state.inserted ≡ true
-  pub layered : are_layered (rules_of state) (done_in state).inserted ≡ true
+  pub layered : are_layered (rules_of_state state) (done_in state).inserted ≡ true
   pub placed : (name : RowName) → get name_cmp places name ≡ place_of state.inserted name
   pub each : length causes ≡ length state.inserted
   pub counted : (k : ℕ) → slice_index_or causes k 0 ≡ count_by (is_of k) deleters.links + absent_times children.links causes k
   pub homes : children.size ≡ length state.inserted
-  pub named : pairs_of children.links ≡ deletes_at (place_of state.inserted) (parents_from (rules_of state) 0 state.inserted)
+  pub named : pairs_of children.links ≡ deletes_at (place_of state.inserted) (parents_from (rules_of_state state) 0 state.inserted)
   pub rooms : deleters.size ≡ length state.inserted
   pub few_children : length children.links ≤ 536870912
   pub few_deleters : length deleters.links ≤ 536870912

@@ -3,6 +3,7 @@ use Rattle.std.specs.Prelude.{◌≡◌, ℕ, ◌<◌, Bool, true, ◌&&◌, Lis
 use Rattle.update_model.specs.declared.row_entry.RowEntry.{RowEntry}
 use Rattle.update_model.specs.declared.row_name.RowName.{RowName}
 use Rattle.update_model.specs.declared.value.Value.{Value}
+use Rattle.update_model.specs.declared.limits.TheConstants.{MAX_MEMBERS}
 use Rattle.update_model.specs.Node.{NodeData}
 use Rattle.row_check.specs.Meaning.{value_at}
 use Rattle.table_model.specs.declared.verdict.Verdict.{Verdict}
@@ -14,7 +15,7 @@ use Rattle.row_check.specs.Comparisons.{compares}
 use Rattle.validity.specs.Answers.{entry_in, has_child_in}
 use Rattle.tuple_state.specs.declared.inserted.Inserted.{Inserted}
 use Rattle.tuple_state.specs.Parents.{passes_row}
-use Rattle.tuple_state.specs.State.{IsStateOf, State, done_in, row_of, rules_of}
+use Rattle.tuple_state.specs.State.{IsStateOf, State, done_in, row_of, rules_of_state}
 
 -- This verdict is the one on an update that is next in tables of fewer than 131,072 updates.
 pub record IsNextVerdict (state : State) (node : NodeData) (verdict : Verdict) : Type 0 where
@@ -22,7 +23,7 @@ pub record IsNextVerdict (state : State) (node : NodeData) (verdict : Verdict) :
   pub nodes : List NodeData
   pub is : IsStateOf rules nodes state
   pub next : IsNext nodes node
-  pub few : length nodes < 131072
+  pub few : length nodes < MAX_MEMBERS
   pub judged : verdict ≡ (judge_next rules (judged rules nodes) node).verdict
 
 -- Of the positions of these nodes, the past holds those of the ancestors of the next one.
@@ -52,7 +53,7 @@ done_then state past = record {
 
 -- whether a row is visible after the ancestors of the update at a position
 abbrev pub visible_at : (ℕ → ℕ → Bool) → State → ℕ → RowName → Bool
-visible_at ancestor state position name = is_visible (rules_of state) (done_then state (λ p. ancestor p position)) name
+visible_at ancestor state position name = is_visible (rules_of_state state) (done_then state (λ p. ancestor p position)) name
 
 -- the same of the row at a place
 abbrev pub row_visible_at : (ℕ → ℕ → Bool) → State → ℕ → ℕ → Bool
@@ -61,11 +62,11 @@ row_visible_at ancestor state position place = passes_row (visible_at ancestor s
 -- What is visible now is visible then, where an ancestor inserted it.
 abbrev pub Lasts : (ℕ → ℕ → Bool) → State → ℕ → Type 0
 Lasts ancestor state position = (place : ℕ) (it : Inserted) → slice_get state.inserted place ≡ Some it → ancestor it.position position ≡ true
-    → is_visible (rules_of state) (done_in state) it.name ≡ true → visible_at ancestor state position it.name ≡ true
+    → is_visible (rules_of_state state) (done_in state) it.name ≡ true → visible_at ancestor state position it.name ≡ true
 
 -- the rows that are visible then
 abbrev pub visible_then : State → (ℕ → Bool) → List TableRow
-visible_then state past = visible_rows (rules_of state) (done_then state past)
+visible_then state past = visible_rows (rules_of_state state) (done_then state past)
 
 -- the visible row with a name
 abbrev pub row_then : State → (ℕ → Bool) → RowName → Option RowEntry
@@ -73,7 +74,7 @@ row_then state past name = entry_in (visible_then state past) name
 
 -- whether a visible row names this one by RESTRICT
 abbrev pub child_then : State → (ℕ → Bool) → RowName → Bool
-child_then state past name = has_child_in (rules_of state) (visible_then state past) name
+child_then state past name = has_child_in (rules_of_state state) (visible_then state past) name
 
 -- how many visible rows of a table have a value in a column
 abbrev pub equal_then : State → (ℕ → Bool) → ℕ → ℕ → Value → ℕ

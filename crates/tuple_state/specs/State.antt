@@ -71,12 +71,12 @@ abbrev pub done_in : State → Effects
 done_in state = record { inserted = reverse (map row_of state.inserted); deleted = reverse (map (λ it. it.name) state.dropped) }
 
 -- rules with these columns and nothing else. Which rows are visible goes by columns alone
-abbrev pub rules_with : List (List Column) → Rules
-rules_with columns = record { tables = map (λ list. record no_table { columns = list }) columns; ask = λ number values. false }
+abbrev pub rules_over_columns : List (List Column) → Rules
+rules_over_columns columns = record { tables = map (λ list. record no_table { columns = list }) columns; ask = λ number values. false }
 
 -- those of a state
-abbrev pub rules_of : State → Rules
-rules_of state = rules_with state.columns
+abbrev pub rules_of_state : State → Rules
+rules_of_state state = rules_over_columns state.columns
 
 -- The tables hold what nodes do of which all after the first so many are to be taken back.
 pub record IsCut (state : State) (len : ℕ) : Type 0 where

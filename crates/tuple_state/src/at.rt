@@ -9,7 +9,7 @@ ghost use Rattle.std.specs.List.{list_all, list_any};
 ghost use Rattle.tuple_state.specs.declared.inserted.Inserted.{Inserted as Row};
 ghost use Rattle.tuple_state.specs.Kept.{are_layered, are_referred};
 ghost use Rattle.tuple_state.specs.Past.{Lasts, StandsAt, child_then, count_then, done_then, equal_then, row_then, row_visible_at, visible_at};
-ghost use Rattle.tuple_state.specs.State.{done_in, row_of, rules_of};
+ghost use Rattle.tuple_state.specs.State.{done_in, row_of, rules_of_state};
 
 use crate::Tables;
 use std::alloc::{AllocError, Global};
@@ -22,10 +22,10 @@ pub struct At<'a, A: Ancestors> {
     tables: &'a Tables,
     ancestors: &'a A,
     position: u32,
-    ghost founded: { are_layered (rules_of tables.now) (done_in tables.now).inserted ≡ true },
-    ghost referred: { are_referred (rules_of tables.now) (done_in tables.now).inserted ≡ true },
+    ghost founded: { are_layered (rules_of_state tables.now) (done_in tables.now).inserted ≡ true },
+    ghost referred: { are_referred (rules_of_state tables.now) (done_in tables.now).inserted ≡ true },
     ghost lasting: { Lasts (A.ancestor ancestors.now) tables.now position },
-    ghost layered: { are_layered (rules_of tables.now) (done_then tables.now (λ p. A.ancestor ancestors.now p position)).inserted ≡ true },
+    ghost layered: { are_layered (rules_of_state tables.now) (done_then tables.now (λ p. A.ancestor ancestors.now p position)).inserted ≡ true },
 }
 
 impl<'a, A: Ancestors> At<'a, A> {
@@ -59,7 +59,7 @@ impl<'a, A: Ancestors> At<'a, A> {
         requires { place < length self.now.tables.now.inserted }
         ensures { IfOk result (λ answer. (it : Row) → slice_get self.now.tables.now.inserted place ≡ Some it
             → answer ≡ (visible_at (A.ancestor self.now.ancestors.now) self.now.tables.now self.now.position it.name
-            && list_any (λ r. is_restrict r.action && same_row r.name name.now) (refs (rules_of self.now.tables.now) (row_of it)))) }
+            && list_any (λ r. is_restrict r.action && same_row r.name name.now) (refs (rules_of_state self.now.tables.now) (row_of it)))) }
     {
         if self.tables.restricts(place, name) {
             self.stands(alloc, place)

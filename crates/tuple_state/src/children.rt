@@ -3,7 +3,7 @@
 ghost use Rattle.std.specs.Prelude.{◌≡◌, ◌+◌, ◌<◌, ◌^◌, ◌++◌, IfOk, OnOk, length};
 ghost use Rattle.tuple_state.specs.Causes.{parents_from};
 ghost use Rattle.tuple_state.specs.Parents.{name_in, names_in};
-ghost use Rattle.tuple_state.specs.State.{rules_with};
+ghost use Rattle.tuple_state.specs.State.{rules_over_columns};
 
 use crate::parents::parent_of;
 use crate::{Dropped, Inserted};
@@ -58,7 +58,7 @@ pub(crate) fn parents_of(
     first: usize,
 ) -> Result<Vec<Dropped>, AllocError>
     requires few { first + length rows.now < 2 ^ 32 }
-    ensures { IfOk result (λ names. names.items ≡ parents_from (rules_with columns.now) first rows.now) }
+    ensures { IfOk result (λ names. names.items ≡ parents_from (rules_over_columns columns.now) first rows.now) }
 {
     let mut names = Vec::new(alloc);
     for number in 0..rows.len() {

@@ -6,7 +6,7 @@ ghost use Rattle.row_check.specs.Meaning.{value_at};
 ghost use Rattle.table_model.specs.Visible.{is_visible, same_row};
 ghost use Rattle.tuple_state.specs.Arrived.{arrived, line_of, listed_rows};
 ghost use Rattle.tuple_state.specs.Showing.{shown_by, shown_values_by};
-ghost use Rattle.tuple_state.specs.State.{done_in, rules_of};
+ghost use Rattle.tuple_state.specs.State.{done_in, rules_of_state};
 
 use crate::showing::{is_listed, is_nulled};
 use crate::{Inserted, Tables};
@@ -68,7 +68,7 @@ fn shown_in<'a>(
     number: usize,
 ) -> Option<&'a Value>
     ensures { unwrap_or (option_copied result) Null
-        ≡ value_at (shown_values_by (is_visible (rules_of tables.now) (done_in tables.now)) columns.now values.now) number }
+        ≡ value_at (shown_values_by (is_visible (rules_of_state tables.now) (done_in tables.now)) columns.now values.now) number }
 {
     match values.get(number) {
         Some(value) => match columns.get(number) {
@@ -81,7 +81,7 @@ fn shown_in<'a>(
 
 /// What a value shows in a column.
 fn shown_at<'a>(tables: &Tables, column: &Column, value: &'a Value) -> Option<&'a Value>
-    ensures { unwrap_or (option_copied result) Null ≡ shown_by (is_visible (rules_of tables.now) (done_in tables.now)) column.now.kind value.now }
+    ensures { unwrap_or (option_copied result) Null ≡ shown_by (is_visible (rules_of_state tables.now) (done_in tables.now)) column.now.kind value.now }
 {
     if is_nulled(tables, column, value) {
         None

@@ -1,11 +1,13 @@
 //! The visible rows of a table, and what their values show.
 
-ghost use Rattle.std.specs.Prelude.{◌≡◌, ◌<◌, ◌++◌, ◌&&◌, IfOk, OnOk, Some, filter, length, map, slice_get};
-ghost use Rattle.table_model.specs.Tables.{listed};
+ghost use Rattle.std.specs.Prelude.{◌≡◌, ◌<◌, ◌++◌, ◌&&◌, IfOk, OnOk, Some, length, map, slice_get};
+ghost use Rattle.std.specs.List.Sorted.{IsPermutation, IsStrictlySortedBy};
+ghost use Rattle.table_model.specs.Tables.{listed, name_cmp};
 ghost use Rattle.table_model.specs.Verdicts.{in_table};
 ghost use Rattle.table_model.specs.Visible.{is_visible, shown};
+ghost use Rattle.tuple_state.specs.Arrived.{arrived};
 ghost use Rattle.tuple_state.specs.Showing.{is_shown_null, shown_by, shown_values_by};
-ghost use Rattle.tuple_state.specs.State.{done_in, row_of, rules_of};
+ghost use Rattle.tuple_state.specs.State.{done_in, row_of, rules_of_state};
 ghost use Rattle.tuple_state.specs.declared.inserted.Inserted.{Inserted as Row};
 
 use crate::{Inserted, Tables};
@@ -16,7 +18,7 @@ use update_model::{Value, ValueList};
 
 /// Whether a value is a `SETNULL` reference to a row that is not visible.
 pub(crate) fn is_nulled(tables: &Tables, column: &Column, value: &Value) -> bool
-    ensures { result ≡ is_shown_null (is_visible (rules_of tables.now) (done_in tables.now)) column.now.kind value.now }
+    ensures { result ≡ is_shown_null (is_visible (rules_of_state tables.now) (done_in tables.now)) column.now.kind value.now }
 {
     match (value, column.kind) {
         (
@@ -37,7 +39,7 @@ fn shown_value(
     column: &Column,
     value: &Value,
 ) -> Result<Value, AllocError>
-    ensures { IfOk result (λ shown. shown ≡ shown_by (is_visible (rules_of tables.now) (done_in tables.now)) column.now.kind value.now) }
+    ensures { IfOk result (λ shown. shown ≡ shown_by (is_visible (rules_of_state tables.now) (done_in tables.now)) column.now.kind value.now) }
 {
     if is_nulled(tables, column, value) {
         return Ok(Value::Null);
@@ -53,7 +55,7 @@ fn push_shown(
     columns: &[Column],
     values: &[Value],
 ) -> Result<(), AllocError>
-    ensures { OnOk result (list.new.items ≡ list.old.items ++ shown_values_by (is_visible (rules_of tables.now) (done_in tables.now)) columns.now values.now) }
+    ensures { OnOk result (list.new.items ≡ list.old.items ++ shown_values_by (is_visible (rules_of_state tables.now) (done_in tables.now)) columns.now values.now) }
 {
     match columns {
         [] => push_values(alloc, list, values),
@@ -84,7 +86,7 @@ fn shown_values(
     columns: &[Column],
     values: &[Value],
 ) -> Result<ValueList, AllocError>
-    ensures { IfOk result (λ list. list ≡ shown_values_by (is_visible (rules_of tables.now) (done_in tables.now)) columns.now values.now) }
+    ensures { IfOk result (λ list. list ≡ shown_values_by (is_visible (rules_of_state tables.now) (done_in tables.now)) columns.now values.now) }
 {
     let mut list = Vec::with_capacity(alloc, values.len())?;
     push_shown(alloc, &mut list, tables, columns, values)?;
@@ -93,7 +95,7 @@ fn shown_values(
 
 /// A row as its table lists it.
 fn shown_row(alloc: Global, tables: &Tables, row: &Inserted) -> Result<ShownRow, AllocError>
-    ensures { IfOk result (λ line. line ≡ listed (shown (rules_of tables.now) (done_in tables.now) (row_of row.now))) }
+    ensures { IfOk result (λ line. line ≡ listed (shown (rules_of_state tables.now) (done_in tables.now) (row_of row.now))) }
 {
     let columns = tables.columns(row.entry.table);
     Ok(ShownRow {
@@ -106,24 +108,26 @@ fn shown_row(alloc: Global, tables: &Tables, row: &Inserted) -> Result<ShownRow,
 pub(crate) fn is_listed(tables: &Tables, table: u8, place: usize) -> bool
     requires { place < length tables.now.inserted }
     ensures { (it : Row) → slice_get tables.now.inserted place ≡ Some it
-        → result ≡ (in_table table (row_of it) && is_visible (rules_of tables.now) (done_in tables.now) it.name) }
+        → result ≡ (in_table table (row_of it) && is_visible (rules_of_state tables.now) (done_in tables.now) it.name) }
 {
     tables.is_in(place, table) && tables.is_marked(place)
 }
 
-/// The visible rows of the table with this number in order of arrival, as it lists them.
+/// The visible rows of the table with this number in rising order of names, as it lists them. It goes over the rows of all
+/// tables.
 pub(crate) fn listed_rows(
     alloc: Global,
     tables: &Tables,
     table: u8,
 ) -> Result<Vec<ShownRow>, AllocError>
-    ensures { IfOk result (λ lines. lines.items ≡ map (λ it. listed (shown (rules_of tables.now) (done_in tables.now) (row_of it)))
-        (filter (λ it. in_table table (row_of it) && is_visible (rules_of tables.now) (done_in tables.now) it.name) tables.now.inserted)) }
+    ensures rising { IfOk result (λ lines. IsStrictlySortedBy name_cmp (map (λ line. line.name) lines.items)) }
+    ensures exact { IfOk result (λ lines. IsPermutation lines.items (arrived tables.now table)) }
 {
     let mut lines = Vec::new(alloc);
-    for place in 0..tables.row_len() {
-        if is_listed(tables, table, place) {
-            lines.push(shown_row(alloc, tables, tables.row(place))?)?;
+    let places = tables.places_by_name();
+    for (_, place) in places.iter() {
+        if is_listed(tables, table, *place) {
+            lines.push(shown_row(alloc, tables, tables.row(*place))?)?;
         }
     }
     Ok(lines)

@@ -6,17 +6,19 @@ ghost use Rattle.update_model.specs.declared.value.Value.{Value as Cell};
 ghost use Rattle.row_check.specs.declared.cmp.Cmp.TheVariants.{Eq};
 ghost use Rattle.row_check.specs.Comparisons.{compares};
 ghost use Rattle.row_check.specs.Meaning.{value_at};
+ghost use Rattle.std.specs.BTreeMap.{get};
+ghost use Rattle.update_model.specs.declared.row_name.RowName.{RowName as Name};
 ghost use Rattle.update_model.specs.Node.{NodeData};
-ghost use Rattle.table_model.specs.Tables.{AreRowsIn, AreVoidsIn};
+ghost use Rattle.table_model.specs.Tables.{AreRowsIn, AreVoidsIn, name_cmp};
 ghost use Rattle.table_model.specs.Verdicts.{effects_in, in_table};
-ghost use Rattle.table_model.specs.Visible.{Rules, TableRow, cascade_refs, is_deleted, is_visible, refs, same_row};
+ghost use Rattle.table_model.specs.Visible.{Rules, TableRow, cascade_refs, is_deleted, is_visible, refs, rules_with, same_row};
 ghost use Rattle.schema.specs.Columns.{is_restrict};
 ghost use Rattle.validity.specs.Answers.{AreAnswers};
 ghost use Rattle.tuple_state.specs.Past.{IsNextVerdict, IsPastOf, StandsAt, done_then, effects_before};
 ghost use Rattle.tuple_state.specs.Absence.{causes_of};
 ghost use Rattle.tuple_state.specs.Kept.{are_layered, is_named, place_of};
 ghost use Rattle.tuple_state.specs.Parents.{columns_at, is_held, passes_place};
-ghost use Rattle.tuple_state.specs.State.{IsCut, IsStateOf, after, done_in, row_of, rules_of, voided_at};
+ghost use Rattle.tuple_state.specs.State.{IsCut, IsStateOf, after, done_in, row_of, rules_of_state, voided_at};
 ghost use Rattle.tuple_state.specs.declared.inserted.Inserted.{Inserted as Row};
 
 use crate::causes::{add_causes, clear, count_numbers, count_places, room_for};
@@ -35,8 +37,8 @@ use schema::{Column, ColumnList, Schema};
 use std::alloc::{AllocError, Global};
 use std::collections::{BTreeMap, BTreeSet};
 use std::marker::Model;
-use table_model::{ShownRowList, Verdict, VoidLine, VoidList, sort_lines, sort_rows};
-use update_model::{Ancestors, Node, RowName, RowsAt, Value};
+use table_model::{ShownRowList, Verdict, VoidLine, VoidList, sort_lines};
+use update_model::{Ancestors, MAX_MEMBERS, Node, RowName, RowsAt, Value};
 
 /// What valid updates did, and which rows are visible for it. A contract sees the [state](mod@crate) of the definitions.
 #[derive(Debug, Drop)]
@@ -49,7 +51,8 @@ pub struct Tables {
     count: u32,
     /// The rows in order of arrival.
     rows: Vec<Inserted>,
-    /// Each row's place among these by its name. An ordered map, since strangers choose the names.
+    /// Each row's place among these by its name. An ordered map, since strangers choose the names, and since tables list rows
+    /// in rising order of names.
     places: BTreeMap<RowName, usize>,
     /// Of each row the number of its causes of absence: the updates that delete it, and its `CASCADE` columns that name an
     /// absent row. A row is visible where it is 0.
@@ -79,7 +82,7 @@ impl Model for Tables {
 impl Tables {
     /// Tables of this schema with no row. It gives up where memory runs out.
     pub fn new(alloc: Global, schema: &Schema) -> Result<Tables, AllocError>
-        ensures { IfOk result (λ tables. (ask : ℕ → List Cell → Bool) → IsStateOf (record { tables = schema.now.tables; ask = ask }) [] tables) }
+        ensures { IfOk result (λ tables. (ask : ℕ → List Cell → Bool) → IsStateOf (rules_with ask schema.now.tables) [] tables) }
     {
         Ok(Tables {
             alloc,
@@ -118,11 +121,19 @@ impl Tables {
         self.places.get(name).copied()
     }
 
+    /// The place of each row among the rows in order of arrival, by its name.
+    pub(crate) fn places_by_name(&self) -> &BTreeMap<RowName, usize>
+        ensures placed { (name : Name) → get name_cmp result.now name ≡ place_of self.now.inserted name }
+        ensures layered { are_layered (rules_of_state self.now) (done_in self.now).inserted ≡ true }
+    {
+        &self.places
+    }
+
     /// The row at a place.
     pub(crate) fn row(&self, place: usize) -> &Inserted
         requires { place < length self.now.inserted }
         ensures row { slice_get self.now.inserted place ≡ Some result.now }
-        ensures layered { are_layered (rules_of self.now) (done_in self.now).inserted ≡ true }
+        ensures layered { are_layered (rules_of_state self.now) (done_in self.now).inserted ≡ true }
     {
         &self.rows[place]
     }
@@ -130,7 +141,7 @@ impl Tables {
     /// Whether the row at a place is visible now.
     pub(crate) fn is_marked(&self, place: usize) -> bool
         requires { place < length self.now.inserted }
-        ensures { (it : Row) → slice_get self.now.inserted place ≡ Some it → result ≡ is_visible (rules_of self.now) (done_in self.now) it.name }
+        ensures { (it : Row) → slice_get self.now.inserted place ≡ Some it → result ≡ is_visible (rules_of_state self.now) (done_in self.now) it.name }
     {
         self.causes[place] == 0
     }
@@ -159,7 +170,7 @@ impl Tables {
     ) -> Result<(), AllocError>
         requires { place < length self.now.inserted }
         ensures { OnOk result ((it : Row) → slice_get self.now.inserted place ≡ Some it → (test : ℕ → Bool) → list_all test pending.new.keys
-            ≡ (list_all test pending.old.keys && list_all (λ r. passes_place test (place_of self.now.inserted r.name)) (cascade_refs (rules_of self.now) (row_of it)))) }
+            ≡ (list_all test pending.old.keys && list_all (λ r. passes_place test (place_of self.now.inserted r.name)) (cascade_refs (rules_of_state self.now) (row_of it)))) }
     {
         let entry = &self.rows[place].entry;
         match self.columns.get(usize::from(entry.table)) {
@@ -177,7 +188,7 @@ impl Tables {
     /// than 256 operations, and no more than 131,072 updates are applied.
     pub fn row_len(&self) -> usize
         ensures len { result ≡ length self.now.inserted }
-        ensures few { result ≤ 256 * 131072 }
+        ensures few { result ≤ 256 * MAX_MEMBERS }
     {
         self.rows.as_slice().len()
     }
@@ -193,7 +204,7 @@ impl Tables {
     pub(crate) fn restricts(&self, place: usize, name: &RowName) -> bool
         requires { place < length self.now.inserted }
         ensures { (it : Row) → slice_get self.now.inserted place ≡ Some it
-            → result ≡ list_any (λ r. is_restrict r.action && same_row r.name name.now) (refs (rules_of self.now) (row_of it)) }
+            → result ≡ list_any (λ r. is_restrict r.action && same_row r.name name.now) (refs (rules_of_state self.now) (row_of it)) }
     {
         let entry = &self.rows[place].entry;
         match self.columns.get(usize::from(entry.table)) {
@@ -225,6 +236,7 @@ impl Tables {
         requires next { IsNextVerdict self.old node Valid }
         ensures { MatchResult result (λ _. self.new ≡ after self.old node Valid) (λ _. self.new ≡ self.old) }
     {
+        // the type of a node's operations says that they are few, once they are read
         let _ops = &node.ops;
         let mut dropped = dropped_by(self.alloc, self.count, &node)?;
         let mut inserted = inserted_by(self.alloc, self.count, node)?;
@@ -297,7 +309,7 @@ impl Tables {
 
     /// Keeps the line of a void update.
     fn keep_void(&mut self, line: VoidLine) -> Result<(), AllocError>
-        requires few { self.old.count < 131072 }
+        requires few { self.old.count < MAX_MEMBERS }
         ensures { MatchResult result (λ _. self.new ≡ record self.old { count = self.old.count + 1; voids = self.old.voids ++ voided_at self.old.count line ∷ [] }) (λ _. self.new ≡ self.old) }
     {
         self.voids.push(Voided {
@@ -322,6 +334,13 @@ impl Tables {
         self.is_shown(row)
     }
 
+    /// Whether a valid update inserted a row with this name, which may be hidden. It takes no memory, and logarithmic time.
+    pub fn has_inserted(&self, row: &RowName) -> bool
+        ensures { result ≡ is_named (done_in self.now).inserted row.now }
+    {
+        self.place(row).is_some()
+    }
+
     /// The number of causes for which a row is absent that a valid update inserted: of the valid updates that delete it, and
     /// of its `CASCADE` columns that name a row which is not visible. It takes no memory, and logarithmic time.
     pub fn causes(&self, row: &RowName) -> &u32
@@ -336,7 +355,7 @@ impl Tables {
 
     /// The same answer, told of what the tables hold.
     pub(crate) fn is_shown(&self, row: &RowName) -> bool
-        ensures { result ≡ is_visible (rules_of self.now) (done_in self.now) row.now }
+        ensures { result ≡ is_visible (rules_of_state self.now) (done_in self.now) row.now }
     {
         match self.places.get(row) {
             Some(place) => self.causes[*place] == 0,
@@ -359,7 +378,7 @@ impl Tables {
         ensures { IfOk result (λ rows. (rules : Rules) (nodes : List NodeData) → IsStateOf rules nodes self.now → AreRowsIn rules nodes table rows) }
     {
         let lines = listed_rows(alloc, self, table)?;
-        Ok(ShownRowList::from_vec(sort_rows(lines)))
+        Ok(ShownRowList::from_vec(lines))
     }
 
     /// The updates that do nothing, in rising order of ids, each with its reason.

@@ -4,7 +4,7 @@ use Rattle.std.proofs.lemmas.Option.{slice_get_past, slice_get_read}
 use Rattle.update_model.specs.declared.value.Value.{Value}
 use Rattle.update_model.specs.declared.value.Value.TheVariants.{Null}
 use Rattle.table_model.specs.Visible.{is_visible}
-use Rattle.tuple_state.specs.State.{done_in, rules_of}
+use Rattle.tuple_state.specs.State.{done_in, rules_of_state}
 use Rattle.tuple_state.proofs.Lending.{shown_nowhere, shown_past, shown_there}
 use Rattle.tuple_state.proofs.lent.shown_in.Goals as goal
 
@@ -20,7 +20,7 @@ returns-in-Some-get c =
     let k = c.in-Some-get.ensures.lookup in
     let of : slice_get values n ≡ Some value = slice_get_read values (length values) n value refl v.3.0 v.1 in
     let at : slice_get columns n ≡ Some column = slice_get_read columns (length columns) n column refl k.3.0 k.1 in
-    c.shown_at.ensures ∙ sym (ap (λ (found : Option Value). unwrap_or found Null) (shown_there (is_visible (rules_of s) (done_in s)) columns values n column value at of))
+    c.shown_at.ensures ∙ sym (ap (λ (found : Option Value). unwrap_or found Null) (shown_there (is_visible (rules_of_state s) (done_in s)) columns values n column value at of))
 
 pub returns-in-None-get : goal.returns-in-None-get
 returns-in-None-get c =
@@ -33,7 +33,7 @@ returns-in-None-get c =
     let lookup = c.in-None-get.ensures.lookup in
     let of : slice_get values n ≡ Some value = slice_get_read values (length values) n value refl v.3.0 v.1 in
     let lacks : slice_get columns n ≡ None = slice_get_past columns n (omega (arith, lookup.3)) in
-    sym (ap (λ (found : Option Value). unwrap_or found Null) (shown_past (is_visible (rules_of s) (done_in s)) columns values n value lacks of))
+    sym (ap (λ (found : Option Value). unwrap_or found Null) (shown_past (is_visible (rules_of_state s) (done_in s)) columns values n value lacks of))
 
 pub returns-in-None : goal.returns-in-None
 returns-in-None c =
@@ -41,4 +41,4 @@ returns-in-None c =
     let values = c.args.values.now in
     let lookup = c.in-None.ensures.lookup in
     let lacks : slice_get values c.args.number ≡ None = slice_get_past values c.args.number (omega (arith, lookup.3)) in
-    sym (ap (λ (found : Option Value). unwrap_or found Null) (shown_nowhere (is_visible (rules_of s) (done_in s)) c.args.columns.now values c.args.number lacks))
+    sym (ap (λ (found : Option Value). unwrap_or found Null) (shown_nowhere (is_visible (rules_of_state s) (done_in s)) c.args.columns.now values c.args.number lacks))

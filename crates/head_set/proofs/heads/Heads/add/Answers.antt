@@ -1,4 +1,5 @@
 use Rattle.std.proofs.Common.{◌<◌, ◌+◌, length, sym, ap, subst, ◌∙◌}
+use Rattle.update_model.specs.declared.limits.TheConstants.{MAX_MEMBERS}
 use Rattle.head_set.specs.Spans.{states}
 use Rattle.head_set.proofs.HeadSteps.{keeps_heads}
 use Rattle.head_set.proofs.Keeping.{ended_fits, kept_more, mid_few, mid_is_before, more_exact, more_states}
@@ -26,7 +27,7 @@ invariant_of-self-2 c =
     kept_more c.self.inside.spans.entries c.insert.new.self.entries c.self.inside.added c.self.inside.count c.args.id c.self.invariant
     (rw c.self.view_is c.requires.new) c.in_ok-insert.ensures.entries c.end_all-ended.new.spans.entries c.end_all-ended.result c.args.preds.now
     c.end_all-ended.ensures.earlier c.end_all-ended.ensures.exact c.end_all-ended.ensures.count c.end_all-ended.ensures.before c.end_all-ended.ensures.rising
-    (subst (λ n. n < 131072) (ap length (sym c.self.view_is) ∙ states_long c.self.inside.spans.entries c.self.inside.added) c.requires.room)
+    (subst (λ n. n < MAX_MEMBERS) (ap length (sym c.self.view_is) ∙ states_long c.self.inside.spans.entries c.self.inside.added) c.requires.room)
 
 pub returns-clause-states : goal.returns-clause-states
 returns-clause-states c =

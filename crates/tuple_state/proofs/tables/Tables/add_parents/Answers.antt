@@ -7,7 +7,7 @@ use Rattle.table_model.specs.Tables.{name_cmp}
 use Rattle.table_model.specs.Visible.{cascade_refs}
 use Rattle.tuple_state.specs.Kept.{place_of}
 use Rattle.tuple_state.specs.Parents.{all_parents, passes_place}
-use Rattle.tuple_state.specs.State.{State, row_of, rules_of}
+use Rattle.tuple_state.specs.State.{State, row_of, rules_of_state}
 use Rattle.tuple_state.proofs.Dropping.{on_ok, parents_conv, same_found, columns_found, no_parents}
 use Rattle.tuple_state.proofs.Marking.{columns_past}
 use Rattle.tuple_state.proofs.Regrowth.{and_true}
@@ -24,7 +24,7 @@ returns-in-Some c =
     ∙ (λ i. list_all test c.args.pending.now.keys && (all_parents (λ name. passes_place test (get name_cmp c.self.inside.places name)) (c.as_slice.ensures i) (c.as_slice-in-Some.ensures i)))
     ∙ ap (λ b. list_all test c.args.pending.now.keys && b)
     (parents_conv c.self.inside.columns.items rows (get name_cmp c.self.inside.places) it c.index.result.now c.in-Some.columns.now test c.self.invariant.placed row list
-    ∙ ap (λ (s : State). list_all (λ r. passes_place test (place_of s.inserted r.name)) (cascade_refs (rules_of s) (row_of it))) c.self.view_is)) c.add_parents.ensures
+    ∙ ap (λ (s : State). list_all (λ r. passes_place test (place_of s.inserted r.name)) (cascade_refs (rules_of_state s) (row_of it))) c.self.view_is)) c.add_parents.ensures
 
 pub returns-in-None : goal.returns-in-None
 returns-in-None c it at test =
@@ -37,4 +37,4 @@ returns-in-None c it at test =
     ∙ ap (λ b. list_all test c.args.pending.now.keys && b)
     (no_parents (λ name. passes_place test (get name_cmp c.self.inside.places name)) c.index.result.now.entry.values
     ∙ parents_conv c.self.inside.columns.items rows (get name_cmp c.self.inside.places) it c.index.result.now [] test c.self.invariant.placed row none
-    ∙ ap (λ (s : State). list_all (λ r. passes_place test (place_of s.inserted r.name)) (cascade_refs (rules_of s) (row_of it))) c.self.view_is)
+    ∙ ap (λ (s : State). list_all (λ r. passes_place test (place_of s.inserted r.name)) (cascade_refs (rules_of_state s) (row_of it))) c.self.view_is)

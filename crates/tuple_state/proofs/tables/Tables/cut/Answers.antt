@@ -6,7 +6,7 @@ use Rattle.table_model.specs.Visible.{Rules}
 use Rattle.tuple_state.specs.Causes.{AreRising, absent_times}
 use Rattle.tuple_state.specs.Kept.{IsKept, are_layered, place_of}
 use Rattle.tuple_state.specs.Links.{Linked, is_of}
-use Rattle.tuple_state.specs.State.{IsStateOf, State, row_of, rules_of, state_of}
+use Rattle.tuple_state.specs.State.{IsStateOf, State, row_of, rules_of_state, state_of}
 use Rattle.tuple_state.specs.declared.dropped.Dropped.{Dropped}
 use Rattle.tuple_state.specs.declared.inserted.Inserted.{Inserted}
 use Rattle.tuple_state.specs.declared.links.Link.{Link}
@@ -25,8 +25,8 @@ remove_places-requires-clause-fresh c =
     let rows_is = c.rows_before-rows.ensures ∙ ap (count_by (λ (x : Inserted). nat_lt x.position c.args.len)) c.as_slice.ensures.value in
     let few = rows_few it.rules it.newer it.older state c.args.len held it.at c.rows_before-rows.result rows_is in
     rw (c.as_slice-4.ensures.value, c.as_slice-5.ensures.value)
-    (fresh_layered (rules_of state) (take c.rows_before-rows.result inside.rows.items) _
-    (subst (λ (l : List Inserted). are_layered (rules_of state) (reverse (map row_of l)) ≡ true) (sym (parts_back c.rows_before-rows.result inside.rows.items few)) c.self.invariant.layered))
+    (fresh_layered (rules_of_state state) (take c.rows_before-rows.result inside.rows.items) _
+    (subst (λ (l : List Inserted). are_layered (rules_of_state state) (reverse (map row_of l)) ≡ true) (sym (parts_back c.rows_before-rows.result inside.rows.items few)) c.self.invariant.layered))
 
 pub remove_places-requires-clause-placed : goal.remove_places-requires-clause-placed
 remove_places-requires-clause-placed c name =

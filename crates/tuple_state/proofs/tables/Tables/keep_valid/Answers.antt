@@ -7,7 +7,7 @@ use Rattle.table_model.specs.declared.verdict.Verdict.TheVariants as verdict
 use Rattle.update_model.specs.Node.{IsNode, NodeData}
 use Rattle.tuple_state.specs.Past.{IsNextVerdict}
 use Rattle.tuple_state.specs.declared.dropped.Dropped.{Dropped}
-use Rattle.tuple_state.specs.State.{State, dropped_at, inserted_at, rules_of, rules_with}
+use Rattle.tuple_state.specs.State.{State, dropped_at, inserted_at, rules_of_state, rules_over_columns}
 use Rattle.std.specs.BTreeMap.{get}
 use Rattle.table_model.specs.Tables.{name_cmp}
 use Rattle.tuple_state.specs.Causes.{AreRising, absent_times, parents_from}
@@ -63,10 +63,10 @@ grow_links-grown-requires-clause-named c =
     let news = map (inserted_at inside.count) (reverse (effects_of c.args.node).inserted) in
     let first : c.len-first.result ≡ length inside.rows.items = omega (arith, c.len-first.ensures) in
     let placed = rw (c.as_slice-2.ensures.value, c.make_room.ensures.rows, c.as_slice-3.ensures.value, c.in_ok-inserted.ensures) at c.in_ok-add_places.ensures.ok in
-    let parents_are : c.in_ok-parents.parents.items ≡ parents_from (rules_of state) (length inside.rows.items) news =
-    c.in_ok-parents.ensures ∙ (λ i. parents_from (rules_with (c.as_slice-columns.ensures.value i)) (first i) ((c.as_slice.ensures.value ∙ c.in_ok-inserted.ensures) i)) in
+    let parents_are : c.in_ok-parents.parents.items ≡ parents_from (rules_of_state state) (length inside.rows.items) news =
+    c.in_ok-parents.ensures ∙ (λ i. parents_from (rules_over_columns (c.as_slice-columns.ensures.value i)) (first i) ((c.as_slice.ensures.value ∙ c.in_ok-inserted.ensures) i)) in
     rw (c.as_slice-4.ensures.value, parents_are)
-    (all_same placed (parents_from (rules_of state) (length inside.rows.items) news) ∙ parents_found state c.args.node inside.places inside.causes.items inside.children inside.deleters c.self.invariant next)
+    (all_same placed (parents_from (rules_of_state state) (length inside.rows.items) news) ∙ parents_found state c.args.node inside.places inside.causes.items inside.children inside.deleters c.self.invariant next)
 
 pub grow_links-grown-requires-clause-found : goal.grow_links-grown-requires-clause-found
 grow_links-grown-requires-clause-found c =
@@ -99,11 +99,11 @@ add_causes-requires-clause-rising c =
     let news = map (inserted_at inside.count) (reverse (effects_of c.args.node).inserted) in
     let first : c.len-first.result ≡ length inside.rows.items = omega (arith, c.len-first.ensures) in
     let placed = rw (c.as_slice-2.ensures.value, c.make_room.ensures.rows, c.as_slice-3.ensures.value, c.in_ok-inserted.ensures) at c.in_ok-add_places.ensures.ok in
-    let parents_are : c.in_ok-parents.parents.items ≡ parents_from (rules_of state) (length inside.rows.items) news =
-    c.in_ok-parents.ensures ∙ (λ i. parents_from (rules_with (c.as_slice-columns.ensures.value i)) (first i) ((c.as_slice.ensures.value ∙ c.in_ok-inserted.ensures) i)) in
+    let parents_are : c.in_ok-parents.parents.items ≡ parents_from (rules_of_state state) (length inside.rows.items) news =
+    c.in_ok-parents.ensures ∙ (λ i. parents_from (rules_over_columns (c.as_slice-columns.ensures.value i)) (first i) ((c.as_slice.ensures.value ∙ c.in_ok-inserted.ensures) i)) in
     let refs = c.in-Ok.added.parents.items in
-    let refs_are : pairs_of refs ≡ deletes_at (place_of (inside.rows.items ++ news)) (parents_from (rules_of state) (length inside.rows.items) news) =
-    c.in-Ok.ensures.parents ∙ ap (deletes_at (get name_cmp c.add_places.new.places)) (c.as_slice-4.ensures.value ∙ parents_are) ∙ pairs_same placed (parents_from (rules_of state) (length inside.rows.items) news) in
+    let refs_are : pairs_of refs ≡ deletes_at (place_of (inside.rows.items ++ news)) (parents_from (rules_of_state state) (length inside.rows.items) news) =
+    c.in-Ok.ensures.parents ∙ ap (deletes_at (get name_cmp c.add_places.new.places)) (c.as_slice-4.ensures.value ∙ parents_are) ∙ pairs_same placed (parents_from (rules_of_state state) (length inside.rows.items) news) in
     let news_len : length c.in_ok-inserted.inserted.items ≡ length news = ap length c.in_ok-inserted.ensures in
     let room_len = ap length c.make_room.ensures.causes in
     let marks = rw (c.unwrap.ensures, c.make_room.ensures.causes) at c.resize.ensures.items in
@@ -125,11 +125,11 @@ add_causes-requires-clause-parents c =
     let news = map (inserted_at inside.count) (reverse (effects_of c.args.node).inserted) in
     let first : c.len-first.result ≡ length inside.rows.items = omega (arith, c.len-first.ensures) in
     let placed = rw (c.as_slice-2.ensures.value, c.make_room.ensures.rows, c.as_slice-3.ensures.value, c.in_ok-inserted.ensures) at c.in_ok-add_places.ensures.ok in
-    let parents_are : c.in_ok-parents.parents.items ≡ parents_from (rules_of state) (length inside.rows.items) news =
-    c.in_ok-parents.ensures ∙ (λ i. parents_from (rules_with (c.as_slice-columns.ensures.value i)) (first i) ((c.as_slice.ensures.value ∙ c.in_ok-inserted.ensures) i)) in
+    let parents_are : c.in_ok-parents.parents.items ≡ parents_from (rules_of_state state) (length inside.rows.items) news =
+    c.in_ok-parents.ensures ∙ (λ i. parents_from (rules_over_columns (c.as_slice-columns.ensures.value i)) (first i) ((c.as_slice.ensures.value ∙ c.in_ok-inserted.ensures) i)) in
     let refs = c.in-Ok.added.parents.items in
-    let refs_are : pairs_of refs ≡ deletes_at (place_of (inside.rows.items ++ news)) (parents_from (rules_of state) (length inside.rows.items) news) =
-    c.in-Ok.ensures.parents ∙ ap (deletes_at (get name_cmp c.add_places.new.places)) (c.as_slice-4.ensures.value ∙ parents_are) ∙ pairs_same placed (parents_from (rules_of state) (length inside.rows.items) news) in
+    let refs_are : pairs_of refs ≡ deletes_at (place_of (inside.rows.items ++ news)) (parents_from (rules_of_state state) (length inside.rows.items) news) =
+    c.in-Ok.ensures.parents ∙ ap (deletes_at (get name_cmp c.add_places.new.places)) (c.as_slice-4.ensures.value ∙ parents_are) ∙ pairs_same placed (parents_from (rules_of_state state) (length inside.rows.items) news) in
     let news_len : length c.in_ok-inserted.inserted.items ≡ length news = ap length c.in_ok-inserted.ensures in
     let room_len = ap length c.make_room.ensures.causes in
     let marks = rw (c.unwrap.ensures, c.make_room.ensures.causes) at c.resize.ensures.items in
@@ -256,11 +256,11 @@ invariant_of-self-2 c =
     let small = subst (λ (n : NodeData). IsNode n) c.node.view_is c.node.invariant in
     let first : c.len-first.result ≡ length inside.rows.items = omega (arith, c.len-first.ensures) in
     let placed = rw (c.as_slice-2.ensures.value, c.make_room.ensures.rows, c.as_slice-3.ensures.value, c.in_ok-inserted.ensures) at c.in_ok-add_places.ensures.ok in
-    let parents_are : c.in_ok-parents.parents.items ≡ parents_from (rules_of state) (length inside.rows.items) news =
-    c.in_ok-parents.ensures ∙ (λ i. parents_from (rules_with (c.as_slice-columns.ensures.value i)) (first i) ((c.as_slice.ensures.value ∙ c.in_ok-inserted.ensures) i)) in
+    let parents_are : c.in_ok-parents.parents.items ≡ parents_from (rules_of_state state) (length inside.rows.items) news =
+    c.in_ok-parents.ensures ∙ (λ i. parents_from (rules_over_columns (c.as_slice-columns.ensures.value i)) (first i) ((c.as_slice.ensures.value ∙ c.in_ok-inserted.ensures) i)) in
     let refs = c.in-Ok.added.parents.items in
-    let refs_are : pairs_of refs ≡ deletes_at (place_of (inside.rows.items ++ news)) (parents_from (rules_of state) (length inside.rows.items) news) =
-    c.in-Ok.ensures.parents ∙ ap (deletes_at (get name_cmp c.add_places.new.places)) (c.as_slice-4.ensures.value ∙ parents_are) ∙ pairs_same placed (parents_from (rules_of state) (length inside.rows.items) news) in
+    let refs_are : pairs_of refs ≡ deletes_at (place_of (inside.rows.items ++ news)) (parents_from (rules_of_state state) (length inside.rows.items) news) =
+    c.in-Ok.ensures.parents ∙ ap (deletes_at (get name_cmp c.add_places.new.places)) (c.as_slice-4.ensures.value ∙ parents_are) ∙ pairs_same placed (parents_from (rules_of_state state) (length inside.rows.items) news) in
     let names = c.in-Ok.added.dropped.items in
     let drops = map (dropped_at inside.count) (reverse (effects_of c.args.node).deleted) in
     let names_are : pairs_of names ≡ deletes_at (place_of (inside.rows.items ++ news)) drops =

@@ -5,7 +5,7 @@ use Rattle.schema.specs.declared.column.Column.{Column}
 use Rattle.schema.specs.Columns.{is_restrict}
 use Rattle.table_model.specs.Visible.{refs, same_row}
 use Rattle.tuple_state.specs.Parents.{any_restricts}
-use Rattle.tuple_state.specs.State.{State, row_of, rules_of}
+use Rattle.tuple_state.specs.State.{State, row_of, rules_of_state}
 use Rattle.tuple_state.proofs.Dropping.{same_found, columns_found}
 use Rattle.tuple_state.proofs.Marking.{columns_past}
 use Rattle.tuple_state.proofs.Restricting.{no_restricts, restricts_row}
@@ -19,7 +19,7 @@ returns-in-Some c it at =
     let list = columns_found c.self.inside.columns.items c.deref.result.now c.from.result c.index.result.now.entry.table c.in-Some.columns.now c.deref.ensures.value c.from.ensures c.in-Some.ensures.lookup.3.0 c.in-Some.ensures.lookup.1 in
     c.restricts.ensures ∙ (λ i. any_restricts c.args.name.now (c.as_slice.ensures i) (c.as_slice-in-Some.ensures i))
     ∙ restricts_row c.self.inside.columns.items c.args.name.now c.index.result.now it c.in-Some.columns.now row list
-    ∙ ap (λ (s : State). list_any (λ r. is_restrict r.action && same_row r.name c.args.name.now) (refs (rules_of s) (row_of it))) c.self.view_is
+    ∙ ap (λ (s : State). list_any (λ r. is_restrict r.action && same_row r.name c.args.name.now) (refs (rules_of_state s) (row_of it))) c.self.view_is
 
 pub returns-in-None : goal.returns-in-None
 returns-in-None c it at =
@@ -30,4 +30,4 @@ returns-in-None c it at =
     let none = columns_past c.self.inside.columns.items c.index.result.now.entry.table (subst (λ n. length c.self.inside.columns.items ≤ n) c.from.ensures past) in
     no_restricts c.args.name.now c.index.result.now.entry.values
     ∙ restricts_row c.self.inside.columns.items c.args.name.now c.index.result.now it [] row none
-    ∙ ap (λ (s : State). list_any (λ r. is_restrict r.action && same_row r.name c.args.name.now) (refs (rules_of s) (row_of it))) c.self.view_is
+    ∙ ap (λ (s : State). list_any (λ r. is_restrict r.action && same_row r.name c.args.name.now) (refs (rules_of_state s) (row_of it))) c.self.view_is
