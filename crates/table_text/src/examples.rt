@@ -1,4 +1,5 @@
-ghost use Rattle.std.specs.Prelude.{◌≡◌, ◌++◌, OnOk};
+ghost use Rattle.std.specs.Prelude.{◌≡◌, ◌++◌, OnOk, OnErr};
+ghost use mathlib.Core.List.{IsPrefix};
 ghost use Rattle.table_text.specs.Examples.{step_text, node_text, side_text, example_text};
 
 use crate::NameStyle;
@@ -17,7 +18,8 @@ pub fn push_counterexample(
     schema: &Schema,
     example: &Counterexample,
 ) -> Result<(), AllocError>
-    ensures { OnOk result (out.new.items ≡ out.old.items ++ example_text schema.now.tables example.now) }
+    ensures added { OnOk result (out.new.items ≡ out.old.items ++ example_text schema.now.tables example.now) }
+    ensures kept { OnErr result (IsPrefix out.old.items out.new.items) }
 {
     push_side(out, schema, b"BASE", example.base.as_slice())?;
     push_side(out, schema, b"A", example.left.as_slice())?;
@@ -31,7 +33,8 @@ fn push_side(
     side: &[u8],
     nodes: &[Node],
 ) -> Result<(), AllocError>
-    ensures { OnOk result (out.new.items ≡ out.old.items ++ side_text schema.now.tables side.now nodes.now) }
+    ensures added { OnOk result (out.new.items ≡ out.old.items ++ side_text schema.now.tables side.now nodes.now) }
+    ensures kept { OnErr result (IsPrefix out.old.items out.new.items) }
 {
     for node in nodes {
         push_node(out, schema, side, node)?;
@@ -41,7 +44,8 @@ fn push_side(
 
 /// Adds the lines of a node.
 fn push_node(out: &mut Vec<u8>, schema: &Schema, side: &[u8], node: &Node) -> Result<(), AllocError>
-    ensures { OnOk result (out.new.items ≡ out.old.items ++ node_text schema.now.tables side.now node.now) }
+    ensures added { OnOk result (out.new.items ≡ out.old.items ++ node_text schema.now.tables side.now node.now) }
+    ensures kept { OnErr result (IsPrefix out.old.items out.new.items) }
 {
     for operation in node.ops.as_slice() {
         push_step(out, schema, side, &node.id, operation)?;
@@ -57,7 +61,8 @@ fn push_step(
     id: &UpdateId,
     operation: &Op,
 ) -> Result<(), AllocError>
-    ensures { OnOk result (out.new.items ≡ out.old.items ++ step_text schema.now.tables side.now id.now operation.now) }
+    ensures added { OnOk result (out.new.items ≡ out.old.items ++ step_text schema.now.tables side.now id.now operation.now) }
+    ensures kept { OnErr result (IsPrefix out.old.items out.new.items) }
 {
     out.extend_from_slice(side)?;
     out.push(b' ')?;

@@ -1,4 +1,5 @@
-ghost use Rattle.std.specs.Prelude.{◌≡◌, ◌++◌, OnOk};
+ghost use Rattle.std.specs.Prelude.{◌≡◌, ◌++◌, OnOk, OnErr};
+ghost use mathlib.Core.List.{IsPrefix};
 ghost use Rattle.table_text.specs.Names.{id_text, number_of, update_text, name_text};
 
 use crate::NameStyle;
@@ -8,7 +9,8 @@ use update_model::{RowName, UpdateId};
 
 /// Adds the id of an update at the end, in 64 lower-case hexadecimal digits.
 pub(crate) fn push_id(out: &mut Vec<u8>, id: &UpdateId) -> Result<(), AllocError>
-    ensures { OnOk result (out.new.items ≡ out.old.items ++ id_text id.now) }
+    ensures added { OnOk result (out.new.items ≡ out.old.items ++ id_text id.now) }
+    ensures kept { OnErr result (IsPrefix out.old.items out.new.items) }
 {
     let mut digits = [0u8; 64];
     let _ = hex::encode_to_slice(id.0, &mut digits);
@@ -17,7 +19,8 @@ pub(crate) fn push_id(out: &mut Vec<u8>, id: &UpdateId) -> Result<(), AllocError
 
 /// Adds the name of a row at the end: its update, `:`, and the number of the operation in decimal.
 pub fn push_row_name(out: &mut Vec<u8>, style: NameStyle, name: &RowName) -> Result<(), AllocError>
-    ensures { OnOk result (out.new.items ≡ out.old.items ++ name_text style name.now) }
+    ensures added { OnOk result (out.new.items ≡ out.old.items ++ name_text style name.now) }
+    ensures kept { OnErr result (IsPrefix out.old.items out.new.items) }
 {
     push_update(out, style, &name.update)?;
     out.push(b':')?;
@@ -33,7 +36,8 @@ pub(crate) fn number_of(id: &UpdateId) -> u32
 
 /// Adds what stands for an update in the name of a row.
 fn push_update(out: &mut Vec<u8>, style: NameStyle, id: &UpdateId) -> Result<(), AllocError>
-    ensures { OnOk result (out.new.items ≡ out.old.items ++ update_text style id.now) }
+    ensures added { OnOk result (out.new.items ≡ out.old.items ++ update_text style id.now) }
+    ensures kept { OnErr result (IsPrefix out.old.items out.new.items) }
 {
     match style {
         NameStyle::Full => push_id(out, id),

@@ -1,4 +1,5 @@
-ghost use Rattle.std.specs.Prelude.{◌≡◌, ◌++◌, OnOk, codes};
+ghost use Rattle.std.specs.Prelude.{◌≡◌, ◌++◌, OnOk, OnErr, codes};
+ghost use mathlib.Core.List.{IsPrefix};
 ghost use Rattle.table_text.specs.Operations.{table_word, operation_text};
 ghost use Rattle.table_text.specs.Values.{values_text};
 
@@ -18,7 +19,8 @@ pub fn push_operation(
     style: NameStyle,
     operation: &Op,
 ) -> Result<(), AllocError>
-    ensures { OnOk result (out.new.items ≡ out.old.items ++ operation_text schema.now.tables style operation.now) }
+    ensures added { OnOk result (out.new.items ≡ out.old.items ++ operation_text schema.now.tables style operation.now) }
+    ensures kept { OnErr result (IsPrefix out.old.items out.new.items) }
 {
     match operation {
         Op::Insert { table, values } => {
@@ -39,7 +41,8 @@ fn push_insert(
     table: u8,
     values: &[Value],
 ) -> Result<(), AllocError>
-    ensures { OnOk result (out.new.items ≡ out.old.items ++ (codes "INSERT " ++ table_word schema.now.tables table ++ values_text style values.now)) }
+    ensures added { OnOk result (out.new.items ≡ out.old.items ++ (codes "INSERT " ++ table_word schema.now.tables table ++ values_text style values.now)) }
+    ensures kept { OnErr result (IsPrefix out.old.items out.new.items) }
 {
     out.extend_from_slice(b"INSERT ")?;
     push_table_word(out, schema, table)?;
@@ -48,7 +51,8 @@ fn push_insert(
 
 /// Adds the name of the table with this number, or the number where the schema has no such table.
 fn push_table_word(out: &mut Vec<u8>, schema: &Schema, number: u8) -> Result<(), AllocError>
-    ensures { OnOk result (out.new.items ≡ out.old.items ++ table_word schema.now.tables number) }
+    ensures added { OnOk result (out.new.items ≡ out.old.items ++ table_word schema.now.tables number) }
+    ensures kept { OnErr result (IsPrefix out.old.items out.new.items) }
 {
     if number < schema.tables() {
         out.extend_from_slice(schema.table(number).name.as_slice())

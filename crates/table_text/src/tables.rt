@@ -1,4 +1,5 @@
-ghost use Rattle.std.specs.Prelude.{◌≡◌, ◌++◌, ◌<◌, OnOk, length, slice_get};
+ghost use Rattle.std.specs.Prelude.{◌≡◌, ◌++◌, ◌<◌, OnOk, OnErr, length, slice_get};
+ghost use mathlib.Core.List.{IsPrefix};
 ghost use Rattle.std.specs.List.{flat_map};
 ghost use Rattle.table_text.specs.Tables.{row_text, table_text, void_text, pair_text, filled_text, tables_text};
 
@@ -18,7 +19,8 @@ pub fn push_tables(
     lists: &[ShownRowList],
     voids: &[VoidLine],
 ) -> Result<(), AllocError>
-    ensures { OnOk result (out.new.items ≡ out.old.items ++ tables_text schema.now.tables lists.now voids.now) }
+    ensures added { OnOk result (out.new.items ≡ out.old.items ++ tables_text schema.now.tables lists.now voids.now) }
+    ensures kept { OnErr result (IsPrefix out.old.items out.new.items) }
 {
     push_filled(out, schema, lists)?;
     for line in voids {
@@ -29,7 +31,8 @@ pub fn push_tables(
 
 /// Adds a table at the end: a line `TABLE` and its name, then for each row a line of its name and its values.
 pub fn push_table(out: &mut Vec<u8>, table: &TableDef, rows: &[ShownRow]) -> Result<(), AllocError>
-    ensures { OnOk result (out.new.items ≡ out.old.items ++ table_text table.now rows.now) }
+    ensures added { OnOk result (out.new.items ≡ out.old.items ++ table_text table.now rows.now) }
+    ensures kept { OnErr result (IsPrefix out.old.items out.new.items) }
 {
     out.extend_from_slice(b"TABLE ")?;
     out.extend_from_slice(table.name.as_slice())?;
@@ -39,7 +42,8 @@ pub fn push_table(out: &mut Vec<u8>, table: &TableDef, rows: &[ShownRow]) -> Res
 
 /// Adds the line of an update that does nothing at the end: `VOID`, its id, the reason, and the operation's number.
 pub fn push_void(out: &mut Vec<u8>, line: &VoidLine) -> Result<(), AllocError>
-    ensures { OnOk result (out.new.items ≡ out.old.items ++ void_text line.now) }
+    ensures added { OnOk result (out.new.items ≡ out.old.items ++ void_text line.now) }
+    ensures kept { OnErr result (IsPrefix out.old.items out.new.items) }
 {
     out.extend_from_slice(b"VOID ")?;
     push_id(out, &line.id)?;
@@ -53,7 +57,8 @@ pub fn push_void(out: &mut Vec<u8>, line: &VoidLine) -> Result<(), AllocError>
 
 /// Adds each table with its rows.
 fn push_filled(out: &mut Vec<u8>, schema: &Schema, lists: &[ShownRowList]) -> Result<(), AllocError>
-    ensures { OnOk result (out.new.items ≡ out.old.items ++ filled_text schema.now.tables lists.now) }
+    ensures added { OnOk result (out.new.items ≡ out.old.items ++ filled_text schema.now.tables lists.now) }
+    ensures kept { OnErr result (IsPrefix out.old.items out.new.items) }
 {
     for number in 0..schema.tables() {
         push_numbered(out, schema, number, lists)?;
@@ -69,7 +74,8 @@ fn push_numbered(
     lists: &[ShownRowList],
 ) -> Result<(), AllocError>
     requires { number < length schema.now.tables }
-    ensures { OnOk result (out.new.items ≡ out.old.items ++ pair_text (slice_get schema.now.tables number) (slice_get lists.now number)) }
+    ensures added { OnOk result (out.new.items ≡ out.old.items ++ pair_text (slice_get schema.now.tables number) (slice_get lists.now number)) }
+    ensures kept { OnErr result (IsPrefix out.old.items out.new.items) }
 {
     match lists.get(usize::from(number)) {
         Some(rows) => push_table(out, schema.table(number), rows.as_slice()),
@@ -79,7 +85,8 @@ fn push_numbered(
 
 /// Adds the lines of rows.
 fn push_rows(out: &mut Vec<u8>, rows: &[ShownRow]) -> Result<(), AllocError>
-    ensures { OnOk result (out.new.items ≡ out.old.items ++ flat_map row_text rows.now) }
+    ensures added { OnOk result (out.new.items ≡ out.old.items ++ flat_map row_text rows.now) }
+    ensures kept { OnErr result (IsPrefix out.old.items out.new.items) }
 {
     for row in rows {
         push_row(out, row)?;
@@ -89,7 +96,8 @@ fn push_rows(out: &mut Vec<u8>, rows: &[ShownRow]) -> Result<(), AllocError>
 
 /// Adds the line of a row.
 fn push_row(out: &mut Vec<u8>, row: &ShownRow) -> Result<(), AllocError>
-    ensures { OnOk result (out.new.items ≡ out.old.items ++ row_text row.now) }
+    ensures added { OnOk result (out.new.items ≡ out.old.items ++ row_text row.now) }
+    ensures kept { OnErr result (IsPrefix out.old.items out.new.items) }
 {
     push_row_name(out, NameStyle::Full, &row.name)?;
     push_values(out, NameStyle::Full, row.values.as_slice())?;

@@ -1,4 +1,5 @@
-ghost use Rattle.std.specs.Prelude.{◌≡◌, ◌+◌, ◌∷◌, ◌++◌, OnOk};
+ghost use Rattle.std.specs.Prelude.{◌≡◌, ◌+◌, ◌∷◌, ◌++◌, OnOk, OnErr};
+ghost use mathlib.Core.List.{IsPrefix};
 ghost use Rattle.std.specs.Fmt.{decimal};
 ghost use Rattle.table_text.specs.Values.{value_text, values_text};
 
@@ -13,7 +14,8 @@ use update_model::Value;
 /// or the name of a row. A reference to an earlier operation of the same update is `$` and that operation's number
 /// from 1.
 pub fn push_value(out: &mut Vec<u8>, style: NameStyle, value: &Value) -> Result<(), AllocError>
-    ensures { OnOk result (out.new.items ≡ out.old.items ++ value_text style value.now) }
+    ensures added { OnOk result (out.new.items ≡ out.old.items ++ value_text style value.now) }
+    ensures kept { OnErr result (IsPrefix out.old.items out.new.items) }
 {
     match value {
         Value::Null => out.extend_from_slice(b"NULL"),
@@ -32,7 +34,8 @@ pub(crate) fn push_values(
     style: NameStyle,
     values: &[Value],
 ) -> Result<(), AllocError>
-    ensures { OnOk result (out.new.items ≡ out.old.items ++ values_text style values.now) }
+    ensures added { OnOk result (out.new.items ≡ out.old.items ++ values_text style values.now) }
+    ensures kept { OnErr result (IsPrefix out.old.items out.new.items) }
 {
     for value in values {
         out.push(b' ')?;
@@ -43,7 +46,8 @@ pub(crate) fn push_values(
 
 /// Adds a reference to the operation with this number, which counts from 0, of the same update.
 fn push_own(out: &mut Vec<u8>, index: u16) -> Result<(), AllocError>
-    ensures { OnOk result (out.new.items ≡ out.old.items ++ 36 ∷ decimal (index + 1)) }
+    ensures added { OnOk result (out.new.items ≡ out.old.items ++ 36 ∷ decimal (index + 1)) }
+    ensures kept { OnErr result (IsPrefix out.old.items out.new.items) }
 {
     out.push(b'$')?;
     push_number(out, u32::from(index) + 1)

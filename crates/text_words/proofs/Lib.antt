@@ -6,3 +6,4 @@ pub mod Places
 pub mod Printed
 pub mod Texts
 pub mod WordsLemmas
+pub mod Kept

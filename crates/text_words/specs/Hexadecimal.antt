@@ -19,7 +19,7 @@ if_decoded (Err fault) = None
 abbrev pub block_of_hex : ℕ → List ℕ → Option (List ℕ)
 block_of_hex n digits = if list_all is_lower_digit digits then if_decoded (decode_sized digits n) else None
 
--- an integer that is a number below 65536
+-- an integer that is a number of 16 bits
 abbrev pub small_of : Option ℤ → Option ℕ
 small_of (Some (pos n)) = if nat_lt n (2 ^ 16) then Some n else None
 small_of (Some (negsuc n)) = None
@@ -32,7 +32,7 @@ both a b = option_and_then (λ x. option_map (λ y. (x, y)) b) a
 abbrev pub is_colon : ℕ → Bool
 is_colon byte = byte == 58
 
--- the number below 65536 that a word writes in decimal
+-- the number of 16 bits that a word writes in decimal
 abbrev pub index_of : List ℕ → Option ℕ
 index_of word = small_of (int_of word)
 

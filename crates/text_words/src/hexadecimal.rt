@@ -26,7 +26,7 @@ fn are_lower_digits(digits: &[u8]) -> bool
 }
 
 /// The name of a row that a word writes: the id of an update in 64 lower-case hexadecimal digits, `:`, and the number
-/// of an operation in decimal, without leading zeros and at most 65535.
+/// of an operation in decimal, without leading zeros and within 16 bits.
 pub fn row_name_of(word: &[u8]) -> Option<([u8; 32], u16)>
     ensures { result ≡ row_of word.now }
 {

@@ -1,6 +1,7 @@
 //! Values as they are printed, in the forms that are read.
 
-ghost use Rattle.std.specs.Prelude.{◌≡◌, ◌<◌, ◌++◌, OnOk};
+ghost use Rattle.std.specs.Prelude.{◌≡◌, ◌<◌, ◌++◌, OnOk, OnErr};
+ghost use mathlib.Core.List.{IsPrefix};
 ghost use Rattle.std.specs.Char.{digit_char};
 ghost use Rattle.text_words.specs.Printing.{escaped, quoted, literal_text};
 
@@ -9,7 +10,8 @@ use std::alloc::{AllocError, Global};
 
 /// Adds a value at the end, as it is read: `NULL`, `TRUE`, `FALSE`, an integer in decimal, or a text in quotes.
 pub fn push_literal(alloc: Global, out: &mut Vec<u8>, literal: &Literal) -> Result<(), AllocError>
-    ensures { OnOk result (out.new.items ≡ out.old.items ++ literal_text literal.now) }
+    ensures added { OnOk result (out.new.items ≡ out.old.items ++ literal_text literal.now) }
+    ensures kept { OnErr result (IsPrefix out.old.items out.new.items) }
 {
     match literal {
         Literal::Null => out.extend_from_slice(b"NULL"),
@@ -23,7 +25,8 @@ pub fn push_literal(alloc: Global, out: &mut Vec<u8>, literal: &Literal) -> Resu
 /// Adds a text in quotes at the end: `\"`, `\\`, `\n` and `\t` for these bytes, `\x` and two digits for other bytes
 /// below 20 and for 7f hexadecimal, and all else as it is.
 pub fn push_quoted(out: &mut Vec<u8>, text: &[u8]) -> Result<(), AllocError>
-    ensures { OnOk result (out.new.items ≡ out.old.items ++ quoted text.now) }
+    ensures added { OnOk result (out.new.items ≡ out.old.items ++ quoted text.now) }
+    ensures kept { OnErr result (IsPrefix out.old.items out.new.items) }
 {
     out.push(b'"')?;
     for byte in text {
@@ -35,7 +38,8 @@ pub fn push_quoted(out: &mut Vec<u8>, text: &[u8]) -> Result<(), AllocError>
 
 /// Adds one byte of a text.
 fn push_escaped(out: &mut Vec<u8>, byte: u8) -> Result<(), AllocError>
-    ensures { OnOk result (out.new.items ≡ out.old.items ++ escaped byte) }
+    ensures added { OnOk result (out.new.items ≡ out.old.items ++ escaped byte) }
+    ensures kept { OnErr result (IsPrefix out.old.items out.new.items) }
 {
     match byte {
         b'"' => out.extend_from_slice(b"\\\""),
