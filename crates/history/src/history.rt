@@ -229,7 +229,7 @@ impl<L: Relation, C: Checks<L>> History<L, C> {
         requires { len ≤ length self.old.members }
         ensures { self.new ≡ record { schema = self.old.schema; members = take len self.old.members } }
     {
-        self.graph.len();
+        self.graph.len(); // it is closed
         self.views.cut(len);
         self.graph.cut(len);
     }

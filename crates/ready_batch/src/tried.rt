@@ -40,7 +40,7 @@ pub fn try_member<M: Member + Drop>(
         return Ok(Tried::Lacks { member, id, found });
     }
     let id = member.id();
-    graph.len();
+    graph.len(); // it is closed
     match graph.add(member) {
         Ok(Added::New(_)) => Ok(Tried::Added(id)),
         Ok(Added::Known(_)) => Ok(Tried::Known),

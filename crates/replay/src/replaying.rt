@@ -100,7 +100,7 @@ fn take_verdict<L: Relation, C: Checks<L>>(
     )?;
     arrivals_are_closed();
     applied_is_next();
-    graph.len();
+    graph.len(); // it is closed
     match tables.apply(node, verdict) {
         Ok(()) => Ok(verdict),
         Err(full) => Err(full),
@@ -120,7 +120,7 @@ fn take_places(
     ensures same { OnErr result (ancestry.new ≡ ancestry.old) }
 {
     arrivals_are_closed();
-    graph.len();
+    graph.len(); // it is closed
     let places = places_of(alloc, graph, graph.at(position).preds())?;
     ancestry.add(places.as_slice())?;
     Ok(())
@@ -158,7 +158,7 @@ fn judge_next<L: Relation, C: Checks<L>>(
 {
     arrivals_are_closed();
     verdict_is_on_ancestors();
-    graph.len();
-    ancestry.len();
+    graph.len(); // it is closed
+    ancestry.len(); // predecessors stand earlier
     judge(alloc, schema, native, node, &tables.at(ancestry, position))
 }

@@ -90,7 +90,7 @@ pub fn sync_pair<A: Holder, B: Holder>(
 {
     no_cause();
     a.len(); // what every holder keeps
-    b.len();
+    b.len(); // the same
     let met = meet(alloc, a, b, start)?;
     let (mut session_a, mut session_b, mut out) = met;
     'rounds: while out.turn.is_some() {
@@ -120,7 +120,7 @@ fn meet<A: Holder, B: Holder>(
     ensures whole { B.is_whole b.old → IfOk result (λ met. IsUnrefused met.2 → B.is_whole b.new) }
 {
     a.len(); // what every holder keeps
-    b.len();
+    b.len(); // the same
     let PairStart {
         database_a,
         database_b,

@@ -48,7 +48,7 @@ impl Session {
         if self.is_over() {
             return Ok(Out::silent(alloc));
         }
-        holder.len();
+        holder.len(); // what every holder keeps
         match self.take(alloc, holder, frame) {
             Ok(out) => Ok(out),
             Err(fault) => {

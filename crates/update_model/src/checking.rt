@@ -34,7 +34,7 @@ fn is_op(number: usize, op: &Op) -> bool
 {
     match op {
         Op::Insert { table, values } => {
-            let _table = *table;
+            let _table = *table; // it is a byte
             let values = values.as_slice();
             1 <= values.len() && values.len() <= MAX_VALUES as usize && are_values(number, values)
         }
@@ -56,11 +56,11 @@ fn is_value(number: usize, value: &Value) -> bool
     match value {
         Value::Null | Value::Flag(_) => true,
         Value::Int(n) => {
-            let _n = *n;
+            let _n = *n; // it has 64 bits
             true
         }
         Value::Text(text) => {
-            let _bytes = text.as_slice();
+            let _bytes = text.as_slice(); // a text is in form
             true
         }
         Value::Row(row) => is_row_name(*row),
