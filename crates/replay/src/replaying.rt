@@ -2,6 +2,7 @@ ghost use Rattle.std.specs.Prelude.{◌≡◌, ◌+◌, ◌<◌, length, map, op
 ghost use Rattle.std.specs.List.{filter_map, list_all};
 ghost use Rattle.update_check.specs.Signed.{node_of};
 ghost use Rattle.table_model.specs.Verdicts.{is_unlimited, judge_next, judged};
+ghost use Rattle.table_model.specs.Visible.{rules_with};
 ghost use Rattle.tuple_state.specs.State.{IsStateOf};
 ghost use Rattle.replay.specs.Arrivals.{IsVerdictAt, nodes_before, place_in, places_before};
 
@@ -27,7 +28,7 @@ pub fn replay<L: Relation, C: Checks<L>>(
     graph: &Graph<Checked>,
 ) -> Result<Tables, AllocError>
     requires { IsTrue (list_all is_unlimited schema.now.tables) }
-    ensures { IfOk result (λ tables. IsStateOf (record { tables = schema.now.tables; ask = L.answer }) (reverse (map node_of graph.now)) tables) }
+    ensures { IfOk result (λ tables. IsStateOf (rules_with L.answer schema.now.tables) (reverse (map node_of graph.now)) tables) }
 {
     let mut tables = Tables::new(alloc, schema)?;
     let mut ancestry = Ancestry::new(alloc);
@@ -58,11 +59,11 @@ pub fn take_next<L: Relation, C: Checks<L>>(
 ) -> Result<Verdict, AllocError>
     requires unlimited { IsTrue (list_all is_unlimited schema.now.tables) }
     requires low { position < length graph.now }
-    requires state { IsStateOf (record { tables = schema.now.tables; ask = L.answer }) (nodes_before graph.now position) tables.old }
+    requires state { IsStateOf (rules_with L.answer schema.now.tables) (nodes_before graph.now position) tables.old }
     requires places { ancestry.old ≡ places_before graph.now position }
-    ensures state { OnOk result (IsStateOf (record { tables = schema.now.tables; ask = L.answer }) (nodes_before graph.now (position + 1)) tables.new) }
+    ensures state { OnOk result (IsStateOf (rules_with L.answer schema.now.tables) (nodes_before graph.now (position + 1)) tables.new) }
     ensures places { OnOk result (ancestry.new ≡ places_before graph.now (position + 1)) }
-    ensures verdict { IfOk result (IsVerdictAt (record { tables = schema.now.tables; ask = L.answer }) graph.now position) }
+    ensures verdict { IfOk result (IsVerdictAt (rules_with L.answer schema.now.tables) graph.now position) }
     ensures same_state { OnErr result (tables.new ≡ tables.old) }
     ensures same_places { OnErr result (ancestry.new ≡ ancestry.old) }
 {
@@ -88,16 +89,17 @@ fn take_verdict<L: Relation, C: Checks<L>>(
 ) -> Result<Verdict, AllocError>
     requires unlimited { IsTrue (list_all is_unlimited schema.now.tables) }
     requires low { position < length graph.now }
-    requires state { IsStateOf (record { tables = schema.now.tables; ask = L.answer }) (nodes_before graph.now position) tables.old }
+    requires state { IsStateOf (rules_with L.answer schema.now.tables) (nodes_before graph.now position) tables.old }
     requires places { ancestry.now ≡ places_before graph.now (position + 1) }
-    ensures state { OnOk result (IsStateOf (record { tables = schema.now.tables; ask = L.answer }) (nodes_before graph.now (position + 1)) tables.new) }
-    ensures verdict { IfOk result (IsVerdictAt (record { tables = schema.now.tables; ask = L.answer }) graph.now position) }
+    ensures state { OnOk result (IsStateOf (rules_with L.answer schema.now.tables) (nodes_before graph.now (position + 1)) tables.new) }
+    ensures verdict { IfOk result (IsVerdictAt (rules_with L.answer schema.now.tables) graph.now position) }
     ensures same { OnErr result (tables.new ≡ tables.old) }
 {
     let node = graph.at(position).node(alloc)?;
     let verdict = judge_next(
         alloc, schema, native, graph, position, &node, tables, ancestry,
     )?;
+    // for their clauses: the front is a closed list, with one more update it is the next, and updates are few
     arrivals_are_closed();
     applied_is_next();
     graph.len(); // it is closed
@@ -119,6 +121,7 @@ fn take_places(
     ensures places { OnOk result (ancestry.new ≡ places_before graph.now (position + 1)) }
     ensures same { OnErr result (ancestry.new ≡ ancestry.old) }
 {
+    // for their clauses: predecessors stand earlier, and updates are few
     arrivals_are_closed();
     graph.len(); // it is closed
     let places = places_of(alloc, graph, graph.at(position).preds())?;
@@ -152,10 +155,11 @@ fn judge_next<L: Relation, C: Checks<L>>(
 ) -> Result<Verdict, AllocError>
     requires unlimited { IsTrue (list_all is_unlimited schema.now.tables) }
     requires here { option_map node_of (slice_get graph.now position) ≡ Some node.now }
-    requires state { IsStateOf (record { tables = schema.now.tables; ask = L.answer }) (nodes_before graph.now position) tables.now }
+    requires state { IsStateOf (rules_with L.answer schema.now.tables) (nodes_before graph.now position) tables.now }
     requires places { ancestry.now ≡ places_before graph.now (position + 1) }
-    ensures { IfOk result (λ verdict. verdict ≡ (judge_next (record { tables = schema.now.tables; ask = L.answer }) (judged (record { tables = schema.now.tables; ask = L.answer }) (nodes_before graph.now position)) node.now).verdict) }
+    ensures { IfOk result (λ verdict. verdict ≡ (judge_next (rules_with L.answer schema.now.tables) (judged (rules_with L.answer schema.now.tables) (nodes_before graph.now position)) node.now).verdict) }
 {
+    // for their clauses: the front is a closed list, the verdict is on ancestors alone, and updates are few and name earlier ones
     arrivals_are_closed();
     verdict_is_on_ancestors();
     graph.len(); // it is closed

@@ -2,7 +2,7 @@ use Rattle.std.proofs.Common.{◌+◌, filter, map, take, sym, ◌∙◌}
 use Rattle.std.proofs.lemmas.Result.{IfOk-weaker}
 use Rattle.update_codec.specs.Parts.{entry_of}
 use Rattle.ancestry.specs.Walks.{is_ancestor}
-use Rattle.table_model.specs.Visible.{Rules}
+use Rattle.table_model.specs.Visible.{Rules, rules_with}
 use Rattle.table_model.specs.Verdicts.{ancestor_of, effects, judged}
 use Rattle.tuple_state.specs.Past.{IsPastOf}
 use Rattle.replay.specs.Arrivals.{nodes_before}
@@ -11,7 +11,7 @@ use Rattle.replay.proofs.replaying.judge_next.Goals as goal
 
 pub at-requires : goal.at-requires
 at-requires g c =
-    let rules : Rules = record { tables = c.args.schema.now.tables; ask = g.L.Relation.answer } in
+    let rules : Rules = rules_with g.L.Relation.answer c.args.schema.now.tables in
     let graph = c.args.graph.now in
     let i = c.args.position in
     let past : IsPastOf rules (nodes_before graph i) c.args.node.now (λ p. is_ancestor c.args.ancestry.now p i) =
@@ -22,7 +22,7 @@ at-requires g c =
 
 pub returns : goal.returns
 returns g c =
-    let rules : Rules = record { tables = c.args.schema.now.tables; ask = g.L.Relation.answer } in
+    let rules : Rules = rules_with g.L.Relation.answer c.args.schema.now.tables in
     let graph = c.args.graph.now in
     let i = c.args.position in
     let nodes = nodes_before graph i in

@@ -1,4 +1,5 @@
 use Rattle.std.proofs.Common.{◌≡◌}
+use Rattle.table_model.specs.Visible.{rules_with}
 use Rattle.tuple_state.specs.State.{IsStateOf}
 use Rattle.replay.specs.Arrivals.{nodes_before, places_before}
 use Rattle.replay.proofs.replaying.replay.Given as goal
@@ -6,6 +7,6 @@ use Rattle.replay.proofs.replaying.replay.Given as goal
 -- the members so far are taken
 abbrev pub invariant-loop-position : goal.invariant-loop-position
 invariant-loop-position g l = record {
-  state : IsStateOf (record { tables = l.schema.tables; ask = g.L.Relation.answer }) (nodes_before l.graph l.position) l.tables;
+  state : IsStateOf (rules_with g.L.Relation.answer l.schema.tables) (nodes_before l.graph l.position) l.tables;
   places : l.ancestry ≡ places_before l.graph l.position;
 }

@@ -5,7 +5,7 @@ use Rattle.update_codec.specs.Parts.{entry_of}
 use Rattle.update_check.specs.Signed.{node_of}
 use Rattle.table_model.specs.Nodes.{IsNext}
 use Rattle.table_model.specs.Verdicts.{judge_next, judged}
-use Rattle.table_model.specs.Visible.{Rules}
+use Rattle.table_model.specs.Visible.{Rules, rules_with}
 use Rattle.tuple_state.specs.State.{IsStateOf, State, after}
 use Rattle.replay.specs.Arrivals.{nodes_before}
 use Rattle.replay.proofs.Arriving.{front_closed, is_next_from, length-nodes, next_from, node_there}
@@ -13,7 +13,7 @@ use Rattle.replay.proofs.replaying.take_verdict.Goals as goal
 
 pub apply-requires : goal.apply-requires
 apply-requires g c =
-    let rules : Rules = record { tables = c.args.schema.now.tables; ask = g.L.Relation.answer } in
+    let rules : Rules = rules_with g.L.Relation.answer c.args.schema.now.tables in
     let graph = c.args.graph.now in
     let i = c.args.position in
     let node = c.in_ok-node.node in
@@ -27,7 +27,7 @@ apply-requires g c =
 
 pub returns-in-Ok : goal.returns-in-Ok
 returns-in-Ok g c =
-    let rules : Rules = record { tables = c.args.schema.now.tables; ask = g.L.Relation.answer } in
+    let rules : Rules = rules_with g.L.Relation.answer c.args.schema.now.tables in
     let graph = c.args.graph.now in
     let i = c.args.position in
     let node = c.in_ok-node.node in
