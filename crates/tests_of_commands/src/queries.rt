@@ -1,6 +1,6 @@
 //! Queries over a store, and tables as JSON.
 
-use crate::steps::{Step, played};
+use crate::steps::{Step, answer, played};
 use crate::transactions::{INIT, KEYGEN};
 use bec_disk::MemShelf;
 use std::test::Fail;
@@ -77,5 +77,9 @@ fn a_store_is_asked(rt: HostRuntime) -> Result<(), Fail> {
     assert_eq!(rt; played(rt.alloc(), &mut shelf, ASKED)?, ASKED.len());
     let mut other = MemShelf::new(rt.alloc());
     assert_eq!(rt; played(rt.alloc(), &mut other, DUMPED)?, DUMPED.len());
+    let stored = answer(rt.alloc(), &mut other, "dump A --json", b"")?;
+    let bundle = answer(rt.alloc(), &mut other, "export A", b"")?;
+    let tables = answer(rt.alloc(), &mut other, "dump --json", &bundle.bytes)?;
+    assert_eq!(rt; tables.bytes, stored.bytes);
     Ok(())
 }
