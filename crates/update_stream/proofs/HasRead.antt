@@ -6,6 +6,7 @@ use Rattle.bec_bytes.specs.Framed.{framed, stream_of, HoldsPiece, StandsFirst, S
 use Rattle.bec_bytes.specs.Moved.{IfTold}
 use Rattle.bec_bytes.specs.declared.framed.Framed.TheVariants.{Cut, TooLong}
 use Rattle.bec_bytes.specs.declared.read_error.ReadError.{ReadError}
+use Rattle.bec_bytes.specs.declared.read_error.ReadError.TheVariants.{Failed, Memory}
 use Rattle.bec_bytes.proofs.Frames.{stream_of-push, stream_of-nil}
 use Rattle.bec_bytes.proofs.ReadFrames.{told, behind, front_within, held_within, left_within}
 use Rattle.std.proofs.lemmas.List.{drop_at}
@@ -16,7 +17,7 @@ use Rattle.update_check.specs.declared.check_error.CheckFault.TheVariants.{Codec
 use Rattle.update_stream.specs.declared.record_fault.RecordFault.{RecordFault}
 use Rattle.update_stream.specs.declared.record_fault.RecordFault.TheVariants.{Check, Lacks, Full}
 use Rattle.update_stream.specs.declared.stream.TheConstants.{MAX_RECORDS}
-use Rattle.update_stream.specs.Stream.{firsts, rule_of, AreGood, IsWhole, IsRefused, IsStop, HasFault, short, too_long, BreaksOff}
+use Rattle.update_stream.specs.Stream.{firsts, rule_of, AreGood, IsWhole, IsRefused, IsStop, HasFault, short, too_long, MayFail, BreaksOff}
 use Rattle.update_stream.specs.Steps.{Takes, rule_for, set_after}
 use Rattle.update_stream.proofs.Firsts.{firsts-held, firsts-new}
 use Rattle.update_stream.proofs.Good.{AreGood-none, AreGood-held, AreGood-new}
@@ -145,30 +146,35 @@ told_limit given set a b c members n front h many came one =
     (told b c front (λ bytes rest. (0 < length bytes) × (rest ≡ drop 1 bytes)) came (λ rest. (omega (arith, length-append front rest, one), sym (drop_at front rest 1 one))))
     (λ bytes rest p. inr (let counted = h.counted in omega arith, p.0, p.1, refl))
 
--- the reading failed in what stands next
-told_left : (given set : Option RuleData) (a b c : Option (List ℕ)) (members : List (List ℕ)) (n : ℕ) → HasRead given set a b members n
-    → IfTold b c (StaysWithin UPDATE_LIMIT) → IfTold a c (BreaksOff given)
-told_left given set a b c members n h found =
-    behind a b c (stream_of h.records) (StaysWithin UPDATE_LIMIT) (BreaksOff given) h.came found (λ bytes rest p. (h.records, (bytes, h.good, refl, p)))
+-- the reading failed so in what stands next
+told_left : (given set : Option RuleData) (a b c : Option (List ℕ)) (members : List (List ℕ)) (n : ℕ) (error : ReadError) → (h : HasRead given set a b members n) → MayFail error h.records
+    → IfTold b c (StaysWithin UPDATE_LIMIT) → IfTold a c (BreaksOff given error)
+told_left given set a b c members n error h may found =
+    behind a b c (stream_of h.records) (StaysWithin UPDATE_LIMIT) (BreaksOff given error) h.came found (λ bytes rest p. (h.records, (bytes, h.good, refl, may, p)))
+
+-- where fewer records came than a stream has at most, a reading may fail in any way
+may_fail : (error : ReadError) (records : List (List ℕ)) → length records < MAX_RECORDS → MayFail error records
+may_fail Failed records few = tt
+may_fail Memory records few = few
 
 weaker : (b c : Option (List ℕ)) (P Q : List ℕ → List ℕ → Type 0) → IfTold b c P → ((bytes rest : List ℕ) → P bytes rest → Q bytes rest) → IfTold b c Q
 weaker None c P Q found each = tt
 weaker (Some xs) c P Q found each = (found.0, found.1, each xs found.0 found.2)
 
 -- in a record
-pub left_record : (given set : Option RuleData) (a b c : Option (List ℕ)) (members : List (List ℕ)) (n : ℕ) (error : ReadError) → HasRead given set a b members n
-    → IfTold b c (λ bytes rest. IsLeft UPDATE_LIMIT bytes rest error) → IfTold a c (BreaksOff given)
-left_record given set a b c members n error h found =
-    told_left given set a b c members n h (weaker b c (λ bytes rest. IsLeft UPDATE_LIMIT bytes rest error) (StaysWithin UPDATE_LIMIT) found (λ bytes rest left. left_within UPDATE_LIMIT bytes rest error left))
+pub left_record : (given set : Option RuleData) (a b c : Option (List ℕ)) (members : List (List ℕ)) (n : ℕ) (error fails : ReadError) → HasRead given set a b members n → n < MAX_RECORDS
+    → IfTold b c (λ bytes rest. IsLeft UPDATE_LIMIT bytes rest error) → IfTold a c (BreaksOff given fails)
+left_record given set a b c members n error fails h few found =
+    told_left given set a b c members n fails h (may_fail fails h.records (few_records given set a b members n h few)) (weaker b c (λ bytes rest. IsLeft UPDATE_LIMIT bytes rest error) (StaysWithin UPDATE_LIMIT) found (λ bytes rest left. left_within UPDATE_LIMIT bytes rest error left))
 
 -- behind a whole one
-pub left_behind : (given set : Option RuleData) (a b c : Option (List ℕ)) (members : List (List ℕ)) (n : ℕ) (r : List ℕ) → HasRead given set a b members n
-    → IfTold b c (λ bytes rest. HoldsPiece UPDATE_LIMIT bytes r rest) → IfTold a c (BreaksOff given)
-left_behind given set a b c members n r h found =
-    told_left given set a b c members n h (weaker b c (λ bytes rest. HoldsPiece UPDATE_LIMIT bytes r rest) (StaysWithin UPDATE_LIMIT) found (λ bytes rest p. held_within UPDATE_LIMIT bytes r rest (omega arith) p))
+pub left_behind : (given set : Option RuleData) (a b c : Option (List ℕ)) (members : List (List ℕ)) (n : ℕ) (error : ReadError) (r : List ℕ) → HasRead given set a b members n → n < MAX_RECORDS
+    → IfTold b c (λ bytes rest. HoldsPiece UPDATE_LIMIT bytes r rest) → IfTold a c (BreaksOff given error)
+left_behind given set a b c members n error r h few found =
+    told_left given set a b c members n error h (may_fail error h.records (few_records given set a b members n h few)) (weaker b c (λ bytes rest. HoldsPiece UPDATE_LIMIT bytes r rest) (StaysWithin UPDATE_LIMIT) found (λ bytes rest p. held_within UPDATE_LIMIT bytes r rest (omega arith) p))
 
 -- at the limit, where a byte more may have come
 pub left_limit : (given set : Option RuleData) (a b c : Option (List ℕ)) (members : List (List ℕ)) (n : ℕ) (front : List ℕ) → HasRead given set a b members n
-    → Consumes b c front → length front ≤ 1 → IfTold a c (BreaksOff given)
+    → Consumes b c front → length front ≤ 1 → IfTold a c (BreaksOff given Failed)
 left_limit given set a b c members n front h came few =
-    told_left given set a b c members n h (told b c front (StaysWithin UPDATE_LIMIT) came (λ rest. front_within UPDATE_LIMIT front rest (omega (arith, few))))
+    told_left given set a b c members n Failed h tt (told b c front (StaysWithin UPDATE_LIMIT) came (λ rest. front_within UPDATE_LIMIT front rest (omega (arith, few))))

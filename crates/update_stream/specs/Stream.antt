@@ -3,6 +3,8 @@ use Rattle.std.specs.Prelude.{◌≡◌, ◌⊎◌, ℕ, ◌+◌, ◌<◌, ◌�
 use Rattle.std.specs.List.{list_any}
 use Rattle.bec_bytes.specs.Framed.{HoldsPiece, StandsFirst, StaysWithin, stream_of}
 use Rattle.bec_bytes.specs.declared.framed.Framed.TheVariants.{Cut as CutPiece, TooLong as LongPiece}
+use Rattle.bec_bytes.specs.declared.read_error.ReadError.{ReadError}
+use Rattle.bec_bytes.specs.declared.read_error.ReadError.TheVariants.{Failed, Memory}
 use Rattle.update_model.specs.declared.update_id.UpdateId.{UpdateId}
 use Rattle.update_model.specs.Entry.{Entry, same_id}
 use Rattle.update_model.specs.Graph.{IsClosed, is_within, holds, lacking}
@@ -107,8 +109,13 @@ IsRefused given input rest n fault =
     (records : List (List ℕ)) × ((bytes : List ℕ)
     × AreGood given records × (input ≡ stream_of records ++ bytes) × (n ≡ length records + 1) × IsStop given records bytes rest fault)
 
--- Good records came, and behind them no more was read than the record that stands there.
-abbrev pub BreaksOff : Option RuleData → List ℕ → List ℕ → Type 0
-BreaksOff given input rest =
+-- Behind these records a reading may fail so: memory runs out only where one more may come.
+abbrev pub MayFail : ReadError → List (List ℕ) → Type 0
+MayFail Failed records = Unit {0}
+MayFail Memory records = length records < MAX_RECORDS
+
+-- Good records came, behind which the reading may fail so, and no more was read than the record that stands there.
+abbrev pub BreaksOff : Option RuleData → ReadError → List ℕ → List ℕ → Type 0
+BreaksOff given error input rest =
     (records : List (List ℕ)) × ((bytes : List ℕ)
-    × AreGood given records × (input ≡ stream_of records ++ bytes) × StaysWithin UPDATE_LIMIT bytes rest)
+    × AreGood given records × (input ≡ stream_of records ++ bytes) × MayFail error records × StaysWithin UPDATE_LIMIT bytes rest)

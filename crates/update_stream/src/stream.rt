@@ -26,13 +26,14 @@ pub const MAX_RECORDS: u32 = 262_144;
 /// author is listed.
 ///
 /// [`ReadError::Failed`] comes only where a call of the source failed, and after that nothing is read.
+/// [`ReadError::Memory`] comes only where a record may still stand: behind [`MAX_RECORDS`] of them memory is not asked for.
 pub fn read_stream<S: Source>(
     alloc: Global,
     rule: &Option<DbRule>,
     input: &mut S,
 ) -> Result<Reading, ReadError>
     ensures told { IfOk result (λ reading. Reads rule.now (S.left input.old) (S.left input.new) reading) }
-    ensures left { IfErr result (λ _. IfTold (S.left input.old) (S.left input.new) (BreaksOff rule.now)) }
+    ensures left { IfErr result (λ e. IfTold (S.left input.old) (S.left input.new) (BreaksOff rule.now e)) }
     ensures later { S.faults input.old ≤ S.faults input.new }
     ensures failed { IfErr result (λ e. e ≡ ReadError.Failed → Rose (S.faults input.old) (S.faults input.new)) }
 {

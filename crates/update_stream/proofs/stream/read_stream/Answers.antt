@@ -24,13 +24,13 @@ loop-number-init g c =
 pub returns-in_err-read_framed-clause-left : goal.returns-in_err-read_framed-clause-left
 returns-in_err-read_framed-clause-left g c =
     let failed = err_from_is_err_and c.from_residual.result c.from_residual.ensures.1 in
-    rw failed.1 (left_record c.args.rule.now c.loop-number.set _ _ _ c.loop-number.graph c.loop-number.number c.in_err-read_framed.field-0.0 c.loop-number.invariant.read c.in_err-read_framed.ensures.left)
+    rw failed.1 (left_record c.args.rule.now c.loop-number.set _ _ _ c.loop-number.graph c.loop-number.number c.in_err-read_framed.field-0.0 failed.0 c.loop-number.invariant.read c.loop-number-test.true c.in_err-read_framed.ensures.left)
 
 pub returns-in_err-fault-in-Whole-clause-left : goal.returns-in_err-fault-in-Whole-clause-left
 returns-in_err-fault-in-Whole-clause-left g c =
     let failed = err_from_is_err_and c.from_residual-in_err-fault-in-Whole.result c.from_residual-in_err-fault-in-Whole.ensures.1 in
     let P : Framed → Type 0 = λ next. IfTold (g.S.Source.left c.loop-number.input) (g.S.Source.left c.read_framed.new.source) (λ bytes rest. StandsFirst UPDATE_LIMIT bytes rest next) in
-    rw failed.1 (left_behind c.args.rule.now c.loop-number.set _ _ _ c.loop-number.graph c.loop-number.number c.in-Whole.bytes.items c.loop-number.invariant.read (subst P c.in-Whole.is c.in_ok-read_framed.ensures.found))
+    rw failed.1 (left_behind c.args.rule.now c.loop-number.set _ _ _ c.loop-number.graph c.loop-number.number failed.0 c.in-Whole.bytes.items c.loop-number.invariant.read c.loop-number-test.true (subst P c.in-Whole.is c.in_ok-read_framed.ensures.found))
 
 pub returns-in-Some-clause-told : goal.returns-in-Some-clause-told
 returns-in-Some-clause-told g c =
