@@ -1,0 +1,1 @@
+use Rattle.update_log.proofs.part.next_part.Goals as goal
