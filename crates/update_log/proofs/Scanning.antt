@@ -1,7 +1,8 @@
 -- Members of which one more is taken or refused, and the records that they are in.
-use Rattle.std.proofs.Common.{◌≡◌, ℕ, ◌+◌, ◌<◌, ◌≤◌, Bool, true, false, not, List, [], ◌∷◌, ◌++◌, length, map, refl, sym, ap, subst, ◌∙◌, append_assoc, append-nil, length-append, All, Option, Some, None, Ok, arith}
+use Rattle.std.proofs.Common.{◌≡◌, ℕ, ◌+◌, ◌<◌, ◌≤◌, Bool, true, false, not, List, [], ◌∷◌, ◌++◌, length, map, refl, sym, ap, subst, ◌∙◌, append_assoc, append-nil, length-append, All, Vec, Option, Some, None, Ok, arith}
 use Rattle.std.specs.Prelude.{find, is_some}
-use Rattle.std.proofs.lemmas.List.{map-append}
+use Rattle.std.proofs.lemmas.List.{map-append, length-map}
+use Rattle.std.specs.declared.alloc.Global.{Global}
 use Rattle.std.proofs.lemmas.List.Elements.{All-head, All-tail, All-push}
 use Rattle.bec_bytes.specs.Framed.{framed, stream_of, HoldsPiece}
 use Rattle.std.proofs.lemmas.List.Concat.{flat_map-append}
@@ -13,7 +14,7 @@ use Rattle.update_model.specs.Rule.{RuleData}
 use Rattle.update_model.proofs.Closed.{Follows-push, Follows-pop, IsNext-from_tests, position_of-held}
 use Rattle.update_codec.specs.Parts.{entry_of}
 use Rattle.update_codec.specs.declared.limits.TheConstants.{UPDATE_LIMIT}
-use Rattle.record_check.specs.Records.{IsCheckedFront}
+use Rattle.record_check.specs.Records.{IsCheckedFront, bytes_of}
 use Rattle.update_check.specs.Signed.{IsChecked}
 use Rattle.update_check.specs.Members.{AreMembers}
 use Rattle.hash_graph.specs.declared.added.Added.TheVariants.{New, Known}
@@ -129,7 +130,7 @@ no_length graph is = sym (ap (λ (l : List (List ℕ)). length (stream_of l)) is
 
 -- ---- records that are taken in parts
 
-middle_of : {X : Type 0} (P : X → Type 0) (xs ys : List X) (x : X) → All P (xs ++ x ∷ ys) → P x
+pub middle_of : {X : Type 0} (P : X → Type 0) (xs ys : List X) (x : X) → All P (xs ++ x ∷ ys) → P x
 middle_of P [] ys x all = All-head P x ys all
 middle_of P (y ∷ xs) ys x all = middle_of P xs ys x (All-tail P y (xs ++ x ∷ ys) all)
 
@@ -225,3 +226,24 @@ none_held before records is = record {
   short = subst (All (λ (x : List ℕ). length x ≤ UPDATE_LIMIT)) (sym is) (λ k d low. absurd (omega (arith, low)));
   parts = no_records records before is;
 }
+
+bytes_push : (old new : List (Vec ℕ Global)) (r : Vec ℕ Global) → new ≡ old ++ r ∷ [] → bytes_of new ≡ bytes_of old ++ r.items ∷ []
+bytes_push old new r is = ap bytes_of is ∙ map-append (λ (v : Vec ℕ Global). v.items) old (r ∷ [])
+
+-- one record more is read
+pub one_more_read : (before after later : List ℕ) (old new : List (Vec ℕ Global)) (r : Vec ℕ Global) → new ≡ old ++ r ∷ [] → HoldsRecords before (bytes_of old) after → HoldsPiece UPDATE_LIMIT after r.items later
+    → HoldsRecords before (bytes_of new) later
+one_more_read before after later old new r is holds piece = one_more_held before after later (bytes_of old) (bytes_of new) r.items holds piece (bytes_push old new r is)
+
+pub one_more_read_length : (old new : List (Vec ℕ Global)) (r : Vec ℕ Global) → new ≡ old ++ r ∷ [] → length (stream_of (bytes_of new)) ≡ length (stream_of (bytes_of old)) + (4 + length r.items)
+one_more_read_length old new r is = one_more_length (bytes_of old) (bytes_of new) r.items (bytes_push old new r is)
+
+none_behind : (records : List (List ℕ)) (before after : List ℕ) → HoldsRecords before records after → length records ≡ 0 → ((r rest : List ℕ) → HoldsPiece UPDATE_LIMIT after r rest → ⊥)
+    → (r rest : List ℕ) → HoldsPiece UPDATE_LIMIT before r rest → ⊥
+none_behind [] before after holds few none r rest piece = none r rest (subst (λ (l : List ℕ). HoldsPiece UPDATE_LIMIT l r rest) (holds.parts ∙ ap (λ (l : List ℕ). l ++ after) stream_of-nil) piece)
+none_behind (x ∷ xs) before after holds few none r rest piece = absurd (omega (arith, few))
+
+-- where no record was read, none stands
+pub none_read : (records : List (Vec ℕ Global)) (before after : List ℕ) → HoldsRecords before (bytes_of records) after → length records ≡ 0 → ((r rest : List ℕ) → HoldsPiece UPDATE_LIMIT after r rest → ⊥)
+    → (r rest : List ℕ) → HoldsPiece UPDATE_LIMIT before r rest → ⊥
+none_read records before after holds few = none_behind (bytes_of records) before after holds (length-map records (λ (v : Vec ℕ Global). v.items) ∙ few)

@@ -1,7 +1,15 @@
-use Rattle.std.proofs.Common.{◌≡◌, ℕ, List, [], ◌∷◌, ◌++◌, sym, ap, subst, ◌∙◌, append_assoc, append-nil}
+use Rattle.std.proofs.Common.{ℕ, List, [], ◌∷◌, ◌++◌, sym, ap, subst, ◌∙◌, append_assoc, All}
 use Rattle.std.specs.Vec.Iter.{into_iter_items}
 use Rattle.update_check.specs.Members.{AreMembers}
+use Rattle.update_check.specs.Signed.{IsChecked}
+use Rattle.update_log.proofs.Scanning.{middle_of}
 use Rattle.update_log.proofs.opening.take_front.Goals as goal
+
+pub take_update-requires-clause-checked : goal.take_update-requires-clause-checked
+take_update-requires-clause-checked c =
+    let steps = rw c.in-Some.is at c.next.ensures.steps in
+    middle_of (IsChecked c.args.rule.now) c.loop-update.yielded (into_iter_items c.next.new.self) c.in-Some.update
+    (subst (All (IsChecked c.args.rule.now)) (c.loop-update.invariant.left ∙ ap (λ (l : List (List ℕ)). c.loop-update.yielded ++ l) steps.0) c.requires.checked)
 
 pub returns-then-not-branch : goal.returns-then-not-branch
 returns-then-not-branch c =
