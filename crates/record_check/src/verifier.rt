@@ -36,6 +36,7 @@ impl Verifier for OneThread {
 }
 
 /// Checks records on as many threads as there are processors. Where no thread can be started, the one that asks does all.
+#[derive(Drop)]
 pub struct ManyThreads<'a, R: Threads> {
     rt: &'a R,
 }
