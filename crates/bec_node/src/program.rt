@@ -14,6 +14,7 @@ use command_words::{NetRequest, net_request_in};
 use node_commands::status::OUT_OF_MEMORY;
 use node_commands::{Refusal, run_alone};
 use rand_core::Rng;
+use record_check::ManyThreads;
 use std::alloc::Global;
 use std::sync::Wait;
 use std::thread::Threads;
@@ -46,7 +47,8 @@ where
         return OUT_OF_MEMORY;
     };
     let Some(request) = asked else {
-        return run_alone(alloc, words, shelf, random, input, out);
+        let verifier = ManyThreads::new(rt);
+        return run_alone(&verifier, alloc, words, shelf, random, input, out);
     };
     let told = meet_others(rt, alloc, &request, shelf, net);
     end(alloc, out, told)

@@ -10,6 +10,7 @@ ghost use Rattle.log_bench.specs.Growing.{Grows};
 use bec_bytes::{Framed, Sink, Source, read_framed, write_all_of};
 use bec_disk::{Disk, DiskError, DiskFault};
 use hash_graph::Graph;
+use record_check::Verifier;
 use std::alloc::Global;
 use update_check::{Checked, check};
 use update_codec::UPDATE_LIMIT;
@@ -18,7 +19,8 @@ use update_model::{DbRule, KeyList, MAX_MEMBERS};
 
 /// Opens a log and tells how many updates it holds; where a batch's size is given, it reads updates before, and appends
 /// those that it does not hold.
-pub fn run<D: Disk + Drop, S: Source, K: Sink>(
+pub fn run<V: Verifier, D: Disk + Drop, S: Source, K: Sink>(
+    verifier: &V,
     alloc: Global,
     disk: D,
     batch: Option<u32>,
@@ -31,7 +33,7 @@ pub fn run<D: Disk + Drop, S: Source, K: Sink>(
         database: [0; 32],
         authors: KeyList::from_vec(Vec::new(alloc)),
     };
-    let (mut log, mut graph) = opened(alloc, disk, &rule)?;
+    let (mut log, mut graph) = opened(verifier, alloc, disk, &rule)?;
     let held = graph.len();
     let Some(size) = batch else {
         return tell(alloc, output, held);
@@ -42,7 +44,8 @@ pub fn run<D: Disk + Drop, S: Source, K: Sink>(
 }
 
 /// A log that is sure, and the graph of the updates that it holds.
-fn opened<D: Disk + Drop>(
+fn opened<V: Verifier, D: Disk + Drop>(
+    verifier: &V,
     alloc: Global,
     disk: D,
     rule: &DbRule,
@@ -52,7 +55,7 @@ fn opened<D: Disk + Drop>(
     ensures log { IfOk result (λ opened. IsLogOf opened.1 opened.0) }
     ensures sure { IfOk result (λ opened. opened.0.is_unsure ≡ false) }
 {
-    match Log::open_log(alloc, disk, rule) {
+    match Log::open_log(verifier, alloc, disk, rule) {
         Ok(opened) => Ok(opened),
         Err(LogFault { why, .. }) => Err(why),
     }

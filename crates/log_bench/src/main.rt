@@ -11,6 +11,7 @@ mod appending;
 use crate::appending::run;
 use bec_disk::{DiskFault, Part, Shelf};
 use bec_host::{FileDisk, FileShelf, HostSink, HostSource};
+use record_check::ManyThreads;
 use std::alloc::AllocError;
 use std::env;
 use std::fs::File;
@@ -35,7 +36,14 @@ fn main(rt: HostRuntime) -> anyhow::Result<ExitCode> {
     let disk = part_of(&mut shelf, directory)?;
     let mut input = HostSource::new(rt.alloc(), rt.stdin())?;
     let mut output = HostSink::new(rt.stdout());
-    run(rt.alloc(), disk, batch, &mut input, &mut output)?;
+    run(
+        &ManyThreads::new(&rt),
+        rt.alloc(),
+        disk,
+        batch,
+        &mut input,
+        &mut output,
+    )?;
     Ok(ExitCode::from(0))
 }
 

@@ -24,6 +24,7 @@ use bec_bytes::{Sink, Source};
 use bec_disk::Shelf;
 use command_words::{Request, one_request, request_in};
 use rand_core::Rng;
+use record_check::Verifier;
 use std::alloc::Global;
 
 /// Does what the words of a command line ask for without a net, over a shelf of directories, a generator of random words, a
@@ -34,7 +35,8 @@ use std::alloc::Global;
 /// outcome has its cause in the words, in what the source has left and in what the parts of a directory read as; only where
 /// the source or the shelf failed, or memory ran out, another one comes in its place. The outcome is written whole, with its status; or the sink failed, and a front of it is
 /// written, with the status of a stream fault.
-pub fn run_alone<H: Shelf, R: Rng, S: Source, K: Sink>(
+pub fn run_alone<V: Verifier, H: Shelf, R: Rng, S: Source, K: Sink>(
+    verifier: &V,
     alloc: Global,
     words: &[String],
     shelf: &mut H,
@@ -58,12 +60,13 @@ pub fn run_alone<H: Shelf, R: Rng, S: Source, K: Sink>(
     let Some(request) = asked else {
         return no_command(out);
     };
-    let outcome = outcome_of(alloc, &request, shelf, random, input);
+    let outcome = outcome_of(verifier, alloc, &request, shelf, random, input);
     finish(alloc, out, outcome)
 }
 
 /// What a request comes to.
-fn outcome_of<H: Shelf, R: Rng, S: Source>(
+fn outcome_of<V: Verifier, H: Shelf, R: Rng, S: Source>(
+    verifier: &V,
     alloc: Global,
     request: &Request,
     shelf: &mut H,
@@ -79,7 +82,7 @@ fn outcome_of<H: Shelf, R: Rng, S: Source>(
         Request::Heads { directory: None } => stream_heads(alloc, input),
         Request::Heads {
             directory: Some(directory),
-        } => heads_in(alloc, shelf, directory),
+        } => heads_in(verifier, alloc, shelf, directory),
         Request::Check => verdict(alloc, input),
         Request::Dump {
             directory: None,
@@ -88,21 +91,23 @@ fn outcome_of<H: Shelf, R: Rng, S: Source>(
         Request::Dump {
             directory: Some(directory),
             json,
-        } => dump_in(alloc, shelf, directory, *json),
+        } => dump_in(verifier, alloc, shelf, directory, *json),
         Request::Init { directory } => init_in(alloc, shelf, directory, random, input),
         Request::Keygen {
             directory,
             height,
             width,
         } => keygen_in(alloc, shelf, directory, *height, *width, random),
-        Request::Apply { directory } => apply_in(alloc, shelf, directory, random, input),
-        Request::Join { directory } => join_in(alloc, shelf, directory, random),
-        Request::Export { directory, updates } => export_in(alloc, shelf, directory, *updates),
+        Request::Apply { directory } => apply_in(verifier, alloc, shelf, directory, random, input),
+        Request::Join { directory } => join_in(verifier, alloc, shelf, directory, random),
+        Request::Export { directory, updates } => export_in(
+            verifier, alloc, shelf, directory, *updates,
+        ),
         Request::Query {
             directory,
             text,
             json,
-        } => query_in(alloc, shelf, directory, text, *json),
-        Request::Merge { first, second } => merge_in(alloc, shelf, first, second),
+        } => query_in(verifier, alloc, shelf, directory, text, *json),
+        Request::Merge { first, second } => merge_in(verifier, alloc, shelf, first, second),
     }
 }

@@ -15,6 +15,7 @@ use crate::opening::{Declared, open_declared};
 use crate::replica::Replica;
 use bec_disk::{Disk, DiskError, Gated, cut_synced, read_gated, write_gated};
 use confluence_test::{SchemaRefusal, take_schema};
+use record_check::OneThread;
 use row_check::{Checks, Native, Relation};
 use std::alloc::{AllocError, Global};
 use update_log::{one_logset, whole_logset};
@@ -180,7 +181,7 @@ fn open_empty<D: Disk, L: Relation, C: Checks<L>>(
             });
         }
     }
-    match open_declared(alloc, declared, updates, native) {
+    match open_declared(&OneThread, alloc, declared, updates, native) {
         Ok(replica) => Ok(replica),
         Err(fault) => Err(fault),
     }

@@ -5,7 +5,7 @@
 //! operations by a key, and [`Replica::join`] joins the heads. What was answered `Ok` stays, whatever stops the program later.
 //!
 //! ```text
-//! let mut replica = open_store(alloc, &mut schema, updates, native)?;
+//! let mut replica = open_store(verifier, alloc, &mut schema, updates, native)?;
 //! let committed = replica.commit(alloc, batch)?;       // what waits for predecessors is handed back
 //! let id = replica.make(alloc, ops, &mut key, &c)?;    // after all heads, valid, on the disk
 //! replica.tables().rows(alloc, 0)?;

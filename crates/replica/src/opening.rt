@@ -15,14 +15,16 @@ use crate::replica::Replica;
 use bec_disk::{Disk, DiskError, Gated, read_gated};
 use confluence_test::{SchemaRefusal, take_schema, taken_or_refused};
 use history::{History, NoHistory};
+use record_check::Verifier;
 use row_check::{Checks, Native, Relation};
 use schema::{Schema, one_schema};
 use std::alloc::Global;
 use update_log::{Log, LogFault};
 
 /// Opens the store of two parts that are settled. What stands behind the longest front of records that are a closed list under the schema's
-/// rule is cut. Each update is judged once.
-pub fn open_store<D: Disk, L: Relation, C: Checks<L>>(
+/// rule is cut. The verifier checks the records, and each update is judged once.
+pub fn open_store<V: Verifier, D: Disk, L: Relation, C: Checks<L>>(
+    verifier: &V,
     alloc: Global,
     schema: &mut D,
     updates: D,
@@ -54,7 +56,7 @@ pub fn open_store<D: Disk, L: Relation, C: Checks<L>>(
             });
         }
     };
-    open_declared(alloc, declared, updates, native)
+    open_declared(verifier, alloc, declared, updates, native)
 }
 
 /// What the part Schema declares.
@@ -114,7 +116,8 @@ fn declared_by<L: Relation, C: Checks<L>>(
 }
 
 /// Opens the log under a schema, and the history of what stands there.
-pub fn open_declared<D: Disk, L: Relation, C: Checks<L>>(
+pub fn open_declared<V: Verifier, D: Disk, L: Relation, C: Checks<L>>(
+    verifier: &V,
     alloc: Global,
     declared: Declared,
     updates: D,
@@ -135,7 +138,7 @@ pub fn open_declared<D: Disk, L: Relation, C: Checks<L>>(
     ensures failed { IfErr result (λ fault. fault.why ≡ OpenKind.DiskFault → Rose (D.faults updates) (D.faults fault.updates)) }
 {
     let Declared { node, schema } = declared;
-    let (log, graph) = match Log::open_log(alloc, updates, schema.rule()) {
+    let (log, graph) = match Log::open_log(verifier, alloc, updates, schema.rule()) {
         Ok(opened) => opened,
         Err(fault) => {
             let LogFault { why, disk } = fault;

@@ -5,7 +5,7 @@
 //! [`new_store`] and [`new_key`] make them where there is none. [`read_memory`] and [`write_memory`] are of the part Peers, which is a hint.
 //!
 //! ```text
-//! let mut store = take_store(alloc, shelf, dir, native)?;
+//! let mut store = take_store(verifier, alloc, shelf, dir, native)?;
 //! let heads = store.replica.heads(alloc)?;
 //! put_store(shelf, dir, store);
 //! ```

@@ -11,6 +11,7 @@ ghost use Rattle.store_directory.specs.Stores.{part_in, reading};
 
 use crate::store_refusal::StoreRefusal;
 use bec_disk::{Disk, Gated, Part, Shelf, read_gated};
+use record_check::Verifier;
 use replica::{OpenFault, Replica, open_store};
 use row_check::{Checks, Native, Relation};
 use std::alloc::Global;
@@ -37,8 +38,9 @@ impl<D: Disk, L: Relation, C: Checks<L>> Model for OpenStore<D, L, C> {
     ghost view = { λ o. record { schema = D.state o.schema; schema_faults = D.faults o.schema; replica = o.replica } };
 }
 
-/// Takes the store of a directory from the shelf and opens it. Where it is refused, every part is in its place again.
-pub fn take_store<H: Shelf, L: Relation, C: Checks<L>>(
+/// Takes the store of a directory from the shelf and opens it; the verifier checks its records. Where it is refused, every part is in its place again.
+pub fn take_store<V: Verifier, H: Shelf, L: Relation, C: Checks<L>>(
+    verifier: &V,
     alloc: Global,
     shelf: &mut H,
     dir: &str,
@@ -55,7 +57,7 @@ pub fn take_store<H: Shelf, L: Relation, C: Checks<L>>(
     let Some(mut schema) = shelf.find(dir, Part::Schema)? else {
         return Err(StoreRefusal::NoStore);
     };
-    match take_updates(alloc, shelf, dir, &mut schema, native) {
+    match take_updates(verifier, alloc, shelf, dir, &mut schema, native) {
         Ok(replica) => Ok(OpenStore { schema, replica }),
         Err(why) => {
             shelf.put_back(schema);
@@ -65,7 +67,8 @@ pub fn take_store<H: Shelf, L: Relation, C: Checks<L>>(
 }
 
 /// Finds the part Updates beside a part Schema that is handed out, and opens the store of both.
-fn take_updates<H: Shelf, L: Relation, C: Checks<L>>(
+fn take_updates<V: Verifier, H: Shelf, L: Relation, C: Checks<L>>(
+    verifier: &V,
     alloc: Global,
     shelf: &mut H,
     dir: &str,
@@ -89,7 +92,7 @@ fn take_updates<H: Shelf, L: Relation, C: Checks<L>>(
     let Some(updates) = shelf.find(dir, Part::Updates)? else {
         return Err(StoreRefusal::BadStore);
     };
-    match open_store(alloc, schema, updates, native) {
+    match open_store(verifier, alloc, schema, updates, native) {
         Ok(replica) => Ok(replica),
         Err(fault) => {
             let OpenFault { why, updates, .. } = fault;

@@ -8,6 +8,7 @@ use bec_bytes::{MemSink, MemSource};
 use bec_disk::{MemShelf, Shelf};
 use node_commands::run_alone;
 use rand_pcg::Pcg32;
+use record_check::OneThread;
 use std::alloc::{AllocError, Global};
 
 /// A run: its words, its input, and the status and the text that it answers. An answer `ID` stands for any id, which is
@@ -47,7 +48,15 @@ pub fn answer<H: Shelf>(
     let mut random = Pcg32::new(42, 54);
     let mut input = MemSource::new(Vec::from_slice(alloc, input)?, Vec::new(alloc));
     let mut out = MemSink::new(alloc, Vec::new(alloc));
-    let status = run_alone(alloc, &words, shelf, &mut random, &mut input, &mut out);
+    let status = run_alone(
+        &OneThread,
+        alloc,
+        &words,
+        shelf,
+        &mut random,
+        &mut input,
+        &mut out,
+    );
     let bytes = out.bytes().to_vec(alloc)?;
     Ok(Said { status, bytes })
 }

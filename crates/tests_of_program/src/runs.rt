@@ -4,6 +4,7 @@ use bec_bytes::{MemSink, MemSource, Sink, Source};
 use bec_disk::MemShelf;
 use node_commands::run_alone;
 use rand_pcg::Pcg32;
+use record_check::OneThread;
 use std::alloc::{AllocError, Global};
 use std::test::Fail;
 
@@ -39,5 +40,13 @@ pub fn run_over_nothing<S: Source, K: Sink>(
 ) -> u8 {
     let mut shelf = MemShelf::new(alloc);
     let mut random = Pcg32::new(42, 54);
-    run_alone(alloc, words, &mut shelf, &mut random, input, out)
+    run_alone(
+        &OneThread,
+        alloc,
+        words,
+        &mut shelf,
+        &mut random,
+        input,
+        out,
+    )
 }

@@ -10,6 +10,7 @@ use bec_disk::{Disk, MemDisk};
 use hash_graph::Graph;
 use lm_ots::OtsType;
 use lms_tree::{LmsType, make_secret};
+use record_check::OneThread;
 use std::alloc::{AllocError, Global};
 use std::test::Fail;
 use update_check::Checked;
@@ -17,7 +18,7 @@ use update_log::Log;
 use update_model::{DbRule, KeyList};
 
 /// No predecessors and no operations.
-const PLAIN: &[u8] = b"\0\0\0\0";
+pub const PLAIN: &[u8] = b"\0\0\0\0";
 
 /// No predecessors, and one operation, which deletes a row.
 const DELETING: &[u8] = b"\0\0\0\x01\x0266666666666666666666666666666666\0\x07";
@@ -29,7 +30,7 @@ const FIRST: u64 = 4557;
 const BOTH: u64 = 9149;
 
 /// An update with what stands behind its author, whose key's own bytes are all `seed`.
-fn signed(alloc: Global, seed: u8, rest: &[u8]) -> Result<Vec<u8>, AllocError> {
+pub fn signed(alloc: Global, seed: u8, rest: &[u8]) -> Result<Vec<u8>, AllocError> {
     let secret = make_secret(alloc, LmsType::H5, OtsType::W2, [seed; 16], [seed; 32])?;
     let author = secret.public();
     let mut bytes = Vec::from_slice(alloc, &[1])?;
@@ -54,7 +55,8 @@ fn two_records(alloc: Global) -> Result<Vec<u8>, AllocError> {
     Ok(records)
 }
 
-fn rule(alloc: Global) -> DbRule {
+/// Any author may sign.
+pub fn rule(alloc: Global) -> DbRule {
     DbRule {
         database: [0xdd; 32],
         authors: KeyList::from_vec(Vec::new(alloc)),
@@ -70,7 +72,7 @@ fn opened(
 ) -> Result<(Log<MemDisk>, Graph<Checked>), Fail>
     ensures { IfOk result (λ opened. AreMembers rule.now opened.1) }
 {
-    match Log::open_log(alloc, disk.restart(choice)?, rule) {
+    match Log::open_log(&OneThread, alloc, disk.restart(choice)?, rule) {
         Ok(opened) => Ok(opened),
         Err(fault) => Err(fault.why)?,
     }
@@ -129,7 +131,7 @@ fn append_on(
     requires settled { IsSettled (state_of disk) }
     requires members { AreMembers rule.now batch.now }
 {
-    match Log::open_log(alloc, disk, rule) {
+    match Log::open_log(&OneThread, alloc, disk, rule) {
         Ok((mut log, held)) => {
             let done = held.is_empty() && append_to(&mut log, &held, rule, batch, repairs);
             (done, log.into_disk())

@@ -42,7 +42,7 @@ length-stream_of-append xs ys = ap length (stream_of-append xs ys) ∙ length-ap
 pub stream_of-take : (xs : List (List ℕ)) (i : ℕ) → length (stream_of (take i xs)) ≤ length (stream_of xs)
 stream_of-take xs i = omega (arith, ap (λ (l : List (List ℕ)). length (stream_of l)) (take-append-drop i xs), length-stream_of-append (take i xs) (drop i xs))
 
-length-stream_of : (members : List (List ℕ)) → length (stream_of members) ≡ 4 * length (map entry_of members) + byte_count (map entry_of members)
+pub length-stream_of : (members : List (List ℕ)) → length (stream_of members) ≡ 4 * length (map entry_of members) + byte_count (map entry_of members)
 length-stream_of [] = ap length stream_of-nil
 length-stream_of (m ∷ ms) =
     let rest = length-stream_of ms in

@@ -1,10 +1,12 @@
 -- Members of which one more is taken or refused, and the records that they are in.
-use Rattle.std.proofs.Common.{◌≡◌, ℕ, ◌+◌, ◌≤◌, Bool, true, false, not, List, [], ◌∷◌, ◌++◌, length, map, refl, sym, ap, subst, ◌∙◌, append_assoc, length-append, All, Option, Some, None, Ok, arith}
+use Rattle.std.proofs.Common.{◌≡◌, ℕ, ◌+◌, ◌<◌, ◌≤◌, Bool, true, false, not, List, [], ◌∷◌, ◌++◌, length, map, refl, sym, ap, subst, ◌∙◌, append_assoc, append-nil, length-append, All, Vec, Option, Some, None, Ok, arith}
 use Rattle.std.specs.Prelude.{find, is_some}
-use Rattle.std.proofs.lemmas.List.{map-append}
+use Rattle.std.proofs.lemmas.List.{map-append, length-map}
+use Rattle.std.specs.declared.alloc.Global.{Global}
 use Rattle.std.proofs.lemmas.List.Elements.{All-head, All-tail, All-push}
 use Rattle.bec_bytes.specs.Framed.{framed, stream_of, HoldsPiece}
-use Rattle.bec_bytes.proofs.Frames.{length-framed, one_front, stream_of-nil, stream_of-push}
+use Rattle.std.proofs.lemmas.List.Concat.{flat_map-append}
+use Rattle.bec_bytes.proofs.Frames.{length-framed, one_front, stream_of-cons, stream_of-nil, stream_of-push}
 use Rattle.update_model.specs.declared.update_id.UpdateId.{UpdateId}
 use Rattle.update_model.specs.Entry.{Entry}
 use Rattle.update_model.specs.Graph.{IsNext, IsClosed, holds, lacking, position_of, is_within}
@@ -12,13 +14,14 @@ use Rattle.update_model.specs.Rule.{RuleData}
 use Rattle.update_model.proofs.Closed.{Follows-push, Follows-pop, IsNext-from_tests, position_of-held}
 use Rattle.update_codec.specs.Parts.{entry_of}
 use Rattle.update_codec.specs.declared.limits.TheConstants.{UPDATE_LIMIT}
+use Rattle.record_check.specs.Records.{IsCheckedFront, bytes_of}
 use Rattle.update_check.specs.Signed.{IsChecked}
 use Rattle.update_check.specs.Members.{AreMembers}
 use Rattle.hash_graph.specs.declared.added.Added.TheVariants.{New, Known}
 use Rattle.hash_graph.specs.declared.refusal.Refusal.{Refusal}
 use Rattle.hash_graph.specs.declared.refusal.Refusal.TheVariants.{Lacks, Full, Memory}
 use Rattle.hash_graph.specs.Answer.{answer_by, answer_of, IsRefusedBy}
-use Rattle.update_log.specs.Reading.{IsStop}
+use Rattle.update_log.specs.Reading.{HoldsRecords, IsStop, StopsAt, TakesSome}
 
 -- ---- one member more
 
@@ -124,3 +127,123 @@ no_records graph bytes is = sym (ap (λ (l : List (List ℕ)). stream_of l ++ by
 
 pub no_length : (graph : List (List ℕ)) → graph ≡ [] → 0 ≡ length (stream_of graph)
 no_length graph is = sym (ap (λ (l : List (List ℕ)). length (stream_of l)) is ∙ ap length stream_of-nil)
+
+-- ---- records that are taken in parts
+
+pub middle_of : {X : Type 0} (P : X → Type 0) (xs ys : List X) (x : X) → All P (xs ++ x ∷ ys) → P x
+middle_of P [] ys x all = All-head P x ys all
+middle_of P (y ∷ xs) ys x all = middle_of P xs ys x (All-tail P y (xs ++ x ∷ ys) all)
+
+-- what was taken of the front of some records
+pub takes_more : (rule : RuleData) (old records front rest new : List (List ℕ)) → records ≡ front ++ rest → TakesSome rule old front new → TakesSome rule old records new
+takes_more rule old records front rest new parts some = record {
+  taken = some.taken;
+  next = some.next;
+  more = some.more ++ rest;
+  parts = parts ∙ ap (λ (l : List (List ℕ)). l ++ rest) some.parts ∙ append_assoc some.taken (some.next ∷ some.more) rest;
+  list = some.list;
+  members = some.members;
+  refused = some.refused;
+}
+
+fewer : (rule : RuleData) (old records front rest new : List (List ℕ)) → records ≡ front ++ rest → length front + 1 ≤ length records → ((r : List ℕ) (more : List (List ℕ)) → rest ≡ r ∷ more → IsChecked rule r → ⊥)
+    → new ≡ old ++ front → AreMembers rule new → TakesSome rule old records new
+fewer rule old records front [] new parts few not list are = absurd (let size = ap length parts in omega (arith, length-append front [], few, size))
+fewer rule old records front (r ∷ more) new parts few not list are = record {
+  taken = front;
+  next = r;
+  more = more;
+  parts = parts;
+  list = list;
+  members = are;
+  refused = unchecked_stops rule new r (not r more refl);
+}
+
+-- the records in front of the first that is no checked update
+pub takes_front : (rule : RuleData) (old records front new : List (List ℕ)) → IsCheckedFront rule records front → length front + 1 ≤ length records → (new ≡ old ++ front) × AreMembers rule new → TakesSome rule old records new
+takes_front rule old records front new is few taken = fewer rule old records front is.rest new is.parts few is.refused taken.0 taken.1
+
+none_left : (records front rest : List (List ℕ)) → records ≡ front ++ rest → length records ≤ length front → front ≡ records
+none_left records front [] parts few = sym (parts ∙ append-nil front)
+none_left records front (r ∷ more) parts few = absurd (let size = ap length parts in omega (arith, length-append front (r ∷ more), few, size))
+
+-- all records
+pub takes_all : (rule : RuleData) (old records front new : List (List ℕ)) → IsCheckedFront rule records front → length records ≤ length front → (new ≡ old ++ front) × AreMembers rule new → (new ≡ old ++ records) × AreMembers rule new
+takes_all rule old records front new is few taken = (taken.0 ∙ ap (λ (l : List (List ℕ)). old ++ l) (none_left records front is.rest is.parts few), taken.1)
+
+stream_parts : (xs ys : List (List ℕ)) → stream_of (xs ++ ys) ≡ stream_of xs ++ stream_of ys
+unfolding stream_of
+stream_parts xs ys = flat_map-append framed xs ys
+
+-- a part that is taken whole
+pub part_taken : (bytes before after : List ℕ) (old records new : List (List ℕ)) → bytes ≡ stream_of old ++ before → before ≡ stream_of records ++ after → new ≡ old ++ records → bytes ≡ stream_of new ++ after
+part_taken bytes before after old records new is holds list =
+    is ∙ ap (λ (l : List ℕ). stream_of old ++ l) holds ∙ sym (append_assoc (stream_of old) (stream_of records) after)
+    ∙ ap (λ (l : List ℕ). l ++ after) (sym (stream_parts old records) ∙ ap stream_of (sym list))
+
+pub part_length : (old records new : List (List ℕ)) → new ≡ old ++ records → length (stream_of new) ≡ length (stream_of old) + length (stream_of records)
+part_length old records new list = ap (λ (l : List (List ℕ)). length (stream_of l)) list ∙ ap length (stream_parts old records) ∙ length-append (stream_of old) (stream_of records)
+
+-- a part that is taken up to a place is where a list ends
+pub part_stops : (rule : RuleData) (bytes before after : List ℕ) (old records new : List (List ℕ)) → bytes ≡ stream_of old ++ before → HoldsRecords before records after → TakesSome rule old records new → StopsAt rule bytes new
+part_stops rule bytes before after old records new is holds some =
+    let tail = stream_of some.more ++ after in
+    let split : stream_of records ≡ stream_of some.taken ++ (framed some.next ++ stream_of some.more) =
+    ap stream_of some.parts ∙ stream_parts some.taken (some.next ∷ some.more) ∙ ap (λ (l : List ℕ). stream_of some.taken ++ l) (stream_of-cons some.next some.more) in
+    let from : before ≡ stream_of some.taken ++ (framed some.next ++ tail) =
+    holds.parts ∙ ap (λ (l : List ℕ). l ++ after) split ∙ append_assoc (stream_of some.taken) (framed some.next ++ stream_of some.more) after
+    ∙ ap (λ (l : List ℕ). stream_of some.taken ++ l) (append_assoc (framed some.next) (stream_of some.more) after) in
+    let short = middle_of (λ (r : List ℕ). length r ≤ UPDATE_LIMIT) some.taken some.more some.next (subst (All (λ (r : List ℕ). length r ≤ UPDATE_LIMIT)) some.parts holds.short) in (
+      framed some.next ++ tail,
+      part_taken bytes before (framed some.next ++ tail) old some.taken new is from some.list,
+      stop_here rule new (framed some.next ++ tail) some.next tail (record { short = short; parts = refl }) some.refused,
+    )
+
+pub part_shorter : (rule : RuleData) (old records new : List (List ℕ)) → TakesSome rule old records new → length (stream_of new) ≤ length (stream_of old) + length (stream_of records)
+part_shorter rule old records new some =
+    omega (
+      arith,
+      part_length old some.taken new some.list,
+      ap (λ (l : List (List ℕ)). length (stream_of l)) some.parts,
+      ap length (stream_parts some.taken (some.next ∷ some.more)),
+      length-append (stream_of some.taken) (stream_of (some.next ∷ some.more)),
+    )
+
+-- a part has some bytes
+pub part_long : (records : List (List ℕ)) (n : ℕ) → n ≡ length records → 0 < n → 4 ≤ length (stream_of records)
+part_long [] n is some = absurd (omega arith)
+part_long (r ∷ rs) n is some = omega (arith, ap length (stream_of-cons r rs), length-append (framed r) (stream_of rs), length-framed r)
+
+-- one record more in a part
+pub one_more_held : (before after later : List ℕ) (records more : List (List ℕ)) (r : List ℕ) → HoldsRecords before records after → HoldsPiece UPDATE_LIMIT after r later → more ≡ records ++ r ∷ [] → HoldsRecords before more later
+one_more_held before after later records more r holds piece is_more = record {
+  short = subst (All (λ (x : List ℕ). length x ≤ UPDATE_LIMIT)) (sym is_more) (All-push (λ (x : List ℕ). length x ≤ UPDATE_LIMIT) records r holds.short piece.short);
+  parts = one_more_record before records more r after later is_more holds.parts piece.parts;
+}
+
+pub none_held : (before : List ℕ) (records : List (List ℕ)) → records ≡ [] → HoldsRecords before records before
+none_held before records is = record {
+  short = subst (All (λ (x : List ℕ). length x ≤ UPDATE_LIMIT)) (sym is) (λ k d low. absurd (omega (arith, low)));
+  parts = no_records records before is;
+}
+
+bytes_push : (old new : List (Vec ℕ Global)) (r : Vec ℕ Global) → new ≡ old ++ r ∷ [] → bytes_of new ≡ bytes_of old ++ r.items ∷ []
+bytes_push old new r is = ap bytes_of is ∙ map-append (λ (v : Vec ℕ Global). v.items) old (r ∷ [])
+
+-- one record more is read
+pub one_more_read : (before after later : List ℕ) (old new : List (Vec ℕ Global)) (r : Vec ℕ Global) → new ≡ old ++ r ∷ [] → HoldsRecords before (bytes_of old) after → HoldsPiece UPDATE_LIMIT after r.items later
+    → HoldsRecords before (bytes_of new) later
+one_more_read before after later old new r is holds piece = one_more_held before after later (bytes_of old) (bytes_of new) r.items holds piece (bytes_push old new r is)
+
+pub one_more_read_length : (old new : List (Vec ℕ Global)) (r : Vec ℕ Global) → new ≡ old ++ r ∷ [] → length (stream_of (bytes_of new)) ≡ length (stream_of (bytes_of old)) + (4 + length r.items)
+one_more_read_length old new r is = one_more_length (bytes_of old) (bytes_of new) r.items (bytes_push old new r is)
+
+none_behind : (records : List (List ℕ)) (before after : List ℕ) → HoldsRecords before records after → length records ≡ 0 → ((r rest : List ℕ) → HoldsPiece UPDATE_LIMIT after r rest → ⊥)
+    → (r rest : List ℕ) → HoldsPiece UPDATE_LIMIT before r rest → ⊥
+none_behind [] before after holds few none r rest piece = none r rest (subst (λ (l : List ℕ). HoldsPiece UPDATE_LIMIT l r rest) (holds.parts ∙ ap (λ (l : List ℕ). l ++ after) stream_of-nil) piece)
+none_behind (x ∷ xs) before after holds few none r rest piece = absurd (omega (arith, few))
+
+-- where no record was read, none stands
+pub none_read : (records : List (Vec ℕ Global)) (before after : List ℕ) → HoldsRecords before (bytes_of records) after → length records ≡ 0 → ((r rest : List ℕ) → HoldsPiece UPDATE_LIMIT after r rest → ⊥)
+    → (r rest : List ℕ) → HoldsPiece UPDATE_LIMIT before r rest → ⊥
+none_read records before after holds few = none_behind (bytes_of records) before after holds (length-map records (λ (v : Vec ℕ Global). v.items) ∙ few)

@@ -1,5 +1,5 @@
 -- Reading a disk from front to back, record by record.
-use Rattle.std.specs.Prelude.{◌≡◌, ℕ, ◌+◌, ◌^◌, ◌<◌, ◌≤◌, true, false, Bool, List, [], ◌∷◌, ◌++◌, length, drop, IsTrue, Vec, Some, None}
+use Rattle.std.specs.Prelude.{◌≡◌, ℕ, ◌+◌, ◌^◌, ◌<◌, ◌≤◌, true, false, Bool, List, [], ◌∷◌, ◌++◌, All, length, drop, IsTrue, Vec, Some, None}
 use Rattle.std.specs.declared.option.Option.{Option}
 use Rattle.std.specs.declared.alloc.Global.{Global}
 use Rattle.bec_bytes.specs.Framed.{HoldsPiece, framed, stream_of}
@@ -40,10 +40,30 @@ abbrev pub FindsRecord : List ℕ → List ℕ → Option (Vec ℕ Global) → T
 FindsRecord before after (Some r) = HoldsPiece UPDATE_LIMIT before r.items after
 FindsRecord before after None = (r rest : List ℕ) → HoldsPiece UPDATE_LIMIT before r rest → ⊥
 
+-- The records stand at the front, one behind another and each within the limit, and then the rest.
+pub record HoldsRecords (before : List ℕ) (records : List (List ℕ)) (after : List ℕ) : Type 0 where
+  pub short : All (λ r. length r ≤ UPDATE_LIMIT) records
+  pub parts : before ≡ stream_of records ++ after
+
 -- The member stands last, or it can't be taken.
 abbrev pub TakesOne : RuleData → List (List ℕ) → List ℕ → Bool → List (List ℕ) → Type 0
 TakesOne rule old r true new = (new ≡ old ++ r ∷ []) × AreMembers rule new
 TakesOne rule old r false new = (new ≡ old) × (AreMembers rule (old ++ r ∷ []) → ⊥)
+
+-- The records stand last up to one that can't be taken.
+pub record TakesSome (rule : RuleData) (old records new : List (List ℕ)) : Type 0 where
+  pub taken : List (List ℕ)
+  pub next : List ℕ
+  pub more : List (List ℕ)
+  pub parts : records ≡ taken ++ next ∷ more
+  pub list : new ≡ old ++ taken
+  pub members : AreMembers rule new
+  pub refused : AreMembers rule (new ++ next ∷ []) → ⊥
+
+-- All records stand last, or those up to one that can't be taken.
+abbrev pub TakesPart : RuleData → List (List ℕ) → List (List ℕ) → Bool → List (List ℕ) → Type 0
+TakesPart rule old records true new = (new ≡ old ++ records) × AreMembers rule new
+TakesPart rule old records false new = TakesSome rule old records new
 
 -- No record that stands here can be taken after these members.
 abbrev pub IsStop : RuleData → List (List ℕ) → List ℕ → Type 0

@@ -6,7 +6,7 @@
 //! a call that failed, part of the batch may be there: the log is unsure until [`Log::repair`] has cut it.
 //!
 //! ```text
-//! let (mut log, mut graph) = Log::open_log(alloc, disk, &rule)?;
+//! let (mut log, mut graph) = Log::open_log(verifier, alloc, disk, &rule)?;
 //! let before = graph.len();
 //! graph.add(update)?;
 //! log.append(graph.tail(before))?;
@@ -22,6 +22,7 @@
 mod laws;
 mod log;
 mod opening;
+mod part;
 mod piece_reader;
 mod writing;
 

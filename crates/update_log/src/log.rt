@@ -3,6 +3,7 @@ use crate::piece_reader::PIECE;
 use crate::writing::write_records;
 use bec_disk::{Disk, DiskError, DiskFault, cut_synced};
 use hash_graph::Graph;
+use record_check::Verifier;
 use std::alloc::Global;
 use std::marker::Model;
 use update_check::Checked;
@@ -43,8 +44,9 @@ impl<D: Disk> Log<D> {
     ghost use Rattle.update_check.specs.Members.{AreMembers};
 
     /// Opens a log on a disk that is settled, and answers it with the graph of its updates: those of the longest front of
-    /// whole records that are a closed list under the rule. What stands behind them is cut.
-    pub fn open_log(
+    /// whole records that are a closed list under the rule. What stands behind them is cut. The verifier checks the records.
+    pub fn open_log<V: Verifier>(
+        verifier: &V,
         alloc: Global,
         mut disk: D,
         rule: &DbRule,
@@ -64,7 +66,7 @@ impl<D: Disk> Log<D> {
         ensures later_err { IfErr result (λ fault. D.faults disk ≤ D.faults fault.disk) }
         ensures fault { IfErr result (λ fault. fault.why ≡ DiskError.DiskFault → Rose (D.faults disk) (D.faults fault.disk)) }
     {
-        match open_at(alloc, &mut disk, rule) {
+        match open_at(verifier, alloc, &mut disk, rule) {
             Ok(opened) => {
                 let Opened {
                     graph,

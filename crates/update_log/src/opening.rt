@@ -1,19 +1,23 @@
 //! Which records of a disk are a closed list under a rule, and cutting what stands behind them.
 
-ghost use Rattle.std.specs.Prelude.{◌≡◌, ◌≤◌, ◌<◌, ◌+◌, ◌^◌, IsTrue, IfOk, IsErrOf, length};
+ghost use Rattle.std.specs.Prelude.{◌≡◌, ◌≤◌, ◌<◌, ◌+◌, ◌^◌, All, IsTrue, IfOk, IsErrOf, length};
 ghost use Rattle.bec_bytes.specs.Causes.{Rose};
 ghost use Rattle.bec_bytes.specs.Framed.{stream_of};
 ghost use Rattle.bec_disk.specs.Disk.{IsSettled};
 ghost use Rattle.update_log.specs.Log.{IsClean, KeepsLogset};
 ghost use Rattle.update_log.specs.Logset.{IsLogset};
 ghost use Rattle.update_check.specs.Members.{AreMembers};
-ghost use Rattle.update_log.specs.Reading.{IsOver, StopsAt, TakesOne, count_left, left_of};
+ghost use Rattle.record_check.specs.Records.{bytes_of};
+ghost use Rattle.update_check.specs.Signed.{IsChecked};
+ghost use Rattle.update_log.specs.Reading.{IsOver, StopsAt, TakesOne, TakesPart, count_left, left_of};
 
+use crate::part::next_part;
 use crate::piece_reader::{PIECE, PieceReader};
 use bec_disk::{Disk, DiskError, cut_synced};
 use hash_graph::{Added, Graph, Refusal};
+use record_check::Verifier;
 use std::alloc::{AllocError, Global};
-use update_check::{CheckError, Checked, check};
+use update_check::Checked;
 use update_model::DbRule;
 
 /// What stands on the disk of a log that is opened.
@@ -29,7 +33,12 @@ pub struct Opened {
 }
 
 /// Takes the records that can be taken, and cuts a disk behind them.
-pub fn open_at<D: Disk>(alloc: Global, disk: &mut D, rule: &DbRule) -> Result<Opened, DiskError>
+pub fn open_at<V: Verifier, D: Disk>(
+    verifier: &V,
+    alloc: Global,
+    disk: &mut D,
+    rule: &DbRule,
+) -> Result<Opened, DiskError>
     requires { IsTrue (D.state disk.old).tells → IsSettled (D.state disk.old) }
     ensures members { IfOk result (λ opened. AreMembers rule.now opened.graph) }
     ensures end { IfOk result (λ opened. opened.end ≡ length (stream_of opened.graph)) }
@@ -44,7 +53,8 @@ pub fn open_at<D: Disk>(alloc: Global, disk: &mut D, rule: &DbRule) -> Result<Op
 {
     let len = disk.len()?;
     let mut reader = PieceReader::new(alloc, len)?;
-    let (graph, end) = scan(alloc, disk, rule, &mut reader)?;
+    let graph = scan(verifier, alloc, disk, rule, &mut reader)?;
+    let end = end_of(&graph);
     let opened = Opened {
         graph,
         end,
@@ -58,51 +68,93 @@ pub fn open_at<D: Disk>(alloc: Global, disk: &mut D, rule: &DbRule) -> Result<Op
     Ok(opened)
 }
 
-/// Takes records into a graph up to the first that can't be taken, and answers the graph and where its records end.
-fn scan<D: Disk>(
+/// How long the records of a graph's members are.
+fn end_of(graph: &Graph<Checked>) -> u64
+    ensures { result ≡ length (stream_of graph.now) }
+{
+    4 * u64::from(graph.len()) + graph.byte_len()
+}
+
+/// Takes records into a graph up to the first that can't be taken. They are read and checked in parts.
+fn scan<V: Verifier, D: Disk>(
+    verifier: &V,
     alloc: Global,
     disk: &mut D,
     rule: &DbRule,
     reader: &mut PieceReader,
-) -> Result<(Graph<Checked>, u64), DiskError>
-    requires over { IsOver reader.old (D.state disk.old) }
-    requires fits { count_left reader.old < 2 ^ 64 }
-    ensures members { IfOk result (λ found. AreMembers rule.now found.0) }
-    ensures end { IfOk result (λ found. found.1 ≡ length (stream_of found.0)) }
-    ensures within { IfOk result (λ found. found.1 ≤ count_left reader.old) }
-    ensures stops { IsTrue (D.state disk.old).tells → IfOk result (λ found. StopsAt rule.now (left_of reader.old (D.state disk.old).seen) found.0) }
+) -> Result<Graph<Checked>, DiskError>
+    requires { IsOver reader.old (D.state disk.old) }
+    ensures members { IfOk result (AreMembers rule.now) }
+    ensures within { IfOk result (λ graph. length (stream_of graph) ≤ count_left reader.old) }
+    ensures stops { IsTrue (D.state disk.old).tells → IfOk result (StopsAt rule.now (left_of reader.old (D.state disk.old).seen)) }
     ensures same { D.state disk.new ≡ D.state disk.old }
     ensures later { D.faults disk.old ≤ D.faults disk.new }
     ensures failed { IsErrOf result DiskError.DiskFault → Rose (D.faults disk.old) (D.faults disk.new) }
 {
     let mut graph = Graph::new(alloc);
-    let mut end = 0;
-    'records: while let Some(bytes) = reader.next_record(alloc, disk)? {
-        let next = end + (4 + bytes.len() as u64);
-        if !take_record(alloc, rule, &mut graph, bytes)? {
-            return Ok((graph, end));
+    'parts: loop {
+        let records = next_part(alloc, disk, reader)?;
+        if records.len() == 0 {
+            return Ok(graph);
         }
-        end = next;
+        if !take_part(verifier, alloc, rule, &mut graph, records)? {
+            return Ok(graph);
+        }
     }
-    Ok((graph, end))
 }
 
-/// Takes a record into the graph, if it can stand there next.
-fn take_record(
+/// Takes the records of a part into the graph, up to the first that can't stand there next, and tells whether these are all.
+fn take_part<V: Verifier>(
+    verifier: &V,
     alloc: Global,
     rule: &DbRule,
     graph: &mut Graph<Checked>,
-    bytes: Vec<u8>,
+    records: Vec<Vec<u8>>,
 ) -> Result<bool, AllocError>
     requires { AreMembers rule.now graph.old }
-    ensures { IfOk result (λ taken. TakesOne rule.now graph.old bytes.items taken graph.new) }
+    ensures { IfOk result (λ all. TakesPart rule.now graph.old (bytes_of records.items) all graph.new) }
 {
-    let checked = match check(alloc, rule, bytes) {
-        Ok(checked) => checked,
-        Err(CheckError::Fault(_fault)) => return Ok(false),
-        Err(CheckError::Memory) => return Err(AllocError),
-    };
-    match graph.add(checked) {
+    let count = records.len();
+    let front = verifier.check_front(alloc, rule, records)?;
+    let checked = front.len();
+    if !take_front(rule, graph, front)? {
+        return Ok(false);
+    }
+    if checked < count {
+        return Ok(false);
+    }
+    Ok(true)
+}
+
+/// Takes checked updates into the graph, up to the first that can't stand there next, and tells whether these are all.
+fn take_front(
+    rule: &DbRule,
+    graph: &mut Graph<Checked>,
+    front: Vec<Checked>,
+) -> Result<bool, AllocError>
+    requires members { AreMembers rule.now graph.old }
+    requires checked { All (IsChecked rule.now) front.items }
+    ensures { IfOk result (λ all. TakesPart rule.now graph.old front.items all graph.new) }
+{
+    for update in front {
+        if !take_update(rule, graph, update)? {
+            return Ok(false);
+        }
+    }
+    Ok(true)
+}
+
+/// Takes a checked update into the graph, if it can stand there next.
+fn take_update(
+    _rule: &DbRule,
+    graph: &mut Graph<Checked>,
+    update: Checked,
+) -> Result<bool, AllocError>
+    requires members { AreMembers _rule.now graph.old }
+    requires checked { IsChecked _rule.now update }
+    ensures { IfOk result (λ taken. TakesOne _rule.now graph.old update taken graph.new) }
+{
+    match graph.add(update) {
         Ok(Added::New(_position)) => Ok(true),
         Ok(Added::Known(_position)) => Ok(false),
         Err(refused) => match refused.why {

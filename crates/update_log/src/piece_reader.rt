@@ -1,6 +1,6 @@
 //! Reading a disk from front to back, in large pieces.
 
-ghost use Rattle.std.specs.Prelude.{◌≡◌, ◌≤◌, ◌<◌, ◌+◌, ◌^◌, [], IsTrue, IfOk, IfSome, OnOk, OnErr, IsErrOf, length, take, drop};
+ghost use Rattle.std.specs.Prelude.{◌≡◌, ◌≤◌, ◌<◌, ◌+◌, ◌^◌, [], IsTrue, IfOk, IfNone, IfSome, OnOk, OnErr, IsErrOf, length, take, drop};
 ghost use Rattle.std.specs.Int.{w32, to_be_bytes};
 ghost use Rattle.bec_bytes.specs.Causes.{HasCause, Rose};
 ghost use Rattle.update_log.specs.Reading.{FindsRecord, IsOver, count_left, left_of};
@@ -68,6 +68,8 @@ impl PieceReader {
     ) -> Result<Option<Vec<u8>>, DiskError>
         requires { IsOver self.old (D.state disk.old) }
         ensures found { IsTrue (D.state disk.old).tells → IfOk result (λ found. FindsRecord (left_of self.old (D.state disk.old).seen) (left_of self.new (D.state disk.old).seen) found) }
+        ensures left { IsTrue (D.state disk.old).tells → IfOk result (λ found. IfNone found (left_of self.new (D.state disk.old).seen ≡ left_of self.old (D.state disk.old).seen)) }
+        ensures count_none { IfOk result (λ found. IfNone found (count_left self.new ≡ count_left self.old)) }
         ensures count { IfOk result (λ found. IfSome found (λ r. count_left self.new + (4 + length r.items) ≡ count_left self.old)) }
         ensures over { IsOver self.new (D.state disk.new) }
         ensures same { D.state disk.new ≡ D.state disk.old }

@@ -15,6 +15,7 @@ use bec_links::Net;
 use node_commands::status::{DONE, OUT_OF_MEMORY};
 use node_commands::{Refusal, each_stands, peers_of};
 use peer_memory::Peers;
+use record_check::ManyThreads;
 use replica::Replica;
 use row_check::{Luhn, Native};
 use schema::one_schema;
@@ -43,7 +44,8 @@ where
     ensures { ServesStore directory.now asked (H.state shelf.old) (H.state shelf.new) (N.state net.old) (N.state net.new) (H.faults shelf.old) (H.faults shelf.new) (N.faults net.old) (N.faults net.new) result }
 {
     one_schema();
-    let store = take_store(alloc, shelf, directory, Native::new(Luhn))?;
+    let verifier = ManyThreads::new(rt);
+    let store = take_store(&verifier, alloc, shelf, directory, Native::new(Luhn))?;
     let OpenStore { schema, replica } = store;
     let (replica, told) = serve_open(rt, alloc, shelf, net, directory, address, asked, replica);
     put_store(shelf, directory, OpenStore { schema, replica });

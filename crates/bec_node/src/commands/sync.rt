@@ -14,6 +14,7 @@ use bec_disk::{Disk, Shelf};
 use bec_links::Net;
 use node_commands::{Refusal, each_stands, keep_peers, peers_of};
 use peer_memory::Peers;
+use record_check::ManyThreads;
 use replica::Replica;
 use row_check::{Luhn, Native};
 use schema::one_schema;
@@ -23,11 +24,12 @@ use sha2::{Digest, Sha256};
 use shared_replica::Shared;
 use std::alloc::Global;
 use std::sync::Wait;
+use std::thread::Threads;
 use store_directory::{OpenStore, put_store, take_store};
 use update_model::DbRule;
 
 /// Meets the node at an address, and tells what the store of a directory gained.
-pub(crate) fn sync_in<T: Wait, H: Shelf, N: Net>(
+pub(crate) fn sync_in<T: Threads + Wait, H: Shelf, N: Net>(
     rt: &T,
     alloc: Global,
     shelf: &mut H,
@@ -39,7 +41,8 @@ pub(crate) fn sync_in<T: Wait, H: Shelf, N: Net>(
     ensures { SyncsStore directory.now address.now (H.state shelf.old) (H.state shelf.new) (N.state net.old) (N.state net.new) (H.faults shelf.old) (H.faults shelf.new) (N.faults net.old) (N.faults net.new) result }
 {
     one_schema();
-    let store = take_store(alloc, shelf, directory, Native::new(Luhn))?;
+    let verifier = ManyThreads::new(rt);
+    let store = take_store(&verifier, alloc, shelf, directory, Native::new(Luhn))?;
     let OpenStore { schema, replica } = store;
     let (replica, told) = sync_open(rt, alloc, shelf, net, directory, address, replica);
     put_store(shelf, directory, OpenStore { schema, replica });

@@ -18,6 +18,7 @@ use bec_bytes::{Sink, Source};
 use bec_disk::{Disk, Shelf};
 use key_index::KeyStore;
 use rand_core::Rng;
+use record_check::Verifier;
 use replica::Replica;
 use row_check::{Luhn, Native};
 use schema::{Schema, one_schema};
@@ -30,7 +31,8 @@ use update_model::OpList;
 /// directory's store, and prints its id. The first word has to be `apply`.
 ///
 /// Its clause is that of [`run_alone`](crate::run_alone) for these words.
-pub fn command_apply<H: Shelf, R: Rng, S: Source, K: Sink>(
+pub fn command_apply<V: Verifier, H: Shelf, R: Rng, S: Source, K: Sink>(
+    verifier: &V,
     alloc: Global,
     words: &[String],
     shelf: &mut H,
@@ -44,11 +46,12 @@ pub fn command_apply<H: Shelf, R: Rng, S: Source, K: Sink>(
         (outside S.left S.faults H.state H.faults R.stream input.old shelf.old random.old) (outside S.left S.faults H.state H.faults R.stream input.new shelf.new random.new)
         (record { held = K.held out.old; faults = K.faults out.old }) (record { held = K.held out.new; faults = K.faults out.new }) result }
 {
-    run_alone(alloc, words, shelf, random, input, out)
+    run_alone(verifier, alloc, words, shelf, random, input, out)
 }
 
 /// Makes an update in the store of a directory, by its key, and answers the line of its id.
-pub fn apply_in<H: Shelf, R: Rng, S: Source>(
+pub fn apply_in<V: Verifier, H: Shelf, R: Rng, S: Source>(
+    verifier: &V,
     alloc: Global,
     shelf: &mut H,
     dir: &str,
@@ -60,7 +63,7 @@ pub fn apply_in<H: Shelf, R: Rng, S: Source>(
         (outside S.left S.faults H.state H.faults R.stream input.new shelf.new random.new) result }
 {
     one_schema();
-    let mut store = take_store(alloc, shelf, dir, Native::new(Luhn))?;
+    let mut store = take_store(verifier, alloc, shelf, dir, Native::new(Luhn))?;
     let outcome = apply_to(alloc, shelf, dir, &mut store.replica, random, input);
     put_store(shelf, dir, store);
     outcome

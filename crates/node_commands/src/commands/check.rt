@@ -12,6 +12,7 @@ use bec_bytes::{Sink, Source};
 use bec_disk::Shelf;
 use confluence_test::take_schema;
 use rand_core::Rng;
+use record_check::Verifier;
 use row_check::{Luhn, Native};
 use schema::MAX_SCHEMA_BYTES;
 use std::alloc::Global;
@@ -21,7 +22,8 @@ use std::alloc::Global;
 /// first word has to be `check`.
 ///
 /// Its clause is that of [`run_alone`](crate::run_alone) for these words.
-pub fn command_check<H: Shelf, R: Rng, S: Source, K: Sink>(
+pub fn command_check<V: Verifier, H: Shelf, R: Rng, S: Source, K: Sink>(
+    verifier: &V,
     alloc: Global,
     words: &[String],
     shelf: &mut H,
@@ -35,7 +37,7 @@ pub fn command_check<H: Shelf, R: Rng, S: Source, K: Sink>(
         (outside S.left S.faults H.state H.faults R.stream input.old shelf.old random.old) (outside S.left S.faults H.state H.faults R.stream input.new shelf.new random.new)
         (record { held = K.held out.old; faults = K.faults out.old }) (record { held = K.held out.new; faults = K.faults out.new }) result }
 {
-    run_alone(alloc, words, shelf, random, input, out)
+    run_alone(verifier, alloc, words, shelf, random, input, out)
 }
 
 /// What is said of a schema whose invariants all survive merging.

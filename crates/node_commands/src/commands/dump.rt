@@ -17,6 +17,7 @@ use bec_bytes::{Sink, Source};
 use bec_disk::Shelf;
 use confluence_test::take_schema;
 use rand_core::Rng;
+use record_check::Verifier;
 use row_check::{Luhn, Native};
 use schema::one_schema;
 use std::alloc::Global;
@@ -27,7 +28,8 @@ use store_directory::{put_store, take_store};
 /// word has to be `dump`.
 ///
 /// Its clause is that of [`run_alone`](crate::run_alone) for these words.
-pub fn command_dump<H: Shelf, R: Rng, S: Source, K: Sink>(
+pub fn command_dump<V: Verifier, H: Shelf, R: Rng, S: Source, K: Sink>(
+    verifier: &V,
     alloc: Global,
     words: &[String],
     shelf: &mut H,
@@ -41,7 +43,7 @@ pub fn command_dump<H: Shelf, R: Rng, S: Source, K: Sink>(
         (outside S.left S.faults H.state H.faults R.stream input.old shelf.old random.old) (outside S.left S.faults H.state H.faults R.stream input.new shelf.new random.new)
         (record { held = K.held out.old; faults = K.faults out.old }) (record { held = K.held out.new; faults = K.faults out.new }) result }
 {
-    run_alone(alloc, words, shelf, random, input, out)
+    run_alone(verifier, alloc, words, shelf, random, input, out)
 }
 
 /// The tables of a bundle, as they are printed.
@@ -62,7 +64,8 @@ pub fn bundle_tables<S: Source>(
 }
 
 /// The tables of the store of a directory, as they are printed.
-pub fn dump_in<H: Shelf>(
+pub fn dump_in<V: Verifier, H: Shelf>(
+    verifier: &V,
     alloc: Global,
     shelf: &mut H,
     dir: &str,
@@ -72,7 +75,7 @@ pub fn dump_in<H: Shelf>(
     ensures { ReadsShelf (ReadsStore (Printing (ShowsTables json))) dir.now (H.state shelf.old) (H.state shelf.new) (H.faults shelf.old) (H.faults shelf.new) result }
 {
     one_schema();
-    let store = take_store(alloc, shelf, dir, Native::new(Luhn))?;
+    let store = take_store(verifier, alloc, shelf, dir, Native::new(Luhn))?;
     each_stands(&store.replica);
     let text = replica_tables(alloc, &store.replica, json);
     put_store(shelf, dir, store);

@@ -12,6 +12,7 @@ use crate::standing::each_stands;
 use bec_bytes::{Sink, Source};
 use bec_disk::{Disk, Shelf};
 use rand_core::Rng;
+use record_check::Verifier;
 use replica::Replica;
 use row_check::{Luhn, Native};
 use schema::one_schema;
@@ -23,7 +24,8 @@ use update_model::Member;
 /// of arrival, or the updates alone. The first word has to be `export`.
 ///
 /// Its clause is that of [`run_alone`](crate::run_alone) for these words.
-pub fn command_export<H: Shelf, R: Rng, S: Source, K: Sink>(
+pub fn command_export<V: Verifier, H: Shelf, R: Rng, S: Source, K: Sink>(
+    verifier: &V,
     alloc: Global,
     words: &[String],
     shelf: &mut H,
@@ -37,11 +39,12 @@ pub fn command_export<H: Shelf, R: Rng, S: Source, K: Sink>(
         (outside S.left S.faults H.state H.faults R.stream input.old shelf.old random.old) (outside S.left S.faults H.state H.faults R.stream input.new shelf.new random.new)
         (record { held = K.held out.old; faults = K.faults out.old }) (record { held = K.held out.new; faults = K.faults out.new }) result }
 {
-    run_alone(alloc, words, shelf, random, input, out)
+    run_alone(verifier, alloc, words, shelf, random, input, out)
 }
 
 /// The bundle of the store of a directory, or its update stream alone.
-pub fn export_in<H: Shelf>(
+pub fn export_in<V: Verifier, H: Shelf>(
+    verifier: &V,
     alloc: Global,
     shelf: &mut H,
     dir: &str,
@@ -51,7 +54,7 @@ pub fn export_in<H: Shelf>(
     ensures { ReadsShelf (ReadsStore (Printing (ShowsRecords updates_only))) dir.now (H.state shelf.old) (H.state shelf.new) (H.faults shelf.old) (H.faults shelf.new) result }
 {
     one_schema();
-    let store = take_store(alloc, shelf, dir, Native::new(Luhn))?;
+    let store = take_store(verifier, alloc, shelf, dir, Native::new(Luhn))?;
     each_stands(&store.replica);
     let text = exported(alloc, &store.replica, updates_only);
     put_store(shelf, dir, store);

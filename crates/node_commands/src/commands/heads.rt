@@ -19,6 +19,7 @@ use crate::stream::read_graph;
 use bec_bytes::{Sink, Source};
 use bec_disk::{Disk, Shelf};
 use rand_core::Rng;
+use record_check::Verifier;
 use replica::Replica;
 use row_check::{Luhn, Native};
 use schema::one_schema;
@@ -30,7 +31,8 @@ use update_model::UpdateId;
 /// rising, one per line in lower-case hexadecimal; or the line for what is refused. The first word has to be `heads`.
 ///
 /// Its clause is that of [`run_alone`](crate::run_alone) for these words.
-pub fn command_heads<H: Shelf, R: Rng, S: Source, K: Sink>(
+pub fn command_heads<V: Verifier, H: Shelf, R: Rng, S: Source, K: Sink>(
+    verifier: &V,
     alloc: Global,
     words: &[String],
     shelf: &mut H,
@@ -44,7 +46,7 @@ pub fn command_heads<H: Shelf, R: Rng, S: Source, K: Sink>(
         (outside S.left S.faults H.state H.faults R.stream input.old shelf.old random.old) (outside S.left S.faults H.state H.faults R.stream input.new shelf.new random.new)
         (record { held = K.held out.old; faults = K.faults out.old }) (record { held = K.held out.new; faults = K.faults out.new }) result }
 {
-    run_alone(alloc, words, shelf, random, input, out)
+    run_alone(verifier, alloc, words, shelf, random, input, out)
 }
 
 /// The heads of a stream, as they are printed.
@@ -58,12 +60,17 @@ pub fn stream_heads<S: Source>(alloc: Global, input: &mut S) -> Result<Vec<u8>, 
 }
 
 /// The heads of the store of a directory, as they are printed.
-pub fn heads_in<H: Shelf>(alloc: Global, shelf: &mut H, dir: &str) -> Result<Vec<u8>, Refusal>
+pub fn heads_in<V: Verifier, H: Shelf>(
+    verifier: &V,
+    alloc: Global,
+    shelf: &mut H,
+    dir: &str,
+) -> Result<Vec<u8>, Refusal>
     requires { IsTrue (H.state shelf.old).tells → IsHome (H.state shelf.old) }
     ensures { ReadsShelf (ReadsStore (Printing ShowsHeads)) dir.now (H.state shelf.old) (H.state shelf.new) (H.faults shelf.old) (H.faults shelf.new) result }
 {
     one_schema();
-    let store = take_store(alloc, shelf, dir, Native::new(Luhn))?;
+    let store = take_store(verifier, alloc, shelf, dir, Native::new(Luhn))?;
     each_stands(&store.replica);
     let text = replica_heads(alloc, &store.replica);
     put_store(shelf, dir, store);

@@ -13,6 +13,7 @@ use bec_bytes::{Sink, Source};
 use bec_disk::Shelf;
 use confluence_test::{take_schema, taken_or_refused};
 use rand_core::Rng;
+use record_check::Verifier;
 use row_check::{Luhn, Native};
 use schema::{MAX_SCHEMA_BYTES, one_schema};
 use std::alloc::{AllocError, Global};
@@ -22,7 +23,8 @@ use store_directory::{is_there, new_store, put_store};
 /// database. The first word has to be `init`.
 ///
 /// Its clause is that of [`run_alone`](crate::run_alone) for these words.
-pub fn command_init<H: Shelf, R: Rng, S: Source, K: Sink>(
+pub fn command_init<V: Verifier, H: Shelf, R: Rng, S: Source, K: Sink>(
+    verifier: &V,
     alloc: Global,
     words: &[String],
     shelf: &mut H,
@@ -36,7 +38,7 @@ pub fn command_init<H: Shelf, R: Rng, S: Source, K: Sink>(
         (outside S.left S.faults H.state H.faults R.stream input.old shelf.old random.old) (outside S.left S.faults H.state H.faults R.stream input.new shelf.new random.new)
         (record { held = K.held out.old; faults = K.faults out.old }) (record { held = K.held out.new; faults = K.faults out.new }) result }
 {
-    run_alone(alloc, words, shelf, random, input, out)
+    run_alone(verifier, alloc, words, shelf, random, input, out)
 }
 
 /// Makes a store in a directory that has none, of the schema that is read, and answers the line of its database. The line is

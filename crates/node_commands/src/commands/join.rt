@@ -15,6 +15,7 @@ use bec_bytes::{Sink, Source};
 use bec_disk::{Disk, Shelf};
 use key_index::KeyStore;
 use rand_core::Rng;
+use record_check::Verifier;
 use replica::Replica;
 use row_check::{Luhn, Native};
 use schema::one_schema;
@@ -26,7 +27,8 @@ use update_model::UpdateId;
 /// nothing where there are fewer than two heads. The first word has to be `join`.
 ///
 /// Its clause is that of [`run_alone`](crate::run_alone) for these words.
-pub fn command_join<H: Shelf, R: Rng, S: Source, K: Sink>(
+pub fn command_join<V: Verifier, H: Shelf, R: Rng, S: Source, K: Sink>(
+    verifier: &V,
     alloc: Global,
     words: &[String],
     shelf: &mut H,
@@ -40,11 +42,12 @@ pub fn command_join<H: Shelf, R: Rng, S: Source, K: Sink>(
         (outside S.left S.faults H.state H.faults R.stream input.old shelf.old random.old) (outside S.left S.faults H.state H.faults R.stream input.new shelf.new random.new)
         (record { held = K.held out.old; faults = K.faults out.old }) (record { held = K.held out.new; faults = K.faults out.new }) result }
 {
-    run_alone(alloc, words, shelf, random, input, out)
+    run_alone(verifier, alloc, words, shelf, random, input, out)
 }
 
 /// Joins the heads of the store of a directory, by its key, and answers the line of the update's id, or nothing.
-pub fn join_in<H: Shelf, R: Rng>(
+pub fn join_in<V: Verifier, H: Shelf, R: Rng>(
+    verifier: &V,
     alloc: Global,
     shelf: &mut H,
     dir: &str,
@@ -54,7 +57,7 @@ pub fn join_in<H: Shelf, R: Rng>(
     ensures { MakesUpdate (random.new ≡ random.old) (JoinAnswer (R.stream random.old)) IsNoStop dir.now (H.state shelf.old) (H.state shelf.new) (H.faults shelf.old) (H.faults shelf.new) result }
 {
     one_schema();
-    let mut store = take_store(alloc, shelf, dir, Native::new(Luhn))?;
+    let mut store = take_store(verifier, alloc, shelf, dir, Native::new(Luhn))?;
     let outcome = join_to(alloc, shelf, dir, &mut store.replica, random);
     put_store(shelf, dir, store);
     outcome

@@ -12,6 +12,7 @@ use bec_disk::Shelf;
 use lm_ots::OtsType;
 use lms_tree::LmsType;
 use rand_core::Rng;
+use record_check::Verifier;
 use std::alloc::{AllocError, Global};
 use store_directory::{new_key, put_key};
 use update_model::AuthorKey;
@@ -23,7 +24,8 @@ const KEY_LINE: usize = 113;
 /// public key in lower-case hexadecimal. The first word has to be `keygen`.
 ///
 /// Its clause is that of [`run_alone`](crate::run_alone) for these words.
-pub fn command_keygen<H: Shelf, R: Rng, S: Source, K: Sink>(
+pub fn command_keygen<V: Verifier, H: Shelf, R: Rng, S: Source, K: Sink>(
+    verifier: &V,
     alloc: Global,
     words: &[String],
     shelf: &mut H,
@@ -37,7 +39,7 @@ pub fn command_keygen<H: Shelf, R: Rng, S: Source, K: Sink>(
         (outside S.left S.faults H.state H.faults R.stream input.old shelf.old random.old) (outside S.left S.faults H.state H.faults R.stream input.new shelf.new random.new)
         (record { held = K.held out.old; faults = K.faults out.old }) (record { held = K.held out.new; faults = K.faults out.new }) result }
 {
-    run_alone(alloc, words, shelf, random, input, out)
+    run_alone(verifier, alloc, words, shelf, random, input, out)
 }
 
 /// Draws a key of these types for a directory that has none, and answers the line of its public key. Room for the line is

@@ -18,6 +18,7 @@ use bec_bytes::{Sink, Source};
 use bec_disk::{Disk, Shelf};
 use peer_memory::Peers;
 use rand_core::Rng;
+use record_check::Verifier;
 use replica::Replica;
 use row_check::{Luhn, Native};
 use schema::one_schema;
@@ -31,7 +32,8 @@ use update_model::IdList;
 /// has to be `merge`.
 ///
 /// Its clause is that of [`run_alone`](crate::run_alone) for these words.
-pub fn command_merge<H: Shelf, R: Rng, S: Source, K: Sink>(
+pub fn command_merge<V: Verifier, H: Shelf, R: Rng, S: Source, K: Sink>(
+    verifier: &V,
     alloc: Global,
     words: &[String],
     shelf: &mut H,
@@ -45,11 +47,12 @@ pub fn command_merge<H: Shelf, R: Rng, S: Source, K: Sink>(
         (outside S.left S.faults H.state H.faults R.stream input.old shelf.old random.old) (outside S.left S.faults H.state H.faults R.stream input.new shelf.new random.new)
         (record { held = K.held out.old; faults = K.faults out.old }) (record { held = K.held out.new; faults = K.faults out.new }) result }
 {
-    run_alone(alloc, words, shelf, random, input, out)
+    run_alone(verifier, alloc, words, shelf, random, input, out)
 }
 
 /// Reconciles the stores of two directories, and answers the lines of what each gained and of the turns.
-pub fn merge_in<H: Shelf>(
+pub fn merge_in<V: Verifier, H: Shelf>(
+    verifier: &V,
     alloc: Global,
     shelf: &mut H,
     first: &str,
@@ -60,14 +63,15 @@ pub fn merge_in<H: Shelf>(
     ensures { MergesStores first.now second.now (H.state shelf.old) (H.state shelf.new) (H.faults shelf.old) (H.faults shelf.new) result }
 {
     one_schema();
-    let mut one = take_store(alloc, shelf, first, Native::new(Luhn))?;
-    let outcome = merge_beside(alloc, shelf, first, second, &mut one.replica);
+    let mut one = take_store(verifier, alloc, shelf, first, Native::new(Luhn))?;
+    let outcome = merge_beside(verifier, alloc, shelf, first, second, &mut one.replica);
     put_store(shelf, first, one);
     outcome
 }
 
 /// The same over the first store, which is open.
-fn merge_beside<H: Shelf>(
+fn merge_beside<V: Verifier, H: Shelf>(
+    verifier: &V,
     alloc: Global,
     shelf: &mut H,
     first: &str,
@@ -83,7 +87,7 @@ fn merge_beside<H: Shelf>(
 {
     one_schema();
     each_stands(one);
-    let mut other = take_store(alloc, shelf, second, Native::new(Luhn))?;
+    let mut other = take_store(verifier, alloc, shelf, second, Native::new(Luhn))?;
     let outcome = merge_open(alloc, shelf, first, second, one, &mut other.replica);
     put_store(shelf, second, other);
     outcome

@@ -17,6 +17,7 @@ use head_set::equal_heads_mean_equal_sets;
 use query::read_query;
 use query_answer::{answer, json_lines, print_lines};
 use rand_core::Rng;
+use record_check::Verifier;
 use replica::Replica;
 use row_check::{Luhn, Native};
 use schema::one_schema;
@@ -28,7 +29,8 @@ use table_model::{arrivals_are_closed, tables_are_of_the_set};
 /// columns apart by a tab, or one JSON object; or the line for what is refused. The first word has to be `query`.
 ///
 /// Its clause is that of [`run_alone`](crate::run_alone) for these words.
-pub fn command_query<H: Shelf, R: Rng, S: Source, K: Sink>(
+pub fn command_query<V: Verifier, H: Shelf, R: Rng, S: Source, K: Sink>(
+    verifier: &V,
     alloc: Global,
     words: &[String],
     shelf: &mut H,
@@ -42,11 +44,12 @@ pub fn command_query<H: Shelf, R: Rng, S: Source, K: Sink>(
         (outside S.left S.faults H.state H.faults R.stream input.old shelf.old random.old) (outside S.left S.faults H.state H.faults R.stream input.new shelf.new random.new)
         (record { held = K.held out.old; faults = K.faults out.old }) (record { held = K.held out.new; faults = K.faults out.new }) result }
 {
-    run_alone(alloc, words, shelf, random, input, out)
+    run_alone(verifier, alloc, words, shelf, random, input, out)
 }
 
 /// What a query asks of the store of a directory, as it is printed.
-pub fn query_in<H: Shelf>(
+pub fn query_in<V: Verifier, H: Shelf>(
+    verifier: &V,
     alloc: Global,
     shelf: &mut H,
     dir: &str,
@@ -57,7 +60,7 @@ pub fn query_in<H: Shelf>(
     ensures { ReadsShelf (ReadsStore (QueryAnswer text.now json)) dir.now (H.state shelf.old) (H.state shelf.new) (H.faults shelf.old) (H.faults shelf.new) result }
 {
     one_schema();
-    let store = take_store(alloc, shelf, dir, Native::new(Luhn))?;
+    let store = take_store(verifier, alloc, shelf, dir, Native::new(Luhn))?;
     each_stands(&store.replica);
     let outcome = asked(alloc, &store.replica, text, json);
     put_store(shelf, dir, store);

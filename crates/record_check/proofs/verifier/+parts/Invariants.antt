@@ -1,0 +1,8 @@
+use Rattle.std.proofs.Common.{◌+◌, ◌*◌}
+use Rattle.record_check.proofs.verifier.+parts.Given as goal
+
+abbrev pub decreases-mine : goal.decreases-mine
+decreases-mine g l = 2 * l.others + 1
+
+abbrev pub decreases-front_on : goal.decreases-front_on
+decreases-front_on g l = 2 * l.threads
