@@ -3,15 +3,16 @@
 _bec() {
     local word=${COMP_WORDS[COMP_CWORD]} command=${COMP_WORDS[1]} offered=''
     if [ "$COMP_CWORD" -eq 1 ]; then
-        offered="init keygen apply join dump query heads export merge sync serve check help --help --version"
+        offered="init keygen apply join dump query heads export draw merge sync serve check help --help --version"
     elif [ "$command" = help ]; then
-        offered="init keygen apply join dump query heads export merge sync serve check status"
+        offered="init keygen apply join dump query heads export draw merge sync serve check status"
     else
         case $command,${COMP_WORDS[COMP_CWORD - 1]} in
         keygen,--height) offered="5 10 15" ;;
         keygen,--width) offered="1 2 4 8" ;;
         keygen,*) [[ $word == -* ]] && offered="--height --width" ;;
         dump,* | query,*) [[ $word == -* ]] && offered="--json" ;;
+        draw,*) [[ $word == -* ]] && offered="--dot" ;;
         export,*) [[ $word == -* ]] && offered="--updates" ;;
         serve,--sessions) offered="1 2 3 4 5 6 7 8" ;;
         serve,*) [[ $word == -* ]] && offered="--sessions" ;;

@@ -1,0 +1,58 @@
+//! The program `bec_draw`: it draws the hash graph of a bundle, for `bec draw`.
+//!
+//! It reads a bundle from standard input and prints its picture as SVG, or as DOT with the word `--dot`. Refusals and statuses are
+//! those of `bec dump`. If there are more updates than are drawn, it says so on standard error.
+#![tactic(auto)]
+
+mod drawing;
+mod reading;
+
+use crate::drawing::{left_out_line, run};
+use bec_bytes::write_all_of;
+use bec_host::{HostSink, HostSource};
+use node_commands::status::{OUT_OF_MEMORY, STREAM_FAULT};
+use std::alloc::AllocError;
+use std::env;
+use std::io::ErrorKind;
+use std::process::ExitCode;
+
+fn main(rt: HostRuntime) -> ExitCode {
+    let Ok(words) = words(&rt) else {
+        return ExitCode::from(OUT_OF_MEMORY);
+    };
+    let Ok(mut input) = HostSource::new(rt.alloc(), rt.stdin()) else {
+        return ExitCode::from(OUT_OF_MEMORY);
+    };
+    let mut output = HostSink::new(rt.stdout());
+    let mut errors = HostSink::new(rt.stderr());
+    let (status, left_out) = run(rt.alloc(), &words, &mut input, &mut output);
+    if left_out == 0 {
+        return ExitCode::from(status);
+    }
+    match left_out_line(rt.alloc(), left_out) {
+        Ok(line) => match write_all_of(&mut errors, line.as_bytes()) {
+            Ok(()) => ExitCode::from(status),
+            Err(_failed) => ExitCode::from(STREAM_FAULT),
+        },
+        Err(_memory) => ExitCode::from(OUT_OF_MEMORY),
+    }
+}
+
+/// The words of the command line, without the program's own name. Words of which one is no UTF-8 are no command, as no
+/// words are none.
+fn words(rt: &(impl std::rt::Env + AllocGlobal)) -> Result<Vec<String>, AllocError> {
+    let mut words = Vec::new(rt.alloc());
+    match env::args(rt) {
+        Ok(arguments) => {
+            for argument in arguments.skip(1) {
+                words.push(argument)?;
+            }
+        }
+        Err(error) => {
+            if error.kind() != ErrorKind::InvalidData {
+                return Err(AllocError);
+            }
+        }
+    }
+    Ok(words)
+}
