@@ -52,7 +52,7 @@ fn found_in<L: Relation, C: Checks<L>>(
         found ≡ found_among rules (shown_in rules (reverse nodes.now)) which.now (invariants_of rules) start) }
 {
     shown_rows_fit();
-    let _tables = schema.tables();
+    let _tables = schema.tables(); // what every schema keeps
     let js = judged(alloc, schema, native, nodes)?;
     let did = effects(alloc, js.as_slice())?;
     let rows = shown_rows(alloc, schema, &did)?;

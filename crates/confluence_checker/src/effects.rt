@@ -1,6 +1,6 @@
 //! What operations do.
 
-ghost use Rattle.std.specs.Prelude.{◌≡◌, ◌<◌, ◌≤◌, IfOk, length, map};
+ghost use Rattle.std.specs.Prelude.{◌≡◌, ◌<◌, ◌≤◌, ◌^◌, IfOk, length, map};
 ghost use Rattle.table_model.specs.Verdicts.{effects_of, named, row_inserted};
 ghost use Rattle.confluence_checker.specs.Forms.{after_op};
 
@@ -43,7 +43,7 @@ pub(crate) fn row_inserted(
     table: u8,
     values: &ValueList,
 ) -> Result<InsertedRow, AllocError>
-    requires { number < 65536 }
+    requires { number < 2 ^ 16 }
     ensures { IfOk result (λ row. row ≡ row_inserted node.now number table values.now) }
 {
     Ok(InsertedRow {
@@ -65,7 +65,7 @@ pub(crate) fn do_op(
     mut did: RowEffects,
     op: &Op,
 ) -> Result<RowEffects, AllocError>
-    requires { number < 65536 }
+    requires { number < 2 ^ 16 }
     ensures { IfOk result (λ after. after ≡ after_op node.now number did op.now) }
 {
     match op {
@@ -92,7 +92,7 @@ pub(crate) fn op_count(node: &Node) -> usize
 pub(crate) fn effects_of(alloc: Global, node: &Node) -> Result<RowEffects, AllocError>
     ensures { IfOk result (λ did. did ≡ effects_of node.now) }
 {
-    let _count = op_count(node);
+    let _count = op_count(node); // it has at most 256 operations
     let ops = node.ops.as_slice();
     let mut did = RowEffects::nothing(alloc);
     for (number, op) in ops.iter().enumerate() {

@@ -1,6 +1,6 @@
 //! The verdict on a node.
 
-ghost use Rattle.std.specs.Prelude.{◌≡◌, ◌<◌, IfOk, List, []};
+ghost use Rattle.std.specs.Prelude.{◌≡◌, ◌<◌, ◌^◌, IfOk, List, []};
 ghost use Rattle.update_model.specs.Node.{NodeData};
 ghost use Rattle.schema.specs.Schemas.{Meaning};
 ghost use Rattle.table_model.specs.Verdicts.{delete_reason, verdict_after, verdict_on};
@@ -44,7 +44,7 @@ fn reason_against<L: Relation, C: Checks<L>>(
     did: &RowEffects,
     op: &Op,
 ) -> Result<Option<u8>, AllocError>
-    requires { number < 65536 }
+    requires { number < 2 ^ 16 }
     ensures { IfOk result (λ reason. reason ≡ reason_against (rules_with L.answer schema.now.tables) rows.now node.now number did.now op.now) }
 {
     match op {
@@ -64,7 +64,7 @@ fn verdict_at_end(
     did: RowEffects,
     number: usize,
 ) -> Result<Verdict, AllocError>
-    requires { number < 65536 }
+    requires { number < 2 ^ 16 }
     ensures { IfOk result (λ verdict. (ask : Meaning) (node : NodeData) (rows : List TableRow) → verdict ≡ verdict_after (rules_with ask schema.now.tables) past.now rows node number did []) }
 {
     let both = did.joined(past.copy(alloc)?)?;

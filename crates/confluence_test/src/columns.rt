@@ -20,7 +20,7 @@ pub(crate) fn table_of(schema: &Schema, number: u8) -> &TableDef
     ensures few_tables { length schema.now.tables ≤ 16 }
     ensures sound { AreTables [] schema.now.tables }
 {
-    let _tables = schema.tables();
+    let _tables = schema.tables(); // what every schema keeps
     schema.table(number)
 }
 

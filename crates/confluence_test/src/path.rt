@@ -47,7 +47,7 @@ pub(crate) fn path_back(
     ensures below { IfOk result (λ steps. AreBelow (length schema.now.tables) steps.items) }
     ensures few { IfOk result (λ steps. length steps.items ≤ 16) }
 {
-    let _tables = schema.tables();
+    let _tables = schema.tables(); // there are at most 16 tables
     let mut steps = Vec::new(alloc);
     follow(schema, permanence, table + 1, &mut steps, table)?;
     steps.reverse();

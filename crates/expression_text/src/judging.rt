@@ -3,7 +3,7 @@ ghost use Rattle.std.specs.List.{position};
 ghost use Rattle.expression_text.specs.Columns.{IsKnown, HasShortText, HasRowText};
 
 use crate::Token;
-use update_model::{TextValue, check_value_text};
+use update_model::{MAX_TEXT, TextValue, check_value_text};
 
 /// Whether each word that stands for a column is one of these names.
 pub fn are_known(tokens: &[Token], names: &[TextValue]) -> bool
@@ -33,7 +33,7 @@ pub(crate) fn column_number(names: &[TextValue], name: &[u8]) -> Option<usize>
     names.iter().position(|other| name == other.as_slice())
 }
 
-/// Whether no text among the tokens is longer than 1,024 bytes.
+/// Whether no text among the tokens is longer than [`MAX_TEXT`] bytes.
 pub fn are_short_texts(tokens: &[Token]) -> bool
     ensures { IsTrue result ↔ All HasShortText tokens.now }
 {
@@ -49,12 +49,12 @@ fn has_short_text(token: &Token) -> bool
     ensures { IsTrue result ↔ HasShortText token.now }
 {
     match token {
-        Token::Text(bytes) => bytes.as_slice().len() <= 1024,
+        Token::Text(bytes) => bytes.as_slice().len() <= usize::from(MAX_TEXT),
         _ => true,
     }
 }
 
-/// Whether each text among the tokens may stand in a row: at most 1,024 bytes of UTF-8.
+/// Whether each text among the tokens may stand in a row: at most [`MAX_TEXT`] bytes of UTF-8.
 pub fn are_row_texts(tokens: &[Token]) -> bool
     ensures { IsTrue result ↔ All HasRowText tokens.now }
 {

@@ -1,6 +1,7 @@
 ghost use Rattle.std.specs.Prelude.{◌≡◌, ◌≤◌, length};
 ghost use Rattle.std.specs.Char.{is_ascii_digit};
 ghost use Rattle.std.specs.List.{list_all};
+ghost use Rattle.update_model.specs.declared.limits.TheConstants.{MAX_TEXT};
 ghost use Rattle.row_check.specs.Checksum.{is_luhn, luhn_sum, weight_of};
 
 use crate::{Checks, Relation};
@@ -42,7 +43,7 @@ fn are_digits(bytes: &[u8]) -> bool
 
 /// The sum of digits, every second one from the right doubled.
 fn sum(digits: &[u8]) -> u32
-    requires { length digits.now ≤ 1024 }
+    requires { length digits.now ≤ MAX_TEXT }
     ensures { result ≡ luhn_sum digits.now }
 {
     let mut sum = 0;

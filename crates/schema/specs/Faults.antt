@@ -2,6 +2,7 @@
 -- names, targets, kinds, the references of a MATCH, and the sample.
 use Rattle.std.specs.Prelude.{◌≡◌, ℕ, pos, ◌<◌, ◌≤◌, ◌≤ℤ◌, Bool, false, not, ◌&&◌, ◌||◌, ◌==◌, nat_lt, List, length, All, Contains, Option, Some, None, IsTrue, IsSome, MatchOption, bytes_eq}
 use Rattle.std.specs.List.{list_any, list_all}
+use Rattle.update_model.specs.declared.limits.TheConstants.{MAX_TEXT}
 use Rattle.update_model.specs.declared.value.Value.{Value}
 use Rattle.update_model.specs.Form.{IsKnownKey}
 use Rattle.text_words.specs.declared.literal.Literal.TheVariants as literal
@@ -43,7 +44,7 @@ HasShortName (token.Column name) = IsShort name
 HasShortName other = Unit {0}
 
 abbrev pub HasShortValue : SampleValue → Type 0
-HasShortValue (sample.Literal (literal.Text bytes)) = length bytes ≤ 1024
+HasShortValue (sample.Literal (literal.Text bytes)) = length bytes ≤ MAX_TEXT
 HasShortValue other = Unit {0}
 
 -- An expression has not too many tokens, and no text or name in it is too long.
@@ -112,10 +113,10 @@ abbrev pub HasTarget : Draft → Form → Type 0
 HasTarget draft (form.Ref name table act null) = HasGoodTarget draft table act null
 HasTarget draft other = Unit {0}
 
--- Bounds that rise, and for lengths are from 0 to 1,024.
+-- Bounds that rise, and for lengths are from 0 to the longest of a text in a row.
 abbrev pub AreBounds : PlainKind → Type 0
 AreBounds (plain.Int lo hi) = lo ≤ℤ hi
-AreBounds (plain.Text lo hi) = (pos 0 ≤ℤ lo) × (lo ≤ℤ hi) × (hi ≤ℤ pos 1024)
+AreBounds (plain.Text lo hi) = (pos 0 ≤ℤ lo) × (lo ≤ℤ hi) × (hi ≤ℤ pos MAX_TEXT)
 AreBounds plain.Flag = Unit {0}
 
 -- The tokens are this question about columns with these names.

@@ -1,6 +1,7 @@
 -- What every schema keeps, so that its expressions may be asked of rows that fit and its numbers name what is there.
 use Rattle.std.specs.Prelude.{ℕ, ◌≤◌, ◌≤ℤ◌, Bool, not, ◌&&◌, ◌||◌, nat_lt, List, [], ◌∷◌, ◌++◌, length, slice_get, Option, Some, None, IsTrue, MatchOption}
 use Rattle.std.specs.List.{AllByRecursion}
+use Rattle.update_model.specs.declared.limits.TheConstants.{MAX_TEXT}
 use Rattle.expression_text.specs.Kinds.{HasKinds}
 use Rattle.schema.specs.declared.column.Column.{Column}
 use Rattle.schema.specs.declared.column.ColumnKind.{ColumnKind}
@@ -14,11 +15,11 @@ use Rattle.schema.specs.Columns.{is_reference, kinds_of, reference_at, is_restri
 use Rattle.schema.specs.Data.{SchemaData}
 use Rattle.schema.specs.Rows.{fits_sample}
 
--- In the table with this number: bounds rise, lengths are at most 1,024, a reference is to an earlier table or to its own
+-- In the table with this number: bounds rise, lengths are at most those of a text in a row, a reference is to an earlier table or to its own
 -- with NULL, and SETNULL has NULL.
 abbrev pub IsSoundKind : ℕ → Bool → ColumnKind → Type 0
 IsSoundKind number null (kind.Int lo hi) = lo ≤ℤ hi
-IsSoundKind number null (kind.Text lo hi) = (lo ≤ hi) × (hi ≤ 1024)
+IsSoundKind number null (kind.Text lo hi) = (lo ≤ hi) × (hi ≤ MAX_TEXT)
 IsSoundKind number null kind.Flag = Unit {0}
 IsSoundKind number null (kind.Reference target act) = (target ≤ number) × IsTrue (null || nat_lt target number) × IsTrue (null || not (is_set_null act))
 

@@ -15,7 +15,7 @@ use crate::names::names_of;
 use crate::{Action, Column, ColumnKind, MAX_COLUMNS, MAX_TOKENS};
 use expression_text::{Kind, Token, build, has_kinds, one_expression};
 use std::alloc::{AllocError, Global};
-use update_model::AuthorKey;
+use update_model::{AuthorKey, MAX_TEXT};
 
 /// Whether a reference is to an earlier table, or to its own with NULL, and SETNULL has NULL.
 pub(crate) fn has_target(draft: &Draft, form: &Form) -> bool
@@ -96,7 +96,7 @@ fn are_bounds(kind: &PlainKind) -> bool
 {
     match kind {
         PlainKind::Int { lo, hi } => *lo <= *hi,
-        PlainKind::Text { lo, hi } => 0 <= *lo && *lo <= *hi && *hi <= 1024,
+        PlainKind::Text { lo, hi } => 0 <= *lo && *lo <= *hi && *hi <= i64::from(MAX_TEXT),
         PlainKind::Flag => true,
     }
 }

@@ -8,6 +8,7 @@ use crate::lookups::number_named;
 use crate::{Column, TableDef, UniqueRule};
 use expression_text::{Token, are_short_texts};
 use text_words::{Literal, has_name_letters};
+use update_model::MAX_TEXT;
 
 /// The most bytes of a text.
 pub const MAX_SCHEMA_BYTES: usize = 65536;
@@ -121,7 +122,7 @@ fn is_short_value(value: &SampleValue) -> bool
     ensures { IsTrue result ↔ HasShortValue value.now }
 {
     match value {
-        SampleValue::Literal(Literal::Text(text)) => text.as_slice().len() <= 1024,
+        SampleValue::Literal(Literal::Text(text)) => text.as_slice().len() <= usize::from(MAX_TEXT),
         _ => true,
     }
 }

@@ -111,8 +111,7 @@ fn insert_into(schema: &Schema, word: &Word) -> Option<Verb>
         return None;
     };
     let table = table_named(schema, name.as_slice())?;
-    // the proof learns here what every schema keeps
-    let _number = schema.tables();
+    let _number = schema.tables(); // what every schema keeps
     let columns = schema.table(table).columns.as_slice().len();
     Some(Verb::Insert { table, columns })
 }
