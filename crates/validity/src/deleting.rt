@@ -4,7 +4,7 @@ ghost use Rattle.std.specs.Prelude.{◌≡◌, IfOk, slice_get, option_copied};
 ghost use Rattle.std.specs.List.{list_any};
 ghost use Rattle.schema.specs.Schemas.{Meaning};
 ghost use Rattle.table_model.specs.Verdicts.{same_author};
-ghost use Rattle.table_model.specs.Visible.{same_row};
+ghost use Rattle.table_model.specs.Visible.{rules_with, same_row};
 ghost use Rattle.validity.specs.Asked.{delete_asked, is_anothers, is_deletable};
 
 use crate::referring::is_row;
@@ -23,7 +23,7 @@ pub(crate) fn delete_reason<Q: RowsAt>(
     deleted: &[RowName],
     rows: &Q,
 ) -> Result<Option<u8>, AllocError>
-    ensures { IfOk result (λ reason. (ask : Meaning) → reason ≡ delete_asked (record { tables = schema.now.tables; ask = ask }) (Q.RowsAt.row rows.now) (Q.RowsAt.has_child rows.now) deleted.now author.now name.now) }
+    ensures { IfOk result (λ reason. (ask : Meaning) → reason ≡ delete_asked (rules_with ask schema.now.tables) (Q.RowsAt.row rows.now) (Q.RowsAt.has_child rows.now) deleted.now author.now name.now) }
 {
     let Some(row) = rows.row_at(alloc, name)? else {
         return Ok(Some(reason::NOT_DELETABLE));
@@ -49,14 +49,14 @@ fn is_among(name: &RowName, names: &[RowName]) -> bool
 
 /// Whether rows of a row's table may be deleted.
 fn is_deletable(schema: &Schema, row: &RowEntry) -> bool
-    ensures { (ask : Meaning) → result ≡ is_deletable (record { tables = schema.now.tables; ask = ask }) (Some row.now) }
+    ensures { (ask : Meaning) → result ≡ is_deletable (rules_with ask schema.now.tables) (Some row.now) }
 {
     table_at(schema, row.table).is_some_and(|table| table.deletable)
 }
 
 /// Whether only another author may delete a row.
 fn is_anothers(schema: &Schema, author: &AuthorKey, row: &RowEntry) -> bool
-    ensures { (ask : Meaning) → result ≡ is_anothers (record { tables = schema.now.tables; ask = ask }) author.now (Some row.now) }
+    ensures { (ask : Meaning) → result ≡ is_anothers (rules_with ask schema.now.tables) author.now (Some row.now) }
 {
     table_at(schema, row.table).is_some_and(|table| table.owned) && !is_author(&row.author, author)
 }

@@ -1,6 +1,7 @@
 //! Why a row may not be inserted.
 
 ghost use Rattle.std.specs.Prelude.{◌≡◌, IfOk};
+ghost use Rattle.table_model.specs.Visible.{rules_with};
 ghost use Rattle.validity.specs.Asked.{insert_asked};
 
 use crate::own_row::OwnRow;
@@ -21,7 +22,7 @@ pub(crate) fn insert_reason<L: Relation, C: Checks<L>, Q: RowsAt>(
     own: &[OwnRow],
     rows: &Q,
 ) -> Result<Option<u8>, AllocError>
-    ensures { IfOk result (λ reason. reason ≡ insert_asked (record { tables = schema.now.tables; ask = L.answer }) own.now (Q.RowsAt.row rows.now) row.now) }
+    ensures { IfOk result (λ reason. reason ≡ insert_asked (rules_with L.answer schema.now.tables) own.now (Q.RowsAt.row rows.now) row.now) }
 {
     if row.table >= schema.tables() {
         return Ok(Some(reason::NO_TABLE));

@@ -2,7 +2,7 @@ ghost use Rattle.std.specs.Prelude.{◌≡◌, ◌+◌, ◌<◌, [], ◌∷◌, 
 ghost use Rattle.std.specs.List.{list_all};
 ghost use Rattle.schema.specs.Schemas.{Meaning};
 ghost use Rattle.table_model.specs.Verdicts.{is_unlimited, verdict_on};
-ghost use Rattle.table_model.specs.Visible.{Effects};
+ghost use Rattle.table_model.specs.Visible.{Effects, rules_with};
 ghost use Rattle.validity.specs.Answers.{AreAnswers};
 ghost use Rattle.validity.specs.Asked.{delete_asked, deleted_after, insert_asked, op_asked, own_after, verdict_asked};
 
@@ -43,8 +43,8 @@ pub fn judge<L: Relation, C: Checks<L>, Q: RowsAt>(
 ) -> Result<Verdict, AllocError>
     requires { IsTrue (list_all is_unlimited schema.now.tables) }
     ensures { IfOk result (λ verdict. (past : Effects)
-        → AreAnswers (record { tables = schema.now.tables; ask = L.answer }) past (Q.RowsAt.row rows.now) (Q.RowsAt.has_child rows.now) (Q.RowsAt.equal_count rows.now) (Q.RowsAt.count rows.now)
-        → verdict ≡ verdict_on (record { tables = schema.now.tables; ask = L.answer }) past node.now) }
+        → AreAnswers (rules_with L.answer schema.now.tables) past (Q.RowsAt.row rows.now) (Q.RowsAt.has_child rows.now) (Q.RowsAt.equal_count rows.now) (Q.RowsAt.count rows.now)
+        → verdict ≡ verdict_on (rules_with L.answer schema.now.tables) past node.now) }
 {
     unlimited_tables_hold();
     verdict_goes_by_operations();
@@ -59,7 +59,7 @@ fn judge_operations<L: Relation, C: Checks<L>, Q: RowsAt>(
     node: &Node,
     rows: &Q,
 ) -> Result<Verdict, AllocError>
-    ensures { IfOk result (λ verdict. verdict ≡ verdict_asked (record { tables = schema.now.tables; ask = L.answer }) (Q.RowsAt.row rows.now) (Q.RowsAt.has_child rows.now) node.now 0 [] [] node.now.ops) }
+    ensures { IfOk result (λ verdict. verdict ≡ verdict_asked (rules_with L.answer schema.now.tables) (Q.RowsAt.row rows.now) (Q.RowsAt.has_child rows.now) node.now 0 [] [] node.now.ops) }
 {
     let mut done = Done {
         number: 0,
@@ -87,7 +87,7 @@ fn do_operation<L: Relation, C: Checks<L>, Q: RowsAt>(
     op: &Op,
 ) -> Result<Option<u8>, AllocError>
     requires { done.old.number < 256 }
-    ensures reason { IfOk result (λ reason. reason ≡ op_asked (record { tables = schema.now.tables; ask = L.answer }) (Q.RowsAt.row rows.now) (Q.RowsAt.has_child rows.now) node.now done.old.number done.old.own.items done.old.deleted.items op.now) }
+    ensures reason { IfOk result (λ reason. reason ≡ op_asked (rules_with L.answer schema.now.tables) (Q.RowsAt.row rows.now) (Q.RowsAt.has_child rows.now) node.now done.old.number done.old.own.items done.old.deleted.items op.now) }
     ensures number { IfOk result (λ reason. reason ≡ None → done.new.number ≡ done.old.number + 1) }
     ensures own { IfOk result (λ reason. reason ≡ None → done.new.own.items ≡ own_after node.now done.old.number done.old.own.items op.now) }
     ensures deleted { IfOk result (λ reason. reason ≡ None → done.new.deleted.items ≡ deleted_after done.old.deleted.items op.now) }
@@ -111,7 +111,7 @@ fn insert<L: Relation, C: Checks<L>, Q: RowsAt>(
     row: OwnRow,
 ) -> Result<Option<u8>, AllocError>
     requires { done.old.number < 256 }
-    ensures reason { IfOk result (λ reason. reason ≡ insert_asked (record { tables = schema.now.tables; ask = L.answer }) done.old.own.items (Q.RowsAt.row rows.now) row.entry) }
+    ensures reason { IfOk result (λ reason. reason ≡ insert_asked (rules_with L.answer schema.now.tables) done.old.own.items (Q.RowsAt.row rows.now) row.entry) }
     ensures number { IfOk result (λ reason. reason ≡ None → done.new.number ≡ done.old.number + 1) }
     ensures own { IfOk result (λ reason. reason ≡ None → done.new.own.items ≡ done.old.own.items ++ row ∷ []) }
     ensures deleted { IfOk result (λ reason. reason ≡ None → done.new.deleted.items ≡ done.old.deleted.items) }
@@ -135,7 +135,7 @@ fn delete<Q: RowsAt>(
     name: &RowName,
 ) -> Result<Option<u8>, AllocError>
     requires { done.old.number < 256 }
-    ensures reason { IfOk result (λ reason. (ask : Meaning) → reason ≡ delete_asked (record { tables = schema.now.tables; ask = ask }) (Q.RowsAt.row rows.now) (Q.RowsAt.has_child rows.now) done.old.deleted.items author.now name.now) }
+    ensures reason { IfOk result (λ reason. (ask : Meaning) → reason ≡ delete_asked (rules_with ask schema.now.tables) (Q.RowsAt.row rows.now) (Q.RowsAt.has_child rows.now) done.old.deleted.items author.now name.now) }
     ensures number { IfOk result (λ reason. reason ≡ None → done.new.number ≡ done.old.number + 1) }
     ensures own { IfOk result (λ reason. reason ≡ None → done.new.own.items ≡ done.old.own.items) }
     ensures deleted { IfOk result (λ reason. reason ≡ None → done.new.deleted.items ≡ done.old.deleted.items ++ name.now ∷ []) }

@@ -1,5 +1,5 @@
 use Rattle.std.proofs.Common.{◌≡◌, ◌+◌, [], length, refl, sym, ap, ◌∙◌, arith}
-use Rattle.table_model.specs.Visible.{Rules}
+use Rattle.table_model.specs.Visible.{Rules, rules_with}
 use Rattle.validity.specs.Asked.{verdict_asked}
 use Rattle.validity.proofs.Steps.{on_at, valid_at, void_at}
 use Rattle.validity.proofs.judging.judge_operations.Goals as goal
@@ -16,7 +16,7 @@ do_operation-requires-after_bounds g c κs within = omega arith
 
 pub returns-in-Some : goal.returns-in-Some
 returns-in-Some g c =
-    let rules : Rules = record { tables = c.args.schema.now.tables; ask = g.L.Relation.answer } in
+    let rules : Rules = rules_with g.L.Relation.answer c.args.schema.now.tables in
     let row = g.Q.RowsAt.row c.args.rows.now in
     let child = g.Q.RowsAt.has_child c.args.rows.now in
     let node = c.args.node.now in
@@ -27,7 +27,7 @@ returns-in-Some g c =
 
 pub loop-op-preserved : goal.loop-op-preserved
 loop-op-preserved g c =
-    let rules : Rules = record { tables = c.args.schema.now.tables; ask = g.L.Relation.answer } in
+    let rules : Rules = rules_with g.L.Relation.answer c.args.schema.now.tables in
     let row = g.Q.RowsAt.row c.args.rows.now in
     let child = g.Q.RowsAt.has_child c.args.rows.now in
     let next = c.in_ok-reason.ensures.number c.in_default.is in
@@ -42,7 +42,7 @@ loop-op-preserved g c =
 
 pub returns : goal.returns
 returns g c =
-    let rules : Rules = record { tables = c.args.schema.now.tables; ask = g.L.Relation.answer } in
+    let rules : Rules = rules_with g.L.Relation.answer c.args.schema.now.tables in
     let row = g.Q.RowsAt.row c.args.rows.now in
     let child = g.Q.RowsAt.has_child c.args.rows.now in
     let node = c.args.node.now in
