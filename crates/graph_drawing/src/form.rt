@@ -1,0 +1,8 @@
+/// In what a picture is written.
+#[derive(Clone, Copy, Debug, PartialEq, Eq)]
+pub enum Form {
+    /// As SVG, with every place.
+    Svg,
+    /// As DOT, for Graphviz to lay out.
+    Dot,
+}

@@ -1,0 +1,32 @@
+//! A picture of a hash graph: a box for each update, in a row by its depth and in a column of its author.
+//!
+//! [`draw`] answers the text of the picture as SVG or DOT. The text is a function of the set of updates, and not of their order of
+//! arrival: [`same_set_same_picture`]. A box lies below those of its predecessors, and each column has one author:
+//! [`boxes_lie_below`] and [`columns_have_one_author`].
+//!
+//! ```text
+//! let text = draw(alloc, Form::Svg, &schema, &graph, &heads, &voids)?;
+//! ```
+//!
+//! At most [`MAX_DRAWN`] updates are drawn, the last ones in the order of depth and id.
+#![tactic(auto)]
+
+mod boxes;
+mod depths;
+mod dot;
+mod form;
+mod ids;
+mod labels;
+mod laws;
+mod limits;
+mod pictures;
+mod placed;
+mod sorting;
+mod spot;
+mod svg;
+mod words;
+
+pub use form::Form;
+pub use laws::{boxes_lie_below, columns_have_one_author, same_set_same_picture};
+pub use limits::MAX_DRAWN;
+pub use pictures::{draw, omitted};

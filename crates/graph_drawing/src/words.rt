@@ -1,0 +1,186 @@
+//! Texts in a picture.
+
+ghost use Rattle.std.specs.Prelude.{◌≡◌, ◌∷◌, ◌++◌, OnOk, codes};
+ghost use Rattle.std.specs.Fmt.{decimal};
+ghost use Rattle.std.specs.List.{flat_map};
+ghost use Rattle.table_text.specs.Names.{id_text};
+ghost use Rattle.table_text.specs.Operations.{table_word};
+ghost use Rattle.graph_drawing.specs.Words.{around, clipped, goes_on, key_end, marked, reason_words, short_id, short_name, short_operation, short_value};
+
+use itoa::Buffer;
+use schema::Schema;
+use std::alloc::AllocError;
+use table_model::reason::{
+    CHECK_FALSE, MATCH_FALSE, MISFIT, NO_TABLE, NO_TARGET, NOT_DELETABLE, NOT_OWNER, RESTRICTED,
+};
+use table_text::{NameStyle, push_value};
+use update_model::{AuthorKey, Op, RowName, UpdateId, Value};
+
+/// Adds a number in decimal.
+pub(crate) fn push_number(out: &mut Vec<u8>, number: u64) -> Result<(), AllocError>
+    ensures { OnOk result (out.new.items ≡ out.old.items ++ decimal number) }
+{
+    let mut buffer = Buffer::new();
+    out.extend_from_slice(buffer.format(number).as_bytes())
+}
+
+/// Adds a number between two texts.
+#[tactic(auto, unfolding(crate::specs::Words::around))]
+pub(crate) fn push_around(
+    out: &mut Vec<u8>,
+    before: &[u8],
+    number: u64,
+    after: &[u8],
+) -> Result<(), AllocError>
+    ensures { OnOk result (out.new.items ≡ out.old.items ++ around before.now number after.now) }
+{
+    out.extend_from_slice(before)?;
+    push_number(out, number)?;
+    out.extend_from_slice(after)
+}
+
+/// Adds an id in 64 digits.
+pub(crate) fn push_id(out: &mut Vec<u8>, id: &UpdateId) -> Result<(), AllocError>
+    ensures { OnOk result (out.new.items ≡ out.old.items ++ id_text id.now) }
+{
+    let mut digits = [0u8; 64];
+    let _ = hex::encode_to_slice(id.0, &mut digits);
+    out.extend_from_slice(&digits)
+}
+
+/// Adds the first eight digits of an id.
+pub(crate) fn push_short_id(out: &mut Vec<u8>, id: &UpdateId) -> Result<(), AllocError>
+    ensures { OnOk result (out.new.items ≡ out.old.items ++ short_id id.now) }
+{
+    let mut digits = [0u8; 8];
+    let _ = hex::encode_to_slice(&id.0[..4], &mut digits);
+    out.extend_from_slice(&digits)
+}
+
+/// Adds the last eight digits of a key.
+pub(crate) fn push_key_end(out: &mut Vec<u8>, key: &AuthorKey) -> Result<(), AllocError>
+    ensures { OnOk result (out.new.items ≡ out.old.items ++ key_end key.now) }
+{
+    let mut digits = [0u8; 8];
+    let _ = hex::encode_to_slice(&key.root[28..32], &mut digits);
+    out.extend_from_slice(&digits)
+}
+
+/// Adds the name of a row, with a short id.
+fn push_short_name(out: &mut Vec<u8>, name: &RowName) -> Result<(), AllocError>
+    ensures { OnOk result (out.new.items ≡ out.old.items ++ short_name name.now) }
+{
+    push_short_id(out, &name.update)?;
+    out.push(b':')?;
+    push_number(out, u64::from(name.index))
+}
+
+/// Adds a value, where rows have short names.
+fn push_short_value(out: &mut Vec<u8>, value: &Value) -> Result<(), AllocError>
+    ensures { OnOk result (out.new.items ≡ out.old.items ++ short_value value.now) }
+{
+    match value {
+        Value::Row(name) => push_short_name(out, name),
+        _ => push_value(out, NameStyle::Full, value),
+    }
+}
+
+/// Adds values, each after a blank.
+fn push_short_values(out: &mut Vec<u8>, values: &[Value]) -> Result<(), AllocError>
+    ensures { OnOk result (out.new.items ≡ out.old.items ++ flat_map (λ value. 32 ∷ short_value value) values.now) }
+{
+    for value in values {
+        out.push(b' ')?;
+        push_short_value(out, value)?;
+    }
+    Ok(())
+}
+
+/// Adds an operation, where rows have short names.
+pub(crate) fn push_short_operation(
+    out: &mut Vec<u8>,
+    schema: &Schema,
+    op: &Op,
+) -> Result<(), AllocError>
+    ensures { OnOk result (out.new.items ≡ out.old.items ++ short_operation schema.now.tables op.now) }
+{
+    match op {
+        Op::Insert { table, values } => {
+            out.extend_from_slice(b"INSERT ")?;
+            push_table_word(out, schema, *table)?;
+            push_short_values(out, values.as_slice())
+        }
+        Op::Delete { row } => {
+            out.extend_from_slice(b"DELETE ")?;
+            push_short_name(out, row)
+        }
+    }
+}
+
+/// Adds the name of the table with this number, or the number if the schema has no such table.
+fn push_table_word(out: &mut Vec<u8>, schema: &Schema, number: u8) -> Result<(), AllocError>
+    ensures { OnOk result (out.new.items ≡ out.old.items ++ table_word schema.now.tables number) }
+{
+    if number < schema.tables() {
+        out.extend_from_slice(schema.table(number).name.as_slice())
+    } else {
+        push_number(out, u64::from(number))
+    }
+}
+
+/// Adds so many characters of a text, as they are written in XML, and two dots if there are more.
+pub(crate) fn push_clipped(
+    out: &mut Vec<u8>,
+    text: &[u8],
+    mut count: usize,
+) -> Result<(), AllocError>
+    ensures { OnOk result (out.new.items ≡ out.old.items ++ clipped text.now count) }
+{
+    for byte in text {
+        if goes_on(*byte) {
+            out.push(*byte)?;
+        } else if count == 0 {
+            return out.extend_from_slice(b"..");
+        } else {
+            push_marked(out, *byte)?;
+            count -= 1;
+        }
+    }
+    Ok(())
+}
+
+/// Whether a byte goes on with a character that began before it.
+fn goes_on(byte: u8) -> bool
+    ensures { result ≡ goes_on byte }
+{
+    (128..192).contains(&byte)
+}
+
+/// Adds one byte of a text, as it is written in XML.
+fn push_marked(out: &mut Vec<u8>, byte: u8) -> Result<(), AllocError>
+    ensures { OnOk result (out.new.items ≡ out.old.items ++ marked byte) }
+{
+    match byte {
+        b'&' => out.extend_from_slice(b"&amp;"),
+        b'<' => out.extend_from_slice(b"&lt;"),
+        b'>' => out.extend_from_slice(b"&gt;"),
+        _ => out.extend_from_slice(&[byte]),
+    }
+}
+
+/// Why an update does nothing.
+pub(crate) fn reason_words(reason: u8) -> &'static [u8]
+    ensures { result.now ≡ reason_words reason }
+{
+    match reason {
+        NO_TABLE => b"void: there is no such table",
+        MISFIT => b"void: values do not fit the columns",
+        CHECK_FALSE => b"void: a CHECK is false",
+        NO_TARGET => b"void: a row that it names is not there",
+        MATCH_FALSE => b"void: a MATCH is false",
+        NOT_DELETABLE => b"void: a row cannot be deleted",
+        NOT_OWNER => b"void: it deletes another author's row",
+        RESTRICTED => b"void: a row names the deleted one",
+        _ => b"void: a UNIQUE or ATMOST is broken",
+    }
+}
