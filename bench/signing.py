@@ -55,9 +55,9 @@ def leaf(job):
     return sha256(ident + struct.pack(">I", (1 << height) + q) + b"\x82\x82" + value)
 
 
-def height_for(count):
-    """The smallest height of which the authors together can sign this often."""
-    return next(height for height in LMS_TYPES if AUTHORS << height >= count)
+def height_for(count, authors=AUTHORS):
+    """The smallest height of which so many authors together can sign this often."""
+    return next(height for height in LMS_TYPES if authors << height >= count)
 
 
 class Author:
