@@ -1,8 +1,8 @@
 #!/usr/bin/env python3
 """Keys, signatures and the spelling of updates, for the scripts that make streams and bundles.
 
-An author signs with LMS (RFC 8554) of 4 bits a digit, by the next leaf of a tree that is made whole when the key is
-made, from fixed seeds: the same author of the same height is the same key again. The keys are for examples and
+An author signs with LMS (RFC 8554) of 4 bits a digit, or of 8, by the next leaf of a tree that is made whole when the key
+is made, from fixed seeds: the same author of the same height and digits is the same key again. The keys are for examples and
 measurements alone. docs/FORMATS.md says how updates are spelled.
 """
 import hashlib
@@ -11,8 +11,19 @@ import struct
 from typing import NamedTuple
 
 AUTHORS = 4
-OTS_TYPE, CHAINS, LAST = 3, 67, 15  # LM-OTS with 4 bits a digit: the chains, and the greatest digit
 LMS_TYPES = {5: 5, 10: 6, 15: 7}  # the LMS type of each height
+
+
+class Digits(NamedTuple):
+    """The parameters of LM-OTS: its type, how many bits a digit has, how many chains there are, and the greatest digit."""
+    type: int
+    bits: int
+    chains: int
+    last: int
+
+
+W4, W8 = Digits(3, 4, 67, 15), Digits(4, 8, 34, 255)
+STEPS = [bytes([step]) for step in range(255)]
 
 
 class Row(NamedTuple):
@@ -32,25 +43,28 @@ def sha256(data):
 
 def stepped(prefix, value, start, end):
     """The value of a chain, taken from one step to another."""
-    for step in range(start, end):
-        value = sha256(prefix + bytes([step]) + value)
+    for step in STEPS[start:end]:
+        value = sha256(prefix + step + value)
     return value
 
 
-def digits(digest):
+def digits(digest, of):
     """The digits of a digest and of its checksum."""
+    if of == W8:
+        checksum = sum(of.last - byte for byte in digest)
+        return [*digest, checksum >> 8, checksum & 255]
     groups = [half for byte in digest for half in (byte >> 4, byte & 15)]
-    checksum = sum(LAST - group for group in groups) << 4
+    checksum = sum(of.last - group for group in groups) << 4
     return groups + [checksum >> 12 & 15, checksum >> 8 & 15, checksum >> 4 & 15]
 
 
 def leaf(job):
     """The value of leaf q in the tree of an author."""
-    ident, seed, height, q = job
+    ident, seed, height, of, q = job
     ends = b""
-    for chain in range(CHAINS):
+    for chain in range(of.chains):
         prefix = ident + struct.pack(">IH", q, chain)
-        ends += stepped(prefix, sha256(prefix + b"\xff" + seed), 0, LAST)
+        ends += stepped(prefix, sha256(prefix + b"\xff" + seed), 0, of.last)
     value = sha256(ident + struct.pack(">I", q) + b"\x80\x80" + ends)
     return sha256(ident + struct.pack(">I", (1 << height) + q) + b"\x82\x82" + value)
 
@@ -63,17 +77,17 @@ def height_for(count, authors=AUTHORS):
 class Author:
     """A key whose tree is made whole, and whose leaves sign in turn."""
 
-    def __init__(self, number, height, pool):
-        self.height, self.next_leaf = height, 0
+    def __init__(self, number, height, pool, of=W4):
+        self.height, self.of, self.next_leaf = height, of, 0
         self.ident = sha256(b"bec example author %d" % number)[:16]
         self.seed = sha256(b"bec example seed %d" % number)
         leaves = 1 << height
-        jobs = [(self.ident, self.seed, height, q) for q in range(leaves)]
+        jobs = [(self.ident, self.seed, height, of, q) for q in range(leaves)]
         self.nodes = [b""] * leaves + pool.map(leaf, jobs, chunksize=32)
         for r in range(leaves - 1, 0, -1):
             children = self.nodes[2 * r] + self.nodes[2 * r + 1]
             self.nodes[r] = sha256(self.ident + struct.pack(">I", r) + b"\x83\x83" + children)
-        self.key = struct.pack(">II", LMS_TYPES[height], OTS_TYPE) + self.ident + self.nodes[1]
+        self.key = struct.pack(">II", LMS_TYPES[height], of.type) + self.ident + self.nodes[1]
 
     def is_spent(self):
         return self.next_leaf == 1 << self.height
@@ -84,14 +98,14 @@ class Author:
         random = sha256(self.seed + struct.pack(">I", q))
         place = self.ident + struct.pack(">I", q)
         values = b""
-        for chain, digit in enumerate(digits(sha256(place + b"\x81\x81" + random + message))):
+        for chain, digit in enumerate(digits(sha256(place + b"\x81\x81" + random + message), self.of)):
             prefix = place + struct.pack(">H", chain)
             values += stepped(prefix, sha256(prefix + b"\xff" + self.seed), 0, digit)
         r, path = (1 << self.height) + q, b""
         while r > 1:
             path += self.nodes[r ^ 1]
             r //= 2
-        one_time = struct.pack(">I", OTS_TYPE) + random + values
+        one_time = struct.pack(">I", self.of.type) + random + values
         return struct.pack(">I", q) + one_time + struct.pack(">I", LMS_TYPES[self.height]) + path
 
 
