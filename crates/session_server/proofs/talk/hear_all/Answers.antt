@@ -1,11 +1,15 @@
 use Rattle.std.proofs.Common.{rules, ◌≡◌, ◌∷◌, List, Option, refl, sym, subst, ◌∙◌}
+use Rattle.std.proofs.lemmas.List.Elements.{All-head, All-tail}
+use Rattle.std.specs.Prelude.{All}
 use Rattle.std.specs.Vec.Iter.{into_iter_items}
-use Rattle.sync_frames.specs.declared.frame.Frame.{Frame}
+use Rattle.sync_session.specs.Kept.{IsFrameUnder}
+use Rattle.sync_session.specs.declared.checked_frame.CheckedFrame.{CheckedFrame}
 use Rattle.sync_session.proofs.Rounds.{is_missing, is_there}
+use Rattle.shared_replica.proofs.Going.{ruled_longer}
 use Rattle.session_server.specs.declared.ending.Ending.{Ending}
 use Rattle.session_server.specs.Talks.{IsTalkWith}
 use Rattle.session_server.proofs.Passing.{still_self, still_then}
-use Rattle.session_server.proofs.Talking.{HeardUpTo, none_left, front_done, front_here, up_to_next, up_to_none}
+use Rattle.session_server.proofs.Talking.{HeardUpTo, none_left, front_done, front_here, front_none, up_to_next, up_to_none, with_stops}
 use Rattle.session_server.proofs.talk.hear_all.Goals as goal
 
 pub frames-init : goal.frames-init
