@@ -7,12 +7,11 @@ ghost use Rattle.node_commands.specs.Outcome.{ComesTo, Ends, Outcome};
 ghost use Rattle.node_commands.specs.Verdict.{rules_of};
 ghost use Rattle.bec_draw.specs.Bundles.{BundleDrawn, DrawsAsked, DrawsMembers, form_of};
 
-use crate::reading::{bundle_schema, read_graph};
 use bec_bytes::{Sink, Source};
 use confluence_test::{accepted_is_unlimited, take_schema};
 use graph_drawing::{Form, draw, omitted};
 use hash_graph::Graph;
-use node_commands::{Refusal, finish, heads_of};
+use node_commands::{Refusal, bundle_schema, finish, heads_of, read_graph};
 use replay::replay;
 use row_check::{Luhn, Native};
 use schema::Schema;

@@ -5,7 +5,6 @@
 #![tactic(auto)]
 
 mod drawing;
-mod reading;
 
 use crate::drawing::{left_out_line, run};
 use bec_bytes::write_all_of;

@@ -22,7 +22,7 @@
 //! A command comes to an outcome: the text that it prints, or a [`Refusal`], which says why it is not done. The exit
 //! statuses stand in [`status`]. How an outcome is said, what holds of a store that is open and what a directory remembers of
 //! peers stand here for the commands over a net too: [`finish`], [`put`], [`refuse`], [`each_stands`], [`peers_of`] and
-//! [`keep_peers`].
+//! [`keep_peers`]; and how a bundle is read, for other programs: [`bundle_schema`] and [`read_graph`].
 //!
 //! It waits for nobody but its source and its sink, and opens nothing by itself.
 #![tactic(auto)]
@@ -43,6 +43,7 @@ pub mod status;
 mod stream;
 mod text_input;
 
+pub use bundle::bundle_schema;
 pub use commands::apply::command_apply;
 pub use commands::check::command_check;
 pub use commands::dump::command_dump;
@@ -61,3 +62,4 @@ pub use refusal::Refusal;
 pub use remembering::{keep_peers, peers_of};
 pub use reply::{finish, put};
 pub use standing::each_stands;
+pub use stream::read_graph;

@@ -1,79 +1,75 @@
--- Records that are checked up to the first that is refused, one by one and in two parts.
-use Rattle.std.proofs.Common.{◌≡◌, ℕ, ◌<◌, ◌≤◌, List, [], ◌∷◌, ◌++◌, length, take, drop, refl, sym, ap, subst, ◌∙◌, append_assoc, append-nil, length-append, All, Vec, arith}
+-- What the check says of records, in two parts and up to the first that is refused.
+use Rattle.std.proofs.Common.{◌≡◌, ℕ, List, [], ◌∷◌, ◌++◌, length, map, take, drop, Result, Ok, Err, refl, sym, ap, subst, ◌∙◌, Vec}
 use Rattle.std.specs.declared.alloc.Global.{Global}
-use Rattle.std.proofs.lemmas.List.{map-append, take-append-drop, length-map}
-use Rattle.std.proofs.lemmas.List.Elements.{All-cons, All-head, All-tail}
+use Rattle.std.proofs.lemmas.List.{map-append, take-append-drop}
+use Rattle.std.proofs.lemmas.List.Elements.{All-cons, All-nil}
 use Rattle.update_model.specs.Rule.{RuleData}
-use Rattle.record_check.specs.Records.{IsCheckedFront, bytes_of}
+use Rattle.update_check.specs.Causes.{IsCause}
 use Rattle.update_check.specs.Signed.{IsChecked}
+use Rattle.update_check.specs.declared.check_error.CheckFault.{CheckFault}
+use Rattle.record_check.specs.Records.{AreAnswers, IsCheckedFront, bytes_of}
 
-abbrev first_of : List (List ℕ) → List ℕ
-first_of [] = []
-first_of (x ∷ xs) = x
+-- what the check says of a record
+abbrev pub Said : Type 0
+Said = Result (List ℕ) CheckFault
 
-All-append : {X : Type 0} (P : X → Type 0) (xs ys : List X) → All P xs → All P ys → All P (xs ++ ys)
-All-append P [] ys a b = b
-All-append P (x ∷ xs) ys a b = All-cons P x (xs ++ ys) (All-head P x xs a) (All-append P xs ys (All-tail P x xs a) b)
+answers_append : (rule : RuleData) (xs ys : List (List ℕ)) (a b : List Said) → AreAnswers rule xs a → AreAnswers rule ys b → AreAnswers rule (xs ++ ys) (a ++ b)
+answers_append rule [] ys [] b first next = next
+answers_append rule [] ys (x ∷ a) b first next = absurd first
+answers_append rule (x ∷ xs) ys [] b first next = absurd first
+answers_append rule (x ∷ xs) ys (y ∷ a) b first next = (first.0, answers_append rule xs ys a b first.1 next)
 
-bytes_of-append : (xs ys : List (Vec ℕ Global)) → bytes_of (xs ++ ys) ≡ bytes_of xs ++ bytes_of ys
+pub bytes_of-append : (xs ys : List (Vec ℕ Global)) → bytes_of (xs ++ ys) ≡ bytes_of xs ++ bytes_of ys
 bytes_of-append xs ys = map-append (λ (r : Vec ℕ Global). r.items) xs ys
 
--- all were checked
-pub front_whole : (rule : RuleData) (records front : List (List ℕ)) → front ≡ records → All (IsChecked rule) front → IsCheckedFront rule records front
-front_whole rule records front same checked = record {
-  rest = [];
-  parts = sym same ∙ sym (append-nil front);
-  checked = checked;
-  refused = λ r more e. absurd cc;
-}
+-- the parts were checked, and the answers of the first stand in front
+pub answers_joined : (rule : RuleData) (records low high : List (Vec ℕ Global)) (count : ℕ) (front behind all : List Said) → low ≡ take count records → high ≡ drop count records
+    → AreAnswers rule (bytes_of low) front → AreAnswers rule (bytes_of high) behind → all ≡ front ++ behind → AreAnswers rule (bytes_of records) all
+answers_joined rule records low high count front behind all is_low is_high first next same =
+    subst (AreAnswers rule (bytes_of records)) (sym same)
+    (subst (λ (l : List (List ℕ)). AreAnswers rule l (front ++ behind)) (sym two) (answers_append rule (bytes_of low) (bytes_of high) front behind first next))
+  where
+    two : bytes_of records ≡ bytes_of low ++ bytes_of high
+    two = ap bytes_of (sym (take-append-drop count records)) ∙ bytes_of-append (take count records) (drop count records)
+        ∙ ap (λ (l : List (Vec ℕ Global)). bytes_of l ++ bytes_of (drop count records)) (sym is_low) ∙ ap (λ (l : List (Vec ℕ Global)). bytes_of low ++ bytes_of l) (sym is_high)
 
--- these were checked, and the next one is refused
-pub front_stops : (rule : RuleData) (records before more : List (Vec ℕ Global)) (r : Vec ℕ Global) (front : List (List ℕ)) → records ≡ before ++ r ∷ more → front ≡ bytes_of before → All (IsChecked rule) front
-    → (IsChecked rule r.items → ⊥) → IsCheckedFront rule (bytes_of records) front
-front_stops rule records before more r front is same checked not = record {
-  rest = r.items ∷ bytes_of more;
-  parts = ap bytes_of is ∙ bytes_of-append before (r ∷ more) ∙ ap (λ (l : List (List ℕ)). l ++ r.items ∷ bytes_of more) (sym same);
-  checked = checked;
-  refused = λ x others e it. not (subst (IsChecked rule) (sym (ap first_of e)) it);
-}
+-- one more record, and what the check says of it
+pub answers_push : (rule : RuleData) (before : List (Vec ℕ Global)) (r : Vec ℕ Global) (answers all : List Said) (said : Said) → AreAnswers rule (bytes_of before) answers
+    → AreAnswers rule (r.items ∷ []) (said ∷ []) → all ≡ answers ++ said ∷ [] → AreAnswers rule (bytes_of (before ++ r ∷ [])) all
+answers_push rule before r answers all said first next same =
+    subst (AreAnswers rule (bytes_of (before ++ r ∷ []))) (sym same)
+    (subst (λ (l : List (List ℕ)). AreAnswers rule l (answers ++ said ∷ [])) (sym (bytes_of-append before (r ∷ []))) (answers_append rule (bytes_of before) (r.items ∷ []) answers (said ∷ []) first next))
 
-two_parts : (records front back : List (Vec ℕ Global)) (count : ℕ) → front ≡ take count records → back ≡ drop count records → bytes_of records ≡ bytes_of front ++ bytes_of back
-two_parts records front back count low high =
-    ap bytes_of (sym (take-append-drop count records)) ∙ bytes_of-append (take count records) (drop count records)
-    ∙ ap (λ (l : List (Vec ℕ Global)). bytes_of l ++ bytes_of (drop count records)) (sym low) ∙ ap (λ (l : List (Vec ℕ Global)). bytes_of front ++ bytes_of l) (sym high)
+pub none_left : (l : List Said) → length l ≡ 0 → l ≡ []
+none_left [] e = refl
+none_left (x ∷ l) e = absurd cc
 
-length-bytes_of : (xs : List (Vec ℕ Global)) → length (bytes_of xs) ≡ length xs
-length-bytes_of xs = length-map xs (λ (r : Vec ℕ Global). r.items)
+-- whether a refusal stands first, or nothing
+abbrev pub Stops : List Said → Type 0
+Stops [] = Unit {0}
+Stops (Ok checked ∷ more) = ⊥
+Stops (Err fault ∷ more) = Unit {0}
 
-whole_then : (rule : RuleData) (records low high rest front behind : List (List ℕ)) → records ≡ low ++ high → low ≡ front ++ rest → All (IsChecked rule) front → length low ≤ length front
-    → IsCheckedFront rule high behind → IsCheckedFront rule records (front ++ behind)
-whole_then rule records low high [] front behind parts is checked whole next = record {
-  rest = next.rest;
-  parts = parts ∙ ap (λ (l : List (List ℕ)). l ++ high) (is ∙ append-nil front) ∙ ap (λ (l : List (List ℕ)). front ++ l) next.parts ∙ sym (append_assoc front behind next.rest);
-  checked = All-append (IsChecked rule) front behind checked next.checked;
-  refused = next.refused;
-}
-whole_then rule records low high (r ∷ more) front behind parts is checked whole next = absurd (let size = ap length is in omega (arith, length-append front (r ∷ more), whole, size))
+module _ (rule : RuleData) (no_cause : (bytes : List ℕ) (fault : CheckFault) → IsCause rule bytes fault → IsChecked rule bytes → ⊥) where
+  refused_at : (records : List (List ℕ)) (rest : List Said) → AreAnswers rule records rest → Stops rest → (r : List ℕ) (more : List (List ℕ)) → records ≡ r ∷ more → IsChecked rule r → ⊥
+  refused_at [] rest said stops r more e it = absurd cc
+  refused_at (x ∷ records) [] said stops r more e it = said
+  refused_at (x ∷ records) (Ok checked ∷ rest) said stops r more e it = stops
+  refused_at (x ∷ records) (Err fault ∷ rest) said stops r more e it = no_cause x fault said.0 (subst (IsChecked rule) (sym (ap first_of e)) it)
+    where
+      first_of : List (List ℕ) → List ℕ
+      first_of [] = []
+      first_of (l ∷ ls) = l
 
--- the first part was checked whole, and the second up to a place
-pub front_joined : (rule : RuleData) (records low high : List (Vec ℕ Global)) (count : ℕ) (front behind all : List (List ℕ)) → low ≡ take count records → high ≡ drop count records → length low ≡ count
-    → IsCheckedFront rule (bytes_of low) front → count ≤ length front → IsCheckedFront rule (bytes_of high) behind → all ≡ front ++ behind → IsCheckedFront rule (bytes_of records) all
-front_joined rule records low high count front behind all is_low is_high size first whole next same =
-    subst (IsCheckedFront rule (bytes_of records)) (sym same)
-    (whole_then rule (bytes_of records) (bytes_of low) (bytes_of high) first.rest front behind (two_parts records low high count is_low is_high) first.parts first.checked (omega (arith, whole, length-bytes_of low, size)) next)
-
-cut_then : (rule : RuleData) (records low high rest front : List (List ℕ)) → records ≡ low ++ high → low ≡ front ++ rest → All (IsChecked rule) front → length front < length low
-    → ((r : List ℕ) (more : List (List ℕ)) → rest ≡ r ∷ more → IsChecked rule r → ⊥) → IsCheckedFront rule records front
-cut_then rule records low high [] front parts is checked cut refused = absurd (let size = ap length (is ∙ append-nil front) in omega (arith, cut, size))
-cut_then rule records low high (r ∷ more) front parts is checked cut refused = record {
-  rest = (r ∷ more) ++ high;
-  parts = parts ∙ ap (λ (l : List (List ℕ)). l ++ high) is ∙ append_assoc front (r ∷ more) high;
-  checked = checked;
-  refused = λ x others e it. refused r more refl (subst (IsChecked rule) (sym (ap first_of e)) it);
-}
-
--- a record of the first part is refused
-pub front_cut : (rule : RuleData) (records low high : List (Vec ℕ Global)) (count : ℕ) (front : List (List ℕ)) → low ≡ take count records → high ≡ drop count records → length low ≡ count
-    → IsCheckedFront rule (bytes_of low) front → length front < count → IsCheckedFront rule (bytes_of records) front
-front_cut rule records low high count front is_low is_high size first cut =
-    cut_then rule (bytes_of records) (bytes_of low) (bytes_of high) first.rest front (two_parts records low high count is_low is_high) first.parts first.checked (omega (arith, cut, length-bytes_of low, size)) first.refused
+  -- all answers in front are updates, and then a refusal stands, or nothing
+  pub front_of_answers : (records front : List (List ℕ)) (rest : List Said) → AreAnswers rule records (map Ok front ++ rest) → Stops rest → IsCheckedFront rule records front
+  front_of_answers records [] rest said stops = record { rest = records; parts = refl; checked = All-nil (IsChecked rule); refused = refused_at records rest said stops }
+  front_of_answers [] (x ∷ front) rest said stops = absurd said
+  front_of_answers (r ∷ records) (x ∷ front) rest said stops =
+      let next = front_of_answers records front rest said.1 stops in
+      record {
+        rest = next.rest;
+        parts = ap (λ (l : List ℕ). l ∷ records) (sym said.0.1) ∙ ap (λ (l : List (List ℕ)). x ∷ l) next.parts;
+        checked = All-cons (IsChecked rule) x front (subst (IsChecked rule) (sym said.0.1) said.0.0) next.checked;
+        refused = next.refused;
+      }

@@ -1,15 +1,28 @@
 //! Checking many records at once, on one thread or on several.
 
-ghost use Rattle.std.specs.Prelude.{◌≡◌, ◌<◌, ◌≤◌, IfOk};
-ghost use Rattle.record_check.specs.Records.{IsCheckedFront, bytes_of};
+ghost use Rattle.std.specs.Prelude.{◌≡◌, ◌<◌, ◌≤◌, ℕ, List, IfOk};
+ghost use Rattle.update_model.specs.Rule.{RuleData};
+ghost use Rattle.record_check.specs.Records.{AreAnswers, IsAnswer, IsCheckedFront, bytes_of};
 
 use std::alloc::{AllocError, Global};
 use std::thread::{Threads, available_parallelism, join};
-use update_check::{CheckError, Checked, check};
+use update_check::{CheckError, CheckFault, Checked, check, no_cause};
 use update_model::DbRule;
+
+/// What the check of updates says of a record: the update, or the fault for which it is refused.
+pub type Answer = Result<Checked, CheckFault>;
 
 /// Whoever checks records: which threads do it is its own affair.
 pub trait Verifier {
+    /// What the check of updates says of each record under the rule, in order. It takes the records over.
+    fn check_each(
+        &self,
+        alloc: Global,
+        rule: &DbRule,
+        records: Vec<Vec<u8>>,
+    ) -> Result<Vec<Answer>, AllocError>
+        ensures { IfOk result (λ answers. AreAnswers rule.now (bytes_of records.items) answers.items) };
+
     /// Takes over the records in front of the first that is refused under the rule, in order.
     fn check_front(
         &self,
@@ -17,7 +30,10 @@ pub trait Verifier {
         rule: &DbRule,
         records: Vec<Vec<u8>>,
     ) -> Result<Vec<Checked>, AllocError>
-        ensures { IfOk result (λ front. IsCheckedFront rule.now (bytes_of records.items) front.items) };
+        ensures { IfOk result (λ front. IsCheckedFront rule.now (bytes_of records.items) front.items) }
+    {
+        front_of(alloc, self.check_each(alloc, rule, records)?)
+    }
 }
 
 /// Checks records on the thread that asks.
@@ -25,13 +41,13 @@ pub trait Verifier {
 pub struct OneThread;
 
 impl Verifier for OneThread {
-    fn check_front(
+    fn check_each(
         &self,
         alloc: Global,
         rule: &DbRule,
         records: Vec<Vec<u8>>,
-    ) -> Result<Vec<Checked>, AllocError> {
-        front_here(alloc, rule, records)
+    ) -> Result<Vec<Answer>, AllocError> {
+        each_here(alloc, rule, records)
     }
 }
 
@@ -49,70 +65,83 @@ impl<'a, R: Threads> ManyThreads<'a, R> {
 }
 
 impl<'a, R: Threads> Verifier for ManyThreads<'a, R> {
-    fn check_front(
+    fn check_each(
         &self,
         alloc: Global,
         rule: &DbRule,
         records: Vec<Vec<u8>>,
-    ) -> Result<Vec<Checked>, AllocError> {
+    ) -> Result<Vec<Answer>, AllocError> {
         let processors = match available_parallelism(self.rt) {
             Ok(count) => count.get(),
             Err(_) => 1,
         };
-        front_on(self.rt, alloc, rule, processors, records)
+        each_on(self.rt, alloc, rule, processors, records)
     }
 }
 
 /// Fewer records than this are not worth a thread.
 const LEAST: usize = 16;
 
-/// Takes over the records in front of the first that is refused, on so many threads, of which each has as many records.
+/// Checks records on so many threads, of which each has as many records.
 #[cycle(parts)]
-fn front_on<R: Threads>(
+fn each_on<R: Threads>(
     rt: &R,
     alloc: Global,
     rule: &DbRule,
     threads: usize,
     mut records: Vec<Vec<u8>>,
-) -> Result<Vec<Checked>, AllocError>
-    ensures { IfOk result (λ front. IsCheckedFront rule.now (bytes_of records.items) front.items) }
+) -> Result<Vec<Answer>, AllocError>
+    ensures { IfOk result (λ answers. AreAnswers rule.now (bytes_of records.items) answers.items) }
 {
     if threads < 2 || records.len() < LEAST {
-        return front_here(alloc, rule, records);
+        return each_here(alloc, rule, records);
     }
-    let count = records.len() / threads;
-    let back = records.split_off(count)?;
+    let back = records.split_off(records.len() / threads)?;
     let others = threads - 1;
-    let theirs = move || -> Result<Vec<Checked>, AllocError>
-        ensures { IfOk result (λ front. IsCheckedFront rule.entry.now (bytes_of records.items) front.items) }
-    { front_here(alloc, rule, records) };
-    let mine = move || -> Result<Vec<Checked>, AllocError>
-        ensures { IfOk result (λ front. IsCheckedFront rule.entry.now (bytes_of back.items) front.items) }
-    { front_on(rt, alloc, rule, others, back) };
+    let theirs = move || -> Result<Vec<Answer>, AllocError>
+        ensures { IfOk result (λ answers. AreAnswers rule.entry.now (bytes_of records.items) answers.items) }
+    { each_here(alloc, rule, records) };
+    let mine = move || -> Result<Vec<Answer>, AllocError>
+        ensures { IfOk result (λ answers. AreAnswers rule.entry.now (bytes_of back.items) answers.items) }
+    { each_on(rt, alloc, rule, others, back) };
     let (front, behind) = join(rt, theirs, mine);
-    let mut front = front?;
-    let mut behind = behind?;
-    if front.len() < count {
-        return Ok(front);
-    }
-    front.append(&mut behind)?;
-    Ok(front)
+    let mut answers = front?;
+    answers.append(&mut behind?)?;
+    Ok(answers)
 }
 
-/// Takes over the records in front of the first that is refused, one after the other.
-fn front_here(
-    alloc: Global,
-    rule: &DbRule,
-    records: Vec<Vec<u8>>,
-) -> Result<Vec<Checked>, AllocError>
-    ensures { IfOk result (λ front. IsCheckedFront rule.now (bytes_of records.items) front.items) }
+/// Checks records one after the other.
+fn each_here(alloc: Global, rule: &DbRule, records: Vec<Vec<u8>>) -> Result<Vec<Answer>, AllocError>
+    ensures { IfOk result (λ answers. AreAnswers rule.now (bytes_of records.items) answers.items) }
 {
-    let mut front = Vec::with_capacity(alloc, records.len())?;
+    let mut answers = Vec::with_capacity(alloc, records.len())?;
     for bytes in records {
-        match check(alloc, rule, bytes) {
+        answers.push(answer(alloc, rule, bytes)?)?;
+    }
+    Ok(answers)
+}
+
+/// What the check of updates says of a record.
+fn answer(alloc: Global, rule: &DbRule, bytes: Vec<u8>) -> Result<Answer, AllocError>
+    ensures { IfOk result (IsAnswer rule.now bytes.items) }
+{
+    match check(alloc, rule, bytes) {
+        Ok(update) => Ok(Ok(update)),
+        Err(CheckError::Fault(fault)) => Ok(Err(fault)),
+        Err(CheckError::Memory) => Err(AllocError),
+    }
+}
+
+/// The checked updates of the records in front of the first that is refused, by what the check says of each.
+fn front_of(alloc: Global, answers: Vec<Answer>) -> Result<Vec<Checked>, AllocError>
+    ensures { IfOk result (λ front. (rule : RuleData) (records : List (List ℕ)) → AreAnswers rule records answers.items → IsCheckedFront rule records front.items) }
+{
+    no_cause();
+    let mut front = Vec::with_capacity(alloc, answers.len())?;
+    for answer in answers {
+        match answer {
             Ok(update) => front.push(update)?,
-            Err(CheckError::Fault(_fault)) => return Ok(front),
-            Err(CheckError::Memory) => return Err(AllocError),
+            Err(_fault) => return Ok(front),
         }
     }
     Ok(front)
