@@ -1,13 +1,12 @@
 -- Runs of updates that are checked at once, and the frames between them.
 use Rattle.std.proofs.Common.{◌≡◌, inl, inr, ℕ, List, [], ◌∷◌, ◌++◌, map, All, Vec, Result, Ok, Err, refl, sym, ap, subst, ◌∙◌, append_assoc, append-nil}
-use Rattle.std.specs.List.{AllZip}
 use Rattle.std.specs.declared.alloc.Global.{Global}
 use Rattle.std.proofs.lemmas.List.{map-append}
 use Rattle.std.proofs.lemmas.List.Elements.{All-append, All-cons, All-nil, All-push}
 use Rattle.update_check.specs.declared.check_error.CheckFault.{CheckFault}
 use Rattle.update_codec.specs.Parts.{entry_of}
 use Rattle.update_model.specs.Rule.{RuleData}
-use Rattle.record_check.specs.Records.{IsAnswer, bytes_of}
+use Rattle.record_check.specs.Records.{AreAnswers, IsAnswer, bytes_of}
 use Rattle.session_rules.specs.State.{FrameData, Item}
 use Rattle.sync_frames.specs.declared.frame.Frame.{Frame}
 use Rattle.sync_frames.specs.declared.frame.Frame.TheVariants as frames
@@ -28,21 +27,21 @@ answer_under : (rule : RuleData) (update : List ℕ) (answer : Result (List ℕ)
 answer_under rule update (Ok checked) is = subst (IsFrameUnder rule) (ap (λ (l : List ℕ). answered (Ok l)) (sym is.1)) is.0
 answer_under rule update (Err fault) is = tt
 
-answers_arrive : (rule : RuleData) (updates : List (List ℕ)) (answers : List (Result (List ℕ) CheckFault)) → AllZip (IsAnswer rule) updates answers
+answers_arrive : (rule : RuleData) (updates : List (List ℕ)) (answers : List (Result (List ℕ) CheckFault)) → AreAnswers rule updates answers
     → AllArrive rule (items_of updates) (map frame_of (map answered answers))
 answers_arrive rule [] [] are = refl
 answers_arrive rule [] (a ∷ answers) are = absurd are
 answers_arrive rule (u ∷ updates) [] are = absurd are
 answers_arrive rule (u ∷ updates) (a ∷ answers) are = (frame_of (answered a), map frame_of (map answered answers), refl, answer_arrives rule u a are.0, answers_arrive rule updates answers are.1)
 
-answers_under : (rule : RuleData) (updates : List (List ℕ)) (answers : List (Result (List ℕ) CheckFault)) → AllZip (IsAnswer rule) updates answers → All (IsFrameUnder rule) (map answered answers)
+answers_under : (rule : RuleData) (updates : List (List ℕ)) (answers : List (Result (List ℕ) CheckFault)) → AreAnswers rule updates answers → All (IsFrameUnder rule) (map answered answers)
 answers_under rule [] [] are = All-nil (IsFrameUnder rule)
 answers_under rule [] (a ∷ answers) are = absurd are
 answers_under rule (u ∷ updates) [] are = absurd are
 answers_under rule (u ∷ updates) (a ∷ answers) are = All-cons (IsFrameUnder rule) (answered a) (map answered answers) (answer_under rule u a are.0) (answers_under rule updates answers are.1)
 
 -- a run that was checked is put behind
-pub puts_run : (rule : RuleData) (updates : List (List ℕ)) (answers : List (Result (List ℕ) CheckFault)) (before after : List CheckedFrame) → AllZip (IsAnswer rule) updates answers → after ≡ before ++ map answered answers
+pub puts_run : (rule : RuleData) (updates : List (List ℕ)) (answers : List (Result (List ℕ) CheckFault)) (before after : List CheckedFrame) → AreAnswers rule updates answers → after ≡ before ++ map answered answers
     → Puts rule (items_of updates) before after
 puts_run rule updates answers before after are is = record { more = map answered answers; are = is; arrive = answers_arrive rule updates answers are; under = answers_under rule updates answers are }
 

@@ -9,12 +9,11 @@ ghost use Rattle.link_frames.specs.Hearing.{AllArrive};
 ghost use Rattle.link_frames.specs.Listening.{IsFed, Listens, ReadsPiece, is_none};
 
 use bec_links::Link;
-use record_check::Verifier;
+use record_check::{Answer, Verifier};
 use std::alloc::{AllocError, Global};
 use std::mem;
 use sync_frames::{FeedError, Frame, Frames};
 use sync_session::CheckedFrame;
-use update_check::{CheckFault, Checked};
 use update_model::DbRule;
 
 /// What a call of [`listen`] heard.
@@ -140,7 +139,7 @@ fn put_checked<V: Verifier>(
 }
 
 /// An update with what the check of updates says of it.
-fn with_answer(answer: Result<Checked, CheckFault>) -> CheckedFrame
+fn with_answer(answer: Answer) -> CheckedFrame
     ensures { result ≡ answered answer }
 {
     match answer {
