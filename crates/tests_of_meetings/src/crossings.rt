@@ -123,7 +123,7 @@ enum Ending {
 }
 
 /// How a node says that its session ended, with the status that belongs to it.
-fn ending(node: &Node, done: &[u8], broken: &[u8], cut: &[u8]) -> Ending {
+fn ending_of(node: &Node, done: &[u8], broken: &[u8], cut: &[u8]) -> Ending {
     match node.status {
         0 if node.text.starts_with(done) => Ending::Done,
         4 if node.text.as_slice() == broken => Ending::Broken,
@@ -135,13 +135,13 @@ fn ending(node: &Node, done: &[u8], broken: &[u8], cut: &[u8]) -> Ending {
 /// How both say that their session ended.
 fn endings(nodes: &(Node, Node)) -> (Ending, Ending) {
     let (here, there) = nodes;
-    let here = ending(
+    let here = ending_of(
         here,
         b"session 1 done gained 1 turns ",
         b"session 1 broken\n",
         b"session 1 cut\n",
     );
-    let there = ending(there, b"gained 1\nturns ", b"! stream fault\n", b"! cut\n");
+    let there = ending_of(there, b"gained 1\nturns ", b"! stream fault\n", b"! cut\n");
     (here, there)
 }
 
