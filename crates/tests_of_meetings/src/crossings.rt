@@ -77,9 +77,10 @@ fn two_callers_at_once(rt: HostRuntime) -> Result<(), Fail> {
     assert_eq!(rt; heads.text.len(), TWO_HEADS);
     let nodes = all_met(&rt, alloc, (heads, nodes.1, nodes.2))?;
     assert!(rt; all_done(&nodes));
-    let (here, one, other) = all_told(&rt, alloc, nodes, ("dump A", "dump B", "dump C"))?;
-    assert!(rt; here.text.as_slice() == one.text.as_slice());
-    assert!(rt; here.text.as_slice() == other.text.as_slice());
+    let nodes = all_told(&rt, alloc, nodes, ("dump A", "dump B", "dump C"))?;
+    assert!(rt; all_done(&nodes));
+    assert!(rt; nodes.0.text.as_slice() == nodes.1.text.as_slice());
+    assert!(rt; nodes.0.text.as_slice() == nodes.2.text.as_slice());
     Ok(())
 }
 
@@ -113,12 +114,22 @@ fn both_told<T: Threads + Wait + Sync>(
     Ok((here, nodes.1.told(rt, alloc, lines.1)?))
 }
 
+/// Whether the last run of each was done, and printed something.
+fn both_done(nodes: &(Node, Node)) -> bool {
+    let (here, there) = nodes;
+    here.status == 0 && there.status == 0 && !here.text.is_empty() && !there.text.is_empty()
+}
+
 /// How an end says that a session ended.
 #[derive(Clone, Copy, PartialEq, Eq)]
 enum Ending {
+    /// It is done.
     Done,
+    /// The link broke.
     Broken,
+    /// The other end went away.
     Cut,
+    /// In none of these ways.
     Other,
 }
 
@@ -150,7 +161,7 @@ fn endings(nodes: &(Node, Node)) -> (Ending, Ending) {
 struct Outcome {
     /// How each end says that it ended.
     endings: (Ending, Ending),
-    /// Whether each store holds behind what it held, if anything, what it gained, and one more session over a whole link makes the stores equal.
+    /// Whether each store prints what it held before anything else, and a session that follows over a whole link makes the stores equal.
     is_kept: bool,
 }
 
@@ -165,18 +176,19 @@ fn crossed<T: Threads + Wait + Sync>(
 {
     let nodes = (Node::new(alloc, shelf)?, Node::new(alloc, shelf)?);
     let nodes = both_told(rt, alloc, nodes, EXPORTS)?;
+    let was_told = both_done(&nodes);
     let (held, kept) = (nodes.0.text.clone()?, nodes.1.text.clone()?);
     let nodes = both_met(rt, alloc, nodes, failing)?;
     let endings = endings(&nodes);
     let nodes = both_told(rt, alloc, nodes, EXPORTS)?;
     let is_front = nodes.0.text.starts_with(&held) && nodes.1.text.starts_with(&kept);
     let nodes = both_met(rt, alloc, nodes, (0, 0))?;
-    let is_done = nodes.0.status == 0 && nodes.1.status == 0;
-    let (here, there) = both_told(rt, alloc, nodes, ("dump B", "dump C"))?;
-    let is_equal = here.text.as_slice() == there.text.as_slice();
+    let is_done = both_done(&nodes);
+    let nodes = both_told(rt, alloc, nodes, ("dump B", "dump C"))?;
+    let is_equal = both_done(&nodes) && nodes.0.text.as_slice() == nodes.1.text.as_slice();
     Ok(Outcome {
         endings,
-        is_kept: is_front && is_done && is_equal,
+        is_kept: was_told && is_front && is_done && is_equal,
     })
 }
 
