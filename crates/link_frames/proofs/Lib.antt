@@ -1,3 +1,4 @@
+pub mod Checking
 pub mod Coming
 pub mod Having
 pub mod Pieces

@@ -1,16 +1,19 @@
 //! Reading frames of a link.
 
-ghost use Rattle.std.specs.Prelude.{◌≡◌, ◌≤◌, ◌<◌, length, IfOk};
-ghost use Rattle.sync_session.specs.Carrying.{Arrives};
+ghost use Rattle.std.specs.Prelude.{◌≡◌, ◌≤◌, ◌<◌, [], length, map, All, IfOk, MatchResult};
+ghost use Rattle.record_check.specs.Records.{bytes_of};
+ghost use Rattle.sync_frames.specs.declared.frame.Frame.TheVariants.{Item};
 ghost use Rattle.sync_session.specs.Kept.{frame_of, IsFrameUnder};
-ghost use Rattle.link_frames.specs.Hearing.{said_by};
+ghost use Rattle.link_frames.specs.Checking.{IsPlain, Puts, answered, items_of};
+ghost use Rattle.link_frames.specs.Hearing.{AllArrive};
 ghost use Rattle.link_frames.specs.Listening.{IsFed, Listens, ReadsPiece, is_none};
 
 use bec_links::Link;
+use record_check::{Answer, Verifier};
 use std::alloc::{AllocError, Global};
+use std::mem;
 use sync_frames::{FeedError, Frame, Frames};
 use sync_session::CheckedFrame;
-use update_check::{CheckError, check};
 use update_model::DbRule;
 
 /// What a call of [`listen`] heard.
@@ -79,19 +82,68 @@ fn feed(alloc: Global, frames: &mut Frames, piece: &[u8]) -> Heard
     }
 }
 
-/// A frame with what the check of updates says of it. The error is want of memory.
-pub fn checked(alloc: Global, rule: &DbRule, frame: Frame) -> Result<CheckedFrame, AllocError>
-    ensures arrives { IfOk result (λ checked. Arrives rule.now (said_by frame) (frame_of checked)) }
-    ensures under { IfOk result (IsFrameUnder rule.now) }
+/// Frames with what the check of updates says of each, in order. The updates among them that follow one another are checked at once, by the verifier. The error
+/// is want of memory.
+pub fn checked_all<V: Verifier>(
+    alloc: Global,
+    verifier: &V,
+    rule: &DbRule,
+    frames: Vec<Frame>,
+) -> Result<Vec<CheckedFrame>, AllocError>
+    ensures arrives { IfOk result (λ all. AllArrive rule.now frames.items (map frame_of all.items)) }
+    ensures under { IfOk result (λ all. All (IsFrameUnder rule.now) all.items) }
+{
+    let mut all = Vec::with_capacity(alloc, frames.len())?;
+    let mut run = Vec::new(alloc);
+    for frame in frames {
+        match plain(frame) {
+            Ok(frame) => {
+                put_checked(alloc, verifier, rule, &mut run, &mut all)?;
+                all.push(frame)?;
+            }
+            Err(bytes) => run.push(bytes)?,
+        }
+    }
+    put_checked(alloc, verifier, rule, &mut run, &mut all)?;
+    Ok(all)
+}
+
+/// A frame of which the check of updates says nothing, or the bytes of an update.
+fn plain(frame: Frame) -> Result<CheckedFrame, Vec<u8>>
+    ensures { MatchResult result (λ plain. IsPlain frame plain) (λ bytes. frame ≡ Item bytes.items) }
 {
     match frame {
         Frame::Hello(hello) => Ok(CheckedFrame::Hello(hello)),
         Frame::OtherVersion(version) => Ok(CheckedFrame::OtherVersion(version)),
         Frame::Turn(turn) => Ok(CheckedFrame::Turn(turn)),
-        Frame::Item(bytes) => match check(alloc, rule, bytes.into_vec()) {
-            Ok(update) => Ok(CheckedFrame::Item(update)),
-            Err(CheckError::Fault(fault)) => Ok(CheckedFrame::BadItem(fault)),
-            Err(CheckError::Memory) => Err(AllocError),
-        },
+        Frame::Item(bytes) => Err(bytes.into_vec()),
+    }
+}
+
+/// Takes updates out, has them checked at once, and puts each behind the frames that are there, with what the check says of it.
+fn put_checked<V: Verifier>(
+    alloc: Global,
+    verifier: &V,
+    rule: &DbRule,
+    run: &mut Vec<Vec<u8>>,
+    all: &mut Vec<CheckedFrame>,
+) -> Result<(), AllocError>
+    ensures none { run.new.items ≡ [] }
+    ensures puts { IfOk result (λ _. Puts rule.now (items_of (bytes_of run.old.items)) all.old.items all.new.items) }
+{
+    let records = mem::replace(run, Vec::new(alloc));
+    for answer in verifier.check_each(alloc, rule, records)? {
+        all.push(with_answer(answer))?;
+    }
+    Ok(())
+}
+
+/// An update with what the check of updates says of it.
+fn with_answer(answer: Answer) -> CheckedFrame
+    ensures { result ≡ answered answer }
+{
+    match answer {
+        Ok(update) => CheckedFrame::Item(update),
+        Err(fault) => CheckedFrame::BadItem(fault),
     }
 }

@@ -1,5 +1,5 @@
 -- A session over a link goes on, frame by frame.
-use Rattle.std.proofs.Common.{◌≡◌, ◌⊎◌, ◌≤◌, inl, inr, ℕ, Bool, true, false, List, [], ◌∷◌, ◌++◌, map, take, length, Option, Some, None, Result, Ok, Err, refl, sym, ap, subst, ◌∙◌, append_assoc, append-nil, arith}
+use Rattle.std.proofs.Common.{◌≡◌, ◌⊎◌, ◌≤◌, inl, inr, ℕ, Bool, true, false, List, [], ◌∷◌, ◌++◌, map, take, drop, length, Option, Some, None, Result, Ok, Err, refl, sym, ap, subst, ◌∙◌, append_assoc, append-nil, arith}
 use Rattle.std.proofs.lemmas.List.{map-append, length-map}
 use lib.Seq.{take-append-le}
 use Rattle.std.specs.Prelude.{option_map}
@@ -50,7 +50,7 @@ use Rattle.session_server.specs.Sessions.{HasCause, IsAllRead, IsPut}
 use Rattle.peer_memory.specs.declared.peer.Peer.{Peer}
 use Rattle.peer_memory.specs.Peers.{heads_under}
 use Rattle.session_server.specs.Recalling.{heads_for, recalled}
-use Rattle.session_server.specs.Talks.{Begins, Goes, HasCauseBy, HeardFront, HeardNext, HeardOne, IsFresh, IsPutBy, IsStill, IsTalk, IsTalkWith, ReadsBy, ReadsTo, Start, TookOne, ending_of, first_node_of, is_cut, over_by}
+use Rattle.session_server.specs.Talks.{Begins, Goes, HasCauseBy, HeardFront, HeardOne, IsFresh, IsPutBy, IsStill, IsTalk, IsTalkWith, ReadsBy, ReadsTo, Start, TookOne, ending_of, first_node_of, is_cut, over_by}
 use Rattle.session_server.proofs.Passing.{act_still, prefix_then, still_then, updates_prefix}
 
 -- ---- the replica of a list
@@ -343,53 +343,82 @@ heard_checked rule role peers start pass mid after k next fresh again last held 
       (with_stops rule role peers start pass after k next fresh last held held' faults faults' heard t (still_then pass mid after s w) (inr failed) (fresh_last ∙ fresh_is) held_is faults_is),
 )
 
--- a frame was heard as it arrives
-pub heard_next : (rule : RuleData) (frame : Frame) (one : FrameData) (heard : List FrameData) (ending : Option Ending) (all : List FrameData) → Arrives rule (said_by frame) one → HeardOne one heard ending all → HeardNext rule frame heard ending all
-heard_next rule frame one heard ending all arrives (inl is) = inl (one, arrives, is)
-heard_next rule frame one heard ending all arrives (inr none) = inr none
-
 -- ---- frames in order
 
--- Of these frames the first were heard, and these are left.
-pub record HeardUpTo (rule : RuleData) (frames rest : List Frame) (heard all : List FrameData) : Type 0 where
+-- Of these frames the first were heard, and the others are left as they arrive.
+pub record HeardUpTo (rule : RuleData) (frames : List Frame) (left : List CheckedFrame) (heard all : List FrameData) : Type 0 where
   pub front : List Frame
+  pub rest : List Frame
   pub more : List FrameData
   pub are : frames ≡ front ++ rest
   pub arrive : AllArrive rule front more
+  pub others : AllArrive rule rest (map frame_of left)
   pub is : all ≡ heard ++ more
 
-pub up_to_none : (rule : RuleData) (frames rest : List Frame) (heard : List FrameData) → rest ≡ frames → HeardUpTo rule frames rest heard heard
-up_to_none rule frames rest heard is = record { front = []; more = []; are = sym is; arrive = refl; is = sym (append-nil heard) }
+pub up_to_none : (rule : RuleData) (frames : List Frame) (left : List CheckedFrame) (heard : List FrameData) → AllArrive rule frames (map frame_of left) → HeardUpTo rule frames left heard heard
+up_to_none rule frames left heard arrive = record { front = []; rest = frames; more = []; are = refl; arrive = refl; others = arrive; is = sym (append-nil heard) }
+
+abbrev first_or : FrameData → List FrameData → FrameData
+first_or one [] = one
+first_or one (first ∷ more) = first
+
+-- the frame that arrives first, and those behind it
+first_arrives : (rule : RuleData) (frames : List Frame) (one : FrameData) (more : List FrameData) → AllArrive rule frames (one ∷ more)
+    → (frame : Frame) × (others : List Frame) × (frames ≡ frame ∷ others) × Arrives rule (said_by frame) one × AllArrive rule others more
+first_arrives rule [] one more are = absurd (cc are)
+first_arrives rule (frame ∷ frames) one more (first, others, is, arrives, behind) = (
+  frame,
+  frames,
+  refl,
+  subst (λ (l : List FrameData). Arrives rule (said_by frame) (first_or one l)) (sym is) arrives,
+  subst (λ (l : List FrameData). AllArrive rule frames (drop 1 l)) (sym is) behind,
+)
+
+-- one more was heard, and these are left
+heard_more : (rule : RuleData) (frames : List Frame) (before rest : List CheckedFrame) (frame : CheckedFrame) (heard all next : List FrameData) → HeardUpTo rule frames before heard all → before ≡ frame ∷ rest
+    → next ≡ all ++ frame_of frame ∷ [] → HeardUpTo rule frames rest heard next
+heard_more rule frames before rest frame heard all next u is are =
+    let first = first_arrives rule u.rest (frame_of frame) (map frame_of rest) (subst (λ (l : List CheckedFrame). AllArrive rule u.rest (map frame_of l)) is u.others) in
+    record {
+      front = u.front ++ first.0 ∷ [];
+      rest = first.1;
+      more = u.more ++ frame_of frame ∷ [];
+      are = u.are ∙ ap (λ (l : List Frame). u.front ++ l) first.2 ∙ sym (append_assoc u.front (first.0 ∷ []) first.1);
+      arrive = arrive_append rule u.front (first.0 ∷ []) u.more (frame_of frame ∷ []) u.arrive (arrive_one rule first.0 (frame_of frame) first.3);
+      others = first.4;
+      is = are ∙ ap (λ (l : List FrameData). l ++ frame_of frame ∷ []) u.is ∙ append_assoc heard u.more (frame_of frame ∷ []);
+    }
 
 -- one more
-pub up_to_next : (rule : RuleData) (frames before rest : List Frame) (frame : Frame) (heard all next : List FrameData) (ending : Option Ending) → HeardUpTo rule frames before heard all → before ≡ frame ∷ rest
-    → HeardNext rule frame all ending next → ending ≡ None → HeardUpTo rule frames rest heard next
-up_to_next rule frames before rest frame heard all next ending u is (inl (one, arrives, are)) none = record {
-  front = u.front ++ frame ∷ [];
-  more = u.more ++ one ∷ [];
-  are = u.are ∙ ap (λ (l : List Frame). u.front ++ l) is ∙ sym (append_assoc u.front (frame ∷ []) rest);
-  arrive = arrive_append rule u.front (frame ∷ []) u.more (one ∷ []) u.arrive (arrive_one rule frame one arrives);
-  is = are ∙ ap (λ (l : List FrameData). l ++ one ∷ []) u.is ∙ append_assoc heard u.more (one ∷ []);
-}
+pub up_to_next : (rule : RuleData) (frames : List Frame) (before rest : List CheckedFrame) (frame : CheckedFrame) (heard all next : List FrameData) (ending : Option Ending) → HeardUpTo rule frames before heard all
+    → before ≡ frame ∷ rest → HeardOne (frame_of frame) all ending next → ending ≡ None → HeardUpTo rule frames rest heard next
+up_to_next rule frames before rest frame heard all next ending u is (inl are) none = heard_more rule frames before rest frame heard all next u is are
 up_to_next rule frames before rest frame heard all next ending u is (inr (over, same)) none = absurd (cc (sym over ∙ none))
 
+-- the session ended, with the last of those that were heard or before the next
+front_of : (rule : RuleData) (frames : List Frame) (left : List CheckedFrame) (heard all : List FrameData) (ending : Option Ending) → HeardUpTo rule frames left heard all → (ending ≡ None → ⊥)
+    → HeardFront rule frames heard ending all
+front_of rule frames left heard all ending u over = (u.front, u.rest, u.more, u.are, u.arrive, u.is, λ none. absurd (over none))
+
 -- the one at which the session ended, or memory ran out before it
-pub front_here : (rule : RuleData) (frames before rest : List Frame) (frame : Frame) (heard all next : List FrameData) (ending : Option Ending) → HeardUpTo rule frames before heard all → before ≡ frame ∷ rest
-    → HeardNext rule frame all ending next → (ending ≡ None → ⊥) → HeardFront rule frames heard ending next
-front_here rule frames before rest frame heard all next ending u is (inl (one, arrives, are)) over = (
-  u.front ++ frame ∷ [],
-  rest,
-  u.more ++ one ∷ [],
-  u.are ∙ ap (λ (l : List Frame). u.front ++ l) is ∙ sym (append_assoc u.front (frame ∷ []) rest),
-  arrive_append rule u.front (frame ∷ []) u.more (one ∷ []) u.arrive (arrive_one rule frame one arrives),
-  are ∙ ap (λ (l : List FrameData). l ++ one ∷ []) u.is ∙ append_assoc heard u.more (one ∷ []),
-  λ none. absurd (over none),
-)
-front_here rule frames before rest frame heard all next ending u is (inr (stops, same)) over = (u.front, before, u.more, u.are, u.arrive, same ∙ u.is, λ none. absurd (over none))
+pub front_here : (rule : RuleData) (frames : List Frame) (before rest : List CheckedFrame) (frame : CheckedFrame) (heard all next : List FrameData) (ending : Option Ending) → HeardUpTo rule frames before heard all
+    → before ≡ frame ∷ rest → HeardOne (frame_of frame) all ending next → (ending ≡ None → ⊥) → HeardFront rule frames heard ending next
+front_here rule frames before rest frame heard all next ending u is (inl are) over = front_of rule frames rest heard next ending (heard_more rule frames before rest frame heard all next u is are) over
+front_here rule frames before rest frame heard all next ending u is (inr (stops, same)) over =
+    subst (λ (l : List FrameData). HeardFront rule frames heard ending l) (sym same) (front_of rule frames before heard all ending u over)
+
+-- memory ran out in the check, and none was heard
+pub front_none : (rule : RuleData) (frames : List Frame) (heard : List FrameData) → HeardFront rule frames heard (Some Memory) heard
+front_none rule frames heard = ([], frames, [], refl, refl, sym (append-nil heard), λ none. absurd (cc none))
+
+none_arrive : (rule : RuleData) (frames : List Frame) → AllArrive rule frames [] → frames ≡ []
+none_arrive rule [] are = refl
+none_arrive rule (frame ∷ frames) (first, others, is, arrives, behind) = absurd (cc is)
 
 -- all of them
-pub front_done : (rule : RuleData) (frames rest : List Frame) (heard all : List FrameData) → HeardUpTo rule frames rest heard all → rest ≡ [] → HeardFront rule frames heard None all
-front_done rule frames rest heard all u none = (u.front, rest, u.more, u.are, u.arrive, u.is, λ is. none)
+pub front_done : (rule : RuleData) (frames : List Frame) (left : List CheckedFrame) (heard all : List FrameData) → HeardUpTo rule frames left heard all → left ≡ [] → HeardFront rule frames heard None all
+front_done rule frames left heard all u none =
+    (u.front, u.rest, u.more, u.are, u.arrive, u.is, λ is. none_arrive rule u.rest (subst (λ (l : List CheckedFrame). AllArrive rule u.rest (map frame_of l)) none u.others))
 
 pub none_left : {X : Type 0} (xs : List X) → length xs ≡ 0 → xs ≡ []
 none_left [] is = refl

@@ -12,7 +12,6 @@ use Rattle.session_rules.specs.declared.end.End.{End}
 use Rattle.session_rules.specs.declared.end.End.TheVariants as ends
 use Rattle.sync_frames.specs.declared.frame.Frame.{Frame}
 use Rattle.sync_frames.specs.Fed.{FedData}
-use Rattle.sync_session.specs.Carrying.{Arrives}
 use Rattle.sync_session.specs.Kept.{Kept, BelongsTo, Stands, seen}
 use Rattle.sync_session.specs.Starts.{RemembersBy, StartsAs, node_of}
 use Rattle.sync_session.specs.declared.out.Out.{Out}
@@ -30,7 +29,7 @@ use Rattle.link_frames.specs.declared.saying.Halt.{Halt}
 use Rattle.link_frames.specs.declared.saying.Halt.TheVariants as halts
 use Rattle.link_frames.specs.Course.{Comes}
 use Rattle.session_server.specs.Recalling.{recalled}
-use Rattle.link_frames.specs.Hearing.{AllArrive, AreSaid, Hears, Reads, said_by}
+use Rattle.link_frames.specs.Hearing.{AllArrive, AreSaid, Hears, Reads}
 use Rattle.session_server.specs.Sessions.{HasCause, IsAllRead, IsPut}
 
 -- how a session over a link ended, by how the session of the rules did
@@ -112,10 +111,6 @@ HeardOne frame heard ending all = (all ≡ heard ++ frame ∷ []) ⊎ ((ending �
 abbrev pub TookOne : FrameData → List FrameData → Option Ending → List FrameData → Kept → Bool → Bool → Option (List ℕ) → Option (List ℕ) → ℕ → ℕ → Type 0
 TookOne frame heard ending all next fresh fresh' held held' faults faults' =
     (all ≡ heard ++ frame ∷ []) ⊎ ((ending ≡ Some Memory) × (all ≡ heard) × (next.failed ≡ true) × (fresh' ≡ fresh) × (held' ≡ held) × (faults' ≡ faults))
-
--- A frame was heard as it arrives, or memory ran out before.
-abbrev pub HeardNext : RuleData → Frame → List FrameData → Option Ending → List FrameData → Type 0
-HeardNext rule frame heard ending all = ((one : FrameData) × Arrives rule (said_by frame) one × (all ≡ heard ++ one ∷ [])) ⊎ ((ending ≡ Some Memory) × (all ≡ heard))
 
 -- Of these frames a front was heard: all of them, where the session goes on.
 abbrev pub HeardFront : RuleData → List Frame → List FrameData → Option Ending → List FrameData → Type 0

@@ -63,7 +63,7 @@ impl<D: Disk, K: Link> Promise<Ended<D, K>> for Task<D, K> {
 pub(crate) type Child<D, K> = PromisedHandle<Ended<D, K>, Task<D, K>>;
 
 /// Runs the session of a link that was accepted.
-fn run_one<R: Wait, K: Link, D: Disk>(
+fn run_one<R: Threads + Wait, K: Link, D: Disk>(
     rt: &R,
     alloc: Global,
     shared: &Shared<D>,

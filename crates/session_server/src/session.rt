@@ -17,6 +17,7 @@ use session_rules::Role;
 use shared_replica::{Pass, Shared};
 use std::alloc::Global;
 use std::sync::Wait;
+use std::thread::Threads;
 use sync_session::Session;
 use update_model::{DbRule, IdList, UpdateId};
 
@@ -28,7 +29,7 @@ use update_model::{DbRule, IdList, UpdateId};
 /// The session is one by the rules of sessions over the frames that the link gave, and over growing fronts of what the pass has seen then. It ends `Done`,
 /// `Peer` or `Full` by those rules, once all that was to be said is on the link; `Store` where an act met a fault of the disk besides; `Cut` where the
 /// link ended first; `Broken` only where the link counted a fault. No act of the replica takes the link.
-pub fn run_session<R: Wait, K: Link, D: Disk>(
+pub fn run_session<R: Threads + Wait, K: Link, D: Disk>(
     rt: &R,
     alloc: Global,
     shared: &Shared<D>,

@@ -12,25 +12,27 @@ ghost use Rattle.update_model.specs.declared.update_id.UpdateId.{UpdateId as Id}
 ghost use Rattle.shared_replica.specs.Sessions.{BelongsIn, IsRuledBy, IsUnder};
 ghost use Rattle.session_server.specs.Recalling.{recalled as recalled_by};
 ghost use Rattle.link_frames.specs.Hearing.{Reads};
-ghost use Rattle.session_server.specs.Talks.{Begins, Goes, HeardFront, HeardNext, HeardOne, IsStill, IsTalk, IsTalkWith, ReadsBy, ReadsTo, Start, TookOne, first_node_of, is_cut, over_by};
+ghost use Rattle.session_server.specs.Talks.{Begins, Goes, HeardFront, HeardOne, IsStill, IsTalk, IsTalkWith, ReadsBy, ReadsTo, Start, TookOne, first_node_of, is_cut, over_by};
 ghost use Rattle.session_server.specs.declared.ending.Ending.TheVariants.{Memory as memory};
 
 use crate::Ending;
 use crate::saying::say;
 use bec_disk::Disk;
 use bec_links::Link;
-use link_frames::{Halt, Heard, checked, listen};
+use link_frames::{Halt, Heard, checked_all, listen};
 use peer_memory::Peers;
+use record_check::ManyThreads;
 use session_rules::{End, Role};
 use shared_replica::{Acted, Pass, Shared};
 use std::alloc::{AllocError, Global};
 use std::sync::Wait;
+use std::thread::Threads;
 use sync_frames::{Frame, Frames};
 use sync_session::{CheckedFrame, Out, Session};
 use update_model::{DbRule, IdList, UpdateId};
 
 /// How many bytes are read at once at most.
-const PIECE: usize = 32_768;
+const PIECE: usize = 262_144;
 
 /// A session, and the pass with which it takes its turns.
 #[derive(Drop)]
@@ -211,35 +213,9 @@ fn hear_checked<R: Wait, K: Link, D: Disk>(
     }
 }
 
-/// Hears a frame: checks it outside the turn, takes it, and says what is to be said.
-fn hear<R: Wait, K: Link, D: Disk>(
-    rt: &R,
-    alloc: Global,
-    shared: &Shared<D>,
-    rule: &DbRule,
-    peers: &Peers,
-    role: Role,
-    link: &mut K,
-    talk: Talk<D>,
-    frame: Frame,
-) -> (Talk<D>, Option<Ending>)
-    requires lock { talk.pass.lock ≡ shared.now.lock }
-    requires belongs { BelongsIn talk.pass.seen talk.session }
-    requires ruled { IsRuledBy talk.pass.seen rule.now }
-    ensures goes { Goes talk.pass result.0.pass result.0.session }
-    ensures uncut { is_cut result.1 ≡ false }
-    ensures left { K.left link.new ≡ K.left link.old }
-    ensures talk { (start : Start) (heard : List FrameData) → IsTalkWith rule.now role peers.now start talk.pass talk.session talk.is_fresh (K.held link.old) (K.faults link.old) heard None
-        → (all : List FrameData) × HeardNext rule.now frame heard result.1 all × IsTalkWith rule.now role peers.now start result.0.pass result.0.session result.0.is_fresh (K.held link.new) (K.faults link.new) all result.1 }
-{
-    match checked(alloc, rule, frame) {
-        Ok(frame) => hear_checked(rt, alloc, shared, peers, role, link, talk, frame),
-        Err(_) => (talk, Some(Ending::Memory)),
-    }
-}
-
-/// Hears frames in order, up to the one at which the session ends.
-fn hear_all<R: Wait, K: Link, D: Disk>(
+/// Has the updates among frames checked outside the turn, on as many threads as there are processors, and hears the frames in order, up to the one at which the
+/// session ends. Where memory runs out in the check, it hears none.
+fn hear_all<R: Threads + Wait, K: Link, D: Disk>(
     rt: &R,
     alloc: Global,
     shared: &Shared<D>,
@@ -259,10 +235,13 @@ fn hear_all<R: Wait, K: Link, D: Disk>(
     ensures talk { (start : Start) (heard : List FrameData) → IsTalkWith rule.now role peers.now start talk.pass talk.session talk.is_fresh (K.held link.old) (K.faults link.old) heard None
         → (all : List FrameData) × HeardFront rule.now frames.items heard result.1 all × IsTalkWith rule.now role peers.now start result.0.pass result.0.session result.0.is_fresh (K.held link.new) (K.faults link.new) all result.1 }
 {
+    let Ok(all) = checked_all(alloc, &ManyThreads::new(rt), rule, frames) else {
+        return (talk, Some(Ending::Memory));
+    };
     let mut talk = talk;
-    let mut frames = frames.into_iter();
+    let mut frames = all.into_iter();
     'frames: while let Some(frame) = frames.next() {
-        let (next, over) = hear(rt, alloc, shared, rule, peers, role, link, talk, frame);
+        let (next, over) = hear_checked(rt, alloc, shared, peers, role, link, talk, frame);
         talk = next;
         if over.is_some() {
             return (talk, over);
@@ -272,7 +251,7 @@ fn hear_all<R: Wait, K: Link, D: Disk>(
 }
 
 /// Reads a piece of the link, and hears the frames that are whole then.
-fn go_on<R: Wait, K: Link, D: Disk>(
+fn go_on<R: Threads + Wait, K: Link, D: Disk>(
     rt: &R,
     alloc: Global,
     shared: &Shared<D>,
@@ -313,8 +292,8 @@ fn go_on<R: Wait, K: Link, D: Disk>(
     }
 }
 
-/// Goes on with a session until it ends, and answers how.
-pub(crate) fn go_through<R: Wait, K: Link, D: Disk>(
+/// Goes on with a session until it ends, and answers how. Where there is no memory for what is read at once, nothing is read.
+pub(crate) fn go_through<R: Threads + Wait, K: Link, D: Disk>(
     rt: &R,
     alloc: Global,
     shared: &Shared<D>,
@@ -333,7 +312,9 @@ pub(crate) fn go_through<R: Wait, K: Link, D: Disk>(
         × ReadsTo rule.now (K.left link.old) (K.left link.new) all result.1 }
 {
     let mut frames = Frames::new(alloc);
-    let mut buffer = [0u8; PIECE];
+    let Ok(mut buffer) = vec![in alloc; 0u8; PIECE] else {
+        return (talk, Ending::Memory);
+    };
     let mut talk = talk;
     for _ in rt.forever() {
         let (next, over) = go_on(

@@ -50,7 +50,7 @@ pub(crate) fn sync_in<T: Threads + Wait, H: Shelf, N: Net>(
 }
 
 /// The same over the store, which is open and comes back.
-fn sync_open<T: Wait, H: Shelf, N: Net>(
+fn sync_open<T: Threads + Wait, H: Shelf, N: Net>(
     rt: &T,
     alloc: Global,
     shelf: &mut H,
@@ -84,7 +84,7 @@ fn sync_open<T: Wait, H: Shelf, N: Net>(
 }
 
 /// Dials, and holds a session with the node at the other end. The replica comes back, whatever it comes to.
-fn meet<T: Wait, N: Net, D: Disk>(
+fn meet<T: Threads + Wait, N: Net, D: Disk>(
     rt: &T,
     alloc: Global,
     net: &mut N,

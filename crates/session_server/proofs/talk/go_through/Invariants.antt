@@ -1,4 +1,4 @@
-use Rattle.std.proofs.Common.{◌≡◌, List, [], None}
+use Rattle.std.proofs.Common.{◌≡◌, ◌<◌, List, [], None, length}
 use Rattle.session_rules.specs.State.{FrameData}
 use Rattle.link_frames.specs.Hearing.{Reads}
 use Rattle.session_server.specs.Talks.{Goes, IsTalkWith, Start}
@@ -10,3 +10,4 @@ invariant-loop g l =
     × ((start : Start) (heard : List FrameData) → IsTalkWith l.rule l.role l.peers start l.fn.talk.pass l.fn.talk.session l.fn.talk.is_fresh (g.K.Sink.held l.initial.link) (g.K.Counted.faults l.initial.link) heard None → heard ≡ []
     → (all : List FrameData) × IsTalkWith l.rule l.role l.peers start l.talk.pass l.talk.session l.talk.is_fresh (g.K.Sink.held l.link) (g.K.Counted.faults l.link) all None
     × Reads l.rule (g.K.Source.left l.initial.link) (g.K.Source.left l.link) l.frames all)
+    × (0 < length l.buffer.items)
