@@ -2,6 +2,12 @@
 #![tactic(auto)]
 
 #[cfg(test)]
+mod crossings;
+#[cfg(test)]
 mod meetings;
+#[cfg(test)]
+mod nodes;
+#[cfg(test)]
+mod pipes;
 #[cfg(test)]
 mod runs;

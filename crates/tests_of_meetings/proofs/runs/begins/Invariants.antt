@@ -1,6 +1,6 @@
 use Rattle.bec_disk.specs.Shelved.{shelf_of}
 use Rattle.store_directory.specs.Stores.{IsHome}
-use Rattle.tests_of_meetings.proofs.meetings.begins.Given as goal
+use Rattle.tests_of_meetings.proofs.runs.begins.Given as goal
 
 abbrev pub invariant-loop-number : goal.invariant-loop-number
 invariant-loop-number g l = IsHome (shelf_of l.shelf)
