@@ -1,5 +1,5 @@
 -- What an ancestry keeps stays so with one more member, and with fewer.
-use Rattle.std.proofs.Common.{◌≡◌, inl, inr, ℕ, suc, ◌+◌, ◌-◌, ◌<◌, ◌≤◌, cond, List, [], ◌∷◌, ◌++◌, length, refl, sym, ap, subst, ◌∙◌, arith, slice_index_or, slice_set, All, take, drop, replicate, Fits, w32}
+use Rattle.std.proofs.Common.{◌≡◌, inl, inr, ℕ, suc, ◌+◌, ◌-◌, ◌<◌, ◌≤◌, true, cond, List, [], ◌∷◌, ◌++◌, length, refl, sym, ap, subst, ◌∙◌, arith, slice_index_or, slice_set, All, take, drop, replicate, Fits, w32}
 use Rattle.std.specs.Prelude.{◌==◌, Option, unwrap_or}
 use Rattle.std.proofs.lemmas.Option.{slice_get_past, unwrap_or-slice_get}
 use Rattle.std.proofs.lemmas.Bool.{eq-eqb, ne_eqb, cases_lt, cases_eq, cond-true, cond-false}
@@ -10,11 +10,13 @@ use Rattle.ancestry.specs.Below.{count_below}
 use Rattle.ancestry.specs.Chains.{next_chain, chains, chain_of, members_below}
 use Rattle.ancestry.specs.Clocked.{AreCounts, IsClock, AreClocked, AreSizes}
 use Rattle.ancestry.specs.Kept.{IsKept}
+use Rattle.ancestry.specs.Named.{is_noted, names, AreNamers}
 use Rattle.ancestry.specs.Walks.{preds_at, AreLower}
 use Rattle.ancestry.proofs.Below.{count_same, count_low}
 use Rattle.ancestry.proofs.Steps.{preds_stay}
 use Rattle.ancestry.proofs.Clocking.{chain_last, chain_stays, chains_stay, clock_stays}
 use Rattle.ancestry.proofs.Merging.{lower_push}
+use Rattle.ancestry.proofs.Naming.{named_front}
 
 below_next : (graph : List (List ℕ)) (n c : ℕ) → members_below graph (suc n) c ≡ cond (chain_of graph n == c) (suc (members_below graph n c)) (members_below graph n c)
 unfolding count_below
@@ -80,35 +82,27 @@ clocked_push graph preds clocks clock lower own clocked chain counts = record {
   ];
 }
 
-pub kept_in : (members : List (List ℕ)) (clocks : List Clock) (sizes preds : List ℕ) (clock : Clock) → IsKept members clocks sizes → length members < MAX_MEMBERS → All (λ p. p < length members) preds
-    → clock.chain ≡ next_chain (chains members (length members)) preds → AreCounts (members ++ preds ∷ []) (length members) clock.counts → clock.chain < 64
-    → IsKept (members ++ preds ∷ []) (clocks ++ clock ∷ []) (slice_set sizes clock.chain (slice_index_or sizes clock.chain 0 + 1))
-kept_in members clocks sizes preds clock kept few own chain counts in_one = record {
+pub kept_more : (members : List (List ℕ)) (clocks : List Clock) (old namers : List (List ℕ)) (sizes new preds : List ℕ) (clock : Clock) → IsKept members clocks old sizes → AreNamers (members ++ preds ∷ []) namers
+    → length members < MAX_MEMBERS → All (λ p. p < length members) preds → clock.chain ≡ next_chain (chains members (length members)) preds
+    → AreCounts (members ++ preds ∷ []) (length members) clock.counts → AreSizes (members ++ preds ∷ []) new → IsKept (members ++ preds ∷ []) (clocks ++ clock ∷ []) namers new
+kept_more members clocks old namers sizes new preds clock kept called few own chain counts sized = record {
   lower = lower_push members preds kept.lower own;
   few = let e = longer members preds in omega arith;
   clocked = clocked_push members preds clocks clock kept.lower own kept.clocked chain counts;
-  sized = sizes_in members preds clock.chain sizes kept.sized chain in_one;
-}
-
-pub kept_out : (members : List (List ℕ)) (clocks : List Clock) (sizes preds : List ℕ) (clock : Clock) → IsKept members clocks sizes → length members < MAX_MEMBERS → All (λ p. p < length members) preds
-    → clock.chain ≡ next_chain (chains members (length members)) preds → AreCounts (members ++ preds ∷ []) (length members) clock.counts → 64 ≤ clock.chain
-    → IsKept (members ++ preds ∷ []) (clocks ++ clock ∷ []) sizes
-kept_out members clocks sizes preds clock kept few own chain counts out = record {
-  lower = lower_push members preds kept.lower own;
-  few = let e = longer members preds in omega arith;
-  clocked = clocked_push members preds clocks clock kept.lower own kept.clocked chain counts;
-  sized = sizes_out members preds clock.chain sizes kept.sized chain out;
+  named = called;
+  sized = sized;
 }
 
 pub size_fits : (graph : List (List ℕ)) (sizes : List ℕ) (c : ℕ) → AreSizes graph sizes → length graph ≤ MAX_MEMBERS → c < 64 → Fits w32 (slice_index_or sizes c 0 + 1)
 size_fits graph sizes c sized few low = let is = sized.are c low in omega (arith, is, count_low (λ a. chain_of graph a == c) (length graph))
 
-pub kept_none : (sizes : List ℕ) → sizes ≡ replicate 64 0 → IsKept [] [] sizes
+pub kept_none : (sizes : List ℕ) → sizes ≡ replicate 64 0 → IsKept [] [] [] sizes
 unfolding count_below
 kept_none sizes is = record {
   lower = λ b. subst (All (λ p. p < b)) (sym (none_past b)) (λ k d low. absurd (omega arith));
   few = omega arith;
   clocked = record { long = refl; are = λ b other low. absurd (omega arith) };
+  named = record { long = refl; all = λ p q low e. absurd (omega arith) };
   sized = record { long = rw is refl; are = λ c low. rw is (get_or-replicate 64 c 0 0 low) };
 }
   where
@@ -191,16 +185,21 @@ module _ (members : List (List ℕ)) (clocks : List Clock) (sizes : List ℕ) (p
   pub uncount_out : 64 ≤ (slice_index_or clocks (position - 1) other).chain → AreSizes (take (position - 1) members) sizes
   uncount_out out = sizes_before_out (take (position - 1) members) (slice_index_or members (position - 1) []) (slice_index_or clocks (position - 1) other).chain sizes before_last last_chain out
 
-pub kept_front : (members : List (List ℕ)) (clocks : List Clock) (sizes new : List ℕ) (len : ℕ) → IsKept members clocks sizes → len ≤ length members → AreSizes (take len members) new
-    → IsKept (take len members) (take len clocks) new
-kept_front members clocks sizes new len kept low sized =
+pub kept_front : (members : List (List ℕ)) (clocks : List Clock) (old namers : List (List ℕ)) (sizes new : List ℕ) (len : ℕ) → IsKept members clocks old sizes → len ≤ length members
+    → AreSizes (take len members) new → length namers ≡ length old → ((p q : ℕ) → q < len → is_noted old p q ≡ true → is_noted namers p q ≡ true)
+    → IsKept (take len members) (take len clocks) (take len namers) new
+kept_front members clocks old namers sizes new len kept low sized same stay =
     let size : length (take len members) ≡ len = length-take-le len members low in
     let whole : take len members ++ drop len members ≡ members = take-append-drop len members in
     let lower : AreLower (take len members ++ drop len members) = subst AreLower (sym whole) kept.lower in
     let clocked : AreClocked (take len members ++ drop len members) clocks = subst (λ (g : List (List ℕ)). AreClocked g clocks) (sym whole) kept.clocked in
+    let called : AreNamers (take len members) (take (length (take len members)) namers) =
+    named_front (take len members) (drop len members) namers lower (same ∙ kept.named.long ∙ ap (length {A = List ℕ}) (sym whole))
+    (λ p q under below e. stay p q (omega (arith, size, below)) (kept.named.all p q (omega (arith, size, under, low)) (subst (λ (g : List (List ℕ)). names g q p ≡ true) whole e))) in
     record {
       lower = lower_front (take len members) (drop len members) lower;
       few = let few = kept.few in omega arith;
       clocked = subst (λ n. AreClocked (take len members) (take n clocks)) size (clocked_front (take len members) (drop len members) clocks lower clocked);
+      named = subst (λ n. AreNamers (take len members) (take n namers)) size called;
       sized = sized;
     }

@@ -5,7 +5,7 @@ pub mod Growth
 pub mod Keeping
 pub mod Marking
 pub mod Merging
+pub mod Naming
 pub mod Numbers
 pub mod Passed
 pub mod Steps
-pub mod Sweep

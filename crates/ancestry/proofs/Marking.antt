@@ -1,23 +1,20 @@
 -- One sweep that marks all that is behind some members.
-use Rattle.std.proofs.Common.{◌≡◌, ◌⊎◌, inl, inr, ℕ, zero, suc, ◌+◌, ◌<◌, ◌≤◌, Bool, true, false, ◌||◌, List, length, refl, sym, ap, subst, ◌∙◌, arith, Contains, slice_index_or, All, replicate}
+use Rattle.std.proofs.Common.{◌≡◌, ◌⊎◌, inl, inr, ℕ, zero, suc, ◌+◌, ◌<◌, ◌≤◌, Bool, true, false, ◌||◌, List, length, refl, sym, ap, subst, ◌∙◌, arith, Contains, slice_index_or, All, replicate, take, drop, ◌++◌}
 use Rattle.std.specs.Prelude.{◌==◌}
 use Rattle.std.specs.List.{list_any}
-use Rattle.std.proofs.lemmas.Bool.{eqb-true, eq-eqb, cases_eq, or_cases, or_left, or_right}
+use Rattle.std.proofs.lemmas.Bool.{eqb-true, eq-eqb, cases_eq, cases_lt, or_cases, or_left, or_right}
+use Rattle.std.proofs.lemmas.List.{get_or_past, get_or_read, get_or-replicate, length-replicate, take_at}
 use Rattle.std.proofs.lemmas.List.Elements.{All-contains}
 use Rattle.update_model.proofs.Heads.{witness, any_from_member}
+use Rattle.ancestry.specs.Named.{names}
 use Rattle.ancestry.specs.Since.{is_behind}
 use Rattle.ancestry.specs.Walks.{preds_at, AreLower, is_ancestor}
 use Rattle.ancestry.proofs.Chained.{named, through}
-use Rattle.ancestry.proofs.Steps.{by_predecessors}
-use Rattle.ancestry.proofs.Sweep.{preds_read, unmarked}
-use Rattle.std.proofs.lemmas.List.{get_or_read}
-
-abbrev pub calls : List (List ℕ) → ℕ → ℕ → Bool
-calls graph q k = list_any (λ p. p == k) (preds_at graph q)
+use Rattle.ancestry.proofs.Steps.{by_predecessors, preds_read}
 
 -- The first step up from an ancestor.
-upward : (graph : List (List ℕ)) → AreLower graph → (n k q : ℕ) → q < n → is_ancestor graph k q ≡ true
-    → (s : ℕ) × (s ≤ q) × (calls graph s k ≡ true) × (((s ≡ q) ⊎ (is_ancestor graph s q ≡ true)))
+pub upward : (graph : List (List ℕ)) → AreLower graph → (n k q : ℕ) → q < n → is_ancestor graph k q ≡ true
+    → (s : ℕ) × (s ≤ q) × (names graph s k ≡ true) × (((s ≡ q) ⊎ (is_ancestor graph s q ≡ true)))
 upward graph lower zero k q high above = absurd (omega arith)
 upward graph lower (suc n) k q high above =
     let w = witness (λ p. (p == k) || is_ancestor graph k p) (preds_at graph q) (sym (by_predecessors graph k q lower) ∙ above) in
@@ -25,8 +22,8 @@ upward graph lower (suc n) k q high above =
     by_case w.0 low w.1 (λ further. upward graph lower n k w.0 (omega arith) further) (or_cases (w.0 == k) (is_ancestor graph k w.0) w.2)
   where
     by_case : (p : ℕ) → p < q → Contains (preds_at graph q) p
-        → (is_ancestor graph k p ≡ true → (s : ℕ) × (s ≤ p) × (calls graph s k ≡ true) × (((s ≡ p) ⊎ (is_ancestor graph s p ≡ true))))
-        → (((p == k) ≡ true) ⊎ (is_ancestor graph k p ≡ true)) → (s : ℕ) × (s ≤ q) × (calls graph s k ≡ true) × (((s ≡ q) ⊎ (is_ancestor graph s q ≡ true)))
+        → (is_ancestor graph k p ≡ true → (s : ℕ) × (s ≤ p) × (names graph s k ≡ true) × (((s ≡ p) ⊎ (is_ancestor graph s p ≡ true))))
+        → (((p == k) ≡ true) ⊎ (is_ancestor graph k p ≡ true)) → (s : ℕ) × (s ≤ q) × (names graph s k ≡ true) × (((s ≡ q) ⊎ (is_ancestor graph s q ≡ true)))
     by_case p low called earlier (inl here) = (q, omega arith, any_from_member (λ p. p == k) (preds_at graph q) p called here, inl refl)
     by_case p low called earlier (inr further) =
         let found = earlier further in (
@@ -40,7 +37,7 @@ upward graph lower (suc n) k q high above =
         )
 
 -- what a member behind them names is behind them
-pub behind_called : (graph : List (List ℕ)) (old : List ℕ) (m k : ℕ) → AreLower graph → is_behind graph old m ≡ true → calls graph m k ≡ true → is_behind graph old k ≡ true
+pub behind_called : (graph : List (List ℕ)) (old : List ℕ) (m k : ℕ) → AreLower graph → is_behind graph old m ≡ true → names graph m k ≡ true → is_behind graph old k ≡ true
 behind_called graph old m k lower behind called =
     let w = witness (λ q. (q == m) || is_ancestor graph m q) old behind in
     let c = witness (λ p. p == k) (preds_at graph m) called in
@@ -54,7 +51,7 @@ behind_called graph old m k lower behind called =
 pub record IsMarked (graph : List (List ℕ)) (old : List ℕ) (n : ℕ) (marks : List Bool) : Type 0 where
   pub sound : (k : ℕ) → k < length graph → slice_index_or marks k false ≡ true → is_behind graph old k ≡ true
   pub complete : (k : ℕ) → k < length graph → is_behind graph old k ≡ true
-      → (slice_index_or marks k false ≡ true) ⊎ ((q : ℕ) × (q < n) × (is_behind graph old q ≡ true) × (calls graph q k ≡ true))
+      → (slice_index_or marks k false ≡ true) ⊎ ((q : ℕ) × (q < n) × (is_behind graph old q ≡ true) × (names graph q k ≡ true))
 
 pub marked_first : (graph : List (List ℕ)) (old : List ℕ) (marks : List Bool) → AreLower graph → All (λ q. q < length graph) old
     → ((k : ℕ) → k < length graph → slice_index_or marks k false ≡ list_any (λ p. p == k) old) → IsMarked graph old (length graph) marks
@@ -81,7 +78,7 @@ marked_first graph old marks lower own are = record {
       ];
 }
 
-called_low : (graph : List (List ℕ)) (q k : ℕ) → AreLower graph → calls graph q k ≡ true → k < q
+called_low : (graph : List (List ℕ)) (q k : ℕ) → AreLower graph → names graph q k ≡ true → k < q
 called_low graph q k lower called =
     let c = witness (λ p. p == k) (preds_at graph q) called in
     subst (λ p. p < q) (eqb-true c.0 k c.2) (All-contains (λ p. p < q) (preds_at graph q) c.0 (lower q) c.1)
@@ -115,16 +112,16 @@ marked_passed graph old n marks lower held none marked = record {
     ]
 
 pub marked_more : (graph : List (List ℕ)) (old : List ℕ) (n : ℕ) (marks new : List Bool) → AreLower graph → n < length graph → slice_index_or marks n false ≡ true
-    → ((k : ℕ) → k < length graph → slice_index_or new k false ≡ (slice_index_or marks k false || calls graph n k)) → IsMarked graph old (suc n) marks → IsMarked graph old n new
+    → ((k : ℕ) → k < length graph → slice_index_or new k false ≡ (slice_index_or marks k false || names graph n k)) → IsMarked graph old (suc n) marks → IsMarked graph old n new
 marked_more graph old n marks new lower held here are marked = record {
-  sound = λ k low is. elim (or_cases (slice_index_or marks k false) (calls graph n k) (sym (are k low) ∙ is)) [
+  sound = λ k low is. elim (or_cases (slice_index_or marks k false) (names graph n k) (sym (are k low) ∙ is)) [
     | inl before ↦ marked.sound k low before
     | inr called ↦ behind_called graph old n k lower (marked.sound n held here) called
   ];
   complete = λ k low behind. elim (marked.complete k low behind) [
-    | inl there ↦ inl (are k low ∙ or_left (slice_index_or marks k false) (calls graph n k) there)
+    | inl there ↦ inl (are k low ∙ or_left (slice_index_or marks k false) (names graph n k) there)
     | inr found ↦ elim (cases_eq found.0 n) [
-      | inl same ↦ inl (are k low ∙ or_right (slice_index_or marks k false) (calls graph n k) (subst (λ q. calls graph q k ≡ true) same found.3))
+      | inl same ↦ inl (are k low ∙ or_right (slice_index_or marks k false) (names graph n k) (subst (λ q. names graph q k ≡ true) same found.3))
       | inr apart ↦ inr (found.0, (let under = found.1 in omega arith), found.2, found.3)
     ]
   ];
@@ -135,6 +132,12 @@ marked_more graph old n marks new lower held here are marked = record {
 pub named_all : (graph : List (List ℕ)) (k n : ℕ) (preds : List ℕ) → AreLower graph → k < length graph → preds ≡ slice_index_or graph k preds → n ≡ length graph → All (λ p. p < 0 + n) preds
 named_all graph k n preds lower held is same = λ i d low.
     let below = (subst (All (λ p. p < k)) (preds_read graph k preds held is) (lower k)) i d low in omega (arith, below)
+
+unmarked : (m j : ℕ) → slice_index_or (replicate m false) j false ≡ false
+unmarked m j = elim (cases_lt j m) [
+  | inl low ↦ get_or-replicate m j false false low
+  | inr high ↦ get_or_past (replicate m false) j false (omega (arith, length-replicate m false))
+]
 
 pub first_step : (graph : List (List ℕ)) (old : List ℕ) (lent new : List Bool) → AreLower graph → All (λ q. q < length graph) old → lent ≡ replicate (length graph) false
     → ((k : ℕ) → k < length lent → slice_index_or new k false ≡ (slice_index_or lent k false || list_any (λ p. p == 0 + k) old)) → length lent ≡ length graph → IsMarked graph old (length graph) new
@@ -159,3 +162,7 @@ pub pass_step : (graph : List (List ℕ)) (old : List ℕ) (k last : ℕ) (marks
 pass_step graph old k last marks mark lower held is_last size reads none before =
     let next : last ≡ suc k = omega arith in
     marked_passed graph old k marks lower held (sym (get_or_read marks k mark (omega arith) reads false) ∙ none) (subst (λ n. IsMarked graph old n marks) next before)
+
+-- marks that are lent whole and come back
+pub put_back : {X : Type 0} (n : ℕ) (new items : List X) → length new ≡ n → take n (new ++ drop (length new) items) ≡ new
+put_back n new items long = take_at new (drop (length new) items) n long

@@ -1,9 +1,9 @@
 -- Ancestors by steps: more steps than needed change nothing, nor do later members, and nothing below leads to a member.
-use Rattle.std.proofs.Common.{◌≡◌, ℕ, zero, suc, ◌<◌, ◌≤◌, Bool, false, ◌||◌, List, [], ◌∷◌, ◌++◌, length, refl, sym, ap, subst, ◌∙◌, arith, inl, inr, All}
+use Rattle.std.proofs.Common.{◌≡◌, ℕ, zero, suc, ◌<◌, ◌≤◌, Bool, false, ◌||◌, List, [], ◌∷◌, ◌++◌, length, refl, sym, ap, subst, ◌∙◌, arith, inl, inr, All, get_or}
 use Rattle.std.specs.Prelude.{◌==◌, Option, unwrap_or}
 use Rattle.std.specs.List.{list_any, AllByRecursion}
 use Rattle.std.proofs.lemmas.Bool.Decides.{eqb_tells}
-use Rattle.std.proofs.lemmas.List.{get_or_append_left}
+use Rattle.std.proofs.lemmas.List.{get_or_append_left, get_or_read}
 use Rattle.std.proofs.lemmas.List.Elements.{recursion_from_All}
 use Rattle.std.proofs.lemmas.Option.{unwrap_or-slice_get, slice_get_past}
 use Rattle.ancestry.specs.Walks.{preds_at, AreLower, leads_in, is_ancestor}
@@ -82,3 +82,7 @@ unfolding leads_in
 none_there graph a b high =
     let none : preds_at graph b ≡ [] = ap (λ (o : Option (List ℕ)). unwrap_or o []) (slice_get_past graph b high) in
     ap (list_any (λ p. (p == a) || leads_in graph b a p)) none
+
+-- what the member at a position names
+pub preds_read : (graph : List (List ℕ)) (i : ℕ) (preds : List ℕ) → i < length graph → preds ≡ get_or graph i preds → preds_at graph i ≡ preds
+preds_read graph i preds low is = unwrap_or-slice_get graph i [] ∙ sym (get_or_read graph i preds low is [])

@@ -1,11 +1,15 @@
-ghost use Rattle.std.specs.Prelude.{◌≡◌, ◌<◌, ◌≤◌, ◌↔◌, ◌++◌, ◌∷◌, [], ℕ, All, false, length, slice_index_or, take, IsTrue, IfOk, OnOk, OnErr};
+ghost use Rattle.std.specs.Prelude.{◌≡◌, ◌<◌, ◌≤◌, ◌==◌, ◌||◌, ◌↔◌, ◌++◌, ◌∷◌, [], ℕ, All, true, false, length, slice_index_or, take, IsTrue, IfOk, IfSome, IfNone, OnOk, OnErr};
+ghost use Rattle.std.specs.List.{list_any};
 ghost use Rattle.ancestry.specs.Chains.{chain_of, clock_of};
+ghost use Rattle.ancestry.specs.Named.{names};
 ghost use Rattle.ancestry.specs.Since.{is_behind, since};
 ghost use Rattle.ancestry.specs.Walks.{AreLower, is_ancestor};
 
-use crate::clock::{CHAINS, Clock, join, merged, uncount};
-use crate::walk::{behind, reaches};
+use crate::clock::{CHAINS, Clock, count, join, merged, uncount};
+use crate::namers::{Namers, forget, note, unname};
+use crate::walk::{are_below, behind};
 use std::alloc::{AllocError, Global};
+use std::collections::BTreeSet;
 use std::marker::Model;
 use update_model::{Ancestors, MAX_MEMBERS, PositionList};
 
@@ -17,6 +21,8 @@ pub struct Ancestry {
     members: Vec<PositionList>,
     /// In arrival order, the clock of each member.
     clocks: Vec<Clock>,
+    /// In arrival order, who names each member.
+    namers: Vec<Namers>,
     /// For each chain, how many members it has.
     sizes: [u32; CHAINS],
 }
@@ -29,7 +35,7 @@ impl Model for Ancestry {
 
     ghost view = { λ ancestry. ancestry.members.items };
 
-    ghost invariant = { λ ancestry. IsKept ancestry.members.items ancestry.clocks.items ancestry.sizes };
+    ghost invariant = { λ ancestry. IsKept ancestry.members.items ancestry.clocks.items ancestry.namers.items ancestry.sizes };
 }
 
 impl Ancestry {
@@ -40,6 +46,7 @@ impl Ancestry {
         Ancestry {
             members: Vec::new(alloc),
             clocks: Vec::new(alloc),
+            namers: Vec::new(alloc),
             sizes: [0; CHAINS],
         }
     }
@@ -77,15 +84,19 @@ impl Ancestry {
             &self.sizes,
             preds,
         );
-        let preds = Vec::from_slice(*self.members.allocator(), preds)?;
-        self.clocks.push(Clock { chain, counts })?;
-        if let Err(_full) = self.members.push(PositionList::from_vec(preds)) {
-            self.clocks.truncate(position as usize);
-            return Err(AllocError);
+        let alloc = *self.members.allocator();
+        let own = PositionList::from_vec(Vec::from_slice(alloc, preds)?);
+        self.members.reserve(1)?;
+        self.clocks.reserve(1)?;
+        self.namers.reserve(1)?;
+        if let Err(full) = note(self.namers.as_mut_slice(), preds, position) {
+            forget(self.namers.as_mut_slice(), preds, position);
+            return Err(full);
         }
-        if (chain as usize) < CHAINS {
-            self.sizes[chain as usize] += 1;
-        }
+        count(self.members.as_slice(), &mut self.sizes, preds, chain);
+        self.members.push_reserved(own);
+        self.clocks.push_reserved(Clock { chain, counts });
+        self.namers.push_reserved(Namers::new(alloc));
         Ok(position)
     }
 
@@ -110,6 +121,8 @@ impl Ancestry {
             &mut self.sizes,
             len as usize,
         );
+        unname(self.namers.as_mut_slice(), self.members.as_slice(), len);
+        self.namers.truncate(len as usize);
         self.clocks.truncate(len as usize);
         self.members.truncate(len as usize);
     }
@@ -172,11 +185,95 @@ impl Ancestry {
         }
         let mut clocks = Vec::with_capacity(alloc, self.clocks.len())?;
         clocks.extend_from_slice(self.clocks.as_slice())?;
+        let mut namers = Vec::with_capacity(alloc, self.namers.len())?;
+        for list in self.namers.as_slice() {
+            namers.push(list.copy(alloc)?)?;
+        }
         Ok(Ancestry {
             members,
             clocks,
+            namers,
             sizes: self.sizes,
         })
+    }
+}
+
+/// The way up from a member to its descendants.
+impl Ancestry {
+    /// Whether the member at `a` is an ancestor of the one at `b`, which stands above it. The way up from `a` goes over those
+    /// that name it, those that name them, and so on, the lowest first. Of a member in a chain its number tells, and the way
+    /// ends there. None is looked at twice, since a member stands above those that it names. Where the member at `b` names
+    /// only members below `a`, there is no way.
+    fn climbs(&self, alloc: Global, a: u32, b: u32) -> Result<bool, AllocError>
+        requires below { a < b }
+        requires held { b < length self.now }
+        ensures { IfOk result (λ answer. answer ≡ is_ancestor self.now a b) }
+    {
+        if are_below(self.members[b as usize].as_slice(), a as usize) {
+            return Ok(false);
+        }
+        let mut pending = BTreeSet::new(alloc);
+        if self.look(a, b, &mut pending)? {
+            return Ok(true);
+        }
+        while let Some(next) = pending.pop_first() {
+            if self.look(next, b, &mut pending)? {
+                return Ok(true);
+            }
+        }
+        Ok(false)
+    }
+
+    /// Looks at who names the member at `p`: whether one of them is the one at `b`, or known to be its ancestor. Of whom
+    /// nothing is known, it is pending.
+    fn look(&self, p: u32, b: u32, pending: &mut BTreeSet<u32>) -> Result<bool, AllocError>
+        requires below { p < b }
+        requires held { b < length self.now }
+        ensures found { IfOk result (λ found. found ≡ true → is_ancestor self.now p b ≡ true) }
+        ensures goes_on { IfOk result (λ found. found ≡ false → list_any (λ k. is_ancestor self.now k b) pending.new.keys
+            ≡ (list_any (λ k. is_ancestor self.now k b) pending.old.keys || is_ancestor self.now p b)) }
+        ensures above { IfOk result (λ found. All (λ k. (p < k) × (k < b)) pending.old.keys → All (λ k. (p < k) × (k < b)) pending.new.keys) }
+    {
+        for namer in self.namers[p as usize].as_slice() {
+            let s = *namer;
+            if s <= b && self.names(s, p) {
+                match self.leads(s, b) {
+                    Some(true) => return Ok(true),
+                    Some(false) => {}
+                    None => {
+                        pending.insert(s)?;
+                    }
+                }
+            }
+        }
+        Ok(false)
+    }
+
+    /// Whether the member at `q` names the one at `p`.
+    fn names(&self, q: u32, p: u32) -> bool
+        requires { q < length self.now }
+        ensures { result ≡ names self.now q p }
+    {
+        self.members[q as usize].as_slice().contains(&p)
+    }
+
+    /// Whether the member at `s` is the one at `b` or its ancestor, where no way has to be gone for that.
+    fn leads(&self, s: u32, b: u32) -> Option<bool>
+        requires below { s ≤ b }
+        requires held { b < length self.now }
+        ensures told { IfSome result (λ answer. answer ≡ ((s == b) || is_ancestor self.now s b)) }
+        ensures apart { IfNone result (s < b) }
+    {
+        if s == b {
+            return Some(true);
+        }
+        let clock = &self.clocks[s as usize];
+        let chain = clock.chain as usize;
+        if chain < CHAINS {
+            Some(clock.counts[chain] < self.clocks[b as usize].counts[chain])
+        } else {
+            None
+        }
     }
 }
 
@@ -184,17 +281,15 @@ impl Ancestors for Ancestry {
     ghost ancestor = { is_ancestor };
 
     /// Positions that no member has are nobody's ancestors, and have none. For an `a` in a chain it takes constant time
-    /// and no memory; for one in no chain it sweeps what lies between the two.
+    /// and no memory; for one in no chain it goes up over the descendants of `a` that are in no chain.
     fn is_ancestor(&self, alloc: Global, a: u32, b: u32) -> Result<bool, AllocError> {
         let len = self.len();
         if b <= a || len <= b {
             return Ok(false);
         }
-        let clock = &self.clocks[a as usize];
-        let chain = clock.chain as usize;
-        if chain < CHAINS {
-            return Ok(clock.counts[chain] < self.clocks[b as usize].counts[chain]);
+        match self.leads(a, b) {
+            Some(answer) => Ok(answer),
+            None => self.climbs(alloc, a, b),
         }
-        reaches(alloc, self.members.as_slice(), a as usize, b as usize)
     }
 }

@@ -101,6 +101,18 @@ pub(crate) fn join(
     CHAINS as u32
 }
 
+/// Takes the next member, which names these predecessors and joins this chain, into the sizes of the chains.
+pub(crate) fn count(members: &[PositionList], sizes: &mut [u32; CHAINS], preds: &[u32], chain: u32)
+    requires few { length members.now ≤ MAX_MEMBERS }
+    requires sized { AreSizes members.now sizes.old }
+    requires joined { chain ≡ next_chain (chains members.now (length members.now)) preds.now }
+    ensures { AreSizes (members.now ++ preds.now ∷ []) sizes.new }
+{
+    if (chain as usize) < CHAINS {
+        sizes[chain as usize] += 1;
+    }
+}
+
 /// Takes the members from `len` on out of the sizes of their chains.
 pub(crate) fn uncount(
     members: &[PositionList],

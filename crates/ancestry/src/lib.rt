@@ -19,6 +19,7 @@ mod ancestry;
 mod clock;
 mod clock_laws;
 mod laws;
+mod namers;
 mod walk;
 
 pub use ancestry::Ancestry;

@@ -1,7 +1,7 @@
 use Rattle.std.proofs.Common.{◌≡◌, ◌-◌, ◌∙◌, length, ap, arith, Bool, false, replicate}
 use Rattle.std.proofs.lemmas.List.{length-replicate}
 use Rattle.ancestry.proofs.Marking.{named_all, first_step, next_step, pass_step}
-use Rattle.ancestry.proofs.Sweep.{put_back}
+use Rattle.ancestry.proofs.Marking.{put_back}
 use Rattle.ancestry.proofs.walk.behind.Goals as goal
 
 pub loop-position-init : goal.loop-position-init
