@@ -45,10 +45,6 @@ pub puts_run : (rule : RuleData) (updates : List (List ℕ)) (answers : List (Re
     → Puts rule (items_of updates) before after
 puts_run rule updates answers before after are is = record { more = map answered answers; are = is; arrive = answers_arrive rule updates answers are; under = answers_under rule updates answers are }
 
-pub none_left : {X : Type 0} (xs : List X) → length xs ≡ 0 → xs ≡ []
-none_left [] is = refl
-none_left (x ∷ xs) is = absurd (omega arith)
-
 -- ---- frames in order
 
 -- Of the frames so far these are checked, and behind them stand the updates of a run that is not.

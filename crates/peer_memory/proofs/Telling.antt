@@ -1,6 +1,6 @@
 -- A payload is that of one list of peers.
 use Rattle.std.proofs.Common.{◌≡◌, ◌<◌, ◌≤◌, ◌*◌, ◌^◌, ℕ, List, [], ◌∷◌, ◌++◌, All, length, inl, inr, refl, sym, ap, ◌∙◌, arith, append_assoc}
-use Rattle.std.proofs.lemmas.List.{append-nil, length-append}
+use Rattle.std.proofs.lemmas.List.{append-nil, length-append, nil_from_length}
 use Rattle.std.proofs.lemmas.List.Elements.{All-head, All-tail}
 use Rattle.std.specs.Int.{w16, to_be_bytes}
 use Rattle.std.specs.List.{flat_map}
@@ -45,11 +45,7 @@ one_payload peers others bytes a b =
     let few = a.are.few in let few' = b.are.few in
     let number = same_number (length peers) (length others) (flat_map spelled_peer peers) (flat_map spelled_peer others) (omega arith) (omega arith) (sym a.payload ∙ b.payload) in
     let front = front_of_peers peers others [] a.are.each b.are.each (let n = number.0 in omega arith) (append-nil (flat_map spelled_peer peers) ∙ number.1) in
-    front.1 ∙ ap (λ (more : List Peer). peers ++ more) (none front.0 (let n = number.0 in let l = ap length front.1 in omega (arith, length-append peers front.0))) ∙ append-nil peers
-  where
-    none : (xs : List Peer) → length xs ≡ 0 → xs ≡ []
-    none [] e = refl
-    none (x ∷ xs) e = absurd (omega arith)
+    front.1 ∙ ap (λ (more : List Peer). peers ++ more) (nil_from_length front.0 (let n = number.0 in let l = ap length front.1 in omega (arith, length-append peers front.0))) ∙ append-nil peers
 
 -- what was written is what is read
 pub read_again : (peers others : List Peer) (bytes : List ℕ) → Spells peers bytes → Reads bytes others → others ≡ peers

@@ -40,10 +40,6 @@ answers_push rule before r answers all said first next same =
     subst (AreAnswers rule (bytes_of (before ++ r ∷ []))) (sym same)
     (subst (λ (l : List (List ℕ)). AreAnswers rule l (answers ++ said ∷ [])) (sym (bytes_of-append before (r ∷ []))) (answers_append rule (bytes_of before) (r.items ∷ []) answers (said ∷ []) first next))
 
-pub none_left : (l : List Said) → length l ≡ 0 → l ≡ []
-none_left [] e = refl
-none_left (x ∷ l) e = absurd cc
-
 -- whether a refusal stands first, or nothing
 abbrev pub Stops : List Said → Type 0
 Stops [] = Unit {0}

@@ -420,10 +420,6 @@ pub front_done : (rule : RuleData) (frames : List Frame) (left : List CheckedFra
 front_done rule frames left heard all u none =
     (u.front, u.rest, u.more, u.are, u.arrive, u.is, λ is. none_arrive rule u.rest (subst (λ (l : List CheckedFrame). AllArrive rule u.rest (map frame_of l)) none u.others))
 
-pub none_left : {X : Type 0} (xs : List X) → length xs ≡ 0 → xs ≡ []
-none_left [] is = refl
-none_left (x ∷ xs) is = absurd (omega arith)
-
 -- ---- the link meanwhile
 
 -- the link counted faults, and no more was put on it

@@ -47,10 +47,6 @@ pub times_fewer : (links : List Link) (place k : ℕ) → times_of links place k
 times_fewer links place k =
     count_fewer (λ (link : Link). is_of place link && (link.number == k)) (λ (link : Link). link.number == k) links (λ link. and_fewer (is_of place link) (link.number == k))
 
-pub length_zero : {X : Type 0} (xs : List X) → length xs ≡ 0 → xs ≡ []
-length_zero [] h = refl
-length_zero (x ∷ xs) h = absurd (omega (arith, h))
-
 -- ---- one count more
 
 same_number : (a b : ℕ) → a ≡ b → (a == b) ≡ true

@@ -90,6 +90,3 @@ unfolding rows_by
 rows_same position node other number [] a b = refl
 rows_same position node other number (op ∷ ops) a b = λ i. row_made position (a i) (b i) number op ++ rows_same position node other (number + 1) ops a b i
 
-pub empty_from : {X : Type 0} (xs : List X) → length xs ≡ 0 → xs ≡ []
-empty_from [] h = refl
-empty_from (x ∷ xs) h = absurd (omega (arith, h))

@@ -1,7 +1,7 @@
 -- What a crash leaves in front of a disk.
 use Rattle.std.proofs.Common.{◌≡◌, ℕ, ◌+◌, ◌-◌, ◌≤◌, Bool, true, List, [], ◌∷◌, ◌++◌, length, take, drop, refl, sym, ap, subst, ◌∙◌, append-nil, length-append, Result, Ok, Err, arith, IsTrue}
 use Rattle.std.specs.Prelude.{OnErr}
-use Rattle.std.proofs.lemmas.List.{take_all, take_at, length-take-le}
+use Rattle.std.proofs.lemmas.List.{length-take-le, nil_from_length, take_all, take_at}
 use Rattle.std.proofs.Math.Seq.{take-append-add}
 use Rattle.bec_bytes.specs.Framed.{stream_of}
 use Rattle.bec_disk.specs.Disk.{DiskState, IsImage, IsSameDisk, EveryImage, IsSettled, LeavesOnly}
@@ -15,10 +15,6 @@ use Rattle.update_log.specs.Log.{LogState, IsClean, IsKept, IsLogOf, KeepsLogset
 use Rattle.update_log.specs.Reading.{ReaderState, StopsAt, left_of}
 use Rattle.update_log.proofs.Gathering.{stream_of-append, length-stream_of-append}
 use Rattle.update_log.proofs.Logsets.{same_logset, stop_is_longest}
-
-no_bytes : (xs : List ℕ) → length xs ≡ 0 → xs ≡ []
-no_bytes [] e = refl
-no_bytes (x ∷ xs) e = absurd (omega arith)
 
 -- a front of bytes that begin so, no shorter than that
 cut_begins : (seen front rest c : List ℕ) (end : ℕ) → seen ≡ front ++ rest → end ≡ length front → IsCut end seen c → BeginsWith front c
@@ -36,7 +32,7 @@ stop_logset rule bytes members are stop = stop_is_longest rule bytes members sto
 
 pub whole_seen : (rule : RuleData) (bytes : List ℕ) (members : List (List ℕ)) (end : ℕ) → StopsAt rule bytes members → end ≡ length (stream_of members) → end ≡ length bytes → bytes ≡ stream_of members
 whole_seen rule bytes members end stop is all =
-    stop.1 ∙ ap (λ (l : List ℕ). stream_of members ++ l) (no_bytes stop.0 (omega (arith, is, all, ap length stop.1, length-append (stream_of members) stop.0))) ∙ append-nil (stream_of members)
+    stop.1 ∙ ap (λ (l : List ℕ). stream_of members ++ l) (nil_from_length stop.0 (omega (arith, is, all, ap length stop.1, length-append (stream_of members) stop.0))) ∙ append-nil (stream_of members)
 
 pub cut_seen : (rule : RuleData) (bytes : List ℕ) (members : List (List ℕ)) (end : ℕ) → StopsAt rule bytes members → end ≡ length (stream_of members) → take end bytes ≡ stream_of members
 cut_seen rule bytes members end stop is = ap (take end) stop.1 ∙ take_at (stream_of members) stop.0 end (sym is)

@@ -1,5 +1,6 @@
 -- What bytes stand for, and what begins with it.
 use Rattle.std.proofs.Common.{◌≡◌, ◌⊎◌, inl, inr, ℕ, ◌≤◌, List, [], ◌∷◌, ◌++◌, length, refl, sym, ap, subst, ◌∙◌, append-nil, append_assoc, length-append, arith}
+use Rattle.std.proofs.lemmas.List.{nil_from_length}
 use Rattle.bec_bytes.specs.Framed.{framed, stream_of}
 use Rattle.bec_bytes.proofs.Frames.{framed_some, Fit, GoesOn, lines_up}
 use Rattle.update_model.specs.Rule.{RuleData}
@@ -38,11 +39,7 @@ same_logset rule bytes members others a b =
     let more = begins_logset rule bytes members others a b.taken b.begins in
     let few = b.longest members a.taken a.begins in
     let size = ap length more.1 in
-    more.1 ∙ ap (λ (l : List (List ℕ)). others ++ l) (empty more.0 (omega (arith, length-append others more.0))) ∙ append-nil others
-  where
-    empty : (xs : List (List ℕ)) → length xs ≡ 0 → xs ≡ []
-    empty [] e = refl
-    empty (x ∷ xs) e = absurd (omega arith)
+    more.1 ∙ ap (λ (l : List (List ℕ)). others ++ l) (nil_from_length more.0 (omega (arith, length-append others more.0))) ∙ append-nil others
 
 -- Where no record more can be taken, no list is longer.
 pub stop_is_longest : (rule : RuleData) (bytes : List ℕ) (members : List (List ℕ)) (rest : List ℕ) → AreMembers rule members → bytes ≡ stream_of members ++ rest

@@ -1,4 +1,5 @@
 use Rattle.std.proofs.Common.{rules, ◌≡◌, ◌∷◌, inl, All, List, Option, refl, sym, subst, ◌∙◌}
+use Rattle.std.proofs.lemmas.List.{nil_from_length}
 use Rattle.std.proofs.lemmas.List.Elements.{All-head, All-tail}
 use Rattle.std.specs.Vec.Iter.{into_iter_items}
 use Rattle.sync_session.specs.Kept.{IsFrameUnder}
@@ -8,7 +9,7 @@ use Rattle.shared_replica.proofs.Going.{ruled_longer}
 use Rattle.session_server.specs.declared.ending.Ending.{Ending}
 use Rattle.session_server.specs.Talks.{IsTalkWith}
 use Rattle.session_server.proofs.Passing.{still_self, still_then}
-use Rattle.session_server.proofs.Talking.{HeardUpTo, none_left, front_done, front_here, front_none, up_to_next, up_to_none, with_stops}
+use Rattle.session_server.proofs.Talking.{HeardUpTo, front_done, front_here, front_none, up_to_next, up_to_none, with_stops}
 use Rattle.session_server.proofs.talk.hear_all.Goals as goal
 
 pub returns-in_default-clause-goes : goal.returns-in_default-clause-goes
@@ -84,5 +85,5 @@ frames-preserved g c =
 pub returns-clause-talk : goal.returns-clause-talk
 returns-clause-talk g c start heard t =
     let u = c.frames.invariant.3 start heard t in
-    let e = none_left (into_iter_items c.frames.frames) (sym c.frames.frames.rest.ok.0 ∙ c.in_default-next.ensures.cases.0) in
+    let e = nil_from_length (into_iter_items c.frames.frames) (sym c.frames.frames.rest.ok.0 ∙ c.in_default-next.ensures.cases.0) in
     (u.0, front_done c.args.rule.now c.args.frames.items (into_iter_items c.frames.frames) heard u.0 u.1 e, u.2)

@@ -1,4 +1,5 @@
 use Rattle.std.proofs.Common.{◌≡◌, ◌+◌, ◌≤◌, ℕ, List, [], ap, length, true, subst, sym, ◌∙◌, inl, inr, arith}
+use Rattle.std.proofs.lemmas.List.{nil_from_length}
 use Rattle.std.specs.Prelude.{count_by, slice_index_or, ◌==◌}
 use Rattle.std.specs.Vec.{vec_capacity, vec_len}
 use Rattle.std.proofs.lemmas.Bool.{both_ways, eq-eqb, eqb-true}
@@ -7,7 +8,7 @@ use Rattle.tuple_state.specs.Causes.{Raised, absent_times, are_below, pending_ti
 use Rattle.tuple_state.specs.Links.{is_of}
 use Rattle.tuple_state.specs.declared.links.Link.{Link}
 use Rattle.tuple_state.proofs.Adding.{nothing_deleted, spread_out}
-use Rattle.tuple_state.proofs.Raising.{absent_fewer, length_zero}
+use Rattle.tuple_state.proofs.Raising.{absent_fewer}
 use Rattle.tuple_state.proofs.causes.add_causes.Goals as goal
 
 pub raise_all-requires-clause-few : goal.raise_all-requires-clause-few
@@ -61,4 +62,4 @@ pub returns-else-not-is_empty : goal.returns-else-not-is_empty
 returns-else-not-is_empty c known old deleted is rise inside kept =
     nothing_deleted c.args.children.now.links old c.args.added.now.parents.items deleted c.args.added.now.dropped.items known (length c.args.causes.now) c.args.causes.now c.count_numbers.new.causes is rise inside kept
     (λ k. c.count_numbers.ensures k ∙ ap (λ (l : List Link). slice_index_or c.args.causes.now k 0 + absent_times l c.count_numbers.new.causes k) c.as_slice.ensures.value)
-    (length_zero c.args.added.now.dropped.items (let none = sym c.is_empty.ensures ∙ c.if-not-is_empty.false in let z = eqb-true _ _ none in omega (arith, z)))
+    (nil_from_length c.args.added.now.dropped.items (let none = sym c.is_empty.ensures ∙ c.if-not-is_empty.false in let z = eqb-true _ _ none in omega (arith, z)))

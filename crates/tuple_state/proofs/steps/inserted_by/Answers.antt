@@ -1,11 +1,11 @@
 use Rattle.std.proofs.Common.{◌≡◌, ◌++◌, [], ◌∷◌, List, length, append_assoc, length-append, ap, sym, ◌∙◌, arith}
 use Rattle.std.specs.Vec.Iter.{into_iter_items}
-use Rattle.std.proofs.lemmas.List.{append-nil}
+use Rattle.std.proofs.lemmas.List.{append-nil, nil_from_length}
 use Rattle.update_model.specs.Node.{NodeData}
 use Rattle.update_model.specs.declared.op.Op.{Op}
 use Rattle.tuple_state.specs.declared.inserted.Inserted.{Inserted}
 use Rattle.tuple_state.specs.Steps.{row_made, rows_by}
-use Rattle.tuple_state.proofs.Stepping.{empty_from, made_of, rows_all, rows_more, rows_same}
+use Rattle.tuple_state.proofs.Stepping.{made_of, rows_all, rows_more, rows_same}
 use Rattle.tuple_state.proofs.steps.inserted_by.Goals as goal
 
 pub loop-op-init : goal.loop-op-init
@@ -40,7 +40,7 @@ loop-op-preserved c =
 pub returns : goal.returns
 returns c =
     let so = c.loop-op.invariant in
-    let none = empty_from (into_iter_items c.loop-op.op-iterator) (let e = c.in-None.ensures.steps.0 in omega (arith, e)) in
+    let none = nil_from_length (into_iter_items c.loop-op.op-iterator) (let e = c.in-None.ensures.steps.0 in omega (arith, e)) in
     let all : c.loop-op.yielded ≡ c.args.node.ops =
     sym (append-nil c.loop-op.yielded) ∙ ap (λ (l : List Op). c.loop-op.yielded ++ l) (sym none) ∙ so.whole ∙ ap (λ (n : NodeData). n.ops) c.node.view_is in
     so.rows ∙ ap (λ (l : List Op). rows_by c.args.position (made_of c.node.inside.id c.node.inside.author) 0 l) all

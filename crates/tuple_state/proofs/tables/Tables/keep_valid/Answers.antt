@@ -1,7 +1,7 @@
 use Rattle.std.proofs.Common.{◌≡◌, ℕ, ◌+◌, ◌-◌, ◌++◌, length, get_or, take, drop, map, reverse, replicate, List, Option, Some, vec_len, length-append, refl, ap, sym, subst, ◌∙◌, inl, inr, arith}
 use Rattle.std.specs.Prelude.{count_by, ◌==◌}
 use Rattle.std.proofs.lemmas.List.Sums.{count_by-le-length}
-use Rattle.std.proofs.lemmas.List.{length-map, length-replicate, take_all, take_at}
+use Rattle.std.proofs.lemmas.List.{length-map, length-replicate, nil_from_length, take_all, take_at}
 use Rattle.table_model.specs.Verdicts.{effects_of}
 use Rattle.table_model.specs.declared.verdict.Verdict.TheVariants as verdict
 use Rattle.update_model.specs.Node.{IsNode, NodeData}
@@ -19,7 +19,7 @@ use Rattle.tuple_state.proofs.Fronts.{few_rows}
 use Rattle.tuple_state.proofs.Shortening.{kept_places}
 use Rattle.tuple_state.proofs.Keeping.{drops_there, kept_next, known_inside, layered_next, news_few, padded_counts, parents_found, refs_rising, rising_next}
 use Rattle.tuple_state.proofs.Adding.{rising_lower}
-use Rattle.tuple_state.proofs.Raising.{absent_fewer, length_zero}
+use Rattle.tuple_state.proofs.Raising.{absent_fewer}
 use Rattle.tuple_state.proofs.Lookups.{row_found}
 use Rattle.tuple_state.proofs.Marks.{fresh_layered}
 use Rattle.tuple_state.proofs.tables.Tables.keep_valid.Goals as goal
@@ -193,7 +193,7 @@ add_causes-requires-clause-room c =
     let drop_len = length-map {B = Option ℕ × ℕ} drops (λ (drop : Dropped). (place_of (inside.rows.items ++ news) drop.name, drop.position)) in
     let all_len = length-append inside.rows.items news in
     elim c.in_ok-pending.ensures.room [
-      | inl none ↦ inl (length_zero names (omega (arith, none, c.len.ensures, dropped_len, pair_len, made_len, drop_len)))
+      | inl none ↦ inl (nil_from_length names (omega (arith, none, c.len.ensures, dropped_len, pair_len, made_len, drop_len)))
       | inr room ↦ inr (omega (arith, room, len, all_len, first, news_len, c.len-more.ensures))
     ]
 
