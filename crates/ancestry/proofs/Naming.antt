@@ -8,6 +8,7 @@ use Rattle.std.specs.declared.cmp.Ordering.{Ordering}
 use Rattle.std.specs.declared.cmp.Ordering.TheVariants.{Less, Equal, Greater}
 use Rattle.std.specs.Ordering.{nat_cmp, match_ordering}
 use Rattle.std.specs.BTreeMap.Range.{IsLtBy}
+use Rattle.std.proofs.Math.Bool.{or_assoc, or_comm}
 use Rattle.std.proofs.lemmas.Bool.{eqb-true, eq-eqb, ne_eqb, cases_lt, cases_eq, and_parts, and_from, or_cases, or_left, or_right}
 use Rattle.std.proofs.lemmas.Option.{unwrap_or-slice_get, slice_get_past}
 use Rattle.std.proofs.lemmas.List.{get_or_append_left, get_or-take, get_or_read, get_or-set_same, get_or-set_other, length-append, length-take-le, take_all}
@@ -207,16 +208,6 @@ module _ (items rest : List ℕ) (o : Option ℕ) (last n : ℕ) (long : length 
 
 -- ---- what is pending
 
-or_turned : (x y : Bool) → (x || y) ≡ (y || x)
-or_turned true true = refl
-or_turned true false = refl
-or_turned false true = refl
-or_turned false false = refl
-
-or_moved : (x y z : Bool) → ((x || y) || z) ≡ (x || (y || z))
-or_moved true y z = refl
-or_moved false y z = refl
-
 or_twice : (x y : Bool) → (x || y) ≡ ((x || y) || x)
 or_twice true y = refl
 or_twice false true = refl
@@ -253,7 +244,7 @@ look_open graph p b k namers now next before low called under grown is =
     let s = slice_index_or namers k 0 in
     let one : goes_up graph p b s ≡ is_ancestor graph s b = ap (λ (t : Bool). t && leads graph b s) called ∙ ap (λ (t : Bool). t || is_ancestor graph s b) (ne_eqb s b (λ e. absurd (omega arith))) in
     grown ∙ ap (λ (t : Bool). t || is_ancestor graph s b) is
-    ∙ or_moved before (list_any (goes_up graph p b) (take k namers)) (is_ancestor graph s b)
+    ∙ or_assoc before (list_any (goes_up graph p b) (take k namers)) (is_ancestor graph s b)
     ∙ ap (λ (t : Bool). before || t) (sym (list_any_more (goes_up graph p b) namers k 0 low ∙ ap (λ (t : Bool). list_any (goes_up graph p b) (take k namers) || t) one))
 
 -- a look at all
@@ -268,14 +259,14 @@ equal_from x y h = grind arith
 
 -- a test of keys with one more among them
 pub any_inserted : (test : ℕ → Bool) (keys : List ℕ) (k : ℕ) → list_any test (insert_key nat_cmp keys k) ≡ (list_any test keys || test k)
-any_inserted test [] k = or_turned (test k) false
+any_inserted test [] k = or_comm (test k) false
 any_inserted test (x ∷ keys) k =
     let rest = any_inserted test keys k in
     let step : (o : Ordering) → nat_cmp k x ≡ o → list_any test (match_ordering o (k ∷ x ∷ keys) (x ∷ keys) (x ∷ insert_key nat_cmp keys k)) ≡ ((test x || list_any test keys) || test k) =
     elim [
-      | Less ↦ λ e. or_turned (test k) (test x || list_any test keys)
+      | Less ↦ λ e. or_comm (test k) (test x || list_any test keys)
       | Equal ↦ λ e. or_twice (test x) (list_any test keys) ∙ ap (λ n. (test x || list_any test keys) || test n) (sym (equal_from k x e))
-      | Greater ↦ λ e. ap (λ b. test x || b) rest ∙ sym (or_moved (test x) (list_any test keys) (test k))
+      | Greater ↦ λ e. ap (λ b. test x || b) rest ∙ sym (or_assoc (test x) (list_any test keys) (test k))
     ] in
     step (nat_cmp k x) refl
 
@@ -305,7 +296,7 @@ reached test k keys e = or_left (test k) (list_any test keys) e
 
 -- who is popped leads there where those do that were added
 pub goes_on : (test : ℕ → Bool) (k : ℕ) (keys next : List ℕ) → list_any test next ≡ (list_any test keys || test k) → list_any test (k ∷ keys) ≡ list_any test next
-goes_on test k keys next e = or_turned (test k) (list_any test keys) ∙ sym e
+goes_on test k keys next e = or_comm (test k) (list_any test keys) ∙ sym e
 
 pub lower_next : (b k : ℕ) (old keys : List ℕ) → k < b → Between k b keys → height b keys < height b (k ∷ old)
 unfolding height
