@@ -89,4 +89,3 @@ pub rows_same : (position : ℕ) (node other : NodeData) (number : ℕ) (ops : L
 unfolding rows_by
 rows_same position node other number [] a b = refl
 rows_same position node other number (op ∷ ops) a b = λ i. row_made position (a i) (b i) number op ++ rows_same position node other (number + 1) ops a b i
-
