@@ -9,3 +9,4 @@ pub mod Naming
 pub mod Numbers
 pub mod Passed
 pub mod Steps
+pub mod Sweep

@@ -133,7 +133,7 @@ pub named_all : (graph : List (List ℕ)) (k n : ℕ) (preds : List ℕ) → Are
 named_all graph k n preds lower held is same = λ i d low.
     let below = (subst (All (λ p. p < k)) (preds_read graph k preds held is) (lower k)) i d low in omega (arith, below)
 
-unmarked : (m j : ℕ) → slice_index_or (replicate m false) j false ≡ false
+pub unmarked : (m j : ℕ) → slice_index_or (replicate m false) j false ≡ false
 unmarked m j = elim (cases_lt j m) [
   | inl low ↦ get_or-replicate m j false false low
   | inr high ↦ get_or_past (replicate m false) j false (omega (arith, length-replicate m false))

@@ -7,7 +7,6 @@ use Rattle.std.specs.List.{list_any}
 use Rattle.std.specs.declared.cmp.Ordering.{Ordering}
 use Rattle.std.specs.declared.cmp.Ordering.TheVariants.{Less, Equal, Greater}
 use Rattle.std.specs.Ordering.{nat_cmp, match_ordering}
-use Rattle.std.specs.BTreeMap.Range.{IsLtBy}
 use Rattle.std.proofs.Math.Bool.{or_assoc, or_comm}
 use Rattle.std.proofs.lemmas.Bool.{eqb-true, eq-eqb, ne_eqb, cases_lt, cases_eq, and_parts, and_from, or_cases, or_left, or_right}
 use Rattle.std.proofs.lemmas.Option.{unwrap_or-slice_get, slice_get_past}
@@ -270,26 +269,6 @@ any_inserted test (x ∷ keys) k =
     ] in
     step (nat_cmp k x) refl
 
--- how far up it is from the lowest of these to a bound
-unfoldable pub height : ℕ → List ℕ → ℕ
-height b [] = 0
-height b (k ∷ keys) = b - k
-
--- what is pending stands above the one that was looked at, and below the bound
-abbrev pub Between : ℕ → ℕ → List ℕ → Type 0
-Between p b keys = All (λ k. (p < k) × (k < b)) keys
-
-pub popped_between : (b k : ℕ) (keys : List ℕ) → All (λ q. q < b) (k ∷ keys) → All (IsLtBy nat_cmp k) keys → Between k b keys
-popped_between b k keys below above i d low =
-    let over : nat_cmp k (slice_index_or keys i d) ≡ Less = above i d low in
-    ((grind arith), below (suc i) d (omega arith))
-
-pub below_all : (p b : ℕ) (keys : List ℕ) → Between p b keys → All (λ k. k < b) keys
-below_all p b keys between i d low = (between i d low).1
-
-pub between_none : (p b : ℕ) (keys : List ℕ) → keys ≡ [] → Between p b keys
-between_none p b keys none = rw none (λ i d low. absurd (omega arith))
-
 -- who is popped leads there
 pub reached : (test : ℕ → Bool) (k : ℕ) (keys : List ℕ) → test k ≡ true → list_any test (k ∷ keys) ≡ true
 reached test k keys e = or_left (test k) (list_any test keys) e
@@ -298,7 +277,8 @@ reached test k keys e = or_left (test k) (list_any test keys) e
 pub goes_on : (test : ℕ → Bool) (k : ℕ) (keys next : List ℕ) → list_any test next ≡ (list_any test keys || test k) → list_any test (k ∷ keys) ≡ list_any test next
 goes_on test k keys next e = or_comm (test k) (list_any test keys) ∙ sym e
 
-pub lower_next : (b k : ℕ) (old keys : List ℕ) → k < b → Between k b keys → height b keys < height b (k ∷ old)
-unfolding height
-lower_next b k old [] low between = omega arith
-lower_next b k old (x ∷ keys) low between = let f = between 0 0 (omega arith) in let over : k < x = f.0 in let under : x < b = f.1 in omega arith
+pub none_below : (b : ℕ) (keys : List ℕ) → keys ≡ [] → All (λ k. k < b) keys
+none_below b keys none = rw none (λ i d low. absurd (omega arith))
+
+pub rest_below : (b k : ℕ) (keys : List ℕ) → All (λ q. q < b) (k ∷ keys) → All (λ q. q < b) keys
+rest_below b k keys below i d low = below (suc i) d (omega arith)

@@ -7,11 +7,14 @@ ghost use Rattle.ancestry.specs.Walks.{AreLower, is_ancestor};
 
 use crate::clock::{CHAINS, Clock, count, join, merged, uncount};
 use crate::namers::{Namers, forget, note, unname};
-use crate::walk::{are_below, behind};
+use crate::walk::{are_below, behind, reaches};
 use std::alloc::{AllocError, Global};
 use std::collections::BTreeSet;
 use std::marker::Model;
 use update_model::{Ancestors, MAX_MEMBERS, PositionList};
+
+/// After so many members that are in no chain the way up is given up: a sweep down is then cheaper.
+const MAX_LOOKS: u32 = 256;
 
 /// The predecessors and the clock of each member of a graph. A contract sees, for each member in arrival order, the
 /// list of the positions that it names.
@@ -202,26 +205,26 @@ impl Ancestry {
 impl Ancestry {
     /// Whether the member at `a` is an ancestor of the one at `b`, which stands above it. The way up from `a` goes over those
     /// that name it, those that name them, and so on, the lowest first. Of a member in a chain its number tells, and the way
-    /// ends there. None is looked at twice, since a member stands above those that it names. Where the member at `b` names
-    /// only members below `a`, there is no way.
-    fn climbs(&self, alloc: Global, a: u32, b: u32) -> Result<bool, AllocError>
+    /// ends there. None is looked at twice, since a member stands above those that it names. After some looks it gives up,
+    /// and tells nothing.
+    fn climbs(&self, alloc: Global, a: u32, b: u32) -> Result<Option<bool>, AllocError>
         requires below { a < b }
         requires held { b < length self.now }
-        ensures { IfOk result (λ answer. answer ≡ is_ancestor self.now a b) }
+        ensures { IfOk result (λ told. IfSome told (λ answer. answer ≡ is_ancestor self.now a b)) }
     {
-        if are_below(self.members[b as usize].as_slice(), a as usize) {
-            return Ok(false);
-        }
         let mut pending = BTreeSet::new(alloc);
         if self.look(a, b, &mut pending)? {
-            return Ok(true);
+            return Ok(Some(true));
         }
-        while let Some(next) = pending.pop_first() {
+        for _ in 0..MAX_LOOKS {
+            let Some(next) = pending.pop_first() else {
+                return Ok(Some(false));
+            };
             if self.look(next, b, &mut pending)? {
-                return Ok(true);
+                return Ok(Some(true));
             }
         }
-        Ok(false)
+        Ok(None)
     }
 
     /// Looks at who names the member at `p`: whether one of them is the one at `b`, or known to be its ancestor. Of whom
@@ -232,7 +235,7 @@ impl Ancestry {
         ensures found { IfOk result (λ found. found ≡ true → is_ancestor self.now p b ≡ true) }
         ensures goes_on { IfOk result (λ found. found ≡ false → list_any (λ k. is_ancestor self.now k b) pending.new.keys
             ≡ (list_any (λ k. is_ancestor self.now k b) pending.old.keys || is_ancestor self.now p b)) }
-        ensures above { IfOk result (λ found. All (λ k. (p < k) × (k < b)) pending.old.keys → All (λ k. (p < k) × (k < b)) pending.new.keys) }
+        ensures lower { IfOk result (λ found. All (λ k. k < b) pending.old.keys → All (λ k. k < b) pending.new.keys) }
     {
         for namer in self.namers[p as usize].as_slice() {
             let s = *namer;
@@ -281,15 +284,22 @@ impl Ancestors for Ancestry {
     ghost ancestor = { is_ancestor };
 
     /// Positions that no member has are nobody's ancestors, and have none. For an `a` in a chain it takes constant time
-    /// and no memory; for one in no chain it goes up over the descendants of `a` that are in no chain.
+    /// and no memory. For one in no chain it goes up over the descendants of `a` that are in no chain, and where these are
+    /// many, it sweeps what lies between the two.
     fn is_ancestor(&self, alloc: Global, a: u32, b: u32) -> Result<bool, AllocError> {
         let len = self.len();
         if b <= a || len <= b {
             return Ok(false);
         }
-        match self.leads(a, b) {
+        if let Some(answer) = self.leads(a, b) {
+            return Ok(answer);
+        }
+        if are_below(self.members[b as usize].as_slice(), a as usize) {
+            return Ok(false);
+        }
+        match self.climbs(alloc, a, b)? {
             Some(answer) => Ok(answer),
-            None => self.climbs(alloc, a, b),
+            None => reaches(alloc, self.members.as_slice(), a as usize, b as usize),
         }
     }
 }

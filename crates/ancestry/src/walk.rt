@@ -1,4 +1,4 @@
-//! The sweep from members down to their ancestors.
+//! The walk from a member down to its ancestors.
 
 ghost use Rattle.std.specs.Prelude.{◌≡◌, ◌<◌, ◌≤◌, ◌+◌, ◌||◌, ◌==◌, ◌↔◌, ℕ, All, length, slice_index_or, false, IsTrue, IfOk};
 ghost use Rattle.std.specs.List.{list_any};
@@ -7,6 +7,62 @@ ghost use Rattle.ancestry.specs.Walks.{AreLower, is_ancestor};
 
 use std::alloc::{AllocError, Global};
 use update_model::PositionList;
+
+/// Whether predecessors lead from the member at `b` to the one at `a`, which stands below it.
+///
+/// Predecessors stand below the member that names them. So one sweep from `b` down, which marks what each marked
+/// member names, comes to every member only after all that name it, and none has to be looked at twice. Nothing
+/// below `a` leads to it, and the sweep does not look there. It ends where nothing is marked below.
+pub(crate) fn reaches(
+    alloc: Global,
+    members: &[PositionList],
+    a: usize,
+    b: usize,
+) -> Result<bool, AllocError>
+    requires lower { AreLower members.now }
+    requires below { a < b }
+    requires held { b < length members.now }
+    ensures { IfOk result (λ answer. answer ≡ is_ancestor members.now a b) }
+{
+    let mut marks = vec![in alloc; false; b - a + 1]?;
+    marks[b - a] = true;
+    let mut low = b - a;
+    for offset in (1..b - a + 1).rev() {
+        if offset < low {
+            return Ok(false);
+        }
+        if marks[offset] {
+            let preds = members[a + offset].as_slice();
+            low = lowest(low, a, preds);
+            mark_all(&mut marks, a, preds);
+        }
+    }
+    Ok(marks[0])
+}
+
+/// The least of a mark's place and of those of these positions that are not below the first, which has the first mark.
+fn lowest(mut low: usize, first: usize, positions: &[u32]) -> usize
+    ensures least { result ≤ low }
+    ensures below { (k : ℕ) → k < result → list_any (λ p. p == first + k) positions.now ≡ false }
+{
+    for position in positions {
+        low = lower(low, first, *position);
+    }
+    low
+}
+
+/// The same of one position.
+fn lower(low: usize, first: usize, position: u32) -> usize
+    ensures least { result ≤ low }
+    ensures below { (k : ℕ) → k < result → (position == first + k) ≡ false }
+{
+    let position = position as usize;
+    if first <= position && position - first < low {
+        position - first
+    } else {
+        low
+    }
+}
 
 /// Whether each of these positions is below the first.
 pub(crate) fn are_below(positions: &[u32], first: usize) -> bool
