@@ -269,16 +269,19 @@ any_inserted test (x ∷ keys) k =
     ] in
     step (nat_cmp k x) refl
 
--- who is popped leads there
-pub reached : (test : ℕ → Bool) (k : ℕ) (keys : List ℕ) → test k ≡ true → list_any test (k ∷ keys) ≡ true
-reached test k keys e = or_left (test k) (list_any test keys) e
-
--- who is popped leads there where those do that were added
-pub goes_on : (test : ℕ → Bool) (k : ℕ) (keys next : List ℕ) → list_any test next ≡ (list_any test keys || test k) → list_any test (k ∷ keys) ≡ list_any test next
+-- who is looked at leads there where those do that were added
+pub goes_on : (test : ℕ → Bool) (k : ℕ) (keys next : List ℕ) → list_any test next ≡ (list_any test keys || test k) → (test k || list_any test keys) ≡ list_any test next
 goes_on test k keys next e = or_comm (test k) (list_any test keys) ∙ sym e
+
+pub none_left : (keys : List ℕ) → (0 < length keys → false ≡ true) → keys ≡ []
+none_left [] h = refl
+none_left (k ∷ keys) h = absurd (let e = h (omega arith) in cc)
 
 pub none_below : (b : ℕ) (keys : List ℕ) → keys ≡ [] → All (λ k. k < b) keys
 none_below b keys none = rw none (λ i d low. absurd (omega arith))
+
+pub first_below : (b k : ℕ) (keys : List ℕ) → All (λ q. q < b) (k ∷ keys) → k < b
+first_below b k keys below = below 0 0 (omega arith)
 
 pub rest_below : (b k : ℕ) (keys : List ℕ) → All (λ q. q < b) (k ∷ keys) → All (λ q. q < b) keys
 rest_below b k keys below i d low = below (suc i) d (omega arith)

@@ -13,8 +13,8 @@ use std::collections::BTreeSet;
 use std::marker::Model;
 use update_model::{Ancestors, MAX_MEMBERS, PositionList};
 
-/// After so many members that are in no chain the way up is given up: a sweep down is then cheaper.
-const MAX_LOOKS: u32 = 256;
+/// After so many looks at who names a member the way up is given up: a sweep down is then cheaper.
+const MAX_LOOKS: usize = 512;
 
 /// The predecessors and the clock of each member of a graph. A contract sees, for each member in arrival order, the
 /// list of the positions that it names.
@@ -205,23 +205,28 @@ impl Ancestry {
 impl Ancestry {
     /// Whether the member at `a` is an ancestor of the one at `b`, which stands above it. The way up from `a` goes over those
     /// that name it, those that name them, and so on, the lowest first. Of a member in a chain its number tells, and the way
-    /// ends there. None is looked at twice, since a member stands above those that it names. After some looks it gives up,
-    /// and tells nothing.
+    /// ends there. None is gone over twice, since a member stands above those that it names. It gives up, and tells nothing,
+    /// where more looks would be needed than [`MAX_LOOKS`].
     fn climbs(&self, alloc: Global, a: u32, b: u32) -> Result<Option<bool>, AllocError>
         requires below { a < b }
         requires held { b < length self.now }
         ensures { IfOk result (λ told. IfSome told (λ answer. answer ≡ is_ancestor self.now a b)) }
     {
         let mut pending = BTreeSet::new(alloc);
-        if self.look(a, b, &mut pending)? {
-            return Ok(Some(true));
-        }
-        for _ in 0..MAX_LOOKS {
-            let Some(next) = pending.pop_first() else {
-                return Ok(Some(false));
-            };
+        let mut left = MAX_LOOKS;
+        let mut next = a;
+        for _ in 0..=MAX_LOOKS {
+            let namers = self.namers[next as usize].as_slice().len();
+            if left < namers {
+                return Ok(None);
+            }
+            left -= namers;
             if self.look(next, b, &mut pending)? {
                 return Ok(Some(true));
+            }
+            match pending.pop_first() {
+                Some(member) => next = member,
+                None => return Ok(Some(false)),
             }
         }
         Ok(None)
