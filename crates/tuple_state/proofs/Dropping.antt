@@ -1,6 +1,6 @@
 -- What deletes a name after an update's ancestors.
-use Rattle.std.proofs.Common.{◌≡◌, ℕ, zero, suc, ◌+◌, ◌<◌, ◌≤◌, ◌==◌, nat_lt, Bool, true, false, cond, ◌&&◌, ◌||◌, List, [], ◌∷◌, ◌++◌, length, get_or, take, map, refl, sym, ap, ap₂, ◌∙◌, Option, Some, arith}
-use Rattle.std.specs.Prelude.{slice_get, unwrap_or, filter, bytes_eq, Result, Ok, Err, OnOk}
+use Rattle.std.proofs.Common.{◌≡◌, ℕ, zero, suc, ◌+◌, ◌<◌, ◌≤◌, ◌==◌, nat_lt, Bool, true, false, cond, ◌&&◌, ◌||◌, List, [], ◌∷◌, ◌++◌, length, get_or, take, map, refl, sym, ap, ap₂, ◌∙◌, Some, arith}
+use Rattle.std.specs.Prelude.{slice_get, unwrap_or, filter, bytes_eq}
 use Rattle.std.specs.List.{list_all, list_any}
 use Rattle.std.proofs.lemmas.Bool.{and_parts, or_right}
 use Rattle.std.proofs.lemmas.Bool.Decides.{nat_tests}
@@ -10,18 +10,15 @@ use Rattle.std.proofs.lemmas.List.{take_more, take_all}
 use Rattle.std.proofs.lemmas.List.Folds.{list_all-append, list_any-append}
 use Rattle.update_model.specs.declared.row_name.RowName.{RowName}
 use Rattle.schema.specs.declared.column.Column.{Column}
-use Rattle.table_model.specs.Visible.{cascade_refs, is_deleted, same_row}
+use Rattle.table_model.specs.Visible.{is_deleted, same_row}
 use Rattle.tuple_state.specs.declared.dropped.Dropped.{Dropped}
 use Rattle.tuple_state.specs.declared.inserted.Inserted.{Inserted}
-use Rattle.tuple_state.specs.Kept.{place_of}
-use Rattle.tuple_state.specs.Parents.{all_parents, columns_at, passes_place}
+use Rattle.tuple_state.specs.Parents.{columns_at}
 use Rattle.tuple_state.specs.Past.{done_then}
-use Rattle.tuple_state.specs.State.{State, row_of, rules_over_columns}
+use Rattle.tuple_state.specs.State.{State}
 use Rattle.table_model.proofs.Members.{any_mapped, any_reversed}
 use Rattle.tuple_state.proofs.Lookups.{get_or_from}
 use Rattle.tuple_state.proofs.Marking.{slice_get_from}
-use Rattle.update_model.specs.declared.value.Value.{Value}
-use Rattle.tuple_state.proofs.Marks.{cascade_are}
 
 any_kept : (t k : Dropped → Bool) (xs : List Dropped) → list_any t (filter k xs) ≡ list_any (λ x. k x && t x) xs
 any_kept t k [] = refl
@@ -47,19 +44,6 @@ none_more t xs i d below before h =
 pub none_left : (t : Dropped → Bool) (xs : List Dropped) (i : ℕ) → length xs ≤ i → list_any t (take i xs) ≡ false → list_any t xs ≡ false
 none_left t xs i past before = ap (list_any t) (sym (take_all i xs past)) ∙ before
 
-pub on_ok : {T E P Q : Type 0} (r : Result T E) → (P → Q) → OnOk r P → OnOk r Q
-on_ok (Ok x) f p = f p
-on_ok (Err e) f p = p
-
--- the rows that the row at a place names, asked column by column
-pub parents_conv : (columns : List (List Column)) (rows : List Inserted) (places : RowName → Option ℕ) (it row : Inserted) (list : List Column) (test : ℕ → Bool)
-    → ((name : RowName) → places name ≡ place_of rows name) → row ≡ it → columns_at columns row.entry.table ≡ list
-    → all_parents (λ name. passes_place test (places name)) list row.entry.values ≡ list_all (λ r. passes_place test (place_of rows r.name)) (cascade_refs (rules_over_columns columns) (row_of it))
-parents_conv columns rows places it row list test placed same is =
-    (λ i. all_parents (λ name. passes_place test (placed name i)) (sym is i) row.entry.values)
-    ∙ sym (cascade_are columns row (λ name. passes_place test (place_of rows name)))
-    ∙ ap (λ (r : Inserted). list_all (λ x. passes_place test (place_of rows x.name)) (cascade_refs (rules_over_columns columns) (row_of r))) same
-
 -- two names as the code compares them
 pub names_equal : (a b : RowName) → same_row b a ≡ (bytes_eq a.update.0 b.update.0 && (a.index == b.index))
 names_equal a b = same_row-symm b a ∙ ap (λ x. x && (a.index == b.index)) (is_eq-slice_cmp a.update.0 b.update.0)
@@ -82,7 +66,3 @@ same_found rows k row it is at = is ∙ get_or_from rows k row it at
 pub columns_found : (columns lent : List (List Column)) (n number : ℕ) (list : List Column) → lent ≡ columns → n ≡ number → n < length lent → list ≡ get_or lent n list → columns_at columns number ≡ list
 columns_found columns lent n number list same is below found =
     ap₂ (λ (l : List (List Column)) m. columns_at l m) (sym same) (sym is) ∙ ap (λ o. unwrap_or o []) (slice_get_from lent n list below found)
-
-pub no_parents : (test : RowName → Bool) (values : List Value) → true ≡ all_parents test [] values
-unfolding all_parents
-no_parents test values = refl

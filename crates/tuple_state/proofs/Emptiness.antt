@@ -6,13 +6,13 @@ use Rattle.std.specs.Map.{lookup}
 use Rattle.update_model.specs.declared.row_name.RowName.{RowName}
 use Rattle.schema.specs.declared.column.Column.{Column}
 use Rattle.table_model.specs.Tables.{name_cmp}
-use Rattle.tuple_state.specs.Causes.{absent_times, parents_from}
+use Rattle.tuple_state.specs.Causes.{absent_times, ends_from, parents_from}
 use Rattle.tuple_state.specs.Kept.{IsKept, are_layered, pairs_of}
 use Rattle.tuple_state.specs.Links.{Linked, is_of}
 
 pub kept_new : (columns : List (List Column)) (places : BTreeMap RowName ℕ) (children deleters : Linked) → places.entries ≡ [] → children ≡ record { size = 0; links = [] } → deleters ≡ record { size = 0; links = [] }
-    → IsKept (record { columns = columns; count = 0; inserted = []; dropped = []; voids = [] }) places [] children deleters
-unfolding are_layered parents_from
+    → IsKept (record { columns = columns; count = 0; inserted = []; dropped = []; voids = [] }) places [] children deleters []
+unfolding are_layered ends_from parents_from
 kept_new columns places children deleters none childless empty = record {
   few = omega arith;
   bounded = λ len. omega arith;
@@ -26,6 +26,7 @@ kept_new columns places children deleters none childless empty = record {
       omega (arith, a, b);
   homes = ap (λ (d : Linked). d.size) childless;
   named = ap (λ (d : Linked). pairs_of d.links) childless;
+  ended = refl;
   rooms = ap (λ (d : Linked). d.size) empty;
   few_children = let l = ap (λ (d : Linked). length d.links) childless in omega (arith, l);
   few_deleters = let l = ap (λ (d : Linked). length d.links) empty in omega (arith, l);

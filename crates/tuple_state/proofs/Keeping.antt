@@ -1,5 +1,5 @@
 -- What tables keep after one more update.
-use Rattle.std.proofs.Common.{◌≡◌, ℕ, zero, suc, ◌+◌, ◌<◌, ◌≤◌, ◌==◌, true, not, ◌&&◌, List, [], ◌∷◌, ◌++◌, length, get_or, map, reverse, replicate, zero-add, refl, sym, ap, ◌∙◌, Some, arith}
+use Rattle.std.proofs.Common.{◌≡◌, ℕ, zero, suc, ◌+◌, ◌<◌, ◌≤◌, ◌==◌, true, not, ◌&&◌, List, [], ◌∷◌, ◌++◌, length, get_or, map, reverse, replicate, zero-add, refl, sym, ap, ◌∙◌, Option, Some, arith}
 use Rattle.std.specs.Prelude.{count_by, is_some}
 use Rattle.std.specs.List.{list_all}
 use Rattle.std.specs.BTreeMap.{get, BTreeMap}
@@ -20,7 +20,7 @@ use Rattle.table_model.proofs.Founded.{all_weaker, erasable, founded_closed}
 use Rattle.tuple_state.specs.declared.dropped.Dropped.{Dropped}
 use Rattle.tuple_state.specs.declared.inserted.Inserted.{Inserted}
 use Rattle.tuple_state.specs.Kept.{IsKept, are_layered, deletes_at, is_named, pairs_of, place_of}
-use Rattle.tuple_state.specs.Causes.{AreRising, absent_times, parents_from}
+use Rattle.tuple_state.specs.Causes.{AreRising, absent_times, ends_from, parents_from}
 use Rattle.tuple_state.specs.Links.{Linked, are_inside, is_of}
 use Rattle.tuple_state.specs.declared.links.Link.{Link}
 use Rattle.tuple_state.specs.Past.{IsNextVerdict}
@@ -31,6 +31,7 @@ use Rattle.tuple_state.proofs.Deleting.{deleted_next, drops_found}
 use Rattle.tuple_state.proofs.Effects.{count_is}
 use Rattle.tuple_state.proofs.Layers.{layered_founded, same_layered}
 use Rattle.tuple_state.proofs.Lookups.{columns_same, did_same}
+use Rattle.tuple_state.proofs.Spans.{ends-append}
 
 pub state_next : (state : State) (node : NodeData) (v : Verdict) → (next : IsNextVerdict state node v) → IsStateOf next.rules (node ∷ next.nodes) (after state node v)
 unfolding state_of
@@ -66,7 +67,7 @@ padded [] (suc m) (suc k) = padded [] m k
 padded (x ∷ xs) m zero = refl
 padded (x ∷ xs) m (suc k) = padded xs m k
 
-module _ (state : State) (node : NodeData) (places : BTreeMap RowName ℕ) (causes : List ℕ) (children deleters : Linked) (kept : IsKept state places causes children deleters) (next : IsNextVerdict state node verdict.Valid) where
+module _ (state : State) (node : NodeData) (places : BTreeMap RowName ℕ) (causes : List ℕ) (children deleters : Linked) (ends : List ℕ) (kept : IsKept state places causes children deleters ends) (next : IsNextVerdict state node verdict.Valid) where
   abbrev news : List Inserted
   news = map (inserted_at state.count) (reverse (effects_of node).inserted)
 
@@ -114,6 +115,19 @@ module _ (state : State) (node : NodeData) (places : BTreeMap RowName ℕ) (caus
   padded_counts m k =
       padded causes m k ∙ kept.counted k ∙ (λ i. count_by (is_of k) deleters.links + count_by (λ (link : Link). not (sym (padded causes m link.place) i == 0) && (link.number == k)) children.links)
 
+  -- there are as many links as names
+  links_len : length children.links ≡ length (parents_from (rules_of_state state) 0 state.inserted)
+  links_len =
+      let a = ap length kept.named in
+      let b = length-map {B = Option ℕ × ℕ} children.links (λ (link : Link). (Some link.place, link.number)) in
+      let c = length-map {B = Option ℕ × ℕ} (parents_from (rules_of_state state) 0 state.inserted) (λ (d : Dropped). (place_of state.inserted d.name, d.position)) in
+      omega (arith, a, b, c)
+
+  ended_next : (more_ends : List ℕ) → more_ends ≡ ends_from (rules_of_state state) (length children.links) news → ends ++ more_ends ≡ ends_from (rules_of_state state) 0 whole
+  ended_next more_ends so =
+      let from : length children.links ≡ 0 + length (parents_from (rules_of_state state) 0 state.inserted) = omega (arith, links_len) in
+      (λ i. kept.ended i ++ (so ∙ ap (λ n. ends_from (rules_of_state state) n news) from) i) ∙ sym (ends-append (rules_of_state state) 0 0 state.inserted news)
+
   module _ (refs : List Link) (refs_are : pairs_of refs ≡ deletes_at (place_of whole) parents) where
     pub named_next : pairs_of (children.links ++ refs) ≡ deletes_at (place_of whole) (parents_from (rules_of_state state) 0 whole)
     named_next =
@@ -128,12 +142,12 @@ module _ (state : State) (node : NodeData) (places : BTreeMap RowName ℕ) (caus
     refs_rising = rising_links (place_of whole) (length state.inserted) (length whole) refs parents refs_are parents_rise
 
     -- what is kept after a valid update
-    pub kept_next : IsNode node → (after_places : BTreeMap RowName ℕ) (size : ℕ) (after_causes : List ℕ) (names : List Link)
-        → ((name : RowName) → get name_cmp after_places name ≡ place_of whole name) → pairs_of names ≡ deletes_at (place_of whole) drops → size ≡ length whole → length after_causes ≡ length whole
+    pub kept_next : IsNode node → (after_places : BTreeMap RowName ℕ) (size : ℕ) (after_causes more_ends : List ℕ) (names : List Link)
+        → ((name : RowName) → get name_cmp after_places name ≡ place_of whole name) → pairs_of names ≡ deletes_at (place_of whole) drops → more_ends ≡ ends_from (rules_of_state state) (length children.links) news → size ≡ length whole → length after_causes ≡ length whole
         → length (children.links ++ refs) ≤ 536870912 → length (deleters.links ++ names) ≤ 536870912
         → ((k : ℕ) → get_or after_causes k 0 ≡ count_by (is_of k) (deleters.links ++ names) + absent_times (children.links ++ refs) after_causes k)
-        → IsKept (after state node verdict.Valid) after_places after_causes (record { size = size; links = children.links ++ refs }) (record { size = size; links = deleters.links ++ names })
-    kept_next small after_places size after_causes names placed names_are sized len few_children few_deleters counts = record {
+        → IsKept (after state node verdict.Valid) after_places after_causes (record { size = size; links = children.links ++ refs }) (record { size = size; links = deleters.links ++ names }) (ends ++ more_ends)
+    kept_next small after_places size after_causes more_ends names placed names_are ended sized len few_children few_deleters counts = record {
       few = omega (arith, count_few);
       bounded = λ len. bounded_next state.inserted (reverse (effects_of node).inserted) state.count len kept.dated kept.bounded (news_few small);
       dated = dated_next state.inserted (reverse (effects_of node).inserted) state.count kept.dated;
@@ -143,6 +157,7 @@ module _ (state : State) (node : NodeData) (places : BTreeMap RowName ℕ) (caus
       counted = counts;
       homes = sized;
       named = named_next;
+      ended = ended_next more_ends ended;
       rooms = sized;
       few_children = few_children;
       few_deleters = few_deleters;

@@ -27,6 +27,7 @@ pub mod Reaching
 pub mod Regrowth
 pub mod Restricting
 pub mod Shortening
+pub mod Spans
 pub mod Starting
 pub mod Stepping
 pub mod Voiding

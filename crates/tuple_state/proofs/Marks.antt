@@ -1,6 +1,6 @@
 -- Places of layered rows.
 use Rattle.std.proofs.Common.{◌≡◌, ℕ, zero, suc, ◌+◌, ◌<◌, ◌==◌, Bool, true, false, cond, ◌&&◌, ◌||◌, List, [], ◌∷◌, ◌++◌, length, get_or, take, map, reverse, refl, sym, ap, ◌∙◌, subst, append_assoc, Option, Some, None, zero-add, length-append, arith}
-use Rattle.std.specs.Prelude.{slice_get, is_some, filter, unwrap_or, Result, Ok, Err, is_err, OnOk}
+use Rattle.std.specs.Prelude.{slice_get, is_some, unwrap_or, Result, Ok, Err, is_err, OnOk}
 use Rattle.std.specs.declared.cmp.Ordering.{Ordering}
 use Rattle.std.specs.declared.cmp.Ordering.TheVariants.{Less, Equal, Greater}
 use Rattle.std.specs.Ordering.{is_eq, nat_cmp, ordering_then}
@@ -8,24 +8,17 @@ use Rattle.std.specs.List.{list_any, list_all, position_from}
 use Rattle.std.proofs.lemmas.Bool.{and_parts, or_parts}
 use Rattle.std.proofs.lemmas.Bool.Decides.{nat_tests}
 use Rattle.std.proofs.lemmas.List.{reverse-append, map-append, append-nil, take_more, length-take-le}
-use Rattle.std.proofs.lemmas.List.Elements.{filter-append}
-use Rattle.std.proofs.lemmas.List.Folds.{list_all-append}
 use Rattle.update_model.specs.declared.row_name.RowName.{RowName}
-use Rattle.update_model.specs.declared.value.Value.{Value}
-use Rattle.update_model.specs.declared.value.Value.TheVariants as value
 use Rattle.update_model.specs.Entry.{id_cmp}
 use Rattle.update_model.proofs.Closed.{is_some-position, position_from-push}
-use Rattle.schema.specs.declared.action.Action.{Action}
 use Rattle.schema.specs.declared.column.Column.{Column}
-use Rattle.schema.specs.declared.column.ColumnKind.{ColumnKind}
-use Rattle.schema.specs.Columns.{target_of}
 use Rattle.table_model.specs.Tables.{name_cmp}
 use Rattle.schema.specs.Numbers.{no_table}
-use Rattle.table_model.specs.Visible.{Rules, TableRow, RowRef, same_row, refs_in, ref_in, ref_to, is_cascade, cascade_refs}
+use Rattle.table_model.specs.Visible.{Rules, TableRow, RowRef, same_row, cascade_refs}
 use Rattle.table_model.proofs.Standing.{row_from_same, same_row-refl}
 use Rattle.tuple_state.specs.declared.inserted.Inserted.{Inserted}
 use Rattle.tuple_state.specs.Kept.{are_layered, is_named, place_of}
-use Rattle.tuple_state.specs.Parents.{AreFresh, all_parents, columns_at, name_by_cascade, parent_in, passes}
+use Rattle.tuple_state.specs.Parents.{AreFresh, columns_at}
 use Rattle.tuple_state.specs.State.{row_of, rules_over_columns}
 use Rattle.tuple_state.proofs.Layers.{layer_parts}
 use Rattle.tuple_state.proofs.Lookups.{reverse_cons, named_reversed}
@@ -167,40 +160,10 @@ found_layered rules rows h k it at =
 
 -- ---- the rows that a row names
 
-one_parent : (test : RowName → Bool) (kind : ColumnKind) (v : Value) → list_all (λ (r : RowRef). test r.name) (filter (λ (r : RowRef). is_cascade r.action) (ref_in kind v)) ≡ passes test (parent_in kind v)
-one_parent test kind (value.Row name) =
-    let inner : (t : ℕ × Action) (b : Bool) → list_all (λ (r : RowRef). test r.name) (cond b (record { target = t.0; action = t.1; name = name } ∷ []) []) ≡ passes test (cond b (Some name) None) =
-    λ t. elim [ true ↦ (let and_true : (b : Bool) → (b && true) ≡ b = elim [ true ↦ refl | false ↦ refl ] in and_true (test name)) | false ↦ refl ] in
-    let step : (o : Option (ℕ × Action)) → list_all (λ (r : RowRef). test r.name) (filter (λ (r : RowRef). is_cascade r.action) (ref_to name o)) ≡ passes test (name_by_cascade name o) =
-    elim [ None ↦ refl | Some t ↦ inner t (is_cascade t.1) ] in
-    step (target_of kind)
-one_parent test kind value.Null = refl
-one_parent test kind (value.Int n) = refl
-one_parent test kind (value.Text bytes) = refl
-one_parent test kind (value.Flag flag) = refl
-one_parent test kind (value.Own index) = refl
-
-pub parents_are : (test : RowName → Bool) (columns : List Column) (values : List Value)
-    → list_all (λ (r : RowRef). test r.name) (filter (λ (r : RowRef). is_cascade r.action) (refs_in columns values)) ≡ all_parents test columns values
-unfolding all_parents
-parents_are test [] values = refl
-parents_are test (column ∷ columns) [] = refl
-parents_are test (column ∷ columns) (v ∷ values) =
-    ap (list_all (λ (r : RowRef). test r.name)) (filter-append (λ (r : RowRef). is_cascade r.action) (ref_in column.kind v) (refs_in columns values))
-    ∙ list_all-append (λ (r : RowRef). test r.name) (filter (λ (r : RowRef). is_cascade r.action) (ref_in column.kind v)) (filter (λ (r : RowRef). is_cascade r.action) (refs_in columns values))
-    ∙ (λ i. one_parent test column.kind v i && parents_are test columns values i)
-
 pub columns_there : (columns : List (List Column)) (number : ℕ) → (unwrap_or (slice_get (map (λ (list : List Column). record no_table { columns = list }) columns) number) no_table).columns ≡ columns_at columns number
 columns_there [] number = refl
 columns_there (list ∷ columns) zero = refl
 columns_there (list ∷ columns) (suc number) = columns_there columns number
-
--- the rows that a row names by CASCADE, asked column by column
-pub cascade_are : (columns : List (List Column)) (it : Inserted) (test : RowName → Bool)
-    → list_all (λ r. test r.name) (cascade_refs (rules_over_columns columns) (row_of it)) ≡ all_parents test (columns_at columns it.entry.table) it.entry.values
-cascade_are columns it test =
-    ap (λ (l : List Column). list_all (λ (r : RowRef). test r.name) (filter (λ (r : RowRef). is_cascade r.action) (refs_in l it.entry.values))) (columns_there columns it.entry.table)
-    ∙ parents_are test (columns_at columns it.entry.table) it.entry.values
 
 -- tests that agree on what is named
 all_agree : (p q : RowRef → Bool) (n : RowRef → Bool) → ((r : RowRef) → n r ≡ true → p r ≡ q r) → (rs : List RowRef) → list_all n rs ≡ true → list_all p rs ≡ list_all q rs

@@ -245,7 +245,7 @@ module _ (columns : List (List Column)) (rows : List Inserted) (layered : are_la
 
 -- ---- the count of a row that tables keep
 
-module _ (state : State) (places : BTreeMap RowName ℕ) (causes : List ℕ) (children deleters : Linked) (kept : IsKept state places causes children deleters) where
+module _ (state : State) (places : BTreeMap RowName ℕ) (causes : List ℕ) (children deleters : Linked) (ends : List ℕ) (kept : IsKept state places causes children deleters ends) where
   pub mark_kept : (k : ℕ) (it : Inserted) → slice_get state.inserted k ≡ Some it → (get_or causes k 0 == 0) ≡ is_visible (rules_of_state state) (done_in state) it.name
   mark_kept k it at = mark_is state.columns state.inserted kept.layered state.dropped causes children.links deleters.links kept.named kept.deleted kept.counted k it at
 

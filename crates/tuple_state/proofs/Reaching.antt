@@ -1,23 +1,20 @@
 -- A row is visible after an update's ancestors exactly where no row to which CASCADE references lead from it is missing or deleted then.
-use Rattle.std.proofs.Common.{◌≡◌, ℕ, zero, suc, ◌<◌, ◌≤◌, Bool, true, false, cond, not, ◌&&◌, List, [], ◌∷◌, ◌++◌, length, map, reverse, refl, sym, ap, ◌∙◌, subst, Some, nat_lt, inl, inr, arith}
-use Rattle.std.specs.Prelude.{slice_get, filter, All}
-use Rattle.std.specs.declared.cmp.Ordering.TheVariants.{Less}
-use Rattle.std.specs.Ordering.{nat_cmp}
+use Rattle.std.proofs.Common.{◌≡◌, ℕ, zero, suc, ◌<◌, Bool, true, false, cond, not, ◌&&◌, ◌||◌, List, [], ◌∷◌, ◌++◌, length, map, reverse, refl, sym, ap, ◌∙◌, subst, Option, Some, None, nat_lt, inl, inr, arith}
+use Rattle.std.specs.Prelude.{slice_get, filter, option_to_list}
 use Rattle.std.specs.List.{list_all, list_any, AllByRecursion}
-use Rattle.std.proofs.lemmas.Bool.{and_parts, and_from, and_right, both_ways, or_cases, false_from_ne_true}
+use Rattle.std.proofs.lemmas.Bool.{and_parts, and_right, both_ways, or_cases, or_right, false_from_ne_true}
 use Rattle.std.proofs.lemmas.Bool.Decides.{nat_tests}
-use Rattle.std.proofs.lemmas.List.Elements.{recursion_from_All}
-use Rattle.std.proofs.lemmas.List.Folds.{list_all-append}
 use Rattle.update_model.specs.declared.row_name.RowName.{RowName}
 use Rattle.schema.specs.declared.column.Column.{Column}
-use Rattle.table_model.specs.Visible.{Effects, TableRow, cascade_refs, is_deleted, is_visible, same_row}
+use Rattle.table_model.specs.Visible.{Effects, Rules, TableRow, cascade_refs, is_deleted, is_visible, same_row}
 use Rattle.table_model.proofs.Founded.{all_weaker}
-use Rattle.table_model.proofs.Standing.{row_from_same}
+use Rattle.table_model.proofs.Standing.{each-map, row_from_same}
 use Rattle.tuple_state.specs.declared.inserted.Inserted.{Inserted}
-use Rattle.tuple_state.specs.Kept.{are_layered, place_of}
-use Rattle.tuple_state.specs.Parents.{limit_of, passes_place, passes_row}
+use Rattle.tuple_state.specs.Kept.{are_layered, is_named, place_of}
+use Rattle.tuple_state.specs.Parents.{passes_place, passes_row}
 use Rattle.tuple_state.specs.State.{row_of, rules_over_columns}
-use Rattle.tuple_state.proofs.Layers.{Stands, each_stands, row_visible, unnamed_hidden, visible_is}
+use Rattle.tuple_state.proofs.Layers.{Stands, each_stands, layer_parts, row_visible, unnamed_hidden, visible_is}
+use Rattle.tuple_state.proofs.Linking.{size_of}
 use Rattle.tuple_state.proofs.Lookups.{named_reversed, row_found}
 use Rattle.tuple_state.proofs.Marks.{found_layered, named_before}
 use Rattle.tuple_state.proofs.Regrowth.{each_back}
@@ -54,34 +51,23 @@ pub and_true : (b : Bool) → (b && true) ≡ b
 and_true true = refl
 and_true false = refl
 
-and_moved : (a b c : Bool) → ((a && b) && c) ≡ (a && (b && c))
-and_moved true b c = refl
-and_moved false b c = refl
-
 always : {X : Type 0} (xs : List X) → list_all (λ x. true) xs ≡ true
 always [] = refl
 always (x ∷ xs) = always xs
 
-below_limit : (keys : List ℕ) (b : ℕ) → list_all (λ k. nat_lt k b) keys ≡ true → limit_of keys ≤ b
-unfolding limit_of
-below_limit [] b h = omega arith
-below_limit (k ∷ keys) b h =
-    let parts = and_parts (nat_lt k b) _ h in
-    let rest = below_limit keys b parts.1 in
-    let here : k < b = (let e = parts.0 in grind (arith, nat_tests)) in
-    omega (arith, rest, here)
+-- whether an update of the past inserted a row, where there is one
+abbrev pub is_past : (ℕ → Bool) → Option Inserted → Bool
+is_past past None = false
+is_past past (Some it) = past it.position
 
-above_limit : (keys : List ℕ) (k : ℕ) → suc k ≤ limit_of (keys ++ k ∷ [])
-unfolding limit_of
-above_limit [] k = omega arith
-above_limit (x ∷ keys) k = let rest = above_limit keys k in omega (arith, rest)
-
-less_tests : (keys : List ℕ) (k : ℕ) → AllByRecursion (λ q. nat_cmp q k ≡ Less) keys → list_all (λ q. nat_lt q k) keys ≡ true
-less_tests [] k h = refl
-less_tests (q ∷ keys) k h = and_from _ _ (let e = h.0 in grind (arith, nat_tests)) (less_tests keys k h.1)
-
-pub below_all : (keys : List ℕ) (place n : ℕ) → list_all (λ k. nat_lt k place) keys ≡ true → place < n → list_all (λ k. nat_lt k n) keys ≡ true
-below_all keys place n h below = all_weaker (λ k. nat_lt k place) (λ k. nat_lt k n) (λ k e. grind (arith, nat_tests)) keys h
+-- each row of layered rows names by CASCADE only rows among them
+refs_named : (rules : Rules) (rows : List TableRow) → are_layered rules rows ≡ true → AllByRecursion (λ row. list_all (λ r. is_named rows r.name) (cascade_refs rules row) ≡ true) rows
+refs_named rules [] h = tt
+refs_named rules (row ∷ older) h =
+    let layer = layer_parts rules older row h in
+    let more : (e : TableRow) → list_all (λ r. is_named older r.name) (cascade_refs rules e) ≡ true → list_all (λ r. is_named (row ∷ older) r.name) (cascade_refs rules e) ≡ true =
+    λ e. all_weaker (λ r. is_named older r.name) (λ r. is_named (row ∷ older) r.name) (λ r. or_right (same_row row.name r.name) (is_named older r.name)) (cascade_refs rules e) in
+    (more row layer.refers, each-map _ _ more older (refs_named rules older layer.rest))
 
 module _ (columns : List (List Column)) (rows : List Inserted) (past : ℕ → Bool) (gone : List RowName) where
   abbrev then : Effects
@@ -130,28 +116,29 @@ module _ (columns : List (List Column)) (rows : List Inserted) (past : ℕ → B
         (λ j name found below. ap (passes_place (λ k. nat_lt k place)) found ∙ (grind (arith, nat_tests)))
         ∙ always (cascade_refs (rules_over_columns columns) (row_of it))
 
--- ---- one of the rows that are still to be looked at
+    -- what a row names by CASCADE that an update of the past inserted, updates of the past inserted
+    pub parents_past : past it.position ≡ true → list_all (λ r. passes_place (λ k. is_past past (slice_get rows k)) (place_of rows r.name)) (cascade_refs (rules_over_columns columns) (row_of it)) ≡ true
+    parents_past inside =
+        let kept : Inserted → Bool = λ (x : Inserted). past x.position in
+        let named = filtered_at (λ row. list_all (λ r. is_named then.inserted r.name) (cascade_refs (rules_over_columns columns) row) ≡ true) kept rows place it
+        (each_back _ (map row_of (filter kept rows)) (refs_named (rules_over_columns columns) then.inserted some)) at inside in
+        all_weaker (λ r. is_named then.inserted r.name) (λ r. passes_place (λ k. is_past past (slice_get rows k)) (place_of rows r.name))
+        (λ r there.
+        let p = any_filtered_at (λ (x : Inserted). same_row x.name r.name) kept rows (sym (named_reversed (filter kept rows) r.name) ∙ there) in
+        ap (λ n. passes_place (λ k. is_past past (slice_get rows k)) (place_of rows n)) (sym (row_from_same p.it.name r.name p.passes))
+        ∙ ap (passes_place (λ k. is_past past (slice_get rows k))) (found_layered (rules_over_columns columns) rows all p.place p.it p.at)
+        ∙ ap (is_past past) p.at ∙ p.kept)
+        (cascade_refs (rules_over_columns columns) (row_of it)) named
 
-module _ (before keys next : List ℕ) (place : ℕ) (popped : before ≡ keys ++ place ∷ []) where
-  popped_is : (t : ℕ → Bool) → list_all t before ≡ (list_all t keys && t place)
-  popped_is t = ap (list_all t) popped ∙ list_all-append t keys (place ∷ []) ∙ ap (λ b. list_all t keys && b) (and_true (t place))
+-- what was visible before, where it is visible now, and exactly where others were
+pub either : (now before others : Bool) → (now ≡ true → before ≡ true) → before ≡ others → before ≡ (now || others)
+either true before others lasts is = lasts refl
+either false before others lasts is = is
 
-  pub stop : (t : ℕ → Bool) (start v : Bool) → start ≡ list_all t before → t place ≡ v → v ≡ false → false ≡ start
-  stop t start v so here hidden = sym (so ∙ popped_is t ∙ and_right _ _ (here ∙ hidden))
-
-  pub go_on : (t : ℕ → Bool) (start v : Bool) → start ≡ list_all t before → t place ≡ v → list_all t next ≡ (list_all t keys && v) → start ≡ list_all t next
-  go_on t start v so here decides = so ∙ popped_is t ∙ ap (λ b. list_all t keys && b) here ∙ sym decides
-
-  module _ (lower : All (λ q. nat_cmp q place ≡ Less) keys) (stays : list_all (λ k. nat_lt k place) keys ≡ true → list_all (λ k. nat_lt k place) next ≡ true) where
-    next_below : list_all (λ k. nat_lt k place) next ≡ true
-    next_below = stays (less_tests keys place (recursion_from_All _ keys lower))
-
-    pub shrinks : limit_of next < limit_of before
-    shrinks =
-        let a = below_limit next place next_below in
-        let b = above_limit keys place in
-        let c = ap limit_of popped in
-        omega (arith, a, b, c)
-
-    pub in_range : (n : ℕ) → place < n → list_all (λ k. nat_lt k n) next ≡ true
-    in_range n below = below_all next place n next_below below
+-- all below a place is left where one below it is next
+pub next_lower : (next : Option ℕ) (keys : List ℕ) (place : ℕ) → list_all (λ k. nat_lt k place) (option_to_list next ++ keys) ≡ true → size_of next < suc place
+next_lower None keys place h = omega arith
+next_lower (Some k) keys place h =
+    let here = (and_parts (nat_lt k place) _ h).0 in
+    let below : k < place = grind (arith, nat_tests) in
+    omega (arith, below)

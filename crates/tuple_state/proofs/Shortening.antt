@@ -17,7 +17,7 @@ use Rattle.tuple_state.specs.declared.inserted.Inserted.{Inserted}
 use Rattle.tuple_state.specs.declared.links.Link.{Link}
 use Rattle.tuple_state.specs.declared.voided.Voided.{Voided}
 use Rattle.tuple_state.specs.Kept.{IsKept, are_layered, deletes_at, pairs_of, place_of}
-use Rattle.tuple_state.specs.Causes.{AreRising, absent_times, parents_from}
+use Rattle.tuple_state.specs.Causes.{AreRising, absent_times, ends_from, parents_from}
 use Rattle.tuple_state.specs.Links.{Linked, are_inside, is_of}
 use Rattle.tuple_state.specs.State.{IsStateOf, State, done_in, row_of, rules_of_state, rules_over_columns, state_of}
 use Rattle.tuple_state.proofs.Adding.{NamesRise, all_rise, names_found, news_rise, parents-append, rising_inside, rising_links}
@@ -27,12 +27,13 @@ use Rattle.tuple_state.proofs.Fronts.{Parted, closed_back, count_append, counted
 use Rattle.tuple_state.proofs.Keeping.{homed_now, layered_now}
 use Rattle.tuple_state.proofs.Lookups.{row_found}
 use Rattle.tuple_state.proofs.Raising.{unit}
+use Rattle.tuple_state.proofs.Spans.{ends-take}
 
 -- ---- the rest stays
 
-pub kept_places : (state : State) (places after_places : BTreeMap RowName ℕ) (causes : List ℕ) (children after_children deleters after_deleters : Linked) → IsKept state places causes children deleters
-    → ((name : RowName) → get name_cmp after_places name ≡ place_of state.inserted name) → after_children ≡ children → after_deleters ≡ deleters → IsKept state after_places causes after_children after_deleters
-kept_places state places after_places causes children after_children deleters after_deleters kept placed alike same = record {
+pub kept_places : (state : State) (places after_places : BTreeMap RowName ℕ) (causes : List ℕ) (children after_children deleters after_deleters : Linked) (ends : List ℕ) → IsKept state places causes children deleters ends
+    → ((name : RowName) → get name_cmp after_places name ≡ place_of state.inserted name) → after_children ≡ children → after_deleters ≡ deleters → IsKept state after_places causes after_children after_deleters ends
+kept_places state places after_places causes children after_children deleters after_deleters ends kept placed alike same = record {
   few = kept.few;
   bounded = kept.bounded;
   dated = kept.dated;
@@ -42,15 +43,16 @@ kept_places state places after_places causes children after_children deleters af
   counted = λ k. kept.counted k ∙ (λ i. count_by (is_of k) (sym same i).links + absent_times (sym alike i).links causes k);
   homes = ap (λ (d : Linked). d.size) alike ∙ kept.homes;
   named = ap (λ (d : Linked). pairs_of d.links) alike ∙ kept.named;
+  ended = kept.ended;
   rooms = ap (λ (d : Linked). d.size) same ∙ kept.rooms;
   few_children = let l = ap (λ (d : Linked). length d.links) alike in omega (arith, l, kept.few_children);
   few_deleters = let l = ap (λ (d : Linked). length d.links) same in omega (arith, l, kept.few_deleters);
   deleted = ap (λ (d : Linked). pairs_of d.links) same ∙ kept.deleted;
 }
 
-pub kept_void : (state : State) (places : BTreeMap RowName ℕ) (causes : List ℕ) (children deleters : Linked) (voids : List Voided) → IsKept state places causes children deleters → state.count < MAX_MEMBERS
-    → IsKept (record state { count = state.count + 1; voids = voids }) places causes children deleters
-kept_void state places causes children deleters voids kept few = record {
+pub kept_void : (state : State) (places : BTreeMap RowName ℕ) (causes : List ℕ) (children deleters : Linked) (ends : List ℕ) (voids : List Voided) → IsKept state places causes children deleters ends → state.count < MAX_MEMBERS
+    → IsKept (record state { count = state.count + 1; voids = voids }) places causes children deleters ends
+kept_void state places causes children deleters ends voids kept few = record {
   few = omega (arith, few);
   bounded = kept.bounded;
   dated = sooner (λ (it : Inserted). it.position) state.count (state.count + 1) (omega arith) state.inserted kept.dated;
@@ -60,6 +62,7 @@ kept_void state places causes children deleters voids kept few = record {
   counted = kept.counted;
   homes = kept.homes;
   named = kept.named;
+  ended = kept.ended;
   rooms = kept.rooms;
   few_children = kept.few_children;
   few_deleters = kept.few_deleters;
@@ -217,13 +220,13 @@ module _ (rules : Rules) (newer older : List NodeData) (state : State) (len : �
     pub children_inside : are_inside rows (take n children) ≡ true
     children_inside = rising_inside 0 rows (take n children) rising_old
 
-  pub kept_old : (places after_places : BTreeMap RowName ℕ) (causes after_causes : List ℕ) (children deleters : Linked) (rows names n : ℕ) → IsKept state places causes children deleters
+  pub kept_old : (places after_places : BTreeMap RowName ℕ) (causes after_causes : List ℕ) (children deleters : Linked) (ends : List ℕ) (rows names n : ℕ) → IsKept state places causes children deleters ends
       → rows ≡ count_by (λ (it : Inserted). nat_lt it.position len) state.inserted → names ≡ count_by (λ (it : Dropped). nat_lt it.position len) state.dropped
       → n ≡ count_by (λ (l : Link). nat_lt l.number rows) children.links
       → ((name : RowName) → get name_cmp after_places name ≡ place_of old.inserted name) → length after_causes ≡ length old.inserted
       → ((k : ℕ) → get_or after_causes k 0 ≡ count_by (is_of k) (take names deleters.links) + absent_times (take n children.links) after_causes k)
-      → IsKept old after_places after_causes (record { size = rows; links = take n children.links }) (record { size = rows; links = take names deleters.links })
-  kept_old places after_places causes after_causes children deleters rows names n kept is drops refs placed size counts = record {
+      → IsKept old after_places after_causes (record { size = rows; links = take n children.links }) (record { size = rows; links = take names deleters.links }) (take rows ends)
+  kept_old places after_places causes after_causes children deleters ends rows names n kept is drops refs placed size counts = record {
     few = let a = count_is rules older in let b = ap (λ (s : State). s.count) held.is ∙ count_is rules (newer ++ older) in let c = length-append newer older in omega (arith, a, b, c, kept.few);
     bounded = λ n.
         let whole = kept.bounded n in
@@ -236,6 +239,9 @@ module _ (rules : Rules) (newer older : List NodeData) (state : State) (len : �
     counted = counts;
     homes = rows_len rows is;
     named = named_old children.links rows n kept.named is refs;
+    ended =
+        ap (take rows) kept.ended ∙ ends-take (rules_of_state state) 0 rows state.inserted
+        ∙ (λ i. ends_from (rules_over_columns (columns_stay i)) 0 (rows_taken rows is i));
     rooms = rows_len rows is;
     few_children = let l = take_fewer n children.links in omega (arith, l, kept.few_children);
     few_deleters = let l = take_fewer names deleters.links in omega (arith, l, kept.few_deleters);

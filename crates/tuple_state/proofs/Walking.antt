@@ -1,24 +1,25 @@
 -- The rows to which CASCADE references lead.
-use Rattle.std.proofs.Common.{◌≡◌, ℕ, ◌+◌, ◌<◌, ◌≤◌, Bool, true, false, ◌&&◌, List, [], ◌∷◌, length, get_or, drop, refl, sym, ap, ◌∙◌, arith}
-use Rattle.std.specs.Prelude.{min}
+use Rattle.std.proofs.Common.{◌≡◌, ℕ, zero, suc, ◌+◌, ◌<◌, ◌≤◌, Bool, true, false, ◌&&◌, ◌||◌, List, [], ◌∷◌, length, get_or, take, nat_lt, Option, Some, None, refl, sym, ap, ◌∙◌, arith}
+use Rattle.std.specs.Prelude.{All, IfSome, slice_get}
 use Rattle.std.specs.declared.cmp.Ordering.{Ordering}
 use Rattle.std.specs.declared.cmp.Ordering.TheVariants.{Less, Equal, Greater}
-use Rattle.std.specs.Ordering.{nat_cmp, match_ordering}
+use Rattle.std.specs.Ordering.{is_lt, nat_cmp, match_ordering}
 use Rattle.std.specs.BTreeSet.{insert_key}
-use Rattle.std.specs.List.{list_all}
-use Rattle.update_model.specs.declared.row_name.RowName.{RowName}
-use Rattle.update_model.specs.declared.value.Value.{Value}
-use Rattle.schema.specs.declared.column.Column.{Column}
-use Rattle.tuple_state.specs.Parents.{all_parents, parent_in, passes}
-use Rattle.tuple_state.proofs.Marking.{parents_next, parents_end}
+use Rattle.std.specs.List.{list_all, AllByRecursion}
+use Rattle.std.proofs.lemmas.Bool.{and_from, and_parts, both_ways, false_from_ne_true, or_right}
+use Rattle.std.proofs.lemmas.Bool.Decides.{nat_tests}
+use Rattle.std.proofs.lemmas.List.{take_more}
+use Rattle.std.proofs.lemmas.List.Elements.{recursion_from_All}
+use Rattle.std.proofs.lemmas.List.Folds.{list_all-append}
+use Rattle.tuple_state.specs.declared.links.Link.{Link}
 
-and_turned : (a b : Bool) → (a && b) ≡ (b && a)
+pub and_turned : (a b : Bool) → (a && b) ≡ (b && a)
 and_turned true true = refl
 and_turned true false = refl
 and_turned false true = refl
 and_turned false false = refl
 
-and_moved : (a b c : Bool) → ((a && b) && c) ≡ (a && (b && c))
+pub and_moved : (a b c : Bool) → ((a && b) && c) ≡ (a && (b && c))
 and_moved true b c = refl
 and_moved false b c = refl
 
@@ -43,20 +44,62 @@ all_inserted test (x ∷ keys) k =
     ] in
     step (nat_cmp k x) refl
 
-pub parents_added : (test : RowName → Bool) (columns : List Column) (values : List Value) (n : ℕ) (column : Column) (v : Value) (first old new total : Bool) → n < min (length columns) (length values)
-    → column ≡ get_or columns n column → v ≡ get_or values n v
-    → (old && all_parents test (drop n columns) (drop n values)) ≡ total → new ≡ (old && passes test (parent_in column.kind v))
-    → (new && all_parents test (drop (n + 1) columns) (drop (n + 1) values)) ≡ total
-parents_added test columns values n column v first old new total below c d inv added =
-    ap (λ b. b && all_parents test (drop (n + 1) columns) (drop (n + 1) values)) added
-    ∙ and_moved old (passes test (parent_in column.kind v)) (all_parents test (drop (n + 1) columns) (drop (n + 1) values))
-    ∙ ap (λ b. old && b) (sym (parents_next test columns values n column v (omega (arith, below)) (omega (arith, below)) c d)) ∙ inv
+-- keys that an order puts below one are below it
+below_tests : (keys : List ℕ) (k : ℕ) → AllByRecursion (λ q. nat_cmp q k ≡ Less) keys → list_all (λ q. nat_lt q k) keys ≡ true
+below_tests [] k h = refl
+below_tests (q ∷ keys) k h = and_from _ _ (let e = h.0 in grind (arith, nat_tests)) (below_tests keys k h.1)
 
-and_true : (b : Bool) → (b && true) ≡ b
-and_true true = refl
-and_true false = refl
+all_below : (keys : List ℕ) (k : ℕ) → All (λ q. nat_cmp q k ≡ Less) keys → list_all (λ q. nat_lt q k) keys ≡ true
+all_below keys k h = below_tests keys k (recursion_from_All _ keys h)
 
-pub parents_done : (test : RowName → Bool) (columns : List Column) (values : List Value) (n : ℕ) (old total : Bool) → min (length columns) (length values) ≤ n
-    → (old && all_parents test (drop n columns) (drop n values)) ≡ total → old ≡ total
-parents_done test columns values n old total past inv =
-    sym (and_true old) ∙ ap (λ b. old && b) (parents_end test columns values n (all_parents test (drop n columns) (drop n values)) past refl) ∙ inv
+all_got : (test : ℕ → Bool) (keys : List ℕ) (i k : ℕ) → slice_get keys i ≡ Some k → list_all test keys ≡ true → test k ≡ true
+all_got test [] i k at h = absurd (cc)
+all_got test (x ∷ keys) zero k at h = let same : x ≡ k = cc in ap test (sym same) ∙ (and_parts (test x) (list_all test keys) h).0
+all_got test (x ∷ keys) (suc i) k at h = all_got test keys i k at (and_parts (test x) (list_all test keys) h).1
+
+up_to : (keys : List ℕ) (last place : ℕ) → AllByRecursion (λ q. is_lt (nat_cmp last q) ≡ false) keys → nat_lt last place ≡ true → list_all (λ k. nat_lt k place) keys ≡ true
+up_to [] last place h low = refl
+up_to (x ∷ keys) last place h low = and_from _ _ (let e = h.0 in grind (arith, nat_tests)) (up_to keys last place h.1 low)
+
+-- the last of some keys tells whether another comes after all of them
+pub last_tells : (keys : List ℕ) (last place i : ℕ) → slice_get keys i ≡ Some last → All (λ q. is_lt (nat_cmp last q) ≡ false) keys → nat_lt last place ≡ list_all (λ k. nat_lt k place) keys
+last_tells keys last place i at h =
+    let step : (b : Bool) → nat_lt last place ≡ b → b ≡ list_all (λ k. nat_lt k place) keys =
+    elim [
+      | true ↦ λ e. sym (up_to keys last place (recursion_from_All _ keys h) e)
+      | false ↦ λ e. sym (false_from_ne_true _ (λ all. both_ways _ e (all_got (λ k. nat_lt k place) keys i last at all)))
+    ] in
+    step (nat_lt last place) refl
+
+-- ---- the rows that are still to be looked at
+
+-- what is taken out last is above the others
+pub below_taken : (o : Option ℕ) (keys : List ℕ) → IfSome o (λ k. All (λ q. nat_cmp q k ≡ Less) keys) → IfSome o (λ k. list_all (λ q. nat_lt q k) keys ≡ true)
+below_taken None keys h = tt
+below_taken (Some k) keys h = all_below keys k h
+
+-- a test of one link
+pub only_link : (f : Link → Bool) (links : List Link) (d : Link) → 1 ≤ length links → length links < 2 → f (get_or links 0 d) ≡ list_all f links
+only_link f [] d some few = absurd (omega (arith, some))
+only_link f (x ∷ []) d some few = sym (and_turned (f x) true)
+only_link f (x ∷ y ∷ links) d some few = absurd (omega (arith, few))
+
+-- one more link
+pub link_added : (test : ℕ → Bool) (links : List Link) (n : ℕ) (d : Link) (old now next : Bool) → n < length links → now ≡ (old && list_all (λ (l : Link). test l.place) (take n links))
+    → next ≡ (now && test (get_or links n d).place) → next ≡ (old && list_all (λ (l : Link). test l.place) (take (n + 1) links))
+link_added test links n d old now next below so added =
+    let f : Link → Bool = λ l. test l.place in
+    added ∙ ap (λ b. b && f (get_or links n d)) so ∙ and_moved old (list_all f (take n links)) (f (get_or links n d))
+    ∙ ap (λ b. old && (list_all f (take n links) && b)) (sym (and_turned (f (get_or links n d)) true) ∙ refl)
+    ∙ ap (λ b. old && b) (sym (ap (list_all f) (take_more links n d below) ∙ list_all-append f (take n links) (get_or links n d ∷ [])))
+
+module _ (t : ℕ → Bool) (keys : List ℕ) (place : ℕ) (start v : Bool) (so : start ≡ list_all t (place ∷ keys)) (here : t place ≡ v) where
+  pub stop : v ≡ false → false ≡ start
+  stop hidden = sym (so ∙ ap (λ b. b && list_all t keys) (here ∙ hidden))
+
+  pub go_on : (w next : Bool) → v ≡ w → next ≡ (list_all t keys && w) → start ≡ next
+  go_on w next same added = so ∙ ap (λ b. b && list_all t keys) (here ∙ same) ∙ and_turned w (list_all t keys) ∙ sym added
+
+-- a test of all that was pending, and of what comes, is one of all that is pending then
+pub still : (before added after seen : Bool) → before ≡ true → added ≡ true → after ≡ (before && (seen || added)) → after ≡ true
+still before added after seen b a is = is ∙ and_from before (seen || added) b (or_right seen added a)

@@ -57,3 +57,8 @@ AreRising low high (link ∷ links) = (low ≤ link.number) × (link.number < hi
 unfoldable pub parents_from : Rules → ℕ → List Inserted → List Dropped
 parents_from rules place [] = []
 parents_from rules place (it ∷ rows) = map (λ r. dropped_at place r.name) (cascade_refs rules (row_of it)) ++ parents_from rules (place + 1) rows
+
+-- of these rows, for each how many names it and those before it name by CASCADE, where names number from here
+unfoldable pub ends_from : Rules → ℕ → List Inserted → List ℕ
+ends_from rules from [] = []
+ends_from rules from (it ∷ rows) = (from + length (cascade_refs rules (row_of it))) ∷ ends_from rules (from + length (cascade_refs rules (row_of it))) rows

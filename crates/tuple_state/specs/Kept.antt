@@ -10,7 +10,7 @@ use Rattle.table_model.specs.Visible.{Rules, TableRow, cascade_refs, refs, same_
 use Rattle.tuple_state.specs.declared.dropped.Dropped.{Dropped}
 use Rattle.tuple_state.specs.declared.inserted.Inserted.{Inserted}
 use Rattle.tuple_state.specs.declared.links.Link.{Link}
-use Rattle.tuple_state.specs.Causes.{absent_times, parents_from}
+use Rattle.tuple_state.specs.Causes.{absent_times, ends_from, parents_from}
 use Rattle.tuple_state.specs.Links.{Linked, is_of}
 use Rattle.tuple_state.specs.State.{State, done_in, rules_of_state}
 
@@ -40,9 +40,9 @@ pairs_of links = map (λ (link : Link). (Some link.place, link.number)) links
 abbrev pub deletes_at : (RowName → Option ℕ) → List Dropped → List (Option ℕ × ℕ)
 deletes_at place dropped = map (λ (drop : Dropped). (place drop.name, drop.position)) dropped
 
--- The rows are layered and each is found by its name. By its place the updates that delete it are found, and the rows that
--- name it by CASCADE. Its count is that of the former and of the absent rows that it names.
-pub record IsKept (state : State) (places : BTreeMap RowName ℕ) (causes : List ℕ) (children deleters : Linked) : Type 0 where
+-- The rows are layered and each is found by its name. By its place the updates that delete it are found, the rows that name it
+-- by CASCADE, and those that it names. Its count is that of the updates and of the absent rows among the latter.
+pub record IsKept (state : State) (places : BTreeMap RowName ℕ) (causes : List ℕ) (children deleters : Linked) (ends : List ℕ) : Type 0 where
   pub few : state.count ≤ MAX_MEMBERS
   pub bounded : (len : ℕ) → count_by (λ it. nat_lt it.position len) state.inserted ≤ 256 * len
   pub dated : list_all (λ it. nat_lt it.position state.count) state.inserted ≡ true
@@ -52,6 +52,7 @@ pub record IsKept (state : State) (places : BTreeMap RowName ℕ) (causes : List
   pub counted : (k : ℕ) → slice_index_or causes k 0 ≡ count_by (is_of k) deleters.links + absent_times children.links causes k
   pub homes : children.size ≡ length state.inserted
   pub named : pairs_of children.links ≡ deletes_at (place_of state.inserted) (parents_from (rules_of_state state) 0 state.inserted)
+  pub ended : ends ≡ ends_from (rules_of_state state) 0 state.inserted
   pub rooms : deleters.size ≡ length state.inserted
   pub few_children : length children.links ≤ 536870912
   pub few_deleters : length deleters.links ≤ 536870912

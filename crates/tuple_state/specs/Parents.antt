@@ -1,5 +1,5 @@
 -- The rows that a row names by CASCADE, column by column.
-use Rattle.std.specs.Prelude.{◌≡◌, ℕ, suc, max, ◌==◌, Bool, true, false, ◌&&◌, ◌||◌, List, [], ◌∷◌, ◌++◌, slice_get, unwrap_or, Option, None, Some, if◌then◌else◌}
+use Rattle.std.specs.Prelude.{◌≡◌, ℕ, ◌==◌, Bool, true, false, ◌&&◌, ◌||◌, List, [], ◌∷◌, ◌++◌, slice_get, unwrap_or, Option, None, Some, if◌then◌else◌}
 use Rattle.std.specs.List.{list_any}
 use Rattle.update_model.specs.declared.row_name.RowName.{RowName}
 use Rattle.update_model.specs.declared.value.Value.{Value}
@@ -38,17 +38,6 @@ names_in place [] values = []
 names_in place (column ∷ columns) [] = []
 names_in place (column ∷ columns) (value ∷ values) = name_in place column.kind value ++ names_in place columns values
 
--- whether a test is true of a row, where there is one
-abbrev pub passes : (RowName → Bool) → Option RowName → Bool
-passes test None = true
-passes test (Some name) = test name
-
--- whether a test is true of each row that values name by CASCADE
-unfoldable pub all_parents : (RowName → Bool) → List Column → List Value → Bool
-all_parents test [] values = true
-all_parents test (column ∷ columns) [] = true
-all_parents test (column ∷ columns) (value ∷ values) = passes test (parent_in column.kind value) && all_parents test columns values
-
 -- Each of these rows has a name that none before it has, these ones included.
 unfoldable pub AreFresh : List Inserted → List Inserted → Type 0
 AreFresh rows [] = Unit {0}
@@ -67,11 +56,6 @@ passes_place test (Some place) = test place
 abbrev pub passes_row : (RowName → Bool) → Option Inserted → Bool
 passes_row test None = false
 passes_row test (Some it) = test it.name
-
--- one more than the greatest of these, or 0
-unfoldable pub limit_of : List ℕ → ℕ
-limit_of [] = 0
-limit_of (place ∷ places) = max (suc place) (limit_of places)
 
 -- whether a reference is to this table by RESTRICT
 abbrev pub holds_on_to : ℕ → Option (ℕ × Action) → Bool

@@ -1,14 +1,14 @@
-ghost use Rattle.std.specs.Prelude.{◌≡◌, ◌<◌, true, false, ◌&&◌, IfOk, Some, length, nat_lt, slice_get};
+ghost use Rattle.std.specs.Prelude.{◌≡◌, ◌<◌, true, false, ◌&&◌, IfOk, Some, length, slice_get};
 ghost use Rattle.table_model.specs.Visible.{refs, same_row};
 ghost use Rattle.row_check.specs.declared.cmp.Cmp.TheVariants.{Eq};
 ghost use Rattle.row_check.specs.Comparisons.{compares};
 ghost use Rattle.row_check.specs.Meaning.{value_at};
 ghost use Rattle.schema.specs.Columns.{is_restrict};
 ghost use Rattle.table_model.specs.Verdicts.{in_table};
-ghost use Rattle.std.specs.List.{list_all, list_any};
+ghost use Rattle.std.specs.List.{list_any};
 ghost use Rattle.tuple_state.specs.declared.inserted.Inserted.{Inserted as Row};
 ghost use Rattle.tuple_state.specs.Kept.{are_layered, are_referred};
-ghost use Rattle.tuple_state.specs.Past.{Lasts, StandsAt, child_then, count_then, done_then, equal_then, row_then, row_visible_at, visible_at};
+ghost use Rattle.tuple_state.specs.Past.{Lasts, StandsAt, child_then, count_then, done_then, equal_then, row_then, visible_at};
 ghost use Rattle.tuple_state.specs.State.{done_in, row_of, rules_of_state};
 
 use crate::Tables;
@@ -103,58 +103,28 @@ impl<'a, A: Ancestors> At<'a, A> {
         }
     }
 
-    /// Looks at the row at a place: it is hidden then, or it is visible where the other pending rows are too, to which
-    /// the rows are added that it names by `CASCADE`. A row that is visible now names none that is hidden then.
-    fn look(
-        &self,
-        alloc: Global,
-        place: usize,
-        pending: &mut BTreeSet<usize>,
-    ) -> Result<bool, AllocError>
-        requires { place < length self.now.tables.now.inserted }
-        ensures hidden { IfOk result (λ may. may ≡ false → (it : Row) → slice_get self.now.tables.now.inserted place ≡ Some it
-            → visible_at (A.ancestor self.now.ancestors.now) self.now.tables.now self.now.position it.name ≡ false) }
-        ensures decides { IfOk result (λ may. may ≡ true → (it : Row) → slice_get self.now.tables.now.inserted place ≡ Some it
-            → list_all (row_visible_at (A.ancestor self.now.ancestors.now) self.now.tables.now self.now.position) pending.new.keys
-            ≡ (list_all (row_visible_at (A.ancestor self.now.ancestors.now) self.now.tables.now self.now.position) pending.old.keys
-            && visible_at (A.ancestor self.now.ancestors.now) self.now.tables.now self.now.position it.name)) }
-        ensures below { IfOk result (λ may. may ≡ true → list_all (λ k. nat_lt k place) pending.old.keys ≡ true → list_all (λ k. nat_lt k place) pending.new.keys ≡ true) }
-    {
-        let row = self.tables.row(place);
-        if !self
-            .ancestors
-            .is_ancestor(alloc, row.position, self.position)?
-        {
-            return Ok(false);
-        }
-        if self.tables.is_marked(place) {
-            return Ok(true);
-        }
-        if self
-            .tables
-            .is_deleted_at(alloc, place, self.ancestors, self.position)?
-        {
-            return Ok(false);
-        }
-        self.tables.add_parents(place, pending)?;
-        Ok(true)
-    }
-
     /// Whether the row at a place is visible then. A row that is visible now is, where its update is an ancestor. Of others
-    /// it looks at the rows to which `CASCADE` references lead, each once, the newest first: a row names only rows before it.
+    /// it looks at the rows to which `CASCADE` references lead, which ancestors inserted too, each once, the newest first: a
+    /// row names only rows before it.
     fn stands(&self, alloc: Global, place: usize) -> Result<bool, AllocError>
         requires { place < length self.now.tables.now.inserted }
         ensures { IfOk result (λ answer. (it : Row) → slice_get self.now.tables.now.inserted place ≡ Some it
             → answer ≡ visible_at (A.ancestor self.now.ancestors.now) self.now.tables.now self.now.position it.name) }
     {
-        let mut pending = BTreeSet::new(alloc);
-        if !self.look(alloc, place, &mut pending)? {
+        let inserted = self.tables.row(place).position;
+        if !self.ancestors.is_ancestor(alloc, inserted, self.position)? {
             return Ok(false);
         }
-        while let Some(next) = pending.pop_last() {
-            if !self.look(alloc, next, &mut pending)? {
+        let mut pending = BTreeSet::new(alloc);
+        let mut next = Some(place);
+        while let Some(place) = next {
+            if self
+                .tables
+                .is_deleted_at(alloc, place, self.ancestors, self.position)?
+            {
                 return Ok(false);
             }
+            next = self.tables.climb(place, &mut pending)?;
         }
         Ok(true)
     }

@@ -1,7 +1,7 @@
 //! The rows that name a row by `CASCADE`, by its place.
 
 ghost use Rattle.std.specs.Prelude.{◌≡◌, ◌+◌, ◌<◌, ◌^◌, ◌++◌, IfOk, OnOk, length};
-ghost use Rattle.tuple_state.specs.Causes.{parents_from};
+ghost use Rattle.tuple_state.specs.Causes.{ends_from, parents_from};
 ghost use Rattle.tuple_state.specs.Parents.{name_in, names_in};
 ghost use Rattle.tuple_state.specs.State.{rules_over_columns};
 
@@ -50,17 +50,30 @@ fn push_name(
     Ok(())
 }
 
-/// The names that these rows name by `CASCADE`, each with the place of the row that names it. Places number from a first one.
+/// What rows name by `CASCADE`.
+#[derive(Debug, Drop)]
+pub(crate) struct Parents {
+    /// The names, row by row, each with the place of the row that names it.
+    pub(crate) names: Vec<Dropped>,
+    /// Of each row the number behind those of its names.
+    pub(crate) ends: Vec<u32>,
+}
+
+/// The names that these rows name by `CASCADE`. Places number from a first one, and names from another number.
 pub(crate) fn parents_of(
     alloc: Global,
     columns: &[ColumnList],
     rows: &[Inserted],
     first: usize,
-) -> Result<Vec<Dropped>, AllocError>
+    from: usize,
+) -> Result<Parents, AllocError>
     requires few { first + length rows.now < 2 ^ 32 }
-    ensures { IfOk result (λ names. names.items ≡ parents_from (rules_over_columns columns.now) first rows.now) }
+    requires number { from < 2 ^ 32 }
+    ensures names { IfOk result (λ parents. parents.names.items ≡ parents_from (rules_over_columns columns.now) first rows.now) }
+    ensures ends { IfOk result (λ parents. parents.ends.items ≡ ends_from (rules_over_columns columns.now) from rows.now) }
 {
     let mut names = Vec::new(alloc);
+    let mut ends = Vec::with_capacity(alloc, rows.len())?;
     for number in 0..rows.len() {
         let entry = &rows[number].entry;
         if let Some(columns) = columns.get(usize::from(entry.table)) {
@@ -71,6 +84,11 @@ pub(crate) fn parents_of(
                 (first + number) as u32,
             )?;
         }
+        let end = from + names.len();
+        if end > u32::MAX as usize {
+            return Err(AllocError);
+        }
+        ends.push(end as u32)?;
     }
-    Ok(names)
+    Ok(Parents { names, ends })
 }

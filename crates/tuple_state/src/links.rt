@@ -1,6 +1,6 @@
 //! Numbers that belong to places.
 
-ghost use Rattle.std.specs.Prelude.{◌≡◌, ℕ, ◌+◌, ◌<◌, ◌≤◌, [], ◌∷◌, ◌++◌, true, None, Some, IfOk, MatchResult, length, slice_get, slice_index_or, take};
+ghost use Rattle.std.specs.Prelude.{◌≡◌, ℕ, ◌+◌, ◌-◌, ◌<◌, ◌≤◌, [], ◌∷◌, ◌++◌, true, None, Some, IfOk, MatchResult, drop, length, slice_get, slice_index_or, take};
 ghost use Rattle.std.specs.List.{list_any};
 ghost use Rattle.tuple_state.specs.declared.links.Link.{Link as Pair};
 ghost use Rattle.tuple_state.specs.Links.{IsBelow, IsLinked, are_inside, latest, numbers_from, numbers_of};
@@ -102,6 +102,15 @@ impl Links {
         ensures inside { are_inside self.now.size self.now.links ≡ true }
     {
         self.links.as_slice()
+    }
+
+    /// Some of these links, from one index on to another.
+    pub(crate) fn part(&self, from: usize, to: usize) -> &[Link]
+        requires start { from ≤ to }
+        requires end { to ≤ length self.now.links }
+        ensures { result.now ≡ take (to - from) (drop from self.now.links) }
+    {
+        &self.links.as_slice()[from..to]
     }
 
     /// Equal links on memory of their own.

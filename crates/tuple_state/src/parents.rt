@@ -1,14 +1,15 @@
 //! The rows that a row names by `CASCADE`, and the places of rows.
 
-ghost use Rattle.std.specs.Prelude.{◌≡◌, ◌+◌, ◌<◌, ◌^◌, ℕ, Bool, ◌&&◌, ◌++◌, length, OnOk, OnErr};
+ghost use Rattle.std.specs.Prelude.{◌≡◌, ◌+◌, ◌<◌, ◌^◌, ℕ, Bool, ◌&&◌, ◌++◌, length, nat_lt, option_to_list, true, [], IfNone, IfSome, OnOk, OnErr};
 ghost use Rattle.std.specs.List.{list_all};
 ghost use Rattle.std.specs.BTreeMap.{get};
 ghost use Rattle.update_model.specs.declared.row_name.RowName.{RowName as Name};
 ghost use Rattle.table_model.specs.Tables.{name_cmp};
 ghost use Rattle.tuple_state.specs.Kept.{place_of};
-ghost use Rattle.tuple_state.specs.Parents.{AreFresh, all_parents, parent_in, passes, passes_place};
+ghost use Rattle.tuple_state.specs.Parents.{AreFresh, parent_in};
 
 use crate::Inserted;
+use crate::links::Link;
 use schema::{Action, Column, ColumnKind};
 use std::alloc::AllocError;
 use std::collections::{BTreeMap, BTreeSet};
@@ -69,40 +70,31 @@ pub(crate) fn remove_places(
     }
 }
 
-/// Adds the place of the row that a value names by `CASCADE`, if it does.
-fn add_parent(
-    column: &Column,
-    value: &Value,
-    places: &BTreeMap<RowName, usize>,
-    pending: &mut BTreeSet<usize>,
-) -> Result<(), AllocError>
-    ensures { OnOk result ((test : ℕ → Bool) → list_all test pending.new.keys
-        ≡ (list_all test pending.old.keys && passes (λ name. passes_place test (get name_cmp places.now name)) (parent_in column.now.kind value.now))) }
+/// Adds the places of links.
+pub(crate) fn add_parents(links: &[Link], pending: &mut BTreeSet<usize>) -> Result<(), AllocError>
+    ensures { OnOk result ((test : ℕ → Bool) → list_all test pending.new.keys ≡ (list_all test pending.old.keys && list_all (λ link. test link.place) links.now)) }
 {
-    match parent_of(column, value) {
-        Some(name) => match places.get(&name) {
-            Some(place) => {
-                pending.insert(*place)?;
-                Ok(())
-            }
-            None => Ok(()),
-        },
-        None => Ok(()),
+    for link in links {
+        pending.insert(link.place)?;
+    }
+    Ok(())
+}
+
+/// Whether a place comes after all of these.
+pub(crate) fn comes_last(places: &BTreeSet<usize>, place: usize) -> bool
+    ensures { result ≡ list_all (λ k. nat_lt k place) places.now.keys }
+{
+    match places.last() {
+        Some(last) => *last < place,
+        None => true,
     }
 }
 
-/// Adds the places of the rows that these values name by `CASCADE`.
-pub(crate) fn add_parents(
-    columns: &[Column],
-    values: &[Value],
-    places: &BTreeMap<RowName, usize>,
-    pending: &mut BTreeSet<usize>,
-) -> Result<(), AllocError>
-    ensures { OnOk result ((test : ℕ → Bool) → list_all test pending.new.keys
-        ≡ (list_all test pending.old.keys && all_parents (λ name. passes_place test (get name_cmp places.now name)) columns.now values.now)) }
+/// Takes the last of these places out.
+pub(crate) fn take_last(places: &mut BTreeSet<usize>) -> Option<usize>
+    ensures each { (test : ℕ → Bool) → list_all test (option_to_list result ++ places.new.keys) ≡ list_all test places.old.keys }
+    ensures last { IfSome result (λ k. list_all (λ q. nat_lt q k) places.new.keys ≡ true) }
+    ensures done { IfNone result (places.new.keys ≡ []) }
 {
-    for number in 0..columns.len().min(values.len()) {
-        add_parent(&columns[number], &values[number], places, pending)?;
-    }
-    Ok(())
+    places.pop_last()
 }

@@ -1,4 +1,4 @@
-ghost use Rattle.std.specs.Prelude.{◌≡◌, ℕ, ◌+◌, ◌*◌, ◌<◌, ◌≤◌, Bool, List, [], ◌∷◌, ◌++◌, IfOk, OnOk, MatchResult, length, slice_get, vec_len, Contains, Some, true, ◌&&◌};
+ghost use Rattle.std.specs.Prelude.{◌≡◌, ℕ, ◌+◌, ◌*◌, ◌<◌, ◌≤◌, Bool, List, [], ◌∷◌, ◌++◌, IfOk, IfNone, IfSome, OnOk, MatchResult, length, map, nat_lt, option_to_list, slice_get, take, vec_len, Contains, Some, true, ◌&&◌, ◌||◌};
 ghost use Rattle.std.specs.List.{list_all, list_any};
 ghost use Rattle.std.specs.Vec.{vec_capacity};
 ghost use Rattle.table_model.specs.declared.verdict.Verdict.TheVariants.{Valid};
@@ -16,9 +16,10 @@ ghost use Rattle.schema.specs.Columns.{is_restrict};
 ghost use Rattle.validity.specs.Answers.{AreAnswers};
 ghost use Rattle.tuple_state.specs.Past.{IsNextVerdict, IsPastOf, StandsAt, done_then, effects_before};
 ghost use Rattle.tuple_state.specs.Absence.{causes_of};
-ghost use Rattle.tuple_state.specs.Kept.{are_layered, is_named, place_of};
+ghost use Rattle.tuple_state.specs.Causes.{parents_from};
+ghost use Rattle.tuple_state.specs.Kept.{are_layered, deletes_at, is_named, pairs_of, place_of};
 ghost use Rattle.tuple_state.specs.Parents.{columns_at, is_held, passes_place};
-ghost use Rattle.tuple_state.specs.State.{IsCut, IsStateOf, after, done_in, row_of, rules_of_state, voided_at};
+ghost use Rattle.tuple_state.specs.State.{IsCut, IsStateOf, after, done_in, dropped_at, row_of, rules_of_state, voided_at};
 ghost use Rattle.tuple_state.specs.declared.inserted.Inserted.{Inserted as Row};
 
 use crate::causes::{add_causes, clear, count_numbers, count_places, room_for};
@@ -26,8 +27,8 @@ use crate::children::parents_of;
 use crate::columns::{columns_of, copy_lists};
 use crate::cutting::{lines_of, names_before, numbers_before, rows_before, voids_before};
 use crate::deleters::grow_links;
-use crate::links::Links;
-use crate::parents::{add_parents, add_places, remove_places};
+use crate::links::{Link, Links};
+use crate::parents::{add_parents, add_places, comes_last, remove_places, take_last};
 use crate::restricts::{is_held, restricts};
 use crate::showing::{copy_rows, listed_rows};
 use crate::steps::{dropped_by, inserted_by};
@@ -59,12 +60,15 @@ pub struct Tables {
     causes: Vec<u32>,
     /// The deleted names in order of arrival.
     dropped: Vec<Dropped>,
-    /// To the place of each row the places of the rows that name it by `CASCADE`, once for each column.
+    /// To the place of each row the places of the rows that name it by `CASCADE`, once for each column. They come row by row
+    /// of those that name.
     children: Links,
     /// To the place of each row the positions of the updates that delete it.
     deleters: Links,
     /// The updates that do nothing, in order of arrival.
     voids: Vec<Voided>,
+    /// Of each row the index among the links of `children` that is behind those which come of it.
+    ends: Vec<u32>,
 }
 
 impl Model for Tables {
@@ -76,7 +80,7 @@ impl Model for Tables {
     ghost view = { λ t. record { columns = t.columns.items; count = t.count; inserted = t.rows.items; dropped = t.dropped.items; voids = t.voids.items } };
 
     ghost invariant = { λ t. IsKept (record { columns = t.columns.items; count = t.count; inserted = t.rows.items; dropped = t.dropped.items; voids = t.voids.items })
-        t.places t.causes.items t.children t.deleters };
+        t.places t.causes.items t.children t.deleters t.ends.items };
 }
 
 impl Tables {
@@ -95,6 +99,7 @@ impl Tables {
             children: Links::new(alloc),
             deleters: Links::new(alloc),
             voids: Vec::new(alloc),
+            ends: Vec::new(alloc),
         })
     }
 
@@ -162,26 +167,53 @@ impl Tables {
             .any_ancestor(alloc, place, ancestors, position)
     }
 
-    /// Adds the places of the rows that the row at a place names by `CASCADE`.
-    pub(crate) fn add_parents(
+    /// The number of links that come of the rows before a place.
+    fn links_before(&self, place: usize) -> usize
+        requires { place ≤ length self.now.inserted }
+        ensures { result ≡ length (parents_from (rules_of_state self.now) 0 (take place self.now.inserted)) }
+    {
+        if place == 0 {
+            0
+        } else {
+            self.ends[place - 1] as usize
+        }
+    }
+
+    /// The links that lead to the row at a place from the rows that it names by `CASCADE`, in the order of its columns.
+    fn parents(&self, place: usize) -> &[Link]
+        requires { place < length self.now.inserted }
+        ensures { (it : Row) → slice_get self.now.inserted place ≡ Some it
+            → pairs_of result.now ≡ deletes_at (place_of self.now.inserted) (map (λ r. dropped_at place r.name) (cascade_refs (rules_of_state self.now) (row_of it))) }
+    {
+        let to = self.ends[place] as usize;
+        self.children.part(self.links_before(place), to)
+    }
+
+    /// Adds to the pending places those of the rows that the row at a place names by `CASCADE`, unless it is visible now, and
+    /// takes the last one out. Where a row names one alone, which comes last, that is never added.
+    pub(crate) fn climb(
         &self,
         place: usize,
         pending: &mut BTreeSet<usize>,
-    ) -> Result<(), AllocError>
+    ) -> Result<Option<usize>, AllocError>
         requires { place < length self.now.inserted }
-        ensures { OnOk result ((it : Row) → slice_get self.now.inserted place ≡ Some it → (test : ℕ → Bool) → list_all test pending.new.keys
-            ≡ (list_all test pending.old.keys && list_all (λ r. passes_place test (place_of self.now.inserted r.name)) (cascade_refs (rules_of_state self.now) (row_of it)))) }
+        ensures each { IfOk result (λ next. (it : Row) → slice_get self.now.inserted place ≡ Some it → (test : ℕ → Bool) → list_all test (option_to_list next ++ pending.new.keys)
+            ≡ (list_all test pending.old.keys && (is_visible (rules_of_state self.now) (done_in self.now) it.name
+            || list_all (λ r. passes_place test (place_of self.now.inserted r.name)) (cascade_refs (rules_of_state self.now) (row_of it))))) }
+        ensures last { IfOk result (λ next. IfSome next (λ k. list_all (λ q. nat_lt q k) pending.new.keys ≡ true)) }
+        ensures done { IfOk result (λ next. IfNone next (pending.new.keys ≡ [])) }
     {
-        let entry = &self.rows[place].entry;
-        match self.columns.get(usize::from(entry.table)) {
-            Some(columns) => add_parents(
-                columns.as_slice(),
-                entry.values.as_slice(),
-                &self.places,
-                pending,
-            ),
-            None => Ok(()),
+        if self.is_marked(place) {
+            return Ok(take_last(pending));
         }
+        let parents = self.parents(place);
+        if let [only] = parents {
+            if comes_last(pending, only.place) {
+                return Ok(Some(only.place));
+            }
+        }
+        add_parents(parents, pending)?;
+        Ok(take_last(pending))
     }
 
     /// How many rows were inserted, whether they are visible or not: their places are below this number. No update has more
@@ -243,7 +275,8 @@ impl Tables {
         let first = self.rows.len();
         let more = inserted.len();
         let columns = self.columns.as_slice();
-        let parents = parents_of(self.alloc, columns, inserted.as_slice(), first)?;
+        let len = self.children.len();
+        let mut parents = parents_of(self.alloc, columns, inserted.as_slice(), first, len)?;
         let mut pending = room_for(self.alloc, dropped.len(), first + more)?;
         make_room(
             &mut self.rows,
@@ -252,6 +285,7 @@ impl Tables {
             more,
             dropped.len(),
         )?;
+        self.ends.reserve(more)?;
         add_places(&mut self.places, self.rows.as_slice(), inserted.as_slice())?;
         let grown = grow_links(
             self.alloc,
@@ -260,7 +294,7 @@ impl Tables {
             &self.places,
             first,
             more,
-            parents.as_slice(),
+            parents.names.as_slice(),
             dropped.as_slice(),
         );
         match grown {
@@ -276,6 +310,7 @@ impl Tables {
         }
         self.rows.append(&mut inserted).unwrap();
         self.dropped.append(&mut dropped).unwrap();
+        self.ends.append(&mut parents.ends).unwrap();
         self.count += 1;
         Ok(())
     }
@@ -300,6 +335,7 @@ impl Tables {
         self.dropped.truncate(names);
         self.voids.truncate(voids);
         self.causes.truncate(rows);
+        self.ends.truncate(rows);
         self.count = len;
         let causes = self.causes.as_mut_slice();
         clear(causes);
@@ -408,6 +444,7 @@ impl Tables {
             children: self.children.copy(alloc)?,
             deleters: self.deleters.copy(alloc)?,
             voids: Vec::from_slice(alloc, self.voids.as_slice())?,
+            ends: Vec::from_slice(alloc, self.ends.as_slice())?,
         })
     }
 

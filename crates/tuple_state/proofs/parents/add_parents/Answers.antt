@@ -1,13 +1,9 @@
-use Rattle.std.proofs.Common.{◌<◌, ◌≤◌, true, subst}
-use Rattle.tuple_state.proofs.Walking.{parents_added, parents_done}
+use Rattle.std.proofs.Common.{ap, ◌∙◌}
+use Rattle.std.specs.List.{list_all}
+use Rattle.tuple_state.proofs.Walking.{all_inserted, link_added}
 use Rattle.tuple_state.proofs.parents.add_parents.Goals as goal
 
-pub loop-number-preserved : goal.loop-number-preserved
-loop-number-preserved c test =
-    parents_added _ c.args.columns.now c.args.values.now c.loop-number.number c.index-columns-number.result c.index-values-number.result true _ _ _
-    (subst (λ n. c.loop-number.number < n) c.min-number-end.ensures c.loop-number-test.true) c.index-columns-number.is c.index-values-number.is (c.loop-number.invariant test)
-    (c.in_ok-add_parent.ensures test)
-
-pub returns : goal.returns
-returns c test =
-    parents_done _ c.args.columns.now c.args.values.now c.loop-number.number _ _ (subst (λ n. n ≤ c.loop-number.number) c.min-number-end.ensures c.loop-number-test.false) (c.loop-number.invariant test)
+pub loop-link-preserved : goal.loop-link-preserved
+loop-link-preserved c test =
+    link_added test c.args.links.now c.loop-link.link-index _ _ _ _ c.loop-link-test.true (c.loop-link.invariant test)
+    (ap (list_all test) c.in_ok-insert.ensures.keys ∙ all_inserted test c.loop-link.pending.keys _)

@@ -28,6 +28,7 @@ invariant_of-result c =
     λ i. record { columns = columns i; count = inside.count; inserted = rows i; dropped = dropped i; voids = voids i } in
     let placed : (name : RowName) → get name_cmp c.add_places.new.places name ≡ place_of inside.rows.items name =
     λ name. c.in_ok-add_places.ensures.ok name ∙ ap (λ (l : List Inserted). place_of l name) (c.as_slice-3.ensures.value ∙ rows) in
-    subst (λ (s : State). IsKept s c.add_places.new.places c.in_ok-from_slice.field-0.items c.in_ok-copy.field-0 c.in_ok-copy-2.field-0) (sym whole)
-    (subst (λ (l : List ℕ). IsKept state c.add_places.new.places l c.in_ok-copy.field-0 c.in_ok-copy-2.field-0) (sym causes)
-    (kept_places state inside.places c.add_places.new.places inside.causes.items inside.children c.in_ok-copy.field-0 inside.deleters c.in_ok-copy-2.field-0 c.self.invariant placed c.in_ok-copy.ensures c.in_ok-copy-2.ensures))
+    subst (λ (s : State). IsKept s c.add_places.new.places c.in_ok-from_slice.field-0.items c.in_ok-copy.field-0 c.in_ok-copy-2.field-0 c.in_ok-from_slice-4.field-0.items) (sym whole)
+    (subst (λ (l : List ℕ). IsKept state c.add_places.new.places l c.in_ok-copy.field-0 c.in_ok-copy-2.field-0 c.in_ok-from_slice-4.field-0.items) (sym causes)
+    (subst (IsKept state c.add_places.new.places inside.causes.items c.in_ok-copy.field-0 c.in_ok-copy-2.field-0) (sym (c.in_ok-from_slice-4.ensures.items ∙ c.as_slice-7.ensures.value))
+    (kept_places state inside.places c.add_places.new.places inside.causes.items inside.children c.in_ok-copy.field-0 inside.deleters c.in_ok-copy-2.field-0 inside.ends.items c.self.invariant placed c.in_ok-copy.ensures c.in_ok-copy-2.ensures)))

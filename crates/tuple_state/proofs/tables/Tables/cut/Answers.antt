@@ -125,8 +125,8 @@ invariant_of-self c =
     let e = ap (λ (l : List Link). count_by (is_of k) l) links2 in
     let f = ap (λ (l : List Link). absent_times l c.count_numbers.new.causes k) links3 in
     omega (arith, a, b, d, e, f) in
-    subst (λ (s : State). IsKept s c.remove_places.new.places (take c.truncate-4.new.self.len (c.count_numbers.new.causes ++ drop (length c.count_numbers.new.causes) c.truncate-4.new.self.items)) c.cut-2.new.self c.cut.new.self)
+    subst (λ (s : State). IsKept s c.remove_places.new.places (take c.truncate-4.new.self.len (c.count_numbers.new.causes ++ drop (length c.count_numbers.new.causes) c.truncate-4.new.self.items)) c.cut-2.new.self c.cut.new.self c.truncate-5.new.self.items)
     (sym (left c it.rules it.newer it.older it.is it.at))
-    (rw (front, c.cut.ensures, c.cut-2.ensures)
-    (kept_old it.rules it.newer it.older state c.args.len held it.at inside.places c.remove_places.new.places inside.causes.items c.count_numbers.new.causes inside.children inside.deleters n c.names_before-names.result c.numbers_before-parents.result
+    (rw (front, c.cut.ensures, c.cut-2.ensures, c.truncate-5.ensures.items)
+    (kept_old it.rules it.newer it.older state c.args.len held it.at inside.places c.remove_places.new.places inside.causes.items c.count_numbers.new.causes inside.children inside.deleters inside.ends.items n c.names_before-names.result c.numbers_before-parents.result
     c.self.invariant rows_is names_is refs_is placed (c.count_numbers.auto.causes ∙ size ∙ len_old) counts))

@@ -10,7 +10,7 @@ use Rattle.tuple_state.specs.declared.dropped.Dropped.{Dropped}
 use Rattle.tuple_state.specs.State.{State, dropped_at, inserted_at, rules_of_state, rules_over_columns}
 use Rattle.std.specs.BTreeMap.{get}
 use Rattle.table_model.specs.Tables.{name_cmp}
-use Rattle.tuple_state.specs.Causes.{AreRising, absent_times, parents_from}
+use Rattle.tuple_state.specs.Causes.{AreRising, absent_times, ends_from, parents_from}
 use Rattle.tuple_state.specs.Kept.{deletes_at, pairs_of, place_of}
 use Rattle.tuple_state.specs.Links.{Linked, is_of}
 use Rattle.tuple_state.specs.declared.links.Link.{Link}
@@ -22,6 +22,7 @@ use Rattle.tuple_state.proofs.Adding.{rising_lower}
 use Rattle.tuple_state.proofs.Raising.{absent_fewer}
 use Rattle.tuple_state.proofs.Lookups.{row_found}
 use Rattle.tuple_state.proofs.Marks.{fresh_layered}
+use Rattle.tuple_state.proofs.Spans.{ends-length}
 use Rattle.tuple_state.proofs.tables.Tables.keep_valid.Goals as goal
 
 pub parents_of-requires : goal.parents_of-requires
@@ -34,9 +35,12 @@ parents_of-requires c =
     let first : c.len-first.result ≡ length inside.rows.items = omega (arith, c.len-first.ensures) in
     let few = few_rows inside.rows.items inside.count c.self.invariant.dated c.self.invariant.bounded in
     let most = c.self.invariant.few in
-    let more = news_few state c.args.node inside.places inside.causes.items inside.children inside.deleters c.self.invariant next small in
+    let more = news_few state c.args.node inside.places inside.causes.items inside.children inside.deleters inside.ends.items c.self.invariant next small in
     let slice = ap length (c.as_slice.ensures.value ∙ c.in_ok-inserted.ensures) in
-    record { few = omega (arith, first, few, most, more, slice) }
+    record {
+      few = omega (arith, first, few, most, more, slice);
+      number = omega (arith, c.len-len.ensures.len, c.self.invariant.few_children);
+    }
 
 pub add_places-requires-clause-fresh : goal.add_places-requires-clause-fresh
 add_places-requires-clause-fresh c =
@@ -45,14 +49,14 @@ add_places-requires-clause-fresh c =
     let next = subst (λ (s : State). IsNextVerdict s c.args.node verdict.Valid) (sym c.self.view_is) c.requires.next in
     let news = map (inserted_at inside.count) (reverse (effects_of c.args.node).inserted) in
     rw (c.as_slice-2.ensures.value, c.make_room.ensures.rows, c.as_slice-3.ensures.value, c.in_ok-inserted.ensures)
-    (fresh_layered _ inside.rows.items _ (layered_next state c.args.node inside.places inside.causes.items inside.children inside.deleters c.self.invariant next))
+    (fresh_layered _ inside.rows.items _ (layered_next state c.args.node inside.places inside.causes.items inside.children inside.deleters inside.ends.items c.self.invariant next))
 
 pub invariant_of-self-in_err-add_places : goal.invariant_of-self-in_err-add_places
 invariant_of-self-in_err-add_places c =
     let inside = c.self.inside in
     let state : State = record { columns = inside.columns.items; count = inside.count; inserted = inside.rows.items; dropped = inside.dropped.items; voids = inside.voids.items } in
-    rw (c.make_room.ensures.rows, c.make_room.ensures.causes, c.make_room.ensures.dropped)
-    (kept_places state inside.places c.add_places.new.places inside.causes.items inside.children inside.children inside.deleters inside.deleters c.self.invariant
+    rw (c.make_room.ensures.rows, c.make_room.ensures.causes, c.make_room.ensures.dropped, c.reserve.ensures.items)
+    (kept_places state inside.places c.add_places.new.places inside.causes.items inside.children inside.children inside.deleters inside.deleters inside.ends.items c.self.invariant
     (rw (c.as_slice-2.ensures.value, c.make_room.ensures.rows) at c.in_err-add_places.ensures.err) refl refl)
 
 pub grow_links-grown-requires-clause-named : goal.grow_links-grown-requires-clause-named
@@ -63,10 +67,10 @@ grow_links-grown-requires-clause-named c =
     let news = map (inserted_at inside.count) (reverse (effects_of c.args.node).inserted) in
     let first : c.len-first.result ≡ length inside.rows.items = omega (arith, c.len-first.ensures) in
     let placed = rw (c.as_slice-2.ensures.value, c.make_room.ensures.rows, c.as_slice-3.ensures.value, c.in_ok-inserted.ensures) at c.in_ok-add_places.ensures.ok in
-    let parents_are : c.in_ok-parents.parents.items ≡ parents_from (rules_of_state state) (length inside.rows.items) news =
-    c.in_ok-parents.ensures ∙ (λ i. parents_from (rules_over_columns (c.as_slice-columns.ensures.value i)) (first i) ((c.as_slice.ensures.value ∙ c.in_ok-inserted.ensures) i)) in
+    let parents_are : c.in_ok-parents.parents.names.items ≡ parents_from (rules_of_state state) (length inside.rows.items) news =
+    c.in_ok-parents.ensures.names ∙ (λ i. parents_from (rules_over_columns (c.as_slice-columns.ensures.value i)) (first i) ((c.as_slice.ensures.value ∙ c.in_ok-inserted.ensures) i)) in
     rw (c.as_slice-4.ensures.value, parents_are)
-    (all_same placed (parents_from (rules_of_state state) (length inside.rows.items) news) ∙ parents_found state c.args.node inside.places inside.causes.items inside.children inside.deleters c.self.invariant next)
+    (all_same placed (parents_from (rules_of_state state) (length inside.rows.items) news) ∙ parents_found state c.args.node inside.places inside.causes.items inside.children inside.deleters inside.ends.items c.self.invariant next)
 
 pub grow_links-grown-requires-clause-found : goal.grow_links-grown-requires-clause-found
 grow_links-grown-requires-clause-found c =
@@ -76,7 +80,7 @@ grow_links-grown-requires-clause-found c =
     let news = map (inserted_at inside.count) (reverse (effects_of c.args.node).inserted) in
     let placed = rw (c.as_slice-2.ensures.value, c.make_room.ensures.rows, c.as_slice-3.ensures.value, c.in_ok-inserted.ensures) at c.in_ok-add_places.ensures.ok in
     rw (c.as_slice-5.ensures.value, c.in_ok-dropped.ensures)
-    (all_same placed (map (dropped_at inside.count) (reverse (effects_of c.args.node).deleted)) ∙ drops_there state c.args.node inside.places inside.causes.items inside.children inside.deleters c.self.invariant next)
+    (all_same placed (map (dropped_at inside.count) (reverse (effects_of c.args.node).deleted)) ∙ drops_there state c.args.node inside.places inside.causes.items inside.children inside.deleters inside.ends.items c.self.invariant next)
 
 pub grow_links-grown-requires-clause-inside : goal.grow_links-grown-requires-clause-inside
 grow_links-grown-requires-clause-inside c name place at =
@@ -99,8 +103,8 @@ add_causes-requires-clause-rising c =
     let news = map (inserted_at inside.count) (reverse (effects_of c.args.node).inserted) in
     let first : c.len-first.result ≡ length inside.rows.items = omega (arith, c.len-first.ensures) in
     let placed = rw (c.as_slice-2.ensures.value, c.make_room.ensures.rows, c.as_slice-3.ensures.value, c.in_ok-inserted.ensures) at c.in_ok-add_places.ensures.ok in
-    let parents_are : c.in_ok-parents.parents.items ≡ parents_from (rules_of_state state) (length inside.rows.items) news =
-    c.in_ok-parents.ensures ∙ (λ i. parents_from (rules_over_columns (c.as_slice-columns.ensures.value i)) (first i) ((c.as_slice.ensures.value ∙ c.in_ok-inserted.ensures) i)) in
+    let parents_are : c.in_ok-parents.parents.names.items ≡ parents_from (rules_of_state state) (length inside.rows.items) news =
+    c.in_ok-parents.ensures.names ∙ (λ i. parents_from (rules_over_columns (c.as_slice-columns.ensures.value i)) (first i) ((c.as_slice.ensures.value ∙ c.in_ok-inserted.ensures) i)) in
     let refs = c.in-Ok.added.parents.items in
     let refs_are : pairs_of refs ≡ deletes_at (place_of (inside.rows.items ++ news)) (parents_from (rules_of_state state) (length inside.rows.items) news) =
     c.in-Ok.ensures.parents ∙ ap (deletes_at (get name_cmp c.add_places.new.places)) (c.as_slice-4.ensures.value ∙ parents_are) ∙ pairs_same placed (parents_from (rules_of_state state) (length inside.rows.items) news) in
@@ -115,7 +119,7 @@ add_causes-requires-clause-rising c =
     omega (arith, a, b, d, e, c.self.invariant.each)) in
     let children_are : c.grow_links-grown.new.children.links ≡ inside.children.links ++ refs = ap (λ (d : Linked). d.links) c.in-Ok.ensures.children in
     subst (λ (l : List Link). AreRising 0 (length c.as_mut_slice-causes.result.now) l) (sym children_are)
-    (subst (λ m. AreRising 0 m (inside.children.links ++ refs)) (sym len) (rising_next state c.args.node inside.places inside.causes.items inside.children inside.deleters c.self.invariant next refs refs_are))
+    (subst (λ m. AreRising 0 m (inside.children.links ++ refs)) (sym len) (rising_next state c.args.node inside.places inside.causes.items inside.children inside.deleters inside.ends.items c.self.invariant next refs refs_are))
 
 pub add_causes-requires-clause-parents : goal.add_causes-requires-clause-parents
 add_causes-requires-clause-parents c =
@@ -125,8 +129,8 @@ add_causes-requires-clause-parents c =
     let news = map (inserted_at inside.count) (reverse (effects_of c.args.node).inserted) in
     let first : c.len-first.result ≡ length inside.rows.items = omega (arith, c.len-first.ensures) in
     let placed = rw (c.as_slice-2.ensures.value, c.make_room.ensures.rows, c.as_slice-3.ensures.value, c.in_ok-inserted.ensures) at c.in_ok-add_places.ensures.ok in
-    let parents_are : c.in_ok-parents.parents.items ≡ parents_from (rules_of_state state) (length inside.rows.items) news =
-    c.in_ok-parents.ensures ∙ (λ i. parents_from (rules_over_columns (c.as_slice-columns.ensures.value i)) (first i) ((c.as_slice.ensures.value ∙ c.in_ok-inserted.ensures) i)) in
+    let parents_are : c.in_ok-parents.parents.names.items ≡ parents_from (rules_of_state state) (length inside.rows.items) news =
+    c.in_ok-parents.ensures.names ∙ (λ i. parents_from (rules_over_columns (c.as_slice-columns.ensures.value i)) (first i) ((c.as_slice.ensures.value ∙ c.in_ok-inserted.ensures) i)) in
     let refs = c.in-Ok.added.parents.items in
     let refs_are : pairs_of refs ≡ deletes_at (place_of (inside.rows.items ++ news)) (parents_from (rules_of_state state) (length inside.rows.items) news) =
     c.in-Ok.ensures.parents ∙ ap (deletes_at (get name_cmp c.add_places.new.places)) (c.as_slice-4.ensures.value ∙ parents_are) ∙ pairs_same placed (parents_from (rules_of_state state) (length inside.rows.items) news) in
@@ -140,7 +144,7 @@ add_causes-requires-clause-parents c =
     (let a = ap length whole in let b = length-append inside.causes.items (replicate (length news) 0) in let d = length-replicate {A = ℕ} (length news) 0 in let e = length-append inside.rows.items news in
     omega (arith, a, b, d, e, c.self.invariant.each)) in
     subst (λ m. AreRising 0 m refs) (sym len)
-    (rising_lower (length inside.rows.items) 0 (length (inside.rows.items ++ news)) refs (omega arith) (refs_rising state c.args.node inside.places inside.causes.items inside.children inside.deleters c.self.invariant next refs refs_are))
+    (rising_lower (length inside.rows.items) 0 (length (inside.rows.items ++ news)) refs (omega arith) (refs_rising state c.args.node inside.places inside.causes.items inside.children inside.deleters inside.ends.items c.self.invariant next refs refs_are))
 
 pub add_causes-requires-clause-dropped : goal.add_causes-requires-clause-dropped
 add_causes-requires-clause-dropped c =
@@ -219,7 +223,7 @@ add_causes-requires-clause-few c k =
     let deleters_are : c.grow_links-grown.new.deleters.links ≡ inside.deleters.links ++ names = ap (λ (d : Linked). d.links) c.in-Ok.ensures.deleters in
     let new = c.grow_links-grown.new.children.links in
     let pad = inside.causes.items ++ replicate (length news) 0 in
-    let count = ap (λ (l : List ℕ). get_or l k 0) whole ∙ padded_counts state c.args.node inside.places inside.causes.items inside.children inside.deleters c.self.invariant next (length news) k in
+    let count = ap (λ (l : List ℕ). get_or l k 0) whole ∙ padded_counts state c.args.node inside.places inside.causes.items inside.children inside.deleters inside.ends.items c.self.invariant next (length news) k in
     let absent = absent_fewer inside.children.links pad k in
     let known = count_by-le-length (λ (link : Link). link.number == k) inside.children.links in
     let added = count_by-le-length (λ (link : Link). link.number == k) refs in
@@ -237,14 +241,14 @@ remove_places-requires-clause-fresh c =
     let next = subst (λ (s : State). IsNextVerdict s c.args.node verdict.Valid) (sym c.self.view_is) c.requires.next in
     let news = map (inserted_at inside.count) (reverse (effects_of c.args.node).inserted) in
     rw (c.as_slice-in-Err.ensures.value, c.make_room.ensures.rows, c.as_slice-in-Err-2.ensures.value, c.in_ok-inserted.ensures)
-    (fresh_layered _ inside.rows.items _ (layered_next state c.args.node inside.places inside.causes.items inside.children inside.deleters c.self.invariant next))
+    (fresh_layered _ inside.rows.items _ (layered_next state c.args.node inside.places inside.causes.items inside.children inside.deleters inside.ends.items c.self.invariant next))
 
 pub invariant_of-self-in-Err : goal.invariant_of-self-in-Err
 invariant_of-self-in-Err c =
     let inside = c.self.inside in
     let state : State = record { columns = inside.columns.items; count = inside.count; inserted = inside.rows.items; dropped = inside.dropped.items; voids = inside.voids.items } in
-    rw (c.make_room.ensures.rows, c.make_room.ensures.causes, c.make_room.ensures.dropped)
-    (kept_places state inside.places c.remove_places.new.places inside.causes.items inside.children c.grow_links-grown.new.children inside.deleters c.grow_links-grown.new.deleters c.self.invariant
+    rw (c.make_room.ensures.rows, c.make_room.ensures.causes, c.make_room.ensures.dropped, c.reserve.ensures.items)
+    (kept_places state inside.places c.remove_places.new.places inside.causes.items inside.children c.grow_links-grown.new.children inside.deleters c.grow_links-grown.new.deleters inside.ends.items c.self.invariant
     (rw (c.as_slice-in-Err.ensures.value, c.make_room.ensures.rows) at c.remove_places.ensures) c.in-Err.ensures.children c.in-Err.ensures.deleters)
 
 pub invariant_of-self-2 : goal.invariant_of-self-2
@@ -256,8 +260,8 @@ invariant_of-self-2 c =
     let small = subst (λ (n : NodeData). IsNode n) c.node.view_is c.node.invariant in
     let first : c.len-first.result ≡ length inside.rows.items = omega (arith, c.len-first.ensures) in
     let placed = rw (c.as_slice-2.ensures.value, c.make_room.ensures.rows, c.as_slice-3.ensures.value, c.in_ok-inserted.ensures) at c.in_ok-add_places.ensures.ok in
-    let parents_are : c.in_ok-parents.parents.items ≡ parents_from (rules_of_state state) (length inside.rows.items) news =
-    c.in_ok-parents.ensures ∙ (λ i. parents_from (rules_over_columns (c.as_slice-columns.ensures.value i)) (first i) ((c.as_slice.ensures.value ∙ c.in_ok-inserted.ensures) i)) in
+    let parents_are : c.in_ok-parents.parents.names.items ≡ parents_from (rules_of_state state) (length inside.rows.items) news =
+    c.in_ok-parents.ensures.names ∙ (λ i. parents_from (rules_over_columns (c.as_slice-columns.ensures.value i)) (first i) ((c.as_slice.ensures.value ∙ c.in_ok-inserted.ensures) i)) in
     let refs = c.in-Ok.added.parents.items in
     let refs_are : pairs_of refs ≡ deletes_at (place_of (inside.rows.items ++ news)) (parents_from (rules_of_state state) (length inside.rows.items) news) =
     c.in-Ok.ensures.parents ∙ ap (deletes_at (get name_cmp c.add_places.new.places)) (c.as_slice-4.ensures.value ∙ parents_are) ∙ pairs_same placed (parents_from (rules_of_state state) (length inside.rows.items) news) in
@@ -281,16 +285,26 @@ invariant_of-self-2 c =
     let front : take c.resize.new.self.len (c.add_causes.new.causes ++ drop (length c.add_causes.new.causes) c.resize.new.self.items) ≡ c.add_causes.new.causes =
     take_at c.add_causes.new.causes (drop (length c.add_causes.new.causes) c.resize.new.self.items) c.resize.new.self.len (c.add_causes.auto.causes ∙ c.as_mut_slice-causes.ensures.len) in
     let before : (k : ℕ) → get_or c.as_mut_slice-causes.result.now k 0 ≡ count_by (is_of k) inside.deleters.links + absent_times inside.children.links c.as_mut_slice-causes.result.now k =
-    subst (λ (l : List ℕ). (k : ℕ) → get_or l k 0 ≡ count_by (is_of k) inside.deleters.links + absent_times inside.children.links l k) (sym whole) (padded_counts state c.args.node inside.places inside.causes.items inside.children inside.deleters c.self.invariant next (length news)) in
+    subst (λ (l : List ℕ). (k : ℕ) → get_or l k 0 ≡ count_by (is_of k) inside.deleters.links + absent_times inside.children.links l k) (sym whole) (padded_counts state c.args.node inside.places inside.causes.items inside.children inside.deleters inside.ends.items c.self.invariant next (length news)) in
     let counts : (k : ℕ) → get_or c.add_causes.new.causes k 0 ≡ count_by (is_of k) (inside.deleters.links ++ names) + absent_times (inside.children.links ++ refs) c.add_causes.new.causes k =
     λ k.
     c.add_causes.ensures (length inside.rows.items) inside.children.links inside.deleters.links children_are
-    (subst (λ m. AreRising (length inside.rows.items) m refs) (sym len) (refs_rising state c.args.node inside.places inside.causes.items inside.children inside.deleters c.self.invariant next refs refs_are)) (known_inside state c.args.node inside.places inside.causes.items inside.children inside.deleters c.self.invariant next) before k
+    (subst (λ m. AreRising (length inside.rows.items) m refs) (sym len) (refs_rising state c.args.node inside.places inside.causes.items inside.children inside.deleters inside.ends.items c.self.invariant next refs refs_are)) (known_inside state c.args.node inside.places inside.causes.items inside.children inside.deleters inside.ends.items c.self.invariant next) before k
     ∙ ap (λ (l : List Link). count_by (is_of k) (inside.deleters.links ++ names) + absent_times l c.add_causes.new.causes k) children_are in
     let all_len = length-append inside.rows.items news in
     let child_len = ap length children_are in
     let gone_len = ap length deleters_are in
-    rw (rows, gone, front, c.in-Ok.ensures.children, c.in-Ok.ensures.deleters)
-    (kept_next state c.args.node inside.places inside.causes.items inside.children inside.deleters c.self.invariant next refs refs_are small c.add_places.new.places (c.len-first.result + c.len-more.result) c.add_causes.new.causes names placed names_are
+    let ended = rw (c.unwrap-4.ensures, c.reserve.ensures.items) at c.append-3.ensures.items in
+    let more_ends : c.in_ok-parents.parents.ends.items ≡ ends_from (rules_of_state state) (length inside.children.links) news =
+    c.in_ok-parents.ensures.ends ∙ (λ i. ends_from (rules_over_columns (c.as_slice-columns.ensures.value i)) (c.len-len.ensures.len i) ((c.as_slice.ensures.value ∙ c.in_ok-inserted.ensures) i)) in
+    rw (rows, gone, front, ended, c.in-Ok.ensures.children, c.in-Ok.ensures.deleters)
+    (kept_next state c.args.node inside.places inside.causes.items inside.children inside.deleters inside.ends.items c.self.invariant next refs refs_are small c.add_places.new.places (c.len-first.result + c.len-more.result) c.add_causes.new.causes c.in_ok-parents.parents.ends.items names placed names_are more_ends
     (omega (arith, first, c.len-more.ensures, news_len, all_len)) (c.add_causes.auto.causes ∙ len)
     (omega (arith, child_len, c.grow_links-grown.ensures.few_children)) (omega (arith, gone_len, c.grow_links-grown.ensures.few_deleters)) counts)
+
+pub unwrap-requires-4 : goal.unwrap-requires-4
+unwrap-requires-4 c =
+    let inside = c.self.inside in
+    let long = ap length c.in_ok-parents.ensures.ends ∙ ends-length (rules_over_columns c.as_slice-columns.result.now) c.len-len.result c.as_slice.result.now in
+    let news = ap length (c.as_slice.ensures.value) in
+    c.append-3.ensures.succeeds (omega (arith, long, news, c.len-more.ensures, c.in_ok-reserve.ensures.ok))

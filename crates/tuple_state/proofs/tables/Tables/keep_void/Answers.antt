@@ -10,4 +10,4 @@ invariant_of-self-2 c =
     let state : State = record { columns = inside.columns.items; count = inside.count; inserted = inside.rows.items; dropped = inside.dropped.items; voids = inside.voids.items } in
     let count = ap (λ (s : State). s.count) c.self.view_is in
     let few : c.args.self.now.count < MAX_MEMBERS = c.requires.few in
-    kept_void state inside.places inside.causes.items inside.children inside.deleters _ c.self.invariant (omega (arith, few, count))
+    kept_void state inside.places inside.causes.items inside.children inside.deleters inside.ends.items _ c.self.invariant (omega (arith, few, count))

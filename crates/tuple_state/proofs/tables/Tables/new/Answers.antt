@@ -4,7 +4,7 @@ use Rattle.tuple_state.proofs.tables.Tables.new.Goals as goal
 
 pub invariant_of-result : goal.invariant_of-result
 invariant_of-result c =
-    rw (c.new.ensures.items, c.new-3.ensures.items, c.new-4.ensures.items, c.new-7.ensures.items)
+    rw (c.new.ensures.items, c.new-3.ensures.items, c.new-4.ensures.items, c.new-7.ensures.items, c.new-8.ensures.items)
     (kept_new c.in_ok-columns_of.field-0.items c.new-2.result c.new-5.result c.new-6.result c.new-2.ensures.empty c.new-5.ensures c.new-6.ensures)
 
 pub returns : goal.returns
