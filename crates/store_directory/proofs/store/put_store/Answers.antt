@@ -6,6 +6,13 @@ use Rattle.store_directory.specs.Holding.{OpenData, PutsStore}
 use Rattle.store_directory.proofs.Putting.{out_still, puts_store, told}
 use Rattle.store_directory.proofs.store.put_store.Goals as goal
 
+pub put_back-requires : goal.put_back-requires
+put_back-requires g c tells = (
+  slot c.args.dir.now Updates,
+  ap (λ (d : DiskState). d.slot) c.into_parts-log.ensures.state ∙ ap (λ (o : OpenData). o.replica.log.disk.slot) c.store.view_is ∙ (c.requires.updates_of tells).0,
+  (c.requires.updates_of tells).1,
+)
+
 pub put_back-requires-2 : goal.put_back-requires-2
 put_back-requires-2 g c tells =
     let before = g.H.Shelf.state c.args.shelf.now in
