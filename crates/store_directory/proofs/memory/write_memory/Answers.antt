@@ -1,6 +1,4 @@
-use Rattle.std.proofs.Common.{◌≡◌, ◌∙◌, refl, sym, ap, subst, IsTrue, OnOk, Ok, Err}
 use Rattle.bec_disk.specs.declared.part.Part.TheVariants.{Peers}
-use Rattle.bec_disk.specs.Slot.{slot}
 use Rattle.store_directory.proofs.Making.{made_others, made_written}
 use Rattle.store_directory.proofs.memory.write_memory.Goals as goal
 
