@@ -1,7 +1,7 @@
 //! The program `bec`: it makes the real objects, calls [`bec_node::run`], and ends with its status.
 #![tactic(auto)]
 
-use bec_host::{FileShelf, HashRng, HostSink, HostSource, TcpNet};
+use bec_host::{FileShelf, HashRng, HostSink, HostSource, TcpNet, hold_closed_streams};
 use bec_node::run;
 use bec_node::status::{OUT_OF_MEMORY, STREAM_FAULT};
 use std::alloc::AllocError;
@@ -11,6 +11,9 @@ use std::process::ExitCode;
 use std::random::RandomSource;
 
 fn main(rt: HostRuntime) -> ExitCode {
+    let Ok(_held) = hold_closed_streams(&rt) else {
+        return ExitCode::from(STREAM_FAULT);
+    };
     let Ok(words) = words(&rt) else {
         return ExitCode::from(OUT_OF_MEMORY);
     };

@@ -8,7 +8,7 @@ mod drawing;
 
 use crate::drawing::{left_out_line, run};
 use bec_bytes::write_all_of;
-use bec_host::{HostSink, HostSource};
+use bec_host::{HostSink, HostSource, hold_closed_streams};
 use node_commands::status::{OUT_OF_MEMORY, STREAM_FAULT};
 use std::alloc::AllocError;
 use std::env;
@@ -16,6 +16,9 @@ use std::io::ErrorKind;
 use std::process::ExitCode;
 
 fn main(rt: HostRuntime) -> ExitCode {
+    let Ok(_held) = hold_closed_streams(&rt) else {
+        return ExitCode::from(STREAM_FAULT);
+    };
     let Ok(words) = words(&rt) else {
         return ExitCode::from(OUT_OF_MEMORY);
     };

@@ -4,7 +4,8 @@
 //! [`HostSource`] reads a reader of std through a buffer, and [`HostSink`] writes to a writer of std.
 //! [`TcpNet`] listens and dials, and hands each connection out as a [`TcpLink`]. [`FileShelf`] hands the
 //! files of directories out as [`FileDisk`]s. Each counts the errors that it meets, retries a call
-//! that a signal interrupted, and fails at any other error.
+//! that a signal interrupted, and fails at any other error. [`hold_closed_streams`] keeps a file from getting the
+//! descriptor of a standard stream that is closed.
 //!
 //! ```
 //! fn main(rt: HostRuntime) -> Result<ExitCode, AllocError> {
@@ -18,6 +19,7 @@
 //! that it passes on, unchanged and in order, the bytes that the reader gave or the writer took.
 #![tactic(auto)]
 
+mod closed_streams;
 mod file_disk;
 mod file_shelf;
 mod hash_rng;
@@ -27,6 +29,7 @@ mod laws;
 mod tcp_link;
 mod tcp_net;
 
+pub use closed_streams::hold_closed_streams;
 pub use file_disk::FileDisk;
 pub use file_shelf::FileShelf;
 pub use hash_rng::HashRng;

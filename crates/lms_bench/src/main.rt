@@ -5,6 +5,7 @@
 //! are the words, and how often the operation did what it is for.
 #![tactic(auto)]
 
+use bec_host::hold_closed_streams;
 use lm_ots::OtsType;
 use lms_tree::{LmsType, Secret, make_secret, verify};
 use sha2::{Digest, Sha256};
@@ -35,6 +36,7 @@ const RANDOMIZER: [u8; 32] = [3; 32];
 const MESSAGE: &[u8] = b"abc";
 
 fn main(rt: HostRuntime) -> io::Result<ExitCode> {
+    let _held = hold_closed_streams(&rt)?;
     let mut words = Vec::new(rt.alloc());
     for argument in env::args(&rt)?.skip(1) {
         words.push(argument).map_err(AllocError::from)?;

@@ -7,12 +7,14 @@
 mod turns;
 
 use crate::turns::{Sum, eight, four, take_turns, two};
+use bec_host::hold_closed_streams;
 use std::alloc::AllocError;
 use std::env;
 use std::process::ExitCode;
 use turn_lock::TurnLock;
 
 fn main(rt: HostRuntime) -> anyhow::Result<ExitCode> {
+    let _held = hold_closed_streams(&rt)?;
     let alloc = rt.alloc();
     let mut words = Vec::new(alloc);
     for argument in env::args(&rt)?.skip(1) {

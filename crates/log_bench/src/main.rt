@@ -10,7 +10,7 @@ mod appending;
 
 use crate::appending::run;
 use bec_disk::{DiskFault, Part, Shelf};
-use bec_host::{FileDisk, FileShelf, HostSink, HostSource};
+use bec_host::{FileDisk, FileShelf, HostSink, HostSource, hold_closed_streams};
 use record_check::ManyThreads;
 use std::alloc::AllocError;
 use std::env;
@@ -20,6 +20,7 @@ use std::process::ExitCode;
 use std::rt::Files;
 
 fn main(rt: HostRuntime) -> anyhow::Result<ExitCode> {
+    let _held = hold_closed_streams(&rt)?;
     let mut words = Vec::new(rt.alloc());
     for argument in env::args(&rt)?.skip(1) {
         words.push(argument).map_err(AllocError::from)?;

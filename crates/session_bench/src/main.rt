@@ -13,12 +13,13 @@ mod holding;
 mod working;
 
 use crate::working::{commit_rest, hold_session};
-use bec_host::{HostSink, HostSource};
+use bec_host::{HostSink, HostSource, hold_closed_streams};
 use std::alloc::AllocError;
 use std::env;
 use std::process::ExitCode;
 
 fn main(rt: HostRuntime) -> anyhow::Result<ExitCode> {
+    let _held = hold_closed_streams(&rt)?;
     let mut words = Vec::new(rt.alloc());
     for argument in env::args(&rt)?.skip(1) {
         words.push(argument).map_err(AllocError::from)?;
