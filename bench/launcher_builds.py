@@ -168,11 +168,14 @@ def built(tree, note):
     note("a crate that is not below", tree.call("heads") == (0, "", "") and tree.runs() == 1)
     tree.write("crates/low/src/lib.rt", "two", age=10 ** 6)
     note("other contents of an old date", tree.call("heads")[0] == 0 and tree.runs() == 2)
+    tree.write("crates/low/src/lib.rt", "back")
+    os.utime(tree.path("bec") + ".sources", (4e9, 4e9))
+    note("a clock that was set back", tree.call("heads")[0] == 0 and tree.runs() == 3)
     os.remove(os.path.join(tree.top, "crates", "high", "src", "lib.rt"))
     tree.write("crates/high/src/new.rt", "new")
-    note("a file of another name", tree.call("heads")[0] == 0 and tree.runs() == 3)
+    note("a file of another name", tree.call("heads")[0] == 0 and tree.runs() == 4)
     shutil.copy(tree.path("bec_draw"), tree.path("bec"))
-    note("another program in its place", tree.call("heads")[0] == 0 and tree.runs() == 4)
+    note("another program in its place", tree.call("heads")[0] == 0 and tree.runs() == 5)
 
 
 def gated(tree, note):

@@ -155,11 +155,13 @@ class Progress:
         return (name, "proof") in self.ended
 
     def rest(self):
-        """In how many seconds each proof that is left will have ended, by what those that have ended took."""
-        scale, active = self.taken / self.guessed, {}
+        """In how many seconds each proof that is left will have ended, by what those took that have ended, or should have."""
+        spent = {task: self.clock() - self.since[task] for task in self.active}
+        late = [task for task in spent if spent[task] * self.guessed > self.active[task][0] * self.taken]
+        scale = (self.taken + sum(spent[task] for task in late)) / (self.guessed + sum(self.active[task][0] for task in late))
+        active = {}
         for task, (seconds, held, jobs) in self.active.items():
-            spent = (self.clock() - self.since[task]) / scale
-            active[task] = max(seconds - spent, 0.1 * seconds), held, jobs
+            active[task] = max(seconds - spent[task] / scale, 0.15 * spent[task] / scale), held, jobs
         return {name: scale * seconds for name, seconds in self.schedule.ends(self.ended, active).items()}
 
     def line(self, first):
