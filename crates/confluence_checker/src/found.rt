@@ -2,7 +2,7 @@ ghost use Rattle.std.specs.Prelude.{◌≡◌};
 ghost use Rattle.confluence_checker.specs.Forms.{seen, start};
 
 /// What is found where the invariants of a schema are gone through in order, until a wanted one.
-#[derive(Clone, Copy, Debug)]
+#[derive(Clone, Copy)]
 pub(crate) struct Found {
     /// Whether those before the wanted one hold.
     pub(crate) earlier: bool,

@@ -5,7 +5,7 @@ use std::marker::Model;
 use update_model::{AuthorKey, RowName, ValueList};
 
 /// A row that an update inserted. References to rows of the same update are names of rows like all others.
-#[derive(Debug, Drop)]
+#[derive(Drop)]
 pub(crate) struct InsertedRow {
     /// The row's name.
     pub(crate) name: RowName,

@@ -2,7 +2,7 @@ use table_model::Verdict;
 use update_model::{Node, UpdateId};
 
 /// A node with its verdict.
-#[derive(Debug, Drop)]
+#[derive(Drop)]
 pub(crate) struct JudgedNode {
     /// The node.
     pub(crate) node: Node,

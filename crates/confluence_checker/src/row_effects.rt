@@ -9,7 +9,7 @@ use std::marker::Model;
 use update_model::RowName;
 
 /// What the valid members of a set did: which rows they inserted, and which names they deleted, newest first.
-#[derive(Debug, Drop)]
+#[derive(Drop)]
 pub(crate) struct RowEffects {
     inserted: Vec<InsertedRow>,
     deleted: Vec<RowName>,

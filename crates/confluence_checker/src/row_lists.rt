@@ -4,7 +4,7 @@ use std::marker::Model;
 use table_model::ShownRowList;
 
 /// A list of the rows of each table. A contract sees the list of these lists.
-#[derive(Debug, Drop)]
+#[derive(Drop)]
 pub struct RowLists {
     lists: Vec<ShownRowList>,
 }

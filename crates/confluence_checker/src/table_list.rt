@@ -2,7 +2,7 @@ use crate::RowLists;
 use table_model::VoidList;
 
 /// The tables of a set of updates.
-#[derive(Debug, Drop)]
+#[derive(Drop)]
 pub struct TableList {
     /// For each table of the schema, in order, the rows that it shows, in rising order of names.
     pub tables: RowLists,

@@ -10,7 +10,7 @@ use table_model::NodeList;
 use update_model::{RowName, ValueList};
 
 /// A row to be inserted.
-#[derive(Debug, Drop)]
+#[derive(Drop)]
 pub(crate) struct PlannedRow {
     /// The number of its table.
     pub(crate) table: u8,
@@ -39,7 +39,7 @@ impl PlannedRow {
 }
 
 /// Rows to be inserted one after the other, each by an update of its own. A contract sees them newest first.
-#[derive(Debug, Drop)]
+#[derive(Drop)]
 pub(crate) struct Chain {
     rows: Vec<PlannedRow>,
 }

@@ -1,7 +1,7 @@
 use table_model::Invariant;
 
 /// Why an invariant is refused.
-#[derive(Clone, Copy, Debug)]
+#[derive(Clone, Copy)]
 pub(crate) enum Flaw {
     /// Two sides may each insert a row with the same value in a `UNIQUE` column.
     Doubles {
@@ -29,7 +29,7 @@ pub(crate) enum Flaw {
 }
 
 /// An invariant that is refused.
-#[derive(Clone, Copy, Debug)]
+#[derive(Clone, Copy)]
 pub(crate) struct Finding {
     /// The invariant, by its place.
     pub(crate) which: Invariant,

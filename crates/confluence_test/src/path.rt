@@ -18,7 +18,7 @@ use std::alloc::{AllocError, Global};
 use std::marker::Model;
 
 /// A row of the path.
-#[derive(Debug, Drop)]
+#[derive(Drop)]
 pub(crate) struct PathStep {
     /// The number of its table.
     pub(crate) table: u8,

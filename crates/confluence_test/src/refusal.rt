@@ -7,7 +7,7 @@ use std::alloc::AllocError;
 use table_model::{Counterexample, Invariant};
 
 /// Why the text of a schema is not taken.
-#[derive(Debug, Drop)]
+#[derive(Drop)]
 pub enum SchemaRefusal {
     /// The text has this fault first.
     Schema(SchemaFault),

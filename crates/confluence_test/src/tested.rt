@@ -1,7 +1,7 @@
 use table_model::{Counterexample, Invariant};
 
 /// What the confluence test says of a schema.
-#[derive(Debug, Drop)]
+#[derive(Drop)]
 pub enum Tested {
     /// Every invariant survives merging.
     Accepted,

@@ -6,7 +6,7 @@ ghost use Rattle.expression_text.specs.Trees.{tree_of};
 ghost use Rattle.expression_text.specs.Views.{reading_of, frames_of};
 
 use crate::Token;
-use crate::pending::{Pending, closed, completed, joined};
+use crate::pending::{Pending, closed, completed, joined, opened};
 use crate::progress::Progress;
 use row_check::Expr;
 use std::alloc::{AllocError, Global};
@@ -64,14 +64,8 @@ fn step_begun(
     ensures { IfOk result (λ after. (reading_of after, frames_of pending.new.items) ≡ after_begun (column_in names.now) (frames_of pending.old.items) token.now) }
 {
     match token {
-        Token::Not => {
-            pending.push(Pending::Not)?;
-            Ok(Progress::Begun)
-        }
-        Token::Open => {
-            pending.push(Pending::Bracket)?;
-            Ok(Progress::Begun)
-        }
+        Token::Not => opened(pending, Pending::Not),
+        Token::Open => opened(pending, Pending::Bracket),
         other => Progress::Begun.more(alloc, other, names),
     }
 }
@@ -85,14 +79,10 @@ fn step_finished(
     ensures { IfOk result (λ after. (reading_of after, frames_of pending.new.items) ≡ after_finished (tree_of expr) (frames_of pending.old.items) token.now) }
 {
     match token {
-        Token::And => {
-            pending.push(Pending::And(expr))?;
-            Ok(Progress::Begun)
-        }
+        Token::And => opened(pending, Pending::And(expr)),
         Token::Or => {
             let left = joined(alloc, expr, pending)?;
-            pending.push(Pending::Or(left))?;
-            Ok(Progress::Begun)
+            opened(pending, Pending::Or(left))
         }
         Token::Close => {
             let inner = joined(alloc, expr, pending)?;

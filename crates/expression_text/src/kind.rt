@@ -1,5 +1,5 @@
 /// What the values of a column are, as far as an expression asks.
-#[derive(Clone, Copy, Debug)]
+#[derive(Clone, Copy)]
 pub enum Kind {
     /// Integers.
     Int,

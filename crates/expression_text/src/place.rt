@@ -5,7 +5,7 @@ use crate::Token;
 use crate::numbers::check_number;
 
 /// What was read last of an operand, and so what may come next.
-#[derive(Clone, Copy, Debug)]
+#[derive(Clone, Copy)]
 pub(crate) enum Place {
     /// Nothing yet: an operand is to come.
     Begun,
@@ -158,7 +158,7 @@ fn finished(token: &Token) -> Place
 }
 
 /// Where the reading of an expression stands.
-#[derive(Clone, Copy, Debug)]
+#[derive(Clone, Copy)]
 pub(crate) struct Position {
     pub(crate) place: Place,
     /// How many parentheses are open.

@@ -14,7 +14,7 @@ use update_model::{ByteList, TextValue, Value};
 
 /// What has been read of an operand, and so what may come next. [`crate::place::Place`] says the same without what was
 /// read.
-#[derive(Debug, Drop)]
+#[derive(Drop)]
 pub(crate) enum Progress {
     Begun,
     AfterLen,

@@ -2,7 +2,7 @@ use row_check::Cmp;
 use update_model::ByteList;
 
 /// What a word of an expression is to its grammar.
-#[derive(Debug, Drop)]
+#[derive(Drop)]
 pub enum Token {
     /// A word that is none of the others, which stands where a column does. Whether it is a name, and of which
     /// column, is judged later.

@@ -1,4 +1,4 @@
-ghost use Rattle.std.specs.Prelude.{◌≡◌, map, take, IfOk};
+ghost use Rattle.std.specs.Prelude.{◌≡◌, map, take, IfOk, bytes_eq};
 ghost use Rattle.expression_text.specs.Words.{token_of as token_for, keyword_of, sign_of, begins_as_value as begins_value, plain_token as token_unquoted};
 
 use crate::Token;
@@ -55,27 +55,34 @@ fn plain_token(alloc: Global, bytes: &[u8]) -> Result<Token, AllocError>
     Ok(Token::Column(copied(alloc, bytes)?))
 }
 
+/// Whether bytes are this text.
+fn is_text(text: &[u8], bytes: &[u8]) -> bool
+    ensures { result ≡ bytes_eq bytes.now text.now }
+{
+    bytes == text
+}
+
 /// A keyword or a flag.
 fn keyword(bytes: &[u8]) -> Option<Token>
     ensures { result ≡ keyword_of bytes.now }
 {
-    if bytes == b"AND".as_slice() {
+    if is_text(b"AND", bytes) {
         Some(Token::And)
-    } else if bytes == b"OR".as_slice() {
+    } else if is_text(b"OR", bytes) {
         Some(Token::Or)
-    } else if bytes == b"NOT".as_slice() {
+    } else if is_text(b"NOT", bytes) {
         Some(Token::Not)
-    } else if bytes == b"IS".as_slice() {
+    } else if is_text(b"IS", bytes) {
         Some(Token::Is)
-    } else if bytes == b"NULL".as_slice() {
+    } else if is_text(b"NULL", bytes) {
         Some(Token::Null)
-    } else if bytes == b"NATIVE".as_slice() {
+    } else if is_text(b"NATIVE", bytes) {
         Some(Token::Native)
-    } else if bytes == b"LEN".as_slice() {
+    } else if is_text(b"LEN", bytes) {
         Some(Token::Len)
-    } else if bytes == b"TRUE".as_slice() {
+    } else if is_text(b"TRUE", bytes) {
         Some(Token::Flag(true))
-    } else if bytes == b"FALSE".as_slice() {
+    } else if is_text(b"FALSE", bytes) {
         Some(Token::Flag(false))
     } else {
         None
@@ -86,17 +93,17 @@ fn keyword(bytes: &[u8]) -> Option<Token>
 fn sign(bytes: &[u8]) -> Option<Cmp>
     ensures { result ≡ sign_of bytes.now }
 {
-    if bytes == b"=".as_slice() {
+    if is_text(b"=", bytes) {
         Some(Cmp::Eq)
-    } else if bytes == b"!=".as_slice() {
+    } else if is_text(b"!=", bytes) {
         Some(Cmp::Ne)
-    } else if bytes == b"<".as_slice() {
+    } else if is_text(b"<", bytes) {
         Some(Cmp::Lt)
-    } else if bytes == b"<=".as_slice() {
+    } else if is_text(b"<=", bytes) {
         Some(Cmp::Le)
-    } else if bytes == b">".as_slice() {
+    } else if is_text(b">", bytes) {
         Some(Cmp::Gt)
-    } else if bytes == b">=".as_slice() {
+    } else if is_text(b">=", bytes) {
         Some(Cmp::Ge)
     } else {
         None

@@ -4,7 +4,7 @@ ghost use Rattle.row_check.specs.Comparisons.{accepts};
 use std::cmp::Ordering;
 
 /// What a comparison asks of its two sides.
-#[derive(Clone, Copy, Debug, PartialEq, Eq)]
+#[derive(Clone, Copy)]
 pub enum Cmp {
     /// `=`: the sides are equal.
     Eq,

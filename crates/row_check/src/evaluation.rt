@@ -23,17 +23,35 @@ pub fn eval<L: Relation, C: Checks<L>>(
     // memory is taken for the arguments of native checks alone
     ensures memory { OnErr result (HasNative expr.now) }
 {
-    Ok(match expr {
-        Expr::And(a, b) => eval(alloc, a, row, native)? && eval(alloc, b, row, native)?,
-        Expr::Or(a, b) => eval(alloc, a, row, native)? || eval(alloc, b, row, native)?,
-        Expr::Not(a) => !eval(alloc, a, row, native)?,
-        Expr::Compare { left, cmp, right } => compare_terms(*cmp, left, right, row),
-        Expr::IsNull { column } => is_null(&row[usize::from(*column)]),
-        Expr::Native { number, columns } => {
-            let args = arguments(alloc, columns.as_slice(), row)?;
-            native.ask(*number, args.as_slice())
-        }
-    })
+    match expr {
+        Expr::And(a, b) => match eval(alloc, a, row, native) {
+            Ok(true) => eval(alloc, b, row, native),
+            other => other,
+        },
+        Expr::Or(a, b) => match eval(alloc, a, row, native) {
+            Ok(false) => eval(alloc, b, row, native),
+            other => other,
+        },
+        Expr::Not(a) => Ok(!eval(alloc, a, row, native)?),
+        Expr::Compare { left, cmp, right } => Ok(compare_terms(*cmp, left, right, row)),
+        Expr::IsNull { column } => Ok(is_null(&row[usize::from(*column)])),
+        Expr::Native { number, columns } => ask(alloc, *number, columns.as_slice(), row, native),
+    }
+}
+
+/// Asks a native check about the values in these columns.
+fn ask<L: Relation, C: Checks<L>>(
+    alloc: Global,
+    number: u16,
+    columns: &[u8],
+    row: &[Value],
+    native: &Native<L, C>,
+) -> Result<bool, AllocError>
+    requires { All (λ column. column < length row.now) columns.now }
+    ensures { IfOk result (λ answer. answer ≡ L.answer number (map (value_at row.now) columns.now)) }
+{
+    let args = arguments(alloc, columns, row)?;
+    Ok(native.ask(number, args.as_slice()))
 }
 
 fn is_null(value: &Value) -> bool

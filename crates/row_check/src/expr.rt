@@ -2,7 +2,7 @@ use crate::{Cmp, Term};
 use update_model::ByteList;
 
 /// A question about one row.
-#[derive(Debug, Drop)]
+#[derive(Drop)]
 pub enum Expr {
     /// Both hold.
     And(Box<Expr>, Box<Expr>),

@@ -9,7 +9,7 @@ use update_model::Value;
 
 /// The relation of the checksum of payment card numbers (ISO/IEC 7812-1, annex B): true exactly for check number 1
 /// and one argument, a text of at least one digit and nothing else, whose Luhn sum is a multiple of 10.
-#[derive(Debug, Drop)]
+#[derive(Drop)]
 pub struct Luhn;
 
 impl Relation for Luhn {

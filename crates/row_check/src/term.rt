@@ -1,7 +1,7 @@
 use update_model::Value;
 
 /// A side of a comparison.
-#[derive(Debug, Drop)]
+#[derive(Drop)]
 pub enum Term {
     /// The value in the column with this number, from 0.
     Column(u8),

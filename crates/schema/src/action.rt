@@ -1,5 +1,5 @@
 /// What becomes of a row when the row that it refers to goes.
-#[derive(Clone, Copy, Debug, PartialEq, Eq)]
+#[derive(Clone, Copy)]
 pub enum Action {
     /// `RESTRICT`: a row that is referred to may not be deleted.
     Restrict,

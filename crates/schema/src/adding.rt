@@ -1,6 +1,6 @@
 //! What a line adds to a draft.
 
-ghost use Rattle.std.specs.Prelude.{◌≡◌, ◌≤◌, ℕ, IsTrue, All, length, OnOk};
+ghost use Rattle.std.specs.Prelude.{◌≡◌, ◌≤◌, ℕ, IsTrue, All, length, IfOk, OnOk};
 ghost use Rattle.expression_text.specs.Columns.{IsKnown, HasRowText};
 ghost use Rattle.expression_text.specs.Grammar.{IsExpression};
 ghost use Rattle.schema.specs.Columns.{names_of};
@@ -13,39 +13,35 @@ ghost use Rattle.schema.specs.Steps.{IsAfter, IsCheckAdded, number_of, target_nu
 use crate::draft::{Draft, Phase, no_table};
 use crate::form::{Form, PlainKind, SampleValue};
 use crate::lookups::{columns_at, number_named, reference_named, table_named};
-use crate::names::names_of;
+use crate::names::expression_of;
 use crate::samples::sample_row;
 use crate::{CheckRule, Column, ColumnKind, MAX_COLUMNS, MAX_TOKENS, MatchRule, UniqueRule};
-use expression_text::{Token, build};
+use expression_text::Token;
 use row_check::Cmp;
 use std::alloc::{AllocError, Global};
 use std::mem;
-use text_words::ByteString;
 use update_model::{TextValue, ValueList};
 
 impl Draft {
     /// Adds what the line with this number says, in which nothing is wrong.
-    pub(crate) fn add(&mut self, alloc: Global, line: u32, form: Form) -> Result<(), AllocError>
+    pub(crate) fn add(&mut self, alloc: Global, line: u32, form: &Form) -> Result<(), AllocError>
         requires draft { IsDraft self.old }
-        requires form { CanAdd self.old form }
-        ensures { OnOk result (IsAfter line self.old form self.new) }
+        requires form { CanAdd self.old form.now }
+        ensures { OnOk result (IsAfter line self.old form.now self.new) }
     {
         match form {
             Form::Database { .. } => {
                 self.phase = Phase::Authors;
                 Ok(())
             }
-            Form::Author { key } => self.authors.push(key),
+            Form::Author { key } => self.authors.push(*key),
             Form::Table {
                 name,
                 deletable,
                 owned,
-            } => {
-                self.begin_table(alloc, name, deletable, owned);
-                Ok(())
-            }
+            } => self.begin_table(alloc, name.as_slice(), *deletable, *owned),
             Form::Column { name, kind, null } => {
-                self.add_column(name, kind_declared(&kind), null, line)
+                self.add_column(alloc, name.as_slice(), kind_declared(kind), *null, line)
             }
             Form::Ref {
                 name,
@@ -54,7 +50,9 @@ impl Draft {
                 null,
             } => {
                 let target = table_named(self, table.as_slice()).unwrap_or(0) as u8;
-                self.add_column(name, ColumnKind::Reference { target, action }, null, line)
+                let action = *action;
+                let kind = ColumnKind::Reference { target, action };
+                self.add_column(alloc, name.as_slice(), kind, *null, line)
             }
             Form::Check { tokens } => self.add_check(alloc, line, tokens.as_slice()),
             Form::Match {
@@ -65,7 +63,7 @@ impl Draft {
             } => self.add_match(
                 line,
                 column.as_slice(),
-                cmp,
+                *cmp,
                 reference.as_slice(),
                 target_column.as_slice(),
             ),
@@ -80,28 +78,37 @@ impl Draft {
         }
     }
 
-    fn begin_table(&mut self, alloc: Global, name: ByteString, deletable: bool, owned: bool)
-        requires { IsTrue (is_a_name name) }
-        ensures { self.new ≡ with_table self.old name deletable owned }
+    fn begin_table(
+        &mut self,
+        alloc: Global,
+        name: &[u8],
+        deletable: bool,
+        owned: bool,
+    ) -> Result<(), AllocError>
+        requires { IsTrue (is_a_name name.now) }
+        ensures { OnOk result (self.new ≡ with_table self.old name.now deletable owned) }
     {
+        let name = text_of(alloc, name)?;
         self.phase = Phase::Columns;
         self.table = no_table(alloc);
-        self.table.name = text_of(name);
+        self.table.name = name;
         self.table.deletable = deletable;
         self.table.owned = owned;
+        Ok(())
     }
 
     fn add_column(
         &mut self,
-        name: ByteString,
+        alloc: Global,
+        name: &[u8],
         kind: ColumnKind,
         null: bool,
         line: u32,
     ) -> Result<(), AllocError>
-        requires { IsTrue (is_a_name name) }
-        ensures { OnOk result (self.new ≡ with_column self.old (record { name = name; kind = kind; null = null; line = line })) }
+        requires { IsTrue (is_a_name name.now) }
+        ensures { OnOk result (self.new ≡ with_column self.old (record { name = name.now; kind = kind; null = null; line = line })) }
     {
-        let name = text_of(name);
+        let name = text_of(alloc, name)?;
         self.table.columns.push(Column {
             name,
             kind,
@@ -118,8 +125,7 @@ impl Draft {
         requires texts { All HasRowText tokens.now }
         ensures { OnOk result (IsCheckAdded line self.old tokens.now self.new) }
     {
-        let names = names_of(alloc, self.table.columns.as_slice())?;
-        let expr = build(alloc, tokens, names.as_slice())?;
+        let expr = expression_of(alloc, self.table.columns.as_slice(), tokens)?;
         self.phase = Phase::Rules;
         self.table.checks.push(CheckRule { expr, line })
     }
@@ -196,11 +202,12 @@ impl Draft {
 }
 
 /// A name as a text.
-fn text_of(name: ByteString) -> TextValue
-    requires { IsTrue (is_a_name name) }
-    ensures { result ≡ name }
+fn text_of(alloc: Global, name: &[u8]) -> Result<TextValue, AllocError>
+    requires { IsTrue (is_a_name name.now) }
+    ensures { IfOk result (λ text. text ≡ name.now) }
 {
-    TextValue::from_vec(name.into_vec())
+    let bytes = Vec::from_slice(alloc, name)?;
+    Ok(TextValue::from_vec(bytes))
 }
 
 /// The number of the column with this name, which is there.

@@ -2,7 +2,7 @@ use crate::Action;
 use update_model::TextValue;
 
 /// Which values a column has, besides null where it may have none.
-#[derive(Clone, Copy, Debug)]
+#[derive(Clone, Copy)]
 pub enum ColumnKind {
     /// Integers from `lo` to `hi`, both included.
     Int {
@@ -30,7 +30,7 @@ pub enum ColumnKind {
 }
 
 /// A column of a table.
-#[derive(Debug, Drop)]
+#[derive(Drop)]
 pub struct Column {
     /// Its name, which no other column of the table has.
     pub name: TextValue,

@@ -9,7 +9,7 @@ use std::alloc::Global;
 use update_model::{TextValue, ValueList};
 
 /// How far the lines of a schema have come.
-#[derive(Clone, Copy, Debug, PartialEq, Eq)]
+#[derive(Clone, Copy)]
 pub(crate) enum Phase {
     /// No line has said anything.
     Start,
@@ -24,7 +24,7 @@ pub(crate) enum Phase {
 }
 
 /// What the lines of a schema so far declare.
-#[derive(Debug, Drop)]
+#[derive(Drop)]
 pub(crate) struct Draft {
     /// How far they have come.
     pub(crate) phase: Phase,

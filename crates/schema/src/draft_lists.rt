@@ -8,7 +8,7 @@ use std::marker::Model;
 use update_model::AuthorKey;
 
 /// A list of tables, which number from 0. A contract sees the list of its items.
-#[derive(Debug, Drop)]
+#[derive(Drop)]
 pub(crate) struct TableList {
     tables: Vec<TableDef>,
 }
@@ -52,7 +52,7 @@ impl TableList {
 }
 
 /// A list of authors. A contract sees the list of its items.
-#[derive(Debug, Drop)]
+#[derive(Drop)]
 pub(crate) struct AuthorList {
     authors: Vec<AuthorKey>,
 }

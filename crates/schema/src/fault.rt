@@ -6,7 +6,7 @@ use std::error::Error;
 use std::fmt;
 
 /// What is wrong with a text that declares no schema.
-#[derive(Clone, Copy, Debug, PartialEq, Eq, Hash)]
+#[derive(Clone, Copy, Debug)]
 pub enum SchemaKind {
     /// A line has none of the forms, or it is not the turn of such a line, or the text ends too early.
     Line,
@@ -44,7 +44,7 @@ impl fmt::Display for SchemaKind {
 }
 
 /// The first fault of a text that declares no schema. It prints as `line 3: name`.
-#[derive(Clone, Copy, Debug, PartialEq, Eq, Hash)]
+#[derive(Clone, Copy, Debug)]
 pub struct SchemaFault {
     /// What is wrong.
     pub kind: SchemaKind,
@@ -69,7 +69,7 @@ impl fmt::Display for SchemaFault {
 impl Error for SchemaFault {}
 
 /// Why no schema was read.
-#[derive(Clone, Copy, Debug, PartialEq, Eq, Hash, thiserror::Error)]
+#[derive(Clone, Copy, Debug, thiserror::Error)]
 pub enum SchemaError {
     /// The text declares none.
     #[error("{0}")]

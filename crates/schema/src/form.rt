@@ -5,7 +5,7 @@ use text_words::{ByteString, Literal};
 use update_model::{AuthorKey, RowName};
 
 /// What a line says. Names are any words here: whether they are names is judged later.
-#[derive(Debug, Drop)]
+#[derive(Drop)]
 pub(crate) enum Form {
     /// `DATABASE name`
     Database {
@@ -60,7 +60,7 @@ pub(crate) enum Form {
 }
 
 /// The kind of a plain column as a line writes it, with bounds of whatever size.
-#[derive(Clone, Copy, Debug)]
+#[derive(Clone, Copy)]
 pub(crate) enum PlainKind {
     Int { lo: i64, hi: i64 },
     Text { lo: i64, hi: i64 },
@@ -68,7 +68,7 @@ pub(crate) enum PlainKind {
 }
 
 /// A value as a `SAMPLE` writes it, with a text of whatever length. The name of a row is one, though no plain column has it.
-#[derive(Debug, Drop)]
+#[derive(Drop)]
 pub(crate) enum SampleValue {
     Literal(Literal),
     Row(RowName),

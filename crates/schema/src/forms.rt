@@ -7,15 +7,14 @@ use crate::form::{Form, PlainKind, SampleValue};
 use crate::keyword::Keyword;
 use crate::word_lists::{SampleList, TokenList};
 use crate::words::{
-    action_in, bounds_in, is_word, key_in, keyword_in, null_at_end, number_in, path_in, rights_in,
-    sign_in, spelled, values_of,
+    action_in, bounds_in, copied, is_word, key_in, keyword_in, null_at_end, number_in, path_in,
+    rights_in, sign_in, spelled, values_of,
 };
 use expression_text::{Token, is_expression, tokens_of};
 use std::alloc::{AllocError, Global};
 use std::str;
 use text_words::{
-    ByteString, Literal, Style, Word, bytes_of_hex, expression_words, first_word, plain_words,
-    skip_blanks,
+    Literal, Style, Word, bytes_of_hex, expression_words, first_word, plain_words, skip_blanks,
 };
 
 /// The form of a line of UTF-8.
@@ -127,23 +126,23 @@ fn plain_form(alloc: Global, start: &[u8]) -> Result<Option<Form>, AllocError>
     let Some(words) = plain_words(alloc, rest)? else {
         return Ok(None);
     };
-    form_with(alloc, keyword, words)
+    form_with(alloc, keyword, words.as_slice())
 }
 
 /// The form that a keyword and the words after it are.
-fn form_with(alloc: Global, keyword: Keyword, words: Vec<Word>) -> Result<Option<Form>, AllocError>
-    ensures { IfOk result (λ found. found ≡ form_with keyword words.items) }
+fn form_with(alloc: Global, keyword: Keyword, words: &[Word]) -> Result<Option<Form>, AllocError>
+    ensures { IfOk result (λ found. found ≡ form_with keyword words.now) }
 {
     match keyword {
-        Keyword::Database => database_form(alloc, words.as_slice()),
-        Keyword::Author => author_form(alloc, words.as_slice()),
-        Keyword::Table => table_form(alloc, words.as_slice()),
-        Keyword::Column => column_form(alloc, words.as_slice()),
-        Keyword::Ref => ref_form(alloc, words.as_slice()),
-        Keyword::Match => match_form(alloc, words.as_slice()),
-        Keyword::Unique => unique_form(alloc, words.as_slice()),
-        Keyword::AtMost => Ok(at_most_form(words.as_slice())),
-        Keyword::Sample => sample_form(alloc, words.as_slice()),
+        Keyword::Database => database_form(alloc, words),
+        Keyword::Author => author_form(alloc, words),
+        Keyword::Table => table_form(alloc, words),
+        Keyword::Column => column_form(alloc, words),
+        Keyword::Ref => ref_form(alloc, words),
+        Keyword::Match => match_form(alloc, words),
+        Keyword::Unique => unique_form(alloc, words),
+        Keyword::AtMost => Ok(at_most_form(words)),
+        Keyword::Sample => sample_form(alloc, words),
     }
 }
 
@@ -269,12 +268,6 @@ fn match_form(alloc: Global, words: &[Word]) -> Result<Option<Form>, AllocError>
         reference: copied(alloc, reference)?,
         target_column: copied(alloc, target_column)?,
     }))
-}
-
-fn copied(alloc: Global, bytes: &[u8]) -> Result<ByteString, AllocError>
-    ensures { IfOk result (λ copy. copy ≡ bytes.now) }
-{
-    Ok(ByteString::from_vec(Vec::from_slice(alloc, bytes)?))
 }
 
 fn unique_form(alloc: Global, words: &[Word]) -> Result<Option<Form>, AllocError>

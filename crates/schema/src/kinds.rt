@@ -11,9 +11,9 @@ ghost use Rattle.schema.specs.Kept.{CanBuild};
 use crate::draft::Draft;
 use crate::form::{Form, PlainKind};
 use crate::lookups::{column_named, columns_at, reference_named, table_named};
-use crate::names::names_of;
+use crate::names::expression_of;
 use crate::{Action, Column, ColumnKind, MAX_COLUMNS, MAX_TOKENS};
-use expression_text::{Kind, Token, build, has_kinds, one_expression};
+use expression_text::{Kind, Token, has_kinds, one_expression};
 use std::alloc::{AllocError, Global};
 use update_model::{AuthorKey, MAX_TEXT};
 
@@ -110,9 +110,8 @@ fn is_typed_check(alloc: Global, columns: &[Column], tokens: &[Token]) -> Result
     requires texts { All HasRowText tokens.now }
     ensures { IfOk result (λ answer. IsTrue answer ↔ IsTypedCheck columns.now tokens.now) }
 {
-    let names = names_of(alloc, columns)?;
-    let expr = build(alloc, tokens, names.as_slice())?;
     let kinds = kinds_of(alloc, columns)?;
+    let expr = expression_of(alloc, columns, tokens)?;
     one_expression();
     Ok(has_kinds(&expr, kinds.as_slice()))
 }

@@ -7,7 +7,7 @@ use std::alloc::AllocError;
 use std::marker::Model;
 
 /// A list of columns, which number from 0. A contract sees the list of its items.
-#[derive(Debug, Drop)]
+#[derive(Drop)]
 pub struct ColumnList {
     columns: Vec<Column>,
 }
@@ -54,7 +54,7 @@ impl ColumnList {
 }
 
 /// A list of `CHECK` lines. A contract sees the list of its items.
-#[derive(Debug, Drop)]
+#[derive(Drop)]
 pub struct CheckList {
     checks: Vec<CheckRule>,
 }
@@ -106,7 +106,7 @@ impl CheckList {
 }
 
 /// A list of `MATCH` lines. A contract sees the list of its items.
-#[derive(Debug, Drop)]
+#[derive(Drop)]
 pub struct MatchList {
     matches: Vec<MatchRule>,
 }
@@ -153,7 +153,7 @@ impl MatchList {
 }
 
 /// A list of `UNIQUE` lines. A contract sees the list of its items.
-#[derive(Debug, Drop)]
+#[derive(Drop)]
 pub struct UniqueList {
     uniques: Vec<UniqueRule>,
 }

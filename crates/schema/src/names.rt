@@ -1,13 +1,16 @@
-ghost use Rattle.std.specs.Prelude.{◌≡◌, ◌↔◌, IsTrue, IfOk, bytes_eq};
+ghost use Rattle.std.specs.Prelude.{◌≡◌, ◌↔◌, ◌≤◌, IsTrue, IfOk, All, bytes_eq, length};
 ghost use Rattle.std.specs.List.{list_any};
+ghost use Rattle.expression_text.specs.Columns.{IsKnown, HasRowText};
+ghost use Rattle.expression_text.specs.Grammar.{IsExpression, IsReading};
 ghost use Rattle.schema.specs.Columns.{names_of};
 ghost use Rattle.schema.specs.Faults.{IsNamed, IsNewTable, IsNewColumn, IsColumn, HasTargetColumn};
 
 use crate::draft::Draft;
 use crate::form::Form;
 use crate::lookups::{column_named, columns_at, reference_named};
-use crate::{Column, TableDef};
-use expression_text::are_known;
+use crate::{Column, MAX_COLUMNS, MAX_TOKENS, TableDef};
+use expression_text::{Token, are_known, build};
+use row_check::Expr;
 use std::alloc::{AllocError, Global};
 use text_words::is_name;
 use update_model::TextValue;
@@ -22,9 +25,7 @@ pub(crate) fn is_named(alloc: Global, draft: &Draft, form: &Form) -> Result<bool
         Form::Table { name, .. } => { is_new_table(draft.tables.as_slice(), name.as_slice()) }
         Form::Column { name, .. } => is_new_column(columns, name.as_slice()),
         Form::Ref { name, .. } => is_new_column(columns, name.as_slice()),
-        Form::Check { tokens } => {
-            are_known(tokens.as_slice(), names_of(alloc, columns)?.as_slice())
-        }
+        Form::Check { tokens } => has_known_names(alloc, columns, tokens.as_slice())?,
         Form::Match {
             column,
             reference,
@@ -42,6 +43,14 @@ pub(crate) fn is_named(alloc: Global, draft: &Draft, form: &Form) -> Result<bool
     })
 }
 
+/// Whether each word that stands for a column is the name of one of these.
+fn has_known_names(alloc: Global, columns: &[Column], tokens: &[Token]) -> Result<bool, AllocError>
+    ensures { IfOk result (λ answer. IsTrue answer ↔ All (IsKnown (names_of columns.now)) tokens.now) }
+{
+    let names = names_of(alloc, columns)?;
+    Ok(are_known(tokens, names.as_slice()))
+}
+
 /// The names of columns.
 pub(crate) fn names_of(alloc: Global, columns: &[Column]) -> Result<Vec<TextValue>, AllocError>
     ensures { IfOk result (λ names. names.items ≡ names_of columns.now) }
@@ -51,6 +60,23 @@ pub(crate) fn names_of(alloc: Global, columns: &[Column]) -> Result<Vec<TextValu
         names.push(column.name.copy(alloc)?)?;
     }
     Ok(names)
+}
+
+/// The expression that tokens are, over these columns.
+pub(crate) fn expression_of(
+    alloc: Global,
+    columns: &[Column],
+    tokens: &[Token],
+) -> Result<Expr, AllocError>
+    requires few { length columns.now ≤ MAX_COLUMNS }
+    requires short { length tokens.now ≤ MAX_TOKENS }
+    requires expression { IsExpression tokens.now }
+    requires known { All (IsKnown (names_of columns.now)) tokens.now }
+    requires texts { All HasRowText tokens.now }
+    ensures { IfOk result (λ expr. IsReading (names_of columns.now) tokens.now expr) }
+{
+    let names = names_of(alloc, columns)?;
+    build(alloc, tokens, names.as_slice())
 }
 
 /// Whether bytes are a name that no table has.

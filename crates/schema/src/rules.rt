@@ -3,7 +3,7 @@ use std::marker::Model;
 
 /// A `CHECK`: an expression that is true of each row of the table. A contract sees the tree of the expression, and not
 /// where its parts lie in memory.
-#[derive(Debug, Drop)]
+#[derive(Drop)]
 pub struct CheckRule {
     /// The expression, over the numbers of the table's columns.
     pub expr: Expr,
@@ -24,7 +24,7 @@ impl Model for CheckRule {
 
 /// A `MATCH`: a comparison of a row's value with one of the row that it refers to. It is asked where the reference
 /// is not null.
-#[derive(Clone, Copy, Debug)]
+#[derive(Clone, Copy)]
 pub struct MatchRule {
     /// The number of the column that is the left side.
     pub column: u8,
@@ -39,7 +39,7 @@ pub struct MatchRule {
 }
 
 /// A `UNIQUE`: no two rows of the table have the same value in this column.
-#[derive(Clone, Copy, Debug)]
+#[derive(Clone, Copy)]
 pub struct UniqueRule {
     /// The number of the column.
     pub column: u8,

@@ -11,7 +11,7 @@ use update_model::{ByteList, DbRule};
 ///
 /// Every schema has one to sixteen tables with one to sixteen columns each, and its numbers name what is there: see
 /// `IsSchema` of the definitions.
-#[derive(Debug, Drop)]
+#[derive(Drop)]
 pub struct Schema {
     rule: DbRule,
     tables: TableList,

@@ -2,7 +2,7 @@ use crate::{CheckList, ColumnList, MatchList, UniqueList};
 use update_model::{TextValue, ValueList};
 
 /// A table: its columns, and what holds of its rows. Each list is in the order of the lines that declare it.
-#[derive(Debug, Drop)]
+#[derive(Drop)]
 pub struct TableDef {
     /// Its name, which no other table of the schema has.
     pub name: TextValue,

@@ -7,7 +7,7 @@ use expression_text::Token;
 use std::marker::Model;
 
 /// A list of tokens of an expression. A contract sees the list of its items.
-#[derive(Debug, Drop)]
+#[derive(Drop)]
 pub(crate) struct TokenList {
     tokens: Vec<Token>,
 }
@@ -38,7 +38,7 @@ impl TokenList {
 }
 
 /// A list of values of a `SAMPLE`. A contract sees the list of its items.
-#[derive(Debug, Drop)]
+#[derive(Drop)]
 pub(crate) struct SampleList {
     values: Vec<SampleValue>,
 }

@@ -1,6 +1,6 @@
 //! What single words of a line say.
 
-ghost use Rattle.std.specs.Prelude.{◌≡◌, ◌==◌, ◌<◌, ◌∷◌, length, position, IfOk, IfSome, option_map};
+ghost use Rattle.std.specs.Prelude.{◌≡◌, ◌==◌, ◌<◌, ◌∷◌, length, position, IfOk, IfSome, bytes_eq, option_map};
 ghost use Rattle.text_words.specs.Literals.{value_of};
 ghost use Rattle.schema.specs.Forms.{is_word, spelled, number_in, sign_in, action_in, null_at_end, key_in, rights_in, bounds_in, path_in, values_of, value_in, row_in, keyword_of, keyword_in};
 
@@ -18,9 +18,16 @@ pub(crate) fn is_word(text: &[u8], word: &Word) -> bool
     ensures { result ≡ is_word text.now word.now }
 {
     match word {
-        Word::Plain(bytes) => bytes.as_slice() == text,
+        Word::Plain(bytes) => is_text(text, bytes.as_slice()),
         _ => false,
     }
+}
+
+/// Whether bytes are this text.
+fn is_text(text: &[u8], bytes: &[u8]) -> bool
+    ensures { result ≡ bytes_eq bytes.now text.now }
+{
+    bytes == text
 }
 
 /// A word where a name stands. A quoted text keeps its opening quote, so that it is no name.
@@ -30,10 +37,17 @@ pub(crate) fn spelled(alloc: Global, word: &Word) -> Result<ByteString, AllocErr
     match word {
         Word::Plain(bytes) => bytes.copy(alloc),
         Word::Quoted(bytes) => quoted(alloc, bytes.as_slice()),
-        Word::Open => Ok(ByteString::from_vec(Vec::from_slice(alloc, b"(")?)),
-        Word::Close => Ok(ByteString::from_vec(Vec::from_slice(alloc, b")")?)),
-        Word::Comma => Ok(ByteString::from_vec(Vec::from_slice(alloc, b",")?)),
+        Word::Open => copied(alloc, b"("),
+        Word::Close => copied(alloc, b")"),
+        Word::Comma => copied(alloc, b","),
     }
+}
+
+/// Equal bytes on memory of their own.
+pub(crate) fn copied(alloc: Global, bytes: &[u8]) -> Result<ByteString, AllocError>
+    ensures { IfOk result (λ copy. copy ≡ bytes.now) }
+{
+    Ok(ByteString::from_vec(Vec::from_slice(alloc, bytes)?))
 }
 
 fn quoted(alloc: Global, text: &[u8]) -> Result<ByteString, AllocError>
@@ -232,23 +246,23 @@ pub(crate) fn keyword_in(word: &Word) -> Option<Keyword>
 fn keyword_of(bytes: &[u8]) -> Option<Keyword>
     ensures { result ≡ keyword_of bytes.now }
 {
-    if bytes == b"DATABASE".as_slice() {
+    if is_text(b"DATABASE", bytes) {
         Some(Keyword::Database)
-    } else if bytes == b"AUTHOR".as_slice() {
+    } else if is_text(b"AUTHOR", bytes) {
         Some(Keyword::Author)
-    } else if bytes == b"TABLE".as_slice() {
+    } else if is_text(b"TABLE", bytes) {
         Some(Keyword::Table)
-    } else if bytes == b"COLUMN".as_slice() {
+    } else if is_text(b"COLUMN", bytes) {
         Some(Keyword::Column)
-    } else if bytes == b"REF".as_slice() {
+    } else if is_text(b"REF", bytes) {
         Some(Keyword::Ref)
-    } else if bytes == b"MATCH".as_slice() {
+    } else if is_text(b"MATCH", bytes) {
         Some(Keyword::Match)
-    } else if bytes == b"UNIQUE".as_slice() {
+    } else if is_text(b"UNIQUE", bytes) {
         Some(Keyword::Unique)
-    } else if bytes == b"ATMOST".as_slice() {
+    } else if is_text(b"ATMOST", bytes) {
         Some(Keyword::AtMost)
-    } else if bytes == b"SAMPLE".as_slice() {
+    } else if is_text(b"SAMPLE", bytes) {
         Some(Keyword::Sample)
     } else {
         None

@@ -2,7 +2,7 @@ use crate::NodeList;
 
 /// A history that breaks an invariant: what both sides have, and what each side has besides. Each list is in the order
 /// of arrival.
-#[derive(Debug, Drop)]
+#[derive(Drop)]
 pub struct Counterexample {
     /// The updates that both sides have.
     pub base: NodeList,

@@ -5,7 +5,7 @@ use std::marker::Model;
 use update_model::Node;
 
 /// A list of nodes in the order of arrival. A contract sees the list of its items.
-#[derive(Debug, Drop)]
+#[derive(Drop)]
 pub struct NodeList {
     nodes: Vec<Node>,
 }

@@ -1,7 +1,7 @@
 use update_model::{RowName, ValueList};
 
 /// A row as a table shows it.
-#[derive(Debug, Drop)]
+#[derive(Drop)]
 pub struct ShownRow {
     /// The row's name.
     pub name: RowName,

@@ -5,7 +5,7 @@ use std::alloc::AllocError;
 use std::marker::Model;
 
 /// A list of shown rows, in rising order of names. A contract sees the list of its items.
-#[derive(Debug, Drop)]
+#[derive(Drop)]
 pub struct ShownRowList {
     rows: Vec<ShownRow>,
 }

@@ -1,5 +1,5 @@
 /// What is judged of an update, on its ancestors alone.
-#[derive(Clone, Copy, Debug, PartialEq, Eq)]
+#[derive(Clone, Copy)]
 pub enum Verdict {
     /// It does what its operations say.
     Valid,

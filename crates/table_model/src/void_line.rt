@@ -1,7 +1,7 @@
 use update_model::UpdateId;
 
 /// An update that does nothing, and why.
-#[derive(Clone, Copy, Debug, PartialEq, Eq)]
+#[derive(Clone, Copy)]
 pub struct VoidLine {
     /// The update's id.
     pub id: UpdateId,

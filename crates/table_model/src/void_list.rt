@@ -5,7 +5,7 @@ use std::alloc::AllocError;
 use std::marker::Model;
 
 /// A list of updates that do nothing, in rising order of ids. A contract sees the list of its items.
-#[derive(Debug, Drop)]
+#[derive(Drop)]
 pub struct VoidList {
     voids: Vec<VoidLine>,
 }

@@ -4,7 +4,7 @@ use std::alloc::{AllocError, Global};
 use std::marker::Model;
 
 /// Bytes that a word or a text consists of, which a contract sees as their list.
-#[derive(Debug, Drop)]
+#[derive(Drop)]
 pub struct ByteString {
     bytes: Vec<u8>,
 }

@@ -1,7 +1,7 @@
 use crate::ByteString;
 
 /// A value that a word writes.
-#[derive(Debug, Drop)]
+#[derive(Drop)]
 pub enum Literal {
     /// The word `NULL`.
     Null,

@@ -1,5 +1,5 @@
 /// How words stand apart.
-#[derive(Clone, Copy, Debug, PartialEq, Eq)]
+#[derive(Clone, Copy)]
 pub enum Style {
     /// By spaces and tabs alone.
     Spaced,

@@ -1,7 +1,7 @@
 use crate::ByteString;
 
 /// One word of a line.
-#[derive(Debug, Drop)]
+#[derive(Drop)]
 pub enum Word {
     /// Bytes as they stand.
     Plain(ByteString),

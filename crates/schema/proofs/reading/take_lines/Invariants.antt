@@ -5,7 +5,7 @@ use Rattle.schema.specs.declared.fault.SchemaKind.{SchemaKind}
 use Rattle.schema.specs.Drafts.{start}
 use Rattle.schema.specs.Schemas.{LeadOn, FaultIn}
 use Rattle.schema.specs.Kept.{IsDraft}
-use Rattle.schema.proofs.reading.read_lines.Given as goal
+use Rattle.schema.proofs.reading.take_lines.Given as goal
 
 -- what the lines that are left lead to, or where they fail, all lines do
 abbrev pub invariant-loop-line : goal.invariant-loop-line

@@ -4,7 +4,7 @@ use Rattle.schema.specs.declared.fault.SchemaKind.TheVariants as fault
 use Rattle.schema.specs.Outcome.{HasFaultIn}
 use Rattle.schema.specs.Schemas.{IsComplete}
 use Rattle.schema.proofs.Lines.{leads_end, fails_end}
-use Rattle.schema.proofs.reading.read_lines.Goals as goal
+use Rattle.schema.proofs.reading.take_lines.Goals as goal
 
 pub returns-then-not-is_complete-clause-fault : goal.returns-then-not-is_complete-clause-fault
 returns-then-not-is_complete-clause-fault g c =
