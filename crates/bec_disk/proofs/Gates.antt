@@ -7,7 +7,7 @@ use Rattle.byteorder.specs.Numbers.{big_number-reads_back}
 use Rattle.bec_disk.specs.Disk.{DiskState, IsSameDisk, IsSettled, LeavesOnly}
 use Rattle.bec_disk.specs.Front.{WritesBehind}
 use Rattle.bec_disk.specs.Images.{IsTorn, IsTornFrom, IsCutFrom}
-use Rattle.bec_disk.specs.declared.gated.Gated.TheVariants.{Absent, Whole}
+use Rattle.bec_disk.specs.declared.gated.Gated.TheVariants.{Absent, Damaged, Whole}
 use Rattle.bec_disk.specs.Gated.{gated_of, whole_of, IsShut, IsShutOrSame, IsOldOrNew}
 use Rattle.bec_disk.proofs.Fronts.{behind-kept, Keeps-settled}
 use Rattle.bec_disk.proofs.Images.{same_numbers, torn_settled, cut_settled}
@@ -81,6 +81,35 @@ gated_read one seen head payload n same reads open_gate size long is =
     whole (a ∷ b ∷ c ∷ []) long open_gate is = absurd (omega arith)
     whole (a ∷ b ∷ c ∷ d ∷ []) long open_gate is = absurd (omega arith)
     whole (a ∷ b ∷ c ∷ d ∷ e ∷ rest) long open_gate is = grind (arith, nat_tests)
+
+-- what reading a part of fewer than five bytes finds
+pub gated_short : (seen : List ℕ) (n : ℕ) → n ≡ length seen → n < 5 → Absent ≡ gated_of seen
+gated_short seen n is short = grind (arith, nat_tests)
+
+first_kept : (seen : List ℕ) → get_or (take 5 seen) 0 0 ≡ get_or seen 0 0
+first_kept [] = refl
+first_kept (x ∷ seen) = refl
+
+-- what reading a part by a gate that is shut finds
+pub gated_shut : (one seen head : List ℕ) → one ≡ seen → head ≡ take 5 one → get_or head 0 0 ≡ 0 → Absent ≡ gated_of seen
+gated_shut one seen head same reads closed =
+    sym (shut_absent seen (sym (first_kept seen) ∙ ap (λ (l : List ℕ). get_or (take 5 l) 0 0) (sym same) ∙ ap (λ (l : List ℕ). get_or l 0 0) (sym reads) ∙ closed))
+
+-- what reading a part by a length that does not fit finds
+pub gated_damaged : (one seen head : List ℕ) (n : ℕ) → one ≡ seen → head ≡ take 5 one → 5 ≤ length seen → get_or head 0 0 ≢ 0 → n ≡ big_number 4 (take 4 (drop 1 head)) → length seen ≢ 5 + n
+    → Damaged ≡ gated_of seen
+gated_damaged one seen head n same reads long open_gate size other =
+    let head_is : head ≡ take 5 seen = reads ∙ ap (λ (l : List ℕ). take 5 l) same in
+    let size_is = size ∙ ap (λ (l : List ℕ). big_number 4 (take 4 (drop 1 l))) head_is in
+    sym (damaged seen long (subst (λ (l : List ℕ). get_or l 0 0 ≢ 0) head_is open_gate) (subst (λ (k : ℕ). length seen ≢ 5 + k) size_is other))
+  where
+    damaged : (seen : List ℕ) → 5 ≤ length seen → get_or (take 5 seen) 0 0 ≢ 0 → length seen ≢ 5 + big_number 4 (take 4 (drop 1 (take 5 seen))) → gated_of seen ≡ Damaged
+    damaged [] long open_gate other = absurd (omega arith)
+    damaged (a ∷ []) long open_gate other = absurd (omega arith)
+    damaged (a ∷ b ∷ []) long open_gate other = absurd (omega arith)
+    damaged (a ∷ b ∷ c ∷ []) long open_gate other = absurd (omega arith)
+    damaged (a ∷ b ∷ c ∷ d ∷ []) long open_gate other = absurd (omega arith)
+    damaged (a ∷ b ∷ c ∷ d ∷ e ∷ rest) long open_gate other = grind (arith, nat_tests)
 
 -- the run of a call that leaves the gate alone
 pub behind_gate : (old : DiskState) → (IsTrue old.tells → old.seen ≡ 0 ∷ []) → (IsTrue old.tells → IsSettled old) → WritesBehind 1 (take 1 old.seen) old old

@@ -1,3 +1,4 @@
+pub mod Causes
 pub mod Crashes
 pub mod Fronts
 pub mod Gates

@@ -1,7 +1,7 @@
 use update_model::ByteList;
 
 /// A call in the record of a disk in memory. Places and lengths are in bytes.
-#[derive(Debug, Drop)]
+#[derive(Drop)]
 pub enum DiskCall {
     /// These bytes were written from this place on.
     Wrote(u64, ByteList),

@@ -6,7 +6,7 @@ use crate::disk_fault::DiskFault;
 use std::marker::Model;
 
 /// Which calls of a disk in memory are to fail, and how many it had.
-#[derive(Debug, Drop)]
+#[derive(Drop)]
 pub struct DiskPlan {
     failing: Vec<u32>,
     last: u64,

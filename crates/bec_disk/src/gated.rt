@@ -14,7 +14,7 @@ use update_model::ByteList;
 
 /// What a gated part stands for: a gate byte, a length of four bytes with the high byte first, and
 /// a payload that counts only while the gate is not 0.
-#[derive(Debug, Drop)]
+#[derive(Drop)]
 pub enum Gated {
     /// There are fewer than five bytes, or the gate is 0.
     Absent,

@@ -20,7 +20,7 @@ use update_model::ByteList;
 
 /// A disk in memory, some of whose calls fail, for tests of what faults and crashes do. It keeps a
 /// record of its calls, by which it finds what a crash may leave.
-#[derive(Debug, Drop)]
+#[derive(Drop)]
 pub struct MemDisk {
     alloc: Global,
     place: Option<Place>,

@@ -1,5 +1,5 @@
 /// One of the parts that a store, a key or a peer has in a directory.
-#[derive(Clone, Copy, Debug, PartialEq, Eq)]
+#[derive(Clone, Copy, PartialEq, Eq)]
 pub enum Part {
     /// The schema of a store and the id of its node, gated.
     Schema,

@@ -6,7 +6,7 @@ use std::alloc::{AllocError, Global};
 use std::marker::Model;
 
 /// Where a part stands: the name of a directory, and which of its parts.
-#[derive(Debug, Drop)]
+#[derive(Drop)]
 pub struct Place {
     dir: Vec<u8>,
     part: Part,

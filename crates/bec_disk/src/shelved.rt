@@ -10,7 +10,7 @@ use crate::place::Place;
 use std::alloc::{AllocError, Global};
 
 /// A part on a shelf in memory: where it stands, and the disk, unless that is handed out.
-#[derive(Debug, Drop)]
+#[derive(Drop)]
 pub struct Shelved {
     pub place: Place,
     pub disk: Option<MemDisk>,

@@ -1,5 +1,5 @@
 /// Where a member stands that a graph holds after [`Graph::add`](crate::Graph::add).
-#[derive(Clone, Copy, Debug, PartialEq, Eq)]
+#[derive(Clone, Copy)]
 pub enum Added {
     /// It is new, and stands last, at this position.
     New(u32),

@@ -9,7 +9,7 @@ use std::marker::Model;
 use update_model::{MAX_BYTES, MAX_MEMBERS, Member, UpdateId};
 
 /// Members in arrival order, closed and within the limits. A contract sees a graph as the list of its members.
-#[derive(Debug, Drop)]
+#[derive(Drop)]
 pub struct Graph<M: Member> {
     /// In arrival order.
     members: Vec<M>,

@@ -2,7 +2,7 @@ use thiserror::Error;
 use update_model::UpdateId;
 
 /// Why a graph does not take a member.
-#[derive(Clone, Copy, Debug, PartialEq, Eq, Error)]
+#[derive(Clone, Copy, Debug, Error)]
 pub enum Refusal {
     /// This predecessor is not held; of several, the least.
     #[error("the predecessor {0:?} is not held")]

@@ -1,4 +1,5 @@
 use bec_disk::DiskError;
+use std::fmt;
 use thiserror::Error;
 
 /// Why a key is not opened.
@@ -19,7 +20,7 @@ pub enum KeyFaultKind {
 }
 
 /// A key that was not opened: why, and its disks.
-#[derive(Debug, Drop)]
+#[derive(Drop)]
 pub struct KeyFault<D> {
     /// Why it was not opened.
     pub why: KeyFaultKind,
@@ -27,6 +28,13 @@ pub struct KeyFault<D> {
     pub key: D,
     /// The disk of the part Used.
     pub used: D,
+}
+
+impl<D> fmt::Debug for KeyFault<D> {
+    /// Writes the cause alone.
+    fn fmt<W: fmt::Write>(&self, f: &mut fmt::Formatter<W>) -> fmt::Result {
+        fmt::Debug::fmt(&self.why, f)
+    }
 }
 
 /// Why a key is not created.
@@ -44,7 +52,7 @@ pub enum CreateKeyKind {
 }
 
 /// A key that was not created: why, and its disks.
-#[derive(Debug, Drop)]
+#[derive(Drop)]
 pub struct CreateKey<D> {
     /// Why it was not created.
     pub why: CreateKeyKind,
@@ -52,6 +60,13 @@ pub struct CreateKey<D> {
     pub key: D,
     /// The disk of the part Used.
     pub used: D,
+}
+
+impl<D> fmt::Debug for CreateKey<D> {
+    /// Writes the cause alone.
+    fn fmt<W: fmt::Write>(&self, f: &mut fmt::Formatter<W>) -> fmt::Result {
+        fmt::Debug::fmt(&self.why, f)
+    }
 }
 
 impl From<DiskError> for KeyFaultKind {

@@ -5,7 +5,7 @@ ghost use Rattle.key_index.specs.Used.{least_unused};
 use std::marker::Model;
 
 /// Which of the indices of a key are used. A contract sees a `bool` for each index.
-#[derive(Debug, Drop)]
+#[derive(Drop)]
 pub struct Indices {
     used: Vec<bool>,
     /// The least index that is not used, or the number of indices. It never goes back.

@@ -1,5 +1,5 @@
 -- Wave after wave.
-use Rattle.std.proofs.Common.{◌≡◌, ◌⊎◌, inl, inr, ◌<◌, ◌≤◌, List, [], ◌++◌, length, Option, ap, ◌∙◌, append_assoc, length-append, arith}
+use Rattle.std.proofs.Common.{◌≡◌, ◌⊎◌, inl, inr, ℕ, ◌<◌, ◌≤◌, ◌+◌, ◌-◌, ◌*◌, List, [], ◌∷◌, ◌++◌, length, min, Option, ap, ◌∙◌, append_assoc, length-append, arith}
 use Rattle.std.specs.Prelude.{Contains}
 use Rattle.update_model.specs.Entry.{Entry}
 use Rattle.ready_batch.specs.Ready.{IsBehind}
@@ -26,3 +26,13 @@ pub further_then : {M X : Type 0} (next next' : List X) (a b c : List M) → IsB
 further_then next next' a b c ab bc (inl none) (inl same) = inl (same ∙ none)
 further_then next next' a b c ab bc (inl none) (inr grew) = inr (let le = behind_longer a b ab in omega (arith, le, grew))
 further_then next next' a b c ab bc (inr grew) later = inr (let le = behind_longer b c bc in omega (arith, le, grew))
+
+-- a wave that leaves as many to come, or none to try, is one step less
+pub fewer_left : {X : Type 0} (most before after : ℕ) (wave next : List X) → 0 < length wave → before ≤ after → after ≤ most → (next ≡ []) ⊎ (before < after)
+    → 2 * (most - after) + min 1 (length next) < 2 * (most - before) + min 1 (length wave)
+fewer_left most before after wave next some le few (inl none) = let n = ap length none in omega arith
+fewer_left most before after wave next some le few (inr grew) = omega arith
+
+-- whoever stands last makes a list longer
+pub longer_by_one : {M : Type 0} (before after : List M) (m : M) → after ≡ before ++ m ∷ [] → length before < length after
+longer_by_one before after m is = omega (arith, ap length is, length-append before (m ∷ []))

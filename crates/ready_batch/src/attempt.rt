@@ -1,5 +1,5 @@
 /// A member that is to be looked at.
-#[derive(Clone, Copy, Debug, PartialEq, Eq)]
+#[derive(Clone, Copy)]
 pub struct Attempt {
     /// Its place in the batch, from 0.
     pub place: usize,

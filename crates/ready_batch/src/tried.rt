@@ -8,7 +8,7 @@ use hash_graph::{Added, Graph, Refusal};
 use update_model::{Member, UpdateId};
 
 /// What became of a member that was looked at.
-#[derive(Debug, Drop)]
+#[derive(Drop)]
 pub enum Tried<M> {
     /// It was added, and has this id.
     Added(UpdateId),

@@ -48,6 +48,17 @@ read_more items moved room read seen from h more k front end at len there is_len
     ap (λ (l : List ℕ). l ++ drop (at + more) seen) both ∙ append_assoc (take h (drop from items)) (take more (drop at seen)) (drop (at + more) seen)
     ∙ ap (λ (l : List ℕ). take h (drop from items) ++ l) (ap (λ (l : List ℕ). take more (drop at seen) ++ l) (sym (drop-drop more at seen)) ∙ take-append-drop more (drop at seen))
 
+-- how much stands ready then
+pub length_ready : (moved room read : List ℕ) (h more k front end len : ℕ) → length room ≡ len → h + more ≤ length room → k ≡ more → front ≡ 0 → end ≡ h + more → length read ≡ length (take k (drop h room))
+    → length (take (end - front) (drop front (take len (put_mid h k room read ++ drop (length (put_mid h k room read)) moved)))) ≡ h + more
+length_ready moved room read h more k front end len is_len fits is_k is_front is_end size =
+    let len_read : length read ≡ more = omega (arith, size, length-take k (drop h room), length-drop h room) in
+    let after : put_mid h k room read ≡ paste room h read more = put_mid-paste h k room read read more refl (sym is_k) (sym len_read) in
+    let size_after : length (put_mid h k room read) ≡ len = ap length after ∙ length-paste room h read more fits (omega arith) ∙ is_len in
+    let all : List ℕ = take len (put_mid h k room read ++ drop (length (put_mid h k room read)) moved) in
+    let long : length all ≡ len = ap length (take_at (put_mid h k room read) (drop (length (put_mid h k room read)) moved) len size_after) ∙ size_after in
+    omega (arith, length-take (end - front) (drop front all), length-drop front all, long, is_front, is_end, fits, is_len)
+
 -- ---- what is left
 
 pub length-left : (reader : ReaderState) (seen : List ℕ) → reader.at + reader.unread ≡ length seen → length (left_of reader seen) ≡ count_left reader

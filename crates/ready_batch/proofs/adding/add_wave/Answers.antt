@@ -1,4 +1,4 @@
-use Rattle.std.proofs.Common.{◌++◌, ◌+◌, List, drop, map, subst}
+use Rattle.std.proofs.Common.{◌≡◌, inl, ◌++◌, ◌+◌, List, [], drop, map, sym, subst, append-nil, rules}
 use Rattle.std.proofs.lemmas.List.{drop_more, drop_all}
 use Rattle.ready_batch.specs.declared.attempt.Attempt.{Attempt}
 use Rattle.ready_batch.specs.Steps.{AllPlaced, places_of}
@@ -26,3 +26,14 @@ pub returns-clause-placed : goal.returns-clause-placed
 returns-clause-placed g c batch are placed =
     let P : List Attempt → Type 0 = λ l. AllPlaced g.M.Member.entry (map g.M.Member.entry c.attempts.graph) batch c.attempts.slots.items c.attempts.parked (places_of l ++ places_of c.attempts.next.items) in
     subst P (drop_all c.attempts.attempt-index c.args.wave.now c.attempts-test.false) (c.attempts.invariant.placed batch are placed)
+
+pub attempts-init : goal.attempts-init
+attempts-init g c = record {
+  slots = λ batch are. are;
+  from = λ batch are. ([], sym (append-nil c.args.graph.now), tt);
+  placed = λ batch are all.
+      let none : places_of c.args.wave.now ++ places_of c.new-next.result.items ≡ places_of c.args.wave.now = search rules in
+      subst (AllPlaced g.M.Member.entry (map g.M.Member.entry c.args.graph.now) batch c.args.slots.now.items c.args.parked.now) (sym none) all;
+  further = inl (search rules);
+  behind = ([], sym (append-nil c.args.graph.now));
+}

@@ -1,7 +1,10 @@
-use Rattle.std.proofs.Common.{List, map, sym, subst}
+use Rattle.std.proofs.Common.{◌<◌, List, length, map, sym, subst, rules}
+use Rattle.std.proofs.lemmas.Bool.Decides.{nat_tests}
+use Rattle.std.proofs.lemmas.List.{nil_from_length}
+use Rattle.update_model.specs.declared.limits.TheConstants.{MAX_MEMBERS}
 use Rattle.ready_batch.specs.declared.attempt.Attempt.{Attempt}
 use Rattle.ready_batch.specs.Steps.{AllPlaced, places_of}
-use Rattle.ready_batch.proofs.Waves.{behind_then, from_then}
+use Rattle.ready_batch.proofs.Waves.{behind_longer, behind_then, from_then, fewer_left}
 use Rattle.ready_batch.proofs.adding.add_waves.Goals as goal
 
 pub returns-in_err-wave-clause-from : goal.returns-in_err-wave-clause-from
@@ -16,3 +19,14 @@ waves-preserved g c = record {
       (subst (λ (l : List Attempt). AllPlaced g.M.Member.entry (map g.M.Member.entry c.waves.graph) batch c.waves.slots.items c.waves.parked (places_of l)) (sym c.deref.ensures.value) (c.waves.invariant.placed batch are all));
   behind = behind_then c.args.graph.now c.waves.graph c.add_wave.new.graph c.waves.invariant.behind c.add_wave.ensures.behind;
 }
+
+pub waves-smaller : goal.waves-smaller
+waves-smaller g c =
+    let some : 0 < length c.waves.wave.items = search (rules, nat_tests) in
+    fewer_left MAX_MEMBERS (length c.waves.graph) (length c.add_wave.new.graph) c.waves.wave.items c.in_ok-wave.wave.items some
+    (behind_longer c.waves.graph c.add_wave.new.graph c.add_wave.ensures.behind) c.in_ok-wave.ensures.few c.in_ok-wave.ensures.further
+
+pub returns-clause-stuck : goal.returns-clause-stuck
+returns-clause-stuck g c batch are all =
+    let none = nil_from_length c.waves.wave.items (search (rules, nat_tests)) in
+    (c.waves.parked, subst (λ (l : List Attempt). AllPlaced g.M.Member.entry (map g.M.Member.entry c.waves.graph) batch c.waves.slots.items c.waves.parked (places_of l)) none (c.waves.invariant.placed batch are all))

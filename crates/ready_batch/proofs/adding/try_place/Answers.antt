@@ -1,7 +1,8 @@
-use Rattle.std.proofs.Common.{◌∙◌, map, sym}
+use Rattle.std.proofs.Common.{inr, map, sym, ◌∙◌}
 use Rattle.ready_batch.specs.Steps.{places_of}
 use Rattle.ready_batch.proofs.Parking.{places_next}
 use Rattle.ready_batch.proofs.Placing.{of_batch, added_slots, added_from, placed_added, placed_parked, passed_over, put_back, map_last, taken_other, taken_gone}
+use Rattle.ready_batch.proofs.Waves.{longer_by_one}
 use Rattle.ready_batch.proofs.adding.try_place.Goals as goal
 
 pub returns-in_err-try_member-clause-full : goal.returns-in_err-try_member-clause-full
@@ -66,3 +67,9 @@ returns-in_ok-park-in-Lacks-clause-placed g c batch others are placed =
     let tells = rw c.in-Lacks.is at c.in_ok-try_member.ensures.tells in
     rw (tells.0, tells.1) (placed_parked g.M.Member.entry (map g.M.Member.entry c.args.graph.now) batch slots _ c.args.parked.now c.park.new.parked place others (places_of c.args.next.now.items) c.in-Some.member c.in-Lacks.id
     are there (put_back slots taken place c.in-Some.member there c.take_left.ensures.gone) placed tells.2 tells.3 c.in_ok-park-in-Lacks.ensures.noted c.in_ok-park-in-Lacks.ensures.kept)
+
+pub returns-in_ok-extend_from_slice-in-Added-clause-further :
+    goal.returns-in_ok-extend_from_slice-in-Added-clause-further
+returns-in_ok-extend_from_slice-in-Added-clause-further g c =
+    let tells = rw c.in-Added.is at c.in_ok-try_member.ensures.tells in
+    inr (longer_by_one c.args.graph.now c.try_member.new.graph c.in-Some.member tells.0)

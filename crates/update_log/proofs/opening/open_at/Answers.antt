@@ -1,7 +1,17 @@
-use Rattle.std.proofs.Common.{◌≡◌, ◌∙◌, ℕ, List, take, length, sym, ap, arith, IsTrue}
+use Rattle.std.proofs.Common.{◌∙◌, take, sym, ap, IsTrue}
 use Rattle.bec_disk.specs.Disk.{DiskState}
 use Rattle.update_log.proofs.Keeping.{stop_logset, whole_seen, cut_seen, stops_on_disk, keeps_read, keeps_cut}
 use Rattle.update_log.proofs.opening.open_at.Goals as goal
+
+pub returns-in_err-len-clause-any_moment : goal.returns-in_err-len-clause-any_moment
+returns-in_err-len-clause-any_moment g c = keeps_read c.args.rule.now (g.D.Disk.state c.args.disk.now) (g.D.Disk.state c.len.new.self) c.requires c.len.ensures.same
+
+pub returns-in_err-reader-clause-any_moment : goal.returns-in_err-reader-clause-any_moment
+returns-in_err-reader-clause-any_moment g c = keeps_read c.args.rule.now (g.D.Disk.state c.args.disk.now) (g.D.Disk.state c.len.new.self) c.requires c.len.ensures.same
+
+pub returns-in_err-graph-clause-any_moment : goal.returns-in_err-graph-clause-any_moment
+returns-in_err-graph-clause-any_moment g c =
+    keeps_read c.args.rule.now (g.D.Disk.state c.args.disk.now) (g.D.Disk.state c.scan.new.disk) c.requires (c.scan.ensures.same ∙ c.len.ensures.same)
 
 pub returns-then-end-len-clause-list : goal.returns-then-end-len-clause-list
 returns-then-end-len-clause-list g c tells =
