@@ -1,7 +1,7 @@
 //! The edge of the program: real streams, connections and files as `bec_bytes`, `bec_links` and
 //! `bec_disk` see them.
 //!
-//! [`HostSource`] reads a reader of std through a buffer, and [`HostSink`] writes to a writer of std.
+//! [`words`] is the command line, [`HostSource`] reads a reader of std through a buffer, and [`HostSink`] writes to a writer of std.
 //! [`TcpNet`] listens and dials, and hands each connection out as a [`TcpLink`]. [`FileShelf`] hands the
 //! files of directories out as [`FileDisk`]s. Each counts the errors that it meets, retries a call
 //! that a signal interrupted, and fails at any other error.
@@ -18,6 +18,7 @@
 //! that it passes on, unchanged and in order, the bytes that the reader gave or the writer took.
 #![tactic(auto)]
 
+mod arguments;
 mod file_disk;
 mod file_shelf;
 mod hash_rng;
@@ -27,6 +28,7 @@ mod laws;
 mod tcp_link;
 mod tcp_net;
 
+pub use arguments::words;
 pub use file_disk::FileDisk;
 pub use file_shelf::FileShelf;
 pub use hash_rng::HashRng;
