@@ -1,12 +1,9 @@
 //! The program `bec`: it makes the real objects, calls [`bec_node::run`], and ends with its status.
 #![tactic(auto)]
 
-use bec_host::{FileShelf, HashRng, HostSink, HostSource, TcpNet, hold_closed_streams};
+use bec_host::{FileShelf, HashRng, HostSink, HostSource, TcpNet, hold_closed_streams, words};
 use bec_node::run;
 use bec_node::status::{OUT_OF_MEMORY, STREAM_FAULT};
-use std::alloc::AllocError;
-use std::env;
-use std::io::ErrorKind;
 use std::process::ExitCode;
 use std::random::RandomSource;
 
@@ -46,23 +43,4 @@ fn main(rt: HostRuntime) -> ExitCode {
         &mut input,
         &mut output,
     ))
-}
-
-/// The words of the command line, without the program's own name. Words of which one is no UTF-8 are no command, as no
-/// words are none.
-fn words(rt: &(impl std::rt::Env + AllocGlobal)) -> Result<Vec<String>, AllocError> {
-    let mut words = Vec::new(rt.alloc());
-    match env::args(rt) {
-        Ok(arguments) => {
-            for argument in arguments.skip(1) {
-                words.push(argument)?;
-            }
-        }
-        Err(error) => {
-            if error.kind() != ErrorKind::InvalidData {
-                return Err(AllocError);
-            }
-        }
-    }
-    Ok(words)
 }

@@ -10,7 +10,8 @@ use Rattle.graph_drawing.specs.Pictures.{IsPicture}
 use Rattle.node_commands.specs.Bundle.{HoldsText, LacksText}
 use Rattle.node_commands.specs.declared.refusal.Refusal.{Refusal}
 use Rattle.node_commands.specs.declared.refusal.Refusal.TheVariants.{Record, Words}
-use Rattle.node_commands.specs.Outcome.{ComesTo, Outcome, Prints, from_taking}
+use Rattle.node_commands.specs.Outcome.{ComesTo, Outcome, from_taking}
+use Rattle.schema_verdict.specs.Verdict.{Prints}
 use Rattle.node_commands.specs.Verdict.{rules_of}
 use Rattle.schema.specs.Schemas.{SchemaData}
 use Rattle.table_model.specs.declared.void_line.VoidLine.{VoidLine}

@@ -8,11 +8,8 @@ mod drawing;
 
 use crate::drawing::{left_out_line, run};
 use bec_bytes::write_all_of;
-use bec_host::{HostSink, HostSource, hold_closed_streams};
+use bec_host::{HostSink, HostSource, hold_closed_streams, words};
 use node_commands::status::{OUT_OF_MEMORY, STREAM_FAULT};
-use std::alloc::AllocError;
-use std::env;
-use std::io::ErrorKind;
 use std::process::ExitCode;
 
 fn main(rt: HostRuntime) -> ExitCode {
@@ -38,23 +35,4 @@ fn main(rt: HostRuntime) -> ExitCode {
         },
         Err(_memory) => ExitCode::from(OUT_OF_MEMORY),
     }
-}
-
-/// The words of the command line, without the program's own name. Words of which one is no UTF-8 are no command, as no
-/// words are none.
-fn words(rt: &(impl std::rt::Env + AllocGlobal)) -> Result<Vec<String>, AllocError> {
-    let mut words = Vec::new(rt.alloc());
-    match env::args(rt) {
-        Ok(arguments) => {
-            for argument in arguments.skip(1) {
-                words.push(argument)?;
-            }
-        }
-        Err(error) => {
-            if error.kind() != ErrorKind::InvalidData {
-                return Err(AllocError);
-            }
-        }
-    }
-    Ok(words)
 }

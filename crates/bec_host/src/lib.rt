@@ -1,7 +1,7 @@
 //! The edge of the program: real streams, connections and files as `bec_bytes`, `bec_links` and
 //! `bec_disk` see them.
 //!
-//! [`HostSource`] reads a reader of std through a buffer, and [`HostSink`] writes to a writer of std.
+//! [`words`] is the command line, [`HostSource`] reads a reader of std through a buffer, and [`HostSink`] writes to a writer of std.
 //! [`TcpNet`] listens and dials, and hands each connection out as a [`TcpLink`]. [`FileShelf`] hands the
 //! files of directories out as [`FileDisk`]s. Each counts the errors that it meets, retries a call
 //! that a signal interrupted, and fails at any other error. [`hold_closed_streams`] keeps a file from getting the
@@ -19,6 +19,7 @@
 //! that it passes on, unchanged and in order, the bytes that the reader gave or the writer took.
 #![tactic(auto)]
 
+mod arguments;
 mod closed_streams;
 mod file_disk;
 mod file_shelf;
@@ -29,6 +30,7 @@ mod laws;
 mod tcp_link;
 mod tcp_net;
 
+pub use arguments::words;
 pub use closed_streams::hold_closed_streams;
 pub use file_disk::FileDisk;
 pub use file_shelf::FileShelf;

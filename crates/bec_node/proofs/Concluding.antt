@@ -11,7 +11,7 @@ use Rattle.session_server.specs.declared.ending.Ending.TheVariants as endings
 use Rattle.session_server.specs.declared.served.Served.{Served}
 use Rattle.node_commands.specs.declared.refusal.Refusal.{Refusal}
 use Rattle.node_commands.specs.declared.refusal.Refusal.TheVariants as refusals
-use Rattle.node_commands.specs.declared.status.TheConstants.{DONE, STORE_FAULT, STREAM_FAULT}
+use Rattle.schema_verdict.specs.declared.status.TheConstants.{DONE, STORE_FAULT, STREAM_FAULT}
 use Rattle.bec_node.specs.declared.reply.Reply.{Reply}
 use Rattle.bec_node.specs.Open.{AreKept, Concludes, IsKeepFault, Keeps}
 use Rattle.bec_node.specs.Words.{status_by, sync_text}

@@ -25,7 +25,7 @@ use Rattle.session_server.specs.Serving.{Ran}
 use Rattle.session_server.specs.Sessions.{IsSession}
 use Rattle.node_commands.specs.declared.refusal.Refusal.{Refusal}
 use Rattle.node_commands.specs.declared.refusal.Refusal.TheVariants as refusals
-use Rattle.node_commands.specs.declared.status.TheConstants.{STORE_FAULT, STREAM_FAULT}
+use Rattle.schema_verdict.specs.declared.status.TheConstants.{STORE_FAULT, STREAM_FAULT}
 use Rattle.node_commands.specs.Comes.{readings}
 use Rattle.node_commands.specs.Merging.{IsPeersFault, KeepsPeers, memory_in, opened_store}
 use Rattle.node_commands.specs.Outcome.{from_store}

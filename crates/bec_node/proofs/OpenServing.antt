@@ -20,7 +20,7 @@ use Rattle.store_directory.proofs.Readings.{OneSchema}
 use Rattle.store_directory.proofs.Working.{held_run, holds_run, read_before, store_of}
 use Rattle.node_commands.specs.declared.refusal.Refusal.{Refusal}
 use Rattle.node_commands.specs.declared.refusal.Refusal.TheVariants as refusals
-use Rattle.node_commands.specs.declared.status.TheConstants.{DONE, FULL, PEER, STORE_FAULT, STREAM_FAULT}
+use Rattle.schema_verdict.specs.declared.status.TheConstants.{DONE, FULL, PEER, STORE_FAULT, STREAM_FAULT}
 use Rattle.node_commands.specs.Comes.{readings}
 use Rattle.node_commands.specs.Merging.{IsPeersFault, KeepsPeers, memory_in, opened_store}
 use Rattle.node_commands.specs.Outcome.{from_store}

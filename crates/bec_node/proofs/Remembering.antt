@@ -6,7 +6,7 @@ use Rattle.peer_memory.specs.declared.peer.Peer.{Peer}
 use Rattle.session_server.specs.declared.ending.Ending.{Ending}
 use Rattle.session_server.specs.declared.ending.Ending.TheVariants.{Done, Peer as BadPeer, Cut, Full, Broken, Store, Memory}
 use Rattle.session_server.specs.declared.served.Served.{Served}
-use Rattle.node_commands.specs.declared.status.TheConstants.{DONE}
+use Rattle.schema_verdict.specs.declared.status.TheConstants.{DONE}
 use Rattle.bec_node.specs.Meetings.{RemembersAll, RemembersOne, RemembersSessions}
 use Rattle.bec_node.specs.Words.{has_status, status_by}
 

@@ -19,7 +19,7 @@ use Rattle.session_server.specs.declared.ending.Ending.TheVariants.{Done, Peer a
 use Rattle.session_server.specs.declared.served.Served.{Served}
 use Rattle.session_server.specs.Serving.{IsResponse, IsTold, IsWithin, Ran, Serves, served_of}
 use Rattle.shared_replica.proofs.Going.{updates_stay}
-use Rattle.node_commands.specs.declared.status.TheConstants.{STORE_FAULT, STREAM_FAULT}
+use Rattle.schema_verdict.specs.declared.status.TheConstants.{STORE_FAULT, STREAM_FAULT}
 use Rattle.bec_node.specs.declared.commands.serve.Met.{Met}
 use Rattle.bec_node.specs.Open.{KeepsGrowing, opening_list}
 use Rattle.bec_node.specs.OpenServing.{HoldsSessions, ServesPeersOpen}

@@ -27,7 +27,7 @@ use Rattle.session_server.specs.Serving.{Ran, Serves}
 use Rattle.session_server.specs.Sessions.{IsSession}
 use Rattle.node_commands.specs.declared.refusal.Refusal.{Refusal}
 use Rattle.node_commands.specs.declared.refusal.Refusal.TheVariants as refusals
-use Rattle.node_commands.specs.declared.status.TheConstants.{DONE, STORE_FAULT, STREAM_FAULT}
+use Rattle.schema_verdict.specs.declared.status.TheConstants.{DONE, STORE_FAULT, STREAM_FAULT}
 use Rattle.node_commands.specs.Comes.{readings}
 use Rattle.node_commands.specs.Merging.{RemembersIn, memory_in}
 use Rattle.node_commands.specs.Outcome.{status_for}

@@ -20,7 +20,7 @@ use Rattle.session_server.specs.Serving.{Ran}
 use Rattle.session_server.specs.Sessions.{HasMetFault, IsSession}
 use Rattle.node_commands.specs.declared.refusal.Refusal.{Refusal}
 use Rattle.node_commands.specs.declared.refusal.Refusal.TheVariants as refusals
-use Rattle.node_commands.specs.declared.status.TheConstants.{STORE_FAULT, STREAM_FAULT}
+use Rattle.schema_verdict.specs.declared.status.TheConstants.{STORE_FAULT, STREAM_FAULT}
 use Rattle.node_commands.specs.Merging.{KeepsPeers, RemembersIn, memory_in, opened_store}
 use Rattle.bec_node.specs.Meetings.{Dials, HandsNone, HandsOver, IsMeetingFault, Meets, Tells, Told, told_done, told_status}
 use Rattle.bec_node.specs.Words.{status_by, sync_text}

@@ -16,7 +16,7 @@ use Rattle.session_server.specs.declared.served.Served.{Served}
 use Rattle.session_server.specs.Serving.{Serves}
 use Rattle.node_commands.specs.declared.refusal.Refusal.{Refusal}
 use Rattle.node_commands.specs.declared.refusal.Refusal.TheVariants as refusals
-use Rattle.node_commands.specs.declared.status.TheConstants.{STORE_FAULT, STREAM_FAULT}
+use Rattle.schema_verdict.specs.declared.status.TheConstants.{STORE_FAULT, STREAM_FAULT}
 use Rattle.node_commands.specs.Merging.{KeepsPeers, memory_in, opened_store}
 use Rattle.bec_node.specs.declared.commands.serve.Met.{Met}
 use Rattle.bec_node.specs.Meetings.{IsMeetingFault, RemembersSessions, ServesPeers, Tells, Told, told_done, told_status}

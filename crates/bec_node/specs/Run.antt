@@ -6,9 +6,11 @@ use Rattle.std.specs.String.{string_bytes}
 use Rattle.bec_disk.specs.Shelf.{ShelfState}
 use Rattle.bec_links.specs.Nets.{NetState}
 use Rattle.command_words.specs.NetRequests.{AsksNet, NetText, sync, serve}
-use Rattle.node_commands.specs.declared.status.TheConstants.{OUT_OF_MEMORY}
-use Rattle.node_commands.specs.Outcome.{Ends, Puts}
-use Rattle.node_commands.specs.Outside.{IsUntouched, Outside, SinkState}
+use Rattle.schema_verdict.specs.declared.status.TheConstants.{OUT_OF_MEMORY}
+use Rattle.node_commands.specs.Outcome.{Ends}
+use Rattle.schema_verdict.specs.Written.{Puts}
+use Rattle.node_commands.specs.Outside.{IsUntouched, Outside}
+use Rattle.schema_verdict.specs.Written.{SinkState}
 use Rattle.node_commands.specs.Run.{Runs}
 use Rattle.bec_node.specs.Meetings.{ServesStore, SyncsStore, Told}
 

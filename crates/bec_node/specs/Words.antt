@@ -5,7 +5,7 @@ use Rattle.std.specs.Fmt.{decimal}
 use Rattle.session_server.specs.declared.ending.Ending.{Ending}
 use Rattle.session_server.specs.declared.ending.Ending.TheVariants.{Done, Peer, Cut, Full, Broken, Store, Memory}
 use Rattle.session_server.specs.declared.served.Served.{Served}
-use Rattle.node_commands.specs.declared.status.TheConstants.{DONE, STORE_FAULT, STREAM_FAULT, OUT_OF_MEMORY, PEER, FULL}
+use Rattle.schema_verdict.specs.declared.status.TheConstants.{DONE, STORE_FAULT, STREAM_FAULT, OUT_OF_MEMORY, PEER, FULL}
 use Rattle.node_commands.specs.Texts.{peer_text}
 
 -- the exit status for a session that ended so

@@ -18,12 +18,14 @@ use Rattle.node_commands.specs.declared.refusal.Refusal.{Refusal}
 use Rattle.node_commands.specs.declared.refusal.Refusal.TheVariants.{Record}
 use Rattle.node_commands.specs.Bundle.{DumpAnswer, dump_text, holds as holds_text, lacks, HoldsText, IsCutSchema, LacksText, RecordsAnswer, whole, stopped, TextAnswer, taken, refused as text_refused, nodes_of}
 use Rattle.node_commands.specs.Heads.{HeadsAnswer, done, refused}
-use Rattle.node_commands.specs.Outcome.{Outcome, Prints, from_taking, status_for, status_of, text_for, text_of}
+use Rattle.node_commands.specs.Outcome.{Outcome, from_taking, status_for, status_of, text_for, text_of}
+use Rattle.schema_verdict.specs.Verdict.{Prints}
 use Rattle.node_commands.specs.Texts.{printed}
 use Rattle.schema.specs.Schemas.{Declares, Meaning}
 use Rattle.confluence_test.specs.Taking.{RefusesSchema, TakesSchema}
 use Rattle.confluence_test.specs.declared.refusal.SchemaRefusal.{SchemaRefusal}
-use Rattle.node_commands.specs.Verdict.{CheckAnswer, confluent, refused as check_refused, rules_of}
+use Rattle.node_commands.specs.Verdict.{CheckAnswer, rules_of}
+use Rattle.schema_verdict.specs.Verdict.{confluent, refused as check_refused}
 use Rattle.node_commands.proofs.Tables.{TableLaws, tables_once}
 
 pub heads_once : (members others : List (List ℕ)) (heads again : List UpdateId) → members ≡ others → AreHeads (map entry_of members) heads → AreHeads (map entry_of others) again → heads ≡ again

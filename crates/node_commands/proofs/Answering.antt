@@ -8,7 +8,6 @@ use Rattle.row_check.specs.Checksum.{is_luhn}
 use Rattle.confluence_test.specs.Taking.{RefusesSchema, TakesSchema}
 use Rattle.confluence_test.specs.declared.refusal.SchemaRefusal.{SchemaRefusal}
 use Rattle.confluence_test.specs.declared.refusal.SchemaRefusal.TheVariants as taking
-use Rattle.schema.specs.declared.limits.TheConstants.{MAX_SCHEMA_BYTES}
 use Rattle.schema.specs.Schemas.{SchemaData}
 use Rattle.bec_bytes.specs.Causes.{Rose}
 use Rattle.node_commands.specs.declared.refusal.Refusal.{Refusal}
@@ -16,10 +15,12 @@ use Rattle.node_commands.specs.declared.refusal.Refusal.TheVariants.{Memory}
 use Rattle.update_check.specs.Members.{AreMembers}
 use Rattle.node_commands.specs.Bundle.{DumpAnswer, holds, HoldsText, lacks, LacksText, PrintsTables, stopped, taken, refused as text_refused, whole}
 use Rattle.node_commands.specs.Heads.{HeadsAnswer, refused, StopsAt}
-use Rattle.node_commands.specs.Outcome.{ComesTo, IsFault, Puts, Says, from_taking, status_for, text_for}
-use Rattle.node_commands.specs.Inputs.{ReadsText}
+use Rattle.node_commands.specs.Outcome.{ComesTo, IsFault, Outcome, Says, from_taking, from_verdict, status_for, text_for}
+use Rattle.schema_verdict.specs.Written.{Puts}
 use Rattle.node_commands.specs.Verdict.{CheckAnswer}
-use Rattle.node_commands.proofs.Checking.{refused_read}
+use Rattle.schema_verdict.specs.Verdict.{CheckAnswer as IsVerdict, IsFault as IsVerdictFault, OutcomeOf, confluent, refused as check_is_refused}
+use Rattle.schema_verdict.specs.declared.refusal.VerdictRefusal.{VerdictRefusal}
+use Rattle.schema_verdict.specs.declared.refusal.VerdictRefusal.TheVariants.{NotTaken}
 
 -- ---- refusals of commands
 
@@ -27,10 +28,24 @@ pub heads_refused : (before after : Option (List ℕ)) (old new : ℕ) (r : Refu
 heads_refused before after old new r (inl s) = inl (refused s.0 s.1.0 s.1.1 (λ i. Err (s.1.2 i)))
 heads_refused before after old new r (inr fault) = inr fault
 
-pub check_refused : (before after : Option (List ℕ)) (old new : ℕ) (read : List ℕ) (why : SchemaRefusal) → ReadsText MAX_SCHEMA_BYTES before after read
-    → RefusesSchema is_luhn read why ⊎ (why ≡ taking.Memory) → ComesTo CheckAnswer before after old new (Err (from_taking why))
-check_refused before after old new read why reads (inl refuses) = inl (refused_read before after read why reads refuses)
-check_refused before after old new read why reads (inr memory) = inr (inl (ap from_taking memory))
+-- an outcome of a verdict, as a command tells it
+abbrev told_here : OutcomeOf VerdictRefusal → Outcome
+told_here (Ok text) = Ok text
+told_here (Err refusal) = Err (from_verdict refusal)
+
+check_told : (before after : Option (List ℕ)) (outcome : OutcomeOf VerdictRefusal) → IsVerdict NotTaken before after outcome → CheckAnswer before after (told_here outcome)
+check_told before after (Ok text) (confluent t schema read takes prints) = confluent t schema read takes prints
+check_told before after (Err refusal) (confluent t schema read takes prints) = absurd prints
+check_told before after outcome (check_is_refused t why read refuses is) = check_is_refused t why read refuses (ap told_here is)
+
+pub check_done : (before after : Option (List ℕ)) (text : Vec ℕ Global) → IsVerdict NotTaken before after (Ok text) → CheckAnswer before after (Ok text)
+check_done before after text is = check_told before after (Ok text) is
+
+pub check_refused : (before after : Option (List ℕ)) (old new : ℕ) (refusal : VerdictRefusal) → IsVerdict NotTaken before after (Err refusal) ⊎ IsVerdictFault old new refusal
+    → ComesTo CheckAnswer before after old new (Err (from_verdict refusal))
+check_refused before after old new refusal (inl is) = inl (check_told before after (Err refusal) is)
+check_refused before after old new refusal (inr (inl memory)) = inr (inl (ap from_verdict memory))
+check_refused before after old new refusal (inr (inr failed)) = inr (inr (ap from_verdict failed.0, failed.1))
 
 pub dump_lacks : (json : Bool) (before after : Option (List ℕ)) (old new : ℕ) (r : Refusal) → LacksText before after r ⊎ IsFault old new r → ComesTo (DumpAnswer json) before after old new (Err r)
 dump_lacks json before after old new r (inl none) = inl (lacks r none refl)

@@ -7,12 +7,14 @@ use Rattle.lm_ots.specs.declared.ots_type.OtsType.{OtsType}
 use Rattle.lms_tree.specs.declared.lms_type.LmsType.{LmsType}
 use Rattle.command_words.specs.Requests.{Asks, RequestText, heads, check, dump, init, keygen, apply, join, export, query, merge, for_heads, for_check, for_dump, for_init, for_keygen, for_apply, for_join, for_export, for_query, for_merge}
 use Rattle.node_commands.specs.declared.refusal.Refusal.TheVariants.{Words, Memory}
-use Rattle.node_commands.specs.declared.status.TheConstants.{NO_COMMAND, OUT_OF_MEMORY}
+use Rattle.schema_verdict.specs.declared.status.TheConstants.{NO_COMMAND, OUT_OF_MEMORY}
 use Rattle.node_commands.specs.Bundle.{DumpAnswer}
 use Rattle.node_commands.specs.Heads.{HeadsAnswer}
 use Rattle.node_commands.specs.Verdict.{CheckAnswer}
-use Rattle.node_commands.specs.Outcome.{Ends, MayLackMemory, Outcome, Puts, Says}
-use Rattle.node_commands.specs.Outside.{IsUntouched, Outside, SinkState}
+use Rattle.node_commands.specs.Outcome.{Ends, MayLackMemory, Outcome, Says}
+use Rattle.schema_verdict.specs.Written.{Puts}
+use Rattle.node_commands.specs.Outside.{IsUntouched, Outside}
+use Rattle.schema_verdict.specs.Written.{SinkState}
 use Rattle.node_commands.specs.Run.{AnswersOnly, Comes, IsCommand, IsNoCommand, named, none, ReadsSource, Runs, unread}
 use Rattle.store_directory.specs.Stores.{StoreData}
 use Rattle.node_commands.specs.Comes.{ReadsStoreOnly}

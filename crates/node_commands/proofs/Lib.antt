@@ -1,5 +1,4 @@
 pub mod HeadSteps
-pub mod Checking
 pub mod Orders
 pub mod Tables
 pub mod Answer

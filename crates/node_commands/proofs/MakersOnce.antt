@@ -22,7 +22,8 @@ use Rattle.txn_text.specs.declared.fault.TextKind.{TextKind}
 use Rattle.node_commands.specs.declared.refusal.Refusal.{Refusal}
 use Rattle.node_commands.specs.declared.refusal.Refusal.TheVariants as refusals
 use Rattle.node_commands.specs.Creating.{InitAnswer, IsRefused, KeygenAnswer, created, drawn, refused as text_refused, there}
-use Rattle.node_commands.specs.Outcome.{Outcome, Prints, from_make, from_taking}
+use Rattle.node_commands.specs.Outcome.{Outcome, from_make, from_taking}
+use Rattle.schema_verdict.specs.Verdict.{Prints}
 use Rattle.node_commands.specs.Signing.{ApplyAnswer, IsBeforeOperations, IsInvalid, IsSureOfApply, JoinAnswer, KeyedAnswer, MakeAnswer, MayApply, RefusesKey, SignAnswer, StoreAnswer, asked, bad_key, bad_text, history_of, joined, made, no_key, none, not_joined, not_made, taken_of, with_key, with_store, with_update, without_key, without_store}
 use Rattle.node_commands.specs.StoreAnswers.{Readings, next_bytes}
 use Rattle.node_commands.specs.Texts.{database_text, line_of}

@@ -9,10 +9,11 @@ use Rattle.session_rules.specs.Laws.{NoCollision}
 use Rattle.sync_session.specs.Carrying.{HasRoom}
 use Rattle.sync_session.specs.declared.pair.PairEnd.{PairEnd}
 use Rattle.store_directory.specs.Stores.{StoreData}
-use Rattle.node_commands.specs.declared.status.TheConstants.{DONE}
+use Rattle.schema_verdict.specs.declared.status.TheConstants.{DONE}
 use Rattle.node_commands.specs.Comes.{is_done}
 use Rattle.node_commands.specs.Merging.{IsSureOfMerge, MayMerge, Meets, MergeAnswer, TellsEnd, done, first_refused, full, peer, second_refused, united, with_both, without_first, without_second}
-use Rattle.node_commands.specs.Outcome.{Outcome, Prints, status_of}
+use Rattle.node_commands.specs.Outcome.{Outcome, status_of}
+use Rattle.schema_verdict.specs.Verdict.{Prints}
 use Rattle.node_commands.specs.StoreAnswers.{Readings}
 use Rattle.node_commands.specs.Texts.{merged_text}
 use Rattle.node_commands.proofs.Meeting.{is_done_end, told_apart}

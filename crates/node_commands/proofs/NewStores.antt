@@ -34,12 +34,12 @@ use Rattle.node_commands.specs.declared.refusal.Refusal.{Refusal}
 use Rattle.node_commands.specs.declared.refusal.Refusal.TheVariants as refusals
 use Rattle.node_commands.specs.Comes.{readings}
 use Rattle.node_commands.specs.Creating.{HasSchema, InitAnswer, Inits, IsInitFault, IsRefused, Lasts, LeavesOldOrNew, created, refused, there as store_there}
-use Rattle.node_commands.specs.Inputs.{ReadsText}
+use Rattle.schema_verdict.specs.Inputs.{ReadsText}
 use Rattle.node_commands.specs.Outcome.{from_creating, from_disk, from_reading, from_taking}
 use Rattle.node_commands.specs.Outside.{Outside}
 use Rattle.node_commands.specs.StoreAnswers.{next_bytes}
 use Rattle.node_commands.specs.Texts.{database_text}
-use Rattle.node_commands.proofs.Checking.{no_longer, whole_refused, whole_taken}
+use Rattle.schema_verdict.proofs.Reading.{no_longer, whole_refused, whole_taken}
 use Rattle.node_commands.proofs.NewKeys.{lasting}
 
 -- a text has no reason to be refused that is taken

@@ -7,7 +7,7 @@ use Rattle.bec_disk.specs.declared.part.Part.{Part}
 use Rattle.bec_disk.specs.declared.part.Part.TheVariants.{Schema, Updates, Key, Used}
 use Rattle.bec_disk.specs.Shelf.{ShelfState}
 use Rattle.node_commands.specs.declared.refusal.Refusal.TheVariants.{Memory}
-use Rattle.node_commands.specs.declared.status.TheConstants.{OUT_OF_MEMORY, STORE_FAULT, STREAM_FAULT}
+use Rattle.schema_verdict.specs.declared.status.TheConstants.{OUT_OF_MEMORY, STORE_FAULT, STREAM_FAULT}
 use Rattle.node_commands.specs.Bundle.{DumpAnswer}
 use Rattle.store_directory.specs.Stores.{StoreData}
 use Rattle.node_commands.specs.Comes.{IsShelfFault, ReadsStoreOnly, RunsStore, readings}

@@ -52,7 +52,7 @@ use Rattle.txn_text.specs.Outcome.{HasCause}
 use Rattle.node_commands.specs.declared.refusal.Refusal.{Refusal}
 use Rattle.node_commands.specs.declared.refusal.Refusal.TheVariants as refusals
 use Rattle.node_commands.specs.Comes.{IsShelfFault, is_done, readings}
-use Rattle.node_commands.specs.Inputs.{ReadsText}
+use Rattle.schema_verdict.specs.Inputs.{ReadsText}
 use Rattle.node_commands.specs.Outcome.{Outcome, from_key, from_make, from_store, from_text}
 use Rattle.node_commands.specs.Signing.{ApplyAnswer, IsInnerFault, IsNoStop, IsOpenFault, IsSourceFault, JoinAnswer, KeyedAnswer, MakeAnswer, MakesUpdate, SignAnswer, SignsIn, SignsOpen, StopsReading, StoreAnswer, TakesText, WorksFrom, asked, bad_key, bad_text, history_of, joined, made, no_key, none, not_joined, not_made, taken_of, with_key, with_store, without_key, without_store}
 use Rattle.node_commands.specs.StoreAnswers.{next_bytes}

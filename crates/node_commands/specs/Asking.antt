@@ -14,7 +14,8 @@ use Rattle.query_answer.specs.Lines.{lines_text}
 use Rattle.store_directory.specs.Stores.{StoreData}
 use Rattle.node_commands.specs.declared.refusal.Refusal.TheVariants.{Query}
 use Rattle.node_commands.specs.Bundle.{nodes_of}
-use Rattle.node_commands.specs.Outcome.{Outcome, Prints}
+use Rattle.node_commands.specs.Outcome.{Outcome}
+use Rattle.schema_verdict.specs.Verdict.{Prints}
 use Rattle.node_commands.specs.Verdict.{rules_of}
 
 -- the text of an answer: JSON, or a line for each row

@@ -30,7 +30,8 @@ use Rattle.node_commands.specs.declared.refusal.Refusal.TheVariants.{CutSchema, 
 use Rattle.row_check.specs.Checksum.{is_luhn}
 use Rattle.confluence_test.specs.Taking.{RefusesSchema, TakesSchema}
 use Rattle.confluence_test.specs.declared.refusal.SchemaRefusal.{SchemaRefusal}
-use Rattle.node_commands.specs.Outcome.{Outcome, Prints, from_taking}
+use Rattle.node_commands.specs.Outcome.{Outcome, from_taking}
+use Rattle.schema_verdict.specs.Verdict.{Prints}
 use Rattle.node_commands.specs.Verdict.{rules_of}
 
 -- what tables see of the members of a graph, newest first

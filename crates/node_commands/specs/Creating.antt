@@ -22,8 +22,9 @@ use Rattle.store_directory.specs.Making.{seen_in}
 use Rattle.store_directory.specs.Stores.{IsHome, IsNoStore, IsUntouched, KeepsAllBut, part_in}
 use Rattle.node_commands.specs.declared.refusal.Refusal.TheVariants.{KeyThere, Memory, StoreFault, StoreThere}
 use Rattle.node_commands.specs.Comes.{IsAnyFault, IsShelfFault, readings}
-use Rattle.node_commands.specs.Inputs.{IsWholeText}
-use Rattle.node_commands.specs.Outcome.{Outcome, Prints, from_taking}
+use Rattle.schema_verdict.specs.Inputs.{IsWholeText}
+use Rattle.node_commands.specs.Outcome.{Outcome, from_taking}
+use Rattle.schema_verdict.specs.Verdict.{Prints}
 use Rattle.node_commands.specs.Outside.{Outside}
 use Rattle.node_commands.specs.StoreAnswers.{HasStore, Readings, next_bytes}
 use Rattle.node_commands.specs.Texts.{database_text, key_text}

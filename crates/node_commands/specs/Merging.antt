@@ -27,7 +27,8 @@ use Rattle.store_directory.specs.Stores.{IsHome, IsStore, KeepsAllBut, KeepsPlac
 use Rattle.node_commands.specs.declared.refusal.Refusal.{Refusal}
 use Rattle.node_commands.specs.declared.refusal.Refusal.TheVariants as refusals
 use Rattle.node_commands.specs.Comes.{IsShelfFault, is_done, readings}
-use Rattle.node_commands.specs.Outcome.{Outcome, Prints}
+use Rattle.node_commands.specs.Outcome.{Outcome}
+use Rattle.schema_verdict.specs.Verdict.{Prints}
 use Rattle.node_commands.specs.Outside.{Outside}
 use Rattle.node_commands.specs.Signing.{WorksFrom}
 use Rattle.node_commands.specs.StoreAnswers.{HasStore, Readings, RefusesStore}

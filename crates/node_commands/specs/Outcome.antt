@@ -1,6 +1,5 @@
 -- What a command comes to, and how it is said.
-use Rattle.std.specs.Prelude.{◌≡◌, ◌≢◌, ◌⊎◌, ℕ, ◌≤◌, List, [], length, take, codes, Option, Result, Ok, Err, Vec}
-use Rattle.std.specs.declared.alloc.Global.{Global}
+use Rattle.std.specs.Prelude.{◌≡◌, ◌≢◌, ◌⊎◌, ℕ, List, [], codes, Option, Ok, Err}
 use Rattle.std.specs.Io.KnownBytes.{Appends}
 use Rattle.bec_bytes.specs.Causes.{Rose}
 use Rattle.confluence_test.specs.declared.refusal.SchemaRefusal.{SchemaRefusal}
@@ -29,12 +28,17 @@ use Rattle.txn_text.specs.declared.fault.TextError.TheVariants as text_errors
 use Rattle.node_commands.specs.declared.refusal.Refusal.{Refusal}
 use Rattle.node_commands.specs.declared.refusal.Refusal.TheVariants.{Words, Record, CutSchema, Schema, NotConfluent, Query, Transaction, Invalid, AuthorNotListed, UpdateTooLong, IdTaken, KeySpent, Heads, Peer, NoStore, StoreThere, BadStore, NoKey, KeyThere, BadKey, StoreFault, Stream, Memory}
 use Rattle.node_commands.specs.declared.refusal.Refusal.TheVariants as refusals
-use Rattle.node_commands.specs.declared.status.TheConstants.{DONE, REFUSED, NO_COMMAND, STORE_FAULT, STREAM_FAULT, OUT_OF_MEMORY, PEER, FULL, STORE}
-use Rattle.node_commands.specs.Texts.{invalid_text, many_heads_text, peer_text, query_text, record_text, refused_text, schema_text, spent_text, transaction_text}
+use Rattle.schema_verdict.specs.declared.status.TheConstants.{DONE, REFUSED, NO_COMMAND, STORE_FAULT, STREAM_FAULT, OUT_OF_MEMORY, PEER, FULL, STORE}
+use Rattle.node_commands.specs.Texts.{invalid_text, many_heads_text, peer_text, query_text, record_text, spent_text, transaction_text}
+use Rattle.schema_verdict.specs.Texts.{refused_text, schema_text}
+use Rattle.schema_verdict.specs.Verdict.{OutcomeOf}
+use Rattle.schema_verdict.specs.Written.{Puts}
+use Rattle.schema_verdict.specs.declared.refusal.VerdictRefusal.{VerdictRefusal}
+use Rattle.schema_verdict.specs.declared.refusal.VerdictRefusal.TheVariants as verdicts
 
 -- A command is done and prints a text, or it is refused.
 abbrev pub Outcome : Type 0
-Outcome = Result (Vec ℕ Global) Refusal
+Outcome = OutcomeOf Refusal
 
 -- the status for a refusal
 abbrev pub status_for : Refusal → ℕ
@@ -102,11 +106,6 @@ abbrev pub text_of : Outcome → List ℕ
 text_of (Ok text) = text.items
 text_of (Err refusal) = text_for refusal
 
--- the command is done, and prints this
-abbrev pub Prints : Outcome → List ℕ → Type 0
-Prints (Ok text) bytes = text.items ≡ bytes
-Prints (Err refusal) bytes = ⊥
-
 -- the refusals that errors of the layers below become
 abbrev pub from_reading : ReadError → Refusal
 from_reading read_errors.Failed = Stream
@@ -165,6 +164,10 @@ from_taking (taking.Schema fault) = Schema fault
 from_taking (taking.NotConfluent schema which example) = NotConfluent schema which example
 from_taking taking.Memory = Memory
 
+abbrev pub from_verdict : VerdictRefusal → Refusal
+from_verdict (verdicts.NotTaken why) = from_taking why
+from_verdict verdicts.Stream = Stream
+
 -- What may come in place of an answer: memory ran out, or the source failed, whose count of faults rose.
 abbrev pub IsFault : ℕ → ℕ → Refusal → Type 0
 IsFault old new refusal = (refusal ≡ Memory) ⊎ ((refusal ≡ Stream) × Rose old new)
@@ -173,13 +176,6 @@ IsFault old new refusal = (refusal ≡ Memory) ⊎ ((refusal ≡ Stream) × Rose
 abbrev pub ComesTo : (Option (List ℕ) → Option (List ℕ) → Outcome → Type 0) → Option (List ℕ) → Option (List ℕ) → ℕ → ℕ → Outcome → Type 0
 ComesTo Answer before after old new (Ok text) = Answer before after (Ok text)
 ComesTo Answer before after old new (Err refusal) = Answer before after (Err refusal) ⊎ IsFault old new refusal
-
--- The sink takes the whole text, and the status is the one that belongs to it; or it fails, takes a front, and the status is that of a
--- stream fault.
-abbrev pub Puts : ℕ → ℕ → Option (List ℕ) → Option (List ℕ) → ℕ → List ℕ → ℕ → Type 0
-Puts old new held held_new own text status =
-    ((status ≡ own) × Appends held held_new text)
-    ⊎ ((status ≡ STREAM_FAULT) × Rose old new × ((n : ℕ) × (n ≤ length text) × Appends held held_new (take n text)))
 
 -- An outcome is said: its text is put. Without memory nothing is written.
 abbrev pub Says : ℕ → ℕ → Option (List ℕ) → Option (List ℕ) → Outcome → ℕ → Type 0

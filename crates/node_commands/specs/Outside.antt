@@ -33,8 +33,3 @@ pub record IsUntouched {S H R : Type 0} (before after : Outside S H R) : Type 0 
   pub source : after.source ≡ before.source
   pub shelf : after.shelf ≡ before.shelf
   pub random : after.random ≡ before.random
-
--- What a sink has: what it holds, and its count of faults.
-pub record SinkState : Type 0 where
-  pub held : Option (List ℕ)
-  pub faults : ℕ

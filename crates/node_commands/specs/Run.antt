@@ -6,14 +6,15 @@ use Rattle.std.specs.String.{string_bytes}
 use Rattle.bec_disk.specs.Shelf.{ShelfState}
 use Rattle.command_words.specs.Requests.{Asks, RequestText, heads, check, dump, init, keygen, apply, join, export, query, merge}
 use Rattle.node_commands.specs.declared.refusal.Refusal.TheVariants.{Memory, Words}
-use Rattle.node_commands.specs.declared.status.TheConstants.{STORE_FAULT, STREAM_FAULT, OUT_OF_MEMORY}
+use Rattle.schema_verdict.specs.declared.status.TheConstants.{STORE_FAULT, STREAM_FAULT, OUT_OF_MEMORY}
 use Rattle.node_commands.specs.Bundle.{DumpAnswer}
 use Rattle.node_commands.specs.Comes.{ReadsStoreOnly, readings}
 use Rattle.node_commands.specs.Creating.{DrawsKeyOnly, InitAnswer, Inits, KeygenAnswer}
 use Rattle.node_commands.specs.Heads.{HeadsAnswer}
 use Rattle.node_commands.specs.Merging.{IsSureOfMerge, Merges}
 use Rattle.node_commands.specs.Outcome.{ComesTo, Outcome, Says, status_of}
-use Rattle.node_commands.specs.Outside.{IsUntouched, Outside, SinkState}
+use Rattle.node_commands.specs.Outside.{IsUntouched, Outside}
+use Rattle.schema_verdict.specs.Written.{SinkState}
 use Rattle.node_commands.specs.Signing.{Applies, IsSureOfApply, JoinAnswer, JoinsHeads, SignAnswer, StoreAnswer}
 use Rattle.node_commands.specs.Asking.{QueryAnswer}
 use Rattle.node_commands.specs.StoreAnswers.{Readings, Printing, ReadsStore, ShowsHeads, ShowsRecords, ShowsTables}

@@ -26,9 +26,10 @@ use Rattle.node_commands.specs.declared.refusal.Refusal.TheVariants.{BadKey, Mem
 use Rattle.node_commands.specs.declared.refusal.Refusal.TheVariants as refusals
 use Rattle.node_commands.specs.Comes.{IsShelfFault, RunsStore, is_done}
 use Rattle.node_commands.specs.Creating.{IsRefused}
-use Rattle.node_commands.specs.Inputs.{IsWholeText}
+use Rattle.schema_verdict.specs.Inputs.{IsWholeText}
 use Rattle.schema.specs.Schemas.{SchemaData}
-use Rattle.node_commands.specs.Outcome.{IsFault, Outcome, Prints, from_make}
+use Rattle.node_commands.specs.Outcome.{IsFault, Outcome, from_make}
+use Rattle.schema_verdict.specs.Verdict.{Prints}
 use Rattle.node_commands.specs.Outside.{Outside}
 use Rattle.node_commands.specs.StoreAnswers.{HasStore, Readings, RefusesStore, next_bytes}
 use Rattle.node_commands.specs.Texts.{line_of}

@@ -10,7 +10,8 @@ use Rattle.store_directory.specs.Stores.{IsBadStore, IsNoStore, ReadsAs, StoreDa
 use Rattle.node_commands.specs.declared.refusal.Refusal.{Refusal}
 use Rattle.node_commands.specs.declared.refusal.Refusal.TheVariants.{NoStore, BadStore}
 use Rattle.node_commands.specs.Bundle.{PrintsTables}
-use Rattle.node_commands.specs.Outcome.{Outcome, Prints}
+use Rattle.node_commands.specs.Outcome.{Outcome}
+use Rattle.schema_verdict.specs.Verdict.{Prints}
 use Rattle.node_commands.specs.Texts.{printed}
 
 -- what the parts of a directory read as, where they are there

@@ -11,12 +11,6 @@ use Rattle.txn_text.specs.Words.{fault_words as transaction_words}
 use Rattle.update_check.specs.Words.{check_words}
 use Rattle.update_codec.specs.Spelling.{author}
 use Rattle.update_model.specs.declared.author_key.AuthorKey.{AuthorKey}
-use Rattle.schema.specs.Words.{fault_words}
-use Rattle.table_model.specs.declared.counterexample.Counterexample.{Counterexample}
-use Rattle.schema.specs.declared.fault.SchemaFault.{SchemaFault}
-use Rattle.table_model.specs.declared.invariant.Invariant.{Invariant}
-use Rattle.schema.specs.declared.table_def.TableDef.{TableDef}
-use Rattle.table_text.specs.Examples.{example_text}
 use Rattle.session_rules.specs.declared.peer_fault.PeerFault.{PeerFault}
 use Rattle.session_rules.specs.declared.peer_fault.PeerFault.TheVariants.{BadFrame, WrongDatabase, BadUpdate, Unanswered, AskedUnknown, AskedAgain, Stalled, TakenBack, OutOfTurn, Version}
 use Rattle.update_stream.specs.declared.record_fault.RecordFault.{RecordFault}
@@ -35,14 +29,6 @@ abbrev pub record_text : ℕ → RecordFault → List ℕ
 record_text n (Check fault) = codes "! update " ++ decimal n ++ (codes ": " ++ (check_words fault ++ 10 ∷ []))
 record_text n (Lacks id) = codes "! update " ++ decimal n ++ (codes ": lacks " ++ line_of id)
 record_text n Full = codes "! full\n"
-
--- the line for a text with this fault
-abbrev pub schema_text : SchemaFault → List ℕ
-schema_text fault = codes "! schema " ++ (fault_words fault ++ 10 ∷ [])
-
--- the lines for the first invariant that does not survive merging: where it stands, and the counterexample
-abbrev pub refused_text : List TableDef → Invariant → Counterexample → List ℕ
-refused_text tables which example = codes "! not confluent line " ++ decimal which.line ++ (10 ∷ example_text tables example)
 
 -- the line for a text that is no query
 abbrev pub query_text : QueryFault → List ℕ

@@ -39,9 +39,7 @@ mod refusal;
 mod remembering;
 mod reply;
 mod standing;
-pub mod status;
 mod stream;
-mod text_input;
 
 pub use bundle::bundle_schema;
 pub use commands::apply::command_apply;
@@ -60,6 +58,7 @@ pub use lines::{peer_line, refuse};
 pub use program::run_alone;
 pub use refusal::Refusal;
 pub use remembering::{keep_peers, peers_of};
-pub use reply::{finish, put};
+pub use reply::finish;
+pub use schema_verdict::{put, status};
 pub use standing::each_stands;
 pub use stream::read_graph;

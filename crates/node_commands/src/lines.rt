@@ -1,21 +1,17 @@
 //! Every line that begins with `! `, and what follows it.
 
-ghost use Rattle.std.specs.Prelude.{◌≡◌, ◌≢◌, IfOk, IfErr, IfSome, IfNone, OnErr, codes, Err};
+ghost use Rattle.std.specs.Prelude.{◌≡◌, ◌≢◌, IfOk, IfErr, IfSome, IfNone, OnErr, Err};
 ghost use Rattle.std.specs.String.{string_bytes};
 ghost use Rattle.node_commands.specs.declared.refusal.Refusal.TheVariants.{Memory, Words};
-ghost use Rattle.node_commands.specs.Texts.{invalid_text, many_heads_text, peer_text, query_text, record_text, refused_text, schema_text, spent_text, transaction_text};
-ghost use Rattle.node_commands.specs.Outcome.{Puts, Says, text_for};
+ghost use Rattle.node_commands.specs.Texts.{invalid_text, many_heads_text, peer_text, query_text, record_text, spent_text, transaction_text};
+ghost use Rattle.node_commands.specs.Outcome.{Says, text_for};
 
 use crate::refusal::Refusal;
-use crate::reply::put;
-use crate::status::NO_COMMAND;
 use bec_bytes::Sink;
 use query::QueryFault;
-use schema::{Schema, SchemaFault};
+use schema_verdict::{put, refused_lines, schema_line};
 use session_rules::PeerFault;
 use std::alloc::{AllocError, Global};
-use table_model::{Counterexample, Invariant};
-use table_text::push_counterexample;
 use txn_text::TextFault;
 use update_stream::RecordFault;
 
@@ -32,13 +28,6 @@ pub fn refuse<K: Sink>(alloc: Global, out: &mut K, refusal: &Refusal) -> Result<
     }
     let lines = told_lines(alloc, refusal)?;
     Ok(put(out, &lines, status))
-}
-
-/// Writes the line for words that are no command.
-pub fn no_command<K: Sink>(out: &mut K) -> u8
-    ensures { Puts (K.faults out.old) (K.faults out.new) (K.held out.old) (K.held out.new) NO_COMMAND (codes "! words\n") result }
-{
-    put(out, b"! words\n", NO_COMMAND)
 }
 
 /// The line of a refusal that has always the same one.
@@ -120,28 +109,6 @@ fn record_line(alloc: Global, number: u32, fault: &RecordFault) -> Result<String
         }
         RecordFault::Full => String::from_str(alloc, "! full\n"),
     }
-}
-
-/// The line for the first fault of a text.
-fn schema_line(alloc: Global, fault: &SchemaFault) -> Result<String, AllocError>
-    ensures { IfOk result (λ line. string_bytes line ≡ schema_text fault.now) }
-{
-    format!(in alloc; "! schema {fault}\n")
-}
-
-/// The lines for an invariant that does not survive merging: where it stands, and the counterexample.
-fn refused_lines(
-    alloc: Global,
-    schema: &Schema,
-    which: &Invariant,
-    example: &Counterexample,
-) -> Result<Vec<u8>, AllocError>
-    ensures { IfOk result (λ lines. lines.items ≡ refused_text schema.now.tables which.now example.now) }
-{
-    let line = which.line;
-    let mut lines = format!(in alloc; "! not confluent line {line}\n")?.into_bytes();
-    push_counterexample(&mut lines, schema, example)?;
-    Ok(lines)
 }
 
 /// The line for the first fault of a query's text.

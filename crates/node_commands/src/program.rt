@@ -16,15 +16,15 @@ use crate::commands::keygen::keygen_in;
 use crate::commands::merge::merge_in;
 use crate::commands::query_store::query_in;
 use crate::laws::{one_answer, one_answer_of_makers, one_answer_of_merge, one_answer_of_parts};
-use crate::lines::no_command;
 use crate::refusal::Refusal;
 use crate::reply::finish;
-use crate::status::OUT_OF_MEMORY;
 use bec_bytes::{Sink, Source};
 use bec_disk::Shelf;
 use command_words::{Request, one_request, request_in};
 use rand_core::Rng;
 use record_check::Verifier;
+use schema_verdict::no_command;
+use schema_verdict::status::OUT_OF_MEMORY;
 use std::alloc::Global;
 
 /// Does what the words of a command line ask for without a net, over a shelf of directories, a generator of random words, a

@@ -1,11 +1,8 @@
 ghost use Rattle.std.specs.Prelude.{◌≡◌};
 ghost use Rattle.node_commands.specs.declared.refusal.Refusal.TheVariants.{Memory};
-ghost use Rattle.node_commands.specs.Outcome.{status_for, from_creating, from_creating_key, from_disk, from_key, from_make, from_query, from_reading, from_store, from_taking, from_text};
+ghost use Rattle.node_commands.specs.Outcome.{status_for, from_creating, from_creating_key, from_disk, from_key, from_make, from_query, from_reading, from_store, from_taking, from_text, from_verdict};
 ghost use Rattle.lms_tree.specs.LmsKind.{leaf_count};
 
-use crate::status::{
-    FULL, NO_COMMAND, OUT_OF_MEMORY, PEER, REFUSED, STORE, STORE_FAULT, STREAM_FAULT,
-};
 use bec_bytes::ReadError;
 use bec_disk::{Disk, DiskError};
 use confluence_test::SchemaRefusal;
@@ -14,6 +11,10 @@ use lms_tree::LmsType;
 use query::{QueryError, QueryFault};
 use replica::{CreateKind, MakeFault};
 use schema::{Schema, SchemaFault};
+use schema_verdict::VerdictRefusal;
+use schema_verdict::status::{
+    FULL, NO_COMMAND, OUT_OF_MEMORY, PEER, REFUSED, STORE, STORE_FAULT, STREAM_FAULT,
+};
 use session_rules::PeerFault;
 use std::alloc::AllocError;
 use store_directory::{KeyRefusal, StoreRefusal};
@@ -149,6 +150,17 @@ impl From<SchemaRefusal> for Refusal {
                 example,
             },
             SchemaRefusal::Memory => Refusal::Memory,
+        }
+    }
+}
+
+impl From<VerdictRefusal> for Refusal {
+    ghost from_gives = { λ why refusal. refusal ≡ from_verdict why };
+
+    fn from(why: VerdictRefusal) -> Refusal {
+        match why {
+            VerdictRefusal::NotTaken(why) => Refusal::from(why),
+            VerdictRefusal::Stream => Refusal::Stream,
         }
     }
 }

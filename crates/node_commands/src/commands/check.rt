@@ -7,14 +7,10 @@ ghost use Rattle.node_commands.specs.Verdict.{CheckAnswer};
 
 use crate::program::run_alone;
 use crate::refusal::Refusal;
-use crate::text_input::read_text;
 use bec_bytes::{Sink, Source};
 use bec_disk::Shelf;
-use confluence_test::take_schema;
 use rand_core::Rng;
 use record_check::Verifier;
-use row_check::{Luhn, Native};
-use schema::MAX_SCHEMA_BYTES;
 use std::alloc::Global;
 
 /// The command `check`: reads the text of a schema, and prints `confluent` where each invariant survives merging, or the
@@ -44,9 +40,6 @@ pub fn command_check<V: Verifier, H: Shelf, R: Rng, S: Source, K: Sink>(
 pub fn verdict<S: Source>(alloc: Global, input: &mut S) -> Result<Vec<u8>, Refusal>
     ensures { ComesTo CheckAnswer (S.left input.old) (S.left input.new) (S.faults input.old) (S.faults input.new) result }
 {
-    let native: Native<Luhn, Luhn> = Native::new(Luhn);
-    let text = read_text(alloc, input, MAX_SCHEMA_BYTES)?;
-    let _schema = take_schema(alloc, &text, &native)?;
-    let verdict = Vec::from_slice(alloc, b"confluent\n")?;
-    Ok(verdict)
+    let said = schema_verdict::verdict(alloc, input)?;
+    Ok(said)
 }

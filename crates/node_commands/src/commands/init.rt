@@ -8,7 +8,6 @@ ghost use Rattle.store_directory.specs.Stores.{IsHome};
 use crate::program::run_alone;
 use crate::refusal::Refusal;
 use crate::standing::each_stands;
-use crate::text_input::read_text;
 use bec_bytes::{Sink, Source};
 use bec_disk::Shelf;
 use confluence_test::{take_schema, taken_or_refused};
@@ -16,6 +15,7 @@ use rand_core::Rng;
 use record_check::Verifier;
 use row_check::{Luhn, Native};
 use schema::{MAX_SCHEMA_BYTES, one_schema};
+use schema_verdict::read_text;
 use std::alloc::{AllocError, Global};
 use store_directory::{is_there, new_store, put_store};
 

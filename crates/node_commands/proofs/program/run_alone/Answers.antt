@@ -1,7 +1,8 @@
 use Rattle.std.proofs.Common.{map, refl}
 use Rattle.std.specs.String.{string_bytes}
 use Rattle.command_words.specs.Seen.{request_seen}
-use Rattle.node_commands.specs.Outside.{SinkState, outside}
+use Rattle.node_commands.specs.Outside.{outside}
+use Rattle.schema_verdict.specs.Written.{SinkState}
 use Rattle.node_commands.proofs.Answer.{OneAnswer}
 use Rattle.node_commands.proofs.MakersOnce.{OneOfMakers}
 use Rattle.node_commands.proofs.StoreOnce.{OneOfParts}

@@ -1,5 +1,5 @@
 use Rattle.std.proofs.Common.{rules, ◌≡◌, false, refl, arith}
-use Rattle.node_commands.specs.declared.status.TheConstants.{DONE}
+use Rattle.schema_verdict.specs.declared.status.TheConstants.{DONE}
 use Rattle.bec_node.specs.Words.{has_status}
 use Rattle.bec_node.proofs.Remembering.{remembers_none}
 use Rattle.bec_node.proofs.commands.serve.keep_sessions.Goals as goal

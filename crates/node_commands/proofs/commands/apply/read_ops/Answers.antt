@@ -1,6 +1,6 @@
 use Rattle.std.proofs.Common.{ℕ, List, sym, subst}
 use Rattle.std.proofs.lemmas.Result.{err_from_is_err_and}
-use Rattle.node_commands.specs.Inputs.{ReadsText}
+use Rattle.schema_verdict.specs.Inputs.{ReadsText}
 use Rattle.node_commands.proofs.Signs.{text_refused, text_taken}
 use Rattle.node_commands.proofs.commands.apply.read_ops.Goals as goal
 

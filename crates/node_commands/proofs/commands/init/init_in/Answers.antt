@@ -10,7 +10,7 @@ use Rattle.store_directory.specs.Stores.{IsNoStore, part_in, reading}
 use Rattle.node_commands.specs.Comes.{readings}
 use Rattle.node_commands.specs.Creating.{HasSchema}
 use Rattle.node_commands.specs.StoreAnswers.{next_bytes}
-use Rattle.node_commands.specs.Inputs.{ReadsText}
+use Rattle.schema_verdict.specs.Inputs.{ReadsText}
 use Rattle.node_commands.specs.Outside.{outside}
 use Rattle.node_commands.specs.Standing.{Stands}
 use Rattle.node_commands.specs.Texts.{database_text}

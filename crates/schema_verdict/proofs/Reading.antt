@@ -7,9 +7,8 @@ use Rattle.row_check.specs.Checksum.{is_luhn}
 use Rattle.schema.specs.Schemas.{SchemaData}
 use Rattle.confluence_test.specs.Taking.{RefusesSchema, fault, not_confluent, TakesSchema}
 use Rattle.confluence_test.specs.declared.refusal.SchemaRefusal.{SchemaRefusal}
-use Rattle.node_commands.specs.Inputs.{ReadsText}
-use Rattle.node_commands.specs.Outcome.{Outcome, Prints, from_taking}
-use Rattle.node_commands.specs.Verdict.{CheckAnswer, confluent, refused}
+use Rattle.schema_verdict.specs.Inputs.{ReadsText}
+use Rattle.schema_verdict.specs.Verdict.{CheckAnswer, OutcomeOf, Prints, confluent, refused}
 
 -- a text that fits in the buffer, or fills it
 short_or_full : (n size : ℕ) → n ≤ size → (n < size) ⊎ (n ≡ size)
@@ -62,14 +61,14 @@ whole_refused input why (fault first (inl over) is) = by_case (nat_lt 65536 (len
 
 -- ---- what a text that was read answers
 
-pub confluent_read : (before after : Option (List ℕ)) (read : List ℕ) (schema : SchemaData) (outcome : Outcome) → ReadsText 65536 before after read → TakesSchema is_luhn read schema
-    → Prints outcome (codes "confluent\n") → CheckAnswer before after outcome
-confluent_read None after read schema outcome reads takes prints = confluent read schema tt takes prints
-confluent_read (Some input) after read schema outcome reads takes prints =
+pub confluent_read : {R : Type 0} (refusal_of : SchemaRefusal → R) (before after : Option (List ℕ)) (read : List ℕ) (schema : SchemaData) (outcome : OutcomeOf R)
+    → ReadsText 65536 before after read → TakesSchema is_luhn read schema → Prints outcome (codes "confluent\n") → CheckAnswer refusal_of before after outcome
+confluent_read refusal_of None after read schema outcome reads takes prints = confluent read schema tt takes prints
+confluent_read refusal_of (Some input) after read schema outcome reads takes prints =
     confluent input schema (refl, reads.1) (whole_taken input schema (subst (λ (t : List ℕ). TakesSchema is_luhn t schema) reads.0 takes)) prints
 
-pub refused_read : (before after : Option (List ℕ)) (read : List ℕ) (why : SchemaRefusal) → ReadsText 65536 before after read → RefusesSchema is_luhn read why
-    → CheckAnswer before after (Err (from_taking why))
-refused_read None after read why reads refuses = refused read why tt refuses refl
-refused_read (Some input) after read why reads refuses =
+pub refused_read : {R : Type 0} (refusal_of : SchemaRefusal → R) (before after : Option (List ℕ)) (read : List ℕ) (why : SchemaRefusal)
+    → ReadsText 65536 before after read → RefusesSchema is_luhn read why → CheckAnswer refusal_of before after (Err (refusal_of why))
+refused_read refusal_of None after read why reads refuses = refused read why tt refuses refl
+refused_read refusal_of (Some input) after read why reads refuses =
     refused input why (refl, reads.1) (whole_refused input why (subst (λ (t : List ℕ). RefusesSchema is_luhn t why) reads.0 refuses)) refl

@@ -1,8 +1,8 @@
 use Rattle.std.proofs.Common.{◌≡◌, ◌∙◌, ◌+◌, ℕ, List, length, take, sym, ap, subst, arith}
 use Rattle.bec_bytes.proofs.ReadFrames.{rewritten}
-use Rattle.node_commands.specs.Inputs.{ReadsText}
-use Rattle.node_commands.proofs.Checking.{text_read}
-use Rattle.node_commands.proofs.text_input.read_text.Goals as goal
+use Rattle.schema_verdict.specs.Inputs.{ReadsText}
+use Rattle.schema_verdict.proofs.Reading.{text_read}
+use Rattle.schema_verdict.proofs.text_input.read_text.Goals as goal
 
 pub returns-clause-text : goal.returns-clause-text
 returns-clause-text g c =

@@ -1,7 +1,7 @@
 ghost use Rattle.std.specs.Prelude.{◌≡◌, ◌≤◌, ◌<◌, ◌+◌, ◌^◌, IfOk, IfErr};
 ghost use Rattle.bec_bytes.specs.Causes.{Rose};
 ghost use Rattle.bec_bytes.specs.declared.read_error.ReadError.TheVariants.{Failed as StreamFailed};
-ghost use Rattle.node_commands.specs.Inputs.{ReadsText};
+ghost use Rattle.schema_verdict.specs.Inputs.{ReadsText};
 
 use bec_bytes::{ReadError, Source, read_full};
 use std::alloc::Global;

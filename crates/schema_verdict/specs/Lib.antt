@@ -1,0 +1,5 @@
+pub mod Texts
+pub mod Inputs
+pub mod Written
+pub mod Verdict
+pub mod Checks
