@@ -7,7 +7,7 @@ use std::marker::Model;
 
 /// Reads fields from a slice, from its front on. Each call that takes answers `None` exactly where
 /// too few bytes are left, and the cursor then stays where it is.
-#[derive(Debug, Drop)]
+#[derive(Drop)]
 pub struct Cursor<'a> {
     place: usize,
     rest: &'a [u8],

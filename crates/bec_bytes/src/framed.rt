@@ -11,7 +11,7 @@ use byteorder::{BigEndian, ByteOrder};
 use std::alloc::Global;
 
 /// What stands next in a stream of pieces, each behind its length.
-#[derive(Debug, Drop)]
+#[derive(Drop)]
 pub enum Framed {
     /// The end of input.
     End,

@@ -12,7 +12,7 @@ use crate::source::Source;
 use std::marker::Model;
 
 /// A source of bytes in memory, some of whose calls fail, for tests of what a fault does.
-#[derive(Debug, Drop)]
+#[derive(Drop)]
 pub struct MemSource {
     inner: PlainSource,
     plan: FaultPlan,

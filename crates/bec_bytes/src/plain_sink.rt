@@ -8,7 +8,7 @@ use crate::failed::Failed;
 use crate::sink::Sink;
 
 /// A sink that never fails, keeps no bytes and tells none.
-#[derive(Clone, Copy, Debug, Default)]
+#[derive(Clone, Copy)]
 pub struct PlainSink;
 
 impl PlainSink {

@@ -6,7 +6,7 @@ use clap::{Arg, ArgAction};
 use std::alloc::Global;
 
 /// What an argument looks like among the words.
-#[derive(Clone, Copy, Debug, PartialEq, Eq, Drop)]
+#[derive(Clone, Copy, Drop)]
 pub(crate) enum Form {
     /// A word by its place.
     Position,
@@ -17,7 +17,7 @@ pub(crate) enum Form {
 }
 
 /// An argument of a command.
-#[derive(Clone, Copy, Debug, PartialEq, Eq, Drop)]
+#[derive(Clone, Copy, Drop)]
 pub(crate) struct Argument<'a> {
     /// What it is called, and how it is spelled after `--`.
     pub name: &'a str,

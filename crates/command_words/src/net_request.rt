@@ -1,5 +1,5 @@
 /// What the words of a command line ask for over a net. A directory and an address are the words that name them.
-#[derive(Clone, Copy, Debug, PartialEq, Eq, Drop)]
+#[derive(Clone, Copy, Debug, Drop)]
 pub enum NetRequest<'a> {
     /// `sync`: reconciles the store in a directory with the one that is served at an address.
     Sync {

@@ -45,13 +45,11 @@ fn net_request_by<'a>(
 ) -> Result<Option<NetRequest<'a>>, AllocError>
     ensures { IfOk result (λ found. option_map net_seen found ≡ net_request_by first.now (map string_bytes words.entry.now)) }
 {
-    if first == "sync" {
-        return sync_of(alloc, words);
+    match first {
+        "sync" => sync_of(alloc, words),
+        "serve" => serve_of(alloc, words),
+        _ => Ok(None),
     }
-    if first == "serve" {
-        return serve_of(alloc, words);
-    }
-    Ok(None)
 }
 
 static SYNC: [Argument<'static>; 2] = [

@@ -2,7 +2,7 @@ use lm_ots::OtsType;
 use lms_tree::LmsType;
 
 /// What the words of a command line ask for. A directory is the word that names it.
-#[derive(Clone, Copy, Debug, PartialEq, Eq, Drop)]
+#[derive(Clone, Copy, Debug, Drop)]
 pub enum Request<'a> {
     /// `heads`: the heads of a stream of updates, or of the store in a directory.
     Heads {

@@ -41,37 +41,19 @@ fn request_by<'a>(
 ) -> Result<Option<Request<'a>>, AllocError>
     ensures { IfOk result (λ found. option_map request_seen found ≡ request_by first.now (map string_bytes words.entry.now)) }
 {
-    if first == "heads" {
-        return heads_of(alloc, words);
+    match first {
+        "heads" => heads_of(alloc, words),
+        "check" => check_of(alloc, words),
+        "dump" => dump_of(alloc, words),
+        "init" => init_of(alloc, words),
+        "keygen" => keygen_of(alloc, words),
+        "apply" => apply_of(alloc, words),
+        "join" => join_of(alloc, words),
+        "export" => export_of(alloc, words),
+        "query" => query_of(alloc, words),
+        "merge" => merge_of(alloc, words),
+        _ => Ok(None),
     }
-    if first == "check" {
-        return check_of(alloc, words);
-    }
-    if first == "dump" {
-        return dump_of(alloc, words);
-    }
-    if first == "init" {
-        return init_of(alloc, words);
-    }
-    if first == "keygen" {
-        return keygen_of(alloc, words);
-    }
-    if first == "apply" {
-        return apply_of(alloc, words);
-    }
-    if first == "join" {
-        return join_of(alloc, words);
-    }
-    if first == "export" {
-        return export_of(alloc, words);
-    }
-    if first == "query" {
-        return query_of(alloc, words);
-    }
-    if first == "merge" {
-        return merge_of(alloc, words);
-    }
-    Ok(None)
 }
 
 static HEADS: [Argument<'static>; 1] = [Argument {

@@ -17,7 +17,7 @@ use sync_session::CheckedFrame;
 use update_model::DbRule;
 
 /// What a call of [`listen`] heard.
-#[derive(Debug, Drop)]
+#[derive(Drop)]
 pub enum Heard {
     /// Frames that are whole now, which may be none.
     Frames(Vec<Frame>),

@@ -17,7 +17,7 @@ use std::alloc::{AllocError, Global};
 use sync_frames::{Hello, Turn, item_header, write_hello, write_turn};
 
 /// Why not all was said.
-#[derive(Clone, Copy, Debug, PartialEq, Eq)]
+#[derive(Clone, Copy)]
 pub enum Halt {
     /// A call of the link failed.
     Broken,

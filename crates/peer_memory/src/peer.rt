@@ -1,7 +1,7 @@
 use update_model::IdList;
 
 /// What is remembered of a peer.
-#[derive(Debug, Drop)]
+#[derive(Drop)]
 pub struct Peer {
     /// Its name, under which it is found again.
     pub name: [u8; 32],

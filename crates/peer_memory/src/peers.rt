@@ -16,7 +16,7 @@ use update_model::{IdList, UpdateId};
 /// Peers and what is remembered of them, the one that was remembered longest ago first.
 ///
 /// Its type keeps that there are at most 256 peers with at most 4,096 ids each, which rise, and that no two have one name.
-#[derive(Debug, Drop)]
+#[derive(Drop)]
 pub struct Peers {
     entries: Vec<Peer>,
 }

@@ -1,8 +1,10 @@
 //! Conditions.
 
-ghost use Rattle.std.specs.Prelude.{◌≡◌, ◌↔◌, ◌≤◌, ◌^◌, Err, option_to_list, IfOk, IfErr, IsTrue};
-ghost use Rattle.expression_text.specs.Kinds.{FitsKinds};
-ghost use Rattle.expression_text.specs.Trees.{holds_tree};
+ghost use Rattle.std.specs.Prelude.{◌≡◌, ◌↔◌, ◌≤◌, ◌^◌, All, Err, option_to_list, IfOk, IfErr, IsTrue};
+ghost use Rattle.expression_text.specs.Columns.{IsKnown};
+ghost use Rattle.expression_text.specs.Grammar.{IsReading};
+ghost use Rattle.expression_text.specs.Kinds.{FitsKinds, HasKinds};
+ghost use Rattle.expression_text.specs.Trees.{holds_tree, tree_of};
 ghost use Rattle.query.specs.Columns.{names_of, names_at, slots_of, slots_at, seen_kind as kind_for, seen_kinds, kind_named};
 ghost use Rattle.query.specs.Conditions.{IsCondition, stuck_at, refused, misfit_in, misfit, misfits, misfits_named, is_unknown, is_reference, is_of_text, are_alike, kind_of, left_after, place_seen};
 ghost use Rattle.query.specs.Outcome.{IsStop};
@@ -25,7 +27,7 @@ use update_model::{TextValue, Value};
 /// A condition: an expression over the columns that it names, which number in the order in which they are named.
 ///
 /// It may be asked of any values of the kinds that it sees. Of a reference it sees whether it is there: TRUE or null.
-#[derive(Debug, Drop)]
+#[derive(Drop)]
 pub struct Condition {
     expr: Expr,
     slots: Vec<Slot>,
@@ -345,15 +347,31 @@ pub(crate) fn read_condition(
     if let Some(wrong) = misfit_in(schema, table, at, words) {
         return Err(Stop::Fault(wrong));
     }
-    let names = names_of(alloc, words)?;
-    let expr = build(alloc, words, names.as_slice())?;
     let slots = slots_of(alloc, schema, table, words)?;
-    let kinds = seen_kinds(alloc, slots.as_slice())?;
-    if !has_kinds(&expr, kinds.as_slice()) {
+    let expr = expr_of(alloc, words)?;
+    if !sees_kinds(alloc, &expr, slots.as_slice())? {
         return Err(Stop::Fault(Wrong {
             kind: QueryKind::TypesDiffer,
             at: at + words.len(),
         }));
     }
     Ok(Condition { expr, slots })
+}
+
+/// The expression that these words are over the columns that they name.
+fn expr_of(alloc: Global, words: &[Token]) -> Result<Expr, AllocError>
+    requires condition { IsCondition words.now }
+    requires known { All (IsKnown (names_of words.now)) words.now }
+    ensures { IfOk result (λ expr. IsReading (names_of words.now) words.now expr) }
+{
+    let names = names_of(alloc, words)?;
+    build(alloc, words, names.as_slice())
+}
+
+/// Whether an expression fits the kinds that are seen in these columns.
+fn sees_kinds(alloc: Global, expr: &Expr, slots: &[Slot]) -> Result<bool, AllocError>
+    ensures { IfOk result (λ fits. IsTrue fits ↔ HasKinds (seen_kinds slots.now) (tree_of expr.now)) }
+{
+    let kinds = seen_kinds(alloc, slots)?;
+    Ok(has_kinds(expr, kinds.as_slice()))
 }

@@ -6,7 +6,7 @@ use std::error::Error;
 use std::fmt;
 
 /// What is wrong with a text that is no query.
-#[derive(Clone, Copy, Debug, PartialEq, Eq, Hash)]
+#[derive(Clone, Copy, Debug)]
 pub enum QueryKind {
     /// A word that may not stand where it stands, or the end of the text where a word is wanted.
     UnknownWord,
@@ -44,7 +44,7 @@ impl fmt::Display for QueryKind {
 }
 
 /// The first fault of a text that is no query. It prints as `1:19: unknown table`.
-#[derive(Clone, Copy, Debug, PartialEq, Eq, Hash)]
+#[derive(Clone, Copy, Debug)]
 pub struct QueryFault {
     /// The line where it is, from 1.
     pub line: u32,
@@ -71,7 +71,7 @@ impl fmt::Display for QueryFault {
 impl Error for QueryFault {}
 
 /// Why no query was read.
-#[derive(Clone, Copy, Debug, PartialEq, Eq, Hash, thiserror::Error)]
+#[derive(Clone, Copy, Debug, thiserror::Error)]
 pub enum QueryError {
     /// The text is none.
     #[error("{0}")]

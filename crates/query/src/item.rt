@@ -12,7 +12,7 @@ use std::alloc::{AllocError, Global};
 use update_model::ByteList;
 
 /// A column of an answer.
-#[derive(Debug, Drop)]
+#[derive(Drop)]
 pub struct Item {
     /// Its name, as it was asked for.
     pub name: ByteList,
@@ -21,7 +21,7 @@ pub struct Item {
 }
 
 /// What an answer is ordered by.
-#[derive(Clone, Copy, Debug)]
+#[derive(Clone, Copy)]
 pub struct Key {
     /// Where its values are found.
     pub source: Source,

@@ -6,7 +6,7 @@ ghost use Rattle.query.specs.Grammar.{mark_of, word_mark, limit_of};
 use expression_text::Token;
 
 /// What a word is to a query.
-#[derive(Clone, Copy, Debug)]
+#[derive(Clone, Copy)]
 pub(crate) enum Mark {
     /// `SELECT`
     Select,

@@ -7,7 +7,7 @@ use crate::mark::{Mark, limit_of, mark_of};
 use expression_text::Token;
 
 /// A part of a query.
-#[derive(Clone, Copy, Debug)]
+#[derive(Clone, Copy)]
 pub(crate) enum Part {
     /// `FROM` and the table.
     From,

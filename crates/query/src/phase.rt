@@ -9,7 +9,7 @@ use crate::stop::Wrong;
 use expression_text::Token;
 
 /// Where a query stands.
-#[derive(Clone, Copy, Debug)]
+#[derive(Clone, Copy)]
 pub(crate) enum Phase {
     /// Before its first word.
     Start,

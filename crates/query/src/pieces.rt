@@ -12,7 +12,7 @@ use text_words::{Style, first_word, next_line, skip_blanks};
 use update_model::check_value_text;
 
 /// The words of a text, and their places, behind which the place of the end stands.
-#[derive(Debug, Drop)]
+#[derive(Drop)]
 pub(crate) struct Pieces {
     pub(crate) tokens: Vec<Token>,
     pub(crate) spots: Vec<Spot>,

@@ -1,7 +1,7 @@
 use crate::{Condition, Item, Key};
 
 /// A query: which columns of which rows of a table, in which order, and how many.
-#[derive(Debug, Drop)]
+#[derive(Drop)]
 pub struct Query {
     /// The number of the table.
     pub table: u8,

@@ -2,12 +2,13 @@
 
 ghost use Rattle.std.specs.Prelude.{◌≡◌, ◌↔◌, ◌≤◌, ◌<◌, ◌+◌, ◌^◌, Ok, Err, None, length, position, IfOk, IfErr, IfSome, IsTrue, IsUtf8, MatchOption};
 ghost use Rattle.std.specs.Str.{IsValidUpTo};
-ghost use Rattle.query.specs.Grammar.{keys_in, keys_place};
+ghost use Rattle.query.specs.Columns.{items_of, keys_of};
+ghost use Rattle.query.specs.Grammar.{columns_in, keys_in, keys_place};
 ghost use Rattle.query.specs.Outcome.{HasCause, Answers, IsHead, IsStop, data_of, error_of, fault_at};
 ghost use Rattle.query.specs.Queries.{QueryData, IsFormOf, HasGoodCondition, is_early, is_name, is_lost, lost_in, table_in, table_named, named_by, table_of, query_of, IsConditionOf, Say, Reads, spot_of};
 
 use crate::condition::{is_condition, is_unknown, read_condition, stuck_at};
-use crate::item::{items_of, keys_of};
+use crate::item::{Item, Key, items_of, keys_of};
 use crate::mark::{Mark, mark_of};
 use crate::parts::{
     Part, columns_in, condition_in, condition_place, has_condition, keys_in, keys_place, limit_in,
@@ -175,13 +176,29 @@ fn query_of(
     ensures { IfOk result (λ query. data_of query ≡ query_of schema.now.tables words.now condition) }
 {
     let table = table_of(schema, words);
+    let (columns, keys) = lists_of(alloc, schema, table, words)?;
     Ok(Query {
         table,
-        columns: items_of(alloc, schema, table, columns_in(words))?,
+        columns,
         condition,
-        keys: keys_of(alloc, schema, table, keys_in(words))?,
+        keys,
         limit: limit_in(words),
     })
+}
+
+/// The columns and the keys that words ask for.
+fn lists_of(
+    alloc: Global,
+    schema: &Schema,
+    table: u8,
+    words: &[Token],
+) -> Result<(Vec<Item>, Vec<Key>), AllocError>
+    ensures columns { IfOk result (λ lists. lists.0.items ≡ items_of schema.now.tables table (columns_in words.now)) }
+    ensures keys { IfOk result (λ lists. lists.1.items ≡ keys_of schema.now.tables table (keys_in words.now)) }
+{
+    let columns = items_of(alloc, schema, table, columns_in(words))?;
+    let keys = keys_of(alloc, schema, table, keys_in(words))?;
+    Ok((columns, keys))
 }
 
 /// What is wrong before the condition is asked: the form, the table, or a column of the answer.

@@ -9,7 +9,7 @@ use expression_text::Kind;
 use schema::{Column, ColumnKind, Schema};
 
 /// Where a value of an answer is found.
-#[derive(Clone, Copy, Debug)]
+#[derive(Clone, Copy)]
 pub enum Source {
     /// It is the name of the row.
     Name,
@@ -27,7 +27,7 @@ pub enum Source {
 }
 
 /// A column that a word names.
-#[derive(Clone, Copy, Debug)]
+#[derive(Clone, Copy)]
 pub struct Slot {
     /// Where its value is found.
     pub source: Source,

@@ -5,7 +5,7 @@ use crate::QueryKind;
 use std::alloc::{AllocError, AllocFailed};
 
 /// A place in a text.
-#[derive(Clone, Copy, Debug)]
+#[derive(Clone, Copy)]
 pub(crate) struct Spot {
     /// The line, from 1.
     pub line: u32,
@@ -14,14 +14,14 @@ pub(crate) struct Spot {
 }
 
 /// What is wrong in a text, and the number of the word that is, from 0. At the end of the text it is the number of words.
-#[derive(Clone, Copy, Debug)]
+#[derive(Clone, Copy)]
 pub(crate) struct Wrong {
     pub kind: QueryKind,
     pub at: usize,
 }
 
 /// Why the words of a text were not read on.
-#[derive(Clone, Copy, Debug)]
+#[derive(Clone, Copy)]
 pub(crate) enum Stop {
     /// Something is wrong in the text.
     Fault(Wrong),

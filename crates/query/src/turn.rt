@@ -6,7 +6,7 @@ ghost use Rattle.query.specs.Conditions.{after_operand, column_then, after_named
 use expression_text::Token;
 
 /// What is to come in a condition.
-#[derive(Clone, Copy, Debug)]
+#[derive(Clone, Copy)]
 pub(crate) enum Turn {
     /// An operand.
     Operand,
@@ -35,7 +35,7 @@ pub(crate) enum Turn {
 }
 
 /// Where a condition stands.
-#[derive(Clone, Copy, Debug)]
+#[derive(Clone, Copy)]
 pub(crate) struct Stand {
     pub(crate) turn: Turn,
     /// How many parentheses are open.

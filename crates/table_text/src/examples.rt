@@ -4,7 +4,7 @@ ghost use Rattle.table_text.specs.Examples.{step_text, node_text, side_text, exa
 
 use crate::NameStyle;
 use crate::names::number_of;
-use crate::numbers::push_number;
+use crate::numbers::push_spaced;
 use crate::operations::push_operation;
 use schema::Schema;
 use std::alloc::AllocError;
@@ -65,10 +65,8 @@ fn push_step(
     ensures kept { OnErr result (IsPrefix out.old.items out.new.items) }
 {
     out.extend_from_slice(side)?;
-    out.push(b' ')?;
-    push_number(out, number_of(id))?;
+    push_spaced(out, number_of(id))?;
     out.push(b' ')?;
     push_operation(out, schema, NameStyle::Short, operation)?;
-    out.push(b'\n')?;
-    Ok(())
+    out.extend_from_slice(b"\n")
 }

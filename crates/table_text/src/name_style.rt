@@ -1,5 +1,5 @@
 /// How the update stands in the name of a row that is printed.
-#[derive(Clone, Copy, Debug, PartialEq, Eq)]
+#[derive(Clone, Copy)]
 pub enum NameStyle {
     /// By its whole id, in 64 lower-case hexadecimal digits.
     Full,

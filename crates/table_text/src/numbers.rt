@@ -1,6 +1,6 @@
 //! Numbers in decimal.
 
-ghost use Rattle.std.specs.Prelude.{◌≡◌, ◌++◌, OnOk, OnErr};
+ghost use Rattle.std.specs.Prelude.{◌≡◌, ◌∷◌, ◌++◌, OnOk, OnErr};
 ghost use mathlib.Core.List.{IsPrefix};
 ghost use Rattle.std.specs.Fmt.{decimal, signed_decimal};
 
@@ -14,6 +14,15 @@ pub(crate) fn push_number(out: &mut Vec<u8>, number: u32) -> Result<(), AllocErr
 {
     let mut buffer = Buffer::new();
     out.extend_from_slice(buffer.format(number).as_bytes())
+}
+
+/// Adds a blank and a number.
+pub(crate) fn push_spaced(out: &mut Vec<u8>, number: u32) -> Result<(), AllocError>
+    ensures added { OnOk result (out.new.items ≡ out.old.items ++ 32 ∷ decimal number) }
+    ensures kept { OnErr result (IsPrefix out.old.items out.new.items) }
+{
+    out.push(b' ')?;
+    push_number(out, number)
 }
 
 /// Adds an integer, with a `-` before it where it is negative.

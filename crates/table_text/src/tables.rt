@@ -5,7 +5,7 @@ ghost use Rattle.table_text.specs.Tables.{row_text, table_text, void_text, pair_
 
 use crate::NameStyle;
 use crate::names::{push_id, push_row_name};
-use crate::numbers::push_number;
+use crate::numbers::push_spaced;
 use crate::values::push_values;
 use schema::{Schema, TableDef};
 use std::alloc::AllocError;
@@ -23,6 +23,14 @@ pub fn push_tables(
     ensures kept { OnErr result (IsPrefix out.old.items out.new.items) }
 {
     push_filled(out, schema, lists)?;
+    push_voids(out, voids)
+}
+
+/// Adds the lines of updates that do nothing.
+fn push_voids(out: &mut Vec<u8>, voids: &[VoidLine]) -> Result<(), AllocError>
+    ensures added { OnOk result (out.new.items ≡ out.old.items ++ flat_map void_text voids.now) }
+    ensures kept { OnErr result (IsPrefix out.old.items out.new.items) }
+{
     for line in voids {
         push_void(out, line)?;
     }
@@ -47,12 +55,9 @@ pub fn push_void(out: &mut Vec<u8>, line: &VoidLine) -> Result<(), AllocError>
 {
     out.extend_from_slice(b"VOID ")?;
     push_id(out, &line.id)?;
-    out.push(b' ')?;
-    push_number(out, u32::from(line.reason))?;
-    out.push(b' ')?;
-    push_number(out, u32::from(line.operation))?;
-    out.push(b'\n')?;
-    Ok(())
+    push_spaced(out, u32::from(line.reason))?;
+    push_spaced(out, u32::from(line.operation))?;
+    out.extend_from_slice(b"\n")
 }
 
 /// Adds each table with its rows.
@@ -101,6 +106,5 @@ fn push_row(out: &mut Vec<u8>, row: &ShownRow) -> Result<(), AllocError>
 {
     push_row_name(out, NameStyle::Full, &row.name)?;
     push_values(out, NameStyle::Full, row.values.as_slice())?;
-    out.push(b'\n')?;
-    Ok(())
+    out.extend_from_slice(b"\n")
 }

@@ -6,7 +6,7 @@ use std::error::Error;
 use std::fmt;
 
 /// What is wrong with a text that is no transaction.
-#[derive(Clone, Copy, Debug, PartialEq, Eq, Hash)]
+#[derive(Clone, Copy, Debug)]
 pub enum TextKind {
     /// The first word of a line is not one of those that begin an operation.
     UnknownWord,
@@ -50,7 +50,7 @@ impl fmt::Display for TextKind {
 }
 
 /// The first fault of a text that is no transaction. It prints as `1:8: unknown table`.
-#[derive(Clone, Copy, Debug, PartialEq, Eq, Hash)]
+#[derive(Clone, Copy, Debug)]
 pub struct TextFault {
     /// The line where it is, from 1.
     pub line: u32,
@@ -77,7 +77,7 @@ impl fmt::Display for TextFault {
 impl Error for TextFault {}
 
 /// Why no transaction was read.
-#[derive(Clone, Copy, Debug, PartialEq, Eq, Hash, thiserror::Error)]
+#[derive(Clone, Copy, Debug, thiserror::Error)]
 pub enum TextError {
     /// The text is none.
     #[error("{0}")]

@@ -1,5 +1,5 @@
 /// The word that begins a line.
-#[derive(Clone, Copy, Debug)]
+#[derive(Clone, Copy)]
 pub(crate) enum Keyword {
     /// `INSERT`
     Insert,

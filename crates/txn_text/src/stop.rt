@@ -5,14 +5,14 @@ use crate::TextKind;
 use std::alloc::{AllocError, AllocFailed};
 
 /// What is wrong in a line, and how many bytes of the line stand from there on.
-#[derive(Clone, Copy, Debug)]
+#[derive(Clone, Copy)]
 pub(crate) struct Wrong {
     pub kind: TextKind,
     pub left: usize,
 }
 
 /// Why the words of a line were not read on.
-#[derive(Clone, Copy, Debug)]
+#[derive(Clone, Copy)]
 pub(crate) enum Stop {
     /// Something is wrong in the line.
     Fault(Wrong),

@@ -5,7 +5,7 @@ use std::alloc::AllocError;
 use thiserror::Error;
 
 /// A spelling that would be longer than an update's may be.
-#[derive(Clone, Copy, Debug, PartialEq, Eq, Hash, Error)]
+#[derive(Clone, Copy, Debug, Error)]
 #[error("an update of {len} bytes is too long")]
 pub struct TooLong {
     /// How many bytes the spelling would have, signature included.
@@ -13,7 +13,7 @@ pub struct TooLong {
 }
 
 /// Why an update was not encoded.
-#[derive(Clone, Copy, Debug, PartialEq, Eq, Hash, Error)]
+#[derive(Clone, Copy, Debug, Error)]
 pub enum EncodeError {
     /// Its spelling would have more than 262,144 bytes.
     #[error("{0}")]

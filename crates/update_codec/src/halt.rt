@@ -8,14 +8,14 @@ use crate::CodecKind;
 use std::alloc::{AllocError, AllocFailed};
 
 /// A fault, and how many bytes there are from its place to the end.
-#[derive(Clone, Copy, Debug, Drop)]
+#[derive(Clone, Copy, Drop)]
 pub(crate) struct Halt {
     pub(crate) kind: CodecKind,
     pub(crate) left: usize,
 }
 
 /// Why a reader stopped.
-#[derive(Clone, Copy, Debug, Drop)]
+#[derive(Clone, Copy, Drop)]
 pub(crate) enum ReadError {
     Halted(Halt),
     Memory,

@@ -45,31 +45,27 @@ fn put_value(out: &mut Vec<u8>, value: &Value) -> Result<(), AllocError>
     ensures { OnOk result (out.new.items ≡ out.old.items ++ spell.value value.now) }
 {
     match value {
-        Value::Null => out.push(0)?,
+        Value::Null => out.extend_from_slice(&[0]),
         Value::Int(number) => {
             out.push(1)?;
-            put_u64(out, number.cast_unsigned())?;
+            put_u64(out, number.cast_unsigned())
         }
         Value::Text(text) => {
             let bytes = text.as_slice();
             out.push(2)?;
             put_u16(out, bytes.len() as u16)?;
-            out.extend_from_slice(bytes)?;
+            out.extend_from_slice(bytes)
         }
-        Value::Flag(flag) => {
-            out.push(3)?;
-            out.push(u8::from(*flag))?;
-        }
+        Value::Flag(flag) => out.extend_from_slice(&[3, u8::from(*flag)]),
         Value::Row(row) => {
             out.push(4)?;
-            put_row(out, row)?;
+            put_row(out, row)
         }
         Value::Own(index) => {
             out.push(5)?;
-            put_u16(out, *index)?;
+            put_u16(out, *index)
         }
     }
-    Ok(())
 }
 
 fn put_values(out: &mut Vec<u8>, values: &[Value]) -> Result<(), AllocError>

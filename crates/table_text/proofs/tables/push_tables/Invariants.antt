@@ -1,9 +1,0 @@
-use Rattle.std.proofs.Common.{◌≡◌, ◌++◌, take}
-use Rattle.std.specs.List.{flat_map}
-use Rattle.table_text.specs.Tables.{filled_text, void_text}
-use Rattle.table_text.proofs.tables.push_tables.Given as goal
-
--- the tables, and the updates so far
-abbrev pub invariant-loop-line : goal.invariant-loop-line
-invariant-loop-line l =
-    l.out.items ≡ l.fn.out.items ++ (filled_text l.schema.tables l.lists ++ flat_map void_text (take l.line-index l.voids))
