@@ -8,4 +8,6 @@ mod batches;
 #[cfg(test)]
 mod heads;
 #[cfg(test)]
+mod ids;
+#[cfg(test)]
 mod summaries;

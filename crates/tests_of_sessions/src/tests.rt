@@ -8,17 +8,17 @@ ghost use Rattle.std.specs.Prelude.{◌≡◌, ◌≤◌, IfOk, length};
 ghost use Rattle.std.specs.List.Sorted.{IsStrictlySortedBy};
 ghost use Rattle.update_model.specs.Entry.{id_cmp};
 ghost use Rattle.update_check.specs.Signed.{IsChecked};
-ghost use Rattle.sync_session.specs.Kept.{IsFrameUnder};
+ghost use Rattle.mem_holder.specs.Holders.{limits_of};
+ghost use Rattle.sync_session.specs.Kept.{BelongsTo, IsFrameUnder};
 
 use lm_ots::OtsType;
 use lms_tree::{LmsType, make_secret};
 use mem_holder::MemHolder;
 use session_rules::{End, MAX_ITEMS, PeerFault, Role};
 use std::alloc::{AllocError, Global};
-use std::test::Fail;
 use sync_frames::{Hello, Turn};
 use sync_session::{CheckedFrame, Out, Session};
-use update_check::{CheckFault, Checked, Holder, check};
+use update_check::{CheckError, CheckFault, Checked, Holder, check};
 use update_model::{ByteList, DbRule, IdList, KeyList, Member, UpdateId};
 
 /// The database of the updates.
@@ -93,19 +93,20 @@ fn frame_for(
     requires other { IsChecked rule.now other.now }
     ensures { IfOk result (IsFrameUnder rule.now) }
 {
+    let database = if letter == b'd' { [0; 32] } else { DATABASE };
+    let id = match letter {
+        b'w' | b'u' => Some(one.id()),
+        b'l' | b'x' => Some(UNKNOWN),
+        _ => None,
+    };
     match letter {
-        b'h' => Ok(CheckedFrame::Hello(hello(alloc, DATABASE, None)?)),
-        b'w' => Ok(CheckedFrame::Hello(hello(alloc, DATABASE, Some(one.id()))?)),
-        b'l' => Ok(CheckedFrame::Hello(hello(alloc, DATABASE, Some(UNKNOWN))?)),
-        b'd' => Ok(CheckedFrame::Hello(hello(alloc, [0; 32], None)?)),
+        b'h' | b'w' | b'l' | b'd' => Ok(CheckedFrame::Hello(hello(alloc, database, id)?)),
+        b't' | b'u' | b'x' => Ok(CheckedFrame::Turn(Turn::asking(ids(alloc, id)?))),
         b'v' => Ok(CheckedFrame::OtherVersion(2)),
         b'i' => item(alloc, rule, one),
         b'j' => item(alloc, rule, other),
         b'b' => Ok(CheckedFrame::BadItem(CheckFault::BadSignature)),
         b'f' => Ok(CheckedFrame::Turn(Turn::all_held(alloc))),
-        b't' => Ok(CheckedFrame::Turn(Turn::asking(ids(alloc, None)?))),
-        b'u' => Ok(CheckedFrame::Turn(Turn::asking(ids(alloc, Some(one.id()))?))),
-        b'x' => Ok(CheckedFrame::Turn(Turn::asking(ids(alloc, Some(UNKNOWN))?))),
         _ => Ok(CheckedFrame::BadFrame(7)),
     }
 }
@@ -158,6 +159,49 @@ fn write_answer(words: &mut String, out: &Out) -> Result<(), AllocError> {
     Ok(())
 }
 
+/// A session, and the words for what it has answered.
+#[derive(Drop)]
+struct Talk {
+    session: Session,
+    words: String,
+}
+
+/// Lets a session take a frame, and writes the word for what it answers.
+fn hear(
+    alloc: Global,
+    talk: &mut Talk,
+    holder: &mut MemHolder,
+    frame: CheckedFrame,
+) -> Result<(), AllocError>
+    requires belongs { BelongsTo (limits_of holder.old.most) holder.old.rule talk.old.session holder.old.members }
+    requires under { IsFrameUnder holder.old.rule frame }
+    ensures belongs { BelongsTo (limits_of holder.new.most) holder.new.rule talk.new.session holder.new.members }
+    ensures rule { holder.new.rule ≡ holder.old.rule }
+{
+    let out = talk.session.step(alloc, holder, frame)?;
+    write_answer(&mut talk.words, &out)
+}
+
+/// Lets a session take frames.
+fn hear_all(
+    alloc: Global,
+    talk: &mut Talk,
+    holder: &mut MemHolder,
+    frames: &[u8],
+    one: &Checked,
+    other: &Checked,
+) -> Result<(), AllocError>
+    requires belongs { BelongsTo (limits_of holder.old.most) holder.old.rule talk.old.session holder.old.members }
+    requires one { IsChecked holder.old.rule one.now }
+    requires other { IsChecked holder.old.rule other.now }
+{
+    'frames: for letter in frames {
+        let frame = frame_for(alloc, holder.rule(), *letter, one, other)?;
+        hear(alloc, talk, holder, frame)?;
+    }
+    Ok(())
+}
+
 /// What a new session of a holder answers to frames.
 fn answers_to(
     alloc: Global,
@@ -171,164 +215,163 @@ fn answers_to(
     requires other { IsChecked holder.old.rule other.now }
 {
     let begun = Session::start(alloc, holder, role, DATABASE, [1; 32], ids(alloc, None)?)?;
-    let (mut session, _) = begun;
-    let mut words = String::new(alloc);
-    'frames: for letter in frames {
-        let frame = frame_for(alloc, holder.rule(), *letter, one, other)?;
-        let out = session.step(alloc, holder, frame)?;
-        write_answer(&mut words, &out)?;
-    }
-    Ok(words)
+    let mut talk = Talk {
+        session: begun.0,
+        words: String::new(alloc),
+    };
+    hear_all(alloc, &mut talk, holder, frames, one, other)?;
+    Ok(talk.words)
 }
 
-/// A holder and what comes to it, and what is then answered and held.
+/// A holder that frames come to. It may have two updates.
 #[derive(Clone, Copy)]
-struct Row {
-    /// How many updates it may have.
-    most: u32,
-    /// How many commits go well before one fails, where one does.
-    failing: Option<u32>,
-    /// Whether it has the first update.
-    holds: bool,
-    role: Role,
-    frames: &'static str,
-    words: &'static str,
-    /// How many updates it has in the end.
-    held: u32,
+enum Holding {
+    /// It responds, and has the first update.
+    Responds,
+    /// It begins, and has nothing.
+    Begins,
+    /// So too, and it may have one update.
+    BeginsSmall,
+    /// So too, and its first commit fails.
+    BeginsFailing,
 }
 
-/// One that responds, and has the first update.
-const fn responds(frames: &'static str, words: &'static str) -> Row {
-    Row {
-        most: 2,
-        failing: None,
-        holds: true,
-        role: Role::Responder,
-        frames,
-        words,
-        held: 1,
+/// A holder, what comes to it, what is then answered, and how many updates it has in the end.
+type Row = (Holding, &'static str, &'static str, u32);
+
+const ROWS: &[Row] = &[
+    // what is asked for is sent once, and only what is there
+    (Holding::Responds, "huf", "hf|if|D|", 1),
+    (Holding::Responds, "huu", "hf|if|6|", 1),
+    (Holding::Responds, "hux", "hf|if|5|", 1),
+    (Holding::Responds, "hut", "hf|if|7|", 1),
+    // what was asked for has to come, and who has all still has
+    (Holding::Begins, "wfif", "|n||fD|", 1),
+    (Holding::Begins, "wfit", "|n||8|", 0),
+    (Holding::Begins, "wff", "|n|4|", 0),
+    (Holding::Begins, "wfj", "|n|4|", 0),
+    (Holding::Begins, "ltt", "|n|4|", 0),
+    // each in its turn
+    (Holding::Begins, "hf", "|fD|", 0),
+    (Holding::Begins, "hh", "|9|", 0),
+    (Holding::Begins, "hu", "|9|", 0),
+    (Holding::Begins, "i", "9|", 0),
+    (Holding::Begins, "d", "2|", 0),
+    (Holding::Begins, "v", "v|", 0),
+    (Holding::Begins, "hb", "|3|", 0),
+    (Holding::Begins, "hz", "|1|", 0),
+    // nothing is answered after the end
+    (Holding::Begins, "dhf", "2|||", 0),
+    // no room, and a fault of the store
+    (Holding::BeginsSmall, "hijf", "|||#|", 0),
+    (Holding::BeginsFailing, "hif", "||!|", 0),
+];
+
+/// The part that a holder has in a session.
+fn role_of(holding: Holding) -> Role {
+    match holding {
+        Holding::Responds => Role::Responder,
+        _ => Role::Initiator,
     }
 }
 
-/// One that begins, and has nothing.
-const fn begins(frames: &'static str, words: &'static str, held: u32) -> Row {
-    Row {
-        most: 2,
-        failing: None,
-        holds: false,
-        role: Role::Initiator,
-        frames,
-        words,
-        held,
-    }
-}
-
-/// A holder as in a row.
-fn holder_for(alloc: Global, rule: &DbRule, row: &Row, one: &Checked) -> Result<MemHolder, Fail>
+/// A holder of this kind.
+fn holder_for(
+    alloc: Global,
+    rule: &DbRule,
+    holding: Holding,
+    one: &Checked,
+) -> Result<MemHolder, AllocError>
     requires { IsChecked rule.now one.now }
     ensures { IfOk result (λ holder. holder.rule ≡ rule.now) }
 {
-    let mut holder = MemHolder::new(alloc, rule.copy(alloc)?, row.most.min(2), row.failing);
-    if !row.holds {
+    let (most, failing) = match holding {
+        Holding::BeginsSmall => (1, None),
+        Holding::BeginsFailing => (2, Some(0)),
+        _ => (2, None),
+    };
+    let mut holder = MemHolder::new(alloc, rule.copy(alloc)?, most, failing);
+    let Holding::Responds = holding else {
         return Ok(holder);
-    }
+    };
     let mut batch = Vec::new(alloc);
     batch.push(one.copy(alloc)?)?;
-    holder.commit(alloc, batch)?;
-    Ok(holder)
+    match holder.commit(alloc, batch) {
+        Ok(_) => Ok(holder),
+        Err(_) => Err(AllocError),
+    }
 }
 
-/// What a holder as in a row answers to frames, and how many updates it has then.
+/// What a holder of this kind answers to frames, and how many updates it has then.
 fn answered(
     alloc: Global,
     rule: &DbRule,
-    row: &Row,
+    holding: Holding,
     frames: &[u8],
     one: &Checked,
     other: &Checked,
-) -> Result<(String, u32), Fail>
+) -> Result<(String, u32), AllocError>
     requires one { IsChecked rule.now one.now }
     requires other { IsChecked rule.now other.now }
 {
-    let mut holder = holder_for(alloc, rule, row, one)?;
-    let words = answers_to(alloc, &mut holder, row.role, frames, one, other)?;
+    let mut holder = holder_for(alloc, rule, holding, one)?;
+    let words = answers_to(alloc, &mut holder, role_of(holding), frames, one, other)?;
     Ok((words, holder.len()))
 }
 
-/// Whether a row is as it says.
-fn is_so(
-    alloc: Global,
-    rule: &DbRule,
-    row: &Row,
-    one: &Checked,
-    other: &Checked,
-) -> Result<bool, Fail>
+/// Whether each row is as it says.
+fn are_so(alloc: Global, rule: &DbRule, one: &Checked, other: &Checked) -> Result<bool, AllocError>
     requires one { IsChecked rule.now one.now }
     requires other { IsChecked rule.now other.now }
 {
-    let frames = row.frames.as_bytes();
-    let (words, held) = answered(alloc, rule, row, frames, one, other)?;
-    Ok(words.as_str() == row.words && held == row.held)
-}
-
-#[test]
-fn answers_each_frame(rt: HostRuntime) -> Result<(), Fail> {
-    let alloc = rt.alloc();
-    let rule = rule(alloc);
-    let one = check(alloc, &rule, signed(alloc, 1)?)?;
-    let other = check(alloc, &rule, signed(alloc, 2)?)?;
-    for row in [
-        // what is asked for is sent once, and only what is there
-        responds("huf", "hf|if|D|"),
-        responds("huu", "hf|if|6|"),
-        responds("hux", "hf|if|5|"),
-        responds("hut", "hf|if|7|"),
-        // what was asked for has to come, and who has all still has
-        begins("wfif", "|n||fD|", 1),
-        begins("wfit", "|n||8|", 0),
-        begins("wff", "|n|4|", 0),
-        begins("wfj", "|n|4|", 0),
-        begins("ltt", "|n|4|", 0),
-        // each in its turn
-        begins("hf", "|fD|", 0),
-        begins("hh", "|9|", 0),
-        begins("hu", "|9|", 0),
-        begins("i", "9|", 0),
-        begins("d", "2|", 0),
-        begins("v", "v|", 0),
-        begins("hb", "|3|", 0),
-        begins("hz", "|1|", 0),
-        // nothing is answered after the end
-        begins("dhf", "2|||", 0),
-        // no room, and a fault of the store
-        Row {
-            most: 1,
-            ..begins("hijf", "|||#|", 0)
-        },
-        Row {
-            failing: Some(0),
-            ..begins("hif", "||!|", 0)
-        },
-    ] {
-        assert!(rt; is_so(alloc, &rule, &row, &one, &other)?, "{}", row.frames);
+    for (holding, frames, wanted, in_the_end) in ROWS {
+        let (words, held) = answered(alloc, rule, *holding, frames.as_bytes(), one, other)?;
+        if words.as_str() != *wanted || held != *in_the_end {
+            return Ok(false);
+        }
     }
-    Ok(())
+    Ok(true)
 }
 
-// 131,072 updates are a turn, and one more is not.
+/// The update of a seed, under a rule.
+fn offered(alloc: Global, rule: &DbRule, seed: u8) -> Result<Checked, CheckError>
+    ensures { IfOk result (λ update. IsChecked rule.now update) }
+{
+    check(alloc, rule, signed(alloc, seed)?)
+}
+
+/// Whether each row is as it says, where two updates are offered.
+fn is_answered(alloc: Global, rule: &DbRule) -> Result<bool, CheckError> {
+    let one = offered(alloc, rule, 1)?;
+    let other = offered(alloc, rule, 2)?;
+    Ok(are_so(alloc, rule, &one, &other)?)
+}
+
 #[test]
-fn a_turn_has_so_many_updates(rt: HostRuntime) -> Result<(), Fail> {
-    let alloc = rt.alloc();
-    let rule = rule(alloc);
-    let one = check(alloc, &rule, signed(alloc, 1)?)?;
-    let mut frames = Vec::new(alloc);
-    frames.push(b'h')?;
+fn answers_each_frame(rt: HostRuntime) {
+    let rule = rule(rt.alloc());
+    assert!(rt; matches!(is_answered(rt.alloc(), &rule), Ok(true)));
+}
+
+/// A Hello, and one update more than a turn may have.
+fn too_many(alloc: Global) -> Result<Vec<u8>, AllocError> {
+    let mut frames = Vec::from_slice(alloc, b"hi")?;
     for _ in 0..MAX_ITEMS {
         frames.push(b'i')?;
     }
-    frames.push(b'i')?;
-    let row = begins("", "", 0);
-    let (words, held) = answered(alloc, &rule, &row, &frames, &one, &one)?;
-    assert!(rt; words.len() == 131_075 && words.ends_with("|9|") && held == 0);
-    Ok(())
+    Ok(frames)
+}
+
+/// Whether 131,072 updates are a turn, and one more is not.
+fn is_limited(alloc: Global, rule: &DbRule) -> Result<bool, CheckError> {
+    let one = offered(alloc, rule, 1)?;
+    let frames = too_many(alloc)?;
+    let (words, held) = answered(alloc, rule, Holding::Begins, &frames, &one, &one)?;
+    Ok(words.len() == 131_075 && words.ends_with("|9|") && held == 0)
+}
+
+#[test]
+fn a_turn_has_so_many_updates(rt: HostRuntime) {
+    let rule = rule(rt.alloc());
+    assert!(rt; matches!(is_limited(rt.alloc(), &rule), Ok(true)));
 }

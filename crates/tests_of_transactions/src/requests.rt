@@ -2,10 +2,9 @@
 
 use command_words::{net_request_in, request_in};
 use std::alloc::{AllocError, Global};
-use std::test::Fail;
 
 /// Words, parted by `|`, and what they ask for.
-const ASKED: [(&str, &str); 24] = [
+const ASKED: &[(&str, &str)] = &[
     ("heads", "Heads { directory: None }"),
     ("heads|a b", "Heads { directory: Some(\"a b\") }"),
     ("heads|", "Heads { directory: Some(\"\") }"),
@@ -54,10 +53,8 @@ const ASKED: [(&str, &str); 24] = [
     ),
     ("merge|a|b", "Merge { first: \"a\", second: \"b\" }"),
     ("merge|a|./a", "Merge { first: \"a\", second: \"./a\" }"),
-];
-
-/// The same of those that ask for something over a net.
-const ASKED_OVER_A_NET: [(&str, &str); 6] = [
+    ("heads|a", "Heads { directory: Some(\"a\") }"),
+    // over a net
     (
         "sync|a|localhost:7000",
         "Sync { directory: \"a\", address: \"localhost:7000\" }",
@@ -79,14 +76,13 @@ const ASKED_OVER_A_NET: [(&str, &str); 6] = [
         "serve|--sessions|2|--|a|--sessions",
         "Serve { directory: \"a\", address: \"--sessions\", sessions: 2 }",
     ),
+    ("sync|a|b", "Sync { directory: \"a\", address: \"b\" }"),
 ];
 
-/// Words that ask for nothing over a net.
-const REFUSED_OVER_A_NET: [&str; 20] = [
+/// Words that are no command.
+const REFUSED: &[&str] = &[
     "",
     "Sync",
-    "heads|a",
-    "merge|a|b",
     "sync",
     "sync|a",
     "sync|a|b|c",
@@ -103,11 +99,6 @@ const REFUSED_OVER_A_NET: [&str; 20] = [
     "serve|a|b|--sessions|01",
     "serve|a|b|--sessions|+1",
     "serve|a|b|--sessions|1|--sessions|1",
-];
-
-/// Words that are no command.
-const REFUSED: [&str; 31] = [
-    "",
     "Heads",
     "world",
     "query|a",
@@ -136,8 +127,6 @@ const REFUSED: [&str; 31] = [
     "merge|a",
     "merge|a|a",
     "merge|a|b|c",
-    "sync|a|b",
-    "serve|a|b|--sessions|1",
 ];
 
 /// The words that `|` parts.
@@ -149,51 +138,51 @@ fn words_of(alloc: Global, line: &str) -> Result<Vec<String>, AllocError> {
     Ok(words)
 }
 
-#[test]
-fn words_that_ask(rt: HostRuntime) -> Result<(), Fail> {
-    let alloc = rt.alloc();
+/// What words ask for, alone or over a net, and nothing where they do so neither way.
+fn asked(alloc: Global, words: &[String]) -> Result<String, AllocError> {
+    let alone = request_in(alloc, words)?;
+    let over_a_net = net_request_in(alloc, words)?;
+    match (&alone, &over_a_net) {
+        (None, None) => Ok(String::new(alloc)),
+        (Some(request), None) => format!(in alloc; "{request:?}"),
+        (None, Some(request)) => format!(in alloc; "{request:?}"),
+        _ => String::from_str(alloc, "both"),
+    }
+}
+
+/// Whether words ask for this, which is nothing where they are no command.
+fn asks(alloc: Global, line: &str, wanted: &str) -> Result<bool, AllocError> {
+    let words = words_of(alloc, line)?;
+    let found = asked(alloc, &words)?;
+    Ok(found.as_str() == wanted)
+}
+
+/// Whether each row is as it says.
+fn ask(alloc: Global) -> Result<bool, AllocError> {
     for (line, wanted) in ASKED {
-        let words = words_of(alloc, line)?;
-        let request = request_in(alloc, words.as_slice())?.ok_or("no command")?;
-        let found = format!(in alloc; "{request:?}")?;
-        assert_eq!(rt; found.as_str(), wanted, "{line}");
+        if !asks(alloc, line, wanted)? {
+            return Ok(false);
+        }
     }
-    Ok(())
+    Ok(asked(alloc, &[])?.is_empty())
 }
 
-#[test]
-fn words_that_are_no_command(rt: HostRuntime) -> Result<(), Fail> {
-    let alloc = rt.alloc();
+/// Whether no row asks for anything.
+fn ask_for_nothing(alloc: Global) -> Result<bool, AllocError> {
     for line in REFUSED {
-        let words = words_of(alloc, line)?;
-        assert!(rt; request_in(alloc, words.as_slice())?.is_none(), "{line}");
+        if !asks(alloc, line, "")? {
+            return Ok(false);
+        }
     }
-    assert!(rt; request_in(alloc, &[])?.is_none());
-    Ok(())
+    Ok(true)
 }
 
 #[test]
-fn words_that_ask_over_a_net(rt: HostRuntime) -> Result<(), Fail> {
-    let alloc = rt.alloc();
-    for (line, wanted) in ASKED_OVER_A_NET {
-        let words = words_of(alloc, line)?;
-        let request = net_request_in(alloc, words.as_slice())?.ok_or("no command")?;
-        let found = format!(in alloc; "{request:?}")?;
-        assert_eq!(rt; found.as_str(), wanted, "{line}");
-    }
-    Ok(())
+fn words_that_ask(rt: HostRuntime) {
+    assert!(rt; matches!(ask(rt.alloc()), Ok(true)));
 }
 
 #[test]
-fn words_that_ask_for_nothing_over_a_net(rt: HostRuntime) -> Result<(), Fail> {
-    let alloc = rt.alloc();
-    for line in REFUSED_OVER_A_NET {
-        let words = words_of(alloc, line)?;
-        assert!(rt;
-            net_request_in(alloc, words.as_slice())?.is_none(),
-            "{line}"
-        );
-    }
-    assert!(rt; net_request_in(alloc, &[])?.is_none());
-    Ok(())
+fn words_that_are_no_command(rt: HostRuntime) {
+    assert!(rt; matches!(ask_for_nothing(rt.alloc()), Ok(true)));
 }

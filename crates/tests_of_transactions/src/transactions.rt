@@ -3,7 +3,6 @@
 use row_check::{Luhn, Native};
 use schema::{Schema, SchemaError, read_schema};
 use std::alloc::{AllocError, Global};
-use std::test::Fail;
 use txn_text::{TextError, read_txn};
 
 /// Lists, and tasks in them.
@@ -19,7 +18,7 @@ const NAME: &str = "00112233445566778899aabbccddeeff00112233445566778899aabbccdd
 
 /// A text, and how many operations it is or its first fault. `@` stands for the name of a row, and `~` for a byte that is
 /// not UTF-8.
-const TEXTS: [(&str, &str); 44] = [
+const TEXTS: &[(&str, &str)] = &[
     ("", "0"),
     (" \t\n\n", "0"),
     ("INSERT list \"Home\" 9", "1"),
@@ -103,20 +102,8 @@ fn spelled(alloc: Global, text: &str) -> Result<Vec<u8>, AllocError> {
     Ok(bytes)
 }
 
-#[test]
-fn operations_and_faults(rt: HostRuntime) -> Result<(), Fail> {
-    let alloc = rt.alloc();
-    let schema = tasks(alloc)?;
-    for (text, wanted) in TEXTS {
-        let bytes = spelled(alloc, text)?;
-        let found = told(alloc, &schema, bytes.as_slice())?;
-        assert_eq!(rt; found.as_str(), wanted, "{text}");
-    }
-    Ok(())
-}
-
 /// What stands before a piece that is repeated, how often it is, what stands behind it, and what the text is.
-const LONG: [(&str, &str, usize, &str, &str); 7] = [
+const LONG: &[(&str, &str, usize, &str, &str)] = &[
     ("", "INSERT list \"Home\" 9\n", 64, "", "64"),
     (
         "",
@@ -144,18 +131,57 @@ const LONG: [(&str, &str, usize, &str, &str); 7] = [
     ("", "\n", 4_194_304, " ", "1:1: too long"),
 ];
 
-#[test]
-fn long_texts(rt: HostRuntime) -> Result<(), Fail> {
-    let alloc = rt.alloc();
-    let schema = tasks(alloc)?;
-    for (front, piece, count, back, wanted) in LONG {
-        let mut text = Vec::from_slice(alloc, front.as_bytes())?;
-        for _ in 0..count {
-            text.extend_from_slice(piece.as_bytes())?;
-        }
-        text.extend_from_slice(back.as_bytes())?;
-        let found = told(alloc, &schema, text.as_slice())?;
-        assert_eq!(rt; found.as_str(), wanted, "{piece}");
+/// The bytes of a text with a repeated piece.
+fn repeated(
+    alloc: Global,
+    front: &str,
+    piece: &str,
+    count: usize,
+    back: &str,
+) -> Result<Vec<u8>, AllocError> {
+    let mut bytes = Vec::from_slice(alloc, front.as_bytes())?;
+    for _ in 0..count {
+        bytes.extend_from_slice(piece.as_bytes())?;
     }
-    Ok(())
+    bytes.extend_from_slice(back.as_bytes())?;
+    Ok(bytes)
+}
+
+/// Whether a text is told so.
+fn is_told(alloc: Global, schema: &Schema, text: &[u8], wanted: &str) -> Result<bool, AllocError> {
+    let found = told(alloc, schema, text)?;
+    Ok(found.as_str() == wanted)
+}
+
+/// Whether each text is told as its row says.
+fn are_told(alloc: Global, schema: &Schema) -> Result<bool, AllocError> {
+    for (text, wanted) in TEXTS {
+        let bytes = spelled(alloc, text)?;
+        if !is_told(alloc, schema, &bytes, wanted)? {
+            return Ok(false);
+        }
+    }
+    Ok(true)
+}
+
+/// Whether each long text is told as its row says.
+fn long_are_told(alloc: Global, schema: &Schema) -> Result<bool, AllocError> {
+    for (front, piece, count, back, wanted) in LONG {
+        let bytes = repeated(alloc, front, piece, *count, back)?;
+        if !is_told(alloc, schema, &bytes, wanted)? {
+            return Ok(false);
+        }
+    }
+    Ok(true)
+}
+
+/// Whether all texts are told as their rows say.
+fn all_are_told(alloc: Global) -> Result<bool, SchemaError> {
+    let schema = tasks(alloc)?;
+    Ok(are_told(alloc, &schema)? && long_are_told(alloc, &schema)?)
+}
+
+#[test]
+fn operations_and_faults(rt: HostRuntime) {
+    assert!(rt; matches!(all_are_told(rt.alloc()), Ok(true)));
 }
