@@ -18,7 +18,7 @@ const MAX_LOOKS: usize = 512;
 
 /// The predecessors and the clock of each member of a graph. A contract sees, for each member in arrival order, the
 /// list of the positions that it names.
-#[derive(Debug, Drop)]
+#[derive(Drop)]
 pub struct Ancestry {
     /// In arrival order, the positions of each member's direct predecessors.
     members: Vec<PositionList>,
@@ -88,10 +88,10 @@ impl Ancestry {
             preds,
         );
         let alloc = *self.members.allocator();
-        let own = PositionList::from_vec(Vec::from_slice(alloc, preds)?);
         self.members.reserve(1)?;
         self.clocks.reserve(1)?;
         self.namers.reserve(1)?;
+        let own = PositionList::from_vec(Vec::from_slice(alloc, preds)?);
         if let Err(full) = note(self.namers.as_mut_slice(), preds, position) {
             forget(self.namers.as_mut_slice(), preds, position);
             return Err(full);
@@ -184,13 +184,12 @@ impl Ancestry {
     {
         let mut members = Vec::with_capacity(alloc, self.members.len())?;
         for preds in self.members.as_slice() {
-            members.push(preds.copy(alloc)?)?;
+            members.push_reserved(preds.copy(alloc)?);
         }
-        let mut clocks = Vec::with_capacity(alloc, self.clocks.len())?;
-        clocks.extend_from_slice(self.clocks.as_slice())?;
+        let clocks = Vec::from_slice(alloc, self.clocks.as_slice())?;
         let mut namers = Vec::with_capacity(alloc, self.namers.len())?;
         for list in self.namers.as_slice() {
-            namers.push(list.copy(alloc)?)?;
+            namers.push_reserved(list.copy(alloc)?);
         }
         Ok(Ancestry {
             members,

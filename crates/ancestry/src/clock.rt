@@ -13,7 +13,7 @@ pub(crate) const CHAINS: usize = 64;
 
 /// The chain of a member and its counts. Contracts inside of the crate name it; callers see counts alone, by
 /// [`Ancestry::clock`](crate::Ancestry::clock).
-#[derive(Clone, Copy, Debug)]
+#[derive(Clone, Copy)]
 pub struct Clock {
     /// Its chain, or [`CHAINS`] where it is in none.
     pub(crate) chain: u32,

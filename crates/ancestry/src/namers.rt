@@ -11,7 +11,7 @@ use update_model::PositionList;
 
 /// The positions of the members that name one member. Others may stand among them, so who looks here asks the member that
 /// is told.
-#[derive(Debug, Drop)]
+#[derive(Drop)]
 pub(crate) struct Namers {
     positions: Vec<u32>,
 }

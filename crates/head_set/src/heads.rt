@@ -17,7 +17,7 @@ use update_model::{MAX_MEMBERS, UpdateId};
 
 /// The heads of a graph as it grew. A contract sees the list of the heads after each add: of their ids, each above the
 /// one before it.
-#[derive(Debug, Drop)]
+#[derive(Drop)]
 pub struct Heads {
     /// For each id that was added, when it is a head. An ordered map, since strangers choose the ids.
     spans: BTreeMap<UpdateId, Span>,

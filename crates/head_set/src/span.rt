@@ -5,7 +5,7 @@ ghost use Rattle.head_set.specs.Spans.{cut_span, has_moment};
 
 /// The adds after which an id is a head: those after the first `since`, up to the first `until`, if it has an end yet.
 /// Contracts inside of the crate name it; callers see lists of heads.
-#[derive(Clone, Copy, Debug)]
+#[derive(Clone, Copy)]
 pub struct Span {
     /// How many adds came before its own.
     pub(crate) since: u32,

@@ -19,7 +19,7 @@ use update_check::Checked;
 use update_model::Member;
 
 /// What is kept of the first members of a graph.
-#[derive(Debug, Drop)]
+#[derive(Drop)]
 pub struct Views {
     /// The heads after each of them.
     pub heads: Heads,

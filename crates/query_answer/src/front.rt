@@ -13,7 +13,7 @@ use std::alloc::{AllocError, Global};
 
 /// The first rows of those that came, as many as the limit, and some that came since the last cut. Under a limit no more are
 /// kept than twice as many, and one.
-#[derive(Debug, Drop)]
+#[derive(Drop)]
 pub(crate) struct Front<'a> {
     limit: Option<u32>,
     lines: Vec<Line<'a>>,

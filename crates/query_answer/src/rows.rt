@@ -13,7 +13,7 @@ use tuple_state::{Lent, Tables};
 use update_model::{RowName, Value};
 
 /// A row that a query goes over.
-#[derive(Debug, Drop)]
+#[derive(Drop)]
 pub(crate) enum Row<'a> {
     /// One that a list has.
     Listed(&'a ShownRow),
@@ -50,7 +50,7 @@ impl<'a> Row<'a> {
 }
 
 /// The rows that a query goes over.
-#[derive(Clone, Copy, Debug)]
+#[derive(Clone, Copy)]
 pub(crate) enum Rows<'a> {
     /// Those of lists, one for each table, in which names rise.
     Listed(&'a [ShownRowList]),

@@ -1,6 +1,7 @@
 pub mod Absence
 pub mod Arrived
 pub mod Causes
+pub mod Changes
 pub mod Kept
 pub mod Links
 pub mod Parents

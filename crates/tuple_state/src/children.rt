@@ -51,7 +51,7 @@ fn push_name(
 }
 
 /// What rows name by `CASCADE`.
-#[derive(Debug, Drop)]
+#[derive(Drop)]
 pub(crate) struct Parents {
     /// The names, row by row, each with the place of the row that names it.
     pub(crate) names: Vec<Dropped>,
@@ -88,7 +88,7 @@ pub(crate) fn parents_of(
         if end > u32::MAX as usize {
             return Err(AllocError);
         }
-        ends.push(end as u32)?;
+        ends.push_reserved(end as u32);
     }
     Ok(Parents { names, ends })
 }

@@ -22,7 +22,7 @@ pub(crate) fn copy_lists(alloc: Global, lists: &[ColumnList]) -> Result<Vec<Colu
     let mut copies = Vec::with_capacity(alloc, lists.len())?;
     for list in lists {
         let columns = copy_columns(alloc, list.as_slice())?;
-        copies.push(ColumnList::from_vec(columns))?;
+        copies.push_reserved(ColumnList::from_vec(columns));
     }
     Ok(copies)
 }
@@ -33,7 +33,7 @@ fn copy_columns(alloc: Global, columns: &[Column]) -> Result<Vec<Column>, AllocE
 {
     let mut copies = Vec::with_capacity(alloc, columns.len())?;
     for column in columns {
-        copies.push(copy_column(alloc, column)?)?;
+        copies.push_reserved(copy_column(alloc, column)?);
     }
     Ok(copies)
 }

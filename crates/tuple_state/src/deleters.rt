@@ -19,7 +19,7 @@ use update_model::RowName;
 const MAX_LINKS: usize = 536_870_912;
 
 /// The links that an update adds.
-#[derive(Debug, Drop)]
+#[derive(Drop)]
 pub(crate) struct Added {
     /// From the rows that its rows name by `CASCADE`.
     pub(crate) parents: Vec<Link>,

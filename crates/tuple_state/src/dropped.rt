@@ -1,7 +1,7 @@
 use update_model::RowName;
 
 /// A name that a valid update deletes.
-#[derive(Clone, Copy, Debug)]
+#[derive(Clone, Copy)]
 pub struct Dropped {
     /// The position of that update.
     pub position: u32,

@@ -1,7 +1,7 @@
 use update_model::{RowEntry, RowName};
 
 /// A row that a valid update inserted.
-#[derive(Debug, Drop)]
+#[derive(Drop)]
 pub struct Inserted {
     /// The position of that update.
     pub position: u32,

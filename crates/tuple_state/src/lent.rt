@@ -15,7 +15,7 @@ use std::marker::Model;
 use update_model::{RowName, Value};
 
 /// A visible row, which [`Tables::lend`] and [`Tables::lend_named`] lend. A contract sees it as its table lists it.
-#[derive(Debug, Drop)]
+#[derive(Drop)]
 pub struct Lent<'a> {
     tables: &'a Tables,
     row: &'a Inserted,

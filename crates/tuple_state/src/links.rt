@@ -10,7 +10,7 @@ use std::marker::Model;
 use update_model::Ancestors;
 
 /// A number that belongs to a place.
-#[derive(Clone, Copy, Debug)]
+#[derive(Clone, Copy)]
 pub(crate) struct Link {
     /// The place.
     pub(crate) place: usize,
@@ -20,7 +20,7 @@ pub(crate) struct Link {
 
 /// For each place the numbers that belong to it: to the place of a row the positions of the updates that delete it. They
 /// are read from the newest to the oldest. A contract sees how many places there are, and the links in order.
-#[derive(Debug, Drop)]
+#[derive(Drop)]
 pub(crate) struct Links {
     /// The links in the order in which they came.
     links: Vec<Link>,

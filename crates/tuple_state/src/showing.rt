@@ -139,7 +139,7 @@ pub(crate) fn copy_rows(alloc: Global, rows: &[Inserted]) -> Result<Vec<Inserted
 {
     let mut copies = Vec::with_capacity(alloc, rows.len())?;
     for row in rows {
-        copies.push(copy_row(alloc, row)?)?;
+        copies.push_reserved(copy_row(alloc, row)?);
     }
     Ok(copies)
 }

@@ -1,6 +1,5 @@
-ghost use Rattle.std.specs.Prelude.{◌≡◌, ℕ, ◌+◌, ◌*◌, ◌<◌, ◌≤◌, Bool, List, [], ◌∷◌, ◌++◌, IfOk, IfNone, IfSome, OnOk, MatchResult, length, map, nat_lt, option_to_list, slice_get, take, vec_len, Contains, Some, true, ◌&&◌, ◌||◌};
+ghost use Rattle.std.specs.Prelude.{◌≡◌, ℕ, ◌+◌, ◌*◌, ◌<◌, ◌≤◌, Bool, List, [], ◌∷◌, ◌++◌, IfOk, IfNone, IfSome, OnOk, MatchResult, length, map, nat_lt, option_to_list, slice_get, take, Contains, Some, true, ◌&&◌, ◌||◌};
 ghost use Rattle.std.specs.List.{list_all, list_any};
-ghost use Rattle.std.specs.Vec.{vec_capacity};
 ghost use Rattle.table_model.specs.declared.verdict.Verdict.TheVariants.{Valid};
 ghost use Rattle.update_model.specs.declared.value.Value.{Value as Cell};
 ghost use Rattle.row_check.specs.declared.cmp.Cmp.TheVariants.{Eq};
@@ -17,6 +16,7 @@ ghost use Rattle.validity.specs.Answers.{AreAnswers};
 ghost use Rattle.tuple_state.specs.Past.{IsNextVerdict, IsPastOf, StandsAt, done_then, effects_before};
 ghost use Rattle.tuple_state.specs.Absence.{causes_of};
 ghost use Rattle.tuple_state.specs.Causes.{parents_from};
+ghost use Rattle.tuple_state.specs.Changes.{AreNextChanges};
 ghost use Rattle.tuple_state.specs.Kept.{are_layered, deletes_at, is_named, pairs_of, place_of};
 ghost use Rattle.tuple_state.specs.Parents.{columns_at, is_held, passes_place};
 ghost use Rattle.tuple_state.specs.State.{IsCut, IsStateOf, after, done_in, dropped_at, row_of, rules_of_state, voided_at};
@@ -42,7 +42,7 @@ use table_model::{ShownRowList, Verdict, VoidLine, VoidList, sort_lines};
 use update_model::{Ancestors, MAX_MEMBERS, Node, RowName, RowsAt, Value};
 
 /// What valid updates did, and which rows are visible for it. A contract sees the [state](mod@crate) of the definitions.
-#[derive(Debug, Drop)]
+#[derive(Drop)]
 pub struct Tables {
     /// Where memory comes from.
     alloc: Global,
@@ -263,7 +263,7 @@ impl Tables {
             && equals_column(self.rows[place].entry.values.as_slice(), column, value)
     }
 
-    /// Keeps what a valid update does. Memory is taken before anything changes.
+    /// Keeps what a valid update does.
     fn keep_valid(&mut self, node: Node) -> Result<(), AllocError>
         requires next { IsNextVerdict self.old node Valid }
         ensures { MatchResult result (λ _. self.new ≡ after self.old node Valid) (λ _. self.new ≡ self.old) }
@@ -272,22 +272,31 @@ impl Tables {
         let _ops = &node.ops;
         let mut dropped = dropped_by(self.alloc, self.count, &node)?;
         let mut inserted = inserted_by(self.alloc, self.count, node)?;
+        self.keep_changes(&mut inserted, &mut dropped)
+    }
+
+    /// Takes over the rows that a valid update inserts, and the names that it deletes. Memory is taken before anything
+    /// changes.
+    fn keep_changes(
+        &mut self,
+        inserted: &mut Vec<Inserted>,
+        dropped: &mut Vec<Dropped>,
+    ) -> Result<(), AllocError>
+        requires next { AreNextChanges self.old inserted.old.items dropped.old.items }
+        ensures { MatchResult result (λ _. self.new ≡ record self.old { count = self.old.count + 1; inserted = self.old.inserted ++ inserted.old.items; dropped = self.old.dropped ++ dropped.old.items }) (λ _. self.new ≡ self.old) }
+    {
         let first = self.rows.len();
         let more = inserted.len();
+        self.rows.reserve(more)?;
+        self.causes.reserve(more)?;
+        self.ends.reserve(more)?;
+        self.dropped.reserve(dropped.len())?;
         let columns = self.columns.as_slice();
         let len = self.children.len();
         let mut parents = parents_of(self.alloc, columns, inserted.as_slice(), first, len)?;
         let mut pending = room_for(self.alloc, dropped.len(), first + more)?;
-        make_room(
-            &mut self.rows,
-            &mut self.causes,
-            &mut self.dropped,
-            more,
-            dropped.len(),
-        )?;
-        self.ends.reserve(more)?;
         add_places(&mut self.places, self.rows.as_slice(), inserted.as_slice())?;
-        let grown = grow_links(
+        match grow_links(
             self.alloc,
             &mut self.children,
             &mut self.deleters,
@@ -296,8 +305,7 @@ impl Tables {
             more,
             parents.names.as_slice(),
             dropped.as_slice(),
-        );
-        match grown {
+        ) {
             Ok(added) => {
                 self.causes.resize(first + more, 0).unwrap();
                 let causes = self.causes.as_mut_slice();
@@ -308,8 +316,8 @@ impl Tables {
                 return Err(error);
             }
         }
-        self.rows.append(&mut inserted).unwrap();
-        self.dropped.append(&mut dropped).unwrap();
+        self.rows.append(inserted).unwrap();
+        self.dropped.append(dropped).unwrap();
         self.ends.append(&mut parents.ends).unwrap();
         self.count += 1;
         Ok(())
@@ -468,24 +476,4 @@ fn equals_column(values: &[Value], column: u8, value: &Value) -> bool
         Some(found) => compare(Cmp::Eq, found, value),
         None => false,
     }
-}
-
-/// Makes room for more rows and deleted names.
-fn make_room(
-    rows: &mut Vec<Inserted>,
-    causes: &mut Vec<u32>,
-    dropped: &mut Vec<Dropped>,
-    more_rows: usize,
-    more_names: usize,
-) -> Result<(), AllocError>
-    ensures rows { rows.new.items ≡ rows.old.items }
-    ensures causes { causes.new.items ≡ causes.old.items }
-    ensures dropped { dropped.new.items ≡ dropped.old.items }
-    ensures room_rows { OnOk result (vec_len rows.new + more_rows ≤ vec_capacity rows.new) }
-    ensures room_causes { OnOk result (vec_len causes.new + more_rows ≤ vec_capacity causes.new) }
-    ensures room_dropped { OnOk result (vec_len dropped.new + more_names ≤ vec_capacity dropped.new) }
-{
-    rows.reserve(more_rows)?;
-    causes.reserve(more_rows)?;
-    dropped.reserve(more_names)
 }

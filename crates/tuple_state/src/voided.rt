@@ -1,7 +1,7 @@
 use table_model::VoidLine;
 
 /// An update that does nothing.
-#[derive(Clone, Copy, Debug)]
+#[derive(Clone, Copy)]
 pub struct Voided {
     /// The position of that update.
     pub position: u32,

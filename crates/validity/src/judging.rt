@@ -16,7 +16,7 @@ use table_model::{Verdict, unlimited_tables_hold, verdict_goes_by_operations};
 use update_model::{AuthorKey, Node, Op, RowName, RowsAt};
 
 /// What the operations so far did.
-#[derive(Debug, Drop)]
+#[derive(Drop)]
 struct Done {
     /// How many they are.
     number: u16,

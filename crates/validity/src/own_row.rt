@@ -6,7 +6,7 @@ use std::alloc::{AllocError, Global};
 use update_model::{Node, RowEntry, RowName, UpdateId, Value, ValueList};
 
 /// A row that an operation of the update inserts.
-#[derive(Debug, Drop)]
+#[derive(Drop)]
 pub(crate) struct OwnRow {
     /// Its name: the update's id and the number of the operation.
     pub(crate) name: RowName,
@@ -44,7 +44,7 @@ fn named_values(alloc: Global, id: UpdateId, values: &[Value]) -> Result<ValueLi
 {
     let mut list = Vec::with_capacity(alloc, values.len())?;
     for value in values {
-        list.push(named(alloc, id, value)?)?;
+        list.push_reserved(named(alloc, id, value)?);
     }
     Ok(ValueList::from_vec(list))
 }

@@ -13,7 +13,7 @@ use Rattle.tuple_state.proofs.children.parents_of.Goals.{in-Some+in_ok-push_name
 
 pub loop-number-init : goal.loop-number-init
 unfolding ends_from parents_from
-loop-number-init c = record { names = c.new-names.ensures.items; ends = c.in_ok-ends.ensures.items }
+loop-number-init c = record { names = c.new-names.ensures.items; ends = c.in_ok-ends.ensures.items; len = c.in_ok-ends.ensures.len; room = omega (arith, c.in_ok-ends.ensures.capacity) }
 
 pub loop-number-preserved : goal.loop-number-preserved
 loop-number-preserved c =
@@ -38,5 +38,7 @@ loop-number-preserved c =
     let end : c.args.from + c.len.result ≡ c.args.from + length (parents_from rules c.args.first (take (n + 1) rows)) = omega (arith, count, c.len.ensures) in
     record {
       names = names;
-      ends = c.in_ok-push.ensures.items ∙ ends_step rules c.args.first c.args.from rows n it c.loop-number.ends.items (c.args.from + c.len.result) c.loop-number-test.true c.index-rows-number.is c.loop-number.invariant.ends end;
+      ends = c.push_reserved.ensures.items ∙ ends_step rules c.args.first c.args.from rows n it c.loop-number.ends.items (c.args.from + c.len.result) c.loop-number-test.true c.index-rows-number.is c.loop-number.invariant.ends end;
+      len = omega (arith, c.push_reserved.ensures.len);
+      room = omega (arith, c.push_reserved.ensures.capacity);
     }

@@ -1,6 +1,10 @@
-use Rattle.std.proofs.Common.{◌≡◌, take}
+use Rattle.std.proofs.Common.{◌≡◌, ◌≤◌, length, take}
+use Rattle.std.specs.Vec.{vec_capacity}
 use Rattle.tuple_state.proofs.showing.copy_rows.Given as goal
 
--- the rows so far are copied
+-- the rows so far are copied, and there is room for all
 abbrev pub invariant-loop-row : goal.invariant-loop-row
-invariant-loop-row l = l.copies.items ≡ take l.row-index l.rows
+invariant-loop-row l = record {
+  copied : l.copies.items ≡ take l.row-index l.rows;
+  room : length l.rows ≤ vec_capacity l.copies;
+}
