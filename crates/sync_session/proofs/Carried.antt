@@ -12,9 +12,9 @@ use Rattle.update_model.specs.Rule.{RuleData}
 use Rattle.session_rules.specs.Pair.{frames_of, hello_frames, turn_frames}
 use Rattle.session_rules.specs.declared.role.Role.TheVariants.{Initiator}
 use Rattle.session_rules.specs.declared.end.End.{End}
-use Rattle.session_rules.specs.State.{HelloData, FrameData, Hello, Item, BadItem, Turn, SessionData, OutData}
+use Rattle.session_rules.specs.State.{HelloData, FrameData, Hello, Item, BadItem, Turn, TurnData, SessionData, OutData}
 use Rattle.session_rules.specs.Steps.{silent, Steps}
-use Rattle.sync_session.specs.Carrying.{Arrives, AreHanded, all_heard, one_ends, Hears, IsCarried, to_turn, to_end, IsHanded, IsWell, Stops}
+use Rattle.sync_session.specs.Carrying.{before_turn, Arrives, AreHanded, all_heard, one_ends, Hears, IsCarried, to_turn, to_end, IsHanded, IsWell, Stops}
 use Rattle.sync_session.specs.Kept.{frame_of, out_of, seen, BelongsTo, Kept, StepsBy, StepsTo}
 use Rattle.sync_session.specs.declared.checked_frame.CheckedFrame.{CheckedFrame}
 use Rattle.sync_session.specs.declared.out.Out.{Out}
@@ -106,18 +106,43 @@ module _ (limits : Limits) (rule : RuleData) (s : SessionData) (before : List En
               ∙ ap (λ (fs : List FrameData). hello_frames sent.hello ++ fs) (append_assoc (map Item first) (Item e ∷ map Item rest) (turn_frames sent.turn))
               ∙ sym (append_assoc (hello_frames sent.hello) (map Item first) (Item e ∷ (map Item rest ++ turn_frames sent.turn)))
 
-      -- the end ended at an update
-      pub carried_to_update : out2.end ≢ None → IsCarried limits rule s before sent u out2 before
-      carried_to_update some = ends_at_update some updates_here
+      -- where no Turn follows, this is all
+      pub carried_first : sent.turn ≡ None → IsCarried limits rule s before sent u out2 before
+      carried_first last = by updates_here
+        where
+          by : AreHanded limits rule t before sent.send u out2 → IsCarried limits rule s before sent u out2 before
+          by (all_heard is h) =
+              to_turn u (hears_join limits rule s before (hello_frames sent.hello) (map Item sent.send) t u heard_hello h)
+              (subst (λ (o : Option TurnData). IsHanded limits rule u before (option_map Turn o) u out2 before) (sym last) (refl, is, refl))
+          by (one_ends first rest e v ending is h handed2 ends2) = ends_at_update (λ none2. let says = ap (λ (o : OutData). o.end) ends2.says in cc) (one_ends first rest e v ending is h handed2 ends2)
 
-      all_by : out2.end ≡ None → AreHanded limits rule t before sent.send u out2 → Hears limits rule t before (map Item sent.send) u
-      all_by none2 (all_heard is h) = h
-      all_by none2 (one_ends first rest e v ending is h last ends2) = absurd (let says = ap (λ (o : OutData). o.end) ends2.says in cc)
+-- ---- the Turn, behind what comes before it
 
-      -- it takes the Turn
-      pub carried_to_turn : (next : SessionData) (answer : OutData) (after : List Entry) → out2.end ≡ None → IsHanded limits rule u before (option_map Turn sent.turn) next answer after → IsCarried limits rule s before sent next answer after
-      carried_to_turn next answer after none2 last =
-          to_turn u (hears_join limits rule s before (hello_frames sent.hello) (map Item sent.send) t u heard_hello (all_by none2 updates_here)) last
+module _ (limits : Limits) (rule : RuleData) (s : SessionData) (before : List Entry) (sent : OutData) (t : SessionData) (out : OutData) (list : List Entry) (carried : IsCarried limits rule s before (before_turn sent.hello sent.send) t out list) where
+  longer : (first rest : List FrameData) (frame : FrameData) → frames_of (before_turn sent.hello sent.send) ≡ first ++ frame ∷ rest → frames_of sent ≡ first ++ frame ∷ (rest ++ turn_frames sent.turn)
+  longer first rest frame split =
+      sym (append_assoc (hello_frames sent.hello) (map Item sent.send ++ []) (turn_frames sent.turn) ∙ ap (λ (fs : List FrameData). hello_frames sent.hello ++ fs) (append_assoc (map Item sent.send) [] (turn_frames sent.turn)))
+      ∙ ap (λ (fs : List FrameData). fs ++ turn_frames sent.turn) split ∙ append_assoc first (frame ∷ rest) (turn_frames sent.turn)
+
+  -- the end ended before it
+  pub carried_early : out.end ≢ None → IsCarried limits rule s before sent t out list
+  carried_early some = by carried
+    where
+      by : IsCarried limits rule s before (before_turn sent.hello sent.send) t out list → IsCarried limits rule s before sent t out list
+      by (to_turn u h handed) = absurd (some (ap (λ (o : OutData). o.end) handed.1))
+      by (to_end first rest frame u ending split h handed e) = to_end first (rest ++ turn_frames sent.turn) frame u ending (longer first rest frame split) h handed e
+
+  module _ (none : out.end ≡ None) where
+    all_before : IsCarried limits rule s before (before_turn sent.hello sent.send) t out list → Hears limits rule s before (hello_frames sent.hello ++ map Item sent.send) t × (list ≡ before)
+    all_before (to_turn u h handed) = (subst (Hears limits rule s before (hello_frames sent.hello ++ map Item sent.send)) (sym handed.0) h, handed.2)
+    all_before (to_end first rest frame u ending split h handed e) = absurd (let says = ap (λ (o : OutData). o.end) e.says in cc)
+
+    pub list_before : list ≡ before
+    list_before = (all_before carried).1
+
+    -- it takes the Turn
+    pub carried_late : (next : SessionData) (answer : OutData) (after : List Entry) → IsHanded limits rule t before (option_map Turn sent.turn) next answer after → IsCarried limits rule s before sent next answer after
+    carried_late next answer after last = to_turn t (all_before carried).0 last
 
 -- ---- how an update arrives
 

@@ -1,6 +1,6 @@
 -- What carrying makes of a holder's list, frame by frame.
 use Rattle.std.proofs.Common.{◌≡◌, inl, inr, ◌≤◌, ◌<◌, ◌+◌, ℕ, List, ◌++◌, All, Contains, map, Option, Some, None, option_map, Result, Ok, Err, IfOk, true, false, is_some, ◌≢◌, refl, sym, subst, ◌∙◌, arith}
-use Rattle.std.proofs.lemmas.List.Elements.{All-contains, Contains-append_left}
+use Rattle.std.proofs.lemmas.List.Elements.{All-contains, All-weaker, Contains-append_left}
 use Rattle.bec_bytes.specs.Causes.{Rose}
 use Rattle.update_codec.specs.Parts.{entry_of}
 use Rattle.update_model.specs.Batch.{Limits}
@@ -46,20 +46,18 @@ module _ (limits : Limits) (rule : RuleData) (k : Kept) (before from : List (Lis
       same_rule = m_2.same_rule ∙ m.same_rule;
     }
 
-    -- and one frame more
-    pub moves_third : (limits_2 : Limits) (rule_2 : RuleData) (now_2 : List (List ℕ)) (faults_2 : ℕ) → Moves (at_hand next from now) limits_1 rule_1 now faults_1 limits_2 rule_2 now_2 faults_2
-        → (next_2 : Kept) → All (Contains (at_hand next from now)) (updates_in next_2)
-        → (limits_3 : Limits) (rule_3 : RuleData) (now_3 : List (List ℕ)) (faults_3 : ℕ) → Moves (updates_in next_2) limits_2 rule_2 now_2 faults_2 limits_3 rule_3 now_3 faults_3
-        → Moves set limits rule before faults limits_3 rule_3 now_3 faults_3
-    moves_third limits_2 rule_2 now_2 faults_2 m_2 next_2 pending_2 limits_3 rule_3 now_3 faults_3 m_3 =
-        let two = moves_second limits_2 rule_2 now_2 faults_2 m_2 in
-        record {
-          grows = grows_on set before now_2 now_3 two.grows
-              (grows_wider (updates_in next_2) set now_2 now_3 (λ u c. within_here u (All-contains (Contains (at_hand next from now)) (updates_in next_2) u pending_2 c)) m_3.grows);
-          later = let low = two.later in let high = m_3.later in omega arith;
-          same_limits = m_3.same_limits ∙ two.same_limits;
-          same_rule = m_3.same_rule ∙ two.same_rule;
-        }
+    pub pending_second : (next_2 : Kept) → All (Contains (at_hand next from now)) (updates_in next_2) → All (Contains set) (updates_in next_2)
+    pending_second next_2 all = All-weaker (Contains (at_hand next from now)) (Contains set) within_here (updates_in next_2) all
+
+-- and one frame more
+pub moves_on : (set before now now_2 : List (List ℕ)) (limits limits_1 limits_2 : Limits) (rule rule_1 rule_2 : RuleData) (faults faults_1 faults_2 : ℕ) (next : Kept) → Moves set limits rule before faults limits_1 rule_1 now faults_1
+    → All (Contains set) (updates_in next) → Moves (updates_in next) limits_1 rule_1 now faults_1 limits_2 rule_2 now_2 faults_2 → Moves set limits rule before faults limits_2 rule_2 now_2 faults_2
+moves_on set before now now_2 limits limits_1 limits_2 rule rule_1 rule_2 faults faults_1 faults_2 next m pending m_2 = record {
+  grows = grows_on set before now now_2 m.grows (grows_wider (updates_in next) set now now_2 (λ u c. All-contains (Contains set) (updates_in next) u pending c) m_2.grows);
+  later = let low = m.later in let high = m_2.later in omega arith;
+  same_limits = m_2.same_limits ∙ m.same_limits;
+  same_rule = m_2.same_rule ∙ m.same_rule;
+}
 
 -- a Hello has no update
 pub hello_of_set : (from : List (List ℕ)) (hello : Option HelloData) → HasFrame from (option_map Hello hello)

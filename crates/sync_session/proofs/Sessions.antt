@@ -1,5 +1,5 @@
 -- What holds of two ends once they have met, and from round to round; and what is told of them when the session has ended.
-use Rattle.std.proofs.Common.{◌≡◌, ◌≢◌, ◌⊎◌, inl, inr, ℕ, ◌+◌, ◌-◌, ◌<◌, cond, is_some, Bool, true, false, List, ◌++◌, All, Contains, map, Some, None, option_map, refl, sym, ap, subst, ◌∙◌, arith}
+use Rattle.std.proofs.Common.{◌≡◌, ◌≢◌, ◌⊎◌, inl, inr, ℕ, ◌+◌, ◌-◌, ◌<◌, cond, is_some, Bool, true, false, List, ◌++◌, All, Contains, map, Some, None, option_map, Result, Ok, Err, IfOk, OnOk, refl, sym, ap, subst, ◌∙◌, arith}
 use Rattle.std.proofs.lemmas.List.Elements.{All-contains}
 use Rattle.bec_bytes.specs.Causes.{Rose}
 use Rattle.update_check.specs.Holding.{IsHeld}
@@ -13,15 +13,16 @@ use Rattle.session_rules.specs.declared.role.Role.TheVariants.{Initiator, Respon
 use Rattle.session_rules.specs.declared.end.End.{End}
 use Rattle.session_rules.specs.declared.end.End.TheVariants.{Done, Full, Store}
 use Rattle.session_rules.specs.State.{Hello}
-use Rattle.sync_session.specs.Carrying.{at_hand, Closes, Going, HasGot, on, over, IsHanded, IsUnrefused, IsWell, Syncs}
+use Rattle.sync_session.specs.Carrying.{at_hand, start_of, Closes, Going, HasGot, on, over, IsHanded, IsUnrefused, IsWell, Syncs}
 use Rattle.sync_session.specs.Kept.{hello_of, out_of, seen, updates_in, BelongsTo, Kept, Moves, Stands, turn_of}
-use Rattle.sync_session.specs.Starts.{RemembersBy, StartsAs}
+use Rattle.sync_session.specs.Starts.{before_hello, IsFresh, RemembersBy, StartsAs}
 use Rattle.sync_session.specs.declared.out.Out.{Out}
 use Rattle.sync_session.specs.declared.pair.PairStart.{PairStart}
 use Rattle.sync_session.specs.declared.pair.PairEnd.{PairEnd}
 use Rattle.sync_session.proofs.Gains.{grows_none, grows_wider}
 use Rattle.sync_session.proofs.Moving.{mapped_missing, mapped_some, rose_since}
 use Rattle.sync_session.proofs.Rounds.{IsIn, is_there, none_not, pending_in, rounds_left}
+use Rattle.sync_session.proofs.Starting.{responder_belongs}
 use Rattle.sync_session.proofs.Syncing.{Opening, grows_next_a, grows_next_b, opening, syncs_from}
 use Rattle.sync_session.proofs.Within.{EndIn}
 
@@ -31,14 +32,26 @@ use Rattle.sync_session.proofs.Within.{EndIn}
 none_gathered : (set : List (List ℕ)) (database node : List ℕ) (old : List UpdateId) (members : List (List ℕ)) (k : Kept) → seen members k ≡ opened Responder database node old (map entry_of members) → All (Contains set) (updates_in k)
 none_gathered set database node old members k is = pending_in set k members (subst (EndIn (IsIn set)) (sym is) (record { start = tt; waiting = tt; gathered = tt }))
 
-module _ (start : PairStart) (limits_a limits_b : Limits) (rule_a rule_b : RuleData) (before_a before_b : List (List ℕ)) (faults_a faults_b : ℕ) (k_a begun : Kept) (gives silent : Out)
-    (starts_a : StartsAs Initiator start.database_a start.node_a start.old_a before_a k_a gives) (starts_b : StartsAs Responder start.database_b start.node_b start.old_b before_b begun silent)
+-- a session that waits for the first Hello is well
+pub well_fresh : (limits : Limits) (rule : RuleData) (k : Kept) (members : List (List ℕ)) → IsHeld limits rule members → IsFresh Responder k → IsWell limits rule k members
+well_fresh limits rule k members held is =
+    let fine : k.failed ≡ false = ap (λ (x : Kept). x.failed) is in
+    record { fine = fine; belongs = responder_belongs limits rule Responder k.state.database k.state.node k.state.old members k held refl is fine }
+
+-- two ends as they are made keep what they begin with
+pub start_is : (start : PairStart) (a b : Kept) → a ≡ before_hello Initiator start.database_a start.node_a start.old_a → b ≡ before_hello Responder start.database_b start.node_b start.old_b → start_of a b ≡ start
+start_is start a b is_a is_b =
+    subst (λ (x : Kept). start_of x b ≡ start) (sym is_a)
+    (subst (λ (x : Kept). start_of (before_hello Initiator start.database_a start.node_a start.old_a) x ≡ start) (sym is_b) refl)
+
+module _ (start : PairStart) (limits_a limits_b : Limits) (rule_a rule_b : RuleData) (before_a before_b : List (List ℕ)) (faults_a faults_b : ℕ) (k_a begun : Kept) (gives : Out)
+    (starts_a : StartsAs Initiator start.database_a start.node_a start.old_a before_a k_a gives) (opened_b : seen before_b begun ≡ opened Responder start.database_b start.node_b start.old_b (map entry_of before_b))
     (limits_now : Limits) (rule_now : RuleData) (now_b : List (List ℕ)) (faults_now : ℕ) (m : Moves (updates_in begun) limits_b rule_b before_b faults_b limits_now rule_now now_b faults_now) where
   -- nothing but what either holder had comes to the second
   pub first_moves : Moves (before_a ++ before_b) limits_b rule_b before_b faults_b limits_now rule_now now_b faults_now
   first_moves = record {
     grows = grows_wider (updates_in begun) (before_a ++ before_b) before_b now_b
-        (λ u c. All-contains (Contains (before_a ++ before_b)) (updates_in begun) u (none_gathered (before_a ++ before_b) start.database_b start.node_b start.old_b before_b begun starts_b.state) c) m.grows;
+        (λ u c. All-contains (Contains (before_a ++ before_b)) (updates_in begun) u (none_gathered (before_a ++ before_b) start.database_b start.node_b start.old_b before_b begun opened_b) c) m.grows;
     later = m.later;
     same_limits = m.same_limits;
     same_rule = m.same_rule;
@@ -47,7 +60,7 @@ module _ (start : PairStart) (limits_a limits_b : Limits) (rule_a rule_b : RuleD
   opens : (k_b : Kept) (out : Out) → IsHanded limits_b rule_b (seen before_b begun) (map entry_of before_b) (option_map Hello (option_map hello_of gives.hello)) (seen now_b k_b) (out_of (map entry_of now_b) out) (map entry_of now_b)
       → Opening start limits_a limits_b rule_a rule_b (map entry_of before_a) (map entry_of before_b) (seen before_a k_a) (seen now_b k_b) (map entry_of now_b) (out_of (map entry_of now_b) out)
   opens k_b out handed = opening start limits_a limits_b rule_a rule_b (map entry_of before_a) (map entry_of before_b) (seen before_a k_a) (seen before_b begun) (seen now_b k_b) (map entry_of now_b) (option_map hello_of gives.hello)
-      (out_of (map entry_of before_a) gives) (out_of (map entry_of now_b) out) starts_a.state starts_a.greets refl starts_b.state handed
+      (out_of (map entry_of before_a) gives) (out_of (map entry_of now_b) out) starts_a.state starts_a.greets refl opened_b handed
 
   -- an end that sends a turn has not ended
   pub first_unrefused : (k_b : Kept) (out : Out) → IsHanded limits_b rule_b (seen before_b begun) (map entry_of before_b) (option_map Hello (option_map hello_of gives.hello)) (seen now_b k_b) (out_of (map entry_of now_b) out) (map entry_of now_b)
@@ -80,6 +93,27 @@ module _ (start : PairStart) (limits_a limits_b : Limits) (rule_a rule_b : RuleD
         small_a = held_a.updates;
         small_b = held_b.updates;
       }
+
+  -- so by what the second answers
+  module _ {E : Type 0} (k_b : Kept) (r : Result Out E)
+      (handed : IfOk r (λ out. IsHanded limits_b rule_b (seen before_b begun) (map entry_of before_b) (option_map Hello (option_map hello_of gives.hello)) (seen now_b k_b) (out_of (map entry_of now_b) out) (map entry_of now_b))) where
+    pub first_goes : IsHeld limits_a rule_a before_a → IsHeld limits_b rule_b before_b → BelongsTo limits_a rule_a k_a before_a → OnOk r (IsWell limits_b rule_b k_b now_b) → IfOk r (λ out. out.end ≡ Some Store → Rose faults_b faults_now)
+        → IfOk r (λ out. Going start limits_a limits_b rule_a rule_b before_a before_b faults_a faults_b k_a before_a limits_a rule_a faults_a k_b now_b limits_now rule_now faults_now out)
+    first_goes held_a held_b belongs well store = by r handed well store
+      where
+        by : (r : Result Out E) → IfOk r (λ out. IsHanded limits_b rule_b (seen before_b begun) (map entry_of before_b) (option_map Hello (option_map hello_of gives.hello)) (seen now_b k_b) (out_of (map entry_of now_b) out) (map entry_of now_b))
+            → OnOk r (IsWell limits_b rule_b k_b now_b) → IfOk r (λ out. out.end ≡ Some Store → Rose faults_b faults_now)
+            → IfOk r (λ out. Going start limits_a limits_b rule_a rule_b before_a before_b faults_a faults_b k_a before_a limits_a rule_a faults_a k_b now_b limits_now rule_now faults_now out)
+        by (Ok out) h w s = first_going k_b out held_a held_b belongs h w s
+        by (Err e) h w s = tt
+
+    pub first_whole : (W : Type 0) → IfOk r (λ out. out.end ≢ Some Full → out.end ≢ Some Store → W) → IfOk r (λ out. IsUnrefused out → W)
+    first_whole W w = by r handed w
+      where
+        by : (r : Result Out E) → IfOk r (λ out. IsHanded limits_b rule_b (seen before_b begun) (map entry_of before_b) (option_map Hello (option_map hello_of gives.hello)) (seen now_b k_b) (out_of (map entry_of now_b) out) (map entry_of now_b))
+            → IfOk r (λ out. out.end ≢ Some Full → out.end ≢ Some Store → W) → IfOk r (λ out. IsUnrefused out → W)
+        by (Ok out) h w = λ unrefused. let ends = first_unrefused k_b out h unrefused in w ends.0 ends.1
+        by (Err e) h w = tt
 
 -- ---- from round to round
 

@@ -10,18 +10,24 @@ use Rattle.session_rules.specs.State.{TurnData, Answers}
 use Rattle.session_rules.specs.Steps.{closing, is_first, Joins, IsSent, IsTurn, Judges, Replies}
 use Rattle.sync_session.specs.declared.out.Out.{Out}
 use Rattle.sync_session.specs.Kept.{Kept, late_fault_at, out_of, turn_of, whole, with_commit, with_end}
-use Rattle.sync_session.specs.Turns.{RepliesTo, SettlesTo, Stays}
+use Rattle.sync_session.specs.Turns.{Awaits, RepliesTo, SettlesTo, Stays}
 
 -- the next turn is sent
-pub replied_to : (list : List Entry) (first : Bool) (turn own : TurnData) (k next : Kept) (gives : Out) (ids : List ℕ) (asked peer_asked due : List UpdateId) (have : Bool) (ending : Option End)
-    → IsSent first (whole (take k.below list) k) turn (filter_map (slice_get list) ids) → Joins k.state.asked own.needs asked → Joins k.state.peer_asked turn.needs peer_asked
-    → gives.hello ≡ None → gives.send ≡ ids → option_map turn_of gives.turn ≡ Some own → gives.end ≡ ending → ending ≡ (if own.have && turn.have then Some Done else None) → have ≡ own.have → due ≡ own.needs
-    → next ≡ record k { state = record k.state { reading = Answers due; began = false; items = 0; turns = k.state.turns + 1; sent_have = have; asked = asked; peer_asked = peer_asked; ended = ending } }
-    → RepliesTo list first turn own k next gives
-replied_to list first turn own k next gives ids asked peer_asked due have ending sent joins joins_peer hello send says ends is same_have same_due n = record {
-  replies = (filter_map (slice_get list) ids, asked, peer_asked, sent, joins, joins_peer, rw (hello, send, says, ends, is) refl, rw (n, same_have, same_due, is) refl);
-  stays = rw n (record { below = refl; heads = refl; pending = refl; failed = refl });
-}
+pub awaited : (turn own : TurnData) (k next : Kept) (asked peer_asked due : List UpdateId) (have : Bool) → Joins k.state.asked own.needs asked → Joins k.state.peer_asked turn.needs peer_asked → have ≡ own.have → due ≡ own.needs
+    → next ≡ record k { state = record k.state { reading = Answers due; began = false; items = 0; turns = k.state.turns + 1; sent_have = have; asked = asked; peer_asked = peer_asked } } → Awaits turn own k next
+awaited turn own k next asked peer_asked due have joins joins_peer same_have same_due n = record { asked = asked; peer_asked = peer_asked; joins = joins; joins_peer = joins_peer; state = rw (n, same_have, same_due) refl }
+
+pub replied_to : (list : List Entry) (first : Bool) (turn own : TurnData) (k mid next : Kept) (gives : Out) (ids : List ℕ) (ending : Option End)
+    → IsSent first (whole (take k.below list) k) turn (filter_map (slice_get list) ids) → Awaits turn own k mid
+    → gives.hello ≡ None → gives.send ≡ ids → option_map turn_of gives.turn ≡ Some own → gives.end ≡ ending → ending ≡ (if own.have && turn.have then Some Done else None)
+    → next ≡ record mid { state = record mid.state { ended = ending } } → RepliesTo list first turn own k next gives
+replied_to list first turn own k mid next gives ids ending sent a hello send says ends is n =
+    let from : next ≡ record k { state = record k.state { reading = Answers own.needs; began = false; items = 0; turns = k.state.turns + 1; sent_have = own.have; asked = a.asked; peer_asked = a.peer_asked; ended = ending } }
+    = n ∙ ap (λ (x : Kept). record x { state = record x.state { ended = ending } }) a.state in
+    record {
+      replies = (filter_map (slice_get list) ids, a.asked, a.peer_asked, sent, a.joins, a.joins_peer, rw (hello, send, says, ends, is) refl, rw (from, is) refl);
+      stays = rw from (record { below = refl; heads = refl; pending = refl; failed = refl });
+    }
 
 -- ---- after the commit
 

@@ -18,8 +18,9 @@ use Rattle.session_rules.specs.Pair.{unfed}
 use Rattle.session_rules.specs.Steps.{begun, AreLeast, IsHello, Joins}
 use Rattle.sync_session.specs.Greeting.{IsHelloOver}
 use Rattle.sync_session.specs.Kept.{Kept, BelongsTo, Stands, hello_of, seen}
+use Rattle.sync_session.specs.declared.out.Out.{Out}
 use Rattle.sync_frames.specs.Payload as payload
-use Rattle.sync_session.specs.Starts.{before_hello, StartsAs}
+use Rattle.sync_session.specs.Starts.{before_hello, IsFresh, StartsAs}
 use Rattle.sync_session.proofs.Hellos.{members_few}
 
 -- ---- the beginning
@@ -51,6 +52,22 @@ responder_belongs limits rule role database node old members k held responds is 
     (belongs_first limits rule Responder database node old members (before_hello Responder database node old) held refl
     (record { below = omega arith; heads = λ id. refl; under = nothing_under rule }))
 
+-- a responder before any frame
+pub fresh_opened : (k : Kept) (members : List (List ℕ)) → IsFresh Responder k → seen members k ≡ opened Responder k.state.database k.state.node k.state.old (map entry_of members)
+fresh_opened k members is = ap (seen members) is
+
+-- a session as it is made
+pub fresh_role : (role : Role) (k : Kept) → IsFresh role k → IsFresh k.state.role k
+fresh_role role k is = subst (λ (r : Role). IsFresh r k) (sym (ap (λ (x : Kept). x.state.role) is)) is
+
+pub fresh_is : (role : Role) (database node : List ℕ) (old : List UpdateId) (k : Kept) → k ≡ before_hello role database node old → IsFresh role k
+fresh_is role database node old k is = subst (λ (x : Kept). IsFresh role x) (sym is) refl
+
+-- what an initiator begins with stays its own
+pub starts_at : (k : Kept) (members : List (List ℕ)) (next : Kept) (gives : Out) → IsFresh Initiator k → StartsAs k.state.role k.state.database k.state.node k.state.old members next gives
+    → StartsAs Initiator k.state.database k.state.node k.state.old members next gives
+starts_at k members next gives is starts = subst (λ (r : Role). StartsAs r k.state.database k.state.node k.state.old members next gives) (ap (λ (x : Kept). x.state.role) is) starts
+
 -- an initiator once its Hello is made
 abbrev pub with_own : Role → List ℕ → List ℕ → List UpdateId → ℕ → List UpdateId → Kept
 with_own role database node old below heads = record (before_hello role database node old) { state = record (begun role database node old []) { turns = 1 }; below = below; heads = heads }
@@ -60,32 +77,26 @@ own_seen : (database node : List ℕ) (old : List UpdateId) (members : List (Lis
 own_seen database node old members below heads all =
     ap (λ (start : List Entry). record (begun Initiator database node old start) { turns = 1 }) (take_all below (map entry_of members) (let same = length-map members entry_of in omega arith))
 
-pub initiator_starts : (role : Role) (database node : List ℕ) (old asked : List UpdateId) (members : List (List ℕ)) (k : Kept) (below : ℕ) (heads : List UpdateId) (own : payload.HelloData) (send : List ℕ)
-    → role ≡ Initiator → below ≡ length members → asked ≡ old → IsHelloOver database node asked (map entry_of members) own → k ≡ with_own role database node old below heads → send ≡ []
-    → StartsAs role database node old members k (record { hello = Some own; send = send; turn = None; end = None })
-initiator_starts role database node old asked members k below heads own send begins all same hello is none =
-    rw (is, begins, none) (record {
-      state = own_seen database node old members below heads all;
-      greets = (hello_of own, over_list, refl);
-      failed = refl;
-    })
-  where
-    over_list : IsHello (seen members (with_own Initiator database node old below heads)) (hello_of own)
-    over_list = rw (take_all below (map entry_of members) (let long = length-map members entry_of in omega arith))
-        (let h = subst (λ (ids : List UpdateId). IsHelloOver database node ids (map entry_of members) own) same hello in
-        record { database = h.database; node = h.node; heads = h.heads; old = h.old; since = h.since; are_since = h.are_since; filter = h.filter })
+module _ (role : Role) (database node : List ℕ) (old : List UpdateId) (members : List (List ℕ)) (k : Kept) (own : payload.HelloData) (begins : role ≡ Initiator) (hello : IsHelloOver database node old (map entry_of members) own)
+    (is : k ≡ with_own role database node old (length members) own.heads) where
+  all_there : take (length members) (map entry_of members) ≡ map entry_of members
+  all_there = take_all (length members) (map entry_of members) (let long = length-map members entry_of in omega arith)
 
-pub initiator_belongs : (limits : Limits) (rule : RuleData) (role : Role) (database node : List ℕ) (old asked : List UpdateId) (members : List (List ℕ)) (k : Kept) (below : ℕ) (heads : List UpdateId) (own : payload.HelloData)
-    → IsHeld limits rule members → role ≡ Initiator → below ≡ length members → heads ≡ own.heads → IsHelloOver database node asked (map entry_of members) own → k ≡ with_own role database node old below heads
-    → BelongsTo limits rule k members
-initiator_belongs limits rule role database node old asked members k below heads own held begins all same_heads hello is =
-    subst (λ (x : Kept). BelongsTo limits rule x members) (sym (is ∙ ap (λ (r : Role). with_own r database node old below heads) begins))
-    (belongs_first limits rule Initiator database node old members (with_own Initiator database node old below heads) held (own_seen database node old members below heads all)
-    (record {
-      below = omega arith;
-      heads = λ id. rw (take_all below (map entry_of members) (let long = length-map members entry_of in omega arith)) (ap (λ (ids : List UpdateId). has ids id) same_heads ∙ hello.heads.exact id);
-      under = nothing_under rule;
-    }))
+  pub initiator_starts : (send : List ℕ) → send ≡ [] → StartsAs role database node old members k (record { hello = Some own; send = send; turn = None; end = None })
+  initiator_starts send none = rw (is, begins, none) (record {
+    state = own_seen database node old members (length members) own.heads refl;
+    greets = (hello_of own, over_list, refl);
+    failed = refl;
+  })
+    where
+      over_list : IsHello (seen members (with_own Initiator database node old (length members) own.heads)) (hello_of own)
+      over_list = rw all_there (record { database = hello.database; node = hello.node; heads = hello.heads; old = hello.old; since = hello.since; are_since = hello.are_since; filter = hello.filter })
+
+  pub initiator_belongs : (limits : Limits) (rule : RuleData) → IsHeld limits rule members → BelongsTo limits rule k members
+  initiator_belongs limits rule held =
+      subst (λ (x : Kept). BelongsTo limits rule x members) (sym (is ∙ ap (λ (r : Role). with_own r database node old (length members) own.heads) begins))
+      (belongs_first limits rule Initiator database node old members (with_own Initiator database node old (length members) own.heads) held (own_seen database node old members (length members) own.heads refl)
+      (record { below = omega arith; heads = λ id. rw all_there (hello.heads.exact id); under = nothing_under rule }))
 
 -- ---- what is remembered
 

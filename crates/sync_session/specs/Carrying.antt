@@ -52,6 +52,17 @@ pub data HandsOn (limits_a limits_b : Limits) (rule_a rule_b : RuleData) (p : Pa
   then_a : (q r : PairData) → HandsOn limits_a limits_b rule_a rule_b p q → Hands limits_a rule_a q r → HandsOn limits_a limits_b rule_a rule_b p r
   then_b : (q r : PairData) → HandsOn limits_a limits_b rule_a rule_b p q → Hands limits_b rule_b (swapped q) (swapped r) → HandsOn limits_a limits_b rule_a rule_b p r
 
+-- what two ends begin with, which they keep
+abbrev pub start_of : Kept → Kept → PairStart
+start_of a b = record {
+  database_a = a.state.database;
+  database_b = b.state.database;
+  node_a = a.state.node;
+  node_b = b.state.node;
+  old_a = a.state.old;
+  old_b = b.state.old;
+}
+
 -- Two ends as they begin over their holders' lists: the first has made its Hello, which is on its way.
 pub record Begins (start : PairStart) (list_a list_b : List Entry) (p : PairData) : Type 0 where
   pub hello : HelloData
@@ -134,6 +145,10 @@ pub data IsCarried (limits : Limits) (rule : RuleData) (s : SessionData) (before
       → IsCarried limits rule s before sent next answer after
   to_end : (first rest : List FrameData) (frame : FrameData) (t : SessionData) (ending : End) → frames_of sent ≡ first ++ frame ∷ rest → Hears limits rule s before first t
       → IsHanded limits rule t before (Some frame) next answer after → Stops ending next answer → IsCarried limits rule s before sent next answer after
+
+-- what is handed out before the Turn
+abbrev pub before_turn : Option HelloData → List Entry → OutData
+before_turn hello send = record { hello = hello; send = send; turn = None; end = None }
 
 -- What one end handed out is on its way to the other, which runs.
 pub record IsOnItsWay (to from : SessionData) (sent : OutData) : Type 0 where

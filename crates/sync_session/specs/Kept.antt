@@ -147,6 +147,10 @@ BelongsTo limits rule k members = k.failed ≡ false → Belongs limits rule k m
 abbrev pub with_hello : payload.HelloData → Kept → Kept
 with_hello hello k = record k { state = record (counted k.state) { peer = Some (hello_of hello); reading = state.Burst } }
 
+-- the peer's Hello is kept
+abbrev pub with_peer : payload.HelloData → Kept → Kept
+with_peer hello k = record k { state = record k.state { peer = Some (hello_of hello) } }
+
 -- the own Hello was made over so many members, and the burst and the first Turn are sent
 abbrev pub with_greeting : payload.HelloData → List UpdateId → ℕ → Bool → Kept → Kept
 with_greeting hello heads below have k = record k {

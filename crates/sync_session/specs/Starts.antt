@@ -15,6 +15,10 @@ use Rattle.sync_session.specs.declared.out.Out.{Out}
 abbrev pub before_hello : Role → List ℕ → List ℕ → List UpdateId → Kept
 before_hello role database node old = record { state = begun role database node old []; below = 0; pending = nothing; heads = []; failed = false }
 
+-- a session of this role before its own Hello
+abbrev pub IsFresh : Role → Kept → Type 0
+IsFresh role k = k ≡ before_hello role k.state.database k.state.node k.state.old
+
 -- A session begins over its holder's list, and hands out its Hello where it is the initiator's.
 pub record StartsAs (role : Role) (database node : List ℕ) (old : List UpdateId) (members : List (List ℕ)) (k : Kept) (gives : Out) : Type 0 where
   pub state : seen members k ≡ opened role database node old (map entry_of members)

@@ -7,7 +7,7 @@ ghost use Rattle.session_rules.specs.Pair.{PairData};
 ghost use Rattle.session_rules.specs.declared.role.Role.TheVariants.{Initiator as initiator};
 ghost use Rattle.session_rules.specs.State.{Hello as hello_frame, Item as item, Turn as turn_frame};
 ghost use Rattle.update_codec.specs.Parts.{database_of, entry_of};
-ghost use Rattle.sync_session.specs.Carrying.{at_hand, Arrives, AreHanded, HasGot, IsCarried, IsHanded, IsOnItsWay, IsUnrefused, IsWell};
+ghost use Rattle.sync_session.specs.Carrying.{at_hand, before_turn, Arrives, AreHanded, HasGot, IsCarried, IsHanded, IsOnItsWay, IsUnrefused, IsWell};
 ghost use Rattle.sync_session.specs.Kept.{frame_of, hello_of, out_of, seen, turn_of, updates_in, IsFrameUnder, Moves};
 
 use crate::{CheckedFrame, Out, Session};
@@ -77,17 +77,42 @@ fn carry<X: Holder, Y: Holder>(
         turn,
         ..
     } = out;
-    let greeted = hand_hello(alloc, hello, session, to)?;
-    let is_refused = greeted.end.is_some();
-    if is_refused {
-        return Ok(greeted);
-    }
-    let heard = hand_updates(alloc, from, send.as_slice(), session, to)?;
+    let heard = hand_first(alloc, from, hello, send.as_slice(), session, to)?;
     let is_over = heard.end.is_some();
     if is_over {
         return Ok(heard);
     }
     hand_turn(alloc, turn, session, to)
+}
+
+/// Hands an end what comes before the Turn: a Hello, where there is one, and updates of a holder, up to the frame at which it
+/// ends.
+fn hand_first<X: Holder, Y: Holder>(
+    alloc: Global,
+    from: &X,
+    hello: Option<Hello>,
+    positions: &[u32],
+    session: &mut Session,
+    to: &mut Y,
+) -> Result<Out, AllocError>
+    requires well { IsWell (Y.limits to.old) (Y.rule to.old) session.old (Y.members to.old) }
+    requires running { session.old.state.ended ≡ None }
+    requires hello { (option_map hello_of hello ≡ None) ⊎ (session.old.state.role ≡ initiator) }
+    ensures carried { IfOk result (λ answer. IsCarried (Y.limits to.old) (Y.rule to.old) (seen (Y.members to.old) session.old) (map entry_of (Y.members to.old)) (before_turn (option_map hello_of hello) (filter_map (slice_get (map entry_of (X.members from.now))) positions.now))
+        (seen (Y.members to.new) session.new) (out_of (map entry_of (Y.members to.new)) answer) (map entry_of (Y.members to.new))) }
+    ensures pending { OnOk result (All (Contains (at_hand session.old (X.members from.now) (Y.members to.old))) (updates_in session.new)) }
+    ensures well { OnOk result (IsWell (Y.limits to.old) (Y.rule to.old) session.new (Y.members to.new)) }
+    ensures moves { Moves (at_hand session.old (X.members from.now) (Y.members to.old)) (Y.limits to.old) (Y.rule to.old) (Y.members to.old) (Y.faults to.old) (Y.limits to.new) (Y.rule to.new) (Y.members to.new) (Y.faults to.new) }
+    ensures store { IfOk result (λ answer. answer.end ≡ Some store → Rose (Y.faults to.old) (Y.faults to.new)) }
+    ensures keeps { Y.keeps to.old to.new }
+    ensures whole { Y.is_whole to.old → IfOk result (λ answer. answer.end ≢ Some full → answer.end ≢ Some store → Y.is_whole to.new) }
+{
+    let greeted = hand_hello(alloc, hello, session, to)?;
+    let is_refused = greeted.end.is_some();
+    if is_refused {
+        return Ok(greeted);
+    }
+    hand_updates(alloc, from, positions, session, to)
 }
 
 /// Hands a Hello to an end, where there is one.

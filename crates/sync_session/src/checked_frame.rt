@@ -2,7 +2,7 @@ use sync_frames::{Hello, Turn};
 use update_check::{CheckFault, Checked};
 
 /// A frame of the peer, with what the check of updates said of it.
-#[derive(Debug, Drop)]
+#[derive(Drop)]
 pub enum CheckedFrame {
     /// How the peer greets.
     Hello(Hello),

@@ -3,7 +3,7 @@
 ghost use Rattle.std.specs.Prelude.{◌≡◌, ◌≤◌, ◌<◌, ◌||◌, not, All, map, take, length, filter_map, slice_get, IfOk};
 ghost use Rattle.std.specs.BTreeSet.{keys};
 ghost use Rattle.std.specs.List.{list_any};
-ghost use Rattle.update_model.specs.Graph.{has, IsClosed};
+ghost use Rattle.update_model.specs.Graph.{has, AreHeads, IsClosed};
 ghost use Rattle.std.specs.List.Sorted.{IsStrictlySortedBy};
 ghost use Rattle.bloom_summary.specs.Bloom.{is_member};
 ghost use Rattle.session_rules.specs.Burst.{IsBurst};
@@ -20,26 +20,28 @@ use sync_frames::Hello;
 use update_check::Holder;
 use update_model::{ByteList, IdList, UpdateId};
 
-/// The Hello over all that the holder has now.
+/// The Hello over all that the holder has now, of which these are the heads.
 pub(crate) fn own_hello<H: Holder>(
     alloc: Global,
     holder: &H,
     database: [u8; 32],
     node: [u8; 32],
+    heads: &[UpdateId],
     old: &[UpdateId],
 ) -> Result<Hello, AllocError>
+    requires heads { AreHeads (map entry_of (H.members holder.now)) heads.now }
     requires few { length old.now ≤ MAX_NEEDS }
     requires rising { IsStrictlySortedBy id_cmp old.now }
-    ensures { IfOk result (IsHelloOver database node old.now (map entry_of (H.members holder.now))) }
+    ensures over { IfOk result (IsHelloOver database node old.now (map entry_of (H.members holder.now))) }
+    ensures heads { IfOk result (λ own. own.heads ≡ heads.now) }
 {
     let positions = holder.since(alloc, holder.len(), old)?;
     let ids = ids_at(alloc, holder, positions.as_slice())?;
     let summary = Summary::of(alloc, ids.as_slice())?;
-    let heads = holder.heads(alloc)?;
     Ok(Hello::new(
         database,
         node,
-        IdList::from_vec(heads),
+        IdList::from_vec(Vec::from_slice(alloc, heads)?),
         IdList::from_vec(Vec::from_slice(alloc, old)?),
         ByteList::from_vec(Vec::from_slice(alloc, summary.bytes())?),
     ))

@@ -7,9 +7,9 @@ ghost use Rattle.update_check.specs.Holding.{IsHeld};
 ghost use Rattle.update_codec.specs.Parts.{entry_of};
 ghost use Rattle.update_model.specs.Batch.{Limits};
 ghost use Rattle.update_model.specs.Entry.{Entry};
-ghost use Rattle.sync_session.specs.Kept.{hello_fault_at, hello_of, out_of, reading_of, seen, with_hello, GreetsOver, IsRunning, Stands};
+ghost use Rattle.sync_session.specs.Kept.{hello_fault_at, hello_of, out_of, reading_of, seen, with_hello, with_peer, GreetsOver, IsRunning, Stands};
 
-use crate::greeting::{burst, own_hello};
+use crate::greeting::burst;
 use crate::lookup::has_all;
 use crate::reading::{Reading, fresh, takes_hello};
 use crate::{Out, Session};
@@ -71,19 +71,27 @@ impl Session {
         ensures within { IfOk result (λ out. All (λ p. p < length (H.members holder.now)) out.send) }
         ensures below { OnOk result (self.new.below ≡ length (H.members holder.now)) }
     {
-        let len = holder.len();
-        let own = own_hello(
-            alloc,
-            holder,
-            self.database,
-            self.node,
-            self.recalled.as_slice(),
-        )?;
-        let send = burst(alloc, holder, len, &hello)?;
-        let have = has_all(holder, hello.heads.as_slice());
-        self.heads = own.heads.copy(alloc)?;
-        self.below = len;
+        let answer = self.answer_hello(alloc, holder, &hello);
         self.peer = Some(hello);
+        answer
+    }
+
+    /// What the responder sends for the initiator's Hello, which it is to keep.
+    fn answer_hello<H: Holder>(
+        &mut self,
+        alloc: Global,
+        holder: &H,
+        hello: &Hello,
+    ) -> Result<Out, AllocError>
+        requires running { IsRunning self.old }
+        requires stands { Stands (H.rule holder.now) self.old (H.members holder.now) }
+        ensures greets { IfOk result (λ out. GreetsOver (map entry_of (H.members holder.now)) hello.now self.old (with_peer hello.now self.new) out) }
+        ensures within { IfOk result (λ out. All (λ p. p < length (H.members holder.now)) out.send) }
+        ensures below { OnOk result (self.new.below ≡ length (H.members holder.now)) }
+    {
+        let send = burst(alloc, holder, holder.len(), hello)?;
+        let own = self.say_hello(alloc, holder)?;
+        let have = has_all(holder, hello.heads.as_slice());
         self.reading = Reading::Burst;
         self.turns += 2;
         self.sent_have = have;

@@ -9,7 +9,7 @@ use sync_frames::{Hello, Turn};
 use update_model::PositionList;
 
 /// What a step hands out: what is to be sent to the peer, in this order, and how the session ended.
-#[derive(Debug, Drop)]
+#[derive(Drop)]
 pub struct Out {
     /// A Hello.
     pub hello: Option<Hello>,

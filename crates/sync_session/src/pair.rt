@@ -5,11 +5,13 @@ ghost use Rattle.std.specs.List.Sorted.{IsStrictlySortedBy};
 ghost use Rattle.bec_bytes.specs.Causes.{Rose};
 ghost use Rattle.session_rules.specs.declared.end.End.TheVariants.{Done as done, Full as full, Store as store};
 ghost use Rattle.session_rules.specs.declared.limits.TheConstants.{MAX_NEEDS};
+ghost use Rattle.session_rules.specs.declared.role.Role.TheVariants.{Initiator as initiator, Responder as responder};
 ghost use Rattle.session_rules.specs.Laws.{NoCollision};
 ghost use Rattle.update_codec.specs.Parts.{entry_of};
 ghost use Rattle.update_model.specs.Entry.{id_cmp};
-ghost use Rattle.sync_session.specs.Carrying.{Closes, Going, HasRoom, IsUnrefused, Syncs, Unites};
+ghost use Rattle.sync_session.specs.Carrying.{start_of, Closes, Going, HasRoom, IsUnrefused, Syncs, Unites};
 ghost use Rattle.sync_session.specs.Kept.{Moves};
+ghost use Rattle.sync_session.specs.Starts.{IsFresh};
 
 use crate::carrying::{hand_hello, round};
 use crate::{Out, Session};
@@ -19,7 +21,7 @@ use update_check::{Holder, no_cause};
 use update_model::IdList;
 
 /// What two ends begin with. Each list of ids rises and has at most 4,096: what that end remembers of the other, or none.
-#[derive(Debug, Drop)]
+#[derive(Drop)]
 pub struct PairStart {
     /// The id of the database that the first end speaks of.
     pub database_a: [u8; 32],
@@ -38,7 +40,7 @@ pub struct PairStart {
 /// How the session of two holders ended.
 ///
 /// Where one end ended otherwise than done, both fields hold that end, even if the other end was done before.
-#[derive(Debug, Drop)]
+#[derive(Drop)]
 pub struct PairEnd {
     /// How it ended for the first end.
     pub a: End,
@@ -91,36 +93,6 @@ pub fn sync_pair<A: Holder, B: Holder>(
     no_cause();
     a.len(); // what every holder keeps
     b.len(); // the same
-    let met = meet(alloc, a, b, start)?;
-    let (mut session_a, mut session_b, mut out) = met;
-    'rounds: while out.turn.is_some() {
-        let next = round(alloc, a, &mut session_a, b, &mut session_b, out)?;
-        out = next;
-    }
-    let end = out.end.unwrap();
-    let ended = closed(alloc, &session_a, &session_b, end)?;
-    Ok(ended)
-}
-
-/// Begins a session at both ends, and hands the first end's Hello to the second. What that one answers is to be carried.
-fn meet<A: Holder, B: Holder>(
-    alloc: Global,
-    a: &A,
-    b: &mut B,
-    start: PairStart,
-) -> Result<(Session, Session, Out), AllocError>
-    requires few_a { length start.old_a ≤ MAX_NEEDS }
-    requires rising_a { IsStrictlySortedBy id_cmp start.old_a }
-    requires few_b { length start.old_b ≤ MAX_NEEDS }
-    requires rising_b { IsStrictlySortedBy id_cmp start.old_b }
-    ensures going { IfOk result (λ met. Going start (A.limits a.now) (B.limits b.old) (A.rule a.now) (B.rule b.old) (A.members a.now) (B.members b.old) (A.faults a.now) (B.faults b.old)
-        met.0 (A.members a.now) (A.limits a.now) (A.rule a.now) (A.faults a.now) met.1 (B.members b.new) (B.limits b.new) (B.rule b.new) (B.faults b.new) met.2) }
-    ensures moves { Moves (A.members a.now ++ B.members b.old) (B.limits b.old) (B.rule b.old) (B.members b.old) (B.faults b.old) (B.limits b.new) (B.rule b.new) (B.members b.new) (B.faults b.new) }
-    ensures keeps { B.keeps b.old b.new }
-    ensures whole { B.is_whole b.old → IfOk result (λ met. IsUnrefused met.2 → B.is_whole b.new) }
-{
-    a.len(); // what every holder keeps
-    b.len(); // the same
     let PairStart {
         database_a,
         database_b,
@@ -129,12 +101,58 @@ fn meet<A: Holder, B: Holder>(
         old_a,
         old_b,
     } = start;
-    let begun_a = Session::start(alloc, a, Role::Initiator, database_a, node_a, old_a)?;
-    let begun_b = Session::start(alloc, b, Role::Responder, database_b, node_b, old_b)?;
-    let (session_a, first) = begun_a;
-    let (mut session_b, _) = begun_b;
-    let out = hand_hello(alloc, first.hello, &mut session_b, b)?;
-    Ok((session_a, session_b, out))
+    let mut session_a = Session::fresh(alloc, Role::Initiator, database_a, node_a, old_a);
+    let mut session_b = Session::fresh(alloc, Role::Responder, database_b, node_b, old_b);
+    run(alloc, a, &mut session_a, b, &mut session_b)
+}
+
+/// Runs a session between two ends that are fresh, up to its end.
+fn run<A: Holder, B: Holder>(
+    alloc: Global,
+    a: &mut A,
+    session_a: &mut Session,
+    b: &mut B,
+    session_b: &mut Session,
+) -> Result<PairEnd, AllocError>
+    requires fresh_a { IsFresh initiator session_a.old }
+    requires fresh_b { IsFresh responder session_b.old }
+    ensures syncs { IfOk result (λ ended. Syncs (A.limits a.old) (B.limits b.old) (A.rule a.old) (B.rule b.old) (start_of session_a.old session_b.old) (A.members a.old) (B.members b.old) ended (A.members a.new) (B.members b.new)) }
+    ensures store { IfOk result (λ ended. ended.a ≡ store → Rose (A.faults a.old) (A.faults a.new) ⊎ Rose (B.faults b.old) (B.faults b.new)) }
+    ensures keeps_a { A.keeps a.old a.new }
+    ensures keeps_b { B.keeps b.old b.new }
+    ensures whole { A.is_whole a.old → B.is_whole b.old → IfOk result (λ ended. ended.a ≡ done → A.is_whole a.new × B.is_whole b.new) }
+    ensures moves_a { Moves (A.members a.old ++ B.members b.old) (A.limits a.old) (A.rule a.old) (A.members a.old) (A.faults a.old) (A.limits a.new) (A.rule a.new) (A.members a.new) (A.faults a.new) }
+    ensures moves_b { Moves (A.members a.old ++ B.members b.old) (B.limits b.old) (B.rule b.old) (B.members b.old) (B.faults b.old) (B.limits b.new) (B.rule b.new) (B.members b.new) (B.faults b.new) }
+{
+    let mut out = meet(alloc, a, session_a, b, session_b)?;
+    'rounds: while out.turn.is_some() {
+        let next = round(alloc, a, session_a, b, session_b, out)?;
+        out = next;
+    }
+    closed(alloc, session_a, session_b, out.end.unwrap())
+}
+
+/// Begins a session at two ends that are fresh: hands the first end's Hello to the second. What that one answers is to be
+/// carried.
+fn meet<A: Holder, B: Holder>(
+    alloc: Global,
+    a: &A,
+    session_a: &mut Session,
+    b: &mut B,
+    session_b: &mut Session,
+) -> Result<Out, AllocError>
+    requires fresh_a { IsFresh initiator session_a.old }
+    requires fresh_b { IsFresh responder session_b.old }
+    ensures going { IfOk result (λ out. Going (start_of session_a.old session_b.old) (A.limits a.now) (B.limits b.old) (A.rule a.now) (B.rule b.old) (A.members a.now) (B.members b.old) (A.faults a.now) (B.faults b.old)
+        session_a.new (A.members a.now) (A.limits a.now) (A.rule a.now) (A.faults a.now) session_b.new (B.members b.new) (B.limits b.new) (B.rule b.new) (B.faults b.new) out) }
+    ensures moves { Moves (A.members a.now ++ B.members b.old) (B.limits b.old) (B.rule b.old) (B.members b.old) (B.faults b.old) (B.limits b.new) (B.rule b.new) (B.members b.new) (B.faults b.new) }
+    ensures keeps { B.keeps b.old b.new }
+    ensures whole { B.is_whole b.old → IfOk result (λ out. IsUnrefused out → B.is_whole b.new) }
+{
+    a.len(); // what every holder keeps
+    b.len(); // the same
+    let first = session_a.open(alloc, a)?;
+    hand_hello(alloc, first.hello, session_b, b)
 }
 
 /// How a session that ended so is told.

@@ -12,7 +12,7 @@ use update_model::{MAX_BYTES, MAX_MEMBERS, Member, UpdateId};
 
 /// The updates of a session that its holder does not have yet: those that wait for predecessors since an earlier commit,
 /// and those that were gathered since. They are found by id.
-#[derive(Debug, Drop)]
+#[derive(Drop)]
 pub(crate) struct Pending {
     waiting: Vec<Checked>,
     gathered: Vec<Checked>,

@@ -10,7 +10,7 @@ use sync_frames::Turn;
 use update_model::UpdateId;
 
 /// Which frames may come next.
-#[derive(Debug, Drop)]
+#[derive(Drop)]
 pub(crate) enum Reading {
     /// A Hello.
     Opening,

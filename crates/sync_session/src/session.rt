@@ -24,7 +24,7 @@ use update_check::{CheckFault, Checked};
 use update_model::{IdList, Member, UpdateId};
 
 /// One end of a session.
-#[derive(Debug, Drop)]
+#[derive(Drop)]
 pub struct Session {
     pub(crate) role: Role,
     pub(crate) database: [u8; 32],

@@ -8,7 +8,7 @@ ghost use Rattle.update_check.specs.Holding.{IsHeld};
 ghost use Rattle.update_codec.specs.Parts.{entry_of};
 ghost use Rattle.update_model.specs.Graph.{is_within, IsClosed};
 ghost use Rattle.sync_session.specs.Kept.{turn_of, updates_in, GrowsBy, IsRunning, Stands};
-ghost use Rattle.sync_session.specs.Turns.{RepliesTo, SettlesTo, TakesTurn, IsOrdered};
+ghost use Rattle.sync_session.specs.Turns.{Awaits, RepliesTo, SettlesTo, TakesTurn, IsOrdered};
 
 use crate::ids::join;
 use crate::reading::{Reading, is_first, turn_fault};
@@ -27,14 +27,14 @@ impl Session {
         &mut self,
         alloc: Global,
         holder: &mut H,
-        turn: Turn,
+        turn: &Turn,
     ) -> Result<Out, AllocError>
         requires running { IsRunning self.old }
         requires held { IsHeld (H.limits holder.old) (H.rule holder.old) (H.members holder.old) }
         requires gained { self.old.state.gained ≤ length (H.members holder.old) }
         requires stands { Stands (H.rule holder.old) self.old (H.members holder.old) }
         requires rising { IsOrdered self.old }
-        ensures takes { IfOk result (λ out. TakesTurn (H.limits holder.old) self.old (H.members holder.old) (turn_of turn) self.new out (H.members holder.new)) }
+        ensures takes { IfOk result (λ out. TakesTurn (H.limits holder.old) self.old (H.members holder.old) (turn_of turn.now) self.new out (H.members holder.new)) }
         ensures within { IfOk result (λ out. All (λ p. p < length (H.members holder.new)) out.send) }
         ensures stands { OnOk result (Stands (H.rule holder.old) self.new (H.members holder.new)) }
         ensures failed { OnOk result (self.new.failed ≡ self.old.failed) }
@@ -46,7 +46,7 @@ impl Session {
         ensures limits { H.limits holder.new ≡ H.limits holder.old }
         ensures rule { H.rule holder.new ≡ H.rule holder.old }
     {
-        let fault = turn_fault(self.role, &self.reading, self.got_have, &turn);
+        let fault = turn_fault(self.role, &self.reading, self.got_have, turn);
         if let Some(fault) = fault {
             return Ok(self.end(alloc, End::Peer(fault)));
         }
@@ -64,7 +64,7 @@ impl Session {
         &mut self,
         alloc: Global,
         holder: &H,
-        turn: Turn,
+        turn: &Turn,
         committed: Committed,
     ) -> Result<Out, AllocError>
         requires running { IsRunning self.old }
@@ -73,14 +73,14 @@ impl Session {
         requires fits { self.old.state.gained + length committed.added < 2 ^ 32 }
         requires below { self.old.below ≤ length (H.members holder.now) }
         requires rising { IsOrdered self.old }
-        ensures settles { IfOk result (λ out. SettlesTo (map entry_of (H.members holder.now)) (length committed.added) committed.waiting (turn_of turn) self.old self.new out) }
+        ensures settles { IfOk result (λ out. SettlesTo (map entry_of (H.members holder.now)) (length committed.added) committed.waiting (turn_of turn.now) self.old self.new out) }
         ensures within { IfOk result (λ out. All (λ p. p < length (H.members holder.now)) out.send) }
     {
         let first = is_first(self.role, &self.reading);
         let both = have_both(self.sent_have, turn.have);
         self.keep(alloc, committed, turn.have)?;
         let own = self.own_turn(alloc, holder)?;
-        let fault = late_fault(holder, self.below, &self.peer_asked, first, &turn, &own);
+        let fault = late_fault(holder, self.below, &self.peer_asked, first, turn, &own);
         if let Some(fault) = fault {
             return Ok(self.end(alloc, End::Peer(fault)));
         }
@@ -96,17 +96,34 @@ impl Session {
         alloc: Global,
         holder: &H,
         first: bool,
-        turn: Turn,
+        turn: &Turn,
         own: Turn,
     ) -> Result<Out, AllocError>
         requires turns { self.old.state.turns ≤ MAX_TURNS }
         requires closed { IsClosed (map entry_of (H.members holder.now)) }
         requires below { self.old.below ≤ length (H.members holder.now) }
         requires rising { IsOrdered self.old }
-        ensures replies { IfOk result (λ out. RepliesTo (map entry_of (H.members holder.now)) first (turn_of turn) (turn_of own) self.old self.new out) }
+        ensures replies { IfOk result (λ out. RepliesTo (map entry_of (H.members holder.now)) first (turn_of turn.now) (turn_of own) self.old self.new out) }
         ensures within { IfOk result (λ out. All (λ p. p < length (H.members holder.now)) out.send) }
     {
-        let send = self.sent(alloc, holder, first, &turn)?;
+        let send = self.sent(alloc, holder, first, turn)?;
+        self.await_answers(alloc, turn, &own)?;
+        let end = ending(own.have, turn.have);
+        self.ended = end;
+        Ok(Out {
+            hello: None,
+            send: PositionList::from_vec(send),
+            turn: Some(own),
+            end,
+        })
+    }
+
+    /// Keeps what was asked for, and awaits what this end asks for.
+    fn await_answers(&mut self, alloc: Global, turn: &Turn, own: &Turn) -> Result<(), AllocError>
+        requires turns { self.old.state.turns ≤ MAX_TURNS }
+        requires rising { IsOrdered self.old }
+        ensures { OnOk result (Awaits (turn_of turn.now) (turn_of own.now) self.old self.new) }
+    {
         join(&mut self.asked, own.needs.as_slice())?;
         join(&mut self.peer_asked, turn.needs.as_slice())?;
         self.reading = Reading::Answers(VecDeque::from_vec(Vec::from_slice(
@@ -117,14 +134,7 @@ impl Session {
         self.items = 0;
         self.turns += 1;
         self.sent_have = own.have;
-        let end = ending(own.have, turn.have);
-        self.ended = end;
-        Ok(Out {
-            hello: None,
-            send: PositionList::from_vec(send),
-            turn: Some(own),
-            end,
-        })
+        Ok(())
     }
 }
 

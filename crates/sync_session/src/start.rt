@@ -1,11 +1,13 @@
 //! How a session begins.
 
-ghost use Rattle.std.specs.Prelude.{◌≡◌, ◌<◌, ◌≤◌, All, IfOk, length};
+ghost use Rattle.std.specs.Prelude.{◌≡◌, ◌<◌, ◌≤◌, All, IfOk, OnOk, length, map};
 ghost use Rattle.std.specs.List.Sorted.{IsStrictlySortedBy};
 ghost use Rattle.session_rules.specs.declared.limits.TheConstants.{MAX_NEEDS};
+ghost use Rattle.update_codec.specs.Parts.{entry_of};
 ghost use Rattle.update_model.specs.Entry.{id_cmp};
+ghost use Rattle.sync_session.specs.Greeting.{IsHelloOver};
 ghost use Rattle.sync_session.specs.Kept.{BelongsTo};
-ghost use Rattle.sync_session.specs.Starts.{before_hello, StartsAs};
+ghost use Rattle.sync_session.specs.Starts.{before_hello, IsFresh, StartsAs};
 
 use crate::greeting::own_hello;
 use crate::pending::Pending;
@@ -14,6 +16,7 @@ use crate::{Out, Session};
 use session_rules::Role;
 use std::alloc::{AllocError, Global};
 use std::collections::BTreeSet;
+use sync_frames::Hello;
 use update_check::Holder;
 use update_model::{IdList, PositionList};
 
@@ -37,30 +40,57 @@ impl Session {
         ensures within { IfOk result (λ p. All (λ i. i < length (H.members holder.now)) p.1.send) }
         ensures belongs { IfOk result (λ p. BelongsTo (H.limits holder.now) (H.rule holder.now) p.0 (H.members holder.now)) }
     {
-        let below = holder.len();
         let mut session = Session::fresh(alloc, role, database, node, recalled);
-        match role {
-            Role::Responder => Ok((session, Out::silent(alloc))),
+        let out = session.open(alloc, holder)?;
+        Ok((session, out))
+    }
+
+    /// Opens a session that is fresh over its holder's list: the initiator hands out its Hello.
+    pub(crate) fn open<H: Holder>(&mut self, alloc: Global, holder: &H) -> Result<Out, AllocError>
+        requires { IsFresh self.old.state.role self.old }
+        ensures starts { IfOk result (StartsAs self.old.state.role self.old.state.database self.old.state.node self.old.state.old (H.members holder.now) self.new) }
+        ensures within { IfOk result (λ out. All (λ i. i < length (H.members holder.now)) out.send) }
+        ensures belongs { OnOk result (BelongsTo (H.limits holder.now) (H.rule holder.now) self.new (H.members holder.now)) }
+    {
+        holder.len(); // what every holder keeps
+        match self.role {
+            Role::Responder => Ok(Out::silent(alloc)),
             Role::Initiator => {
-                let own = own_hello(alloc, holder, database, node, session.recalled.as_slice())?;
-                session.heads = own.heads.copy(alloc)?;
-                session.below = below;
-                session.turns = 1;
-                Ok((
-                    session,
-                    Out {
-                        hello: Some(own),
-                        send: PositionList::from_vec(Vec::new(alloc)),
-                        turn: None,
-                        end: None,
-                    },
-                ))
+                let own = self.say_hello(alloc, holder)?;
+                self.turns = 1;
+                Ok(Out {
+                    hello: Some(own),
+                    send: PositionList::from_vec(Vec::new(alloc)),
+                    turn: None,
+                    end: None,
+                })
             }
         }
     }
 
+    /// Makes the own Hello over all that the holder has now, which is the start set from here on.
+    pub(crate) fn say_hello<H: Holder>(
+        &mut self,
+        alloc: Global,
+        holder: &H,
+    ) -> Result<Hello, AllocError>
+        ensures hello { IfOk result (IsHelloOver self.old.state.database self.old.state.node self.old.state.old (map entry_of (H.members holder.now))) }
+        ensures state { IfOk result (λ own. self.new ≡ record self.old { below = length (H.members holder.now); heads = own.heads }) }
+    {
+        self.heads = IdList::from_vec(holder.heads(alloc)?);
+        self.below = holder.len();
+        own_hello(
+            alloc,
+            holder,
+            self.database,
+            self.node,
+            self.heads.as_slice(),
+            self.recalled.as_slice(),
+        )
+    }
+
     /// A session before its own Hello.
-    fn fresh(
+    pub(crate) fn fresh(
         alloc: Global,
         role: Role,
         database: [u8; 32],

@@ -103,7 +103,7 @@ impl Session {
             CheckedFrame::OtherVersion(_) => Ok(self.end(alloc, End::Peer(PeerFault::Version))),
             CheckedFrame::Item(update) => self.take_item(alloc, update),
             CheckedFrame::BadItem(fault) => Ok(self.take_bad_item(alloc, fault)),
-            CheckedFrame::Turn(turn) => self.take_turn(alloc, holder, turn),
+            CheckedFrame::Turn(turn) => self.take_turn(alloc, holder, &turn),
             CheckedFrame::BadFrame(place) => Ok(self.end(
                 alloc,
                 End::Peer(PeerFault::BadFrame(place)),

@@ -1,55 +1,40 @@
-use Rattle.std.proofs.Common.{◌∙◌, inl, sym}
-use Rattle.sync_session.proofs.Moving.{mapped_there}
-use Rattle.sync_session.specs.Kept.{turn_of}
-use Rattle.sync_session.proofs.Sessions.{fewer_left, goes_on, moves_next_a, moves_next_b, store_here, syncs_here, unrefused}
+use Rattle.std.proofs.Common.{◌≡◌, ◌≢◌, map, subst, IfOk}
+use Rattle.std.proofs.lemmas.Result.{IfOk-weaker}
+use Rattle.update_codec.specs.Parts.{entry_of}
+use Rattle.session_rules.specs.Laws.{NoCollision}
+use Rattle.session_rules.specs.declared.end.End.TheVariants.{Full, Store}
+use Rattle.session_rules.specs.declared.role.Role.TheVariants.{Initiator, Responder}
+use Rattle.sync_session.specs.Carrying.{HasRoom, Syncs, Unites}
+use Rattle.sync_session.specs.declared.pair.PairStart.{PairStart}
 use Rattle.sync_session.proofs.Room.{room_for_all}
-use Rattle.sync_session.proofs.Rounds.{is_there}
-use Rattle.sync_session.proofs.Syncing.{few_turns, unites_from, way}
+use Rattle.sync_session.proofs.Sessions.{start_is}
+use Rattle.sync_session.proofs.Starting.{fresh_is}
+use Rattle.sync_session.proofs.Syncing.{unites_from}
 use Rattle.sync_session.proofs.pair.sync_pair.Goals as goal
 
-pub rounds-init : goal.rounds-init
-rounds-init g c = (g.A.Holder.keeps_itself c.args.a.now, c.meet.ensures.keeps, λ held_a held_b unrefused. (held_a, c.in_ok-met.ensures.whole held_b unrefused), c.in_ok-met.ensures.going)
+pub run-requires-clause-fresh_a : goal.run-requires-clause-fresh_a
+run-requires-clause-fresh_a g c = fresh_is Initiator c.args.start.database_a c.args.start.node_a c.args.start.old_a c.fresh-session_a.result c.fresh-session_a.ensures
 
-pub round-requires-clause-on_its_way : goal.round-requires-clause-on_its_way
-round-requires-clause-on_its_way g c = way c.args.start (g.A.Holder.limits c.args.a.now) (g.B.Holder.limits c.args.b.now) (g.A.Holder.rule c.args.a.now) (g.B.Holder.rule c.args.b.now) (g.A.Holder.members c.args.a.now) (g.B.Holder.members c.args.b.now) (g.A.Counted.faults c.args.a.now) (g.B.Counted.faults c.args.b.now) c.rounds.session_a (g.A.Holder.members c.rounds.a) (g.A.Holder.limits c.rounds.a) (g.A.Holder.rule c.rounds.a) (g.A.Counted.faults c.rounds.a) c.rounds.session_b (g.B.Holder.members c.rounds.b) (g.B.Holder.limits c.rounds.b) (g.B.Holder.rule c.rounds.b) (g.B.Counted.faults c.rounds.b) c.rounds.out c.rounds.invariant.3 (mapped_there turn_of c.rounds.out.turn (sym c.is_some.ensures ∙ c.rounds-test.true))
-
-pub returns-in_err-next-clause-keeps_a : goal.returns-in_err-next-clause-keeps_a
-returns-in_err-next-clause-keeps_a g c = g.A.Holder.keeps_on c.args.a.now c.rounds.a c.round.new.a c.rounds.invariant.0 c.round.ensures.keeps_a
-
-pub returns-in_err-next-clause-keeps_b : goal.returns-in_err-next-clause-keeps_b
-returns-in_err-next-clause-keeps_b g c = g.B.Holder.keeps_on c.args.b.now c.rounds.b c.round.new.b c.rounds.invariant.1 c.round.ensures.keeps_b
-
-pub returns-in_err-next-clause-moves_a : goal.returns-in_err-next-clause-moves_a
-returns-in_err-next-clause-moves_a g c = moves_next_a c.args.start (g.A.Holder.limits c.args.a.now) (g.B.Holder.limits c.args.b.now) (g.A.Holder.rule c.args.a.now) (g.B.Holder.rule c.args.b.now) (g.A.Holder.members c.args.a.now) (g.B.Holder.members c.args.b.now) (g.A.Counted.faults c.args.a.now) (g.B.Counted.faults c.args.b.now) c.rounds.session_a (g.A.Holder.members c.rounds.a) (g.A.Holder.limits c.rounds.a) (g.A.Holder.rule c.rounds.a) (g.A.Counted.faults c.rounds.a) c.rounds.session_b (g.B.Holder.members c.rounds.b) (g.B.Holder.limits c.rounds.b) (g.B.Holder.rule c.rounds.b) (g.B.Counted.faults c.rounds.b) c.rounds.out c.rounds.invariant.3 (sym c.is_some.ensures ∙ c.rounds-test.true) (g.A.Holder.members c.round.new.a) (g.B.Holder.members c.round.new.b) (g.A.Holder.limits c.round.new.a) (g.B.Holder.limits c.round.new.b) (g.A.Holder.rule c.round.new.a) (g.B.Holder.rule c.round.new.b) (g.A.Counted.faults c.round.new.a) (g.B.Counted.faults c.round.new.b) c.round.ensures.moves_a c.round.ensures.moves_b
-
-pub returns-in_err-next-clause-moves_b : goal.returns-in_err-next-clause-moves_b
-returns-in_err-next-clause-moves_b g c = moves_next_b c.args.start (g.A.Holder.limits c.args.a.now) (g.B.Holder.limits c.args.b.now) (g.A.Holder.rule c.args.a.now) (g.B.Holder.rule c.args.b.now) (g.A.Holder.members c.args.a.now) (g.B.Holder.members c.args.b.now) (g.A.Counted.faults c.args.a.now) (g.B.Counted.faults c.args.b.now) c.rounds.session_a (g.A.Holder.members c.rounds.a) (g.A.Holder.limits c.rounds.a) (g.A.Holder.rule c.rounds.a) (g.A.Counted.faults c.rounds.a) c.rounds.session_b (g.B.Holder.members c.rounds.b) (g.B.Holder.limits c.rounds.b) (g.B.Holder.rule c.rounds.b) (g.B.Counted.faults c.rounds.b) c.rounds.out c.rounds.invariant.3 (sym c.is_some.ensures ∙ c.rounds-test.true) (g.A.Holder.members c.round.new.a) (g.B.Holder.members c.round.new.b) (g.A.Holder.limits c.round.new.a) (g.B.Holder.limits c.round.new.b) (g.A.Holder.rule c.round.new.a) (g.B.Holder.rule c.round.new.b) (g.A.Counted.faults c.round.new.a) (g.B.Counted.faults c.round.new.b) c.round.ensures.moves_a c.round.ensures.moves_b
-
-pub rounds-smaller : goal.rounds-smaller
-rounds-smaller g c = fewer_left c.rounds.out c.in_ok-next.next c.rounds.session_a c.rounds.session_b c.round.new.session_a c.round.new.session_b (sym c.is_some.ensures ∙ c.rounds-test.true) c.in_ok-next.ensures.turns
-    (few_turns c.args.start (g.A.Holder.limits c.args.a.now) (g.B.Holder.limits c.args.b.now) (g.A.Holder.rule c.args.a.now) (g.B.Holder.rule c.args.b.now) (g.A.Holder.members c.args.a.now) (g.B.Holder.members c.args.b.now) (g.A.Counted.faults c.args.a.now) (g.B.Counted.faults c.args.b.now) c.rounds.session_a (g.A.Holder.members c.rounds.a) (g.A.Holder.limits c.rounds.a) (g.A.Holder.rule c.rounds.a) (g.A.Counted.faults c.rounds.a) c.rounds.session_b (g.B.Holder.members c.rounds.b) (g.B.Holder.limits c.rounds.b) (g.B.Holder.rule c.rounds.b) (g.B.Counted.faults c.rounds.b) c.rounds.out c.rounds.invariant.3) (few_turns c.args.start (g.A.Holder.limits c.args.a.now) (g.B.Holder.limits c.args.b.now) (g.A.Holder.rule c.args.a.now) (g.B.Holder.rule c.args.b.now) (g.A.Holder.members c.args.a.now) (g.B.Holder.members c.args.b.now) (g.A.Counted.faults c.args.a.now) (g.B.Counted.faults c.args.b.now) c.round.new.session_a (g.A.Holder.members c.round.new.a) (g.A.Holder.limits c.round.new.a) (g.A.Holder.rule c.round.new.a) (g.A.Counted.faults c.round.new.a) c.round.new.session_b (g.B.Holder.members c.round.new.b) (g.B.Holder.limits c.round.new.b) (g.B.Holder.rule c.round.new.b) (g.B.Counted.faults c.round.new.b) c.in_ok-next.next (goes_on c.args.start (g.A.Holder.limits c.args.a.now) (g.B.Holder.limits c.args.b.now) (g.A.Holder.rule c.args.a.now) (g.B.Holder.rule c.args.b.now) (g.A.Holder.members c.args.a.now) (g.B.Holder.members c.args.b.now) (g.A.Counted.faults c.args.a.now) (g.B.Counted.faults c.args.b.now) c.rounds.session_a (g.A.Holder.members c.rounds.a) (g.A.Holder.limits c.rounds.a) (g.A.Holder.rule c.rounds.a) (g.A.Counted.faults c.rounds.a) c.rounds.session_b (g.B.Holder.members c.rounds.b) (g.B.Holder.limits c.rounds.b) (g.B.Holder.rule c.rounds.b) (g.B.Counted.faults c.rounds.b) c.rounds.out c.rounds.invariant.3 (sym c.is_some.ensures ∙ c.rounds-test.true) (g.A.Holder.members c.round.new.a) (g.B.Holder.members c.round.new.b) (g.A.Holder.limits c.round.new.a) (g.B.Holder.limits c.round.new.b) (g.A.Holder.rule c.round.new.a) (g.B.Holder.rule c.round.new.b) (g.A.Counted.faults c.round.new.a) (g.B.Counted.faults c.round.new.b) c.round.ensures.moves_a c.round.ensures.moves_b c.round.new.session_a c.round.new.session_b c.in_ok-next.next c.in_ok-next.ensures.got c.in_ok-next.ensures.well_a c.in_ok-next.ensures.well_b c.in_ok-next.ensures.store))
-
-pub rounds-preserved : goal.rounds-preserved
-rounds-preserved g c = (
-  g.A.Holder.keeps_on c.args.a.now c.rounds.a c.round.new.a c.rounds.invariant.0 c.round.ensures.keeps_a,
-  g.B.Holder.keeps_on c.args.b.now c.rounds.b c.round.new.b c.rounds.invariant.1 c.round.ensures.keeps_b,
-  λ held_a held_b unrefused. let before = c.rounds.invariant.2 held_a held_b (inl (is_there c.rounds.out.turn (sym c.is_some.ensures ∙ c.rounds-test.true))) in c.in_ok-next.ensures.whole before.0 before.1 unrefused,
-  goes_on c.args.start (g.A.Holder.limits c.args.a.now) (g.B.Holder.limits c.args.b.now) (g.A.Holder.rule c.args.a.now) (g.B.Holder.rule c.args.b.now) (g.A.Holder.members c.args.a.now) (g.B.Holder.members c.args.b.now) (g.A.Counted.faults c.args.a.now) (g.B.Counted.faults c.args.b.now) c.rounds.session_a (g.A.Holder.members c.rounds.a) (g.A.Holder.limits c.rounds.a) (g.A.Holder.rule c.rounds.a) (g.A.Counted.faults c.rounds.a) c.rounds.session_b (g.B.Holder.members c.rounds.b) (g.B.Holder.limits c.rounds.b) (g.B.Holder.rule c.rounds.b) (g.B.Counted.faults c.rounds.b) c.rounds.out c.rounds.invariant.3 (sym c.is_some.ensures ∙ c.rounds-test.true) (g.A.Holder.members c.round.new.a) (g.B.Holder.members c.round.new.b) (g.A.Holder.limits c.round.new.a) (g.B.Holder.limits c.round.new.b) (g.A.Holder.rule c.round.new.a) (g.B.Holder.rule c.round.new.b) (g.A.Counted.faults c.round.new.a) (g.B.Counted.faults c.round.new.b) c.round.ensures.moves_a c.round.ensures.moves_b c.round.new.session_a c.round.new.session_b c.in_ok-next.next c.in_ok-next.ensures.got c.in_ok-next.ensures.well_a c.in_ok-next.ensures.well_b c.in_ok-next.ensures.store,
-)
+pub run-requires-clause-fresh_b : goal.run-requires-clause-fresh_b
+run-requires-clause-fresh_b g c = fresh_is Responder c.args.start.database_b c.args.start.node_b c.args.start.old_b c.fresh-session_b.result c.fresh-session_b.ensures
 
 pub returns-clause-syncs : goal.returns-clause-syncs
-returns-clause-syncs g c = syncs_here c.args.start (g.A.Holder.limits c.args.a.now) (g.B.Holder.limits c.args.b.now) (g.A.Holder.rule c.args.a.now) (g.B.Holder.rule c.args.b.now) (g.A.Holder.members c.args.a.now) (g.B.Holder.members c.args.b.now) (g.A.Counted.faults c.args.a.now) (g.B.Counted.faults c.args.b.now) c.rounds.session_a (g.A.Holder.members c.rounds.a) (g.A.Holder.limits c.rounds.a) (g.A.Holder.rule c.rounds.a) (g.A.Counted.faults c.rounds.a) c.rounds.session_b (g.B.Holder.members c.rounds.b) (g.B.Holder.limits c.rounds.b) (g.B.Holder.rule c.rounds.b) (g.B.Counted.faults c.rounds.b) c.rounds.out c.rounds.invariant.3 (sym c.is_some.ensures ∙ c.rounds-test.false) c.unwrap-end.result c.unwrap-end.ensures c.in_ok-ended.ended c.in_ok-ended.ensures
+returns-clause-syncs g c = subst (λ (start : PairStart). IfOk c.run.result (λ ended. Syncs (g.A.Holder.limits c.args.a.now) (g.B.Holder.limits c.args.b.now) (g.A.Holder.rule c.args.a.now) (g.B.Holder.rule c.args.b.now) start (g.A.Holder.members c.args.a.now) (g.B.Holder.members c.args.b.now) ended (g.A.Holder.members c.run.new.a) (g.B.Holder.members c.run.new.b))) (start_is c.args.start c.fresh-session_a.result c.fresh-session_b.result c.fresh-session_a.ensures c.fresh-session_b.ensures) c.run.ensures.syncs
 
 pub returns-clause-unites : goal.returns-clause-unites
-returns-clause-unites g c = λ one_rule one_database alike room disk. unites_from c.no_cause.ensures c.args.start (g.A.Holder.limits c.args.a.now) (g.B.Holder.limits c.args.b.now) (g.A.Holder.rule c.args.a.now) (g.B.Holder.rule c.args.b.now) (g.A.Holder.members c.args.a.now) (g.B.Holder.members c.args.b.now) (g.A.Holder.members c.rounds.a) (g.B.Holder.members c.rounds.b) c.in_ok-ended.ended c.len.ensures.held c.len-2.ensures.held
-    (syncs_here c.args.start (g.A.Holder.limits c.args.a.now) (g.B.Holder.limits c.args.b.now) (g.A.Holder.rule c.args.a.now) (g.B.Holder.rule c.args.b.now) (g.A.Holder.members c.args.a.now) (g.B.Holder.members c.args.b.now) (g.A.Counted.faults c.args.a.now) (g.B.Counted.faults c.args.b.now) c.rounds.session_a (g.A.Holder.members c.rounds.a) (g.A.Holder.limits c.rounds.a) (g.A.Holder.rule c.rounds.a) (g.A.Counted.faults c.rounds.a) c.rounds.session_b (g.B.Holder.members c.rounds.b) (g.B.Holder.limits c.rounds.b) (g.B.Holder.rule c.rounds.b) (g.B.Counted.faults c.rounds.b) c.rounds.out c.rounds.invariant.3 (sym c.is_some.ensures ∙ c.rounds-test.false) c.unwrap-end.result c.unwrap-end.ensures c.in_ok-ended.ended c.in_ok-ended.ensures) one_rule one_database alike room disk
-
-pub returns-clause-store : goal.returns-clause-store
-returns-clause-store g c = store_here c.args.start (g.A.Holder.limits c.args.a.now) (g.B.Holder.limits c.args.b.now) (g.A.Holder.rule c.args.a.now) (g.B.Holder.rule c.args.b.now) (g.A.Holder.members c.args.a.now) (g.B.Holder.members c.args.b.now) (g.A.Counted.faults c.args.a.now) (g.B.Counted.faults c.args.b.now) c.rounds.session_a (g.A.Holder.members c.rounds.a) (g.A.Holder.limits c.rounds.a) (g.A.Holder.rule c.rounds.a) (g.A.Counted.faults c.rounds.a) c.rounds.session_b (g.B.Holder.members c.rounds.b) (g.B.Holder.limits c.rounds.b) (g.B.Holder.rule c.rounds.b) (g.B.Counted.faults c.rounds.b) c.rounds.out c.rounds.invariant.3 (sym c.is_some.ensures ∙ c.rounds-test.false) c.unwrap-end.result c.unwrap-end.ensures c.in_ok-ended.ended c.in_ok-ended.ensures
-
-pub returns-clause-whole : goal.returns-clause-whole
-returns-clause-whole g c = λ held_a held_b done. c.rounds.invariant.2 held_a held_b (unrefused c.args.start (g.A.Holder.limits c.args.a.now) (g.B.Holder.limits c.args.b.now) (g.A.Holder.rule c.args.a.now) (g.B.Holder.rule c.args.b.now) (g.A.Holder.members c.args.a.now) (g.B.Holder.members c.args.b.now) (g.A.Counted.faults c.args.a.now) (g.B.Counted.faults c.args.b.now) c.rounds.session_a (g.A.Holder.members c.rounds.a) (g.A.Holder.limits c.rounds.a) (g.A.Holder.rule c.rounds.a) (g.A.Counted.faults c.rounds.a) c.rounds.session_b (g.B.Holder.members c.rounds.b) (g.B.Holder.limits c.rounds.b) (g.B.Holder.rule c.rounds.b) (g.B.Counted.faults c.rounds.b) c.rounds.out c.rounds.invariant.3 (sym c.is_some.ensures ∙ c.rounds-test.false) c.unwrap-end.result c.unwrap-end.ensures c.in_ok-ended.ended c.in_ok-ended.ensures done)
+returns-clause-unites g c =
+    IfOk-weaker c.run.result (λ ended. Syncs (g.A.Holder.limits c.args.a.now) (g.B.Holder.limits c.args.b.now) (g.A.Holder.rule c.args.a.now) (g.B.Holder.rule c.args.b.now) c.args.start (g.A.Holder.members c.args.a.now) (g.B.Holder.members c.args.b.now) ended (g.A.Holder.members c.run.new.a) (g.B.Holder.members c.run.new.b))
+    (λ ended. g.A.Holder.rule c.args.a.now ≡ g.B.Holder.rule c.args.b.now → c.args.start.database_a ≡ c.args.start.database_b
+    → NoCollision (map entry_of (g.A.Holder.members c.args.a.now)) (map entry_of (g.B.Holder.members c.args.b.now)) → ended.a ≢ Full → ended.a ≢ Store
+    → Unites (g.A.Holder.members c.args.a.now) (g.B.Holder.members c.args.b.now) ended (g.A.Holder.members c.run.new.a) (g.B.Holder.members c.run.new.b))
+    (λ ended syncs one_rule one_database alike room disk. unites_from c.no_cause.ensures c.args.start (g.A.Holder.limits c.args.a.now) (g.B.Holder.limits c.args.b.now) (g.A.Holder.rule c.args.a.now) (g.B.Holder.rule c.args.b.now) (g.A.Holder.members c.args.a.now) (g.B.Holder.members c.args.b.now) (g.A.Holder.members c.run.new.a) (g.B.Holder.members c.run.new.b) ended c.len.ensures.held c.len-2.ensures.held syncs one_rule one_database alike room disk)
+    (subst (λ (start : PairStart). IfOk c.run.result (λ ended. Syncs (g.A.Holder.limits c.args.a.now) (g.B.Holder.limits c.args.b.now) (g.A.Holder.rule c.args.a.now) (g.B.Holder.rule c.args.b.now) start (g.A.Holder.members c.args.a.now) (g.B.Holder.members c.args.b.now) ended (g.A.Holder.members c.run.new.a) (g.B.Holder.members c.run.new.b))) (start_is c.args.start c.fresh-session_a.result c.fresh-session_b.result c.fresh-session_a.ensures c.fresh-session_b.ensures) c.run.ensures.syncs)
 
 pub returns-clause-room : goal.returns-clause-room
-returns-clause-room g c = λ alike room_a room_b. room_for_all c.args.start (g.A.Holder.limits c.args.a.now) (g.B.Holder.limits c.args.b.now) (g.A.Holder.rule c.args.a.now) (g.B.Holder.rule c.args.b.now) (g.A.Holder.members c.args.a.now) (g.B.Holder.members c.args.b.now) (g.A.Holder.members c.rounds.a) (g.B.Holder.members c.rounds.b) c.in_ok-ended.ended c.len.ensures.held c.len-2.ensures.held
-    (syncs_here c.args.start (g.A.Holder.limits c.args.a.now) (g.B.Holder.limits c.args.b.now) (g.A.Holder.rule c.args.a.now) (g.B.Holder.rule c.args.b.now) (g.A.Holder.members c.args.a.now) (g.B.Holder.members c.args.b.now) (g.A.Counted.faults c.args.a.now) (g.B.Counted.faults c.args.b.now) c.rounds.session_a (g.A.Holder.members c.rounds.a) (g.A.Holder.limits c.rounds.a) (g.A.Holder.rule c.rounds.a) (g.A.Counted.faults c.rounds.a) c.rounds.session_b (g.B.Holder.members c.rounds.b) (g.B.Holder.limits c.rounds.b) (g.B.Holder.rule c.rounds.b) (g.B.Counted.faults c.rounds.b) c.rounds.out c.rounds.invariant.3 (sym c.is_some.ensures ∙ c.rounds-test.false) c.unwrap-end.result c.unwrap-end.ensures c.in_ok-ended.ended c.in_ok-ended.ensures) alike room_a room_b
+returns-clause-room g c =
+    IfOk-weaker c.run.result (λ ended. Syncs (g.A.Holder.limits c.args.a.now) (g.B.Holder.limits c.args.b.now) (g.A.Holder.rule c.args.a.now) (g.B.Holder.rule c.args.b.now) c.args.start (g.A.Holder.members c.args.a.now) (g.B.Holder.members c.args.b.now) ended (g.A.Holder.members c.run.new.a) (g.B.Holder.members c.run.new.b))
+    (λ ended. NoCollision (map entry_of (g.A.Holder.members c.args.a.now)) (map entry_of (g.B.Holder.members c.args.b.now))
+    → HasRoom (g.A.Holder.limits c.args.a.now) (g.A.Holder.members c.args.a.now) (g.B.Holder.members c.args.b.now)
+    → HasRoom (g.B.Holder.limits c.args.b.now) (g.B.Holder.members c.args.b.now) (g.A.Holder.members c.args.a.now) → ended.a ≢ Full)
+    (λ ended syncs alike room_a room_b. room_for_all c.args.start (g.A.Holder.limits c.args.a.now) (g.B.Holder.limits c.args.b.now) (g.A.Holder.rule c.args.a.now) (g.B.Holder.rule c.args.b.now) (g.A.Holder.members c.args.a.now) (g.B.Holder.members c.args.b.now) (g.A.Holder.members c.run.new.a) (g.B.Holder.members c.run.new.b) ended c.len.ensures.held c.len-2.ensures.held syncs alike room_a room_b)
+    (subst (λ (start : PairStart). IfOk c.run.result (λ ended. Syncs (g.A.Holder.limits c.args.a.now) (g.B.Holder.limits c.args.b.now) (g.A.Holder.rule c.args.a.now) (g.B.Holder.rule c.args.b.now) start (g.A.Holder.members c.args.a.now) (g.B.Holder.members c.args.b.now) ended (g.A.Holder.members c.run.new.a) (g.B.Holder.members c.run.new.b))) (start_is c.args.start c.fresh-session_a.result c.fresh-session_b.result c.fresh-session_a.ensures c.fresh-session_b.ensures) c.run.ensures.syncs)

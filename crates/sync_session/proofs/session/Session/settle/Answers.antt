@@ -12,36 +12,36 @@ use Rattle.sync_session.proofs.session.Session.settle.Goals as goal
 
 pub returns-in-Some-clause-settles : goal.returns-in-Some-clause-settles
 returns-in-Some-clause-settles g c =
-    settled_fault (map entry_of (g.H.Holder.members c.args.holder.now)) (length c.args.committed.added) c.args.committed.waiting (turn_of c.args.turn) (turn_of c.in_ok-own.own) c.args.self.now c.keep.new.self c.end.new.self c.end.result c.is_first-first.result c.in-Some.fault
+    settled_fault (map entry_of (g.H.Holder.members c.args.holder.now)) (length c.args.committed.added) c.args.committed.waiting (turn_of c.args.turn.now) (turn_of c.in_ok-own.own) c.args.self.now c.keep.new.self c.end.new.self c.end.result c.is_first-first.result c.in-Some.fault
     (record {
       kept = c.in_ok-keep.ensures ∙ ap (λ (t : TurnData). with_commit (length c.args.committed.added) c.args.committed.waiting t.have c.args.self.now) c.turn.view_is;
       is_turn = c.in_ok-own.ensures;
       first_is = c.is_first-first.ensures ∙ ap (λ (k : Kept). is_first k.state.role k.state.reading) c.self.view_is;
-      fault_is = sym c.in-Some.is ∙ c.late_fault-fault.ensures ∙ ap (λ (k : Kept). late_fault_at c.is_first-first.result (take k.below (map entry_of (g.H.Holder.members c.args.holder.now))) k.state.peer_asked (turn_of c.args.turn) (turn_of c.in_ok-own.own)) c.self-2.view_is;
+      fault_is = sym c.in-Some.is ∙ c.late_fault-fault.ensures ∙ ap (λ (k : Kept). late_fault_at c.is_first-first.result (take k.below (map entry_of (g.H.Holder.members c.args.holder.now))) k.state.peer_asked (turn_of c.args.turn.now) (turn_of c.in_ok-own.own)) c.self-2.view_is;
     })
     c.end.ensures.state c.end.ensures.out
 
 pub returns-then-both-clause-settles : goal.returns-then-both-clause-settles
 returns-then-both-clause-settles g c =
-    settled_done (map entry_of (g.H.Holder.members c.args.holder.now)) (length c.args.committed.added) c.args.committed.waiting (turn_of c.args.turn) (turn_of c.in_ok-own.own) c.args.self.now c.keep.new.self c.end-then-both.new.self c.end-then-both.result c.is_first-first.result c.have_both-both.result
+    settled_done (map entry_of (g.H.Holder.members c.args.holder.now)) (length c.args.committed.added) c.args.committed.waiting (turn_of c.args.turn.now) (turn_of c.in_ok-own.own) c.args.self.now c.keep.new.self c.end-then-both.new.self c.end-then-both.result c.is_first-first.result c.have_both-both.result
     (record {
       kept = c.in_ok-keep.ensures ∙ ap (λ (t : TurnData). with_commit (length c.args.committed.added) c.args.committed.waiting t.have c.args.self.now) c.turn.view_is;
       is_turn = c.in_ok-own.ensures;
       first_is = c.is_first-first.ensures ∙ ap (λ (k : Kept). is_first k.state.role k.state.reading) c.self.view_is;
-      fault_is = sym c.in_default.is ∙ c.late_fault-fault.ensures ∙ ap (λ (k : Kept). late_fault_at c.is_first-first.result (take k.below (map entry_of (g.H.Holder.members c.args.holder.now))) k.state.peer_asked (turn_of c.args.turn) (turn_of c.in_ok-own.own)) c.self-2.view_is;
+      fault_is = sym c.in_default.is ∙ c.late_fault-fault.ensures ∙ ap (λ (k : Kept). late_fault_at c.is_first-first.result (take k.below (map entry_of (g.H.Holder.members c.args.holder.now))) k.state.peer_asked (turn_of c.args.turn.now) (turn_of c.in_ok-own.own)) c.self-2.view_is;
     })
     (c.have_both-both.ensures ∙ ap (λ (k : Kept). k.state.sent_have && c.turn.inside.have) c.self.view_is ∙ ap (λ (t : TurnData). c.args.self.now.state.sent_have && t.have) c.turn.view_is) c.if-both.true c.end-then-both.ensures.state c.end-then-both.ensures.out
 
 pub returns-clause-settles : goal.returns-clause-settles
 returns-clause-settles g c =
-    IfOk-weaker c.reply.result (λ out. RepliesTo (map entry_of (g.H.Holder.members c.args.holder.now)) c.is_first-first.result (turn_of c.args.turn) (turn_of c.in_ok-own.own) c.keep.new.self c.reply.new.self out)
-    (λ out. SettlesTo (map entry_of (g.H.Holder.members c.args.holder.now)) (length c.args.committed.added) c.args.committed.waiting (turn_of c.args.turn) c.args.self.now c.reply.new.self out)
-    (λ out replies. settled_reply (map entry_of (g.H.Holder.members c.args.holder.now)) (length c.args.committed.added) c.args.committed.waiting (turn_of c.args.turn) (turn_of c.in_ok-own.own) c.args.self.now c.keep.new.self c.reply.new.self out c.is_first-first.result c.have_both-both.result
+    IfOk-weaker c.reply.result (λ out. RepliesTo (map entry_of (g.H.Holder.members c.args.holder.now)) c.is_first-first.result (turn_of c.args.turn.now) (turn_of c.in_ok-own.own) c.keep.new.self c.reply.new.self out)
+    (λ out. SettlesTo (map entry_of (g.H.Holder.members c.args.holder.now)) (length c.args.committed.added) c.args.committed.waiting (turn_of c.args.turn.now) c.args.self.now c.reply.new.self out)
+    (λ out replies. settled_reply (map entry_of (g.H.Holder.members c.args.holder.now)) (length c.args.committed.added) c.args.committed.waiting (turn_of c.args.turn.now) (turn_of c.in_ok-own.own) c.args.self.now c.keep.new.self c.reply.new.self out c.is_first-first.result c.have_both-both.result
     (record {
       kept = c.in_ok-keep.ensures ∙ ap (λ (t : TurnData). with_commit (length c.args.committed.added) c.args.committed.waiting t.have c.args.self.now) c.turn.view_is;
       is_turn = c.in_ok-own.ensures;
       first_is = c.is_first-first.ensures ∙ ap (λ (k : Kept). is_first k.state.role k.state.reading) c.self.view_is;
-      fault_is = sym c.in_default.is ∙ c.late_fault-fault.ensures ∙ ap (λ (k : Kept). late_fault_at c.is_first-first.result (take k.below (map entry_of (g.H.Holder.members c.args.holder.now))) k.state.peer_asked (turn_of c.args.turn) (turn_of c.in_ok-own.own)) c.self-2.view_is;
+      fault_is = sym c.in_default.is ∙ c.late_fault-fault.ensures ∙ ap (λ (k : Kept). late_fault_at c.is_first-first.result (take k.below (map entry_of (g.H.Holder.members c.args.holder.now))) k.state.peer_asked (turn_of c.args.turn.now) (turn_of c.in_ok-own.own)) c.self-2.view_is;
     })
     (c.have_both-both.ensures ∙ ap (λ (k : Kept). k.state.sent_have && c.turn.inside.have) c.self.view_is ∙ ap (λ (t : TurnData). c.args.self.now.state.sent_have && t.have) c.turn.view_is) c.if-both.false replies)
     c.reply.ensures.replies

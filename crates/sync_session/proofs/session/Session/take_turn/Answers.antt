@@ -30,9 +30,9 @@ settle-requires-clause-closed g c = closed_after _ _ _ _ _ c.in-Ok.ensures.commi
 
 pub returns-in-Ok-clause-takes : goal.returns-in-Ok-clause-takes
 returns-in-Ok-clause-takes g c =
-    answers_turn (g.H.Holder.limits c.args.holder.now) c.args.self.now _ c.settle.new.self (g.H.Holder.members c.args.holder.now) c.in_ok-batch.batch.items (g.H.Holder.members c.commit.new.self) c.in-Ok.committed _ c.args.turn c.settle.result
+    answers_turn (g.H.Holder.limits c.args.holder.now) c.args.self.now _ c.settle.new.self (g.H.Holder.members c.args.holder.now) c.in_ok-batch.batch.items (g.H.Holder.members c.commit.new.self) c.in-Ok.committed _ c.args.turn.now c.settle.result
     (ap (λ (k : Kept). record k { pending = c.take.new.self }) c.self.view_is ∙ ap (λ (p : PendingData). record c.args.self.now { pending = p }) c.in_ok-batch.ensures.state)
-    refl (fault_at _ c.args.self.now c.turn_fault-fault.result _ c.args.turn (g.H.Holder.members c.args.holder.now) c.self.view_is refl c.turn_fault-fault.ensures c.in_default.is)
+    refl (fault_at _ c.args.self.now c.turn_fault-fault.result _ c.args.turn.now (g.H.Holder.members c.args.holder.now) c.self.view_is refl c.turn_fault-fault.ensures c.in_default.is)
     c.requires.stands.below
     (subst (λ (k : Kept). c.in_ok-batch.batch.items ≡ k.pending.waiting ++ k.pending.gathered) c.self.view_is c.in_ok-batch.ensures.batch) c.in-Ok.ensures.commits c.settle.ensures.settles
 
@@ -44,8 +44,8 @@ returns-in-Ok-clause-stands g c =
 
 pub returns-in-Err-DiskFault-clause-takes : goal.returns-in-Err-DiskFault-clause-takes
 returns-in-Err-DiskFault-clause-takes g c =
-    turn_refused (g.H.Holder.limits c.args.holder.now) c.args.self.now c.refuse-in-Err-DiskFault.new.self (g.H.Holder.members c.args.holder.now) (g.H.Holder.members c.commit.new.self) (turn_of c.args.turn) c.refuse-in-Err-DiskFault.result
-    (fault_at _ c.args.self.now c.turn_fault-fault.result _ c.args.turn (g.H.Holder.members c.args.holder.now) c.self.view_is refl c.turn_fault-fault.ensures c.in_default.is)
+    turn_refused (g.H.Holder.limits c.args.holder.now) c.args.self.now c.refuse-in-Err-DiskFault.new.self (g.H.Holder.members c.args.holder.now) (g.H.Holder.members c.commit.new.self) (turn_of c.args.turn.now) c.refuse-in-Err-DiskFault.result
+    (fault_at _ c.args.self.now c.turn_fault-fault.result _ c.args.turn.now (g.H.Holder.members c.args.holder.now) c.self.view_is refl c.turn_fault-fault.ensures c.in_default.is)
     (refused_stays _ _ _ c.in-Err-DiskFault.field-0 _ _ _ c.in-Err-DiskFault.ensures.commits)
     (c.refuse-in-Err-DiskFault.ensures.state ∙ ap (with_refusal Store) (ap (λ (k : Kept). record k { pending = c.take.new.self }) c.self.view_is))
     c.refuse-in-Err-DiskFault.ensures.out
