@@ -1,5 +1,5 @@
 -- What `check` does, from what it reads to its exit status.
-use Rattle.std.specs.Prelude.{◌≡◌, ℕ, List, [], ◌∷◌, codes, Option, Ok, Err}
+use Rattle.std.specs.Prelude.{◌≡◌, ℕ, Bool, true, false, List, [], ◌∷◌, bytes_eq, codes, Option, Ok, Err}
 use Rattle.std.specs.Io.KnownBytes.{Appends}
 use Rattle.bec_bytes.specs.Causes.{Rose}
 use Rattle.confluence_test.specs.declared.refusal.SchemaRefusal.{SchemaRefusal}
@@ -34,12 +34,14 @@ pub data Checks (source source_new : SourceState) (sink sink_new : SinkState) (s
       → Checks source source_new sink sink_new status
   unmade : status ≡ OUT_OF_MEMORY → Appends sink.held sink_new.held [] → Checks source source_new sink sink_new status
 
--- The words are the one word `check`.
-abbrev pub IsCheck : List (List ℕ) → Type 0
-IsCheck words = words ≡ codes "check" ∷ []
+-- the words are the one word `check`
+abbrev pub is_check : List (List ℕ) → Bool
+is_check [] = false
+is_check (word ∷ []) = bytes_eq word (codes "check")
+is_check (word ∷ other ∷ words) = false
 
 -- The words ask for a verdict, and it is told; other words leave the source as it was, and are no command.
 pub data RunsCheck {S : Type 0} (words : List (List ℕ)) (input input_new : S) (source source_new : SourceState) (sink sink_new : SinkState) (status : ℕ) : Type 0 where
-  asked : IsCheck words → Checks source source_new sink sink_new status → RunsCheck words input input_new source source_new sink sink_new status
-  other : (IsCheck words → ⊥) → input_new ≡ input → Puts sink.faults sink_new.faults sink.held sink_new.held NO_COMMAND (codes "! words\n") status
+  asked : is_check words ≡ true → Checks source source_new sink sink_new status → RunsCheck words input input_new source source_new sink sink_new status
+  other : is_check words ≡ false → input_new ≡ input → Puts sink.faults sink_new.faults sink.held sink_new.held NO_COMMAND (codes "! words\n") status
       → RunsCheck words input input_new source source_new sink sink_new status

@@ -1,7 +1,7 @@
 //! The command `check`, by itself.
 
-ghost use Rattle.std.specs.Prelude.{map, string_bytes};
-ghost use Rattle.schema_verdict.specs.Checks.{Checks, RunsCheck};
+ghost use Rattle.std.specs.Prelude.{◌≡◌, map, string_bytes};
+ghost use Rattle.schema_verdict.specs.Checks.{Checks, RunsCheck, is_check};
 
 use crate::judging::verdict;
 use crate::lines::refusal_lines;
@@ -40,8 +40,19 @@ pub fn run_check<S: Source, K: Sink>(
         (record { left = S.left input.old; faults = S.faults input.old }) (record { left = S.left input.new; faults = S.faults input.new })
         (record { held = K.held out.old; faults = K.faults out.old }) (record { held = K.held out.new; faults = K.faults out.new }) result }
 {
+    if is_check(words) {
+        check(alloc, input, out)
+    } else {
+        no_command(out)
+    }
+}
+
+/// Whether the words are the one word `check`.
+fn is_check(words: &[String]) -> bool
+    ensures { result ≡ is_check (map string_bytes words.now) }
+{
     match words {
-        [word] if word.as_str() == "check" => check(alloc, input, out),
-        _ => no_command(out),
+        [word] => word.as_str() == "check",
+        _ => false,
     }
 }
