@@ -1,19 +1,21 @@
 # shellcheck shell=bash
-# What bash offers behind the word bec.
+# What bash offers behind the word bec. (made by bench/make_words)
 _bec() {
     local word=${COMP_WORDS[COMP_CWORD]} command=${COMP_WORDS[1]} offered=''
     if [ "$COMP_CWORD" -eq 1 ]; then
-        offered="init keygen apply join dump query heads export draw merge sync serve check help --help --version"
+        offered="init keygen apply join dump query heads export draw log show who diff status schema csv page merge sync serve check help --help --version"
     elif [ "$command" = help ]; then
-        offered="init keygen apply join dump query heads export draw merge sync serve check status"
+        offered="init keygen apply join dump query heads export draw log show who diff status schema csv page merge sync serve check status"
     else
         case $command,${COMP_WORDS[COMP_CWORD - 1]} in
         keygen,--height) offered="5 10 15" ;;
         keygen,--width) offered="1 2 4 8" ;;
         keygen,*) [[ $word == -* ]] && offered="--height --width" ;;
-        dump,* | query,*) [[ $word == -* ]] && offered="--json" ;;
-        draw,*) [[ $word == -* ]] && offered="--dot" ;;
+        dump,*) [[ $word == -* ]] && offered="--json" ;;
+        query,*) [[ $word == -* ]] && offered="--json" ;;
         export,*) [[ $word == -* ]] && offered="--updates" ;;
+        draw,*) [[ $word == -* ]] && offered="--dot" ;;
+        log,*) [[ $word == -* ]] && offered="--rows --full" ;;
         serve,--sessions) offered="1 2 3 4 5 6 7 8" ;;
         serve,*) [[ $word == -* ]] && offered="--sessions" ;;
         esac

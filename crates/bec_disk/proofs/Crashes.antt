@@ -1,6 +1,5 @@
 -- What a crash leaves of the entries of a shelf in memory.
-use Rattle.std.proofs.Common.{◌≡◌, ℕ, ◌+◌, ◌<◌, Bool, true, false, List, [], ◌∷◌, ◌++◌, length, take, get_or, refl, sym, ap, subst, Option, Some, None, cond}
-use Rattle.std.specs.List.{find}
+use Rattle.std.proofs.Common.{◌≡◌, ℕ, ◌+◌, ◌<◌, Bool, true, false, List, [], ◌∷◌, ◌++◌, length, take, get_or, refl, sym, ap, subst, Option, Some, cond}
 use Rattle.std.proofs.lemmas.List.{take_more}
 use Rattle.bec_disk.specs.Left.{AreLeft, IsDiskLeft, IsEntryLeft, IsPartLeft}
 use Rattle.bec_disk.specs.Replay.{MemDiskState}

@@ -1,10 +1,10 @@
 -- Shelves on which no part is handed out.
-use Rattle.std.proofs.Common.{◌≡◌, ◌≢◌, ◌⊎◌, ⊎_elim, ℕ, Bool, true, false, refl, sym, ◌∙◌, ap, subst, Some, None, Option, Ok, Err, Result, IfOk, OnErr, OnOk}
+use Rattle.std.proofs.Common.{◌≡◌, ◌≢◌, ⊎_elim, ℕ, Bool, true, false, refl, sym, ◌∙◌, ap, subst, Some, None, Option, Ok, Err, Result, IfOk, OnErr, OnOk}
 use Rattle.std.specs.Prelude.{IsTrue}
 use Rattle.bec_disk.specs.Disk.{DiskState, made_part}
 use Rattle.bec_disk.specs.Left.{IsDiskLeft, IsPartLeft}
 use Rattle.bec_disk.specs.Replay.{MemDiskState, state_of}
-use Rattle.bec_disk.specs.Shelf.{PartState, ShelfState, absent, out, stands, Finds, HandsOut, KeepsOthers, Makes, MayMake, PutsBack}
+use Rattle.bec_disk.specs.Shelf.{PartState, ShelfState, absent, out, stands, HandsOut, KeepsOthers, Makes, PutsBack}
 use Rattle.bec_disk.specs.Shelved.{part_of, standing}
 use Rattle.bec_disk.specs.Slot.{Slot, same_slot}
 use Rattle.bec_disk.specs.declared.disk_fault.DiskFault.{DiskFault}

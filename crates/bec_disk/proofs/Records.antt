@@ -3,9 +3,12 @@ use Rattle.std.proofs.Common.{◌≡◌, ◌≢◌, ◌⊎◌, inl, inr, ⊎_eli
 use Rattle.std.proofs.lemmas.List.{take_more}
 use Rattle.std.specs.Prelude.{nat_le, if◌then◌else◌, Option}
 use Rattle.std.proofs.lemmas.Bool.Decides.{nat_tests}
-use Rattle.bec_disk.specs.Disk.{IsImage, handed_out, Writes, Cuts, Syncs, overwritten, written_at}
+use Rattle.std.proofs.lemmas.Bool.{false≢true}
+use Rattle.bec_bytes.specs.Causes.{one_more}
+use Rattle.bec_disk.specs.Disk.{Moment, IsImage, handed_out, Writes, Cuts, Syncs, overwritten, written_at}
+use Rattle.bec_disk.specs.Plan.{PlanState, IsToFail}
 use Rattle.bec_disk.specs.Slot.{Slot}
-use Rattle.bec_disk.specs.Replay.{History, MemDiskState, IsMixed, state_of, settled_as, begun_with, goes_to, wrote_if, after_call, replayed, seen_after, shown}
+use Rattle.bec_disk.specs.Replay.{History, MemDiskState, IsMixed, IsNoted, IsRecorded, state_of, settled_as, begun_with, goes_to, wrote_if, after_call, replayed, seen_after, shown}
 use Rattle.bec_disk.specs.Sound.{replayed-reads, replayed-kept, image-mixed}
 use Rattle.bec_disk.specs.declared.disk_call.DiskCall.{DiskCall}
 use Rattle.bec_disk.specs.declared.disk_call.DiskCall.TheVariants.{Wrote, WriteFailed, Cut, CutFailed, Settled}
@@ -19,9 +22,28 @@ pub added : (history : History) (old new : List DiskCall) (call : DiskCall) → 
 added history old new call is = ap (replayed history) is ∙ replayed-push history old call
 
 -- a record to which it was added where there was room
-pub noted : (history : History) (old new : List DiskCall) (call : DiskCall) → (new ≡ old ++ call ∷ []) ⊎ (new ≡ old) → (replayed history new ≡ after_call (replayed history old) call) ⊎ (replayed history new ≡ replayed history old)
-noted history old new call (inl is) = inl (added history old new call is)
-noted history old new call (inr is) = inr (ap (replayed history) is)
+pub noted : (history : History) (old new : List DiskCall) (plan later : PlanState) (call : DiskCall) → IsNoted call old new plan later
+    → (replayed history new ≡ after_call (replayed history old) call) ⊎ (replayed history new ≡ replayed history old)
+noted history old new plan later call (inl is) = inl (added history old new call is.0)
+noted history old new plan later call (inr is) = inr (ap (replayed history) is.0)
+
+-- a call that was to fail came to its moment, or that it did not is counted
+pub failed_recorded : (was : MemDiskState) (calls : List DiskCall) (mid plan : PlanState) (call : DiskCall) (moment : Moment)
+    → (let before = replayed (begun_with was.start) was.calls in (after_call before call).now ∷ (after_call before call).past ≡ moment ∷ before.now ∷ before.past)
+    → mid.unrecorded ≡ was.plan.unrecorded → (true ≡ true → IsToFail was.plan) → IsNoted call was.calls calls mid plan
+    → IsRecorded was moment (record was { calls = calls; plan = plan })
+failed_recorded was calls mid plan call moment is same fails (inl came) = record {
+  failed = λ to_fail. inl (ap (λ (h : History). h.now ∷ h.past) (added (begun_with was.start) was.calls calls call came.0) ∙ is, ap (λ (p : PlanState). p.unrecorded) came.1 ∙ same);
+  passed = λ passes. absurd (passes (fails refl));
+}
+failed_recorded was calls mid plan call moment is same fails (inr none) = record {
+  failed = λ to_fail. inr (ap (λ (p : PlanState). p.unrecorded) none.1 ∙ ap one_more same);
+  passed = λ passes. absurd (passes (fails refl));
+}
+
+-- a call that was not to fail leaves nothing out
+pub passed_recorded : (was new : MemDiskState) (moment : Moment) → (IsToFail was.plan → false ≡ true) → new.plan.unrecorded ≡ was.plan.unrecorded → IsRecorded was moment new
+passed_recorded was new moment fails same = record { failed = λ to_fail. absurd (false≢true (fails to_fail)); passed = λ passes. same }
 
 -- a write that begins at or before the end
 pub after_write : (history : History) (at : ℕ) (bytes : List ℕ) → at ≤ length history.seen → after_call history (Wrote at bytes) ≡ goes_to history (overwritten history.seen at bytes) (written_at at (length bytes) history.now)

@@ -1,7 +1,8 @@
 -- A disk in memory by the record of its calls.
 use Rattle.std.specs.Prelude.{◌≡◌, ◌⊎◌, ℕ, ◌<◌, Bool, true, false, List, [], ◌∷◌, length, take, nat_le, slice_index, if◌then◌else◌, Option, Some, None, ◌++◌, ◌-◌, ◌^◌}
-use Rattle.bec_disk.specs.Disk.{DiskState, Moment, synced_at, written_at, cut_at, overwritten}
-use Rattle.bec_disk.specs.Plan.{PlanState, new_plan}
+use Rattle.bec_bytes.specs.Causes.{one_more}
+use Rattle.bec_disk.specs.Disk.{DiskState, Moment, moments, synced_at, written_at, cut_at, overwritten}
+use Rattle.bec_disk.specs.Plan.{PlanState, IsToFail, new_plan, one_unrecorded}
 use Rattle.bec_disk.specs.Slot.{Slot}
 use Rattle.bec_disk.specs.declared.disk_call.DiskCall.{DiskCall}
 use Rattle.bec_disk.specs.declared.disk_call.DiskCall.TheVariants.{Wrote, WriteFailed, Cut, CutFailed, Settled}
@@ -61,6 +62,16 @@ made_disk slot = record { slot = Some slot; start = []; calls = []; plan = new_p
 -- The disk as it is handed out as this part: what it reads as counts as synced, and its count is 0.
 abbrev pub settled_as : Slot → MemDiskState → MemDiskState
 settled_as slot disk = record { slot = Some slot; start = disk.start; calls = disk.calls ++ Settled ∷ []; plan = record disk.plan { faults = 0 } }
+
+-- A call that was to fail is in the record, or there was no memory for it there, which the plan counts.
+abbrev pub IsNoted : DiskCall → List DiskCall → List DiskCall → PlanState → PlanState → Type 0
+IsNoted call old new plan later = ((new ≡ old ++ call ∷ []) × (later ≡ plan)) ⊎ ((new ≡ old) × (later ≡ one_unrecorded plan))
+
+-- A write or a cut that was to fail comes to this moment all the same. Only where there is no memory for its record does it
+-- count for nothing, and that is counted.
+pub record IsRecorded (old : MemDiskState) (moment : Moment) (new : MemDiskState) : Type 0 where
+  pub failed : IsToFail old.plan → ((moments (state_of new) ≡ moment ∷ moments (state_of old)) × (new.plan.unrecorded ≡ old.plan.unrecorded)) ⊎ (new.plan.unrecorded ≡ one_more old.plan.unrecorded)
+  pub passed : (IsToFail old.plan → ⊥) → new.plan.unrecorded ≡ old.plan.unrecorded
 
 -- The disk with its next call as the first.
 abbrev pub numbered_anew : MemDiskState → MemDiskState

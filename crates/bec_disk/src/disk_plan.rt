@@ -1,6 +1,6 @@
 ghost use Rattle.std.specs.Prelude.{◌≡◌, ◌⊎◌, ◌≤◌, ◌<◌, ◌↔◌, IsErr, IsTrue, Contains, false, true};
 ghost use Rattle.bec_bytes.specs.Causes.{one_more, faults_after};
-ghost use Rattle.bec_disk.specs.Plan.{IsToFail, new_plan};
+ghost use Rattle.bec_disk.specs.Plan.{IsToFail, new_plan, one_unrecorded};
 
 use crate::disk_fault::DiskFault;
 use std::marker::Model;
@@ -13,6 +13,7 @@ pub struct DiskPlan {
     calls: u64,
     faults: u64,
     starved: bool,
+    unrecorded: u64,
 }
 
 impl Model for DiskPlan {
@@ -26,6 +27,7 @@ impl Model for DiskPlan {
       calls = p.calls;
       faults = p.faults;
       starved = p.starved;
+      unrecorded = p.unrecorded;
     } };
 }
 
@@ -43,6 +45,7 @@ impl DiskPlan {
             calls: 0,
             faults: 0,
             starved: false,
+            unrecorded: 0,
         }
     }
 
@@ -68,6 +71,13 @@ impl DiskPlan {
         self.starved = true;
         self.faults = self.faults.saturating_add(1);
         DiskFault
+    }
+
+    /// Counts a write or a cut that was to fail and is not in the record.
+    pub fn miss(&mut self)
+        ensures { self.new ≡ one_unrecorded self.old }
+    {
+        self.unrecorded = self.unrecorded.saturating_add(1);
     }
 
     /// Plans the calls from the next one on, which is the first: those that `failing` numbers, and those behind the number
@@ -99,6 +109,13 @@ impl DiskPlan {
         ensures { result ≡ self.now.faults }
     {
         self.faults
+    }
+
+    /// How many writes and cuts that were to fail are not in the record.
+    pub fn unrecorded(&self) -> u64
+        ensures { result ≡ self.now.unrecorded }
+    {
+        self.unrecorded
     }
 
     /// Whether a call failed that was not to fail.

@@ -1,9 +1,9 @@
 ghost use Rattle.std.specs.Prelude.{◌≡◌, ◌⊎◌, ◌≤◌, ◌+◌, ◌-◌, ◌^◌, ◌++◌, ◌∷◌, [], Some, IsTrue, IfOk, OnOk, OnErr, length, take, drop};
 ghost use Rattle.std.specs.Bool.{OnTrue, OnFalse};
 ghost use Rattle.bec_bytes.specs.Causes.{HasCause};
-ghost use Rattle.bec_disk.specs.Disk.{IsImage, Writes, Cuts, Syncs, overwritten};
+ghost use Rattle.bec_disk.specs.Disk.{IsImage, Writes, Cuts, Syncs, cut_at, overwritten, written_at};
 ghost use Rattle.bec_disk.specs.Plan.{Counts, new_plan};
-ghost use Rattle.bec_disk.specs.Replay.{state_of};
+ghost use Rattle.bec_disk.specs.Replay.{IsNoted, IsRecorded, state_of};
 
 use crate::disk::Disk;
 use crate::disk_call::DiskCall;
@@ -118,10 +118,17 @@ impl MemDisk {
 
     /// Plans the disk's calls from the next one on, which is the first: those that `failing` numbers, and those behind the
     /// number `last`, fail. What is read, the images and the count stay.
-    pub fn arm(&mut self, failing: Vec<u32>, last: u64)
+    pub fn plan_calls(&mut self, failing: Vec<u32>, last: u64)
         ensures { self.new ≡ armed failing.items last self.old }
     {
         self.plan.arm(failing, last);
+    }
+
+    /// Lets the disk pass so many calls more and then fail every call. What is read, the images and the count stay.
+    pub fn arm(&mut self, calls: u32)
+        ensures { self.new ≡ armed [] calls self.old }
+    {
+        self.plan.arm(Vec::new(self.alloc), u64::from(calls));
     }
 
     /// How many faults it counted.
@@ -145,6 +152,13 @@ impl MemDisk {
         ensures { result ≡ self.now.plan.starved }
     {
         self.plan.starved()
+    }
+
+    /// How many writes and cuts that were to fail count for nothing, since there was no memory for their record.
+    pub fn unrecorded(&self) -> u64
+        ensures { result ≡ self.now.plan.unrecorded }
+    {
+        self.plan.unrecorded()
     }
 
     /// A disk with one of the images that a crash may leave now: for 0 what was synced last, for 1
@@ -185,6 +199,7 @@ impl Disk for MemDisk {
     fn len(&mut self) -> Result<u64, DiskFault>
         ensures value { IfOk result (λ n. n ≡ length (state_of self.old).seen) }
         ensures same { state_of self.new ≡ state_of self.old }
+        ensures recorded { self.new.plan.unrecorded ≡ self.old.plan.unrecorded }
         ensures cause { HasCause self.old.plan.faults self.new.plan.faults result }
         ensures counts { Counts self.old.plan result self.new.plan }
     {
@@ -196,6 +211,7 @@ impl Disk for MemDisk {
         requires { IsTrue (state_of self.old).tells → at + length buf.old ≤ length (state_of self.old).seen }
         ensures bytes { OnOk result (buf.new ≡ take (length buf.old) (drop at (state_of self.old).seen)) }
         ensures same { state_of self.new ≡ state_of self.old }
+        ensures recorded { self.new.plan.unrecorded ≡ self.old.plan.unrecorded }
         ensures cause { HasCause self.old.plan.faults self.new.plan.faults result }
         ensures counts { Counts self.old.plan result self.new.plan }
     {
@@ -207,13 +223,15 @@ impl Disk for MemDisk {
     fn write_at(&mut self, at: u64, bytes: &[u8]) -> Result<(), DiskFault>
         requires { IsTrue (state_of self.old).tells → at ≤ length (state_of self.old).seen }
         ensures writes { Writes (state_of self.old) at bytes.now result (state_of self.new) }
+        ensures recorded { IsRecorded self.old (written_at at (length bytes.now) (state_of self.old).now) self.new }
         ensures unseen { OnErr result ((state_of self.new).seen ≡ (state_of self.old).seen) }
         ensures cause { HasCause self.old.plan.faults self.new.plan.faults result }
         ensures counts { Counts self.old.plan result self.new.plan }
     {
         if let Err(fault) = self.plan.count_call() {
-            note(
+            note_failed(
                 &mut self.calls,
+                &mut self.plan,
                 DiskCall::WriteFailed(at, bytes.len() as u64),
             );
             return Err(fault);
@@ -227,12 +245,13 @@ impl Disk for MemDisk {
     fn cut(&mut self, len: u64) -> Result<(), DiskFault>
         requires { IsTrue (state_of self.old).tells → len ≤ length (state_of self.old).seen }
         ensures cuts { Cuts (state_of self.old) len result (state_of self.new) }
+        ensures recorded { IsRecorded self.old (cut_at len (state_of self.old).now) self.new }
         ensures unseen { OnErr result ((state_of self.new).seen ≡ (state_of self.old).seen) }
         ensures cause { HasCause self.old.plan.faults self.new.plan.faults result }
         ensures counts { Counts self.old.plan result self.new.plan }
     {
         if let Err(fault) = self.plan.count_call() {
-            note(&mut self.calls, DiskCall::CutFailed(len));
+            note_failed(&mut self.calls, &mut self.plan, DiskCall::CutFailed(len));
             return Err(fault);
         }
         if !note(&mut self.calls, DiskCall::Cut(len)) {
@@ -244,6 +263,7 @@ impl Disk for MemDisk {
 
     fn sync(&mut self) -> Result<(), DiskFault>
         ensures syncs { Syncs (state_of self.old) result (state_of self.new) }
+        ensures recorded { self.new.plan.unrecorded ≡ self.old.plan.unrecorded }
         ensures cause { HasCause self.old.plan.faults self.new.plan.faults result }
         ensures counts { Counts self.old.plan result self.new.plan }
     {
@@ -259,9 +279,18 @@ impl Disk for MemDisk {
 fn note(calls: &mut Vec<DiskCall>, call: DiskCall) -> bool
     ensures added { OnTrue result (calls.new.items ≡ calls.old.items ++ call ∷ []) }
     ensures full { OnFalse result (calls.new.items ≡ calls.old.items) }
-    ensures either { (calls.new.items ≡ calls.old.items ++ call ∷ []) ⊎ (calls.new.items ≡ calls.old.items) }
 {
     calls.push(call).is_ok()
+}
+
+/// Adds a call that was to fail to the record. Where there is no room, the plan counts it.
+fn note_failed(calls: &mut Vec<DiskCall>, plan: &mut DiskPlan, call: DiskCall)
+    ensures noted { IsNoted call calls.old.items calls.new.items plan.old plan.new }
+    ensures faults { plan.new.faults ≡ plan.old.faults }
+{
+    if !note(calls, call) {
+        plan.miss();
+    }
 }
 
 /// Writes in place, and adds the call to the record.

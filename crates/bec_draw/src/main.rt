@@ -1,15 +1,16 @@
-//! The program `bec_draw`: it draws the hash graph of a bundle, for `bec draw`.
+//! The program `bec_draw`: it draws the hash graph of a bundle, for `bec draw`, and lists its updates, for `bec log`.
 //!
-//! It reads a bundle from standard input and prints its picture as SVG, or as DOT with the word `--dot`. Refusals and statuses are
-//! those of `bec dump`. If there are more updates than are drawn, it says so on standard error.
+//! It reads a bundle from standard input and prints its picture as SVG, or as DOT with the word `--dot`; or its log, with the word
+//! `--rows` and with what each update did. Refusals and statuses are those of `bec dump`. If there are more updates than are drawn, it says so on standard error.
 #![tactic(auto)]
 
-mod drawing;
+mod asked;
+mod looking;
 
-use crate::drawing::{left_out_line, run};
+use crate::looking::{left_out_line, run};
 use bec_bytes::write_all_of;
 use bec_host::{HostSink, HostSource, hold_closed_streams, words};
-use node_commands::status::{OUT_OF_MEMORY, STREAM_FAULT};
+use outcomes::status::{OUT_OF_MEMORY, STREAM_FAULT};
 use std::process::ExitCode;
 
 fn main(rt: HostRuntime) -> ExitCode {

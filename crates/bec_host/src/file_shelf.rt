@@ -3,6 +3,7 @@ ghost use Rattle.bec_bytes.specs.Causes.{Rose};
 ghost use Rattle.bec_host.specs.Untold.{untold_shelf};
 
 use crate::file_disk::FileDisk;
+use crate::key_file::{has_key, is_for_others, make_way, stands_at};
 use bec_bytes::Counted;
 use bec_disk::{DiskFault, Part, Shelf};
 use std::alloc::{AllocError, Global};
@@ -16,8 +17,9 @@ use std::{fs, io};
 /// A shelf over directories. A part is a file of its directory, locked while it is handed out (`flock`), so that two
 /// programs never have one part at once: the second one's `find` fails. The system gives the lock up when a process ends.
 ///
-/// Only a file that is not there is an absent part; whatever else keeps it from being opened is a fault. Each fault is told in a
-/// sentence to `explain`, as a rule standard error, whose own errors are passed over.
+/// Only a file that is not there is an absent part, and one that is there for a key and has none yet; whatever else keeps it from being
+/// opened is a fault. Each fault is told in a sentence to `explain`, as a rule standard error, whose own errors are passed over. So is a key
+/// that others may read.
 #[derive(Drop)]
 pub struct FileShelf<R: Files<File = File> + AllocGlobal + Drop, W: Write + Drop> {
     /// The system's files.
@@ -54,6 +56,17 @@ impl<R: Files<File = File> + AllocGlobal + Drop, W: Write + Drop> FileShelf<R, W
         self.faults = self.faults.saturating_add(1);
         DiskFault
     }
+
+    /// Tells of a file of a key that others may read.
+    fn warn(&mut self, part: Part, path: &str, file: &Option<File>)
+        ensures { self.new.faults ≡ self.old.faults }
+    {
+        if let Some(file) = file {
+            if part == Part::Key && is_for_others(file) {
+                let _ = writeln!(self.explain, "bec: {path}: others may read this key");
+            }
+        }
+    }
 }
 
 /// The name of a part's file.
@@ -77,28 +90,42 @@ fn path_of(alloc: Global, dir: &str, part: Part) -> Result<String, AllocError> {
 }
 
 /// Opens a file and locks it. Where another process has it, that is an error.
-fn open_locked<R: Files<File = File>>(rt: &R, how: &OpenOptions, path: &str) -> io::Result<File> {
+pub(crate) fn open_locked<R: Files<File = File>>(
+    rt: &R,
+    how: &OpenOptions,
+    path: &str,
+) -> io::Result<File> {
     let file = how.open(rt, path)?;
     file.try_lock()?;
     Ok(file)
 }
 
-/// Opens a part where it exists. What an earlier process wrote and did not sync is synced.
-fn open_part<R: Files<File = File>>(rt: &R, path: &str) -> io::Result<Option<File>> {
+/// Opens a part where it exists. What an earlier process wrote and did not sync is synced; so is the name of a file in which nothing stands,
+/// since the process that made it may have stopped before. A file of a key that has none yet is no part.
+fn open_part<R: Files<File = File>>(
+    rt: &R,
+    dir: &str,
+    part: Part,
+    path: &str,
+) -> io::Result<Option<File>> {
     let mut how = OpenOptions::new();
     how.read(true).write(true);
-    match open_locked(rt, &how, path) {
-        Ok(file) => {
-            file.sync_all()?;
-            Ok(Some(file))
-        }
-        Err(error) if error.kind() == ErrorKind::NotFound => Ok(None),
-        Err(error) => Err(error),
+    let file = match open_locked(rt, &how, path) {
+        Ok(file) => file,
+        Err(error) if error.kind() == ErrorKind::NotFound => return Ok(None),
+        Err(error) => return Err(error),
+    };
+    if part == Part::Key && !has_key(&file)? {
+        return Ok(None);
     }
+    file.sync_all()?;
+    if file.metadata()?.len() == 0 {
+        sync_names(rt, dir)?;
+    }
+    Ok(Some(file))
 }
 
-/// Makes an empty part, and its directory where there is none. A key is for its owner alone. The file and its name are
-/// synced, so that the part exists after a crash.
+/// Makes an empty part, and its directory where there is none. The file and its name are synced, so that the part exists after a crash.
 fn make_part<R: Files<File = File> + AllocGlobal>(
     rt: &R,
     dir: &str,
@@ -106,15 +133,32 @@ fn make_part<R: Files<File = File> + AllocGlobal>(
     path: &str,
 ) -> io::Result<File> {
     make_directories(rt, dir)?;
-    let mut how = OpenOptions::new();
-    how.read(true).write(true).create_new(true);
-    if part == Part::Key {
-        how.mode(0o600);
-    }
-    let file = open_locked(rt, &how, path)?;
+    let file = match part {
+        Part::Key => make_key(rt, path)?,
+        _ => open_locked(rt, &for_new(), path)?,
+    };
     file.sync_all()?;
     sync_names(rt, dir)?;
     Ok(file)
+}
+
+/// Makes the empty file of a key, for its owner alone, in place of one that has no key.
+fn make_key<R: Files<File = File>>(rt: &R, path: &str) -> io::Result<File> {
+    make_way(rt, path)?;
+    let mut how = for_new();
+    how.mode(0o600);
+    let file = open_locked(rt, &how, path)?;
+    if !stands_at(rt, &file, path)? {
+        return Err(io::Error::from(ErrorKind::WouldBlock));
+    }
+    Ok(file)
+}
+
+/// How a file is made that is not there.
+fn for_new() -> OpenOptions {
+    let mut how = OpenOptions::new();
+    how.read(true).write(true).create_new(true);
+    how
 }
 
 /// Makes a directory and those above it, where there are none.
@@ -168,8 +212,11 @@ impl<R: Files<File = File> + AllocGlobal + Drop, W: Write + Drop> Shelf for File
         let Ok(path) = path_of(self.rt.alloc(), dir, part) else {
             return Err(self.fault(dir, &io::Error::from(ErrorKind::OutOfMemory)));
         };
-        match open_part(&self.rt, path.as_str()) {
-            Ok(found) => Ok(found.map(|file| FileDisk::new(file, path))),
+        match open_part(&self.rt, dir, part, path.as_str()) {
+            Ok(found) => {
+                self.warn(part, path.as_str(), &found);
+                Ok(found.map(|file| FileDisk::new(file, path)))
+            }
             Err(error) => Err(self.fault(path.as_str(), &error)),
         }
     }

@@ -2,7 +2,7 @@
 //! `bec_disk` see them.
 //!
 //! [`words`] is the command line, [`HostSource`] reads a reader of std through a buffer, and [`HostSink`] writes to a writer of std.
-//! [`TcpNet`] listens and dials, and hands each connection out as a [`TcpLink`]. [`FileShelf`] hands the
+//! [`TcpNet`] listens and dials, and hands each connection out as a [`TcpLink`] over a [`PatientStream`], which waits only so long for its peer. [`FileShelf`] hands the
 //! files of directories out as [`FileDisk`]s. Each counts the errors that it meets, retries a call
 //! that a signal interrupted, and fails at any other error. [`hold_closed_streams`] keeps a file from getting the
 //! descriptor of a standard stream that is closed.
@@ -19,14 +19,19 @@
 //! that it passes on, unchanged and in order, the bytes that the reader gave or the writer took.
 #![tactic(auto)]
 
+mod accepting;
 mod arguments;
 mod closed_streams;
 mod file_disk;
 mod file_shelf;
+mod frame_ends;
 mod hash_rng;
 mod host_sink;
 mod host_source;
+mod key_file;
 mod laws;
+mod patience;
+mod patient_stream;
 mod tcp_link;
 mod tcp_net;
 
@@ -38,5 +43,6 @@ pub use hash_rng::HashRng;
 pub use host_sink::HostSink;
 pub use host_source::HostSource;
 pub use laws::blocks_follow_one_another;
+pub use patient_stream::PatientStream;
 pub use tcp_link::TcpLink;
 pub use tcp_net::TcpNet;

@@ -3,29 +3,29 @@ ghost use Rattle.bec_bytes.specs.Causes.{HasCause, one_more, faults_after};
 ghost use Rattle.bec_links.specs.Nets.{HandsOut, after_try, taken_back};
 ghost use Rattle.bec_host.specs.Untold.{NetCounts, after_refusal, untold_net};
 
+use crate::accepting::accept_next;
+use crate::patient_stream::PatientStream;
 use crate::tcp_link::TcpLink;
 use bec_bytes::{Counted, Failed};
 use bec_links::Net;
+use std::alloc::AllocError;
 use std::io;
 use std::io::{ErrorKind, Write};
 use std::marker::Model;
-use std::net::{TcpListener, TcpStream};
+use std::net::{TcpListener, TcpStream, ToSocketAddrs};
 use std::time::Duration;
 
-/// How many seconds a read or a write may wait.
-const TIME_LIMIT: u64 = 60;
+/// How many seconds each address of a name is called for.
+const CALL_LIMIT: u64 = 20;
 
 /// A net over TCP. It tells nothing of the bytes.
 ///
 /// An address is an IP address or a host's name, and a port. Each call that fails is told in a sentence
 /// to `explain`, as a rule standard error, whose own errors are passed over.
 #[derive(Drop)]
-pub struct TcpNet<
-    R: std::net::Net<Listener = TcpListener, Stream = TcpStream> + Drop,
-    W: Write + Drop,
-> {
-    /// The system's network.
-    rt: R,
+pub struct TcpNet<W: Write + Drop> {
+    /// The system's network and its clock.
+    rt: HostRuntime,
     /// Where faults are explained.
     explain: W,
     /// Where connections are waited for.
@@ -38,19 +38,15 @@ pub struct TcpNet<
     faults: u64,
 }
 
-impl<R: std::net::Net<Listener = TcpListener, Stream = TcpStream> + Drop, W: Write + Drop> Model
-    for TcpNet<R, W> {
+impl<W: Write + Drop> Model for TcpNet<W> {
     ghost Value = { NetCounts };
 
     ghost view = { λ n. record { out = n.out; failed = n.failed; faults = n.faults } };
 }
 
-impl<R: std::net::Net<Listener = TcpListener, Stream = TcpStream> + Drop, W: Write + Drop> TcpNet<
-    R,
-    W,
-> {
+impl<W: Write + Drop> TcpNet<W> {
     /// A net over the system's network, which waits at no address yet.
-    pub fn new(rt: R, explain: W) -> TcpNet<R, W>
+    pub fn new(rt: HostRuntime, explain: W) -> TcpNet<W>
         ensures { result ≡ record { out = 0; failed = 0; faults = 0 } }
     {
         TcpNet {
@@ -67,8 +63,8 @@ impl<R: std::net::Net<Listener = TcpListener, Stream = TcpStream> + Drop, W: Wri
     fn hand_out(
         &mut self,
         place: &str,
-        connected: io::Result<TcpLink<TcpStream>>,
-    ) -> Result<TcpLink<TcpStream>, Failed>
+        connected: io::Result<TcpLink<PatientStream<HostRuntime>>>,
+    ) -> Result<TcpLink<PatientStream<HostRuntime>>, Failed>
         requires { IfOk connected (λ link. link.faults ≡ 0) }
         ensures handed { OnOk result (self.new ≡ record self.old { out = self.old.out + 1 }) }
         ensures clean { IfOk result (λ link. link.faults ≡ 0) }
@@ -99,42 +95,37 @@ impl<R: std::net::Net<Listener = TcpListener, Stream = TcpStream> + Drop, W: Wri
 
 /// A link over a connection, whose small pieces go out at once: the sides answer one another, so that
 /// a piece that waits for more would cost each turn a delay.
-fn link_over(stream: TcpStream) -> io::Result<TcpLink<TcpStream>>
+pub(crate) fn link_over(
+    clock: &HostRuntime,
+    stream: TcpStream,
+) -> io::Result<TcpLink<PatientStream<HostRuntime>>>
     ensures { IfOk result (λ link. link.faults ≡ 0) }
 {
     stream.set_nodelay(true)?;
-    stream.set_read_timeout(Some(Duration::from_secs(TIME_LIMIT)))?;
-    stream.set_write_timeout(Some(Duration::from_secs(TIME_LIMIT)))?;
-    Ok(TcpLink::new(stream))
+    match clock.clone() {
+        Ok(clock) => Ok(TcpLink::new(PatientStream::new(stream, clock))),
+        Err(AllocError) => Err(io::Error::from(ErrorKind::OutOfMemory)),
+    }
 }
 
-/// Waits for a connection. One that its peer gave up before it was taken is passed over.
-fn accept_next(listener: &Option<TcpListener>) -> io::Result<TcpLink<TcpStream>>
-    ensures { IfOk result (λ link. link.faults ≡ 0) }
-{
-    let Some(listener) = listener else {
-        return Err(io::Error::from(ErrorKind::NotConnected));
-    };
-    for _ in 0..u64::MAX {
-        match listener.accept() {
-            Ok((stream, _)) => return link_over(stream),
-            Err(error)
-                if error.kind() == ErrorKind::Interrupted
-                    || error.kind() == ErrorKind::ConnectionAborted => {}
-            Err(error) => return Err(error),
+/// Connects to an address. Each that a name has is called for a while, one after the other, until one answers.
+fn call(rt: &HostRuntime, address: &str) -> io::Result<TcpStream> {
+    let mut refused = io::Error::from(ErrorKind::NotFound);
+    for place in address.to_socket_addrs(rt)? {
+        match TcpStream::connect_timeout(rt, &place, Duration::from_secs(CALL_LIMIT)) {
+            Ok(stream) => return Ok(stream),
+            Err(error) => refused = error,
         }
     }
-    Err(io::Error::from(ErrorKind::Interrupted))
+    Err(refused)
 }
 
-impl<R: std::net::Net<Listener = TcpListener, Stream = TcpStream> + Drop, W: Write + Drop> Counted
-    for TcpNet<R, W> {
+impl<W: Write + Drop> Counted for TcpNet<W> {
     ghost faults = { λ n. n.faults };
 }
 
-impl<R: std::net::Net<Listener = TcpListener, Stream = TcpStream> + Drop, W: Write + Drop> Net
-    for TcpNet<R, W> {
-    type L = TcpLink<TcpStream>;
+impl<W: Write + Drop> Net for TcpNet<W> {
+    type L = TcpLink<PatientStream<HostRuntime>>;
 
     ghost state = { untold_net };
 
@@ -150,17 +141,20 @@ impl<R: std::net::Net<Listener = TcpListener, Stream = TcpStream> + Drop, W: Wri
         }
     }
 
-    fn accept(&mut self) -> Result<TcpLink<TcpStream>, Failed> {
-        let connected = accept_next(&self.listener);
+    fn accept(&mut self) -> Result<TcpLink<PatientStream<HostRuntime>>, Failed> {
+        let connected = accept_next(&self.rt, &mut self.explain, &self.listener);
         self.hand_out("accept", connected)
     }
 
-    fn dial(&mut self, address: &str) -> Result<TcpLink<TcpStream>, Failed> {
-        let connected = TcpStream::connect(&self.rt, address).and_then(link_over);
+    fn dial(&mut self, address: &str) -> Result<TcpLink<PatientStream<HostRuntime>>, Failed> {
+        let connected = match call(&self.rt, address) {
+            Ok(stream) => link_over(&self.rt, stream),
+            Err(error) => Err(error),
+        };
         self.hand_out(address, connected)
     }
 
-    fn put_back(&mut self, link: TcpLink<TcpStream>) {
+    fn put_back(&mut self, link: TcpLink<PatientStream<HostRuntime>>) {
         if link.is_faulty() {
             self.faults = self.faults.saturating_add(1);
         }

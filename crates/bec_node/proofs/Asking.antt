@@ -1,5 +1,5 @@
 -- What words that ask for a net ask for.
-use Rattle.std.proofs.Common.{◌≡◌, ℕ, ◌<◌, ◌≤◌, List, [], append-nil, Option, None, Some, sym, arith}
+use Rattle.std.proofs.Common.{ℕ, List, [], append-nil, Option, None, Some, sym, arith}
 use Rattle.std.specs.Io.KnownBytes.{Appends}
 use Rattle.command_words.specs.NetRequests.{AsksNet, NetText, for_serve, for_sync}
 use Rattle.bec_node.specs.Run.{AsksForSome}

@@ -1,8 +1,3 @@
 pub mod Asking
-pub mod Concluding
-pub mod Dialling
-pub mod Open
-pub mod OpenServing
-pub mod Remembering
-pub mod Serving
-pub mod Sharing
+pub mod Ending
+pub mod Only

@@ -1,5 +1,2 @@
-pub mod Meetings
-pub mod Open
-pub mod OpenServing
 pub mod Run
-pub mod Words
+pub mod RunAlone

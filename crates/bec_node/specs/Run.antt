@@ -1,5 +1,5 @@
 -- What a run of the program does, with what it does over a net.
-use Rattle.std.specs.Prelude.{◌≡◌, ℕ, ◌<◌, List, [], map, Result, Ok, Err, String, Option}
+use Rattle.std.specs.Prelude.{◌≡◌, ℕ, ◌<◌, List, [], map, String}
 use Rattle.std.specs.declared.alloc.Global.{Global}
 use Rattle.std.specs.Io.KnownBytes.{Appends}
 use Rattle.std.specs.String.{string_bytes}
@@ -7,21 +7,15 @@ use Rattle.bec_disk.specs.Shelf.{ShelfState}
 use Rattle.bec_links.specs.Nets.{NetState}
 use Rattle.command_words.specs.NetRequests.{AsksNet, NetText, sync, serve}
 use Rattle.schema_verdict.specs.declared.status.TheConstants.{OUT_OF_MEMORY}
-use Rattle.node_commands.specs.Outcome.{Ends}
-use Rattle.schema_verdict.specs.Written.{Puts}
-use Rattle.node_commands.specs.Outside.{IsUntouched, Outside}
+use Rattle.outcomes.specs.Outside.{IsUntouched, Outside}
 use Rattle.schema_verdict.specs.Written.{SinkState}
-use Rattle.node_commands.specs.Run.{Runs}
-use Rattle.bec_node.specs.Meetings.{ServesStore, SyncsStore, Told}
+use Rattle.bec_node.specs.RunAlone.{Runs}
+use Rattle.net_commands.specs.Meetings.{ServesStore, SyncsStore}
+use Rattle.outcomes.specs.Told.{Told, EndsTold}
 
 -- the words ask for this of a net
 abbrev pub IsNetCommand : NetText → List (String Global) → Type 0
 IsNetCommand request words = AsksNet (map string_bytes words) request
-
--- What is told is written whole, with its status, or a front of it where the sink failed; a refusal may lack memory for its lines.
-abbrev pub EndsTold : ℕ → ℕ → Option (List ℕ) → Option (List ℕ) → Told → ℕ → Type 0
-EndsTold old new held held_new (Ok reply) status = Puts old new held held_new reply.status reply.text.items status
-EndsTold old new held held_new (Err refusal) status = Ends old new held held_new (Err refusal) status
 
 -- A net: the net itself, what it tells, and its count of faults.
 pub record NetSeen (N : Type 0) : Type 0 where

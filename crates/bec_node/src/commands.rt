@@ -1,4 +1,235 @@
-//! The commands that meet other nodes.
+//! The commands that need no net, each by a function of its own, for a caller that knows the first word.
 
-pub(crate) mod serve;
-pub(crate) mod sync;
+ghost use Rattle.std.specs.Prelude.{IsTrue, codes};
+ghost use Rattle.outcomes.specs.Outside.{outside};
+ghost use Rattle.bec_node.specs.RunAlone.{HasFirstWord, Runs};
+ghost use Rattle.key_directory.specs.Parts.{IsHome};
+
+use crate::alone::run_alone;
+use bec_bytes::{Sink, Source};
+use bec_disk::Shelf;
+use rand_core::Rng;
+use record_check::Verifier;
+use std::alloc::Global;
+
+/// The command `heads [DIR]`: prints the ids of the heads of the update stream that it reads, or of the directory's store,
+/// rising, one per line in lower-case hexadecimal; or the line for what is refused. The first word has to be `heads`.
+///
+/// Its clause is that of [`run_alone`] for these words.
+pub fn command_heads<V: Verifier, H: Shelf, R: Rng, S: Source, K: Sink>(
+    verifier: &V,
+    alloc: Global,
+    words: &[String],
+    shelf: &mut H,
+    random: &mut R,
+    input: &mut S,
+    out: &mut K,
+) -> u8
+    requires first { HasFirstWord (codes "heads") words.now }
+    requires home { IsTrue (H.state shelf.old).tells → IsHome (H.state shelf.old) }
+    ensures { Runs words.now
+        (outside S.left S.faults H.state H.faults R.stream input.old shelf.old random.old) (outside S.left S.faults H.state H.faults R.stream input.new shelf.new random.new)
+        (record { held = K.held out.old; faults = K.faults out.old }) (record { held = K.held out.new; faults = K.faults out.new }) result }
+{
+    run_alone(verifier, alloc, words, shelf, random, input, out)
+}
+
+/// The command `check`: reads the text of a schema, and prints `confluent` where each invariant survives merging, or the
+/// line for its first fault, or the lines for the first invariant that does not survive, with a history that breaks it. The
+/// first word has to be `check`.
+///
+/// Its clause is that of [`run_alone`] for these words.
+pub fn command_check<V: Verifier, H: Shelf, R: Rng, S: Source, K: Sink>(
+    verifier: &V,
+    alloc: Global,
+    words: &[String],
+    shelf: &mut H,
+    random: &mut R,
+    input: &mut S,
+    out: &mut K,
+) -> u8
+    requires first { HasFirstWord (codes "check") words.now }
+    requires home { IsTrue (H.state shelf.old).tells → IsHome (H.state shelf.old) }
+    ensures { Runs words.now
+        (outside S.left S.faults H.state H.faults R.stream input.old shelf.old random.old) (outside S.left S.faults H.state H.faults R.stream input.new shelf.new random.new)
+        (record { held = K.held out.old; faults = K.faults out.old }) (record { held = K.held out.new; faults = K.faults out.new }) result }
+{
+    run_alone(verifier, alloc, words, shelf, random, input, out)
+}
+
+/// The command `dump [DIR] [--json]`: prints the tables of the bundle that it reads, or of the directory's store, each visible
+/// row on a line, and the updates that do nothing, or all of it as one JSON object; or the line for what is refused. The first
+/// word has to be `dump`.
+///
+/// Its clause is that of [`run_alone`] for these words.
+pub fn command_dump<V: Verifier, H: Shelf, R: Rng, S: Source, K: Sink>(
+    verifier: &V,
+    alloc: Global,
+    words: &[String],
+    shelf: &mut H,
+    random: &mut R,
+    input: &mut S,
+    out: &mut K,
+) -> u8
+    requires first { HasFirstWord (codes "dump") words.now }
+    requires home { IsTrue (H.state shelf.old).tells → IsHome (H.state shelf.old) }
+    ensures { Runs words.now
+        (outside S.left S.faults H.state H.faults R.stream input.old shelf.old random.old) (outside S.left S.faults H.state H.faults R.stream input.new shelf.new random.new)
+        (record { held = K.held out.old; faults = K.faults out.old }) (record { held = K.held out.new; faults = K.faults out.new }) result }
+{
+    run_alone(verifier, alloc, words, shelf, random, input, out)
+}
+
+/// The command `init DIR`: makes a store in a directory that has none, of the schema that it reads, and prints the id of its
+/// database. The first word has to be `init`.
+///
+/// Its clause is that of [`run_alone`] for these words.
+pub fn command_init<V: Verifier, H: Shelf, R: Rng, S: Source, K: Sink>(
+    verifier: &V,
+    alloc: Global,
+    words: &[String],
+    shelf: &mut H,
+    random: &mut R,
+    input: &mut S,
+    out: &mut K,
+) -> u8
+    requires first { HasFirstWord (codes "init") words.now }
+    requires home { IsTrue (H.state shelf.old).tells → IsHome (H.state shelf.old) }
+    ensures { Runs words.now
+        (outside S.left S.faults H.state H.faults R.stream input.old shelf.old random.old) (outside S.left S.faults H.state H.faults R.stream input.new shelf.new random.new)
+        (record { held = K.held out.old; faults = K.faults out.old }) (record { held = K.held out.new; faults = K.faults out.new }) result }
+{
+    run_alone(verifier, alloc, words, shelf, random, input, out)
+}
+
+/// The command `keygen DIR [--height 5,10,15] [--width 1,2,4,8]`: draws a key for a directory that has none, and prints its
+/// public key in lower-case hexadecimal. The first word has to be `keygen`.
+///
+/// Its clause is that of [`run_alone`] for these words.
+pub fn command_keygen<V: Verifier, H: Shelf, R: Rng, S: Source, K: Sink>(
+    verifier: &V,
+    alloc: Global,
+    words: &[String],
+    shelf: &mut H,
+    random: &mut R,
+    input: &mut S,
+    out: &mut K,
+) -> u8
+    requires first { HasFirstWord (codes "keygen") words.now }
+    requires home { IsTrue (H.state shelf.old).tells → IsHome (H.state shelf.old) }
+    ensures { Runs words.now
+        (outside S.left S.faults H.state H.faults R.stream input.old shelf.old random.old) (outside S.left S.faults H.state H.faults R.stream input.new shelf.new random.new)
+        (record { held = K.held out.old; faults = K.faults out.old }) (record { held = K.held out.new; faults = K.faults out.new }) result }
+{
+    run_alone(verifier, alloc, words, shelf, random, input, out)
+}
+
+/// The command `apply DIR`: makes an update of the transaction that it reads, by the key of the directory, adds it to the
+/// directory's store, and prints its id. The first word has to be `apply`.
+///
+/// Its clause is that of [`run_alone`] for these words.
+pub fn command_apply<V: Verifier, H: Shelf, R: Rng, S: Source, K: Sink>(
+    verifier: &V,
+    alloc: Global,
+    words: &[String],
+    shelf: &mut H,
+    random: &mut R,
+    input: &mut S,
+    out: &mut K,
+) -> u8
+    requires first { HasFirstWord (codes "apply") words.now }
+    requires home { IsTrue (H.state shelf.old).tells → IsHome (H.state shelf.old) }
+    ensures { Runs words.now
+        (outside S.left S.faults H.state H.faults R.stream input.old shelf.old random.old) (outside S.left S.faults H.state H.faults R.stream input.new shelf.new random.new)
+        (record { held = K.held out.old; faults = K.faults out.old }) (record { held = K.held out.new; faults = K.faults out.new }) result }
+{
+    run_alone(verifier, alloc, words, shelf, random, input, out)
+}
+
+/// The command `join DIR`: joins the heads of the directory's store by an update without operations, and prints its id, or
+/// nothing where there are fewer than two heads. The first word has to be `join`.
+///
+/// Its clause is that of [`run_alone`] for these words.
+pub fn command_join<V: Verifier, H: Shelf, R: Rng, S: Source, K: Sink>(
+    verifier: &V,
+    alloc: Global,
+    words: &[String],
+    shelf: &mut H,
+    random: &mut R,
+    input: &mut S,
+    out: &mut K,
+) -> u8
+    requires first { HasFirstWord (codes "join") words.now }
+    requires home { IsTrue (H.state shelf.old).tells → IsHome (H.state shelf.old) }
+    ensures { Runs words.now
+        (outside S.left S.faults H.state H.faults R.stream input.old shelf.old random.old) (outside S.left S.faults H.state H.faults R.stream input.new shelf.new random.new)
+        (record { held = K.held out.old; faults = K.faults out.old }) (record { held = K.held out.new; faults = K.faults out.new }) result }
+{
+    run_alone(verifier, alloc, words, shelf, random, input, out)
+}
+
+/// The command `export DIR [--updates]`: prints the bundle of the directory's store, its schema and its updates in the order
+/// of arrival, or the updates alone. The first word has to be `export`.
+///
+/// Its clause is that of [`run_alone`] for these words.
+pub fn command_export<V: Verifier, H: Shelf, R: Rng, S: Source, K: Sink>(
+    verifier: &V,
+    alloc: Global,
+    words: &[String],
+    shelf: &mut H,
+    random: &mut R,
+    input: &mut S,
+    out: &mut K,
+) -> u8
+    requires first { HasFirstWord (codes "export") words.now }
+    requires home { IsTrue (H.state shelf.old).tells → IsHome (H.state shelf.old) }
+    ensures { Runs words.now
+        (outside S.left S.faults H.state H.faults R.stream input.old shelf.old random.old) (outside S.left S.faults H.state H.faults R.stream input.new shelf.new random.new)
+        (record { held = K.held out.old; faults = K.faults out.old }) (record { held = K.held out.new; faults = K.faults out.new }) result }
+{
+    run_alone(verifier, alloc, words, shelf, random, input, out)
+}
+
+/// The command `query DIR TEXT [--json]`: prints what a query asks of the directory's store, a line for each row with its
+/// columns apart by a tab, or one JSON object; or the line for what is refused. The first word has to be `query`.
+///
+/// Its clause is that of [`run_alone`] for these words.
+pub fn command_query<V: Verifier, H: Shelf, R: Rng, S: Source, K: Sink>(
+    verifier: &V,
+    alloc: Global,
+    words: &[String],
+    shelf: &mut H,
+    random: &mut R,
+    input: &mut S,
+    out: &mut K,
+) -> u8
+    requires first { HasFirstWord (codes "query") words.now }
+    requires home { IsTrue (H.state shelf.old).tells → IsHome (H.state shelf.old) }
+    ensures { Runs words.now
+        (outside S.left S.faults H.state H.faults R.stream input.old shelf.old random.old) (outside S.left S.faults H.state H.faults R.stream input.new shelf.new random.new)
+        (record { held = K.held out.old; faults = K.faults out.old }) (record { held = K.held out.new; faults = K.faults out.new }) result }
+{
+    run_alone(verifier, alloc, words, shelf, random, input, out)
+}
+
+/// The command `merge DIR OTHER`: reconciles the stores of two directories, and prints how many updates each gained, and in how many turns. The first word
+/// has to be `merge`.
+///
+/// Its clause is that of [`run_alone`] for these words.
+pub fn command_merge<V: Verifier, H: Shelf, R: Rng, S: Source, K: Sink>(
+    verifier: &V,
+    alloc: Global,
+    words: &[String],
+    shelf: &mut H,
+    random: &mut R,
+    input: &mut S,
+    out: &mut K,
+) -> u8
+    requires first { HasFirstWord (codes "merge") words.now }
+    requires home { IsTrue (H.state shelf.old).tells → IsHome (H.state shelf.old) }
+    ensures { Runs words.now
+        (outside S.left S.faults H.state H.faults R.stream input.old shelf.old random.old) (outside S.left S.faults H.state H.faults R.stream input.new shelf.new random.new)
+        (record { held = K.held out.old; faults = K.faults out.old }) (record { held = K.held out.new; faults = K.faults out.new }) result }
+{
+    run_alone(verifier, alloc, words, shelf, random, input, out)
+}

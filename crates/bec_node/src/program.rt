@@ -1,18 +1,17 @@
 ghost use Rattle.std.specs.Prelude.{IsTrue};
 ghost use Rattle.command_words.specs.Seen.{net_seen};
-ghost use Rattle.node_commands.specs.Outside.{outside};
-ghost use Rattle.store_directory.specs.Stores.{IsHome};
+ghost use Rattle.outcomes.specs.Outside.{outside};
+ghost use Rattle.key_directory.specs.Parts.{IsHome};
 ghost use Rattle.bec_node.specs.Run.{AsksForSome, DoesOver, RunsOver};
 
-use crate::commands::serve::serve_in;
-use crate::commands::sync::sync_in;
-use crate::reply::{Reply, end};
+use crate::alone::run_alone;
 use bec_bytes::{Sink, Source};
 use bec_disk::Shelf;
 use bec_links::Net;
 use command_words::{NetRequest, net_request_in};
-use node_commands::status::OUT_OF_MEMORY;
-use node_commands::{Refusal, run_alone};
+use net_commands::{serve_in, sync_in};
+use outcomes::status::OUT_OF_MEMORY;
+use outcomes::{Refusal, Reply, end};
 use rand_core::Rng;
 use record_check::ManyThreads;
 use std::alloc::Global;

@@ -8,7 +8,7 @@ use Rattle.command_words.specs.Requests.{RequestText, heads_app, dump_app, direc
 use Rattle.command_words.specs.NetRequests.{NetText, sync, serve, sync_app, serve_app, AsksNet, for_sync, for_serve}
 use Rattle.command_words.specs.NetCommands.{net_request_by, net_request_of, serve_by, serve_of, session_count, sync_by, sync_of}
 use Rattle.command_words.specs.Words.{rows_given}
-use Rattle.command_words.proofs.Rules.{chained, either, mapped, rows_are, takes}
+use Rattle.command_words.proofs.Rules.{chained, either, mapped, named, rows_are, takes}
 
 -- ---- numbers of sessions
 
@@ -45,8 +45,7 @@ spelled_by (digit ∷ other ∷ more) n e = absurd (cc)
 
 -- by the first word
 first_is : (name : Text) (app : App) (words : List Text) → Takes name app words → net_request_of words ≡ net_request_by name words
-first_is name app words h =
-    ap (λ (ws : List Text). option_and_then (λ first. net_request_by first words) (slice_get ws 0)) h.named
+first_is name app words h = named net_request_by name app words h
 
 pub by_rule : (words : List Text) (request : NetText) → AsksNet words request → net_request_of words ≡ Some request
 by_rule words request (for_sync directory address h d a) =

@@ -12,15 +12,18 @@ use Rattle.command_words.specs.Words.{is_set, is_taken, rows_given}
 -- ---- from the rules
 
 -- by the first word
+pub named : {A : Type 0} (read : Text → List Text → Option A) (name : Text) (app : App) (words : List Text) → Takes name app words
+    → option_and_then (λ first. read first words) (slice_get words 0) ≡ read name words
+named read name app words h = ap (λ (ws : List Text). option_and_then (λ first. read first words) (slice_get ws 0)) h.named
+
 first_is : (name : Text) (app : App) (words : List Text) → Takes name app words → request_of words ≡ request_by name words
-first_is name app words h =
-    ap (λ (ws : List Text). option_and_then (λ first. request_by first words) (slice_get ws 0)) h.named
+first_is name app words h = named request_by name app words h
 
 pub rows_are : (name : Text) (app : App) (words : List Text) → Takes name app words → rows_given app words ≡ Some (matches_of app words)
 rows_are name app words h = ap (λ (b : Bool). cond b (Some (matches_of app words)) None) h.taken
 
 -- a directory that a command takes alone
-alone : (name : Text) (words : List Text) (directory : Text) → Takes name (directory_app name) words → given (directory_app name) words (codes "DIR") ≡ Some directory
+pub alone : (name : Text) (words : List Text) (directory : Text) → Takes name (directory_app name) words → given (directory_app name) words (codes "DIR") ≡ Some directory
     → directory_of name words ≡ Some directory
 alone name words directory h g = ap (option_and_then (first_of (codes "DIR"))) (rows_are name (directory_app name) words h) ∙ g
 
@@ -94,14 +97,14 @@ from_dump words rest request n e =
     let t = takes (codes "dump") dump_app words rest m.0 n m.1 in
     subst (λ (r : RequestText). Asks words r) (ap dump_by (sym t.1) ∙ m.2) (for_dump t.0)
 
-from_one : (name : Text) (make : Text → RequestText) (words rest : List Text) (request : RequestText) → words ≡ name ∷ rest
-    → ((directory : Text) → Takes name (directory_app name) words → given (directory_app name) words (codes "DIR") ≡ Some directory → Asks words (make directory))
-    → option_map make (directory_of name words) ≡ Some request → Asks words request
-from_one name make words rest request n rule e =
+pub from_one : {A : Type 0} (IsAsked : A → Type 0) (name : Text) (make : Text → A) (words rest : List Text) (request : A) → words ≡ name ∷ rest
+    → ((directory : Text) → Takes name (directory_app name) words → given (directory_app name) words (codes "DIR") ≡ Some directory → IsAsked (make directory))
+    → option_map make (directory_of name words) ≡ Some request → IsAsked request
+from_one IsAsked name make words rest request n rule e =
     let m = mapped make (directory_of name words) request e in
     let d = chained (first_of (codes "DIR")) (rows_given (directory_app name) words) m.0 m.1 in
     let t = takes name (directory_app name) words rest d.0 n d.1 in
-    subst (λ (r : RequestText). Asks words r) m.2 (rule m.0 t.0 (ap (first_of (codes "DIR")) (sym t.1) ∙ d.2))
+    subst IsAsked m.2 (rule m.0 t.0 (ap (first_of (codes "DIR")) (sym t.1) ∙ d.2))
 
 from_check : (words rest : List Text) (request : RequestText) → words ≡ codes "check" ∷ rest → check_of words ≡ Some request → Asks words request
 from_check words rest request n e =
@@ -179,10 +182,10 @@ told first rest request =
     either first (codes "heads") rest request _ _ (λ n. from_heads words rest request n)
     (either first (codes "check") rest request _ _ (λ n. from_check words rest request n)
     (either first (codes "dump") rest request _ _ (λ n. from_dump words rest request n)
-    (either first (codes "init") rest request _ _ (λ n. from_one (codes "init") init words rest request n for_init)
+    (either first (codes "init") rest request _ _ (λ n. from_one (λ (r : RequestText). Asks words r) (codes "init") init words rest request n for_init)
     (either first (codes "keygen") rest request _ _ (λ n. from_keygen words rest request n)
-    (either first (codes "apply") rest request _ _ (λ n. from_one (codes "apply") apply words rest request n for_apply)
-    (either first (codes "join") rest request _ _ (λ n. from_one (codes "join") join words rest request n for_join)
+    (either first (codes "apply") rest request _ _ (λ n. from_one (λ (r : RequestText). Asks words r) (codes "apply") apply words rest request n for_apply)
+    (either first (codes "join") rest request _ _ (λ n. from_one (λ (r : RequestText). Asks words r) (codes "join") join words rest request n for_join)
     (either first (codes "export") rest request _ _ (λ n. from_export words rest request n)
     (either first (codes "query") rest request _ _ (λ n. from_query words rest request n)
     (either first (codes "merge") rest request _ _ (λ n. from_merge words rest request n) (λ e. absurd (cc)))))))))))

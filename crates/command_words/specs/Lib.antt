@@ -1,6 +1,12 @@
+pub mod AuditCommands
+pub mod AuditRequests
 pub mod Commands
 pub mod NetCommands
 pub mod NetRequests
 pub mod Requests
+pub mod SealCommands
+pub mod SealRequests
 pub mod Seen
+pub mod WatchCommands
+pub mod WatchRequests
 pub mod Words

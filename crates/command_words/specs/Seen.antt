@@ -1,11 +1,19 @@
 -- What a contract sees of a request.
 use Rattle.std.specs.Prelude.{option_map}
+use Rattle.command_words.specs.AuditRequests.{AuditText, audit, confirm}
 use Rattle.command_words.specs.Requests.{RequestText, heads, check, dump, init, keygen, apply, join, export, query, merge}
 use Rattle.command_words.specs.NetRequests.{NetText, sync, serve}
+use Rattle.command_words.specs.SealRequests.{SealText, hsskey, seal, unseal}
+use Rattle.command_words.specs.WatchRequests.{WatchText, watch}
+use Rattle.command_words.specs.declared.audit_request.AuditRequest.{AuditRequest}
+use Rattle.command_words.specs.declared.audit_request.AuditRequest.TheVariants.{Audit, Confirm}
 use Rattle.command_words.specs.declared.request.Request.{Request}
 use Rattle.command_words.specs.declared.request.Request.TheVariants.{Heads, Check, Dump, Init, Keygen, Apply, Join, Export, Query, Merge}
 use Rattle.command_words.specs.declared.net_request.NetRequest.{NetRequest}
 use Rattle.command_words.specs.declared.net_request.NetRequest.TheVariants.{Sync, Serve}
+use Rattle.command_words.specs.declared.seal_request.SealRequest.{SealRequest}
+use Rattle.command_words.specs.declared.seal_request.SealRequest.TheVariants.{Hsskey, Seal, Unseal}
+use Rattle.command_words.specs.declared.watch_request.WatchRequest.{WatchRequest}
 
 abbrev pub request_seen : Request → RequestText
 request_seen (Heads directory) = heads (option_map (λ d. d.now) directory)
@@ -23,3 +31,18 @@ request_seen (Merge first second) = merge first.now second.now
 abbrev pub net_seen : NetRequest → NetText
 net_seen (Sync directory address) = sync directory.now address.now
 net_seen (Serve directory address sessions) = serve directory.now address.now sessions
+
+-- of one about seals
+abbrev pub seal_seen : SealRequest → SealText
+seal_seen (Hsskey directory height width) = hsskey directory.now height width
+seal_seen (Seal directory) = seal directory.now
+seal_seen (Unseal key signature) = unseal key signature.items
+
+-- of one to watch a query
+abbrev pub watch_seen : WatchRequest → WatchText
+watch_seen request = watch request.directory.now request.text.now request.every
+
+-- and of one about keys that signed twice
+abbrev pub audit_seen : AuditRequest → AuditText
+audit_seen (Audit directory) = audit directory.now
+audit_seen Confirm = confirm

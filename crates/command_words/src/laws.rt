@@ -6,6 +6,12 @@ ghost use Rattle.command_words.specs.Requests.{RequestText, Asks};
 ghost use Rattle.command_words.specs.Commands.{request_of};
 ghost use Rattle.command_words.specs.NetRequests.{AsksNet, NetText};
 ghost use Rattle.command_words.specs.NetCommands.{net_request_of};
+ghost use Rattle.command_words.specs.SealRequests.{AsksSeal, SealText};
+ghost use Rattle.command_words.specs.SealCommands.{seal_request_of};
+ghost use Rattle.command_words.specs.WatchRequests.{AsksWatch, WatchText};
+ghost use Rattle.command_words.specs.WatchCommands.{watch_request_of};
+ghost use Rattle.command_words.specs.AuditRequests.{AsksAudit, AuditText};
+ghost use Rattle.command_words.specs.AuditCommands.{audit_request_of};
 
 /// The request that is read from words is the one that the rules tell.
 pub fn requests_are_by_rule()
@@ -30,4 +36,55 @@ pub fn one_net_request()
 /// Words that ask for something over a net ask for nothing without one.
 pub fn no_other_request()
     ensures { (words : List Text) (request : RequestText) (other : NetText) → Asks words request → AsksNet words other → ⊥ }
+{}
+
+/// The request about seals that is read from words is the one that the rules tell.
+pub fn seal_requests_are_by_rule()
+    ensures { (words : List Text) (request : SealText) → AsksSeal words request ↔ (seal_request_of words ≡ Some request) }
+{}
+
+/// Words ask for at most one thing about seals.
+pub fn one_seal_request()
+    ensures { (words : List Text) (request other : SealText) → AsksSeal words request → AsksSeal words other → request ≡ other }
+{}
+
+/// The request to watch a query that is read from words is the one that the rules tell.
+pub fn watch_requests_are_by_rule()
+    ensures { (words : List Text) (request : WatchText) → AsksWatch words request ↔ (watch_request_of words ≡ Some request) }
+{}
+
+/// Words ask to watch at most one query, in one way.
+pub fn one_watch_request()
+    ensures { (words : List Text) (request other : WatchText) → AsksWatch words request → AsksWatch words other → request ≡ other }
+{}
+
+/// The request about keys that signed twice that is read from words is the one that the rules tell.
+pub fn audit_requests_are_by_rule()
+    ensures { (words : List Text) (request : AuditText) → AsksAudit words request ↔ (audit_request_of words ≡ Some request) }
+{}
+
+/// Words ask for at most one thing about keys that signed twice.
+pub fn one_audit_request()
+    ensures { (words : List Text) (request other : AuditText) → AsksAudit words request → AsksAudit words other → request ≡ other }
+{}
+
+/// Words that ask for something about seals ask for nothing else.
+pub fn nothing_beside_seals()
+    ensures alone { (words : List Text) (request : RequestText) (other : SealText) → Asks words request → AsksSeal words other → ⊥ }
+    ensures over_net { (words : List Text) (request : NetText) (other : SealText) → AsksNet words request → AsksSeal words other → ⊥ }
+    ensures watched { (words : List Text) (request : WatchText) (other : SealText) → AsksWatch words request → AsksSeal words other → ⊥ }
+    ensures audited { (words : List Text) (request : AuditText) (other : SealText) → AsksAudit words request → AsksSeal words other → ⊥ }
+{}
+
+/// Words that ask to watch a query ask for nothing else.
+pub fn nothing_beside_watching()
+    ensures alone { (words : List Text) (request : RequestText) (other : WatchText) → Asks words request → AsksWatch words other → ⊥ }
+    ensures over_net { (words : List Text) (request : NetText) (other : WatchText) → AsksNet words request → AsksWatch words other → ⊥ }
+    ensures audited { (words : List Text) (request : AuditText) (other : WatchText) → AsksAudit words request → AsksWatch words other → ⊥ }
+{}
+
+/// Words that ask for something about keys that signed twice ask for nothing else.
+pub fn nothing_beside_audits()
+    ensures alone { (words : List Text) (request : RequestText) (other : AuditText) → Asks words request → AsksAudit words other → ⊥ }
+    ensures over_net { (words : List Text) (request : NetText) (other : AuditText) → AsksNet words request → AsksAudit words other → ⊥ }
 {}

@@ -2,8 +2,10 @@
 //!
 //! [`request_in`] reads all words, of which the first names the command, and answers the [`Request`] with its arguments,
 //! or that the words are no command. [`net_request_in`] does so for the two commands that need a net, and answers the
-//! [`NetRequest`]. No words ask for both. Arguments are read by one simple command of `clap`: `--x V` and `--x=V` are the
-//! same, options may stand among the positions, and `--` ends them. Each option stands once at most.
+//! [`NetRequest`]; [`seal_request_in`] for those about seals, [`watch_request_in`] for the one that watches a query, and
+//! [`audit_request_in`] for those about keys that signed twice. No words ask for things of two of these kinds. Arguments are read
+//! by one simple command of `clap`: `--x V` and `--x=V` are the same, options may stand among the positions, and `--` ends them.
+//! Each option stands once at most.
 //!
 //! ```text
 //! heads [DIR]
@@ -19,13 +21,24 @@
 //!
 //! sync DIR ADDR
 //! serve DIR ADDR --sessions 1..8
+//!
+//! hsskey DIR [--height 5,10] [--width 1,2,4,8]
+//! seal DIR
+//! unseal KEY SIG
+//!
+//! watch DIR TEXT [--every 1..4096]
+//!
+//! audit DIR
+//! confirm
 //! ```
 //!
-//! Which words are which request is told by rules (`Asks` in specs/Requests, `AsksNet` in specs/NetRequests). It opens
+//! Which words are which request is told by rules (`Asks` in specs/Requests, `AsksNet` in specs/NetRequests, and so on). It opens
 //! nothing: whether a directory is there, or anyone at an address, is not judged here.
 #![tactic(auto)]
 
 mod argument;
+mod audit_request;
+mod audit_requests;
 mod given;
 mod laws;
 mod net_request;
@@ -33,11 +46,24 @@ mod net_requests;
 mod reading;
 mod request;
 mod requests;
+mod seal_request;
+mod seal_requests;
+mod watch_request;
+mod watch_requests;
 
+pub use audit_request::AuditRequest;
+pub use audit_requests::audit_request_in;
 pub use laws::{
-    net_requests_are_by_rule, no_other_request, one_net_request, one_request, requests_are_by_rule,
+    audit_requests_are_by_rule, net_requests_are_by_rule, no_other_request, nothing_beside_audits,
+    nothing_beside_seals, nothing_beside_watching, one_audit_request, one_net_request, one_request,
+    one_seal_request, one_watch_request, requests_are_by_rule, seal_requests_are_by_rule,
+    watch_requests_are_by_rule,
 };
 pub use net_request::NetRequest;
 pub use net_requests::net_request_in;
 pub use request::Request;
 pub use requests::request_in;
+pub use seal_request::SealRequest;
+pub use seal_requests::seal_request_in;
+pub use watch_request::WatchRequest;
+pub use watch_requests::watch_request_in;

@@ -122,7 +122,7 @@ static DIRECTORY: [Argument<'static>; 1] = [Argument {
 }];
 
 /// The directory of a command that takes nothing else.
-fn directory_of<'a>(
+pub(crate) fn directory_of<'a>(
     alloc: Global,
     name: &'a str,
     words: &'a [String],
@@ -226,7 +226,7 @@ fn height_of(word: Option<&str>) -> Option<LmsType>
 }
 
 /// The width that a word writes, which is 4 where there is none.
-fn width_of(word: Option<&str>) -> Option<OtsType>
+pub(crate) fn width_of(word: Option<&str>) -> Option<OtsType>
     ensures { result ≡ width_of (option_map (λ w. w.now) word.entry) }
 {
     let Some(word) = word else {

@@ -9,10 +9,10 @@ use Rattle.update_model.specs.Node.{NodeData}
 use Rattle.table_model.specs.Nodes.{node_of, Agree, holds, IsClosed, IsNext, IsSameSet, union}
 use Rattle.table_model.specs.Visible.{Rules}
 use Rattle.table_model.specs.Invariants.{Claim, claim_holds, satisfies, shown_in}
-use Rattle.table_model.specs.Confluence.{breaks, confirms, is_closed}
+use Rattle.confluence_laws.specs.Confluence.{breaks, confirms, is_closed}
 use Rattle.table_model.proofs.Order.{equal_ids, held-found, ids_equal}
-use Rattle.table_model.proofs.Sides.{test_from_closed}
-use Rattle.table_model.proofs.Union.{node_of-union, union_closed}
+use Rattle.confluence_laws.proofs.Sides.{test_from_closed}
+use Rattle.confluence_laws.proofs.Union.{node_of-union, union_closed}
 use Rattle.confluence_checker.specs.Parting.{besides, parted, shared}
 
 -- ---- what is shared

@@ -9,7 +9,7 @@ use Rattle.schema.specs.declared.column.Column.{Column}
 use Rattle.schema.specs.declared.column.ColumnKind.{ColumnKind}
 use Rattle.schema.specs.declared.table_def.TableDef.{TableDef}
 use Rattle.schema.specs.Columns.{target_of}
-use Rattle.schema.specs.Schemas.{Meaning}
+use Rattle.schema.specs.Data.{Meaning}
 use Rattle.table_model.specs.Visible.{TableRow, Effects, same_row, shows, cascade_refs, is_nulled, visible_to, visible_rows, shown, shown_rows, shown_value, shown_values, table_of, rules_with, bare_rules}
 use Rattle.table_model.proofs.Order.{any_weaker}
 use Rattle.table_model.proofs.Standing.{row_from_same}

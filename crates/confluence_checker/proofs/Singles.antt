@@ -4,7 +4,7 @@ use Rattle.std.proofs.lemmas.Bool.{ne_eqb}
 use Rattle.table_model.specs.declared.invariant.InvariantKind.TheVariants as kind
 use Rattle.schema.specs.declared.table_def.TableDef.{TableDef}
 use Rattle.table_model.specs.Invariants.{AtMost, Declared, each_from, unique_declared, reference_declared, check_declared, match_declared, table_declared}
-use Rattle.schema.specs.Schemas.{Meaning}
+use Rattle.schema.specs.Data.{Meaning}
 use Rattle.confluence_checker.specs.Forms.{IsInvariantOf}
 use Rattle.table_model.specs.Visible.{rules_with}
 

@@ -7,11 +7,11 @@ use Rattle.std.proofs.lemmas.List.Folds.{list_all-append, list_all-map}
 use Rattle.update_model.specs.Node.{NodeData}
 use Rattle.table_model.specs.declared.counterexample.Counterexample.{Counterexample}
 use Rattle.table_model.specs.declared.invariant.Invariant.{Invariant}
-use Rattle.table_model.specs.Confluence.{confirms, is_closed}
+use Rattle.confluence_laws.specs.Confluence.{confirms, is_closed}
 use Rattle.table_model.specs.Invariants.{Claim, Declared, claim_holds, claims_of, invariants_of, satisfies, shown_in}
 use Rattle.table_model.specs.Nodes.{IsClosed}
 use Rattle.table_model.specs.Visible.{Rules, TableRow}
-use Rattle.table_model.proofs.Confirmed.{closed_from_test}
+use Rattle.confluence_laws.proofs.Confirmed.{closed_from_test}
 use Rattle.confluence_checker.specs.declared.found.Found.{Found}
 use Rattle.confluence_checker.specs.Forms.{breaks_by, found_among, is_broken, is_kept, is_same, seen, start}
 use Rattle.confluence_checker.proofs.Goings.{found_append}

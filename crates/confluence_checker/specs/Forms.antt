@@ -7,7 +7,7 @@ use Rattle.update_model.specs.declared.row_name.RowName.{RowName}
 use Rattle.update_model.specs.Graph.{has}
 use Rattle.update_model.specs.Node.{NodeData}
 use Rattle.table_model.specs.declared.invariant.Invariant.{Invariant}
-use Rattle.table_model.specs.Confluence.{is_closed}
+use Rattle.confluence_laws.specs.Confluence.{is_closed}
 use Rattle.table_model.specs.declared.invariant.InvariantKind.{InvariantKind}
 use Rattle.table_model.specs.declared.invariant.InvariantKind.TheVariants as kind
 use Rattle.schema.specs.declared.table_def.TableDef.{TableDef}

@@ -7,7 +7,7 @@ use Rattle.schema.specs.declared.column.Column.{Column}
 use Rattle.schema.specs.declared.column.ColumnKind.{ColumnKind}
 use Rattle.schema.specs.declared.table_def.TableDef.{TableDef}
 use Rattle.schema.specs.Columns.{target_of}
-use Rattle.schema.specs.Schemas.{Meaning}
+use Rattle.schema.specs.Data.{Meaning}
 use Rattle.table_model.specs.Visible.{TableRow, Effects, is_nulled, table_of, visible_to, rules_with, bare_rules}
 use Rattle.confluence_checker.specs.Forms.{is_among}
 

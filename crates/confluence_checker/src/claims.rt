@@ -2,7 +2,7 @@
 
 ghost use Rattle.std.specs.Prelude.{◌≡◌, ◌==◌, ◌||◌, not, IfOk, IsTrue};
 ghost use Rattle.row_check.specs.Meaning.{value_at};
-ghost use Rattle.expression_text.specs.Trees.{holds_tree};
+ghost use Rattle.row_check.specs.Trees.{holds_tree};
 ghost use Rattle.table_model.specs.Invariants.{each_row, names_shown};
 ghost use Rattle.schema.specs.Sound.{IsSoundCheck};
 ghost use Rattle.table_model.specs.Verdicts.{in_table, matches_among};

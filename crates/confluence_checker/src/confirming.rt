@@ -1,7 +1,7 @@
 //! Whether a counterexample confirms.
 
 ghost use Rattle.std.specs.Prelude.{◌≡◌, ◌∷◌, ◌++◌, ◌&&◌, List, IfOk, OnOk, reverse};
-ghost use Rattle.table_model.specs.Confluence.{confirms, is_closed};
+ghost use Rattle.confluence_laws.specs.Confluence.{confirms, is_closed};
 ghost use Rattle.table_model.specs.Invariants.{Declared, claims_of, invariants_of, shown_in};
 ghost use Rattle.table_model.specs.Nodes.{IsClosed};
 ghost use Rattle.confluence_checker.specs.Forms.{IsInvariantOf, breaks_by, found_among, is_broken, is_kept, start};
@@ -13,10 +13,11 @@ use crate::ids::passes_closed;
 use crate::judging::judged;
 use crate::searching::found;
 use crate::visibility::shown_rows;
+use confluence_laws::shown_rows_fit;
 use row_check::{Checks, Native, Relation};
 use schema::Schema;
 use std::alloc::{AllocError, Global};
-use table_model::{Counterexample, Invariant, shown_rows_fit};
+use table_model::{Counterexample, Invariant};
 use update_model::Node;
 
 /// Equal nodes, those of one list and then those of another.

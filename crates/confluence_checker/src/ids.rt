@@ -4,7 +4,7 @@ ghost use Rattle.std.specs.Prelude.{◌≡◌, ◌↔◌, IsTrue, reverse, not, 
 ghost use Rattle.std.specs.List.{list_all};
 ghost use Rattle.update_model.specs.Entry.{same_id};
 ghost use Rattle.update_model.specs.Graph.{has};
-ghost use Rattle.table_model.specs.Confluence.{is_closed};
+ghost use Rattle.confluence_laws.specs.Confluence.{is_closed};
 ghost use Rattle.table_model.specs.Nodes.{holds, IsClosed};
 ghost use Rattle.table_model.specs.Visible.{same_row};
 ghost use Rattle.confluence_checker.specs.Forms.{is_among};

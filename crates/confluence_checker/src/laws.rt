@@ -3,13 +3,13 @@
 ghost use Rattle.std.specs.Prelude.{◌≡◌, ◌++◌, ◌∷◌, [], false, List, IsTrue};
 ghost use Rattle.update_model.specs.Node.{NodeData};
 ghost use Rattle.table_model.specs.declared.counterexample.Counterexample.{Counterexample};
-ghost use Rattle.table_model.specs.Confluence.{IsConfluent, confirms};
+ghost use Rattle.confluence_laws.specs.Confluence.{IsConfluent, confirms};
 ghost use Rattle.table_model.specs.Invariants.{Claim, claim_holds, satisfies, shown_in};
 ghost use Rattle.table_model.specs.Nodes.{Agree, IsClosed, union};
 ghost use Rattle.table_model.specs.Visible.{Rules};
 ghost use Rattle.confluence_checker.specs.Parting.{parted};
 
-use table_model::invariants_are_of_the_set;
+use confluence_laws::invariants_are_of_the_set;
 
 /// Two closed lists that agree may share updates. Where both satisfy an invariant and those before it, and their union breaks it,
 /// the counterexample confirms whose base is what both have.

@@ -4,7 +4,7 @@ ghost use Rattle.std.specs.Prelude.{◌≡◌, IfOk, ◌&&◌, not, ◌++◌, Is
 ghost use Rattle.std.specs.List.{list_all, list_any, AllByRecursion};
 ghost use Rattle.row_check.specs.Comparisons.{compares};
 ghost use Rattle.row_check.specs.Meaning.{value_at};
-ghost use Rattle.expression_text.specs.Trees.{holds_tree};
+ghost use Rattle.row_check.specs.Trees.{holds_tree};
 ghost use Rattle.schema.specs.Sound.{IsSoundCheck};
 ghost use Rattle.table_model.specs.Verdicts.{delete_reason, insert_reason, matches_among, matches_hold, same_author};
 ghost use Rattle.schema.specs.Checks.{checks_hold};

@@ -2,7 +2,7 @@
 
 ghost use Rattle.std.specs.Prelude.{◌≡◌, ◌<◌, ◌^◌, IfOk, List, []};
 ghost use Rattle.update_model.specs.Node.{NodeData};
-ghost use Rattle.schema.specs.Schemas.{Meaning};
+ghost use Rattle.schema.specs.Data.{Meaning};
 ghost use Rattle.table_model.specs.Verdicts.{delete_reason, verdict_after, verdict_on};
 ghost use Rattle.table_model.specs.Visible.{TableRow, rules_with, bare_rules};
 ghost use Rattle.confluence_checker.specs.Forms.{reason_against};

@@ -2,7 +2,7 @@
 
 ghost use Rattle.std.specs.Prelude.{◌≡◌, IfOk, OnOk, map, filter, ◌++◌, ◌&&◌};
 ghost use Rattle.std.specs.List.{list_all, list_any};
-ghost use Rattle.schema.specs.Schemas.{Meaning};
+ghost use Rattle.schema.specs.Data.{Meaning};
 ghost use Rattle.table_model.specs.Visible.{cascade_refs, same_row, shown_rows, shows, visible_rows, rules_with, bare_rules};
 ghost use Rattle.confluence_checker.specs.Forms.{is_among};
 ghost use Rattle.confluence_checker.specs.Seeing.{SeesAll, is_hidden, shown_by, shown_values_by, shown_row_by};

@@ -12,8 +12,8 @@ use Rattle.schema.specs.declared.table_def.TableDef.{TableDef}
 use Rattle.schema.specs.Columns.{target_of}
 use Rattle.table_model.specs.Visible.{Rules, table_of, is_cascade, bare_rules, rules_with}
 use Rattle.table_model.specs.Invariants.{Claim, Unique, AtMost, Refers, Check, Match, Declared, invariants_of}
-use Rattle.table_model.specs.Confluence.{cascade_targets, permanent_to, is_permanent, accepts, are_accepted}
-use Rattle.table_model.specs.Examples.{Item, Step, has_table, item_of, needed_tables, needed_but, for_each, need, base_of, twice_after, copies, step_by, next_step, path_by, path_from, path_items, item_naming, shared_of, restrict_example, example_of}
+use Rattle.confluence_laws.specs.Confluence.{cascade_targets, permanent_to, is_permanent, accepts, are_accepted}
+use Rattle.confluence_laws.specs.Examples.{Item, Step, has_table, item_of, needed_tables, needed_but, for_each, need, base_of, twice_after, copies, step_by, next_step, path_by, path_from, path_items, item_naming, shared_of, restrict_example, example_of}
 use Rattle.confluence_test.specs.Findings.{first_refused}
 use Rattle.confluence_test.proofs.Restricts.{sides_of, after_path}
 use Rattle.confluence_test.specs.Tests.{IsRefused}

@@ -3,7 +3,7 @@ use Rattle.std.proofs.Common.{◌≡◌, ℕ, ◌+◌, ◌==◌, ◌<◌, zero, 
 use Rattle.std.proofs.lemmas.List.{reverse-append, length-reverse, length-take-le}
 use Rattle.std.proofs.lemmas.List.Folds.{list_any-append}
 use Rattle.update_model.specs.Node.{NodeData}
-use Rattle.table_model.specs.Examples.{Item, has_table, name_in, row_numbered, chain, after, copies}
+use Rattle.confluence_laws.specs.Examples.{Item, has_table, name_in, row_numbered, chain, after, copies}
 use Rattle.confluence_test.proofs.Listing.{reverse_next}
 
 -- a test of any row, either way

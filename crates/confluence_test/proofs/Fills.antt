@@ -7,7 +7,7 @@ use Rattle.update_model.specs.declared.value.Value.TheVariants as value
 use Rattle.schema.specs.declared.column.Column.{Column}
 use Rattle.schema.specs.Columns.{target_of}
 use Rattle.table_model.specs.Visible.{Rules, table_of}
-use Rattle.table_model.specs.Examples.{Item, fill, filled, filled_but, is_skipped, item_of, item_naming, row_numbered}
+use Rattle.confluence_laws.specs.Examples.{Item, fill, filled, filled_but, is_skipped, item_of, item_naming, row_numbered}
 use Rattle.confluence_test.proofs.Listing.{drop_next}
 
 -- a list from an element on

@@ -3,7 +3,7 @@ use Rattle.std.proofs.Common.{◌≡◌, ℕ, ◌+◌, ◌-◌, ◌<◌, ◌≤�
 use Rattle.schema.specs.declared.column.Column.{Column}
 use Rattle.schema.specs.Columns.{target_of}
 use Rattle.table_model.specs.Visible.{Rules, table_of}
-use Rattle.table_model.specs.Examples.{Item, has_table, item_of, needed_by, needed_tables, needed_but, for_each, need, base_of}
+use Rattle.confluence_laws.specs.Examples.{Item, has_table, item_of, needed_by, needed_tables, needed_but, for_each, need, base_of}
 use Rattle.confluence_test.specs.Plans.{needed_at, all_of}
 use Rattle.confluence_test.proofs.Listing.{drop_next, drop_all}
 

@@ -5,7 +5,7 @@ use Rattle.std.proofs.lemmas.Bool.{ne_eqb, eqb-true, eqb-false}
 use Rattle.schema.specs.declared.table_def.TableDef.{TableDef}
 use Rattle.schema.specs.Sound.{AreTables}
 use Rattle.table_model.specs.Visible.{table_of, bare_rules}
-use Rattle.table_model.specs.Examples.{Item, has_table, item_of, needed_tables, needed_but, for_each, need}
+use Rattle.confluence_laws.specs.Examples.{Item, has_table, item_of, needed_tables, needed_but, for_each, need}
 use Rattle.confluence_test.specs.Plans.{AreOnce}
 use Rattle.confluence_test.proofs.Sounds.{sound_columns, low_but}
 use Rattle.confluence_test.proofs.Needing.{needed_plain_but}

@@ -8,8 +8,8 @@ use Rattle.schema.specs.declared.table_def.TableDef.{TableDef}
 use Rattle.schema.specs.Columns.{target_of}
 use Rattle.schema.specs.Sound.{IsSoundColumn, AreTables}
 use Rattle.table_model.specs.Visible.{Rules, table_of, is_cascade, bare_rules}
-use Rattle.table_model.specs.Confluence.{is_permanent}
-use Rattle.table_model.specs.Examples.{Item, Step, needed_but, for_each, need, step_by, next_step, path_by, path_from, path_items, item_naming, shared_of}
+use Rattle.confluence_laws.specs.Confluence.{is_permanent}
+use Rattle.confluence_laws.specs.Examples.{Item, Step, needed_but, for_each, need, step_by, next_step, path_by, path_from, path_items, item_naming, shared_of}
 use Rattle.confluence_test.specs.Plans.{permanent_at, SaysPermanent, AreBelow, step_to, or_later, next_step_by}
 use Rattle.confluence_test.proofs.Listing.{drop_next, drop_all, take_all, reverse_next}
 use Rattle.confluence_test.proofs.Needing.{each_of_both}

@@ -9,7 +9,7 @@ use Rattle.schema.specs.declared.table_def.TableDef.{TableDef}
 use Rattle.schema.specs.Columns.{target_of}
 use Rattle.schema.specs.Sound.{IsSoundColumn, AreTables}
 use Rattle.table_model.specs.Visible.{table_of, is_cascade, bare_rules}
-use Rattle.table_model.specs.Confluence.{cascade_target, cascade_targets, permanent_to, is_permanent}
+use Rattle.confluence_laws.specs.Confluence.{cascade_target, cascade_targets, permanent_to, is_permanent}
 use Rattle.confluence_test.specs.Plans.{permanent_at, keeps, all_keep, is_permanent_by}
 use Rattle.confluence_test.proofs.Sounds.{sound_columns, low_target}
 

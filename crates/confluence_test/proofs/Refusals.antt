@@ -2,12 +2,13 @@
 use Rattle.std.proofs.Common.{◌≡◌, ℕ, Bool, true, false, List, [], ◌∷◌, ◌++◌, sym, ap, subst, ◌∙◌}
 use Rattle.std.proofs.lemmas.Bool.{and_parts}
 use Rattle.table_model.specs.declared.counterexample.Counterexample.{Counterexample}
-use Rattle.schema.specs.declared.fault.SchemaKind.{SchemaKind}
+use Rattle.schema_text.specs.declared.fault.SchemaKind.{SchemaKind}
 use Rattle.table_model.specs.declared.invariant.Invariant.{Invariant}
-use Rattle.table_model.specs.Confluence.{accepts, are_accepted}
-use Rattle.table_model.specs.Examples.{example_of}
+use Rattle.confluence_laws.specs.Confluence.{accepts, are_accepted}
+use Rattle.confluence_laws.specs.Examples.{example_of}
 use Rattle.table_model.specs.Invariants.{Declared, invariants_of}
-use Rattle.schema.specs.Schemas.{Meaning, SchemaData, Declares, FirstFault}
+use Rattle.schema.specs.Data.{Meaning, SchemaData}
+use Rattle.schema_text.specs.Schemas.{Declares, FirstFault}
 use Rattle.table_model.specs.Visible.{Rules, rules_with}
 use Rattle.confluence_test.specs.Tests.{IsRefused}
 use Rattle.confluence_test.specs.declared.refusal.SchemaRefusal.{SchemaRefusal}

@@ -4,7 +4,7 @@ use Rattle.update_model.specs.declared.op.Op.TheVariants as op
 use Rattle.update_model.specs.Node.{NodeData}
 use Rattle.table_model.specs.declared.counterexample.Counterexample.{Counterexample}
 use Rattle.table_model.specs.Visible.{Rules}
-use Rattle.table_model.specs.Examples.{Item, Step, row_numbered, after, one_after, split_after, item_naming, path_from, path_items, shared_of, restrict_example}
+use Rattle.confluence_laws.specs.Examples.{Item, Step, row_numbered, after, one_after, split_after, item_naming, path_from, path_items, shared_of, restrict_example}
 
 -- what stands after these shared rows and all rows of the base
 abbrev pub sides_of : Rules → ℕ → ℕ → (shared items : List Item) → Counterexample

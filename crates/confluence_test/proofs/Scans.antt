@@ -15,7 +15,7 @@ use Rattle.schema.specs.Sound.{IsSoundColumn, AreTables}
 use Rattle.schema.specs.Numbers.{no_table}
 use Rattle.table_model.specs.Visible.{Rules, table_of, bare_rules}
 use Rattle.table_model.specs.Invariants.{Refers, Declared, each_from, unique_declared, at_most_declared, refers_declared, reference_declared, check_declared, match_declared, table_declared}
-use Rattle.table_model.specs.Confluence.{accepts}
+use Rattle.confluence_laws.specs.Confluence.{accepts}
 use Rattle.confluence_test.specs.declared.finding.Finding.{Finding}
 use Rattle.confluence_test.specs.Plans.{permanent_at, SaysPermanent}
 use Rattle.confluence_test.specs.Findings.{declared_of, is_refused, first_refused, accepts_to, accepts_by, refused_by, dangling}

@@ -7,7 +7,7 @@ use Rattle.schema.specs.declared.column.ColumnKind.{ColumnKind}
 use Rattle.schema.specs.declared.column.ColumnKind.TheVariants as kind
 use Rattle.schema.specs.declared.table_def.TableDef.{TableDef}
 use Rattle.schema.specs.Columns.{target_of}
-use Rattle.table_model.specs.Examples.{needed_by, needed_but, is_skipped}
+use Rattle.confluence_laws.specs.Examples.{needed_by, needed_but, is_skipped}
 use Rattle.schema.specs.Sound.{IsSoundKind, IsSoundColumn, AreTables}
 use Rattle.schema.specs.Numbers.{no_table}
 use Rattle.table_model.specs.Visible.{table_of, bare_rules}

@@ -3,15 +3,16 @@ use Rattle.std.proofs.Common.{◌≡◌, ◌∙◌, ◌⊎◌, inl, inr, ℕ, tr
 use Rattle.std.proofs.lemmas.Bool.{and_parts}
 use Rattle.table_model.specs.declared.counterexample.Counterexample.{Counterexample}
 use Rattle.table_model.specs.declared.invariant.Invariant.{Invariant}
-use Rattle.table_model.specs.Confluence.{IsConfluent, accepts, are_accepted, confirms}
+use Rattle.confluence_laws.specs.Confluence.{IsConfluent, accepts, are_accepted, confirms}
 use Rattle.table_model.specs.Invariants.{Claim, Declared, claims_of, invariants_of}
-use Rattle.schema.specs.Schemas.{Meaning, SchemaData, Declares}
+use Rattle.schema.specs.Data.{Meaning, SchemaData}
+use Rattle.schema_text.specs.Schemas.{Declares}
 use Rattle.schema.specs.Sound.{AreTables}
 use Rattle.table_model.specs.Visible.{Rules, rules_with}
 use Rattle.confluence_test.specs.Tests.{IsRefused, IsTested}
-use Rattle.schema.specs.declared.fault.SchemaError.{SchemaError}
-use Rattle.schema.specs.declared.fault.SchemaError.TheVariants as errors
-use Rattle.schema.specs.Outcome.{HasCause}
+use Rattle.schema_text.specs.declared.fault.SchemaError.{SchemaError}
+use Rattle.schema_text.specs.declared.fault.SchemaError.TheVariants as errors
+use Rattle.schema_text.specs.Outcome.{HasCause}
 use Rattle.confluence_test.specs.declared.tested.Tested.TheVariants.{Accepted, Refused}
 use Rattle.confluence_test.specs.declared.refusal.SchemaRefusal.{SchemaRefusal}
 use Rattle.confluence_test.specs.declared.refusal.SchemaRefusal.TheVariants.{Memory, NotConfluent}

@@ -4,7 +4,7 @@ use Rattle.std.specs.List.{list_all}
 use Rattle.std.proofs.lemmas.Bool.{and_parts}
 use Rattle.schema.specs.declared.rules.UniqueRule.{UniqueRule}
 use Rattle.schema.specs.declared.table_def.TableDef.{TableDef}
-use Rattle.table_model.specs.Confluence.{accepts, are_accepted}
+use Rattle.confluence_laws.specs.Confluence.{accepts, are_accepted}
 use Rattle.table_model.specs.Invariants.{Declared, at_most_declared, check_declared, each_from, match_declared, reference_declared, table_declared, unique_declared}
 use Rattle.table_model.specs.Verdicts.{is_unlimited}
 use Rattle.table_model.specs.Visible.{Rules}

@@ -4,7 +4,7 @@ use Rattle.schema.specs.declared.action.Action.{Action}
 use Rattle.schema.specs.declared.action.Action.TheVariants as action
 use Rattle.table_model.specs.Visible.{Rules}
 use Rattle.table_model.specs.Invariants.{Claim, Unique, AtMost, Refers, Check, Match, Declared}
-use Rattle.table_model.specs.Confluence.{accepts}
+use Rattle.confluence_laws.specs.Confluence.{accepts}
 use Rattle.confluence_test.specs.Plans.{permanent_at}
 use Rattle.confluence_test.specs.declared.finding.Finding.{Finding}
 use Rattle.confluence_test.specs.declared.finding.Flaw.{Flaw}

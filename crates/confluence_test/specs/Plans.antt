@@ -6,8 +6,8 @@ use Rattle.schema.specs.declared.table_def.TableDef.{TableDef}
 use Rattle.schema.specs.declared.column.Column.{Column}
 use Rattle.schema.specs.Columns.{target_of}
 use Rattle.table_model.specs.Visible.{Rules, is_cascade}
-use Rattle.table_model.specs.Confluence.{is_permanent}
-use Rattle.table_model.specs.Examples.{Item, Step, has_table, is_skipped, needed_by}
+use Rattle.confluence_laws.specs.Confluence.{is_permanent}
+use Rattle.confluence_laws.specs.Examples.{Item, Step, has_table, is_skipped, needed_by}
 
 -- Each row is of one of so many tables, and no two are of one table.
 abbrev pub AreOnce : ℕ → List Item → Type 0

@@ -1,6 +1,6 @@
 -- What errors of reading become.
-use Rattle.schema.specs.declared.fault.SchemaError.{SchemaError}
-use Rattle.schema.specs.declared.fault.SchemaError.TheVariants as errors
+use Rattle.schema_text.specs.declared.fault.SchemaError.{SchemaError}
+use Rattle.schema_text.specs.declared.fault.SchemaError.TheVariants as errors
 use Rattle.confluence_test.specs.declared.refusal.SchemaRefusal.{SchemaRefusal}
 use Rattle.confluence_test.specs.declared.refusal.SchemaRefusal.TheVariants.{Schema, Memory}
 

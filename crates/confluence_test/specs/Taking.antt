@@ -1,10 +1,11 @@
 -- What is said of the text of a schema.
 use Rattle.std.specs.Prelude.{◌≡◌, ℕ, List, Contains, IsTrue}
-use Rattle.schema.specs.declared.fault.SchemaFault.{SchemaFault}
-use Rattle.schema.specs.Schemas.{Meaning, SchemaData, Declares, FirstFault}
+use Rattle.schema_text.specs.declared.fault.SchemaFault.{SchemaFault}
+use Rattle.schema.specs.Data.{Meaning, SchemaData}
+use Rattle.schema_text.specs.Schemas.{Declares, FirstFault}
 use Rattle.table_model.specs.declared.counterexample.Counterexample.{Counterexample}
 use Rattle.table_model.specs.declared.invariant.Invariant.{Invariant}
-use Rattle.table_model.specs.Confluence.{IsConfluent, are_accepted, confirms}
+use Rattle.confluence_laws.specs.Confluence.{IsConfluent, are_accepted, confirms}
 use Rattle.table_model.specs.Invariants.{Claim, Declared, claims_of, invariants_of}
 use Rattle.table_model.specs.Visible.{Rules, rules_with}
 use Rattle.confluence_test.specs.Tests.{IsRefused}

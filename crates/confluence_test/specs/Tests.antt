@@ -4,8 +4,8 @@ use Rattle.table_model.specs.declared.counterexample.Counterexample.{Counterexam
 use Rattle.table_model.specs.declared.invariant.Invariant.{Invariant}
 use Rattle.table_model.specs.Visible.{Rules}
 use Rattle.table_model.specs.Invariants.{Declared, invariants_of}
-use Rattle.table_model.specs.Confluence.{accepts, are_accepted}
-use Rattle.table_model.specs.Examples.{example_of}
+use Rattle.confluence_laws.specs.Confluence.{accepts, are_accepted}
+use Rattle.confluence_laws.specs.Examples.{example_of}
 use Rattle.confluence_test.specs.declared.tested.Tested.{Tested}
 use Rattle.confluence_test.specs.declared.tested.Tested.TheVariants.{Accepted, Refused}
 

@@ -1,7 +1,7 @@
 //! Rows to be inserted one after the other.
 
 ghost use Rattle.std.specs.Prelude.{◌≡◌, ◌<◌, List, [], ◌∷◌, ◌++◌, IfOk, OnOk, length, reverse};
-ghost use Rattle.table_model.specs.Examples.{chain, has_table, name_in};
+ghost use Rattle.confluence_laws.specs.Examples.{chain, has_table, name_in};
 
 use crate::nodes::{chain_of, row_numbered};
 use std::alloc::{AllocError, Global};
@@ -19,7 +19,7 @@ pub(crate) struct PlannedRow {
 }
 
 impl Model for PlannedRow {
-    ghost use Rattle.table_model.specs.Examples.{Item};
+    ghost use Rattle.confluence_laws.specs.Examples.{Item};
 
     ghost Value = { Item };
 
@@ -46,7 +46,7 @@ pub(crate) struct Chain {
 
 impl Model for Chain {
     ghost use Rattle.std.specs.Prelude.{List, reverse};
-    ghost use Rattle.table_model.specs.Examples.{Item};
+    ghost use Rattle.confluence_laws.specs.Examples.{Item};
 
     ghost Value = { List Item };
 

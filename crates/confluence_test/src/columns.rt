@@ -3,7 +3,7 @@
 ghost use Rattle.std.specs.Prelude.{◌≡◌, ◌<◌, ◌≤◌, [], length};
 ghost use Rattle.std.specs.List.{AllByRecursion};
 ghost use Rattle.schema.specs.Columns.{target_of};
-ghost use Rattle.table_model.specs.Examples.{is_skipped};
+ghost use Rattle.confluence_laws.specs.Examples.{is_skipped};
 ghost use Rattle.schema.specs.Sound.{AreTables, IsSoundColumn};
 ghost use Rattle.table_model.specs.Visible.{table_of, bare_rules};
 ghost use Rattle.confluence_test.specs.Plans.{needed_at, all_of};

@@ -1,7 +1,7 @@
 //! The counterexamples.
 
 ghost use Rattle.std.specs.Prelude.{◌≡◌, ◌<◌, ◌≤◌, ◌+◌, ◌-◌, [], ◌∷◌, ◌++◌, IfOk, OnOk, length, reverse};
-ghost use Rattle.table_model.specs.Examples.{example_of, unique_example, at_most_example, restrict_example, twice_after, split_after, copies};
+ghost use Rattle.confluence_laws.specs.Examples.{example_of, unique_example, at_most_example, restrict_example, twice_after, split_after, copies};
 ghost use Rattle.confluence_test.specs.Findings.{claim_of, IsFlaw};
 ghost use Rattle.confluence_test.specs.Plans.{SaysPermanent};
 ghost use Rattle.table_model.specs.Visible.{bare_rules};

@@ -3,7 +3,7 @@
 ghost use Rattle.std.specs.Prelude.{◌≡◌, ◌<◌, IfOk, length, cond};
 ghost use Rattle.update_model.specs.declared.value.Value.TheVariants.{Row};
 ghost use Rattle.schema.specs.Columns.{target_of};
-ghost use Rattle.table_model.specs.Examples.{fill, filled_but, item_naming, item_of};
+ghost use Rattle.confluence_laws.specs.Examples.{fill, filled_but, item_naming, item_of};
 ghost use Rattle.table_model.specs.Visible.{bare_rules};
 
 use crate::chain::{Chain, PlannedRow};

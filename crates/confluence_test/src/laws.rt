@@ -4,10 +4,11 @@ ghost use Rattle.std.specs.Prelude.{◌≡◌, ℕ, List, [], IsTrue};
 ghost use Rattle.std.specs.List.{list_all};
 ghost use Rattle.table_model.specs.declared.counterexample.Counterexample.{Counterexample};
 ghost use Rattle.table_model.specs.declared.invariant.Invariant.{Invariant};
-ghost use Rattle.table_model.specs.Confluence.{are_accepted, confirms};
+ghost use Rattle.confluence_laws.specs.Confluence.{are_accepted, confirms};
 ghost use Rattle.schema.specs.Samples.{SamplesPass};
 ghost use Rattle.table_model.specs.Invariants.{claims_of, invariants_of};
-ghost use Rattle.schema.specs.Schemas.{Declares, Meaning, SchemaData};
+ghost use Rattle.schema_text.specs.Schemas.{Declares};
+ghost use Rattle.schema.specs.Data.{Meaning, SchemaData};
 ghost use Rattle.schema.specs.Sound.{AreTables};
 ghost use Rattle.table_model.specs.Visible.{Rules, rules_with};
 ghost use Rattle.table_model.specs.Verdicts.{is_unlimited};
@@ -15,8 +16,8 @@ ghost use Rattle.confluence_test.specs.declared.refusal.SchemaRefusal.{SchemaRef
 ghost use Rattle.confluence_test.specs.Taking.{RefusesSchema, TakesSchema};
 ghost use Rattle.confluence_test.specs.Tests.{IsRefused};
 
-use schema::{declared_is_sound, declared_samples_pass, no_fault, one_fault, one_schema};
-use table_model::first_refused_is_confirmed;
+use confluence_laws::first_refused_is_confirmed;
+use schema_text::{declared_is_sound, declared_samples_pass, no_fault, one_fault, one_schema};
 
 /// The counterexample of a refusal confirms, whatever native checks mean, as long as the samples pass: both of its sides are
 /// closed and satisfy every invariant up to the refused one, and both together break that one.

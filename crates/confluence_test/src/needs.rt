@@ -1,7 +1,7 @@
 //! The rows that other rows need.
 
 ghost use Rattle.std.specs.Prelude.{◌≡◌, ℕ, ◌<◌, ◌≤◌, IfOk, OnOk, length};
-ghost use Rattle.table_model.specs.Examples.{has_table, need, needed_but, for_each, base_of};
+ghost use Rattle.confluence_laws.specs.Examples.{has_table, need, needed_but, for_each, base_of};
 ghost use Rattle.table_model.specs.Visible.{table_of, bare_rules};
 ghost use Rattle.confluence_test.specs.Plans.{AreOnce};
 

@@ -2,7 +2,7 @@
 
 ghost use Rattle.std.specs.Prelude.{◌≡◌, ◌<◌, IfOk, length, reverse};
 ghost use Rattle.update_model.specs.declared.op.Op.TheVariants as op;
-ghost use Rattle.table_model.specs.Examples.{numbered, row_numbered, last_of, one_after, after, one_author, chain};
+ghost use Rattle.confluence_laws.specs.Examples.{numbered, row_numbered, last_of, one_after, after, one_author, chain};
 
 use crate::chain::PlannedRow;
 use std::alloc::{AllocError, Global};

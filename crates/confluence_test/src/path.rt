@@ -3,7 +3,7 @@
 ghost use Rattle.std.specs.Prelude.{◌≡◌, ◌<◌, ◌≤◌, ◌+◌, [], ◌++◌, All, IfOk, OnOk, IfSome, Some, length, reverse};
 ghost use Rattle.std.specs.List.{AllByRecursion};
 ghost use Rattle.schema.specs.Columns.{target_of};
-ghost use Rattle.table_model.specs.Examples.{path_from, path_items, shared_of};
+ghost use Rattle.confluence_laws.specs.Examples.{path_from, path_items, shared_of};
 ghost use Rattle.schema.specs.Sound.{IsSoundColumn};
 ghost use Rattle.table_model.specs.Visible.{table_of, bare_rules};
 ghost use Rattle.confluence_test.specs.Plans.{AreOnce, SaysPermanent, AreBelow, next_step_by, step_to};
@@ -27,7 +27,7 @@ pub(crate) struct PathStep {
 }
 
 impl Model for PathStep {
-    ghost use Rattle.table_model.specs.Examples.{Step};
+    ghost use Rattle.confluence_laws.specs.Examples.{Step};
 
     ghost Value = { Step };
 

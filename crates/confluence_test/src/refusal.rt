@@ -2,7 +2,8 @@ ghost use Rattle.std.specs.Prelude.{◌≡◌};
 ghost use Rattle.confluence_test.specs.declared.refusal.SchemaRefusal.TheVariants.{Memory};
 ghost use Rattle.confluence_test.specs.Refusing.{from_reading};
 
-use schema::{Schema, SchemaError, SchemaFault};
+use schema::Schema;
+use schema_text::{SchemaError, SchemaFault};
 use std::alloc::AllocError;
 use table_model::{Counterexample, Invariant};
 

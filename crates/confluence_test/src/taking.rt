@@ -5,10 +5,11 @@ ghost use Rattle.confluence_test.specs.declared.refusal.SchemaRefusal.TheVariant
 ghost use Rattle.confluence_test.specs.Taking.{RefusesSchema, TakesSchema};
 
 use crate::{SchemaRefusal, Tested, declared_refusal_is_confirmed, test};
+use confluence_laws::accepted_is_confluent;
 use row_check::{Checks, Native, Relation};
-use schema::{Schema, declared_is_sound, read_schema};
+use schema::Schema;
+use schema_text::{declared_is_sound, read_schema};
 use std::alloc::Global;
-use table_model::accepted_is_confluent;
 
 /// Reads the text of a schema and tests its invariants, or refuses the text.
 ///

@@ -2,7 +2,7 @@
 
 ghost use Rattle.std.specs.Prelude.{◌≡◌, ℕ, Bool, List, IfOk};
 ghost use Rattle.confluence_test.specs.Tests.{IsTested};
-ghost use Rattle.schema.specs.Schemas.{Meaning};
+ghost use Rattle.schema.specs.Data.{Meaning};
 ghost use Rattle.table_model.specs.Visible.{rules_with};
 
 use crate::Tested;

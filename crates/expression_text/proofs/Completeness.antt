@@ -7,7 +7,7 @@ use Rattle.row_check.specs.declared.term.Term.{Term}
 use Rattle.expression_text.specs.declared.token.Token.{Token}
 use Rattle.expression_text.specs.declared.token.Token.TheVariants as token
 use Rattle.expression_text.specs.Numbers.{small_number}
-use Rattle.expression_text.specs.Trees.{Tree, Comparison}
+use Rattle.row_check.specs.Trees.{Tree, Comparison}
 use Rattle.expression_text.specs.Grammar.{Level, Disjunction, Conjunction, Operand, IsTerm, a_column, an_integer, a_text, a_flag, a_length, AreColumns, one_column, column_more, Parses, either, conjunction, both, operand, negation, brackets, comparison, absence, check_one, check_all}
 use Rattle.expression_text.specs.Machine.{Begun, After_sign, After_number, After_comma, After_argument, Finished, Frame, Bracket, Before_not, Before_and, Before_or, State, number_read, settled, complete, join, close_joined, before_or, run, step, outcome, whole, parsed}
 

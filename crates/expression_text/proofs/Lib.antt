@@ -1,5 +1,4 @@
 mod Completeness
-mod Meaning
 mod Passing
 mod Places
 mod Soundness

@@ -8,12 +8,12 @@ use Rattle.std.proofs.lemmas.List.Sums.{AllPass-from_list_all, list_all-from_All
 use Rattle.std.proofs.lemmas.Slice.Eq.{bytes_eq-Decides}
 use Rattle.std.proofs.lemmas.Bool.Decides.{nat_tests}
 use Rattle.row_check.specs.declared.expr.Expr.{Expr, Native}
-use Rattle.expression_text.specs.declared.kind.Kind.{Kind}
+use Rattle.row_check.specs.declared.kind.Kind.{Kind}
 use Rattle.expression_text.specs.declared.token.Token.{Token}
 use Rattle.expression_text.specs.declared.token.Token.TheVariants as token
 use Rattle.expression_text.specs.Columns.{IsKnown}
-use Rattle.expression_text.specs.Kinds.{HasKinds, plain_kind}
-use Rattle.expression_text.specs.Trees.{tree_of}
+use Rattle.row_check.specs.Kinds.{HasKinds, plain_kind}
+use Rattle.row_check.specs.Trees.{tree_of}
 use Rattle.expression_text.specs.Words.{token_of}
 use Rattle.text_words.specs.declared.word.Word.{Word}
 

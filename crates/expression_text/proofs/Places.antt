@@ -10,7 +10,7 @@ use Rattle.expression_text.specs.declared.place.Position.{Position}
 use Rattle.expression_text.specs.declared.token.Token.{Token}
 use Rattle.expression_text.specs.declared.token.Token.TheVariants as token
 use Rattle.expression_text.specs.Numbers.{small_number}
-use Rattle.expression_text.specs.Trees.{Tree, Negation}
+use Rattle.row_check.specs.Trees.{Tree, Negation}
 use Rattle.expression_text.specs.Grammar.{Disjunction, Parses, IsExpression}
 use Rattle.expression_text.specs.Machine.{Reading, Begun, After_len, After_column, After_term, After_sign, After_sign_len, After_is, After_native, After_number, After_comma, After_argument, Finished, Refused, Frame, Bracket, Before_not, Before_and, Before_or, State, read_after_sign, number_read, read_after_native, read_more, settled, complete, join, close, step_begun, step_finished, run, step, outcome, whole, parsed}
 use Rattle.expression_text.specs.Places.{next_after_sign, number_place, next_place, closed, after, after_all, is_end, is_read}

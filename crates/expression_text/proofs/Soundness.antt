@@ -7,7 +7,7 @@ use Rattle.row_check.specs.declared.term.Term.{Term}
 use Rattle.expression_text.specs.declared.token.Token.{Token}
 use Rattle.expression_text.specs.declared.token.Token.TheVariants as token
 use Rattle.expression_text.specs.Numbers.{small_number}
-use Rattle.expression_text.specs.Trees.{Tree, Negation}
+use Rattle.row_check.specs.Trees.{Tree, Negation}
 use Rattle.expression_text.specs.Grammar.{Level, Disjunction, Conjunction, Operand, IsTerm, a_column, an_integer, a_text, a_flag, a_length, AreColumns, one_column, column_more, Parses, either, conjunction, both, operand, negation, brackets, comparison, absence, check_one, check_all}
 use Rattle.expression_text.specs.Machine.{Reading, Begun, After_len, After_column, After_term, After_sign, After_sign_len, After_is, After_native, After_number, After_comma, After_argument, Finished, Refused, Frame, Bracket, Before_not, Before_and, Before_or, State, side_of, left_side, right_side, read_begun, read_after_len, read_after_column, read_after_term, read_after_sign, read_after_sign_len, read_after_is, number_read, read_after_native, read_after_number, read_after_comma, read_after_argument, read_more, settled, complete, join, close, close_joined, before_or, step_begun, step_finished, run, step, outcome, whole, parsed}
 

@@ -7,7 +7,7 @@ use Rattle.expression_text.specs.declared.token.Token.{Token}
 use Rattle.expression_text.specs.Columns.{column_in}
 use Rattle.expression_text.specs.Grammar.{IsExpression, IsReading}
 use Rattle.expression_text.specs.Machine.{Reading, Begun, Frame, State, run, outcome, parsed}
-use Rattle.expression_text.specs.Trees.{tree_of}
+use Rattle.row_check.specs.Trees.{tree_of}
 use Rattle.expression_text.proofs.Soundness.{Parses-parsed}
 use Rattle.expression_text.proofs.Places.{parsed_again}
 

@@ -9,7 +9,7 @@ use Rattle.row_check.specs.declared.term.Term.TheVariants as term
 use Rattle.row_check.specs.declared.expr.Expr.{Expr}
 use Rattle.expression_text.specs.declared.token.Token.{Token}
 use Rattle.expression_text.specs.declared.token.Token.TheVariants as token
-use Rattle.expression_text.specs.Trees.{Tree, Both, Either, Negation, Comparison, Absence, Check, tree_of}
+use Rattle.row_check.specs.Trees.{Tree, Both, Either, Negation, Comparison, Absence, Check, tree_of}
 use Rattle.expression_text.specs.Columns.{column_in}
 
 -- how tightly an expression is bound

@@ -1,9 +1,7 @@
 pub mod Columns
 pub mod Grammar
-pub mod Kinds
 pub mod Machine
 pub mod Numbers
 pub mod Places
-pub mod Trees
 pub mod Views
 pub mod Words

@@ -7,7 +7,7 @@ use Rattle.row_check.specs.declared.term.Term.TheVariants as term
 use Rattle.expression_text.specs.declared.token.Token.{Token}
 use Rattle.expression_text.specs.declared.token.Token.TheVariants as token
 use Rattle.expression_text.specs.Numbers.{small_number}
-use Rattle.expression_text.specs.Trees.{Tree, Both, Either, Negation, Comparison, Absence, Check}
+use Rattle.row_check.specs.Trees.{Tree, Both, Either, Negation, Comparison, Absence, Check}
 
 -- what has been read of an operand
 pub data Reading : Type 0 where

@@ -5,7 +5,7 @@ use Rattle.expression_text.specs.declared.pending.Pending.TheVariants as pending
 use Rattle.expression_text.specs.declared.progress.Progress.{Progress}
 use Rattle.expression_text.specs.declared.progress.Progress.TheVariants as progress
 use Rattle.expression_text.specs.Machine.{Reading, Begun, After_len, After_column, After_term, After_sign, After_sign_len, After_is, After_native, After_number, After_comma, After_argument, Finished, Refused, Frame, Bracket, Before_not, Before_and, Before_or}
-use Rattle.expression_text.specs.Trees.{tree_of}
+use Rattle.row_check.specs.Trees.{tree_of}
 
 abbrev pub reading_of : Progress → Reading
 reading_of progress.Begun = Begun

@@ -2,7 +2,7 @@ ghost use Rattle.std.specs.Prelude.{◌≡◌, ◌≤◌, length, All, IfOk, IsS
 ghost use Rattle.expression_text.specs.Columns.{IsKnown, HasRowText, column_in};
 ghost use Rattle.expression_text.specs.Grammar.{IsExpression, IsReading};
 ghost use Rattle.expression_text.specs.Machine.{step as after_token, step_begun as after_begun, step_finished as after_finished, settled as settled_with, outcome};
-ghost use Rattle.expression_text.specs.Trees.{tree_of};
+ghost use Rattle.row_check.specs.Trees.{tree_of};
 ghost use Rattle.expression_text.specs.Views.{reading_of, frames_of};
 
 use crate::Token;

@@ -1,10 +1,9 @@
 ghost use Rattle.std.specs.Prelude.{◌≡◌, ◌↔◌, IsTrue, IsSome, is_some, slice_get};
 ghost use Rattle.std.specs.List.{list_all};
-ghost use Rattle.expression_text.specs.Kinds.{HasKinds, plain_kind as kind_of_plain, literal_kind as kind_of_literal, length_kind as kind_of_length, term_kind as kind_of_term};
-ghost use Rattle.expression_text.specs.Trees.{tree_of};
+ghost use Rattle.row_check.specs.Kinds.{HasKinds, plain_kind as kind_of_plain, literal_kind as kind_of_literal, length_kind as kind_of_length, term_kind as kind_of_term};
+ghost use Rattle.row_check.specs.Trees.{tree_of};
 
-use crate::Kind;
-use row_check::{Expr, Term};
+use row_check::{Expr, Kind, Term};
 use update_model::Value;
 
 /// Whether an expression fits columns of these kinds: each column that it reads is a plain one, LEN is of a text, and

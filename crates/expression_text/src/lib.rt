@@ -18,7 +18,6 @@
 
 mod building;
 mod judging;
-mod kind;
 mod kinds;
 mod laws;
 mod numbers;
@@ -31,9 +30,8 @@ mod words;
 
 pub use building::build;
 pub use judging::{are_known, are_row_texts, are_short_texts};
-pub use kind::Kind;
 pub use kinds::has_kinds;
-pub use laws::{any_columns, kinds_fit_rows, one_expression, trees_hold};
+pub use laws::{any_columns, one_expression};
 pub use recognizing::is_expression;
 pub use token::Token;
 pub use words::{token_of, tokens_of};

@@ -1,6 +1,6 @@
 ghost use Rattle.std.specs.Prelude.{◌≡◌, ◌∷◌, IfOk, OnOk, if◌then◌else◌};
 ghost use Rattle.expression_text.specs.Machine.{complete, close, join, Begun, Finished, Refused};
-ghost use Rattle.expression_text.specs.Trees.{Tree, tree_of, Both, Either};
+ghost use Rattle.row_check.specs.Trees.{Tree, tree_of, Both, Either};
 ghost use Rattle.expression_text.specs.Views.{reading_of, frame_of, frames_of};
 
 use crate::progress::Progress;

@@ -1,7 +1,7 @@
 ghost use Rattle.std.specs.Prelude.{◌≡◌, ◌≤◌, length, IfOk};
 ghost use Rattle.update_model.specs.Text.{IsText};
 ghost use Rattle.expression_text.specs.Columns.{column_in, HasRowText};
-ghost use Rattle.expression_text.specs.Trees.{Check};
+ghost use Rattle.row_check.specs.Trees.{Check};
 ghost use Rattle.expression_text.specs.Machine.{Finished, side_of as side_for, read_begun, read_after_len, read_after_column, read_after_term, read_after_sign, read_after_sign_len, read_after_is, read_after_native, read_after_number, read_after_comma, read_after_argument, read_more};
 ghost use Rattle.expression_text.specs.Views.{reading_of};
 

@@ -8,7 +8,7 @@ use Rattle.update_model.specs.Graph.{has}
 use Rattle.update_model.specs.Node.{NodeData}
 use Rattle.table_model.specs.declared.void_line.VoidLine.{VoidLine}
 use Rattle.table_model.specs.Nodes.{node_of, IsClosed}
-use Rattle.table_model.proofs.SameTables.{permuted_on}
+use Rattle.confluence_laws.proofs.SameTables.{permuted_on}
 use Rattle.graph_drawing.specs.declared.placed.Placed.{Placed}
 use Rattle.graph_drawing.specs.declared.spot.Spot.{Spot}
 use Rattle.graph_drawing.specs.Boxes.{arranged, drawn, omitted}

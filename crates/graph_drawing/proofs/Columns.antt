@@ -9,7 +9,7 @@ use Rattle.update_model.specs.declared.author_key.AuthorKey.{AuthorKey}
 use Rattle.update_model.specs.declared.update_id.UpdateId.{UpdateId}
 use Rattle.table_model.specs.declared.void_line.VoidLine.{VoidLine}
 use Rattle.table_model.specs.Verdicts.{same_author}
-use Rattle.table_model.proofs.DeclaredClaims.{each-append}
+use Rattle.table_model.proofs.Each.{each-append}
 use Rattle.table_model.proofs.Members.{contains_cases, find_finds, none_in}
 use Rattle.graph_drawing.specs.declared.placed.Placed.{Placed}
 use Rattle.graph_drawing.specs.declared.spot.Spot.{Spot}

@@ -1,15 +1,16 @@
 -- A picture is of the set of updates.
-use Rattle.std.proofs.Common.{◌≡◌, ℕ, List, sym, ◌∙◌, ap, subst, Some}
+use Rattle.std.proofs.Common.{◌≡◌, ℕ, Bool, List, sym, ◌∙◌, ap, subst, Some}
 use Rattle.std.proofs.lemmas.List.Sorted.{IsPermutation-sym}
 use Rattle.schema.specs.declared.table_def.TableDef.{TableDef}
 use Rattle.update_model.specs.declared.update_id.UpdateId.{UpdateId}
 use Rattle.update_model.specs.Node.{NodeData}
 use Rattle.table_model.specs.declared.void_line.VoidLine.{VoidLine}
 use Rattle.table_model.specs.Nodes.{node_of, IsClosed, IsSameSet}
-use Rattle.table_model.proofs.SameTables.{PassesOn, permuted_on}
+use Rattle.confluence_laws.proofs.SameTables.{PassesOn, permuted_on}
 use Rattle.graph_drawing.specs.declared.form.Form.{Form}
 use Rattle.graph_drawing.specs.declared.placed.Placed.{Placed}
 use Rattle.graph_drawing.specs.Depths.{AreInOrder, depth_in, placed_in, rank, rank_cmp}
+use Rattle.graph_drawing.specs.Logs.{IsLog, log_text}
 use Rattle.graph_drawing.specs.Pictures.{IsPicture, text_in_order}
 use Rattle.graph_drawing.proofs.DepthFacts.{at_node, found_held, from_nodes, same_depth}
 use Rattle.graph_drawing.proofs.Ranks.{rank_cmp_total}
@@ -43,3 +44,8 @@ pub same_picture : (form : Form) (tables : List TableDef) (xs ys : List NodeData
     → IsClosed xs → IsClosed ys → IsSameSet xs ys → IsPicture form tables xs heads voids text → IsPicture form tables ys heads voids other → text ≡ other
 same_picture form tables xs ys heads voids text other c d same a b =
     a.2 ∙ ap (text_in_order form tables heads voids) (same_order xs ys c d same a.0 b.0 a.1 b.1) ∙ sym b.2
+
+pub same_log : (rows : Bool) (tables : List TableDef) (xs ys : List NodeData) (heads : List UpdateId) (voids : List VoidLine) (text other : List ℕ)
+    → IsClosed xs → IsClosed ys → IsSameSet xs ys → IsLog rows tables xs heads voids text → IsLog rows tables ys heads voids other → text ≡ other
+same_log rows tables xs ys heads voids text other c d same a b =
+    a.2 ∙ ap (log_text rows tables heads voids) (same_order xs ys c d same a.0 b.0 a.1 b.1) ∙ sym b.2

@@ -1,6 +1,7 @@
 -- Texts in a picture. `&` is the byte 38, `<` is 60, `>` is 62, a colon is 58, and a blank is 32.
 use Rattle.std.specs.Prelude.{ℕ, ◌-◌, ◌==◌, ◌&&◌, nat_le, nat_lt, Bool, cond, if◌then◌else◌, List, [], ◌∷◌, ◌++◌, take, drop, codes}
 use Rattle.std.specs.Fmt.{decimal}
+use Rattle.std.specs.Int.{to_be_bytes, w32}
 use Rattle.std.specs.List.{flat_map}
 use Rattle.hex.specs.Hex.{encode_lower}
 use Rattle.update_model.specs.declared.author_key.AuthorKey.{AuthorKey}
@@ -23,6 +24,10 @@ around before number after = before ++ (decimal number ++ after)
 -- the first eight digits of an id
 abbrev pub short_id : UpdateId → List ℕ
 short_id id = encode_lower (take 4 id.0)
+
+-- a key in 112 digits, as `keygen` prints it: its types, its identifier and its root
+unfoldable pub key_digits : AuthorKey → List ℕ
+key_digits key = encode_lower (to_be_bytes w32 key.lms) ++ (encode_lower (to_be_bytes w32 key.ots) ++ (encode_lower key.ident ++ encode_lower key.root))
 
 -- the last eight digits of a key, as `keygen` prints it
 abbrev pub key_end : AuthorKey → List ℕ

@@ -9,6 +9,8 @@
 //! ```
 //!
 //! At most [`MAX_DRAWN`] updates are drawn, the last ones in the order of depth and id.
+//!
+//! [`log`] answers the log of a graph: a line for each update, the newest first. It is a function of the set too: [`same_set_same_log`].
 #![tactic(auto)]
 
 mod boxes;
@@ -19,6 +21,7 @@ mod ids;
 mod labels;
 mod laws;
 mod limits;
+mod logs;
 mod pictures;
 mod placed;
 mod sorting;
@@ -27,6 +30,9 @@ mod svg;
 mod words;
 
 pub use form::Form;
-pub use laws::{boxes_lie_below, columns_have_one_author, same_set_same_picture};
+pub use laws::{
+    boxes_lie_below, columns_have_one_author, same_set_same_log, same_set_same_picture,
+};
 pub use limits::MAX_DRAWN;
+pub use logs::log;
 pub use pictures::{draw, omitted};

@@ -2,10 +2,12 @@
 
 ghost use Rattle.std.specs.Prelude.{◌≡◌, ◌∷◌, ◌++◌, OnOk, codes};
 ghost use Rattle.std.specs.Fmt.{decimal};
+ghost use Rattle.std.specs.Int.{to_be_bytes, w32};
 ghost use Rattle.std.specs.List.{flat_map};
+ghost use Rattle.hex.specs.Hex.{encode_lower};
 ghost use Rattle.table_text.specs.Names.{id_text};
 ghost use Rattle.table_text.specs.Operations.{table_word};
-ghost use Rattle.graph_drawing.specs.Words.{around, clipped, goes_on, key_end, marked, reason_words, short_id, short_name, short_operation, short_value};
+ghost use Rattle.graph_drawing.specs.Words.{around, clipped, goes_on, key_digits, key_end, marked, reason_words, short_id, short_name, short_operation, short_value};
 
 use itoa::Buffer;
 use schema::Schema;
@@ -54,6 +56,44 @@ pub(crate) fn push_short_id(out: &mut Vec<u8>, id: &UpdateId) -> Result<(), Allo
 {
     let mut digits = [0u8; 8];
     let _ = hex::encode_to_slice(&id.0[..4], &mut digits);
+    out.extend_from_slice(&digits)
+}
+
+/// Adds a key in 112 digits: its types, its identifier and its root.
+#[tactic(auto, unfolding(crate::specs::Words::key_digits))]
+pub(crate) fn push_key(out: &mut Vec<u8>, key: &AuthorKey) -> Result<(), AllocError>
+    ensures { OnOk result (out.new.items ≡ out.old.items ++ key_digits key.now) }
+{
+    push_word(out, key.lms)?;
+    push_word(out, key.ots)?;
+    push_ident(out, &key.ident)?;
+    push_root(out, &key.root)
+}
+
+/// Adds the word of a type in eight digits.
+fn push_word(out: &mut Vec<u8>, word: u32) -> Result<(), AllocError>
+    ensures { OnOk result (out.new.items ≡ out.old.items ++ encode_lower (to_be_bytes w32 word)) }
+{
+    let mut digits = [0u8; 8];
+    let _ = hex::encode_to_slice(word.to_be_bytes(), &mut digits);
+    out.extend_from_slice(&digits)
+}
+
+/// Adds the identifier of a key in 32 digits.
+fn push_ident(out: &mut Vec<u8>, ident: &[u8; 16]) -> Result<(), AllocError>
+    ensures { OnOk result (out.new.items ≡ out.old.items ++ encode_lower ident.now) }
+{
+    let mut digits = [0u8; 32];
+    let _ = hex::encode_to_slice(ident, &mut digits);
+    out.extend_from_slice(&digits)
+}
+
+/// Adds the root of a key in 64 digits.
+fn push_root(out: &mut Vec<u8>, root: &[u8; 32]) -> Result<(), AllocError>
+    ensures { OnOk result (out.new.items ≡ out.old.items ++ encode_lower root.now) }
+{
+    let mut digits = [0u8; 64];
+    let _ = hex::encode_to_slice(root, &mut digits);
     out.extend_from_slice(&digits)
 }
 

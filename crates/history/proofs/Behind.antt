@@ -21,8 +21,8 @@ use Rattle.ancestry.specs.Since.{is_behind, since}
 use Rattle.ancestry.specs.Walks.{AreLower, is_ancestor}
 use Rattle.ancestry.proofs.Numbers.{held_at, member_at, placed, walks_are}
 use Rattle.ancestry.proofs.Steps.{stays}
-use Rattle.replay.specs.Arrivals.{nodes_before, place_in, places_before, places_of}
-use Rattle.replay.proofs.Arriving.{front_closed, length-before, take_next}
+use Rattle.history.specs.Arrivals.{nodes_before, place_in, places_before, places_of}
+use Rattle.history.proofs.Arriving.{front_closed, length-before, take_next}
 use Rattle.history.proofs.Fronts.{newer_nodes, nodes_split}
 use Rattle.history.proofs.Numbers.{bytes_at, numbers}
 use Rattle.history.proofs.Steps.{behind}

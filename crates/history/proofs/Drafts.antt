@@ -15,9 +15,9 @@ use Rattle.ancestry.proofs.Steps.{any_same, by_predecessors, lower_preds, none_t
 use Rattle.table_model.specs.Nodes.{IsClosed, IsNext}
 use Rattle.table_model.specs.Visible.{Rules}
 use Rattle.tuple_state.specs.Past.{IsPastOf}
-use Rattle.replay.specs.Arrivals.{nodes_before, place_in, places_before, places_of}
-use Rattle.replay.proofs.Ancestors.{IsPlaced}
-use Rattle.replay.proofs.Arriving.{front_placed, length-before, length-nodes, past_next}
+use Rattle.history.specs.Arrivals.{nodes_before, place_in, places_before, places_of}
+use Rattle.history.proofs.Ancestors.{IsPlaced}
+use Rattle.history.proofs.Arriving.{front_placed, length-before, length-nodes, past_next}
 use Rattle.history.specs.Histories.{nodes_of}
 use Rattle.history.proofs.Fronts.{all_nodes, nodes_closed}
 use Rattle.history.proofs.Numbers.{old_low}

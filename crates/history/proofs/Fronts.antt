@@ -13,15 +13,15 @@ use Rattle.update_check.specs.Signed.{node_of}
 use Rattle.head_set.specs.Grown.{AreHeadsOfEach}
 use Rattle.head_set.specs.Present.{present}
 use Rattle.head_set.proofs.HeadSteps.{present_heads}
-use Rattle.schema.specs.Schemas.{Meaning, SchemaData}
+use Rattle.schema.specs.Data.{Meaning, SchemaData}
 use Rattle.table_model.specs.Nodes.{holds, IsClosed}
 use Rattle.table_model.specs.Visible.{rules_with}
 use Rattle.table_model.proofs.Arrivals.{closed_reversed}
 use Rattle.tuple_state.specs.State.{IsStateOf}
-use Rattle.replay.specs.Arrivals.{nodes_before, place_in, places_before, places_of}
-use Rattle.replay.proofs.Ancestors.{IsPlaced, placed_older}
-use Rattle.replay.proofs.Arriving.{are_nodes, front_closed, front_placed, take_front, take_next}
-use Rattle.replay.proofs.Places.{IsAt, same_place}
+use Rattle.history.specs.Arrivals.{nodes_before, place_in, places_before, places_of}
+use Rattle.history.proofs.Ancestors.{IsPlaced, placed_older}
+use Rattle.history.proofs.Arriving.{are_nodes, front_closed, front_placed, take_front, take_next}
+use Rattle.history.proofs.Places.{IsAt, same_place}
 use Rattle.history.specs.declared.views.Views.{Views}
 use Rattle.history.specs.Histories.{nodes_of}
 use Rattle.history.specs.Kept.{AreViewsOf}

@@ -13,8 +13,8 @@ use Rattle.update_codec.specs.Parts.{entry_of, preds_of}
 use Rattle.ancestry.specs.Numbered.{AreNumbered, ArePlaces}
 use Rattle.ancestry.proofs.Numbers.{member_at}
 use Rattle.ancestry.proofs.Growth.{numbered_more}
-use Rattle.replay.specs.Arrivals.{place_in, places_before, places_of}
-use Rattle.replay.proofs.Arriving.{places_next}
+use Rattle.history.specs.Arrivals.{place_in, places_before, places_of}
+use Rattle.history.proofs.Arriving.{places_next}
 use Rattle.history.proofs.Fronts.{entries_next, next_member}
 
 -- ---- the first place, in front and in the whole

@@ -15,13 +15,13 @@ use Rattle.update_check.specs.Signed.{IsChecked, node_of}
 use Rattle.update_check.proofs.Fronts.{members_front}
 use Rattle.head_set.specs.Grown.{AreHeadsOfEach, KeepsHeads}
 use Rattle.head_set.proofs.HeadSteps.{heads_of_front, never_heads, no_states}
-use Rattle.schema.specs.Schemas.{Meaning, SchemaData}
+use Rattle.schema.specs.Data.{Meaning, SchemaData}
 use Rattle.table_model.specs.declared.verdict.Verdict.{Verdict}
 use Rattle.table_model.specs.Verdicts.{judge_next, judged}
 use Rattle.table_model.specs.Visible.{Rules, rules_with}
 use Rattle.tuple_state.specs.State.{IsStateOf}
-use Rattle.replay.specs.Arrivals.{IsVerdictAt, nodes_before, place_in, places_before, places_of}
-use Rattle.replay.proofs.Arriving.{front_closed, length-before, take_front}
+use Rattle.history.specs.Arrivals.{IsVerdictAt, nodes_before, place_in, places_before, places_of}
+use Rattle.history.proofs.Arriving.{front_closed, length-before, take_front}
 use Rattle.history.specs.declared.views.Views.{Views}
 use Rattle.history.specs.Histories.{HistoryData, nodes_of}
 use Rattle.history.specs.Kept.{AreViewsOf}

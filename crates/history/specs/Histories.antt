@@ -1,13 +1,13 @@
 -- What a history is.
-use Rattle.std.specs.Prelude.{ℕ, List, map, reverse}
+use Rattle.std.specs.Prelude.{ℕ, List, map, reverse, IsTrue}
+use Rattle.std.specs.List.{list_all}
 use Rattle.update_model.specs.Node.{NodeData}
 use Rattle.update_check.specs.Members.{AreMembers}
 use Rattle.update_check.specs.Signed.{node_of}
-use Rattle.schema.specs.Schemas.{Meaning, SchemaData}
+use Rattle.schema.specs.Data.{Meaning, SchemaData}
 use Rattle.table_model.specs.declared.verdict.Verdict.{Verdict}
-use Rattle.table_model.specs.Verdicts.{judge_next, judged}
+use Rattle.table_model.specs.Verdicts.{is_unlimited, judge_next, judged}
 use Rattle.table_model.specs.Visible.{rules_with}
-use Rattle.confluence_test.specs.Taking.{TakesSchema}
 
 -- A schema, and updates in the order of arrival.
 pub record HistoryData : Type 0 where
@@ -18,10 +18,9 @@ pub record HistoryData : Type 0 where
 abbrev pub nodes_of : List (List ℕ) → List NodeData
 nodes_of members = reverse (map node_of members)
 
--- The schema is declared by its text, and each of its invariants survives merging. The updates are a closed list under its
--- rule and within the limits.
-pub record IsHistory (ask : Meaning) (history : HistoryData) : Type 0 where
-  pub taken : TakesSchema ask history.schema.text history.schema
+-- No table of the schema has a UNIQUE or an ATMOST. The updates are a closed list under its rule and within the limits.
+pub record IsHistory (history : HistoryData) : Type 0 where
+  pub unlimited : IsTrue (list_all is_unlimited history.schema.tables)
   pub members : AreMembers history.schema.rule history.members
 
 -- the verdict on a node after its ancestors among the members of a history

@@ -3,10 +3,10 @@ use Rattle.std.specs.Prelude.{◌≡◌, ◌≤◌, ℕ, List, length, map, take
 use Rattle.update_model.specs.Graph.{IsClosed}
 use Rattle.update_codec.specs.Parts.{entry_of}
 use Rattle.head_set.specs.Grown.{AreHeadsOfEach}
-use Rattle.schema.specs.Schemas.{Meaning, SchemaData}
+use Rattle.schema.specs.Data.{Meaning, SchemaData}
 use Rattle.table_model.specs.Visible.{rules_with}
 use Rattle.tuple_state.specs.State.{IsStateOf}
-use Rattle.replay.specs.Arrivals.{nodes_before, places_before}
+use Rattle.history.specs.Arrivals.{nodes_before, places_before}
 use Rattle.history.specs.declared.views.Views.{Views}
 use Rattle.history.specs.Histories.{IsHistory}
 
@@ -30,5 +30,5 @@ pub record IsCut (views : Views) (len : ℕ) : Type 0 where
 
 -- A history, and the views of all its members.
 pub record IsKept (ask : Meaning) (schema : SchemaData) (members : List (List ℕ)) (views : Views) : Type 0 where
-  pub is : IsHistory ask (record { schema = schema; members = members })
+  pub is : IsHistory (record { schema = schema; members = members })
   pub are : AreViewsOf ask schema members (length members) views

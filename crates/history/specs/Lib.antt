@@ -1,3 +1,4 @@
+pub mod Arrivals
 pub mod Grown
 pub mod Histories
 pub mod Kept

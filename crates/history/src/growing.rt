@@ -8,7 +8,7 @@ ghost use Rattle.update_codec.specs.Parts.{entry_of};
 ghost use Rattle.table_model.specs.Verdicts.{is_unlimited};
 ghost use Rattle.table_model.specs.Visible.{rules_with};
 ghost use Rattle.ready_batch.specs.Ready.{AddsReady, IsBehind};
-ghost use Rattle.replay.specs.Arrivals.{IsVerdictAt};
+ghost use Rattle.history.specs.Arrivals.{IsVerdictAt};
 ghost use Rattle.history.specs.Grown.{IsGrown};
 ghost use Rattle.history.specs.Kept.{AreViewsOf};
 

@@ -6,9 +6,10 @@ ghost use Rattle.update_codec.specs.Parts.{entry_of};
 ghost use Rattle.update_check.specs.Holding.{ArePositionsSince};
 ghost use Rattle.update_check.specs.Members.{AreMembers};
 ghost use Rattle.update_check.specs.Signed.{IsChecked, node_of};
+ghost use Rattle.std.specs.List.{list_all};
 ghost use Rattle.table_model.specs.Nodes.{IsNext};
+ghost use Rattle.table_model.specs.Verdicts.{is_unlimited};
 ghost use Rattle.table_model.specs.Visible.{rules_with};
-ghost use Rattle.confluence_test.specs.Taking.{TakesSchema};
 ghost use Rattle.tuple_state.specs.State.{IsStateOf};
 ghost use Rattle.ready_batch.specs.Ready.{AddsReady};
 ghost use Rattle.history.specs.Histories.{IsHistory, nodes_of, verdict_after};
@@ -18,7 +19,6 @@ use crate::draft::judge_draft;
 use crate::growing::{grow, grow_by_one};
 use crate::since::positions_since;
 use crate::views::Views;
-use confluence_test::accepted_is_unlimited;
 use hash_graph::Graph;
 use ready_batch::AddFault;
 use row_check::{Checks, Native, Relation};
@@ -30,7 +30,7 @@ use tuple_state::Tables;
 use update_check::Checked;
 use update_model::{Node, UpdateId};
 
-/// A closed list of updates under a schema whose invariants survive merging, and what is kept of it: heads, ancestors and
+/// A closed list of updates under a schema without `UNIQUE` and `ATMOST`, and what is kept of it: heads, ancestors and
 /// tables. It is in memory alone. A contract sees the schema and the updates in the order of arrival.
 #[derive(Drop)]
 pub struct History<L: Relation, C: Checks<L>> {
@@ -56,18 +56,18 @@ impl<L: Relation, C: Checks<L>> Model for History<L, C> {
 }
 
 impl<L: Relation, C: Checks<L>> History<L, C> {
-    /// The history of a graph: each of its updates is judged once. Where memory runs out, the native checks come back.
+    /// The history of a graph under a schema without `UNIQUE` and `ATMOST`, as [`validity::is_unlimited`] tells: each of its
+    /// updates is judged once. Where memory runs out, the native checks come back.
     pub fn over(
         alloc: Global,
         schema: Schema,
         native: Native<L, C>,
         graph: Graph<Checked>,
     ) -> Result<History<L, C>, NoHistory<L, C>>
-        requires taken { TakesSchema L.answer schema.text schema }
+        requires unlimited { IsTrue (list_all is_unlimited schema.tables) }
         requires members { AreMembers schema.rule graph }
         ensures { IfOk result (λ history. history ≡ record { schema = schema; members = graph }) }
     {
-        accepted_is_unlimited();
         match Views::over(alloc, &schema, &native, &graph) {
             Ok(views) => Ok(History {
                 schema,
@@ -82,7 +82,7 @@ impl<L: Relation, C: Checks<L>> History<L, C> {
     /// How many updates there are, and what holds of every history.
     pub fn len(&self) -> u32
         ensures value { result ≡ length self.now.members }
-        ensures kept { IsHistory L.answer self.now }
+        ensures kept { IsHistory self.now }
     {
         self.graph.len()
     }
@@ -168,7 +168,6 @@ impl<L: Relation, C: Checks<L>> History<L, C> {
         requires { IsNext (nodes_of self.now.members) draft.now }
         ensures { IfOk result (λ verdict. verdict ≡ verdict_after L.answer self.now draft.now) }
     {
-        accepted_is_unlimited();
         judge_draft(
             alloc,
             &self.schema,
@@ -194,7 +193,6 @@ impl<L: Relation, C: Checks<L>> History<L, C> {
         ensures full { result ≡ Err AddFault.Full → IsTooMuch store_limits (map entry_of self.old.members) (map entry_of batch.items) }
         ensures same { OnErr result (self.new ≡ self.old) }
     {
-        accepted_is_unlimited();
         grow(
             alloc,
             &self.schema,
@@ -213,7 +211,6 @@ impl<L: Relation, C: Checks<L>> History<L, C> {
         ensures verdict { IfOk result (λ verdict. verdict ≡ verdict_after L.answer self.old (node_of update)) }
         ensures same { OnErr result (self.new ≡ self.old) }
     {
-        accepted_is_unlimited();
         grow_by_one(
             alloc,
             &self.schema,

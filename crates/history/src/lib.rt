@@ -1,4 +1,5 @@
-//! Histories: closed lists of updates under a schema whose invariants survive merging.
+//! Histories: closed lists of updates under a schema without `UNIQUE` and `ATMOST`, as every schema is whose invariants
+//! survive merging.
 //!
 //! A [`History`] takes an update only after its predecessors, and judges each once, on its ancestors. It keeps the heads, the
 //! ancestors and the tables as updates arrive, and it goes back to its first updates without memory, as a commit that is
@@ -14,6 +15,8 @@
 //! history.cut(len);                                        // the first `len` updates
 //! ```
 //!
+//! [`replay`] gives the tables of a whole graph, of which nothing else is kept.
+//!
 //! It is in memory alone, and it verifies no signature: what it takes is [`Checked`](update_check::Checked).
 #![tactic(auto)]
 
@@ -21,8 +24,10 @@ mod draft;
 mod growing;
 mod history;
 mod no_history;
+mod replaying;
 mod since;
 mod views;
 
 pub use history::History;
 pub use no_history::NoHistory;
+pub use replaying::replay;

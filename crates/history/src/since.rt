@@ -5,7 +5,7 @@ ghost use Rattle.std.specs.List.{filter_map};
 ghost use Rattle.update_model.specs.Graph.{position_of};
 ghost use Rattle.update_codec.specs.Parts.{entry_of};
 ghost use Rattle.update_check.specs.Holding.{ArePositionsSince};
-ghost use Rattle.replay.specs.Arrivals.{places_before};
+ghost use Rattle.history.specs.Arrivals.{places_before};
 
 use ancestry::Ancestry;
 use hash_graph::Graph;

@@ -1,15 +1,15 @@
 ghost use Rattle.std.specs.Prelude.{◌≡◌, ◌+◌, ◌<◌, ◌≤◌, ℕ, List, length, IfOk, IsTrue, OnErr, OnOk};
 ghost use Rattle.std.specs.List.{list_all};
-ghost use Rattle.schema.specs.Schemas.{Meaning};
+ghost use Rattle.schema.specs.Data.{Meaning};
 ghost use Rattle.table_model.specs.Verdicts.{is_unlimited};
 ghost use Rattle.table_model.specs.Visible.{rules_with};
-ghost use Rattle.replay.specs.Arrivals.{IsVerdictAt};
+ghost use Rattle.history.specs.Arrivals.{IsVerdictAt};
 ghost use Rattle.history.specs.Kept.{AreViewsOf, IsCut};
 
+use crate::replaying::take_next;
 use ancestry::Ancestry;
 use hash_graph::Graph;
 use head_set::Heads;
-use replay::take_next;
 use row_check::{Checks, Native, Relation};
 use schema::Schema;
 use std::alloc::{AllocError, Global};

@@ -1,6 +1,6 @@
 -- What is left of the parts of a key when it is created, or not.
 use Rattle.std.proofs.Common.{◌≡◌, inl, inr, ℕ, zero, suc, List, ◌∷◌, length, refl, sym, ◌∙◌, ap, subst, ◌⊎◌, Bool, IsTrue, Result, Ok, Err, arith}
-use Rattle.std.specs.Prelude.{false, replicate, IsErr}
+use Rattle.std.specs.Prelude.{false, replicate, IsErr, None}
 use Rattle.std.proofs.Math.Nat.{le_trans}
 use Rattle.std.proofs.lemmas.Bool.{true≢false}
 use Rattle.std.proofs.lemmas.List.{length-replicate}
@@ -95,14 +95,15 @@ writing_failed secret old mid new payload n error same later absent spelled long
 -- the parts were written
 pub parts_written : {T E : Type 0} (secret : SecretData) (old mid : KeyParts) (store : KeyState) (payload : List ℕ) (n : ℕ) (value : T) → AreSame old mid → AreLater old mid → (IsTrue old.key.tells → gated_of old.key.seen ≡ Absent)
     → payload ≡ payload_of secret → n ≡ leaf_count secret.lms → WritesParts {E = E} payload n mid (Ok value) store.parts → store.secret ≡ secret → store.taken ≡ replicate (leaf_count secret.lms) false
-    → CreatesKey secret old store
-parts_written secret old mid store payload n value same later absent spelled long writes made taken = record {
+    → store.tried ≡ None → CreatesKey secret old store
+parts_written secret old mid store payload n value same later absent spelled long writes made taken tried = record {
   creating = wrote secret old mid store.parts payload n (Ok value) same later absent spelled long writes;
   absent = absent;
   made = made;
   key = λ tells. subst (λ (bytes : List ℕ). IsOnDisk (whole_of bytes) store.parts.key) spelled (writes.key (subst (λ (s : DiskState). IsTrue s.tells) (sym same.key_same) tells));
   used = λ tells. subst (λ (k : ℕ). IsOnDisk (none_used k) store.parts.used) long (writes.used (subst (λ (s : DiskState). IsTrue s.tells) (sym same.used_same) tells));
   taken = taken;
+  tried = tried;
 }
 
 -- bytes that are 0 for each of n indices

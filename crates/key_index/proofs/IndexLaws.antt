@@ -4,7 +4,10 @@ use Rattle.std.specs.Prelude.{not, count_by}
 use Rattle.std.specs.List.{position_or_len}
 use Rattle.std.proofs.lemmas.Bool.{not-true, not-false}
 use Rattle.std.proofs.lemmas.List.Sums.{fails_before_first, passes_at_first, sum_by-set, prefix_len-le-length, position_or_len_is}
+use Rattle.std.specs.Prelude.{Some}
+use Rattle.std.proofs.lemmas.Bool.Decides.{nat_tests}
 use Rattle.key_index.specs.Kept.{AreIndices}
+use Rattle.key_index.specs.Used.{least_unused}
 
 -- The least index that is not used, where there is one.
 pub record IsLeast (used : List Bool) (index : ℕ) : Type 0 where
@@ -42,3 +45,13 @@ one_less used index least =
 pub least_is : (used : List Bool) (next : ℕ) → next ≤ length used → ((i : ℕ) → i < next → get_or used i true ≡ true) → (next < length used → get_or used next true ≡ false) → next ≡ position_or_len not used
 least_is used next within below unused =
     sym (position_or_len_is not used next true within (λ i lt. ap not (below i lt)) (λ lt. ap not (unused lt)))
+
+-- It is the one that a look from the front finds.
+pub least_at : (used : List Bool) (next left : ℕ) → AreIndices used next left → (next ≡ length used → ⊥) → Some next ≡ least_unused used
+least_at used next left are more =
+    let least = is_least used next left are more in
+    let first : position_or_len not used < length used = omega (arith, are.cursor, least.within) in
+    ap (λ (n : ℕ). Some n) are.cursor ∙ sym (found_first used first)
+  where
+    found_first : (used : List Bool) → position_or_len not used < length used → least_unused used ≡ Some (position_or_len not used)
+    found_first used lt = grind (arith, nat_tests)

@@ -4,4 +4,4 @@ mod UsedLaws
 mod ReserveLaws
 mod OpenLaws
 mod CreateLaws
-mod RunLaws
+mod LifeLaws

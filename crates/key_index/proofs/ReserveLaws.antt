@@ -30,14 +30,15 @@ pub record HasTried (old : KeyState) (index : ℕ) (new : KeyState) : Type 0 whe
 
 -- One byte of Used was written, where that index stands.
 pub has_tried : (old new : KeyState) (index at : ℕ) → IsStore old.parts.used old.secret old.taken → (IsTrue old.parts.used.tells → IsImage old.parts.used.now old.parts.used.seen)
-    → Some index ≡ least_unused old.taken → new.taken ≡ set old.taken index true → at ≡ index → LeavesOnly old.parts.used new.parts.used (IsTornFrom old.parts.used.now at (at + 1))
+    → Some index ≡ least_unused old.taken → new.taken ≡ set old.taken index true → new.tried ≡ Some index → at ≡ index → LeavesOnly old.parts.used new.parts.used (IsTornFrom old.parts.used.now at (at + 1))
     → old.parts.used_faults ≤ new.parts.used_faults → new.parts.key ≡ old.parts.key → new.parts.key_faults ≡ old.parts.key_faults → new.secret ≡ old.secret → HasTried old index new
-has_tried old new index at store reads least taken same only later key key_faults secret = record {
+has_tried old new index at store reads least taken tried same only later key key_faults secret = record {
   store = store;
   reads = reads;
   least = sym least;
   tries = record {
     taken = taken;
+    tried = tried;
     only = subst (λ (k : ℕ). LeavesOnly old.parts.used new.parts.used (IsTornFrom old.parts.used.now k (k + 1))) same only;
     key = key;
     key_faults = key_faults;

@@ -1,5 +1,5 @@
 -- What creating a key answers and leaves.
-use Rattle.std.specs.Prelude.{◌≡◌, ◌≢◌, ◌⊎◌, ℕ, false, IsTrue, List, Result, OnOk, OnErr, replicate}
+use Rattle.std.specs.Prelude.{◌≡◌, ◌≢◌, ◌⊎◌, ℕ, false, IsTrue, List, Result, OnOk, OnErr, replicate, None}
 use Rattle.rand_core.specs.Stream.{Stream, fill_bytes}
 use Rattle.bec_disk.specs.Disk.{DiskState, IsSameDisk, IsSettled, LeavesOnly}
 use Rattle.bec_disk.specs.Gated.{IsOldOrNew, gated_of, whole_of}
@@ -54,6 +54,7 @@ pub record CreatesKey (secret : SecretData) (old : KeyParts) (store : KeyState) 
   pub key : IsTrue old.key.tells → IsOnDisk (whole_of (payload_of secret)) store.parts.key
   pub used : IsTrue old.used.tells → IsOnDisk (none_used (leaf_count secret.lms)) store.parts.used
   pub taken : store.taken ≡ replicate (leaf_count secret.lms) false
+  pub tried : store.tried ≡ None
 
 -- No key was created, for this cause. Unless a disk failed, nothing was written.
 pub record RefusesToCreate (secret : SecretData) (old : KeyParts) (why : CreateKeyKind) (new : KeyParts) : Type 0 where

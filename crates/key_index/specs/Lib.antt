@@ -6,4 +6,4 @@ pub mod Reserving
 pub mod Opening
 pub mod Creating
 pub mod Faults
-pub mod Runs
+pub mod Lives

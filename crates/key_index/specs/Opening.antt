@@ -1,5 +1,5 @@
 -- What opening a key answers.
-use Rattle.std.specs.Prelude.{◌≡◌, ◌≢◌, ℕ, IsTrue, List, length}
+use Rattle.std.specs.Prelude.{◌≡◌, ◌≢◌, ℕ, IsTrue, List, length, None}
 use Rattle.bec_disk.specs.Gated.{gated_of}
 use Rattle.bec_disk.specs.declared.gated.Gated.TheVariants.{Absent, Whole}
 use Rattle.lms_tree.specs.LmsKind.{leaf_count}
@@ -38,6 +38,7 @@ pub record OpensKey (old : KeyParts) (store : KeyState) : Type 0 where
   pub holds : IsTrue old.key.tells → Holds old.key.seen store.secret
   pub size : IsTrue old.used.tells → length old.used.seen ≡ leaf_count store.secret.lms
   pub taken : IsTrue old.used.tells → store.taken ≡ used_in old.used.seen
+  pub tried : store.tried ≡ None
 
 -- No key was opened, for this cause. Nothing was written.
 pub record RefusesToOpen (old : KeyParts) (why : KeyFaultKind) (new : KeyParts) : Type 0 where

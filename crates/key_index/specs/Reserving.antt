@@ -11,6 +11,7 @@ use Rattle.key_index.specs.declared.reserve.Reserve.TheVariants.{Spent, DiskFaul
 -- The index is used in the store from then on. A crash at any moment changes no other byte of Used, and nothing but Used changes.
 pub record Tries (old : KeyState) (index : ℕ) (new : KeyState) : Type 0 where
   pub taken : new.taken ≡ slice_set old.taken index true
+  pub tried : new.tried ≡ Some index
   pub only : LeavesOnly old.parts.used new.parts.used (IsTornFrom old.parts.used.now index (index + 1))
   pub key : new.parts.key ≡ old.parts.key
   pub key_faults : new.parts.key_faults ≡ old.parts.key_faults

@@ -1,6 +1,6 @@
-ghost use Rattle.std.specs.Prelude.{◌≡◌, ◌≤◌, ◌^◌, ℕ, ◌<◌, Some, None, true, not, count_by, length, slice_index_or, slice_set, vec_len, MatchOption};
+ghost use Rattle.std.specs.Prelude.{◌≡◌, ◌≤◌, ◌^◌, ℕ, ◌<◌, Some, None, true, false, not, ◌+◌, count_by, length, slice_index_or, slice_set, vec_len, MatchOption};
 ghost use Rattle.std.specs.List.{position_or_len};
-ghost use Rattle.key_index.specs.Used.{least_unused};
+ghost use Rattle.key_index.specs.Used.{IsGreatest, least_unused};
 
 use std::marker::Model;
 
@@ -44,6 +44,29 @@ impl Indices {
         self.left
     }
 
+    /// The least index that is not used.
+    pub fn least(&self) -> Option<u32>
+        ensures { result ≡ least_unused self.now }
+    {
+        let index = self.next;
+        if index == self.used.len() {
+            return None;
+        }
+        Some(index as u32)
+    }
+
+    /// The greatest index that is used.
+    pub fn greatest(&self) -> Option<u32>
+        ensures { IsGreatest self.now result }
+    {
+        let count = used_front(&self.used);
+        if count == 0 {
+            None
+        } else {
+            Some((count - 1) as u32)
+        }
+    }
+
     /// The least index that is not used. It is used from then on.
     pub fn take_least(&mut self) -> Option<u32>
         ensures least { result ≡ least_unused self.old }
@@ -58,6 +81,19 @@ impl Indices {
         self.left -= 1;
         Some(index as u32)
     }
+}
+
+/// How many indices there are up to the last one that is used.
+fn used_front(used: &[bool]) -> usize
+    ensures within { result ≤ length used.now }
+    ensures above { (index : ℕ) → result ≤ index → slice_index_or used.now index false ≡ false }
+    ensures last { (index : ℕ) → result ≡ index + 1 → slice_index_or used.now index false ≡ true }
+{
+    let mut count = used.len();
+    while count > 0 && !used[count - 1] {
+        count -= 1;
+    }
+    count
 }
 
 /// The least index that is not used, or the number of indices. It is not below `from`.

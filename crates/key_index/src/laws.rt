@@ -1,17 +1,18 @@
-//! Laws of reservations. Each function does nothing: its contract is a theorem for callers to cite.
+//! Laws of the lives of keys. Each function does nothing: its contract is a theorem for callers to cite.
 
-ghost use Rattle.std.specs.Prelude.{◌≡◌, ℕ, List, IsTrue, nat_eq};
-ghost use Rattle.std.specs.List.{AllByRecursion, IsDistinct};
+ghost use Rattle.std.specs.Prelude.{◌≡◌, ℕ, List};
 ghost use Rattle.bec_disk.specs.Disk.{EveryImage};
-ghost use Rattle.key_index.specs.KeyState.{KeyState};
-ghost use Rattle.key_index.specs.Runs.{Step, IsRun, answered, store_after};
+ghost use Rattle.key_index.specs.KeyState.{AreTold, KeyParts};
 ghost use Rattle.key_index.specs.Used.{IsUsed};
+ghost use Rattle.key_index.specs.Lives.{AreApart, Closed, Has, Histories, IsThere, Life, Message, parts_in};
 
-/// Over any list of reservations, faults, stops at any moment and openings, no index is answered
-/// twice, and a crash after them leaves each index used that was answered. A key that is created over
-/// the parts begins anew.
-pub fn no_index_twice()
-    ensures once { (store : KeyState) (steps : List Step) → IsTrue store.parts.used.tells → IsRun store steps → IsDistinct nat_eq (answered steps) }
-    ensures used { (store : KeyState) (steps : List Step) → IsTrue store.parts.used.tells → IsRun store steps
-        → AllByRecursion (λ index. EveryImage (store_after store steps).parts.used.now (IsUsed index)) (answered steps) }
+/// Over any list of calls that create, open and sign, of faults, stops at any moment within them and
+/// restarts, each index signs at most one message, and each crash after a signature leaves its index
+/// used.
+pub fn no_index_twice_ever()
+    ensures once { (parts : KeyParts) (signed : List Message) (last : Life) → AreTold parts → Histories (Closed parts) signed last → AreApart signed }
+    ensures used { (parts : KeyParts) (signed : List Message) (last : Life) (index : ℕ) → AreTold parts → Histories (Closed parts) signed last → Has signed index
+        → EveryImage (parts_in last).used.now (IsUsed index) }
+    ensures stays { (life last : Life) (signed : List Message) (index : ℕ) → AreTold (parts_in life) → EveryImage (parts_in life).key.now IsThere
+        → EveryImage (parts_in life).used.now (IsUsed index) → Histories life signed last → (Has signed index → ⊥) × EveryImage (parts_in last).used.now (IsUsed index) }
 {}

@@ -3,7 +3,8 @@
 //! The part Key keeps what the key is made from: its types, its identifier and its seed. The part Used
 //! has a byte for each of its indices. [`KeyStore::reserve`] hands out the least index that is not used
 //! and has it on the disk first, so no index is handed out twice, over crashes at any moment and any
-//! number of openings; [`no_index_twice`] says so of whole runs. [`KeyStore::sign`] signs with such an
+//! number of openings; [`no_index_twice_ever`] says so of whole lives, from before there is a key.
+//! [`KeyStore::sign`] signs with such an
 //! index only. [`KeyStore::create`] draws a key where there is none, and [`KeyStore::open_key`] opens it.
 //!
 //! ```text
@@ -30,6 +31,6 @@ mod reserve;
 mod store;
 
 pub use faults::{CreateKey, CreateKeyKind, KeyFault, KeyFaultKind};
-pub use laws::no_index_twice;
+pub use laws::no_index_twice_ever;
 pub use reserve::Reserve;
 pub use store::KeyStore;

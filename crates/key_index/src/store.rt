@@ -2,8 +2,9 @@ ghost use Rattle.std.specs.Prelude.{◌≡◌, not, count_by, length, IfOk, OnOk
 ghost use Rattle.update_model.specs.Form.{IsKnownKey, signature_length};
 ghost use Rattle.lms_tree.specs.Signature.{Signed};
 ghost use Rattle.lms_tree.specs.SecretKey.{public_key, signature_by};
-ghost use Rattle.key_index.specs.KeyState.{parts_of, store_of};
+ghost use Rattle.key_index.specs.KeyState.{IsLast, parts_of, store_of};
 ghost use Rattle.key_index.specs.Kept.{IsStore};
+ghost use Rattle.key_index.specs.Used.{least_unused};
 ghost use Rattle.key_index.specs.Reserving.{Reserves};
 
 use crate::indices::Indices;
@@ -26,6 +27,8 @@ pub struct KeyStore<D: Disk> {
     secret: Secret,
     /// Which indices are used in this store.
     indices: Indices,
+    /// The index that a reservation of this store tried last.
+    tried: Option<u32>,
 }
 
 impl<D: Disk> Model for KeyStore<D> {
@@ -34,7 +37,7 @@ impl<D: Disk> Model for KeyStore<D> {
 
     ghost Value = { KeyState };
 
-    ghost view = { λ store. store_of D.state D.faults store.key store.used store.secret store.indices };
+    ghost view = { λ store. record (store_of D.state D.faults store.key store.used store.secret store.indices) { tried = store.tried } };
 
     ghost invariant = { λ store. IsStore (D.state store.used) store.secret store.indices };
 }
@@ -50,6 +53,7 @@ impl<D: Disk> KeyStore<D> {
             used,
             secret: opened.secret,
             indices: opened.indices,
+            tried: None,
         }
     }
 
@@ -68,6 +72,24 @@ impl<D: Disk> KeyStore<D> {
         self.indices.left()
     }
 
+    /// The least index that is not used in this store. It takes no memory.
+    pub fn next(&self) -> Option<u32>
+        ensures { result ≡ least_unused self.now.taken }
+    {
+        self.indices.least()
+    }
+
+    /// The index that a reservation of this store tried last, and where none tried one the greatest
+    /// that is used. It takes no memory.
+    pub fn last(&self) -> Option<u32>
+        ensures { IsLast self.now result }
+    {
+        match self.tried {
+            Some(index) => Some(index),
+            None => self.indices.greatest(),
+        }
+    }
+
     /// Gives the disks of the parts Key and Used back.
     pub fn into_disks(self) -> (D, D)
         ensures { parts_of D.state D.faults result.0 result.1 ≡ self.parts }
@@ -77,6 +99,7 @@ impl<D: Disk> KeyStore<D> {
             used,
             secret: _,
             indices: _,
+            tried: _,
         } = self;
         (key, used)
     }
@@ -90,6 +113,7 @@ impl<D: Disk> KeyStore<D> {
         let Some(index) = self.indices.take_least() else {
             return Err(Reserve::Spent);
         };
+        self.tried = Some(index);
         write_synced(&mut self.used, u64::from(index), &[1])?;
         Ok(index)
     }

@@ -1,5 +1,5 @@
 -- What a source has left has one answer to a command.
-use Rattle.std.proofs.Common.{◌≡◌, inl, inr, ℕ, Bool, List, length, Option, None, Some, Ok, Err, map, refl, sym, ap, subst, ◌∙◌, ◌&&◌, not, arith}
+use Rattle.std.proofs.Common.{◌≡◌, inl, inr, ℕ, Bool, List, length, Option, None, Some, map, refl, sym, ap, subst, ◌∙◌, ◌&&◌, not, arith}
 use Rattle.update_model.specs.declared.update_id.UpdateId.{UpdateId}
 use Rattle.update_model.specs.Graph.{AreHeads, holds, names}
 use Rattle.update_model.proofs.Heads.{sorted_same}
@@ -10,23 +10,24 @@ use Rattle.update_stream.specs.Stream.{IsWhole, IsRefused}
 use Rattle.update_stream.proofs.Good.{members_of}
 use Rattle.bec_bytes.specs.Framed.{HoldsPiece, IsTooLong}
 use Rattle.bec_bytes.proofs.Frames.{cut_or_held, cut_or_long, framed_some, long_or_held, one_piece}
-use Rattle.schema.specs.declared.limits.TheConstants.{MAX_SCHEMA_BYTES}
+use Rattle.schema_text.specs.declared.limits.TheConstants.{MAX_SCHEMA_BYTES}
 use Rattle.row_check.specs.Checksum.{is_luhn}
-use Rattle.schema.specs.Schemas.{SchemaData}
+use Rattle.schema_text.specs.Schemas.{Declares}
+use Rattle.schema.specs.Data.{Meaning, SchemaData}
 use Rattle.table_model.specs.Tables.{AreTablesOf}
-use Rattle.node_commands.specs.declared.refusal.Refusal.{Refusal}
-use Rattle.node_commands.specs.declared.refusal.Refusal.TheVariants.{Record}
-use Rattle.node_commands.specs.Bundle.{DumpAnswer, dump_text, holds as holds_text, lacks, HoldsText, IsCutSchema, LacksText, RecordsAnswer, whole, stopped, TextAnswer, taken, refused as text_refused, nodes_of}
+use Rattle.outcomes.specs.declared.refusal.Refusal.{Refusal}
+use Rattle.outcomes.specs.declared.refusal.Refusal.TheVariants.{Record}
+use Rattle.node_commands.specs.Bundle.{DumpAnswer, dump_text, holds as holds_text, lacks, HoldsText, IsCutSchema, LacksText, RecordsAnswer, whole, stopped, TextAnswer, taken, refused as text_refused}
+use Rattle.outcomes.specs.Rules.{nodes_of, rules_of}
 use Rattle.node_commands.specs.Heads.{HeadsAnswer, done, refused}
-use Rattle.node_commands.specs.Outcome.{Outcome, from_taking, status_for, status_of, text_for, text_of}
-use Rattle.schema_verdict.specs.Verdict.{Prints}
-use Rattle.node_commands.specs.Texts.{printed}
-use Rattle.schema.specs.Schemas.{Declares, Meaning}
+use Rattle.outcomes.specs.Outcome.{Outcome, from_taking}
+use Rattle.outcomes.specs.Texts.{printed}
+use Rattle.schema_verdict.specs.Verdict.{confluent, refused as check_refused}
 use Rattle.confluence_test.specs.Taking.{RefusesSchema, TakesSchema}
 use Rattle.confluence_test.specs.declared.refusal.SchemaRefusal.{SchemaRefusal}
-use Rattle.node_commands.specs.Verdict.{CheckAnswer, rules_of}
-use Rattle.schema_verdict.specs.Verdict.{confluent, refused as check_refused}
+use Rattle.node_commands.specs.Verdict.{CheckAnswer}
 use Rattle.node_commands.proofs.Tables.{TableLaws, tables_once}
+use Rattle.outcomes.proofs.Same.{Same, same_prints, same_refused, IsOneAnswer}
 
 pub heads_once : (members others : List (List ℕ)) (heads again : List UpdateId) → members ≡ others → AreHeads (map entry_of members) heads → AreHeads (map entry_of others) again → heads ≡ again
 heads_once members others heads again same a b =
@@ -49,18 +50,6 @@ pub record SchemaLaws : Type 0 where
   pub one_schema : (relation : Meaning) (text : List ℕ) (schema other : SchemaData) → Declares relation text schema → Declares relation text other → schema ≡ other
   pub taken_or_refused : (ask : Meaning) (text : List ℕ) (schema : SchemaData) (refusal : SchemaRefusal) → TakesSchema ask text schema → RefusesSchema ask text refusal → ⊥
   pub refused_once : (ask : Meaning) (text : List ℕ) (refusal other : SchemaRefusal) → RefusesSchema ask text refusal → RefusesSchema ask text other → refusal ≡ other
-
--- the outcomes are told apart by nobody: one status and one text
-abbrev pub Same : Outcome → Outcome → Type 0
-Same a b = (status_of a ≡ status_of b) × (text_of a ≡ text_of b)
-
-pub same_prints : (a b : Outcome) (text line : List ℕ) → text ≡ line → Prints a text → Prints b line → Same a b
-same_prints (Ok x) (Ok y) text line same p q = (refl, p ∙ same ∙ sym q)
-same_prints (Ok x) (Err s) text line same p q = absurd q
-same_prints (Err r) b text line same p q = absurd p
-
-pub same_refused : (a b : Outcome) (r s : Refusal) → r ≡ s → a ≡ Err r → b ≡ Err s → Same a b
-same_refused a b r s same e f = (ap status_of e ∙ ap status_for same ∙ sym (ap status_of f), ap text_of e ∙ ap text_for same ∙ sym (ap text_of f))
 
 module _ (streams : StreamLaws) where
   same_stop : (given : Option RuleData) (input rest other : List ℕ) (m n : ℕ) (f g : RecordFault) → IsRefused given input rest m f → IsRefused given input other n g → Record m f ≡ Record n g
@@ -143,10 +132,6 @@ module _ (streams : StreamLaws) (schemas : SchemaLaws) (laws : TableLaws) (json 
   dump_answered input after other a b (holds_text d m h t) (lacks r l e) = absurd (lacks_or_holds input d other m r l h)
   dump_answered input after other a b (lacks r l e) (holds_text d m h t) = absurd (lacks_or_holds input d after m r l h)
   dump_answered input after other a b (lacks r l e) (lacks s k f) = same_refused a b r s (lacks_once input after other r s l k) e f
-
--- what a source has left has one answer
-abbrev pub IsOneAnswer : (Option (List ℕ) → Option (List ℕ) → Outcome → Type 0) → Type 0
-IsOneAnswer Answer = (input : List ℕ) (after other : Option (List ℕ)) (a b : Outcome) → Answer (Some input) after a → Answer (Some input) other b → Same a b
 
 -- so it is of each command
 pub record OneAnswer : Type 0 where

@@ -1,5 +1,5 @@
 -- From what the parts of a command answer to what it comes to.
-use Rattle.std.proofs.Common.{◌≡◌, ◌≢◌, ◌⊎◌, inl, inr, ℕ, ◌≤◌, Bool, List, refl, ap, subst, Option, None, Some, Ok, Err, Vec, arith}
+use Rattle.std.proofs.Common.{◌≡◌, ◌⊎◌, inl, inr, ℕ, ◌≤◌, Bool, List, refl, ap, subst, Option, None, Some, Ok, Err, Vec}
 use Rattle.std.specs.declared.alloc.Global.{Global}
 use Rattle.update_model.specs.Rule.{RuleData}
 use Rattle.update_stream.specs.declared.reading.Reading.TheVariants.{Whole}
@@ -8,19 +8,18 @@ use Rattle.row_check.specs.Checksum.{is_luhn}
 use Rattle.confluence_test.specs.Taking.{RefusesSchema, TakesSchema}
 use Rattle.confluence_test.specs.declared.refusal.SchemaRefusal.{SchemaRefusal}
 use Rattle.confluence_test.specs.declared.refusal.SchemaRefusal.TheVariants as taking
-use Rattle.schema.specs.Schemas.{SchemaData}
-use Rattle.bec_bytes.specs.Causes.{Rose}
-use Rattle.node_commands.specs.declared.refusal.Refusal.{Refusal}
-use Rattle.node_commands.specs.declared.refusal.Refusal.TheVariants.{Memory}
+use Rattle.outcomes.specs.declared.refusal.Refusal.{Refusal}
+use Rattle.outcomes.specs.declared.refusal.Refusal.TheVariants.{Memory}
+use Rattle.schema.specs.Data.{SchemaData}
 use Rattle.update_check.specs.Members.{AreMembers}
 use Rattle.node_commands.specs.Bundle.{DumpAnswer, holds, HoldsText, lacks, LacksText, PrintsTables, stopped, taken, refused as text_refused, whole}
 use Rattle.node_commands.specs.Heads.{HeadsAnswer, refused, StopsAt}
-use Rattle.node_commands.specs.Outcome.{ComesTo, IsFault, Outcome, Says, from_taking, from_verdict, status_for, text_for}
-use Rattle.schema_verdict.specs.Written.{Puts}
+use Rattle.outcomes.specs.Outcome.{ComesTo, IsFault, Outcome, from_taking, from_verdict}
 use Rattle.node_commands.specs.Verdict.{CheckAnswer}
 use Rattle.schema_verdict.specs.Verdict.{CheckAnswer as IsVerdict, IsFault as IsVerdictFault, OutcomeOf, confluent, refused as check_is_refused}
 use Rattle.schema_verdict.specs.declared.refusal.VerdictRefusal.{VerdictRefusal}
 use Rattle.schema_verdict.specs.declared.refusal.VerdictRefusal.TheVariants.{NotTaken}
+use Rattle.outcomes.proofs.Saying.{rose_later}
 
 -- ---- refusals of commands
 
@@ -56,10 +55,6 @@ pub dump_refused : (json : Bool) (before after : Option (List ℕ)) (old new : �
 dump_refused json before after old new declared why held (inl refuses) = inl (holds declared after held (text_refused why refuses refl refl))
 dump_refused json before after old new declared why held (inr memory) = inr (inl (ap from_taking memory))
 
--- a count that rose since a later moment rose since an earlier one
-pub rose_later : (old mid new : ℕ) → old ≤ mid → Rose mid new → Rose old new
-rose_later old mid new later rose = omega (arith, later, rose)
-
 pub dump_stopped : (json : Bool) (before mid after : Option (List ℕ)) (old between new : ℕ) (declared : List ℕ) (schema : SchemaData) (given : Option RuleData) (r : Refusal) → HoldsText before mid declared
     → TakesSchema is_luhn declared schema → given ≡ Some schema.rule → old ≤ between → StopsAt given mid after between new r → ComesTo (DumpAnswer json) before after old new (Err r)
 dump_stopped json before mid after old between new declared schema given r held takes is later stops = by (subst (λ (g : Option RuleData). StopsAt g mid after between new r) is stops)
@@ -73,17 +68,3 @@ pub dump_done : (json : Bool) (before mid after : Option (List ℕ)) (declared :
     → TakesSchema is_luhn declared schema → given ≡ Some schema.rule → Reads given mid after (Whole members) → (AreMembers schema.rule members → PrintsTables json schema members text.items) → DumpAnswer json before after (Ok text)
 dump_done json before mid after declared schema given members text held takes is reads tables =
     holds declared mid held (taken schema takes (whole members text.items (subst (λ (g : Option RuleData). Reads g mid after (Whole members)) is reads) tables refl))
-
--- ---- lines of refusals
-
--- a refusal that is not want of memory is said where its text is put
-pub says_refused : (old new : ℕ) (held held_new : Option (List ℕ)) (refusal : Refusal) (own : ℕ) (text : List ℕ) (status : ℕ) → own ≡ status_for refusal
-    → (text ≡ text_for refusal) × (refusal ≢ Memory) → Puts old new held held_new own text status → Says old new held held_new (Err refusal) status
-says_refused old new held held_new refusal own text status is_own line put =
-    let P : ℕ → Type 0 = λ s. Puts old new held held_new s (text_for refusal) status in
-    let Q : List ℕ → Type 0 = λ t. Puts old new held held_new own t status in
-    by refusal line.1 (subst P is_own (subst Q line.0 put))
-  where
-    by : (r : Refusal) → r ≢ Memory → Puts old new held held_new (status_for r) (text_for r) status → Says old new held held_new (Err r) status
-    by Memory not said = absurd (not refl)
-    by r not said = said

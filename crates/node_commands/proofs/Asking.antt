@@ -9,7 +9,7 @@ use Rattle.update_check.specs.Members.{AreMembers}
 use Rattle.head_set.specs.Grown.{NoCollision}
 use Rattle.table_model.specs.Nodes.{IsClosed, IsSameSet}
 use Rattle.table_model.specs.Visible.{Rules}
-use Rattle.schema.specs.Schemas.{SchemaData}
+use Rattle.schema.specs.Data.{SchemaData}
 use Rattle.query.specs.Queries.{QueryData, FirstFault, Reads}
 use Rattle.query.specs.Outcome.{HasCause}
 use Rattle.query.specs.declared.fault.QueryError.{QueryError}
@@ -17,12 +17,11 @@ use Rattle.query.specs.declared.fault.QueryError.TheVariants as query_errors
 use Rattle.query.specs.declared.fault.QueryKind.{QueryKind}
 use Rattle.query_answer.specs.Answers.{AnswerData, IsAnswerOver}
 use Rattle.store_directory.specs.Stores.{StoreData}
-use Rattle.node_commands.specs.declared.refusal.Refusal.TheVariants.{Memory, Query}
+use Rattle.outcomes.specs.declared.refusal.Refusal.TheVariants.{Memory, Query}
 use Rattle.node_commands.specs.Asking.{HasAnswer, QueryAnswer, answer_text, answers, faulted}
-use Rattle.node_commands.specs.Bundle.{nodes_of}
-use Rattle.node_commands.specs.Outcome.{Outcome, from_query}
-use Rattle.node_commands.specs.Verdict.{rules_of}
-use Rattle.node_commands.proofs.Answer.{Same, same_prints, same_refused}
+use Rattle.outcomes.specs.Rules.{nodes_of, rules_of}
+use Rattle.outcomes.specs.Outcome.{Outcome, from_query}
+use Rattle.outcomes.proofs.Same.{Same, same_prints, same_refused}
 use Rattle.node_commands.proofs.Orders.{rows_there}
 use Rattle.node_commands.proofs.Tables.{TableLaws, nodes_closed, same_nodes}
 

@@ -7,28 +7,31 @@ use Rattle.lms_tree.specs.declared.lms_type.LmsType.{LmsType}
 use Rattle.lms_tree.specs.SecretKey.{SecretData}
 use Rattle.update_model.specs.declared.op.Op.{Op}
 use Rattle.update_model.specs.declared.update_id.UpdateId.{UpdateId}
-use Rattle.schema.specs.Schemas.{Declares, Meaning, SchemaData}
+use Rattle.schema_text.specs.Schemas.{Declares}
+use Rattle.schema.specs.Data.{Meaning, SchemaData}
 use Rattle.confluence_test.specs.Taking.{RefusesSchema}
 use Rattle.history.specs.Histories.{HistoryData}
 use Rattle.replica.specs.Making.{HasNoneToJoin, IsJoinCause, IsMakeCause, Joins, Makes}
 use Rattle.replica.specs.Told.{IsAfterVerdict, IsBeforeVerdict, IsTold}
 use Rattle.replica.specs.declared.make_fault.MakeFault.{MakeFault}
 use Rattle.replica.specs.declared.make_fault.MakeFault.TheVariants.{NotListed, TooManyHeads, Invalid, TooLong, Full, Spent, Taken, DiskFault, Memory}
-use Rattle.store_directory.specs.Keys.{IsBadKey, IsNoKey, ReadsAsKey}
+use Rattle.key_directory.specs.Keys.{IsBadKey, IsNoKey, ReadsAsKey}
 use Rattle.store_directory.specs.Stores.{StoreData}
 use Rattle.txn_text.specs.Transactions.{FirstFault, Reads}
 use Rattle.txn_text.specs.declared.fault.TextFault.{TextFault}
 use Rattle.txn_text.specs.declared.fault.TextKind.{TextKind}
-use Rattle.node_commands.specs.declared.refusal.Refusal.{Refusal}
-use Rattle.node_commands.specs.declared.refusal.Refusal.TheVariants as refusals
-use Rattle.node_commands.specs.Creating.{InitAnswer, IsRefused, KeygenAnswer, created, drawn, refused as text_refused, there}
-use Rattle.node_commands.specs.Outcome.{Outcome, from_make, from_taking}
+use Rattle.outcomes.specs.declared.refusal.Refusal.{Refusal}
+use Rattle.outcomes.specs.declared.refusal.Refusal.TheVariants as refusals
+use Rattle.node_commands.specs.Creating.{InitAnswer, KeygenAnswer, created, drawn, refused as text_refused, there}
+use Rattle.outcomes.specs.Comes.{IsRefused}
+use Rattle.outcomes.specs.Outcome.{Outcome, from_make, from_taking}
 use Rattle.schema_verdict.specs.Verdict.{Prints}
-use Rattle.node_commands.specs.Signing.{ApplyAnswer, IsBeforeOperations, IsInvalid, IsSureOfApply, JoinAnswer, KeyedAnswer, MakeAnswer, MayApply, RefusesKey, SignAnswer, StoreAnswer, asked, bad_key, bad_text, history_of, joined, made, no_key, none, not_joined, not_made, taken_of, with_key, with_store, with_update, without_key, without_store}
-use Rattle.node_commands.specs.StoreAnswers.{Readings, next_bytes}
-use Rattle.node_commands.specs.Texts.{database_text, line_of}
-use Rattle.node_commands.proofs.Answer.{Same, SchemaLaws, not_both, same_prints, same_refused}
-use Rattle.node_commands.proofs.StoreOnce.{StoreLaws, read_or_refused, refused_once}
+use Rattle.node_commands.specs.Signing.{ApplyAnswer, IsBeforeOperations, IsInvalid, IsSureOfApply, JoinAnswer, KeyedAnswer, MakeAnswer, MayApply, SignAnswer, StoreAnswer, asked, bad_text, history_of, joined, made, none, not_joined, not_made, taken_of, with_key, with_store, with_update, without_key, without_store}
+use Rattle.outcomes.specs.StoreAnswers.{RefusesKey, bad_key, no_key, Readings, next_bytes}
+use Rattle.outcomes.specs.Texts.{database_text, line_of}
+use Rattle.outcomes.proofs.Same.{Same, same_prints, same_refused}
+use Rattle.node_commands.proofs.Answer.{SchemaLaws, not_both}
+use Rattle.outcomes.proofs.StoreOnce.{StoreLaws, read_or_refused, refused_once}
 
 -- ---- making a store
 

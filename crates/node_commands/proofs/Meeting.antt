@@ -21,14 +21,16 @@ use Rattle.peer_memory.specs.Payload.{Reads}
 use Rattle.replica.specs.Holding.{IsOnDisk, IsWhole, KeepsOn, keeps_itself}
 use Rattle.replica.specs.Replicas.{ReplicaState}
 use Rattle.store_directory.specs.Holding.{WorksOn}
-use Rattle.store_directory.specs.Stores.{KeepsPlaces}
-use Rattle.node_commands.specs.declared.refusal.Refusal.{Refusal}
-use Rattle.node_commands.specs.Comes.{is_done}
-use Rattle.node_commands.specs.Merging.{IsMergeFault, IsPeersFault, KeepsAllButIn, KeepsPeers, Meets, MergesOpen, RemembersIn, TellsEnd, memory_in, opened_store, start_of}
-use Rattle.node_commands.specs.Outcome.{Outcome}
-use Rattle.node_commands.specs.Signing.{WorksFrom}
-use Rattle.node_commands.specs.Standing.{Stands}
-use Rattle.node_commands.proofs.Merging.{away_from, same_memory}
+use Rattle.outcomes.specs.declared.refusal.Refusal.{Refusal}
+use Rattle.outcomes.specs.Comes.{is_done}
+use Rattle.node_commands.specs.Merging.{IsMergeFault, KeepsAllButIn, Meets, MergesOpen, TellsEnd, start_of}
+use Rattle.outcomes.specs.Remembering.{IsPeersFault, KeepsPeers, RemembersIn, memory_in}
+use Rattle.outcomes.specs.OpenStores.{WorksFrom, opened_store}
+use Rattle.outcomes.specs.Outcome.{Outcome}
+use Rattle.outcomes.specs.Standing.{Stands}
+use Rattle.node_commands.proofs.Merging.{away_from}
+use Rattle.outcomes.proofs.Around.{same_memory}
+use Rattle.key_directory.specs.Parts.{KeepsPlaces}
 
 -- ---- the shelf
 

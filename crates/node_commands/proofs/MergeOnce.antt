@@ -10,14 +10,14 @@ use Rattle.sync_session.specs.Carrying.{HasRoom}
 use Rattle.sync_session.specs.declared.pair.PairEnd.{PairEnd}
 use Rattle.store_directory.specs.Stores.{StoreData}
 use Rattle.schema_verdict.specs.declared.status.TheConstants.{DONE}
-use Rattle.node_commands.specs.Comes.{is_done}
+use Rattle.outcomes.specs.Comes.{is_done}
 use Rattle.node_commands.specs.Merging.{IsSureOfMerge, MayMerge, Meets, MergeAnswer, TellsEnd, done, first_refused, full, peer, second_refused, united, with_both, without_first, without_second}
-use Rattle.node_commands.specs.Outcome.{Outcome, status_of}
+use Rattle.outcomes.specs.Outcome.{Outcome, status_of}
 use Rattle.schema_verdict.specs.Verdict.{Prints}
-use Rattle.node_commands.specs.StoreAnswers.{Readings}
-use Rattle.node_commands.specs.Texts.{merged_text}
+use Rattle.outcomes.specs.StoreAnswers.{Readings}
+use Rattle.outcomes.specs.Texts.{merged_text}
 use Rattle.node_commands.proofs.Meeting.{is_done_end, told_apart}
-use Rattle.node_commands.proofs.StoreOnce.{StoreLaws, read_or_refused, refused_once}
+use Rattle.outcomes.proofs.StoreOnce.{StoreLaws, read_or_refused, refused_once}
 
 abbrev pub OneOfMerge : Type 0
 OneOfMerge = (parts parts_other : Readings) (a b : Outcome) → MayMerge parts parts_other a → IsSureOfMerge parts parts_other b → status_of a ≡ status_of b

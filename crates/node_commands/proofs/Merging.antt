@@ -1,54 +1,42 @@
 -- Merging the stores of two directories.
-use Rattle.std.proofs.Common.{◌≡◌, ◌≢◌, ◌⊎◌, inl, inr, ℕ, ◌<◌, ◌≤◌, Bool, true, false, List, [], ◌∷◌, ◌++◌, refl, sym, ap, subst, ◌∙◌, IsTrue, Some, Err, arith}
+use Rattle.std.proofs.Common.{◌≡◌, ◌≢◌, ◌⊎◌, inl, inr, ℕ, ◌<◌, ◌≤◌, Bool, true, false, List, [], ◌∷◌, ◌++◌, refl, sym, ap, subst, ◌∙◌, IsTrue, Err, arith}
 use Rattle.std.specs.Prelude.{◌||◌, Contains}
 use Rattle.std.specs.List.{list_any}
 use Rattle.std.proofs.lemmas.Bool.{true≢false}
 use Rattle.std.proofs.lemmas.List.Elements.{All-nil}
 use Rattle.row_check.specs.Checksum.{is_luhn}
 use Rattle.bec_bytes.specs.Causes.{Rose}
-use Rattle.bec_disk.specs.Disk.{handed_out}
 use Rattle.bec_disk.specs.declared.part.Part.{Part}
 use Rattle.bec_disk.specs.declared.part.Part.TheVariants.{Schema, Updates, Key, Used, Peers}
-use Rattle.bec_disk.specs.Shelf.{PartState, ShelfState, out}
+use Rattle.bec_disk.specs.Shelf.{PartState, ShelfState}
 use Rattle.bec_disk.specs.Slot.{Slot, same_slot, slot}
-use Rattle.replica.specs.Holding.{IsWhole}
 use Rattle.replica.specs.Replicas.{ReplicaState}
 use Rattle.store_directory.specs.Holding.{IsStoreCause, LetsGo, OpenData, PutsStore, TakesStore}
-use Rattle.store_directory.specs.Memory.{remembered_in}
-use Rattle.store_directory.specs.Stores.{IsHome, IsStore, IsUntouched, KeepsList, KeepsPlaces, StoreData, StoreRun, part_in, reading, with_added}
+use Rattle.store_directory.specs.Stores.{IsStore, KeepsList, StoreData, StoreRun, with_added}
+use Rattle.key_directory.specs.Parts.{IsHome, IsUntouched, KeepsPlaces, part_in, reading}
 use Rattle.store_directory.specs.declared.store_refusal.StoreRefusal.{StoreRefusal}
 use Rattle.store_directory.specs.declared.store_refusal.StoreRefusal.TheVariants as store_refusals
-use Rattle.store_directory.proofs.Handing.{list_as_it_was, untouched_by}
-use Rattle.store_directory.proofs.Places.{place_again, same_place, stands-not-out}
-use Rattle.store_directory.proofs.Putting.{slot_of, told}
+use Rattle.key_directory.proofs.Handing.{untouched_by}
+use Rattle.store_directory.proofs.Handing.{list_as_it_was}
+use Rattle.key_directory.proofs.Places.{place_again, same_place, stands-not-out}
+use Rattle.key_directory.proofs.Putting.{slot_of, told}
 use Rattle.store_directory.proofs.Readings.{OneSchema, same_store}
 use Rattle.store_directory.proofs.Working.{read_before, store_of, worked_run}
-use Rattle.node_commands.specs.declared.refusal.Refusal.TheVariants as refusals
-use Rattle.node_commands.specs.Comes.{IsShelfFault, is_done, readings}
-use Rattle.node_commands.specs.Merging.{BesideAnswer, IsBesideFault, IsMergeFault, IsWithin, KeepsAllButIn, Meets, MergeAnswer, MergesBeside, MergesOpen, MergesStores, memory_in, opened_store, touched, with_both, with_it, without, without_first, without_second}
-use Rattle.node_commands.specs.Outcome.{Outcome, from_store}
-use Rattle.node_commands.specs.Signing.{WorksFrom}
-use Rattle.node_commands.specs.Standing.{Stands}
-use Rattle.node_commands.specs.StoreAnswers.{bad_store, no_store}
-use Rattle.node_commands.proofs.Signs.{works_not}
+use Rattle.outcomes.specs.declared.refusal.Refusal.TheVariants as refusals
+use Rattle.outcomes.specs.Comes.{IsShelfFault, is_done, readings}
+use Rattle.node_commands.specs.Merging.{BesideAnswer, IsBesideFault, IsMergeFault, IsWithin, KeepsAllButIn, Meets, MergeAnswer, MergesBeside, MergesOpen, MergesStores, with_both, with_it, without, without_first, without_second}
+use Rattle.outcomes.specs.Remembering.{memory_in, touched}
+use Rattle.outcomes.specs.OpenStores.{opened_store, WorksFrom}
+use Rattle.outcomes.specs.Outcome.{Outcome, from_store}
+use Rattle.outcomes.specs.Standing.{Stands}
+use Rattle.outcomes.specs.StoreAnswers.{bad_store, no_store}
+use Rattle.outcomes.proofs.Working.{works_not}
+use Rattle.outcomes.proofs.Around.{of_store, of_peers, same_memory, opened_told, closing_told, tells_still, places_around, whole_before}
 
 abbrev pub no_updates : List (List ℕ)
 no_updates = []
 
 -- ---- places of two directories
-
-three : (x y z : Bool) → x || (y || (z || false)) ≡ false → (x || (y || false) ≡ false) × (z || false ≡ false)
-three true y z e = absurd (true≢false e)
-three false true z e = absurd (true≢false e)
-three false false true e = absurd (true≢false e)
-three false false false e = (refl, refl)
-
--- a place that is none of three parts is none of a store's, nor that of the peers
-pub of_store : (dir : List ℕ) (other : Slot) → list_any (λ part. same_slot (slot dir part) other) touched ≡ false → list_any (λ part. same_slot (slot dir part) other) (Schema ∷ Updates ∷ []) ≡ false
-of_store dir other away = (three (same_slot (slot dir Schema) other) (same_slot (slot dir Updates) other) (same_slot (slot dir Peers) other) away).0
-
-pub of_peers : (dir : List ℕ) (other : Slot) → list_any (λ part. same_slot (slot dir part) other) touched ≡ false → list_any (λ part. same_slot (slot dir part) other) (Peers ∷ []) ≡ false
-of_peers dir other away = (three (same_slot (slot dir Schema) other) (same_slot (slot dir Updates) other) (same_slot (slot dir Peers) other) away).1
 
 neither_of : (x y : Bool) → x ≡ false → y ≡ false → x || y ≡ false
 neither_of true y e f = absurd (true≢false e)
@@ -66,10 +54,6 @@ pub away_from : (first second : List ℕ) → first ≢ second → (parts : List
 away_from first second differ [] q = refl
 away_from first second differ (p ∷ parts) q =
     neither_of (same_slot (slot first p) (slot second q)) (list_any (λ part. same_slot (slot first part) (slot second q)) parts) (apart first second differ p q) (away_from first second differ parts q)
-
--- the peers of a directory whose part Peers is as it was
-pub same_memory : (old new : ShelfState) (dir : List ℕ) → part_in new dir Peers ≡ part_in old dir Peers → memory_in new dir ≡ memory_in old dir
-same_memory old new dir same = ap (λ (p : PartState). remembered_in (reading p)) same
 
 -- nothing was done to the store of a directory
 not_run : (before after : ShelfState) (dir : List ℕ) → part_in after dir Schema ≡ part_in before dir Schema → part_in after dir Updates ≡ part_in before dir Updates → StoreRun is_luhn before after dir [] false
@@ -99,46 +83,6 @@ same_run before opened closing after dir added done s u s2 u2 run = record {
 
     again : (store : StoreData) → IsStore is_luhn closing dir store → IsStore is_luhn after dir store
     again store is = rw (s2, u2) is
-
--- ---- a store that is taken and put back around something else
-
--- the disks of a store that is taken are those of its parts, whatever was done to other parts
-pub disks_of : (dir : List ℕ) (before opened closing : ShelfState) (taken : OpenData) (now : ReplicaState) → TakesStore is_luhn before dir taken opened → closing.tells ≡ opened.tells
-    → now.log.disk.slot ≡ taken.replica.log.disk.slot
-    → (IsTrue opened.tells → (part_in closing dir Schema ≡ part_in opened dir Schema) × (part_in closing dir Updates ≡ part_in opened dir Updates)) → IsTrue closing.tells
-    → ((taken.schema.slot ≡ Some (slot dir Schema)) × (part_in closing dir Schema ≡ out)) × ((now.log.disk.slot ≡ Some (slot dir Updates)) × (part_in closing dir Updates ≡ out))
-disks_of dir before opened closing taken now takes same same_slot_now kept tells =
-    let opened_tells : IsTrue opened.tells = told closing.tells opened.tells (sym same) tells in
-    let before_tells : IsTrue before.tells = told opened.tells before.tells (sym takes.tells) opened_tells in
-    let s = takes.schema before_tells in
-    let u = takes.updates before_tells in (
-      (slot_of (slot dir Schema) s.0 taken.schema s.2, (kept opened_tells).0 ∙ takes.schema_out before_tells),
-      (same_slot_now ∙ u.3.disk.slot ∙ slot_of (slot dir Updates) u.0 (handed_out (slot dir Updates) u.0) refl, (kept opened_tells).1 ∙ takes.updates_out before_tells),
-    )
-
--- What holds while the store of one directory is taken, something is done to other parts, and it is put back.
-module _ (dir : List ℕ) (before opened closing after : ShelfState) (taken : OpenData) (now : ReplicaState) (takes : TakesStore is_luhn before dir taken opened)
-    (puts : PutsStore closing dir taken.schema now.log.disk after) (same : closing.tells ≡ opened.tells) (places : IsTrue opened.tells → KeepsPlaces opened closing) where
-  pub opened_told : IsTrue before.tells → IsTrue opened.tells
-  opened_told tells = told before.tells opened.tells takes.tells tells
-
-  pub closing_told : IsTrue before.tells → IsTrue closing.tells
-  closing_told tells = told opened.tells closing.tells same (opened_told tells)
-
-  pub tells_still : after.tells ≡ before.tells
-  tells_still = puts.tells ∙ same ∙ takes.tells
-
-  -- where it is put back each part is in its place that was
-  pub places_around : IsTrue before.tells → KeepsPlaces before after
-  places_around tells place here =
-      place_again Schema Updates dir after (stands-not-out (part_in after dir Schema) taken.schema (puts.schema_back (closing_told tells)))
-      (stands-not-out (part_in after dir Updates) now.log.disk (puts.updates_back (closing_told tells))) place
-      (λ away. subst (λ (p : PartState). p ≢ out) (sym (puts.others (closing_told tells) place away))
-      (places (opened_told tells) place (subst (λ (p : PartState). p ≢ out) (sym (takes.others place away)) here)))
-
-  -- where the shelf told what it had, the log was whole
-  pub whole_before : IsWhole taken.replica
-  whole_before log_tells = (takes.updates (told taken.replica.log.disk.tells before.tells (sym takes.updates_tells) log_tells)).2.clean refl
 
 -- ---- beside a store that is open
 

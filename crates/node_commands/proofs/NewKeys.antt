@@ -6,13 +6,12 @@ use Rattle.std.specs.Int.{w32, to_be_bytes}
 use Rattle.hex.specs.Hex.{encode_lower, encode_with, lower_digits}
 use Rattle.update_model.specs.declared.author_key.AuthorKey.{AuthorKey}
 use Rattle.bec_bytes.specs.Causes.{Rose}
-use Rattle.bec_disk.specs.Disk.{DiskState, IsSettled}
+use Rattle.bec_disk.specs.Disk.{DiskState}
 use Rattle.bec_disk.specs.Gated.{gated_of}
 use Rattle.bec_disk.specs.declared.gated.Gated.TheVariants.{Absent}
 use Rattle.bec_disk.specs.declared.part.Part.TheVariants.{Key, Used}
 use Rattle.bec_disk.specs.Shelf.{PartState, ShelfState, absent, out, stands}
 use Rattle.bec_disk.specs.Slot.{Slot, slot}
-use Rattle.bec_disk.proofs.Images.{settled_image}
 use Rattle.lm_ots.specs.declared.ots_type.OtsType.{OtsType}
 use Rattle.lms_tree.specs.declared.lms_type.LmsType.{LmsType}
 use Rattle.lms_tree.specs.LmsKind.{leaf_count}
@@ -23,19 +22,20 @@ use Rattle.key_index.specs.Payload.{payload_of}
 use Rattle.key_index.specs.Used.{none_used}
 use Rattle.key_index.specs.declared.faults.CreateKeyKind.{CreateKeyKind}
 use Rattle.key_index.specs.declared.faults.CreateKeyKind.TheVariants as key_kinds
-use Rattle.store_directory.specs.Keys.{IsNoKey, PutsKey}
-use Rattle.store_directory.specs.Making.{IsHanded, IsNewKeyCause, LetsNewGo, MakesKey, seen_in}
-use Rattle.store_directory.specs.Stores.{IsHome, IsUntouched, KeepsAllBut, part_in, reading}
-use Rattle.store_directory.proofs.Handing.{untouched_by}
-use Rattle.store_directory.proofs.Making.{gated_since, handed_slot, untouched_since}
-use Rattle.store_directory.proofs.Places.{home_again, keeps_through, stands-not-out}
-use Rattle.store_directory.proofs.Putting.{told}
-use Rattle.node_commands.specs.declared.refusal.Refusal.{Refusal}
-use Rattle.node_commands.specs.declared.refusal.Refusal.TheVariants as refusals
-use Rattle.node_commands.specs.Comes.{readings}
-use Rattle.node_commands.specs.Creating.{DrawsKey, HasKeyPart, Lasts, LeavesOldOrNew, drawn, there as key_there}
-use Rattle.node_commands.specs.Outcome.{from_creating_key}
-use Rattle.node_commands.specs.Texts.{key_text}
+use Rattle.outcomes.specs.declared.refusal.Refusal.{Refusal}
+use Rattle.outcomes.specs.declared.refusal.Refusal.TheVariants as refusals
+use Rattle.outcomes.specs.Comes.{readings}
+use Rattle.node_commands.specs.Creating.{DrawsKey, drawn, there as key_there}
+use Rattle.outcomes.specs.Parts.{HasKeyPart, Lasts, LeavesOldOrNew}
+use Rattle.outcomes.specs.Outcome.{from_creating_key}
+use Rattle.outcomes.specs.Texts.{key_text}
+use Rattle.outcomes.proofs.Lasting.{lasting}
+use Rattle.key_directory.specs.Keys.{IsNewKeyCause, IsNoKey, MakesKey, PutsKey}
+use Rattle.key_directory.specs.Parts.{IsHanded, IsHome, IsUntouched, KeepsAllBut, LetsNewGo, part_in, reading, seen_in}
+use Rattle.key_directory.proofs.Handing.{untouched_by}
+use Rattle.key_directory.proofs.Making.{gated_since, handed_slot, untouched_since}
+use Rattle.key_directory.proofs.Places.{home_again, keeps_through, stands-not-out}
+use Rattle.key_directory.proofs.Putting.{told}
 
 -- ---- digits
 
@@ -72,10 +72,6 @@ key_pushed start s1 s2 s3 s4 s5 a b c d key is_a is_b is_c is_d x1 x2 x3 x4 x5 =
     x5 ∙ ap (λ (w : List ℕ). w ++ 10 ∷ []) (x4 ∙ ap (λ (w : List ℕ). w ++ d) (x3 ∙ ap (λ (w : List ℕ). w ++ c) (x2 ∙ ap (λ (w : List ℕ). w ++ b) x1))) ∙ key_line_is start a b c d key is_a is_b is_c is_d
 
 -- ---- a key
-
--- a part that was put back on the disk lasts
-pub lasting : (part : PartState) (disk : DiskState) → part ≡ stands disk → IsSettled disk → Lasts part
-lasting part disk back settled = subst Lasts (sym back) (settled_image disk (λ image. image ≡ disk.seen) settled refl)
 
 -- a part that is there and not absent is not absent as it is read
 key_full : (part : PartState) → (IsNoKey (reading part) → ⊥) → gated_of (seen_in part) ≢ Absent

@@ -12,35 +12,36 @@ use Rattle.bec_disk.specs.declared.disk_error.DiskError.TheVariants as disk_erro
 use Rattle.bec_disk.specs.declared.part.Part.TheVariants.{Schema, Updates}
 use Rattle.bec_disk.specs.Shelf.{PartState, ShelfState, absent, out, stands}
 use Rattle.bec_disk.specs.Slot.{same_slot, slot}
-use Rattle.schema.specs.Schemas.{SchemaData}
+use Rattle.schema.specs.Data.{Meaning, SchemaData}
 use Rattle.confluence_test.specs.Taking.{RefusesSchema, TakesSchema}
 use Rattle.confluence_test.specs.declared.refusal.SchemaRefusal.{SchemaRefusal}
 use Rattle.confluence_test.specs.declared.refusal.SchemaRefusal.TheVariants as taking
-use Rattle.schema.specs.Schemas.{Meaning}
 use Rattle.update_check.specs.Members.{AreMembers}
 use Rattle.replica.specs.declared.create_fault.CreateKind.{CreateKind}
 use Rattle.replica.specs.declared.create_fault.CreateKind.TheVariants as create_kinds
 use Rattle.store_directory.specs.Holding.{OpenData, PutsStore}
-use Rattle.store_directory.specs.Making.{IsNewStoreCause, LetsNewGo, MakesStore}
-use Rattle.store_directory.specs.Stores.{IsHome, IsNoStore, IsStore, IsUntouched, KeepsAllBut, part_in, reading}
-use Rattle.store_directory.proofs.Handing.{untouched_by}
+use Rattle.key_directory.specs.Parts.{LetsNewGo, IsHome, IsUntouched, KeepsAllBut, part_in, reading}
+use Rattle.store_directory.specs.Making.{IsNewStoreCause, MakesStore}
+use Rattle.store_directory.specs.Stores.{IsNoStore, IsStore}
+use Rattle.key_directory.proofs.Handing.{untouched_by}
 use Rattle.store_directory.proofs.Made.{empty_store, made_is_store, made_settled}
-use Rattle.store_directory.proofs.Making.{gated_since, handed_slot, untouched_since, untouched_then}
-use Rattle.store_directory.proofs.Places.{home_again, keeps_through, neither, stands-not-out}
-use Rattle.store_directory.proofs.Putting.{told}
+use Rattle.key_directory.proofs.Making.{gated_since, handed_slot, untouched_since, untouched_then}
+use Rattle.key_directory.proofs.Places.{home_again, keeps_through, neither, stands-not-out}
+use Rattle.key_directory.proofs.Putting.{told}
 use Rattle.store_directory.proofs.Readings.{OneSchema}
 use Rattle.store_directory.proofs.Working.{home_after_store}
-use Rattle.node_commands.specs.declared.refusal.Refusal.{Refusal}
-use Rattle.node_commands.specs.declared.refusal.Refusal.TheVariants as refusals
-use Rattle.node_commands.specs.Comes.{readings}
-use Rattle.node_commands.specs.Creating.{HasSchema, InitAnswer, Inits, IsInitFault, IsRefused, Lasts, LeavesOldOrNew, created, refused, there as store_there}
+use Rattle.outcomes.specs.declared.refusal.Refusal.{Refusal}
+use Rattle.outcomes.specs.declared.refusal.Refusal.TheVariants as refusals
+use Rattle.outcomes.specs.Comes.{readings, IsRefused}
+use Rattle.outcomes.specs.Parts.{HasSchema, Lasts, LeavesOldOrNew}
+use Rattle.node_commands.specs.Creating.{InitAnswer, Inits, IsInitFault, created, refused, there as store_there}
 use Rattle.schema_verdict.specs.Inputs.{ReadsText}
-use Rattle.node_commands.specs.Outcome.{from_creating, from_disk, from_reading, from_taking}
-use Rattle.node_commands.specs.Outside.{Outside}
-use Rattle.node_commands.specs.StoreAnswers.{next_bytes}
-use Rattle.node_commands.specs.Texts.{database_text}
+use Rattle.outcomes.specs.Outcome.{from_creating, from_disk, from_reading, from_taking}
+use Rattle.outcomes.specs.Outside.{Outside}
+use Rattle.outcomes.specs.StoreAnswers.{next_bytes}
+use Rattle.outcomes.specs.Texts.{database_text}
 use Rattle.schema_verdict.proofs.Reading.{no_longer, whole_refused, whole_taken}
-use Rattle.node_commands.proofs.NewKeys.{lasting}
+use Rattle.outcomes.proofs.Lasting.{lasting}
 
 -- a text has no reason to be refused that is taken
 abbrev pub TakenOrRefused : Type 0

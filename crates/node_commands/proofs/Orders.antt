@@ -21,7 +21,7 @@ use Rattle.table_model.specs.Visible.{Effects, Rules, TableRow, table_of, is_vis
 use Rattle.table_model.proofs.Alike.{Alike, Alike-filter, Alike-map, filter-each, same_length, weight, weight-append}
 use Rattle.table_model.proofs.Order.{same_judged}
 use Rattle.table_model.proofs.SameEffects.{AlikeEffects, same_effects, same_visible, same_shown_values}
-use Rattle.table_model.proofs.Union.{same_judgements, same_tables}
+use Rattle.confluence_laws.proofs.Union.{same_judgements, same_tables}
 use Rattle.table_model.proofs.Members.{contains_first, contains_later, contains_cases, contains_mapped}
 
 -- ---- what is made of each element in turn

@@ -15,7 +15,7 @@ use Rattle.bec_disk.specs.declared.part.Part.TheVariants.{Schema, Updates, Key, 
 use Rattle.bec_disk.specs.Shelf.{PartState, ShelfState, absent, moments_of, out, stands as standing}
 use Rattle.bec_disk.specs.Slot.{Slot, same_slot, slot}
 use Rattle.bec_disk.proofs.Moments as moments
-use Rattle.schema.specs.Schemas.{SchemaData}
+use Rattle.schema.specs.Data.{SchemaData}
 use Rattle.update_model.specs.declared.op.Op.{Op}
 use Rattle.update_model.specs.declared.update_id.UpdateId.{UpdateId}
 use Rattle.update_log.specs.Log.{IsClean}
@@ -30,18 +30,19 @@ use Rattle.replica.specs.declared.make_fault.MakeFault.TheVariants.{NotListed, T
 use Rattle.replica.specs.declared.make_fault.Side.TheVariants.{Key as KeySide, Log as LogSide}
 use Rattle.replica.specs.Making.{HasNoneToJoin, IsJoinCause, IsMakeCause, Joins, JoinsTo, Makes}
 use Rattle.replica.specs.Replicas.{ReplicaState}
-use Rattle.store_directory.specs.Holding.{IsStoreCause, LetsGo, OpenData, PutsStore, TakesStore, WorksOn}
-use Rattle.store_directory.specs.Keys.{IsKeyCause, KeepsUsed, LetsKeyGo, PutsKey, TakesKey, WorksWith}
-use Rattle.store_directory.specs.Stores.{IfStands, IsHome, IsUntouched, KeepsAllBut, StoreRun, part_in, reading}
-use Rattle.store_directory.specs.declared.key_refusal.KeyRefusal.{KeyRefusal}
-use Rattle.store_directory.specs.declared.key_refusal.KeyRefusal.TheVariants as key_refusals
+use Rattle.store_directory.specs.Holding.{IsStoreCause, LetsGo, OpenData, PutsStore, TakesStore}
+use Rattle.key_directory.specs.Keys.{IsKeyCause, KeepsUsed, LetsKeyGo, PutsKey, TakesKey, WorksWith}
+use Rattle.key_directory.specs.Parts.{IfStands, IsHome, IsUntouched, KeepsAllBut, part_in, reading}
+use Rattle.store_directory.specs.Stores.{StoreRun}
+use Rattle.key_directory.specs.declared.key_refusal.KeyRefusal.{KeyRefusal}
+use Rattle.key_directory.specs.declared.key_refusal.KeyRefusal.TheVariants as key_refusals
 use Rattle.store_directory.specs.declared.store_refusal.StoreRefusal.{StoreRefusal}
 use Rattle.store_directory.specs.declared.store_refusal.StoreRefusal.TheVariants as store_refusals
-use Rattle.store_directory.proofs.Handing.{untouched_by}
-use Rattle.store_directory.proofs.Places.{home_again, keeps_through, stands-not-out}
-use Rattle.store_directory.proofs.Putting.{slot_of, told}
+use Rattle.key_directory.proofs.Handing.{untouched_by}
+use Rattle.key_directory.proofs.Places.{home_again, keeps_through, stands-not-out}
+use Rattle.key_directory.proofs.Putting.{slot_of, told}
 use Rattle.store_directory.proofs.Readings.{OneSchema}
-use Rattle.store_directory.proofs.Signing.{keeps_key, keeps_used}
+use Rattle.key_directory.proofs.Signing.{keeps_key, keeps_used}
 use Rattle.store_directory.proofs.Working.{home_after_store, read_before, store_of, worked_run}
 use Rattle.txn_text.specs.Transactions.{FirstFault, Reads}
 use Rattle.txn_text.specs.declared.fault.TextError.{TextError}
@@ -49,16 +50,17 @@ use Rattle.txn_text.specs.declared.fault.TextError.TheVariants as text_errors
 use Rattle.txn_text.specs.declared.fault.TextFault.{TextFault}
 use Rattle.txn_text.specs.declared.limits.TheConstants.{MAX_TRANSACTION_BYTES}
 use Rattle.txn_text.specs.Outcome.{HasCause}
-use Rattle.node_commands.specs.declared.refusal.Refusal.{Refusal}
-use Rattle.node_commands.specs.declared.refusal.Refusal.TheVariants as refusals
-use Rattle.node_commands.specs.Comes.{IsShelfFault, is_done, readings}
+use Rattle.outcomes.specs.declared.refusal.Refusal.{Refusal}
+use Rattle.outcomes.specs.declared.refusal.Refusal.TheVariants as refusals
+use Rattle.outcomes.specs.Comes.{IsShelfFault, is_done, readings, IsSourceFault}
 use Rattle.schema_verdict.specs.Inputs.{ReadsText}
-use Rattle.node_commands.specs.Outcome.{Outcome, from_key, from_make, from_store, from_text}
-use Rattle.node_commands.specs.Signing.{ApplyAnswer, IsInnerFault, IsNoStop, IsOpenFault, IsSourceFault, JoinAnswer, KeyedAnswer, MakeAnswer, MakesUpdate, SignAnswer, SignsIn, SignsOpen, StopsReading, StoreAnswer, TakesText, WorksFrom, asked, bad_key, bad_text, history_of, joined, made, no_key, none, not_joined, not_made, taken_of, with_key, with_store, without_key, without_store}
-use Rattle.node_commands.specs.StoreAnswers.{next_bytes}
-use Rattle.node_commands.specs.Standing.{Stands}
-use Rattle.node_commands.specs.StoreAnswers.{bad_store, no_store}
-use Rattle.node_commands.specs.Texts.{line_of}
+use Rattle.outcomes.specs.Outcome.{Outcome, from_key, from_make, from_store, from_text}
+use Rattle.node_commands.specs.Signing.{ApplyAnswer, IsInnerFault, IsNoStop, IsOpenFault, JoinAnswer, KeyedAnswer, MakeAnswer, MakesUpdate, SignAnswer, SignsIn, SignsOpen, StopsReading, StoreAnswer, TakesText, asked, bad_text, history_of, joined, made, none, not_joined, not_made, taken_of, with_key, with_store, without_key, without_store}
+use Rattle.outcomes.specs.OpenStores.{WorksFrom}
+use Rattle.outcomes.specs.StoreAnswers.{bad_key, bad_store, next_bytes, no_key, no_store}
+use Rattle.outcomes.specs.Standing.{Stands}
+use Rattle.outcomes.specs.Texts.{line_of}
+use Rattle.outcomes.proofs.Working.{works_failed, works_not, works_on}
 
 abbrev pub nothing : List (List ℕ)
 nothing = []
@@ -67,34 +69,6 @@ nothing = []
 pub same_secret : (key key_new : KeyState) → (key_new ≡ key) ⊎ ((index : ℕ) × Tries key index key_new) → key_new.secret ≡ key.secret
 same_secret key key_new (inl same) = ap (λ (k : KeyState). k.secret) same
 same_secret key key_new (inr tries) = tries.1.secret
-
--- ---- what is done to a list
-
-pub works_on : (old new : ReplicaState) (added : List (List ℕ)) (done : Bool) → new.history ≡ record { schema = old.history.schema; members = old.history.members ++ added }
-    → LeavesOnly old.log.disk new.log.disk (BeginsWith (stream_of old.history.members)) → Stands new
-    → ((IsTrue old.log.disk.tells → IsClean old.log.end old.log.disk) → done ≡ true → IsTrue old.log.disk.tells → IsClean new.log.end new.log.disk) → WorksFrom old new added done
-works_on old new added done is leaves stands clean = λ was taken same.
-    subst (λ (r : ReplicaState). WorksOn (record { schema = taken.schema; schema_faults = taken.schema_faults; replica = r }) new added done) (sym same)
-    (record {
-      schema = ap (λ (h : HistoryData). h.schema) is;
-      members = ap (λ (h : HistoryData). h.members) is;
-      closed = stands.history_is.members;
-      any_moment = leaves;
-      on_disk = stands.on_disk;
-      log = λ is_done. stands.log_is;
-      clean = λ is_done tells. clean was is_done (moments.told_before old.log.disk new.log.disk leaves.disk tells);
-    })
-
--- a store that is as it was
-pub works_not : (replica : ReplicaState) (done : Bool) → Stands replica → WorksFrom replica replica [] done
-works_not replica done stands =
-    works_on replica replica [] done (ap (λ (l : List (List ℕ)). record { schema = replica.history.schema; members = l }) (sym (append-nil replica.history.members)))
-    (moments.stays replica.log.disk replica.log.disk (BeginsWith (stream_of replica.history.members)) refl stands.on_disk) stands (λ was is_done. was)
-
--- a store whose updates are as they were, whatever became of its log
-works_failed : (old new : ReplicaState) → new.history ≡ old.history → LeavesOnly old.log.disk new.log.disk (BeginsWith (stream_of old.history.members)) → Stands new → WorksFrom old new [] false
-works_failed old new same leaves stands =
-    works_on old new [] false (same ∙ ap (λ (l : List (List ℕ)). record { schema = old.history.schema; members = l }) (sym (append-nil old.history.members))) leaves stands (λ was is_done. absurd (true≢false (sym is_done)))
 
 -- a key that is as it was
 with_same_key : (key : KeyState) → WorksWith key key

@@ -12,17 +12,17 @@ use Rattle.update_check.specs.Signed.{node_of}
 use Rattle.head_set.specs.Grown.{NoCollision}
 use Rattle.table_model.specs.declared.shown_row.ShownRow.{ShownRow}
 use Rattle.table_model.specs.declared.void_line.VoidLine.{VoidLine}
-use Rattle.table_model.specs.Confluence.{accepts, are_accepted}
+use Rattle.confluence_laws.specs.Confluence.{accepts, are_accepted}
 use Rattle.table_model.specs.Invariants.{Declared, claim_holds, invariants_of, shown_in}
 use Rattle.table_model.specs.Nodes.{AreNodesOf, IsClosed, IsSameSet, holds, node_of as node_with}
-use Rattle.schema.specs.Schemas.{SchemaData}
+use Rattle.schema.specs.Data.{SchemaData}
 use Rattle.schema.specs.Sound.{AreTables}
 use Rattle.table_model.specs.Tables.{AreTablesOf}
 use Rattle.schema.specs.Columns.{all_fit}
 use Rattle.table_model.specs.Visible.{Rules, table_of}
 use Rattle.update_check.specs.Members.{AreMembers}
-use Rattle.node_commands.specs.Bundle.{AreOfHeads, HasTables, nodes_of}
-use Rattle.node_commands.specs.Verdict.{rules_of}
+use Rattle.node_commands.specs.Bundle.{AreOfHeads, HasTables}
+use Rattle.outcomes.specs.Rules.{nodes_of, rules_of}
 use Rattle.node_commands.proofs.Orders.{tables_there}
 use Rattle.table_model.proofs.Members.{contains_cases, contains_mapped, mapped_contains, contains_turned, turned_contains, find_finds, any_of_contained}
 

@@ -5,18 +5,17 @@ use Rattle.update_model.specs.Graph.{AreHeads, HaveSameMembers}
 use Rattle.update_codec.specs.Parts.{entry_of}
 use Rattle.update_check.specs.Members.{AreMembers}
 use Rattle.head_set.specs.Grown.{NoCollision}
-use Rattle.schema.specs.Schemas.{SchemaData}
+use Rattle.schema.specs.Data.{SchemaData}
 use Rattle.query.specs.Queries.{QueryData, FirstFault, Reads}
 use Rattle.query.specs.declared.fault.QueryFault.{QueryFault}
 use Rattle.query_answer.specs.Answers.{AnswerData, IsAnswerOver}
 use Rattle.query_answer.specs.Json.{json_text}
 use Rattle.query_answer.specs.Lines.{lines_text}
 use Rattle.store_directory.specs.Stores.{StoreData}
-use Rattle.node_commands.specs.declared.refusal.Refusal.TheVariants.{Query}
-use Rattle.node_commands.specs.Bundle.{nodes_of}
-use Rattle.node_commands.specs.Outcome.{Outcome}
+use Rattle.outcomes.specs.declared.refusal.Refusal.TheVariants.{Query}
+use Rattle.outcomes.specs.Rules.{nodes_of, rules_of}
+use Rattle.outcomes.specs.Outcome.{Outcome}
 use Rattle.schema_verdict.specs.Verdict.{Prints}
-use Rattle.node_commands.specs.Verdict.{rules_of}
 
 -- the text of an answer: JSON, or a line for each row
 abbrev pub answer_text : Bool → AnswerData → List ℕ

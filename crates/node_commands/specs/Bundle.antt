@@ -1,5 +1,5 @@
 -- What a bundle is, and what its tables are.
-use Rattle.std.specs.Prelude.{◌≡◌, ◌⊎◌, ℕ, ◌≤◌, Bool, cond, List, [], length, map, reverse, drop, Contains, IsTrue, Some, Err}
+use Rattle.std.specs.Prelude.{◌≡◌, ◌⊎◌, ℕ, ◌≤◌, Bool, cond, List, [], length, map, drop, Contains, IsTrue, Some, Err}
 use Rattle.std.specs.declared.option.Option.{Option}
 use Rattle.std.specs.List.{list_all}
 use Rattle.bec_bytes.specs.Framed.{HoldsPiece, IsCut, IsTooLong}
@@ -9,34 +9,29 @@ use Rattle.update_model.specs.Graph.{AreHeads, HaveSameMembers}
 use Rattle.update_model.specs.Node.{NodeData}
 use Rattle.update_codec.specs.Parts.{entry_of}
 use Rattle.update_check.specs.Members.{AreMembers}
-use Rattle.update_check.specs.Signed.{node_of}
 use Rattle.head_set.specs.Grown.{NoCollision}
 use Rattle.update_stream.specs.declared.reading.Reading.TheVariants.{Whole, Refused}
 use Rattle.update_stream.specs.declared.record_fault.RecordFault.{RecordFault}
 use Rattle.update_stream.specs.Told.{Reads}
-use Rattle.schema.specs.declared.fault.SchemaKind.TheVariants as faults
-use Rattle.schema.specs.declared.limits.TheConstants.{MAX_SCHEMA_BYTES}
+use Rattle.schema_text.specs.declared.fault.SchemaKind.TheVariants as faults
+use Rattle.schema_text.specs.declared.limits.TheConstants.{MAX_SCHEMA_BYTES}
 use Rattle.table_model.specs.declared.shown_row.ShownRow.{ShownRow}
 use Rattle.table_model.specs.declared.void_line.VoidLine.{VoidLine}
 use Rattle.table_model.specs.Invariants.{Declared, claim_holds, invariants_of, shown_in}
-use Rattle.schema.specs.Schemas.{SchemaData}
+use Rattle.schema.specs.Data.{SchemaData}
 use Rattle.table_model.specs.Tables.{AreTablesOf}
 use Rattle.schema.specs.Columns.{all_fit}
 use Rattle.table_model.specs.Visible.{table_of}
 use Rattle.table_text.specs.Tables.{tables_text}
 use Rattle.query_answer.specs.TablesJson.{tables_json_text}
-use Rattle.node_commands.specs.declared.refusal.Refusal.{Refusal}
-use Rattle.node_commands.specs.declared.refusal.Refusal.TheVariants.{CutSchema, Record, Schema}
+use Rattle.outcomes.specs.declared.refusal.Refusal.{Refusal}
+use Rattle.outcomes.specs.declared.refusal.Refusal.TheVariants.{CutSchema, Record, Schema}
 use Rattle.row_check.specs.Checksum.{is_luhn}
 use Rattle.confluence_test.specs.Taking.{RefusesSchema, TakesSchema}
 use Rattle.confluence_test.specs.declared.refusal.SchemaRefusal.{SchemaRefusal}
-use Rattle.node_commands.specs.Outcome.{Outcome, from_taking}
+use Rattle.outcomes.specs.Outcome.{Outcome, from_taking}
 use Rattle.schema_verdict.specs.Verdict.{Prints}
-use Rattle.node_commands.specs.Verdict.{rules_of}
-
--- what tables see of the members of a graph, newest first
-abbrev pub nodes_of : List (List ℕ) → List NodeData
-nodes_of members = reverse (map node_of members)
+use Rattle.outcomes.specs.Rules.{rules_of, nodes_of}
 
 -- Whatever other members have the same heads, where one id means one update, they are the same set, and these are their tables.
 abbrev pub AreOfHeads : SchemaData → List (List ℕ) → List (List ShownRow) → List VoidLine → Type 0

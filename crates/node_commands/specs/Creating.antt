@@ -1,11 +1,10 @@
 -- What the commands that make a store or a key answer, and what they leave.
-use Rattle.std.specs.Prelude.{◌≡◌, ◌⊎◌, ℕ, List, [], ◌∷◌, ◌++◌, IfSome, IsTrue, Ok, Err, OnOk, Option, Some}
+use Rattle.std.specs.Prelude.{◌≡◌, ◌⊎◌, ℕ, List, [], ◌∷◌, ◌++◌, IfSome, IsTrue, Err, OnOk, Option, Some}
 use Rattle.rand_core.specs.Stream.{Stream}
 use Rattle.row_check.specs.Checksum.{is_luhn}
-use Rattle.bec_disk.specs.Disk.{EveryImage, LeavesSince}
-use Rattle.bec_disk.specs.Gated.{IsOldOrNew, whole_of}
+use Rattle.bec_disk.specs.Gated.{whole_of}
 use Rattle.bec_disk.specs.declared.part.Part.TheVariants.{Schema, Updates, Key, Used}
-use Rattle.bec_disk.specs.Shelf.{PartState, ShelfState, absent, moments_of, out, stands}
+use Rattle.bec_disk.specs.Shelf.{ShelfState}
 use Rattle.lm_ots.specs.declared.ots_type.OtsType.{OtsType}
 use Rattle.lms_tree.specs.declared.lms_type.LmsType.{LmsType}
 use Rattle.lms_tree.specs.LmsKind.{leaf_count}
@@ -13,39 +12,22 @@ use Rattle.lms_tree.specs.SecretKey.{public_key}
 use Rattle.key_index.specs.Creating.{drawn_key}
 use Rattle.key_index.specs.Payload.{payload_of}
 use Rattle.key_index.specs.Used.{none_used}
-use Rattle.schema.specs.Schemas.{SchemaData}
-use Rattle.schema.specs.declared.limits.TheConstants.{MAX_SCHEMA_BYTES}
+use Rattle.schema.specs.Data.{SchemaData}
+use Rattle.schema_text.specs.declared.limits.TheConstants.{MAX_SCHEMA_BYTES}
 use Rattle.confluence_test.specs.Taking.{RefusesSchema, TakesSchema}
 use Rattle.confluence_test.specs.declared.refusal.SchemaRefusal.{SchemaRefusal}
-use Rattle.store_directory.specs.Keys.{IsNoKey}
-use Rattle.store_directory.specs.Making.{seen_in}
-use Rattle.store_directory.specs.Stores.{IsHome, IsNoStore, IsUntouched, KeepsAllBut, part_in}
-use Rattle.node_commands.specs.declared.refusal.Refusal.TheVariants.{KeyThere, Memory, StoreFault, StoreThere}
-use Rattle.node_commands.specs.Comes.{IsAnyFault, IsShelfFault, readings}
+use Rattle.outcomes.specs.declared.refusal.Refusal.TheVariants.{KeyThere, StoreThere}
+use Rattle.outcomes.specs.Comes.{IsAnyFault, IsRefused, IsShelfFault, readings}
+use Rattle.key_directory.specs.Keys.{IsNoKey}
+use Rattle.key_directory.specs.Parts.{IsHome, IsUntouched, KeepsAllBut, part_in, seen_in}
+use Rattle.store_directory.specs.Stores.{IsNoStore}
 use Rattle.schema_verdict.specs.Inputs.{IsWholeText}
-use Rattle.node_commands.specs.Outcome.{Outcome, from_taking}
+use Rattle.outcomes.specs.Outcome.{Outcome, from_taking}
 use Rattle.schema_verdict.specs.Verdict.{Prints}
-use Rattle.node_commands.specs.Outside.{Outside}
-use Rattle.node_commands.specs.StoreAnswers.{HasStore, Readings, next_bytes}
-use Rattle.node_commands.specs.Texts.{database_text, key_text}
-
--- There is a part Schema, and it is not absent behind its gate.
-abbrev pub HasSchema : Readings → Type 0
-HasSchema parts = IsNoStore parts.schema → ⊥
-
--- There is a part Key, and it is not absent behind its gate.
-abbrev pub HasKeyPart : Readings → Type 0
-HasKeyPart parts = IsNoKey parts.key → ⊥
-
--- A crash at any moment of the run leaves the part standing for what it stood for, or absent, or whole with this payload.
-abbrev pub LeavesOldOrNew : List ℕ → PartState → PartState → Type 0
-LeavesOldOrNew payload old new = LeavesSince (moments_of old) (moments_of new) (IsOldOrNew (seen_in old) payload)
-
--- The part is in its place, and a crash leaves it as it reads.
-abbrev pub Lasts : PartState → Type 0
-Lasts absent = ⊥
-Lasts out = ⊥
-Lasts (stands part) = EveryImage part.now (λ image. image ≡ part.seen)
+use Rattle.outcomes.specs.Outside.{Outside}
+use Rattle.outcomes.specs.StoreAnswers.{HasStore, Readings, next_bytes}
+use Rattle.outcomes.specs.Texts.{database_text, key_text}
+use Rattle.outcomes.specs.Parts.{HasSchema, HasKeyPart, LeavesOldOrNew, Lasts}
 
 -- What `init` answers, by what the source has left before and after, what the generator gives, and what the parts of the directory read as before
 -- and after. A text that is taken becomes a store without updates, and the id of its database is printed.
@@ -60,13 +42,6 @@ pub data InitAnswer (before after : Option (List ℕ)) (stream : Stream) (parts 
 -- What may come in place of its answer: memory ran out, or the shelf failed, or the source, whose count of faults rose.
 abbrev pub IsInitFault : {S H R : Type 0} → Outside S H R → Outside S H R → Outcome → Type 0
 IsInitFault before after outcome = IsAnyFault before.source_faults after.source_faults before.shelf_faults after.shelf_faults outcome
-
--- A command was refused by what it read, or by the source, and not by the shelf or for want of memory.
-abbrev pub IsRefused : Outcome → Type 0
-IsRefused (Ok text) = ⊥
-IsRefused (Err StoreFault) = ⊥
-IsRefused (Err Memory) = ⊥
-IsRefused (Err refusal) = Unit {0}
 
 -- `init`. Where the part Schema is there, nothing of the source is read; and where it is there or the text is refused, both parts of the store are at
 -- most read, whatever the outcome. No other part is touched, and every part is put back. The payload of the part Schema is the generator's next

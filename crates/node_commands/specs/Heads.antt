@@ -8,11 +8,11 @@ use Rattle.update_codec.specs.Parts.{entry_of}
 use Rattle.update_stream.specs.declared.record_fault.RecordFault.{RecordFault}
 use Rattle.update_stream.specs.declared.reading.Reading.TheVariants.{Whole, Refused}
 use Rattle.update_stream.specs.Told.{Reads}
-use Rattle.node_commands.specs.declared.refusal.Refusal.{Refusal}
-use Rattle.node_commands.specs.declared.refusal.Refusal.TheVariants.{Record}
-use Rattle.node_commands.specs.Outcome.{IsFault, Outcome}
+use Rattle.outcomes.specs.declared.refusal.Refusal.{Refusal}
+use Rattle.outcomes.specs.declared.refusal.Refusal.TheVariants.{Record}
+use Rattle.outcomes.specs.Outcome.{IsFault, Outcome}
 use Rattle.schema_verdict.specs.Verdict.{Prints}
-use Rattle.node_commands.specs.Texts.{printed}
+use Rattle.outcomes.specs.Texts.{printed}
 
 -- A stream is good records up to its end, of the database of the first one, and the heads of their graph are printed; or its n-th record
 -- is the first that is refused.

@@ -3,13 +3,11 @@ use Rattle.std.specs.Prelude.{◌≡◌, ◌≢◌, ◌⊎◌, ℕ, ◌≤◌, t
 use Rattle.std.specs.List.{list_any}
 use Rattle.row_check.specs.Checksum.{is_luhn}
 use Rattle.bec_bytes.specs.Causes.{Rose}
-use Rattle.bec_disk.specs.declared.part.Part.TheVariants.{Schema, Updates, Peers}
+use Rattle.bec_disk.specs.declared.part.Part.TheVariants.{Peers}
 use Rattle.bec_disk.specs.declared.part.Part.{Part}
 use Rattle.bec_disk.specs.Shelf.{ShelfState}
 use Rattle.bec_disk.specs.Slot.{Slot, same_slot, slot}
-use Rattle.command_words.specs.Requests.{RequestText, merge}
 use Rattle.update_model.specs.Batch.{store_limits}
-use Rattle.update_model.specs.declared.update_id.UpdateId.{UpdateId}
 use Rattle.update_codec.specs.Parts.{entry_of}
 use Rattle.session_rules.specs.declared.end.End.TheVariants.{Done, Peer, Full}
 use Rattle.session_rules.specs.declared.peer_fault.PeerFault.{PeerFault}
@@ -18,30 +16,22 @@ use Rattle.sync_session.specs.Carrying.{HasRoom, Syncs, Unites}
 use Rattle.sync_session.specs.declared.pair.PairStart.{PairStart}
 use Rattle.sync_session.specs.declared.pair.PairEnd.{PairEnd}
 use Rattle.peer_memory.specs.declared.peer.Peer.{Peer as PeerEntry}
-use Rattle.peer_memory.specs.Payload.{Reads, Spells}
-use Rattle.peer_memory.specs.Peers.{Remembers, heads_under}
+use Rattle.peer_memory.specs.Payload.{Reads}
+use Rattle.peer_memory.specs.Peers.{heads_under}
 use Rattle.replica.specs.Holding.{IsWhole}
 use Rattle.replica.specs.Replicas.{ReplicaState}
-use Rattle.store_directory.specs.Memory.{remembered_in}
-use Rattle.store_directory.specs.Stores.{IsHome, IsStore, KeepsAllBut, KeepsPlaces, StoreData, StoreRun, part_in, reading}
-use Rattle.node_commands.specs.declared.refusal.Refusal.{Refusal}
-use Rattle.node_commands.specs.declared.refusal.Refusal.TheVariants as refusals
-use Rattle.node_commands.specs.Comes.{IsShelfFault, is_done, readings}
-use Rattle.node_commands.specs.Outcome.{Outcome}
+use Rattle.store_directory.specs.Stores.{IsStore, StoreData, StoreRun}
+use Rattle.outcomes.specs.declared.refusal.Refusal.{Refusal}
+use Rattle.outcomes.specs.declared.refusal.Refusal.TheVariants as refusals
+use Rattle.outcomes.specs.Comes.{IsShelfFault, is_done, readings}
+use Rattle.outcomes.specs.Outcome.{Outcome}
+use Rattle.key_directory.specs.Parts.{IsHome, KeepsAllBut, KeepsPlaces, part_in, reading}
 use Rattle.schema_verdict.specs.Verdict.{Prints}
-use Rattle.node_commands.specs.Outside.{Outside}
-use Rattle.node_commands.specs.Signing.{WorksFrom}
-use Rattle.node_commands.specs.StoreAnswers.{HasStore, Readings, RefusesStore}
-use Rattle.node_commands.specs.Texts.{merged_text}
-
--- Where a request names two directories, it names them by two words.
-abbrev pub NamesApart : RequestText → Type 0
-NamesApart (merge first second) = first ≢ second
-NamesApart request = Unit {0}
-
--- what a directory remembers of peers
-abbrev pub memory_in : ShelfState → List ℕ → List ℕ
-memory_in shelf dir = remembered_in (reading (part_in shelf dir Peers))
+use Rattle.outcomes.specs.Outside.{Outside}
+use Rattle.outcomes.specs.OpenStores.{WorksFrom, opened_store}
+use Rattle.outcomes.specs.StoreAnswers.{HasStore, Readings, RefusesStore}
+use Rattle.outcomes.specs.Texts.{merged_text}
+use Rattle.outcomes.specs.Remembering.{memory_in, RemembersIn, touched}
 
 -- how the session of two stores begins: of each its database and its node, and what its directory remembers of the other
 abbrev pub start_of : StoreData → StoreData → List PeerEntry → List PeerEntry → PairStart
@@ -59,12 +49,6 @@ pub data TellsEnd (ended : PairEnd) (outcome : Outcome) : Type 0 where
   done : ended.a ≡ Done → Prints outcome (merged_text ended.gained_a ended.gained_b ended.turns) → TellsEnd ended outcome
   peer : (fault : PeerFault) → ended.a ≡ Peer fault → outcome ≡ Err (refusals.Peer fault) → TellsEnd ended outcome
   full : ended.a ≡ Full → outcome ≡ Err refusals.Full → TellsEnd ended outcome
-
--- What is remembered of peers is now this, with the heads of one more behind, as a payload.
-pub record RemembersIn (peers : List PeerEntry) (node : List ℕ) (ids : List UpdateId) (memory : List ℕ) : Type 0 where
-  pub peers_new : List PeerEntry
-  pub remembers : Remembers peers node ids peers_new
-  pub spelled : Spells peers_new memory
 
 -- A session of the two stores was held, and added these to each. Where both have one rule and no two of their updates share an id, it ends done
 -- unless one is full, and then both are the union; and none is full where the union is within the limits. Done, each directory remembers what its end
@@ -106,10 +90,6 @@ pub data IsSureOfMerge (parts parts_other : Readings) (outcome : Outcome) : Type
   united : (one other : StoreData) → HasStore parts one → HasStore parts_other other → one.schema.rule ≡ other.schema.rule → NoCollision (map entry_of one.members) (map entry_of other.members)
       → HasRoom store_limits one.members other.members → HasRoom store_limits other.members one.members → is_done outcome ≡ true → IsSureOfMerge parts parts_other outcome
 
--- the parts of a directory that a merge may touch
-abbrev pub touched : List Part
-touched = Schema ∷ Updates ∷ Peers ∷ []
-
 -- Every part but these of the two directories is as it was.
 abbrev pub KeepsAllButIn : List Part → List ℕ → List Part → List ℕ → ShelfState → ShelfState → Type 0
 KeepsAllButIn parts dir parts_other dir_other before after = (other : Slot) → list_any (λ part. same_slot (slot dir part) other) parts ≡ false
@@ -140,10 +120,6 @@ pub record Merges {S H R : Type 0} (first second : List ℕ) (before after : Out
   pub random : after.random ≡ before.random
 
 -- ---- the same of what is open
-
--- the store that is open
-abbrev pub opened_store : ReplicaState → StoreData
-opened_store replica = record { node = replica.node; schema = replica.history.schema; members = replica.history.members }
 
 -- What may come in place of an answer over two open stores.
 abbrev pub IsMergeFault : ℕ → ℕ → ReplicaState → ReplicaState → ReplicaState → ReplicaState → Outcome → Type 0
@@ -195,15 +171,3 @@ pub record MergesBeside (first second : List ℕ) (before after : ShelfState) (f
   pub others : IsTrue before.tells → KeepsAllButIn (Peers ∷ []) first touched second before after
   pub later : faults ≤ faults_new
   pub log_later : one.log.faults ≤ one_new.log.faults
-
--- ---- the parts Peers
-
--- At most the part Peers of a directory is touched, and put back.
-pub record KeepsPeers (dir : List ℕ) (before after : ShelfState) : Type 0 where
-  pub tells : after.tells ≡ before.tells
-  pub others : IsTrue before.tells → KeepsAllBut (Peers ∷ []) dir before after
-  pub places : IsTrue before.tells → KeepsPlaces before after
-
--- What the peers of a directory are not read or kept for.
-abbrev pub IsPeersFault : ℕ → ℕ → Refusal → Type 0
-IsPeersFault faults faults_new refusal = (refusal ≡ refusals.Memory) ⊎ ((refusal ≡ refusals.StoreFault) × Rose faults faults_new)

@@ -7,7 +7,6 @@ use Rattle.bec_disk.specs.declared.part.Part.TheVariants.{Schema, Updates, Key, 
 use Rattle.bec_disk.specs.Shelf.{ShelfState, out}
 use Rattle.update_model.specs.declared.op.Op.{Op}
 use Rattle.update_model.specs.declared.update_id.UpdateId.{UpdateId}
-use Rattle.update_log.specs.Log.{IsClean}
 use Rattle.lms_tree.specs.SecretKey.{SecretData}
 use Rattle.history.specs.Histories.{HistoryData}
 use Rattle.key_index.specs.KeyState.{KeyState}
@@ -15,24 +14,24 @@ use Rattle.key_index.specs.Used.{used_in}
 use Rattle.replica.specs.declared.make_fault.MakeFault.{MakeFault}
 use Rattle.replica.specs.Making.{HasNoneToJoin, IsJoinCause, IsMakeCause, Joins, Makes}
 use Rattle.replica.specs.Replicas.{ReplicaState}
-use Rattle.store_directory.specs.Holding.{OpenData, WorksOn}
-use Rattle.store_directory.specs.Keys.{IsBadKey, IsNoKey, KeepsUsed, ReadsAsKey, WorksWith}
-use Rattle.store_directory.specs.Stores.{IsUntouched, KeepsAllBut, StoreData, part_in, reading}
+use Rattle.key_directory.specs.Keys.{IsBadKey, IsNoKey, KeepsUsed, ReadsAsKey, WorksWith}
+use Rattle.key_directory.specs.Parts.{IsUntouched, KeepsAllBut, part_in, reading}
+use Rattle.store_directory.specs.Stores.{StoreData}
 use Rattle.txn_text.specs.declared.fault.TextFault.{TextFault}
 use Rattle.txn_text.specs.declared.limits.TheConstants.{MAX_TRANSACTION_BYTES}
 use Rattle.txn_text.specs.Transactions.{Reads, FirstFault}
-use Rattle.node_commands.specs.declared.refusal.Refusal.{Refusal}
-use Rattle.node_commands.specs.declared.refusal.Refusal.TheVariants.{BadKey, Memory, NoKey, StoreFault, Transaction}
-use Rattle.node_commands.specs.declared.refusal.Refusal.TheVariants as refusals
-use Rattle.node_commands.specs.Comes.{IsShelfFault, RunsStore, is_done}
-use Rattle.node_commands.specs.Creating.{IsRefused}
+use Rattle.outcomes.specs.declared.refusal.Refusal.{Refusal}
+use Rattle.outcomes.specs.declared.refusal.Refusal.TheVariants.{BadKey, Memory, NoKey, StoreFault, Transaction}
+use Rattle.outcomes.specs.declared.refusal.Refusal.TheVariants as refusals
+use Rattle.outcomes.specs.Comes.{IsShelfFault, RunsStore, is_done, IsRefused, IsSourceFault}
 use Rattle.schema_verdict.specs.Inputs.{IsWholeText}
-use Rattle.schema.specs.Schemas.{SchemaData}
-use Rattle.node_commands.specs.Outcome.{IsFault, Outcome, from_make}
+use Rattle.outcomes.specs.Outcome.{IsFault, Outcome, from_make}
+use Rattle.schema.specs.Data.{SchemaData}
 use Rattle.schema_verdict.specs.Verdict.{Prints}
-use Rattle.node_commands.specs.Outside.{Outside}
-use Rattle.node_commands.specs.StoreAnswers.{HasStore, Readings, RefusesStore, next_bytes}
-use Rattle.node_commands.specs.Texts.{line_of}
+use Rattle.outcomes.specs.Outside.{Outside}
+use Rattle.outcomes.specs.StoreAnswers.{HasStore, Readings, RefusesStore, next_bytes, RefusesKey}
+use Rattle.outcomes.specs.Texts.{line_of}
+use Rattle.outcomes.specs.OpenStores.{WorksFrom}
 
 -- the history with one more update, the last
 abbrev pub with_update : HistoryData → List ℕ → HistoryData
@@ -75,11 +74,6 @@ pub data JoinAnswer (stream : Stream) (history : HistoryData) (secret : SecretDa
   not_joined : (why : MakeFault) → IsJoinCause history secret taken (next_bytes stream) why → IsRefused outcome → added ≡ [] → outcome ≡ Err (from_make secret why)
       → JoinAnswer stream history secret taken added outcome
 
--- Why the key of a directory is not opened, by what its parts read as.
-pub data RefusesKey (key used : Option (List ℕ)) (refusal : Refusal) : Type 0 where
-  no_key : IsNoKey key → refusal ≡ NoKey → RefusesKey key used refusal
-  bad_key : IsBadKey key used → refusal ≡ BadKey → RefusesKey key used refusal
-
 -- What is answered over an open store, by what the parts of the key read as. Where the key is refused, the source and the generator are not used.
 pub data KeyedAnswer (Unused : Type 0) (Answer : SignAnswer) (key used : Option (List ℕ)) (history : HistoryData) (added : List (List ℕ)) (outcome : Outcome) : Type 0 where
   without_key : (refusal : Refusal) → RefusesKey key used refusal → Unused → added ≡ [] → outcome ≡ Err refusal → KeyedAnswer Unused Answer key used history added outcome
@@ -96,10 +90,6 @@ pub record MakesUpdate (Unused : Type 0) (Answer : SignAnswer) (Stops : Outcome 
   pub runs : RunsStore (λ given. IsShelfFault old new given ⊎ Stops given) (StoreAnswer Unused Answer) (Schema ∷ Updates ∷ Key ∷ Used ∷ []) dir before after outcome
   pub key : IsTrue before.tells → IsUntouched (part_in before dir Key) (part_in after dir Key)
   pub used : IsTrue before.tells → KeepsUsed (part_in before dir Used) (part_in after dir Used)
-
--- The source failed, and its count of faults rose.
-abbrev pub IsSourceFault : ℕ → ℕ → Outcome → Type 0
-IsSourceFault old new outcome = (outcome ≡ Err refusals.Stream) × Rose old new
 
 -- Nothing else stops it.
 abbrev pub IsNoStop : Outcome → Type 0
@@ -148,10 +138,6 @@ pub record JoinsHeads {S H R : Type 0} (dir : List ℕ) (before after : Outside 
 abbrev pub IsOpenFault : (Outcome → Type 0) → ReplicaState → KeyState → ReplicaState → KeyState → Outcome → Type 0
 IsOpenFault Stops old key new key_new outcome =
     (outcome ≡ Err Memory) ⊎ (Stops outcome ⊎ ((outcome ≡ Err StoreFault) × (Rose old.log.faults new.log.faults ⊎ Rose key.parts.used_faults key_new.parts.used_faults)))
-
--- What is done to the list of an open store, as from its taking on.
-abbrev pub WorksFrom : ReplicaState → ReplicaState → List (List ℕ) → Bool → Type 0
-WorksFrom old new added done = (IsTrue old.log.disk.tells → IsClean old.log.end old.log.disk) → (taken : OpenData) → taken.replica ≡ old → WorksOn taken new added done
 
 -- A command over an open store and an open key.
 pub record SignsOpen (Answer : SignAnswer) (Stops : Outcome → Type 0) (old : ReplicaState) (key : KeyState) (new : ReplicaState) (key_new : KeyState) (outcome : Outcome) : Type 0 where

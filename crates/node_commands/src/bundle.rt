@@ -1,10 +1,10 @@
 ghost use Rattle.std.specs.Prelude.{◌⊎◌, ◌≤◌, IfOk, IfErr};
 ghost use Rattle.node_commands.specs.Bundle.{HoldsText, LacksText};
-ghost use Rattle.node_commands.specs.Outcome.{IsFault};
+ghost use Rattle.outcomes.specs.Outcome.{IsFault};
 
-use crate::refusal::Refusal;
 use bec_bytes::{Framed, Source, read_framed};
-use schema::{MAX_SCHEMA_BYTES, SchemaFault, SchemaKind};
+use outcomes::Refusal;
+use schema_text::{MAX_SCHEMA_BYTES, SchemaFault, SchemaKind};
 use std::alloc::Global;
 
 /// Reads the text of the schema that a bundle begins with, and nothing behind it.

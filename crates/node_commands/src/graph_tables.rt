@@ -1,28 +1,27 @@
 ghost use Rattle.std.specs.Prelude.{◌≡◌, [], List, IfOk, IsTrue};
-ghost use Rattle.table_model.specs.Confluence.{are_accepted};
+ghost use Rattle.confluence_laws.specs.Confluence.{are_accepted};
 ghost use Rattle.table_model.specs.Invariants.{invariants_of};
 ghost use Rattle.schema.specs.Sound.{AreTables};
 ghost use Rattle.update_model.specs.Node.{NodeData};
 ghost use Rattle.tuple_state.specs.State.{IsStateOf};
 ghost use Rattle.update_check.specs.Members.{AreMembers};
-ghost use Rattle.node_commands.specs.Bundle.{PrintsTables, ShowsState, dump_text, nodes_of};
-ghost use Rattle.node_commands.specs.Verdict.{rules_of};
+ghost use Rattle.node_commands.specs.Bundle.{PrintsTables, ShowsState, dump_text};
+ghost use Rattle.outcomes.specs.Rules.{nodes_of, rules_of};
 
-use crate::standing::each_stands;
 use bec_disk::Disk;
+use confluence_laws::{accepted_holds, shown_rows_fit, tables_are_of_the_set};
 use confluence_test::accepted_is_unlimited;
 use hash_graph::Graph;
 use head_set::equal_heads_mean_equal_sets;
+use history::replay;
+use outcomes::each_stands;
 use query_answer::{shown_lists, tables_json};
-use replay::replay;
 use replica::Replica;
 use row_check::{Luhn, Native};
-use schema::{Schema, declared_is_sound};
+use schema::Schema;
+use schema_text::declared_is_sound;
 use std::alloc::{AllocError, Global};
-use table_model::{
-    ShownRowList, VoidLine, accepted_holds, arrivals_are_closed, shown_rows_fit,
-    tables_are_of_the_set,
-};
+use table_model::{ShownRowList, VoidLine, arrivals_are_closed};
 use table_text::push_tables;
 use tuple_state::Tables;
 use update_check::Checked;

@@ -9,19 +9,22 @@ ghost use Rattle.node_commands.specs.Bundle.{DumpAnswer};
 ghost use Rattle.node_commands.specs.Creating.{InitAnswer, KeygenAnswer};
 ghost use Rattle.node_commands.specs.Heads.{HeadsAnswer};
 ghost use Rattle.node_commands.specs.Merging.{IsSureOfMerge, MayMerge};
-ghost use Rattle.node_commands.specs.Outcome.{Outcome, status_of, text_of};
+ghost use Rattle.outcomes.specs.Outcome.{Outcome, status_of, text_of};
 ghost use Rattle.node_commands.specs.Signing.{IsSureOfApply, JoinAnswer, MayApply, StoreAnswer};
 ghost use Rattle.node_commands.specs.Asking.{QueryAnswer};
-ghost use Rattle.node_commands.specs.StoreAnswers.{Readings, Printing, ReadsStore, ShowsHeads, ShowsRecords, ShowsTables};
+ghost use Rattle.outcomes.specs.StoreAnswers.{Readings, Printing, ReadsStore};
+ghost use Rattle.node_commands.specs.Shows.{ShowsHeads, ShowsRecords, ShowsTables};
 ghost use Rattle.node_commands.specs.Verdict.{CheckAnswer};
 
+use confluence_laws::tables_are_of_the_set;
 use confluence_test::{refused_once, taken_or_refused};
+use key_directory::{key_or_not, one_key};
 use query::{no_fault as no_query_fault, one_fault as one_query_fault, one_query};
 use query_answer::one_answer_over;
 use replica::{one_early_refusal, one_join, one_make};
-use schema::one_schema;
-use store_directory::{key_or_not, one_key, one_store, store_or_not};
-use table_model::{arrivals_are_closed, tables_are_of_the_set};
+use schema_text::one_schema;
+use store_directory::{one_store, store_or_not};
+use table_model::arrivals_are_closed;
 use txn_text::{no_fault, one_fault, one_transaction};
 use update_stream::{one_graph, one_refusal, whole_or_refused};
 

@@ -1,7 +1,5 @@
-//! The commands of the program `bec` that need no net: [`run_alone`] takes the words of a command line, a shelf of
-//! directories, a generator of random words, a source and a sink, and answers an exit status.
-//!
-//! Each command has a function of its own, for a caller that knows the first word.
+//! The commands of the program `bec` that need no net, each as a function over what it uses: a shelf of directories, a
+//! generator of random words, a source. Each answers the text that it prints, or why it is refused.
 //!
 //! ```text
 //! bec heads < stream        the ids of the heads of an update stream, rising, one per line
@@ -19,12 +17,11 @@
 //! bec merge DIR DIR         reconciles the stores of two directories, and prints what each gained
 //! ```
 //!
-//! A command comes to an outcome: the text that it prints, or a [`Refusal`], which says why it is not done. The exit
-//! statuses stand in [`status`]. How an outcome is said, what holds of a store that is open and what a directory remembers of
-//! peers stand here for the commands over a net too: [`finish`], [`put`], [`refuse`], [`each_stands`], [`peers_of`] and
-//! [`keep_peers`]; and how a bundle is read, for other programs: [`bundle_schema`] and [`read_graph`].
+//! What is told of each is an answer in specs/; that an input has one answer are the laws [`one_answer`],
+//! [`one_answer_of_parts`], [`one_answer_of_makers`] and [`one_answer_of_merge`]. How a bundle is read stands here for other
+//! programs too: [`bundle_schema`] and [`read_graph`].
 //!
-//! It waits for nobody but its source and its sink, and opens nothing by itself.
+//! It waits for nobody but its source, and opens nothing by itself.
 #![tactic(auto)]
 
 mod bundle;
@@ -32,33 +29,19 @@ mod commands;
 mod graph_tables;
 mod heads;
 mod laws;
-mod lines;
-mod printed_lines;
-mod program;
-mod refusal;
-mod remembering;
-mod reply;
-mod standing;
 mod stream;
 
 pub use bundle::bundle_schema;
-pub use commands::apply::command_apply;
-pub use commands::check::command_check;
-pub use commands::dump::command_dump;
-pub use commands::export::command_export;
-pub use commands::heads::command_heads;
-pub use commands::init::command_init;
-pub use commands::join::command_join;
-pub use commands::keygen::command_keygen;
-pub use commands::merge::command_merge;
-pub use commands::query_store::command_query;
+pub use commands::apply::apply_in;
+pub use commands::check::verdict;
+pub use commands::dump::{bundle_tables, dump_in};
+pub use commands::export::export_in;
+pub use commands::heads::{heads_in, stream_heads};
+pub use commands::init::init_in;
+pub use commands::join::join_in;
+pub use commands::keygen::keygen_in;
+pub use commands::merge::merge_in;
+pub use commands::query_store::query_in;
 pub use heads::heads_of;
 pub use laws::{one_answer, one_answer_of_makers, one_answer_of_merge, one_answer_of_parts};
-pub use lines::{peer_line, refuse};
-pub use program::run_alone;
-pub use refusal::Refusal;
-pub use remembering::{keep_peers, peers_of};
-pub use reply::finish;
-pub use schema_verdict::{put, status};
-pub use standing::each_stands;
 pub use stream::read_graph;

@@ -3,9 +3,9 @@ ghost use Rattle.update_stream.specs.declared.reading.Reading.TheVariants.{Whole
 ghost use Rattle.update_stream.specs.Told.{Reads};
 ghost use Rattle.node_commands.specs.Heads.{StopsAt};
 
-use crate::refusal::Refusal;
 use bec_bytes::Source;
 use hash_graph::Graph;
+use outcomes::Refusal;
 use std::alloc::Global;
 use update_check::Checked;
 use update_model::DbRule;

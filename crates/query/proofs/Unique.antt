@@ -6,7 +6,7 @@ use Rattle.std.proofs.lemmas.Str.{utf8_valid_len-IsUtf8, utf8_valid_len-IsValidU
 use Rattle.expression_text.specs.declared.token.Token.{Token}
 use Rattle.expression_text.specs.Columns.{column_in}
 use Rattle.expression_text.specs.Grammar.{Parses, Disjunction}
-use Rattle.expression_text.specs.Trees.{Tree}
+use Rattle.row_check.specs.Trees.{Tree}
 use Rattle.schema.specs.declared.table_def.TableDef.{TableDef}
 use Rattle.schema.specs.Data.{SchemaData}
 use Rattle.query.specs.declared.fault.QueryKind.{QueryKind}

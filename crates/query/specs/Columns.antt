@@ -1,8 +1,8 @@
 -- Columns of a table by their names, those of the rows that its references name included.
 use Rattle.std.specs.Prelude.{ℕ, ◌+◌, ◌==◌, Bool, true, false, List, [], ◌∷◌, ◌++◌, map, take, drop, position, slice_get, Option, Some, None, option_and_then, option_map, option_to_list, if◌then◌else◌, codes}
 use Rattle.std.specs.List.{flat_map}
-use Rattle.expression_text.specs.declared.kind.Kind.{Kind}
-use Rattle.expression_text.specs.declared.kind.Kind.TheVariants as kind
+use Rattle.row_check.specs.declared.kind.Kind.{Kind}
+use Rattle.row_check.specs.declared.kind.Kind.TheVariants as kind
 use Rattle.expression_text.specs.declared.token.Token.{Token}
 use Rattle.expression_text.specs.declared.token.Token.TheVariants as token
 use Rattle.schema.specs.declared.column.Column.{Column}

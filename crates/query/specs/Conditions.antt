@@ -1,8 +1,8 @@
 -- Where the words of a condition are at fault: they are no expression, or read columns that are not there or not of the
 -- kind that is wanted.
 use Rattle.std.specs.Prelude.{ℕ, zero, suc, ◌+◌, ◌-◌, ◌≤◌, Bool, true, false, not, nat_le, List, [], ◌∷◌, length, Option, Some, None, is_some, unwrap_or, if◌then◌else◌, All}
-use Rattle.expression_text.specs.declared.kind.Kind.{Kind}
-use Rattle.expression_text.specs.declared.kind.Kind.TheVariants as kind
+use Rattle.row_check.specs.declared.kind.Kind.{Kind}
+use Rattle.row_check.specs.declared.kind.Kind.TheVariants as kind
 use Rattle.expression_text.specs.declared.token.Token.{Token}
 use Rattle.expression_text.specs.declared.token.Token.TheVariants as token
 use Rattle.expression_text.specs.Columns.{HasRowText}

@@ -1,8 +1,8 @@
 -- Queries as contracts see them.
 use Rattle.std.specs.Prelude.{List, refl}
 use Rattle.std.specs.Coded.{Coded, code_by, coded×, coded_list}
-use Rattle.expression_text.specs.Kinds.{HasKinds}
-use Rattle.expression_text.specs.Trees.{Tree}
+use Rattle.row_check.specs.Kinds.{HasKinds}
+use Rattle.row_check.specs.Trees.{Tree}
 use Rattle.schema.specs.Checks.{coded_tree}
 use Rattle.query.specs.contracts.source.Slot as slot
 use Rattle.query.specs.declared.source.Slot.{Slot}

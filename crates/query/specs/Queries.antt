@@ -5,8 +5,8 @@ use Rattle.expression_text.specs.declared.token.Token.{Token}
 use Rattle.expression_text.specs.declared.token.Token.TheVariants as token
 use Rattle.expression_text.specs.Columns.{column_in}
 use Rattle.expression_text.specs.Grammar.{Parses, Disjunction}
-use Rattle.expression_text.specs.Kinds.{HasKinds}
-use Rattle.expression_text.specs.Trees.{Tree}
+use Rattle.row_check.specs.Kinds.{HasKinds}
+use Rattle.row_check.specs.Trees.{Tree}
 use Rattle.schema.specs.declared.table_def.TableDef.{TableDef}
 use Rattle.schema.specs.Data.{SchemaData}
 use Rattle.query.specs.declared.fault.QueryKind.{QueryKind}

@@ -3,8 +3,8 @@
 ghost use Rattle.std.specs.Prelude.{◌≡◌, ◌↔◌, ◌≤◌, ◌^◌, All, Err, option_to_list, IfOk, IfErr, IsTrue};
 ghost use Rattle.expression_text.specs.Columns.{IsKnown};
 ghost use Rattle.expression_text.specs.Grammar.{IsReading};
-ghost use Rattle.expression_text.specs.Kinds.{FitsKinds, HasKinds};
-ghost use Rattle.expression_text.specs.Trees.{holds_tree, tree_of};
+ghost use Rattle.row_check.specs.Kinds.{FitsKinds, HasKinds};
+ghost use Rattle.row_check.specs.Trees.{holds_tree, tree_of};
 ghost use Rattle.query.specs.Columns.{names_of, names_at, slots_of, slots_at, seen_kind as kind_for, seen_kinds, kind_named};
 ghost use Rattle.query.specs.Conditions.{IsCondition, stuck_at, refused, misfit_in, misfit, misfits, misfits_named, is_unknown, is_reference, is_of_text, are_alike, kind_of, left_after, place_seen};
 ghost use Rattle.query.specs.Outcome.{IsStop};
@@ -15,10 +15,8 @@ use crate::source::{Slot, slot_of};
 use crate::stop::{Stop, Wrong};
 use crate::turn::{Stand, Turn};
 use crate::{MAX_CONDITION_WORDS, QueryKind};
-use expression_text::{
-    Kind, Token, are_row_texts, build, has_kinds, is_expression, kinds_fit_rows, trees_hold,
-};
-use row_check::{Checks, Expr, Native, Relation, eval};
+use expression_text::{Token, are_row_texts, build, has_kinds, is_expression};
+use row_check::{Checks, Expr, Kind, Native, Relation, eval, kinds_fit_rows, trees_hold};
 use schema::Schema;
 use std::alloc::{AllocError, Global};
 use std::marker::Model;
@@ -35,7 +33,7 @@ pub struct Condition {
 
 impl Model for Condition {
     ghost use Rattle.query.specs.Data.{ConditionData, coded_condition, IsSound};
-    ghost use Rattle.expression_text.specs.Trees.{tree_of};
+    ghost use Rattle.row_check.specs.Trees.{tree_of};
 
     ghost Value = { ConditionData };
 

@@ -5,7 +5,7 @@ ghost use Rattle.query.specs.Columns.{columns_of, own_slot, target_in, target_na
 ghost use Rattle.schema.specs.Columns.{kind_seen as kind_for, number_named};
 
 use crate::pieces::is_text;
-use expression_text::Kind;
+use row_check::Kind;
 use schema::{Column, ColumnKind, Schema};
 
 /// Where a value of an answer is found.

@@ -11,7 +11,7 @@ use Rattle.std.proofs.lemmas.List.{length-append, length-take-le, map-id, take_a
 use Rattle.std.proofs.lemmas.List.Sorted.{IsPermutation-refl, IsPermutation-append_left, IsPermutation-cons, IsPermutation-middle, IsPermutation-to_front, length_permutation, IsPermutation-sym, IsPermutation-trans}
 use Rattle.std.proofs.lemmas.Map.Keys.{IsDistinct-IsPermutation}
 use Rattle.table_model.proofs.Rising.{rising_from_sort}
-use Rattle.table_model.proofs.SameTables.{one_list, permuted_on}
+use Rattle.confluence_laws.proofs.SameTables.{one_list, permuted_on}
 use Rattle.query_answer.proofs.InOrder.{AreUpTo, Climbs, climbing_in_order, climbs_sorted, climbs_take, over_bound, take_over, up_to_last, up_to_put, put_all_climbs, put_all_permutes, put_push, take_put}
 use Rattle.query_answer.specs.Answers.{limited}
 use Rattle.query_answer.specs.Fronts.{IsBounded, IsFront}

@@ -3,9 +3,9 @@ use Rattle.std.proofs.Common.{◌≡◌, ◌∙◌, ℕ, ◌+◌, ◌<◌, List,
 use Rattle.std.proofs.lemmas.List.{map_more}
 use Rattle.update_model.specs.declared.value.Value.{Value}
 use Rattle.update_model.specs.declared.value.Value.TheVariants as value
-use Rattle.expression_text.specs.declared.kind.Kind.{Kind}
-use Rattle.expression_text.specs.declared.kind.Kind.TheVariants as kind
-use Rattle.expression_text.specs.Kinds.{FitsKinds, IsOfKind}
+use Rattle.row_check.specs.declared.kind.Kind.{Kind}
+use Rattle.row_check.specs.declared.kind.Kind.TheVariants as kind
+use Rattle.row_check.specs.Kinds.{FitsKinds, IsOfKind}
 use Rattle.table_model.specs.declared.shown_row.ShownRow.{ShownRow}
 use Rattle.query.specs.declared.source.Slot.{Slot}
 use Rattle.query.specs.Columns.{seen_kind, seen_kinds}

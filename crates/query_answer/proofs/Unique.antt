@@ -12,7 +12,7 @@ use Rattle.update_model.specs.Node.{NodeData}
 use Rattle.table_model.specs.Tables.{AreRowsIn, listed_in, name_cmp}
 use Rattle.table_model.specs.Visible.{Rules}
 use Rattle.table_model.proofs.Rising.{distinct_kept, name_cmp_total, rising_from_sort}
-use Rattle.table_model.proofs.SameTables.{one_list, permuted_on}
+use Rattle.confluence_laws.proofs.SameTables.{one_list, permuted_on}
 use Rattle.query.specs.declared.item.Key.{Key}
 use Rattle.query.specs.Queries.{QueryData}
 use Rattle.query_answer.specs.Answers.{AnswerData, AreShown, IsAnswer, IsAnswerOver, limited, picked}

@@ -5,9 +5,9 @@ use Rattle.update_model.specs.declared.row_name.RowName.{RowName}
 use Rattle.update_model.specs.declared.value.Value.{Value}
 use Rattle.update_model.specs.declared.value.Value.TheVariants as value
 use Rattle.row_check.specs.Meaning.{value_at}
-use Rattle.expression_text.specs.declared.kind.Kind.{Kind}
-use Rattle.expression_text.specs.declared.kind.Kind.TheVariants as kind
-use Rattle.expression_text.specs.Trees.{holds_tree}
+use Rattle.row_check.specs.declared.kind.Kind.{Kind}
+use Rattle.row_check.specs.declared.kind.Kind.TheVariants as kind
+use Rattle.row_check.specs.Trees.{holds_tree}
 use Rattle.table_model.specs.declared.shown_row.ShownRow.{ShownRow}
 use Rattle.table_model.specs.Tables.{name_cmp}
 use Rattle.table_model.specs.Visible.{same_row}

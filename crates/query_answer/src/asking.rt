@@ -1,7 +1,7 @@
 //! Which rows a query asks for.
 
 ghost use Rattle.std.specs.Prelude.{◌≡◌, IfOk, List, map};
-ghost use Rattle.expression_text.specs.Kinds.{FitsKinds};
+ghost use Rattle.row_check.specs.Kinds.{FitsKinds};
 ghost use Rattle.query.specs.Columns.{seen_kinds};
 ghost use Rattle.table_model.specs.declared.shown_row.ShownRow.{ShownRow as Shown};
 ghost use Rattle.query_answer.specs.Rows.{AreListsOf, shown_row};
@@ -9,9 +9,8 @@ ghost use Rattle.query_answer.specs.Values.{is_asked, seen, seen_at};
 
 use crate::rows::{Row, Rows};
 use crate::values::value_of;
-use expression_text::Kind;
 use query::{Condition, Slot};
-use row_check::{Checks, Native, Relation};
+use row_check::{Checks, Kind, Native, Relation};
 use std::alloc::{AllocError, Global};
 use update_model::Value;
 

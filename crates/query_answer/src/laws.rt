@@ -2,8 +2,8 @@
 
 ghost use Rattle.std.specs.Prelude.{◌≡◌, ◌∷◌, [], ◌++◌, ℕ, Bool, List};
 ghost use Rattle.update_model.specs.declared.value.Value.{Value};
-ghost use Rattle.expression_text.specs.declared.kind.Kind.{Kind};
-ghost use Rattle.expression_text.specs.Kinds.{IsOfKind};
+ghost use Rattle.row_check.specs.declared.kind.Kind.{Kind};
+ghost use Rattle.row_check.specs.Kinds.{IsOfKind};
 ghost use Rattle.schema.specs.declared.table_def.TableDef.{TableDef};
 ghost use Rattle.table_model.specs.declared.shown_row.ShownRow.{ShownRow};
 ghost use Rattle.table_model.specs.declared.void_line.VoidLine.{VoidLine};

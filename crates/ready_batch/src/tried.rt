@@ -1,6 +1,7 @@
 ghost use Rattle.std.specs.Prelude.{◌≡◌, IfOk, IfSome, OnErr, false, map, slice_get};
 ghost use Rattle.update_model.specs.declared.update_id.UpdateId.{UpdateId};
 ghost use Rattle.update_model.specs.Graph.{holds};
+ghost use Rattle.hash_graph.specs.Answer.{IsNew, answer_of};
 ghost use Rattle.ready_batch.specs.Steps.{IsTried, IsOver};
 
 use crate::AddFault;
@@ -34,6 +35,9 @@ pub fn try_member<M: Member + Drop>(
     ensures tells { IfOk result (IsTried M.entry graph.old graph.new member) }
     ensures full { result ≡ Err AddFault.Full → IsOver (map M.entry graph.new) (M.entry member) }
     ensures kept { OnErr result (graph.new ≡ graph.old) }
+
+    // Memory may run out only for a member that would stand last.
+    ensures memory { result ≡ Err AddFault.Memory → IsNew (answer_of (map M.entry graph.old) (M.entry member)) }
 {
     if let Some(found) = first_lacking(graph, member.preds(), found) {
         let id = member.preds()[found];

@@ -4,10 +4,13 @@ use Rattle.std.specs.declared.alloc.Global.{Global}
 use Rattle.std.proofs.lemmas.List.{map-append, take-append-drop}
 use Rattle.std.proofs.lemmas.List.Elements.{All-cons, All-nil}
 use Rattle.update_model.specs.Rule.{RuleData}
-use Rattle.update_check.specs.Causes.{IsCause}
+use Rattle.std.specs.Prelude.{IfErr, IfOk}
+use Rattle.update_check.specs.Causes.{HasCause, IsCause}
+use Rattle.update_check.specs.declared.check_error.CheckError.{CheckError}
+use Rattle.update_check.specs.declared.check_error.CheckError.TheVariants.{Fault, Memory}
 use Rattle.update_check.specs.Signed.{IsChecked}
 use Rattle.update_check.specs.declared.check_error.CheckFault.{CheckFault}
-use Rattle.record_check.specs.Records.{AreAnswers, IsCheckedFront, bytes_of}
+use Rattle.record_check.specs.Records.{AreAnswers, IsAnswer, IsCheckedFront, answer_of, bytes_of}
 
 -- what the check says of a record
 abbrev pub Said : Type 0
@@ -39,6 +42,13 @@ pub answers_push : (rule : RuleData) (before : List (Vec ℕ Global)) (r : Vec �
 answers_push rule before r answers all said first next same =
     subst (AreAnswers rule (bytes_of (before ++ r ∷ []))) (sym same)
     (subst (λ (l : List (List ℕ)). AreAnswers rule l (answers ++ said ∷ [])) (sym (bytes_of-append before (r ∷ []))) (answers_append rule (bytes_of before) (r.items ∷ []) answers (said ∷ []) first next))
+
+-- what a check comes to as an answer is what it says of the record
+pub answer_told : (rule : RuleData) (bytes : List ℕ) (checked : Result (List ℕ) CheckError) → IfOk checked (IsChecked rule) → IfOk checked (λ update. update ≡ bytes) → IfErr checked (HasCause rule bytes)
+    → IfOk (answer_of checked) (IsAnswer rule bytes)
+answer_told rule bytes (Ok update) found same cause = (subst (IsChecked rule) same found, same)
+answer_told rule bytes (Err (Fault fault)) found same cause = cause
+answer_told rule bytes (Err Memory) found same cause = tt
 
 -- whether a refusal stands first, or nothing
 abbrev pub Stops : List Said → Type 0

@@ -1,8 +1,9 @@
 //! Checking many records at once, on one thread or on several.
 
-ghost use Rattle.std.specs.Prelude.{◌≡◌, ◌<◌, ◌≤◌, ℕ, List, IfOk};
+ghost use Rattle.std.specs.Prelude.{◌≡◌, ◌<◌, ◌≤◌, [], ℕ, List, IfOk, vec_len};
+ghost use Rattle.std.specs.Vec.{vec_capacity};
 ghost use Rattle.update_model.specs.Rule.{RuleData};
-ghost use Rattle.record_check.specs.Records.{AreAnswers, IsAnswer, IsCheckedFront, bytes_of};
+ghost use Rattle.record_check.specs.Records.{AreAnswers, IsAnswer, IsCheckedFront, answer_of, bytes_of};
 
 use std::alloc::{AllocError, Global};
 use std::thread::{Threads, available_parallelism, join};
@@ -125,7 +126,14 @@ fn each_here(alloc: Global, rule: &DbRule, records: Vec<Vec<u8>>) -> Result<Vec<
 fn answer(alloc: Global, rule: &DbRule, bytes: Vec<u8>) -> Result<Answer, AllocError>
     ensures { IfOk result (IsAnswer rule.now bytes.items) }
 {
-    match check(alloc, rule, bytes) {
+    answer_of(check(alloc, rule, bytes))
+}
+
+/// What a check comes to as an answer. Want of memory alone is none.
+fn answer_of(checked: Result<Checked, CheckError>) -> Result<Answer, AllocError>
+    ensures { result ≡ answer_of checked }
+{
+    match checked {
         Ok(update) => Ok(Ok(update)),
         Err(CheckError::Fault(fault)) => Ok(Err(fault)),
         Err(CheckError::Memory) => Err(AllocError),
@@ -136,13 +144,22 @@ fn answer(alloc: Global, rule: &DbRule, bytes: Vec<u8>) -> Result<Answer, AllocE
 fn front_of(alloc: Global, answers: Vec<Answer>) -> Result<Vec<Checked>, AllocError>
     ensures { IfOk result (λ front. (rule : RuleData) (records : List (List ℕ)) → AreAnswers rule records answers.items → IsCheckedFront rule records front.items) }
 {
-    no_cause();
     let mut front = Vec::with_capacity(alloc, answers.len())?;
+    take_front(&mut front, answers);
+    Ok(front)
+}
+
+/// Puts the checked updates of the records in front of the first that is refused into an empty list with room for all.
+fn take_front(front: &mut Vec<Checked>, answers: Vec<Answer>)
+    requires empty { front.old.items ≡ [] }
+    requires room { vec_len answers ≤ vec_capacity front.old }
+    ensures { (rule : RuleData) (records : List (List ℕ)) → AreAnswers rule records answers.items → IsCheckedFront rule records front.new.items }
+{
+    no_cause();
     for answer in answers {
         match answer {
-            Ok(update) => front.push(update)?,
-            Err(_fault) => return Ok(front),
+            Ok(update) => front.push_reserved(update),
+            Err(_fault) => return,
         }
     }
-    Ok(front)
 }

@@ -2,18 +2,17 @@
 use Rattle.std.proofs.Common.{◌≡◌, ◌⊎◌, inl, inr, ⊎_elim, ℕ, ◌≤◌, List, [], ◌∷◌, length, refl, subst, IsTrue, arith}
 use Rattle.bec_bytes.specs.Framed.{stream_of}
 use Rattle.bec_disk.specs.Disk.{DiskState, IsSameDisk, IsSettled, LeavesOnly}
-use Rattle.bec_disk.specs.Gated.{IsOldOrNew}
+use Rattle.bec_disk.specs.Gated.{IsOldOrNew, gated_of}
 use Rattle.bec_disk.proofs.Images.{settled_image}
 use Rattle.bec_disk.proofs.Moments.{same_disk, stays}
 use Rattle.update_model.specs.Rule.{RuleData}
 use Rattle.update_check.specs.Members.{AreMembers}
 use Rattle.update_log.specs.Log.{IsClean}
 use Rattle.update_log.specs.Logset.{IsLogset}
-use Rattle.schema.specs.Schemas.{Meaning}
+use Rattle.schema.specs.Data.{Meaning}
 use Rattle.confluence_test.specs.Taking.{RefusesSchema}
 use Rattle.confluence_test.specs.declared.refusal.SchemaRefusal.{SchemaRefusal}
 use Rattle.confluence_test.specs.declared.refusal.SchemaRefusal.TheVariants.{Memory, NotConfluent, Schema}
-use Rattle.bec_disk.specs.Gated.{gated_of}
 use Rattle.bec_disk.specs.declared.gated.Gated.TheVariants.{Absent}
 use Rattle.replica.specs.Opening.{Creating, IsCreateCause, IsTextCause, refusal_kind}
 use Rattle.replica.specs.declared.create_fault.CreateKind.{CreateKind}

@@ -7,7 +7,8 @@ use Rattle.bec_disk.specs.Gated.{gated_of}
 use Rattle.bec_disk.specs.declared.gated.Gated.TheVariants.{Absent, Damaged, Whole}
 use Rattle.bec_disk.proofs.Images.{settled_image}
 use Rattle.bec_disk.proofs.Moments.{same_disk, stays}
-use Rattle.schema.specs.Schemas.{Declares, Meaning, SchemaData}
+use Rattle.schema_text.specs.Schemas.{Declares}
+use Rattle.schema.specs.Data.{Meaning, SchemaData}
 use Rattle.update_log.specs.Log.{KeepsLogset}
 use Rattle.update_log.specs.Logset.{BeginsWith, IsLogset}
 use Rattle.replica.specs.Opening.{KeepsStore}
@@ -19,6 +20,10 @@ use Rattle.replica.specs.Payload.{DeclaresBoth, DeclaresNone, DeclaresStore}
 -- the text of a schema that was taken is the text
 pub text_of_taken : (ask : Meaning) (text : List ℕ) (schema : SchemaData) → TakesSchema ask text schema → schema.text ≡ text
 text_of_taken ask text schema taken = ap (λ (s : SchemaData). s.text) taken.declares.1.3
+
+-- a schema that stays is still taken
+pub still_taken : (ask : Meaning) (old new : SchemaData) → new ≡ old → TakesSchema ask old.text old → TakesSchema ask new.text new
+still_taken ask old new same taken = subst (λ (s : SchemaData). TakesSchema ask s.text s) (sym same) taken
 
 pub taken_by_text : (ask : Meaning) (text : List ℕ) (schema : SchemaData) → TakesSchema ask text schema → TakesSchema ask schema.text schema
 taken_by_text ask text schema taken = subst (λ (l : List ℕ). TakesSchema ask l schema) (sym (text_of_taken ask text schema taken)) taken

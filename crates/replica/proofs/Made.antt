@@ -12,7 +12,7 @@ use Rattle.update_codec.specs.declared.limits.TheConstants.{UPDATE_LIMIT}
 use Rattle.update_codec.specs.Spelling.{before_ops, message, signed_length}
 use Rattle.update_codec.proofs.Stops.{ids_place}
 use Rattle.lms_tree.specs.SecretKey.{SecretData, public_key}
-use Rattle.schema.specs.Schemas.{Meaning}
+use Rattle.schema.specs.Data.{Meaning}
 use Rattle.history.specs.Histories.{HistoryData}
 use Rattle.replica.specs.Making.{AddsMade, AfterAllHeads, AfterLeastHeads, IsAddCause, IsJoinCause, IsSignCause, Joins, Makes, body_by}
 use Rattle.replica.specs.declared.make_fault.MakeFault.{MakeFault}

@@ -20,7 +20,7 @@ use Rattle.update_codec.proofs.Places.{author_stands}
 use Rattle.update_check.specs.Members.{AreMembers}
 use Rattle.update_check.specs.Signed.{IsChecked}
 use Rattle.lms_tree.specs.SecretKey.{SecretData, public_key}
-use Rattle.schema.specs.Schemas.{Meaning}
+use Rattle.schema.specs.Data.{Meaning}
 use Rattle.history.specs.Histories.{HistoryData}
 use Rattle.key_index.specs.Used.{least_unused}
 use Rattle.replica.specs.Making.{AfterAllHeads, AfterLeastHeads, HasLength, HasNoneToJoin, HasRoom, IsJoinCause, IsMadeBy, IsMakeCause, Joins, Makes, MayMake, body_by, update_by}

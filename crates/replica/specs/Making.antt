@@ -21,7 +21,7 @@ use Rattle.update_codec.specs.Spelling.{Spells, message, signed_length}
 use Rattle.update_check.specs.Members.{AreMembers}
 use Rattle.update_check.specs.Signed.{node_of}
 use Rattle.lms_tree.specs.SecretKey.{SecretData, public_key, signature_by}
-use Rattle.schema.specs.Schemas.{Meaning}
+use Rattle.schema.specs.Data.{Meaning}
 use Rattle.table_model.specs.declared.verdict.Verdict.{Verdict}
 use Rattle.table_model.specs.declared.verdict.Verdict.TheVariants.{Valid, Void}
 use Rattle.history.specs.Histories.{HistoryData, verdict_after}

@@ -9,7 +9,7 @@ use Rattle.bec_disk.specs.declared.disk_error.DiskError.TheVariants as disk_erro
 use Rattle.confluence_test.specs.Taking.{RefusesSchema, TakesSchema}
 use Rattle.confluence_test.specs.declared.refusal.SchemaRefusal.{SchemaRefusal}
 use Rattle.confluence_test.specs.declared.refusal.SchemaRefusal.TheVariants as refusals
-use Rattle.schema.specs.Schemas.{Meaning, SchemaData}
+use Rattle.schema.specs.Data.{Meaning, SchemaData}
 use Rattle.update_log.specs.Log.{IsClean}
 use Rattle.update_log.specs.Logset.{BeginsWith, IsLogset}
 use Rattle.replica.specs.Payload.{DeclaresNone, DeclaresStore}

@@ -2,7 +2,7 @@
 use Rattle.std.specs.Prelude.{◌≡◌, ◌≢◌, ℕ, List, ◌++◌, length}
 use Rattle.bec_disk.specs.Gated.{gated_of}
 use Rattle.bec_disk.specs.declared.gated.Gated.TheVariants.{Absent, Whole}
-use Rattle.schema.specs.Schemas.{Meaning, SchemaData}
+use Rattle.schema.specs.Data.{Meaning, SchemaData}
 use Rattle.confluence_test.specs.Taking.{TakesSchema}
 
 -- The part Schema is whole, and its payload is the id of a node, of 32 bytes, and the text of a schema whose invariants all

@@ -57,6 +57,7 @@ pub fn sign_and_add<D: Disk, L: Relation, C: Checks<L>>(
     requires log { IsLogOf history.old.members log.old }
     ensures added { IfOk result (λ id. AddsMade L.answer has_to_be_valid history.old key.old.secret key.old.taken preds ops c.now id history.new) }
     ensures same { OnErr result (history.new ≡ history.old) }
+    ensures schema { history.new.schema ≡ history.old.schema }
     ensures refused { IfErr result (λ why. IsSignCause history.old key.old.secret key.old.taken preds ops c.now why ⊎ IsAddCause why) }
     ensures form { IsBody (body_by history.old (public_key key.old.secret) preds ops) }
     ensures log { IsLogOf history.new.members log.new }
@@ -91,6 +92,7 @@ fn add_last<D: Disk, L: Relation, C: Checks<L>>(
     ensures added { OnOk result (history.new ≡ record { schema = history.old.schema; members = history.old.members ++ update ∷ [] }) }
     ensures valid { OnOk result (IsTrue has_to_be_valid → verdict_after L.answer history.old (node_of update) ≡ Valid) }
     ensures same { OnErr result (history.new ≡ history.old) }
+    ensures schema { history.new.schema ≡ history.old.schema }
     ensures refused { IfErr result IsAddCause }
     ensures log { IsLogOf history.new.members log.new }
     ensures clean { IsTrue log.old.disk.tells → OnOk result (IsClean log.new.end log.new.disk) }

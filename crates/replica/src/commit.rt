@@ -29,6 +29,7 @@ impl<D: Disk, L: Relation, C: Checks<L>> Replica<D, L, C> {
     /// [`CommitFault::Full`] comes where all that can be added would pass a limit of a store, and [`CommitFault::DiskFault`] only where the
     /// count of the log's disk rose. After a refusal the updates are as they were, and the batch is given up; the disk may hold whole further
     /// records until the next call, which cuts them first.
+    #[tactic(auto, using(crate::proofs::Declaring::still_taken))]
     pub fn commit(&mut self, alloc: Global, batch: Vec<Checked>) -> Result<Committed, CommitFault>
         requires { All (IsChecked self.old.history.schema.rule) batch.items }
         ensures commits { Commits store_limits self.old.history.members batch.items result self.old.log.faults self.new.log.faults self.new.history.members }

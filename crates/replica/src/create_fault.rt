@@ -1,6 +1,7 @@
 use bec_disk::Disk;
 use row_check::{Checks, Native, Relation};
-use schema::{Schema, SchemaFault};
+use schema::Schema;
+use schema_text::SchemaFault;
 use table_model::{Counterexample, Invariant};
 
 /// Why a store is not created. Where there is more than one reason, it is the first in this order.

@@ -4,7 +4,7 @@ ghost use Rattle.std.specs.Prelude.{◌≡◌, ℕ, Bool, List};
 ghost use Rattle.update_model.specs.declared.op.Op.{Op};
 ghost use Rattle.update_model.specs.declared.update_id.UpdateId.{UpdateId};
 ghost use Rattle.lms_tree.specs.SecretKey.{SecretData};
-ghost use Rattle.schema.specs.Schemas.{Meaning};
+ghost use Rattle.schema.specs.Data.{Meaning};
 ghost use Rattle.history.specs.Histories.{HistoryData};
 ghost use Rattle.replica.specs.Making.{HasNoneToJoin, IsJoinCause, IsMakeCause, Joins, Makes};
 ghost use Rattle.replica.specs.Told.{IsAfterVerdict, IsBeforeVerdict, IsTold};

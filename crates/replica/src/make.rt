@@ -36,6 +36,7 @@ impl<D: Disk, L: Relation, C: Checks<L>> Replica<D, L, C> {
     /// There are at most 64 operations, of which `update_model::check_ops` is true. After a refusal the updates are as they were. Where the id is
     /// taken, or the log's disk failed, an index of the key was used for one signature, which is given up; where the key's disk failed, the index
     /// that was tried is used and no signature was made.
+    #[tactic(auto, using(crate::proofs::Declaring::still_taken))]
     pub fn make(
         &mut self,
         alloc: Global,
@@ -80,6 +81,7 @@ impl<D: Disk, L: Relation, C: Checks<L>> Replica<D, L, C> {
     /// nothing is made and the answer is `None`, before every refusal.
     ///
     /// Of the refusals only `NotListed`, `Full`, `Spent`, `Taken`, `DiskFault` and `Memory` come.
+    #[tactic(auto, using(crate::proofs::Declaring::still_taken))]
     pub fn join(
         &mut self,
         alloc: Global,

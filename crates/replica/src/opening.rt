@@ -4,7 +4,7 @@ ghost use Rattle.std.specs.Prelude.{◌≡◌, ◌≤◌, ◌⊎◌, ℕ, List, 
 ghost use Rattle.bec_bytes.specs.Causes.{Rose};
 ghost use Rattle.bec_disk.specs.Disk.{IsSettled};
 ghost use Rattle.confluence_test.specs.Taking.{TakesSchema};
-ghost use Rattle.schema.specs.Schemas.{SchemaData};
+ghost use Rattle.schema.specs.Data.{SchemaData};
 ghost use Rattle.update_log.specs.Log.{IsClean, KeepsLogset};
 ghost use Rattle.update_log.specs.Logset.{IsLogset};
 ghost use Rattle.replica.specs.Opening.{IsOpenCause, IsOpened, KeepsStore, opening_kind};
@@ -13,11 +13,12 @@ ghost use Rattle.replica.specs.Payload.{DeclaresBoth, DeclaresStore};
 use crate::open_fault::{OpenFault, OpenKind};
 use crate::replica::Replica;
 use bec_disk::{Disk, DiskError, Gated, read_gated};
-use confluence_test::{SchemaRefusal, take_schema, taken_or_refused};
+use confluence_test::{SchemaRefusal, accepted_is_unlimited, take_schema, taken_or_refused};
 use history::{History, NoHistory};
 use record_check::Verifier;
 use row_check::{Checks, Native, Relation};
-use schema::{Schema, one_schema};
+use schema::Schema;
+use schema_text::one_schema;
 use std::alloc::Global;
 use update_log::{Log, LogFault};
 
@@ -116,6 +117,7 @@ fn declared_by<L: Relation, C: Checks<L>>(
 }
 
 /// Opens the log under a schema, and the history of what stands there.
+#[tactic(auto, using(crate::proofs::Declaring::still_taken))]
 pub fn open_declared<V: Verifier, D: Disk, L: Relation, C: Checks<L>>(
     verifier: &V,
     alloc: Global,
@@ -137,6 +139,7 @@ pub fn open_declared<V: Verifier, D: Disk, L: Relation, C: Checks<L>>(
     ensures only { IfErr result (λ fault. (fault.why ≡ OpenKind.DiskFault) ⊎ (fault.why ≡ OpenKind.Memory)) }
     ensures failed { IfErr result (λ fault. fault.why ≡ OpenKind.DiskFault → Rose (D.faults updates) (D.faults fault.updates)) }
 {
+    accepted_is_unlimited();
     let Declared { node, schema } = declared;
     let (log, graph) = match Log::open_log(verifier, alloc, updates, schema.rule()) {
         Ok(opened) => opened,

@@ -11,6 +11,7 @@ ghost use Rattle.update_check.specs.Holding.{Commits};
 ghost use Rattle.update_check.specs.Signed.{IsChecked};
 ghost use Rattle.table_model.specs.Visible.{rules_with};
 ghost use Rattle.tuple_state.specs.State.{IsStateOf};
+ghost use Rattle.confluence_test.specs.Taking.{TakesSchema};
 ghost use Rattle.history.specs.Histories.{IsHistory, nodes_of};
 ghost use Rattle.key_index.specs.Used.{IsUsed};
 ghost use Rattle.update_log.specs.Log.{IsLogOf};
@@ -55,7 +56,7 @@ impl<D: Disk, L: Relation, C: Checks<L>> Model for Replica<D, L, C> {
 
     ghost view = { λ r. record { node = r.node; history = r.history; log = r.log } };
 
-    ghost invariant = { λ r. IsReplica (record { node = r.node; history = r.history; log = r.log }) };
+    ghost invariant = { λ r. IsReplica L.answer (record { node = r.node; history = r.history; log = r.log }) };
 }
 
 impl<D: Disk, L: Relation, C: Checks<L>> Replica<D, L, C> {
@@ -69,7 +70,8 @@ impl<D: Disk, L: Relation, C: Checks<L>> Replica<D, L, C> {
     /// How many updates it holds, and what holds of every replica.
     pub fn len(&self) -> u32
         ensures value { result ≡ length self.now.history.members }
-        ensures history { IsHistory L.answer self.now.history }
+        ensures taken { TakesSchema L.answer self.now.history.schema.text self.now.history.schema }
+        ensures history { IsHistory self.now.history }
         ensures log { IsLogOf self.now.history.members self.now.log }
         ensures on_disk { IsTrue self.now.log.disk.tells → EveryImage self.now.log.disk.now (BeginsWith (stream_of self.now.history.members)) }
     {

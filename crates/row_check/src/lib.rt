@@ -12,8 +12,10 @@
 //! eval(alloc, &short, row, &native)?       // whether the text in column 0 has at most 8 bytes
 //! ```
 //!
-//! It reads no text of expressions and knows no tables: whether an expression fits the rows of a table is for the
-//! crate that reads schemas.
+//! What an expression asks, apart from where its parts lie in memory, is a tree (`Trees` of the definitions). A tree that fits
+//! the kinds of columns ([`Kind`]) may be asked of each row that has values of these kinds.
+//!
+//! It reads no text of expressions and knows no tables.
 #![tactic(auto)]
 
 mod cmp;
@@ -21,6 +23,8 @@ mod comparing;
 mod evaluation;
 mod expr;
 mod fitting;
+mod kind;
+mod laws;
 mod luhn;
 mod native;
 mod relation;
@@ -32,6 +36,8 @@ pub use comparing::compare;
 pub use evaluation::eval;
 pub use expr::Expr;
 pub use fitting::fits;
+pub use kind::Kind;
+pub use laws::{kinds_fit_rows, trees_hold};
 pub use luhn::{Luhn, passes_luhn};
 pub use native::{Checks, Native};
 pub use relation::Relation;

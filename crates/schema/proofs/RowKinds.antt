@@ -5,7 +5,7 @@ use Rattle.std.proofs.lemmas.Bool.{and_parts}
 use Rattle.update_model.specs.declared.value.Value.{Value}
 use Rattle.update_model.specs.declared.value.Value.TheVariants as value
 use Rattle.row_check.specs.Meaning.{is_null}
-use Rattle.expression_text.specs.Kinds.{IsOfKind, FitsKinds}
+use Rattle.row_check.specs.Kinds.{IsOfKind, FitsKinds}
 use Rattle.schema.specs.declared.column.Column.{Column}
 use Rattle.schema.specs.declared.column.ColumnKind.{ColumnKind}
 use Rattle.schema.specs.declared.column.ColumnKind.TheVariants as kind

@@ -6,7 +6,7 @@ use base.Stored.{Gv, gnum, gcons}
 use Rattle.update_model.specs.declared.value.Value.{Value}
 use Rattle.row_check.specs.contracts.cmp.Cmp as cmp
 use Rattle.row_check.specs.contracts.term.Term as term
-use Rattle.expression_text.specs.Trees.{Tree, Both, Either, Negation, Comparison, Absence, Check, holds_tree}
+use Rattle.row_check.specs.Trees.{Tree, Both, Either, Negation, Comparison, Absence, Check, holds_tree}
 
 -- a CHECK: its question, and the line that declares it
 pub record CheckData : Type 0 where

@@ -3,8 +3,8 @@ use Rattle.std.specs.Prelude.{ℕ, Bool, true, false, ◌&&◌, List, [], ◌∷
 use Rattle.std.specs.Int.Signed.{le_z}
 use Rattle.update_model.specs.declared.value.Value.{Value}
 use Rattle.update_model.specs.declared.value.Value.TheVariants as value
-use Rattle.expression_text.specs.declared.kind.Kind.{Kind}
-use Rattle.expression_text.specs.declared.kind.Kind.TheVariants as plain
+use Rattle.row_check.specs.declared.kind.Kind.{Kind}
+use Rattle.row_check.specs.declared.kind.Kind.TheVariants as plain
 use Rattle.schema.specs.declared.action.Action.{Action}
 use Rattle.schema.specs.declared.action.Action.TheVariants as action
 use Rattle.schema.specs.declared.column.Column.{Column}

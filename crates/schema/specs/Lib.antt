@@ -1,16 +1,7 @@
 pub mod Checks
 pub mod Columns
 pub mod Data
-pub mod Drafts
-pub mod Faults
-pub mod Forms
-pub mod Kept
 pub mod Numbers
-pub mod Outcome
-pub mod Printing
 pub mod Rows
 pub mod Samples
-pub mod Schemas
 pub mod Sound
-pub mod Steps
-pub mod Words

@@ -2,7 +2,7 @@
 use Rattle.std.specs.Prelude.{ℕ, ◌≤◌, ◌≤ℤ◌, Bool, not, ◌&&◌, ◌||◌, nat_lt, List, [], ◌∷◌, ◌++◌, length, slice_get, Option, Some, None, IsTrue, MatchOption}
 use Rattle.std.specs.List.{AllByRecursion}
 use Rattle.update_model.specs.declared.limits.TheConstants.{MAX_TEXT}
-use Rattle.expression_text.specs.Kinds.{HasKinds}
+use Rattle.row_check.specs.Kinds.{HasKinds}
 use Rattle.schema.specs.declared.column.Column.{Column}
 use Rattle.schema.specs.declared.column.ColumnKind.{ColumnKind}
 use Rattle.schema.specs.declared.column.ColumnKind.TheVariants as kind

@@ -2,15 +2,14 @@
 
 ghost use Rattle.std.specs.Prelude.{◌≡◌, IfOk};
 ghost use Rattle.std.specs.List.{AllByRecursion};
-ghost use Rattle.expression_text.specs.Kinds.{FitsKinds};
-ghost use Rattle.expression_text.specs.Trees.{holds_tree};
+ghost use Rattle.row_check.specs.Kinds.{FitsKinds};
+ghost use Rattle.row_check.specs.Trees.{holds_tree};
 ghost use Rattle.schema.specs.Checks.{checks_hold};
 ghost use Rattle.schema.specs.Columns.{kinds_of};
 ghost use Rattle.schema.specs.Sound.{IsSoundCheck};
 
 use crate::{CheckRule, Column};
-use expression_text::{kinds_fit_rows, trees_hold};
-use row_check::{Checks, Native, Relation, eval};
+use row_check::{Checks, Native, Relation, eval, kinds_fit_rows, trees_hold};
 use std::alloc::{AllocError, Global};
 use update_model::Value;
 

@@ -1,8 +1,8 @@
-//! Lists that a table has.
+//! Lists that a schema and its tables have.
 
 ghost use Rattle.std.specs.Prelude.{◌≡◌, [], ◌∷◌, ◌++◌, OnOk};
 
-use crate::{CheckRule, Column, MatchRule, UniqueRule};
+use crate::{CheckRule, Column, MatchRule, TableDef, UniqueRule};
 use std::alloc::AllocError;
 use std::marker::Model;
 
@@ -45,7 +45,7 @@ impl ColumnList {
     }
 
     /// Puts one more at the end.
-    pub(crate) fn push(&mut self, column: Column) -> Result<(), AllocError>
+    pub fn push(&mut self, column: Column) -> Result<(), AllocError>
         ensures { OnOk result (self.new ≡ self.old ++ column ∷ []) }
     {
         self.columns.push(column)?;
@@ -97,7 +97,7 @@ impl CheckList {
     }
 
     /// Puts one more at the end.
-    pub(crate) fn push(&mut self, check: CheckRule) -> Result<(), AllocError>
+    pub fn push(&mut self, check: CheckRule) -> Result<(), AllocError>
         ensures { OnOk result (self.new ≡ self.old ++ check ∷ []) }
     {
         self.checks.push(check)?;
@@ -144,7 +144,7 @@ impl MatchList {
     }
 
     /// Puts one more at the end.
-    pub(crate) fn push(&mut self, rule: MatchRule) -> Result<(), AllocError>
+    pub fn push(&mut self, rule: MatchRule) -> Result<(), AllocError>
         ensures { OnOk result (self.new ≡ self.old ++ rule ∷ []) }
     {
         self.matches.push(rule)?;
@@ -191,10 +191,54 @@ impl UniqueList {
     }
 
     /// Puts one more at the end.
-    pub(crate) fn push(&mut self, rule: UniqueRule) -> Result<(), AllocError>
+    pub fn push(&mut self, rule: UniqueRule) -> Result<(), AllocError>
         ensures { OnOk result (self.new ≡ self.old ++ rule ∷ []) }
     {
         self.uniques.push(rule)?;
+        Ok(())
+    }
+}
+
+/// A list of tables, which number from 0. A contract sees the list of its items.
+#[derive(Drop)]
+pub struct TableList {
+    tables: Vec<TableDef>,
+}
+
+impl Model for TableList {
+    ghost use Rattle.std.specs.Prelude.{List};
+    ghost use Rattle.schema.specs.declared.table_def.TableDef.{TableDef};
+
+    ghost Value = { List TableDef };
+
+    ghost use Rattle.schema.specs.Checks.{coded_tree};
+    ghost use Rattle.std.specs.Coded.{codes};
+
+    ghost coded = { Prim.hlevel (codes, coded_tree) };
+
+    ghost view = { λ list. list.tables.items };
+}
+
+impl TableList {
+    /// Takes over a vector.
+    pub fn from_vec(tables: Vec<TableDef>) -> Self
+        ensures { result ≡ tables.items }
+    {
+        TableList { tables }
+    }
+
+    /// Lends the items.
+    pub fn as_slice(&self) -> &[TableDef]
+        ensures { result.now ≡ self.now }
+    {
+        self.tables.as_slice()
+    }
+
+    /// Puts one more at the end.
+    pub fn push(&mut self, table: TableDef) -> Result<(), AllocError>
+        ensures { OnOk result (self.new ≡ self.old ++ table ∷ []) }
+    {
+        self.tables.push(table)?;
         Ok(())
     }
 }

@@ -13,7 +13,7 @@ pub struct CheckRule {
 
 impl Model for CheckRule {
     ghost use Rattle.schema.specs.Checks.{CheckData, coded_check};
-    ghost use Rattle.expression_text.specs.Trees.{tree_of};
+    ghost use Rattle.row_check.specs.Trees.{tree_of};
 
     ghost Value = { CheckData };
 

@@ -1,13 +1,12 @@
 ghost use Rattle.std.specs.Prelude.{◌≡◌, ◌<◌, length, bytes_eq, position, slice_get, Some};
 ghost use Rattle.schema.specs.Sound.{IsSchema};
 
-use crate::TableDef;
-use crate::draft_lists::TableList;
 use crate::lookups::table_number;
+use crate::{TableDef, TableList};
 use std::marker::Model;
 use update_model::{ByteList, DbRule};
 
-/// A schema that a text declares: tables, and which updates the database takes.
+/// A schema: tables, and which updates the database takes.
 ///
 /// Every schema has one to sixteen tables with one to sixteen columns each, and its numbers name what is there: see
 /// `IsSchema` of the definitions.
@@ -36,8 +35,9 @@ impl Model for Schema {
 }
 
 impl Schema {
-    /// Puts a schema together.
-    pub(crate) fn new(rule: DbRule, tables: TableList, text: ByteList) -> Schema
+    /// Puts a schema together, of tables that keep what a schema promises. The crate `schema_text` does so with what a text
+    /// declares, whose digest is the id of the database.
+    pub fn new(rule: DbRule, tables: TableList, text: ByteList) -> Schema
         requires { IsSchema (record { tables = tables; rule = rule; text = text }) }
         ensures { result ≡ record { tables = tables; rule = rule; text = text } }
     {

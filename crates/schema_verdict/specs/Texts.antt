@@ -1,8 +1,8 @@
 -- What is printed of a schema that is refused.
 use Rattle.std.specs.Prelude.{ℕ, List, [], ◌∷◌, ◌++◌, codes}
 use Rattle.std.specs.Fmt.{decimal}
-use Rattle.schema.specs.Words.{fault_words}
-use Rattle.schema.specs.declared.fault.SchemaFault.{SchemaFault}
+use Rattle.schema_text.specs.Words.{fault_words}
+use Rattle.schema_text.specs.declared.fault.SchemaFault.{SchemaFault}
 use Rattle.schema.specs.declared.table_def.TableDef.{TableDef}
 use Rattle.table_model.specs.declared.counterexample.Counterexample.{Counterexample}
 use Rattle.table_model.specs.declared.invariant.Invariant.{Invariant}

@@ -8,8 +8,8 @@ use Rattle.row_check.specs.Checksum.{is_luhn}
 use Rattle.confluence_test.specs.Taking.{RefusesSchema, TakesSchema}
 use Rattle.confluence_test.specs.declared.refusal.SchemaRefusal.{SchemaRefusal}
 use Rattle.confluence_test.specs.declared.refusal.SchemaRefusal.TheVariants.{Schema, NotConfluent, Memory}
-use Rattle.schema.specs.Schemas.{SchemaData}
-use Rattle.schema.specs.declared.limits.TheConstants.{MAX_SCHEMA_BYTES}
+use Rattle.schema.specs.Data.{SchemaData}
+use Rattle.schema_text.specs.declared.limits.TheConstants.{MAX_SCHEMA_BYTES}
 use Rattle.schema_verdict.specs.declared.refusal.VerdictRefusal.{VerdictRefusal}
 use Rattle.schema_verdict.specs.declared.refusal.VerdictRefusal.TheVariants.{NotTaken, Stream}
 use Rattle.schema_verdict.specs.Inputs.{IsWholeText}

@@ -7,7 +7,7 @@ use crate::text_input::read_text;
 use bec_bytes::Source;
 use confluence_test::take_schema;
 use row_check::{Luhn, Native};
-use schema::MAX_SCHEMA_BYTES;
+use schema_text::MAX_SCHEMA_BYTES;
 use std::alloc::Global;
 
 /// Reads the text of a schema, and answers `confluent` where each invariant that it declares survives merging.

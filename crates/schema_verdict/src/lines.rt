@@ -7,7 +7,8 @@ ghost use Rattle.schema_verdict.specs.Texts.{refused_text, schema_text};
 ghost use Rattle.schema_verdict.specs.Verdict.{text_for};
 
 use confluence_test::SchemaRefusal;
-use schema::{Schema, SchemaFault};
+use schema::Schema;
+use schema_text::SchemaFault;
 use std::alloc::{AllocError, Global};
 use table_model::{Counterexample, Invariant};
 use table_text::push_counterexample;

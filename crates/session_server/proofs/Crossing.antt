@@ -16,7 +16,7 @@ use Rattle.schema.proofs.lists.UniqueList.TheSendSync as uniques
 use Rattle.schema.specs.contracts.rules.CheckRule as CheckRule
 use Rattle.schema.specs.contracts.lists.CheckList as CheckList
 use Rattle.schema.specs.contracts.table_def.TableDef as TableDef
-use Rattle.schema.specs.contracts.draft_lists.TableList as TableList
+use Rattle.schema.specs.contracts.lists.TableList as TableList
 use Rattle.schema.specs.contracts.schema.Schema as Schema
 use Rattle.bec_disk.specs.declared.disk.Disk as disk
 use Rattle.bec_bytes.specs.declared.counted.Counted as counted

@@ -1,7 +1,12 @@
 //! What an act does to the replica and its list.
-ghost use Rattle.std.specs.Prelude.{◌≡◌, ◌<◌, ◌≤◌, ◌+◌, All, List, Some, ℕ, IfOk, IfErr, OnErr, OnOk, true, false, length, map, slice_get};
+ghost use Rattle.std.specs.Prelude.{◌≡◌, ◌<◌, ◌≤◌, ◌+◌, All, List, Some, ℕ, Err, IsTrue, IfOk, IfErr, OnErr, OnOk, true, false, length, map, slice_get};
 ghost use Rattle.std.specs.List.Sorted.{IsStrictlySortedBy};
+ghost use Rattle.bec_bytes.specs.Causes.{Rose};
+ghost use Rattle.bec_disk.specs.Disk.{EveryImage, LeavesOnly};
+ghost use Rattle.key_index.specs.Used.{IsUsed};
 ghost use Rattle.replica.specs.Making.{IsMakeCause, Makes};
+ghost use Rattle.replica.specs.declared.make_fault.Side.TheVariants.{Key as KeySide};
+ghost use Rattle.replica.specs.declared.make_fault.MakeFault.TheVariants.{DiskFault as DiskFailed};
 ghost use Rattle.replica.specs.Signing.{KeyAfter};
 ghost use Rattle.shared_replica.specs.Acts.{Grows, met_fault};
 ghost use Rattle.shared_replica.specs.Entries.{IsStoreOf, updates_of};
@@ -47,8 +52,14 @@ impl<D: Disk> Stored<D> {
         requires form { AreOps 0 ops }
         ensures grows { Grows self.old self.new seat act (met_fault result) }
         ensures made { IfOk result (λ id. Makes is_luhn self.old.store.history key.old.secret key.old.taken ops c.now id self.new.store.history) }
+        ensures same { OnErr result (self.new.store.history ≡ self.old.store.history) }
         ensures refused { IfErr result (λ why. IsMakeCause is_luhn self.old.store.history key.old.secret key.old.taken ops c.now why) }
         ensures key { KeyAfter key.old result key.new }
+
+        // A crash at any moment of it leaves each index used that was used.
+        ensures used { (index : ℕ) → (IsTrue key.old.parts.used.tells → EveryImage key.old.parts.used.now (IsUsed index)) → LeavesOnly key.old.parts.used key.new.parts.used (IsUsed index) }
+        ensures key_later { key.old.parts.used_faults ≤ key.new.parts.used_faults }
+        ensures key_failed { result ≡ Err (DiskFailed KeySide) → Rose key.old.parts.used_faults key.new.parts.used_faults }
     {
         self.runs.reserve(1)?;
         let made = self.replica.make(alloc, ops, key, c);

@@ -1,8 +1,13 @@
 //! The acts of a shared replica.
-ghost use Rattle.std.specs.Prelude.{◌≡◌, ◌<◌, ◌≤◌, ℕ, All, List, Some, false, true, IfOk, IfErr, OnErr, length, map, slice_get};
+ghost use Rattle.std.specs.Prelude.{◌≡◌, ◌<◌, ◌≤◌, ℕ, All, List, Some, false, true, Err, IsTrue, IfOk, IfErr, OnErr, length, map, slice_get};
 ghost use Rattle.std.specs.List.Sorted.{IsStrictlySortedBy};
 ghost use Rattle.history.specs.Histories.{nodes_of};
+ghost use Rattle.bec_bytes.specs.Causes.{Rose};
+ghost use Rattle.bec_disk.specs.Disk.{EveryImage, LeavesOnly};
+ghost use Rattle.key_index.specs.Used.{IsUsed};
 ghost use Rattle.replica.specs.Making.{IsMakeCause, Makes};
+ghost use Rattle.replica.specs.declared.make_fault.Side.TheVariants.{Key as KeySide};
+ghost use Rattle.replica.specs.declared.make_fault.MakeFault.TheVariants.{DiskFault as DiskFailed};
 ghost use Rattle.replica.specs.Replicas.{ReplicaState};
 ghost use Rattle.replica.specs.Signing.{KeyAfter};
 ghost use Rattle.shared_replica.specs.declared.entry.Entry.{Entry};
@@ -52,8 +57,14 @@ impl<D: Disk> Shared<D> {
         requires form { AreOps 0 ops }
         ensures act { (P : List Entry) × (old : ReplicaState) × (new : ReplicaState) × IsAct pass result.pass P old new (met_fault result.answer)
             × IfOk result.answer (λ id. Makes is_luhn old.history key.old.secret key.old.taken ops c.now id new.history)
-            × IfErr result.answer (λ why. IsMakeCause is_luhn old.history key.old.secret key.old.taken ops c.now why) }
+            × IfErr result.answer (λ why. IsMakeCause is_luhn old.history key.old.secret key.old.taken ops c.now why)
+            × OnErr result.answer (new.history ≡ old.history) }
         ensures key { KeyAfter key.old result.answer key.new }
+
+        // A crash at any moment of it leaves each index used that was used.
+        ensures used { (index : ℕ) → (IsTrue key.old.parts.used.tells → EveryImage key.old.parts.used.now (IsUsed index)) → LeavesOnly key.old.parts.used key.new.parts.used (IsUsed index) }
+        ensures key_later { key.old.parts.used_faults ≤ key.new.parts.used_faults }
+        ensures key_failed { result.answer ≡ Err (DiskFailed KeySide) → Rose key.old.parts.used_faults key.new.parts.used_faults }
     {
         let (held, mut stored) = self.lock.take(rt, pass);
         let answer = stored.make(alloc, ops, key, c, held.seat(), held.act());

@@ -1,40 +1,18 @@
--- What is handed out, and what putting it back leaves.
-use Rattle.std.proofs.Common.{◌≡◌, inl, inr, ℕ, List, [], ◌++◌, refl, sym, ◌∙◌, ap, subst, IsTrue, Some, None, Option}
+-- The list of a store whose part is handed out and put back.
+use Rattle.std.proofs.Common.{◌≡◌, inl, inr, ℕ, List, [], ◌++◌, refl, sym, ap, subst, IsTrue, Some, None, Option}
 use Rattle.std.proofs.lemmas.List.{append-nil}
 use Rattle.bec_bytes.specs.Framed.{stream_of}
-use Rattle.bec_disk.specs.Disk.{DiskState, EveryImage, LeavesOnly, LeavesSince, handed_out, moments}
-use Rattle.bec_disk.specs.Shelf.{PartState, absent, moments_of, out, stands}
+use Rattle.bec_disk.specs.Disk.{DiskState, EveryImage, LeavesOnly, handed_out}
+use Rattle.bec_disk.specs.Shelf.{PartState, moments_of, out, stands}
 use Rattle.bec_disk.specs.Slot.{Slot}
-use Rattle.bec_disk.proofs.Images.{image-synced}
-use Rattle.bec_disk.proofs.Moments.{leaves_now, no_moment, one_moment, since_then}
-use Rattle.schema.specs.Schemas.{Meaning}
+use Rattle.bec_disk.proofs.Moments.{leaves_now, no_moment}
+use Rattle.schema.specs.Data.{Meaning}
 use Rattle.update_check.specs.Members.{AreMembers}
 use Rattle.update_log.specs.Logset.{BeginsWith}
 use Rattle.replica.specs.Opening.{KeepsStore}
-use Rattle.store_directory.specs.Stores.{IsUntouched, KeepsList, ReadsAs, StoreData, reading}
-
--- the moments of a part that was handed out
-pub handed_since : (place : Slot) (part new : DiskState) (P : List ℕ → Type 0) → LeavesOnly (handed_out place part) new P → LeavesSince (moments part) (moments new) P
-handed_since place part new P leaves =
-    since_then (moments part) (moments (handed_out place part)) (moments new) P
-    (one_moment (moments part) (moments (handed_out place part)) (handed_out place part).now P refl (leaves.first refl))
-    (leaves.run refl)
-
--- a part that nothing was done to
-pub untouched : (part : PartState) → IsUntouched part part
-untouched absent = refl
-untouched out = refl
-untouched (stands part) = (refl, no_moment (moments part) (moments part) (λ image. image ≡ part.seen) refl)
-
-pub untouched_by : (old new : PartState) → new ≡ old → IsUntouched old new
-untouched_by old new same = subst (λ (p : PartState). IsUntouched old p) (sym same) (untouched old)
-
--- a part that was handed out and put back
-pub put_untouched : (place : Slot) (part disk : DiskState) (old new : PartState) → old ≡ stands part → disk ≡ handed_out place part → new ≡ stands disk → IsUntouched old new
-put_untouched place part disk old new there is back =
-    subst (λ (p : PartState). IsUntouched p new) (sym there)
-    (subst (λ (p : PartState). IsUntouched (stands part) p) (sym (back ∙ ap stands is))
-    (refl, one_moment (moments part) (moments (handed_out place part)) (handed_out place part).now (λ image. image ≡ part.seen) refl (image-synced part.seen)))
+use Rattle.key_directory.specs.Parts.{reading}
+use Rattle.store_directory.specs.Stores.{KeepsList, ReadsAs, StoreData}
+use Rattle.key_directory.proofs.Handing.{handed_since}
 
 -- the members of a store that two parts read as are a closed list
 pub members_of : (ask : Meaning) (schema updates : Option (List ℕ)) (store : StoreData) → ReadsAs ask schema updates store → AreMembers store.schema.rule store.members

@@ -1,80 +1,12 @@
--- What a run that signs leaves of a key's parts.
-use Rattle.std.proofs.Common.{◌≡◌, ◌≢◌, ◌⊎◌, inl, inr, ℕ, ◌+◌, List, [], ◌∷◌, refl, sym, ◌∙◌, ap, subst, IsTrue, false, Option, None, Some, Result, Ok, Err}
-use Rattle.std.specs.List.{list_any}
-use Rattle.bec_disk.specs.declared.part.Part.TheVariants.{Key, Used}
-use Rattle.bec_disk.specs.Disk.{DiskState, EveryImage, IsImage, LeavesOnly, handed_out}
-use Rattle.bec_disk.specs.Images.{IsTorn, IsTornFrom}
-use Rattle.bec_disk.specs.Shelf.{PartState, ShelfState, out, stands}
-use Rattle.bec_disk.specs.Slot.{Slot, same_slot, slot}
-use Rattle.bec_disk.proofs.Images.{settled_image, torn_settled}
-use Rattle.bec_disk.proofs.Moments.{leaves_now}
+-- What making an update, or joining heads, does to the key.
+use Rattle.std.proofs.Common.{◌≡◌, ◌⊎◌, inl, inr, ℕ, Option, None, Some, Result, Ok, Err}
 use Rattle.key_index.specs.KeyState.{KeyState}
 use Rattle.key_index.specs.Reserving.{Tries}
-use Rattle.key_index.specs.Used.{IsUsed}
 use Rattle.update_model.specs.declared.update_id.UpdateId.{UpdateId}
 use Rattle.replica.specs.Signing.{KeyAfter, KeyAfterJoin}
 use Rattle.replica.specs.declared.make_fault.MakeFault.{MakeFault}
 use Rattle.replica.specs.declared.make_fault.MakeFault.TheVariants.{NotListed, TooManyHeads, Invalid, TooLong, Full, Spent, Taken, DiskFault, Memory}
 use Rattle.replica.specs.declared.make_fault.Side.TheVariants.{Key as KeySide, Log as LogSide}
-use Rattle.store_directory.specs.Keys.{KeepsUsed, PutsKey, TakesKey, WorksWith}
-use Rattle.store_directory.specs.Stores.{IsHome, IsUntouched, part_in}
-use Rattle.store_directory.proofs.Handing.{handed_since, put_untouched}
-use Rattle.store_directory.proofs.Places.{home_again, stands-not-out}
-
--- what the part Used reads as after a run that tried at most one index
-used_reads : (place : Slot) (part : DiskState) (taken now : KeyState) → taken.parts.used ≡ handed_out place part → IsImage now.parts.used.now now.parts.used.seen → WorksWith taken now
-    → IsUntouched (stands part) (stands now.parts.used) ⊎ ((index : ℕ) × IsTorn index (index + 1) part.seen now.parts.used.seen)
-used_reads place part taken now is image works = by works.tried
-  where
-    by : (now ≡ taken) ⊎ ((index : ℕ) × Tries taken index now) → IsUntouched (stands part) (stands now.parts.used) ⊎ ((index : ℕ) × IsTorn index (index + 1) part.seen now.parts.used.seen)
-    by (inl same) = inl (put_untouched place part now.parts.used (stands part) (stands now.parts.used) refl (ap (λ (k : KeyState). k.parts.used) same ∙ is) refl)
-    by (inr tries) =
-        let index = tries.0 in
-        let only : LeavesOnly (handed_out place part) now.parts.used (IsTornFrom (handed_out place part).now index (index + 1)) =
-        subst (λ (d : DiskState). LeavesOnly d now.parts.used (IsTornFrom d.now index (index + 1))) is tries.1.only in
-        inr (
-          index,
-          torn_settled (handed_out place part) index (index + 1) now.parts.used.seen refl
-              (leaves_now (handed_out place part) now.parts.used (IsTornFrom (handed_out place part).now index (index + 1)) only refl now.parts.used.seen image),
-        )
-
--- What a run that took a key and put it back leaves of the part Used.
-pub keeps_used : (before opened closing after : ShelfState) (dir : List ℕ) (taken now : KeyState) → IsTrue before.tells → IsTrue closing.tells → TakesKey before dir taken opened → WorksWith taken now
-    → IsImage now.parts.used.now now.parts.used.seen → PutsKey closing dir now.parts after → KeepsUsed (part_in before dir Used) (part_in after dir Used)
-keeps_used before opened closing after dir taken now tells tells' takes works image puts =
-    let u = takes.used_part tells in
-    subst (λ (p : PartState). KeepsUsed p (part_in after dir Used)) (sym u.1)
-    (subst (λ (p : PartState). KeepsUsed (stands u.0) p) (sym (puts.used_back tells'))
-    (record {
-      reads = used_reads (slot dir Used) u.0 taken now u.2 image works;
-      used = λ index used. (
-        handed_since (slot dir Used) u.0 now.parts.used (IsUsed index) (leaves u.0 u.2 index used),
-        leaves_now (handed_out (slot dir Used) u.0) now.parts.used (IsUsed index) (leaves u.0 u.2 index used) refl now.parts.used.seen image,
-      );
-    }))
-  where
-    leaves : (part : DiskState) → taken.parts.used ≡ handed_out (slot dir Used) part → (index : ℕ) → IsUsed index part.seen → LeavesOnly (handed_out (slot dir Used) part) now.parts.used (IsUsed index)
-    leaves part is index used =
-        subst (λ (d : DiskState). LeavesOnly d now.parts.used (IsUsed index)) is
-        (works.used index (λ _. subst (λ (d : DiskState). EveryImage d.now (IsUsed index)) (sym is) (settled_image (handed_out (slot dir Used) part) (IsUsed index) refl used)))
-
--- and of the part Key, to which nothing is done.
-pub keeps_key : (before opened closing after : ShelfState) (dir : List ℕ) (taken now : KeyState) → IsTrue before.tells → IsTrue closing.tells → TakesKey before dir taken opened → WorksWith taken now
-    → PutsKey closing dir now.parts after → IsUntouched (part_in before dir Key) (part_in after dir Key)
-keeps_key before opened closing after dir taken now tells tells' takes works puts =
-    let k = takes.key_part tells in
-    put_untouched (slot dir Key) k.0 now.parts.key (part_in before dir Key) (part_in after dir Key) k.1 (key_kept works.tried ∙ k.2) (puts.key_back tells')
-  where
-    key_kept : (now ≡ taken) ⊎ ((index : ℕ) × Tries taken index now) → now.parts.key ≡ taken.parts.key
-    key_kept (inl same) = ap (λ (s : KeyState). s.parts.key) same
-    key_kept (inr tries) = tries.1.key
-
--- After it no part is handed out, where no other part is before the key is put back.
-pub home_after_key : (closing after : ShelfState) (dir : List ℕ) (now : KeyState) → IsTrue closing.tells → PutsKey closing dir now.parts after
-    → ((other : Slot) → list_any (λ part. same_slot (slot dir part) other) (Key ∷ Used ∷ []) ≡ false → closing.parts other ≢ out) → IsHome after
-home_after_key closing after dir now tells puts others =
-    home_again Key Used dir after (stands-not-out (part_in after dir Key) now.parts.key (puts.key_back tells)) (stands-not-out (part_in after dir Used) now.parts.used (puts.used_back tells))
-    (λ other away. subst (λ (p : PartState). p ≢ out) (sym (puts.others tells other away)) (others other away))
 
 -- What making an update does to the key.
 pub tried_by : {T : Type 0} → (old : KeyState) (result : Result T MakeFault) (new : KeyState) → KeyAfter old result new → (new ≡ old) ⊎ ((index : ℕ) × Tries old index new)

@@ -8,7 +8,7 @@ use Rattle.bec_disk.specs.Disk.{DiskState, EveryImage, LeavesOnly, handed_out}
 use Rattle.bec_disk.specs.Shelf.{PartState, ShelfState, out, stands}
 use Rattle.bec_disk.specs.Slot.{Slot, same_slot, slot}
 use Rattle.bec_disk.proofs.Moments as moments
-use Rattle.schema.specs.Schemas.{Meaning, SchemaData}
+use Rattle.schema.specs.Data.{Meaning, SchemaData}
 use Rattle.update_check.specs.Members.{AreMembers}
 use Rattle.update_log.specs.Log.{IsClean, IsLogOf, LogState}
 use Rattle.update_log.specs.Logset.{BeginsWith, IsLogset}
@@ -16,10 +16,11 @@ use Rattle.update_log.proofs.Logsets.{records_logset}
 use Rattle.replica.specs.Opening.{IsOpened, KeepsStore}
 use Rattle.replica.specs.Replicas.{ReplicaState}
 use Rattle.store_directory.specs.Holding.{HoldsOn, OpenData, PutsStore, TakesStore, WorksOn}
-use Rattle.store_directory.specs.Stores.{HoldsList, HoldsRun, IfStands, IsHome, IsStore, KeepsList, ReadsAs, StoreData, StoreRun, part_in, reading, with_added}
-use Rattle.store_directory.proofs.Handing.{handed_since, put_untouched}
-use Rattle.store_directory.proofs.Places.{home_again, stands-not-out}
-use Rattle.store_directory.proofs.Putting.{reads_handed, told}
+use Rattle.key_directory.specs.Parts.{IfStands, IsHome, part_in, reading}
+use Rattle.store_directory.specs.Stores.{HoldsList, HoldsRun, IsStore, KeepsList, ReadsAs, StoreData, StoreRun, with_added}
+use Rattle.key_directory.proofs.Handing.{handed_since, put_untouched}
+use Rattle.key_directory.proofs.Places.{home_again, stands-not-out}
+use Rattle.key_directory.proofs.Putting.{reads_handed, told}
 use Rattle.store_directory.proofs.Readings.{OneSchema, same_store}
 
 -- the store that was opened

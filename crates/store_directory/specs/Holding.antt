@@ -5,7 +5,7 @@ use Rattle.bec_disk.specs.Disk.{DiskState, EveryImage, IsSameDisk, LeavesOnly, h
 use Rattle.bec_disk.specs.declared.part.Part.TheVariants.{Schema, Updates}
 use Rattle.bec_disk.specs.Shelf.{KeepsOthers, ShelfState, out, stands}
 use Rattle.bec_disk.specs.Slot.{slot}
-use Rattle.schema.specs.Schemas.{Meaning}
+use Rattle.schema.specs.Data.{Meaning}
 use Rattle.update_check.specs.Members.{AreMembers}
 use Rattle.update_log.specs.Log.{IsClean, IsLogOf}
 use Rattle.update_log.specs.Logset.{BeginsWith}
@@ -13,7 +13,8 @@ use Rattle.replica.specs.Opening.{IsOpened, KeepsStore}
 use Rattle.replica.specs.Replicas.{ReplicaState}
 use Rattle.store_directory.specs.declared.store_refusal.StoreRefusal.{StoreRefusal}
 use Rattle.store_directory.specs.declared.store_refusal.StoreRefusal.TheVariants.{NoStore, BadStore, DiskFault, Memory}
-use Rattle.store_directory.specs.Stores.{IsBadStore, IsNoStore, KeepsAllBut, KeepsList, KeepsPlaces, ReadsAs, StoreData, StoreRun, part_in, reading}
+use Rattle.key_directory.specs.Parts.{KeepsAllBut, KeepsPlaces, part_in, reading}
+use Rattle.store_directory.specs.Stores.{IsBadStore, IsNoStore, KeepsList, ReadsAs, StoreData, StoreRun}
 
 -- An open store: the disk of its part Schema with that disk's faults, and the replica.
 pub record OpenData : Type 0 where

@@ -1,5 +1,4 @@
 pub mod Holding
-pub mod Keys
 pub mod Making
 pub mod Refusals
 pub mod Stores

@@ -1,18 +1,16 @@
 -- Stores on a shelf, and what a run leaves of them.
-use Rattle.std.specs.Prelude.{◌≡◌, ◌≢◌, ◌⊎◌, ℕ, Bool, true, false, List, [], ◌++◌, Option, Some, None}
-use Rattle.std.specs.List.{list_any}
+use Rattle.std.specs.Prelude.{◌≡◌, ◌≢◌, ◌⊎◌, ℕ, Bool, true, List, [], ◌++◌, Option, Some, None}
 use Rattle.bec_bytes.specs.Framed.{stream_of}
-use Rattle.bec_disk.specs.declared.part.Part.{Part}
 use Rattle.bec_disk.specs.declared.part.Part.TheVariants.{Schema, Updates}
-use Rattle.bec_disk.specs.Disk.{DiskState, EveryImage, LeavesSince, moments}
+use Rattle.bec_disk.specs.Disk.{EveryImage, LeavesSince, moments}
 use Rattle.bec_disk.specs.Gated.{gated_of}
 use Rattle.bec_disk.specs.declared.gated.Gated.TheVariants.{Absent}
-use Rattle.bec_disk.specs.Shelf.{PartState, ShelfState, absent, moments_of, out, stands}
-use Rattle.bec_disk.specs.Slot.{Slot, same_slot, slot}
-use Rattle.schema.specs.Schemas.{Meaning, SchemaData}
+use Rattle.bec_disk.specs.Shelf.{PartState, ShelfState, absent, moments_of, stands}
+use Rattle.schema.specs.Data.{Meaning, SchemaData}
 use Rattle.update_check.specs.Members.{AreMembers}
 use Rattle.update_log.specs.Logset.{BeginsWith, IsLogset}
 use Rattle.replica.specs.Payload.{DeclaresNone, DeclaresStore}
+use Rattle.key_directory.specs.Parts.{IfStands, IsUntouched, part_in, reading}
 
 -- A store: the id of its node, its schema, and its updates in the order of arrival.
 pub record StoreData : Type 0 where
@@ -23,16 +21,6 @@ pub record StoreData : Type 0 where
 -- the store with these updates behind its own
 abbrev pub with_added : StoreData → List (List ℕ) → StoreData
 with_added store added = record { node = store.node; schema = store.schema; members = store.members ++ added }
-
--- a part of a directory
-abbrev pub part_in : ShelfState → List ℕ → Part → PartState
-part_in shelf dir part = shelf.parts (slot dir part)
-
--- what a part reads as, where it is there
-abbrev pub reading : PartState → Option (List ℕ)
-reading absent = None
-reading out = None
-reading (stands part) = Some part.seen
 
 -- The two parts read as this store: the part Schema declares it, and the part Updates stands for its updates.
 abbrev pub ReadsAs : Meaning → Option (List ℕ) → Option (List ℕ) → StoreData → Type 0
@@ -55,12 +43,6 @@ IsBadStore ask None updates = ⊥
 IsBadStore ask (Some schema) None = gated_of schema ≢ Absent
 IsBadStore ask (Some schema) (Some updates) = DeclaresNone ask schema
 
--- P holds of the part, if it stands in its place.
-abbrev pub IfStands : PartState → (DiskState → Type 0) → Type 0
-IfStands absent P = Unit {0}
-IfStands out P = Unit {0}
-IfStands (stands part) P = P part
-
 -- What a run does to the list of a store: these were added behind it. A crash at a moment of the run leaves a log that begins with the list at
 -- entry, and one after it a log that begins with the list now; or the part was not touched, and nothing was added.
 pub record KeepsList (store : StoreData) (added : List (List ℕ)) (old new : PartState) : Type 0 where
@@ -72,26 +54,6 @@ pub record KeepsList (store : StoreData) (added : List (List ℕ)) (old new : Pa
 pub record HoldsList (store : StoreData) (added : List (List ℕ)) (old new : PartState) : Type 0 where
   pub closed : AreMembers store.schema.rule (store.members ++ added)
   pub from_now : ((new ≡ old) × (added ≡ [])) ⊎ IfStands new (λ part. EveryImage part.now (BeginsWith (stream_of (store.members ++ added))))
-
--- A part that was at most read.
-abbrev pub IsUntouched : PartState → PartState → Type 0
-IsUntouched (stands old) (stands new) = (new.seen ≡ old.seen) × LeavesSince (moments old) (moments new) (λ image. image ≡ old.seen)
-IsUntouched (stands old) absent = ⊥
-IsUntouched (stands old) out = ⊥
-IsUntouched absent new = new ≡ absent
-IsUntouched out new = new ≡ out
-
--- Every part but these of the directory is as it was.
-abbrev pub KeepsAllBut : List Part → List ℕ → ShelfState → ShelfState → Type 0
-KeepsAllBut parts dir before after = (other : Slot) → list_any (λ part. same_slot (slot dir part) other) parts ≡ false → after.parts other ≡ before.parts other
-
--- Each part that was in its place is in its place.
-abbrev pub KeepsPlaces : ShelfState → ShelfState → Type 0
-KeepsPlaces before after = (place : Slot) → before.parts place ≢ out → after.parts place ≢ out
-
--- No part is handed out.
-abbrev pub IsHome : ShelfState → Type 0
-IsHome shelf = (place : Slot) → shelf.parts place ≢ out
 
 -- A run over the store of a directory, whatever it answers. These updates were added to the list of the store; where the run is done, the
 -- directory has the store with them.

@@ -5,10 +5,10 @@ ghost use Rattle.bec_bytes.specs.Causes.{HasCause, Rose};
 ghost use Rattle.bec_disk.specs.declared.part.Part.TheVariants.{Peers};
 ghost use Rattle.bec_disk.specs.Shelf.{out};
 ghost use Rattle.store_directory.specs.Memory.{behind, remembered_in};
-ghost use Rattle.store_directory.specs.Stores.{IsUntouched, KeepsAllBut, part_in, reading};
+ghost use Rattle.key_directory.specs.Parts.{IsUntouched, KeepsAllBut, part_in, reading};
 
-use crate::finding::find_or_make;
 use bec_disk::{DiskError, DiskFault, Gated, Part, Shelf, read_gated, write_gated};
+use key_directory::find_or_make;
 use std::alloc::Global;
 use update_model::ByteList;
 

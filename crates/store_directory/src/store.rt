@@ -7,7 +7,7 @@ ghost use Rattle.bec_disk.specs.Disk.{IsSettled};
 ghost use Rattle.bec_disk.specs.Shelf.{out};
 ghost use Rattle.bec_disk.specs.Slot.{slot};
 ghost use Rattle.store_directory.specs.Holding.{IsRefusalCause, IsStoreCause, LetsGo, LetsUpdatesGo, PutsStore, TakesStore, TakesUpdates};
-ghost use Rattle.store_directory.specs.Stores.{part_in, reading};
+ghost use Rattle.key_directory.specs.Parts.{part_in, reading};
 
 use crate::store_refusal::StoreRefusal;
 use bec_disk::{Disk, Gated, Part, Shelf, read_gated};

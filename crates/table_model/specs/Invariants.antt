@@ -5,7 +5,7 @@ use Rattle.update_model.specs.declared.value.Value.{Value}
 use Rattle.update_model.specs.declared.value.Value.TheVariants as value
 use Rattle.update_model.specs.Node.{NodeData}
 use Rattle.row_check.specs.Meaning.{value_at}
-use Rattle.expression_text.specs.Trees.{Tree, holds_tree}
+use Rattle.row_check.specs.Trees.{Tree, holds_tree}
 use Rattle.schema.specs.declared.action.Action.{Action}
 use Rattle.schema.specs.declared.column.Column.{Column}
 use Rattle.table_model.specs.declared.invariant.Invariant.{Invariant}

@@ -1,5 +1,4 @@
-pub mod Confluence
-pub mod Examples
+pub mod Answers
 pub mod Invariants
 pub mod Nodes
 pub mod Tables

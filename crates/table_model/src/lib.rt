@@ -1,12 +1,11 @@
 //! Tables: what a set of updates makes of the tables of a schema.
 //!
 //! The definitions are those of specs/: closed lists of updates (`Nodes`), which rows are visible after them (`Visible`),
-//! the verdict on each update (`Verdicts`), the tables (`Tables`), the invariants of a schema (`Invariants`), which of them
-//! survive merging (`Confluence`), and the histories that show that one does not (`Examples`).
+//! the verdict on each update (`Verdicts`), what rows answer that are asked for (`Answers`), the tables (`Tables`), and the
+//! invariants of a schema (`Invariants`).
 //!
-//! Each law about them is a function that does nothing: its contract is a theorem for callers to cite. Verdicts and tables
-//! are functions of the set of updates alone, an invariant that is accepted holds in every set and survives merging, and
-//! of one that is refused a history shows that it does not.
+//! Each law about them is a function that does nothing: its contract is a theorem for callers to cite. What follows of sets of
+//! updates, and which invariants survive merging, stands in the crate `confluence_laws`.
 #![tactic(auto)]
 
 mod counterexample;
@@ -24,12 +23,8 @@ mod void_list;
 pub use counterexample::Counterexample;
 pub use invariant::{Invariant, InvariantKind};
 pub use laws::{
-    accepted_holds, accepted_is_confluent, arrivals_are_closed, confirmed_refutes,
-    effects_one_by_one, first_refused_is_confirmed, invariants_are_of_the_set,
-    judged_ancestors_are_ancestors, judged_one_by_one, shown_rows_fit, tables_are_of_the_set,
-    union_is_closed, union_is_of_both, unlimited_tables_hold, verdict_goes_by_operations,
-    verdict_is_on_ancestors, verdicts_are_of_the_set, visible_is_shown,
-    visible_rows_are_of_the_set,
+    arrivals_are_closed, effects_one_by_one, judged_one_by_one, unlimited_tables_hold,
+    verdict_goes_by_operations, verdict_is_on_ancestors, visible_is_shown,
 };
 pub use node_list::NodeList;
 pub use shown_row::ShownRow;

@@ -3,7 +3,8 @@
 use query::{QueryError, read_query};
 use query_answer::{answer_lists, json_lines, print_lines};
 use row_check::{Luhn, Native};
-use schema::{Schema, read_schema};
+use schema::Schema;
+use schema_text::read_schema;
 use std::alloc::{AllocError, Global};
 use std::test::Fail;
 use table_model::{ShownRow, ShownRowList};

@@ -1,7 +1,7 @@
 //! Crashes at each call of a disk of a command: what was acknowledged is there, and the directory can be used again.
 
 ghost use Rattle.bec_disk.specs.Shelved.{shelf_of};
-ghost use Rattle.store_directory.specs.Stores.{IsHome};
+ghost use Rattle.key_directory.specs.Parts.{IsHome};
 
 use crate::merging::{INIT_OTHER, KEYGEN_OTHER};
 use crate::steps::{Said, Step, answer, played};

@@ -2,7 +2,7 @@
 
 ghost use Rattle.std.specs.Prelude.{IfOk};
 ghost use Rattle.bec_disk.specs.Shelved.{shelf_of};
-ghost use Rattle.store_directory.specs.Stores.{IsHome};
+ghost use Rattle.key_directory.specs.Parts.{IsHome};
 
 use crate::steps::{Step, played};
 use crate::texts::{NUMBERS, TASKS};

@@ -2,11 +2,11 @@
 
 ghost use Rattle.std.specs.Prelude.{IsTrue};
 ghost use Rattle.bec_disk.specs.Shelved.{shelf_of};
-ghost use Rattle.store_directory.specs.Stores.{IsHome};
+ghost use Rattle.key_directory.specs.Parts.{IsHome};
 
 use bec_bytes::{MemSink, MemSource};
 use bec_disk::{MemShelf, Shelf};
-use node_commands::run_alone;
+use bec_node::run_alone;
 use rand_pcg::Pcg32;
 use record_check::OneThread;
 use std::alloc::{AllocError, Global};

@@ -3,7 +3,7 @@
 ghost use Rattle.std.specs.Prelude.{◌≡◌, IfOk};
 ghost use Rattle.bec_disk.specs.Replay.{state_of};
 ghost use Rattle.bec_disk.specs.Shelved.{shelf_of};
-ghost use Rattle.store_directory.specs.Stores.{IsHome};
+ghost use Rattle.key_directory.specs.Parts.{IsHome};
 
 use bec_bytes::Counted;
 use bec_disk::{DiskFault, MemDisk, MemShelf, Part, Shelf};
@@ -63,7 +63,7 @@ impl StoppingShelf {
         ensures faults { disk.new.plan.faults ≡ disk.old.plan.faults }
     {
         if part == self.part && dir == self.dir {
-            disk.arm(Vec::new(self.alloc), self.calls);
+            disk.plan_calls(Vec::new(self.alloc), self.calls);
         }
     }
 }

@@ -1,13 +1,14 @@
 //! Worked lists: what tables show, and which counterexamples confirm.
 
 ghost use Rattle.std.specs.Prelude.{IfSome};
-ghost use Rattle.schema.specs.Schemas.{Meaning};
+ghost use Rattle.schema.specs.Data.{Meaning};
 ghost use Rattle.confluence_checker.specs.Forms.{IsInvariantOf};
 ghost use Rattle.table_model.specs.Visible.{rules_with};
 
 use confluence_checker::{TableList, confirms, is_closed, tables_of};
 use row_check::{Luhn, Native};
-use schema::{Schema, SchemaError, read_schema};
+use schema::Schema;
+use schema_text::{SchemaError, read_schema};
 use std::alloc::{AllocError, Global};
 use std::test::Fail;
 use table_model::{Counterexample, Invariant, InvariantKind, NodeList};

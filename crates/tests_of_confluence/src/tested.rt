@@ -2,7 +2,7 @@
 
 use confluence_test::{Tested, test};
 use row_check::{Luhn, Native};
-use schema::{SchemaError, read_schema};
+use schema_text::{SchemaError, read_schema};
 use std::alloc::Global;
 use std::test::Fail;
 use table_model::InvariantKind::{AtMost, Reference, Unique};

@@ -93,7 +93,9 @@ fn a_failed_call_is_as_a_stop_before_it(rt: HostRuntime) -> Result<(), Fail> {
             assert_eq!(rt; left, after_crash(alloc, &stopping, choice)?, "call {call}");
         }
         assert!(rt;
-            !failing.starved() && write_gated(&mut failing, NEW).is_ok(),
+            !failing.starved()
+                && failing.unrecorded() == 0
+                && write_gated(&mut failing, NEW).is_ok(),
             "call {call}"
         );
         assert_eq!(rt; after_crash(alloc, &failing, 0)?, New, "call {call}");

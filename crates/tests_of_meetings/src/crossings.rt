@@ -1,7 +1,7 @@
 //! What `sync` and `serve` answer to one another, each in a thread of its own, over pipes.
 
 ghost use Rattle.bec_disk.specs.Shelved.{shelf_of};
-ghost use Rattle.store_directory.specs.Stores.{IsHome};
+ghost use Rattle.key_directory.specs.Parts.{IsHome};
 
 use crate::nodes::Node;
 use crate::pipes::pipe;

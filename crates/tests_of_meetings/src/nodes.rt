@@ -1,7 +1,7 @@
 //! Nodes that have a shelf each.
 
 ghost use Rattle.bec_disk.specs.Shelved.{shelf_of};
-ghost use Rattle.store_directory.specs.Stores.{IsHome};
+ghost use Rattle.key_directory.specs.Parts.{IsHome};
 
 use crate::pipes::{PipeNet, Socket};
 use crate::runs::run_over;

@@ -1,7 +1,7 @@
 //! Runs of the program over one shelf and a net, both in memory.
 
 ghost use Rattle.bec_disk.specs.Shelved.{shelf_of};
-ghost use Rattle.store_directory.specs.Stores.{IsHome};
+ghost use Rattle.key_directory.specs.Parts.{IsHome};
 
 use bec_bytes::{MemSink, MemSource};
 use bec_disk::MemShelf;

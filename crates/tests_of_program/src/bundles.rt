@@ -5,7 +5,7 @@ use crate::runs::answers;
 use crate::texts::TASKS;
 use lms_tree::Secret;
 use row_check::{Luhn, Native};
-use schema::read_schema;
+use schema_text::read_schema;
 use std::alloc::{AllocError, Global};
 use std::test::Fail;
 use update_codec::id_of;

@@ -2,7 +2,7 @@
 
 use bec_bytes::{MemSink, MemSource, Sink, Source};
 use bec_disk::MemShelf;
-use node_commands::run_alone;
+use bec_node::run_alone;
 use rand_pcg::Pcg32;
 use record_check::OneThread;
 use std::alloc::{AllocError, Global};

@@ -52,11 +52,16 @@ SAMPLE "Kayak" 3 "79927398713" FALSE
 # A loan: it goes with the item or the member.
 TABLE loan DELETABLE
 COLUMN day INT 20200101 20991231
-COLUMN back INT 20200101 20991231 NULL
 REF item item CASCADE
 REF member member CASCADE
-CHECK back IS NULL OR back >= day
-SAMPLE 20260401 NULL
+SAMPLE 20260401
+
+# That a loan came back. No row is ever changed, so what becomes true later is a row of its own.
+TABLE returned DELETABLE
+COLUMN day INT 20200101 20991231
+REF loan loan CASCADE
+MATCH day >= loan.day
+SAMPLE 20260402
 "#;
 
 /// The file `examples/survey.schema`.

@@ -3,7 +3,7 @@
 use crate::records::{authors, signed};
 use crate::runs::{answers, run_over_nothing, words};
 use bec_bytes::{MemSink, MemSource, PlainSink, PlainSource};
-use node_commands::status;
+use bec_node::status;
 use std::test::Fail;
 
 #[test]

@@ -2,7 +2,7 @@
 
 use confluence_test::{accepted_is_unlimited, take_schema};
 use hash_graph::Graph;
-use replay::replay;
+use history::replay;
 use row_check::{Luhn, Native};
 use std::alloc::Global;
 use tuple_state::Tables;

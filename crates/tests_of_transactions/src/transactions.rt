@@ -1,7 +1,8 @@
 //! Transactions over a schema of two tables.
 
 use row_check::{Luhn, Native};
-use schema::{Schema, SchemaError, read_schema};
+use schema::Schema;
+use schema_text::{SchemaError, read_schema};
 use std::alloc::{AllocError, Global};
 use txn_text::{TextError, read_txn};
 

@@ -7,27 +7,36 @@ use bec_bytes::{
 use std::alloc::{AllocError, Global};
 use std::test::Fail;
 
+/// Whether a source fails at its second call and at no other.
+fn source_fails(source: &mut MemSource) -> bool {
+    let mut buf = [0u8; 2];
+    let first = source.take(&mut buf);
+    let second = read_full(source, &mut buf);
+    let third = read_full(source, &mut buf);
+    (first, second, third) == (Ok(2), Err(Failed), Ok(1)) && buf == [3, 2]
+}
+
 #[test]
 fn a_source_fails_at_its_numbered_calls(rt: HostRuntime) -> Result<(), Fail> {
-    let alloc = rt.alloc();
-    let mut buf = [0u8; 2];
-    let mut source = MemSource::new([1, 2, 3].to_vec(alloc)?, [2u32].to_vec(alloc)?);
-    assert_eq!(rt; source.take(&mut buf), Ok(2));
-    assert_eq!(rt; read_full(&mut source, &mut buf), Err(Failed));
-    assert_eq!(rt; read_full(&mut source, &mut buf), Ok(1));
-    assert_eq!(rt; buf, [3, 2]);
+    let failing = [2u32].to_vec(rt.alloc())?;
+    let mut source = MemSource::new([1, 2, 3].to_vec(rt.alloc())?, failing);
+    assert!(rt; source_fails(&mut source));
     Ok(())
+}
+
+/// Whether a sink fails at its second call and at no other.
+fn sink_fails(sink: &mut MemSink) -> bool {
+    let first = write_all_of(sink, b"one");
+    let second = write_all_of(sink, b"two");
+    let third = write_all_of(sink, b"three");
+    (first, second, third) == (Ok(()), Err(Failed), Ok(()))
+        && sink.bytes() == b"onethree".as_slice()
 }
 
 #[test]
 fn a_sink_fails_at_its_numbered_calls(rt: HostRuntime) -> Result<(), Fail> {
-    let alloc = rt.alloc();
-    let mut sink = MemSink::new(alloc, [2u32].to_vec(alloc)?);
-    write_all_of(&mut sink, b"one")?;
-    assert_eq!(rt; write_all_of(&mut sink, b"two"), Err(Failed));
-    write_all_of(&mut sink, b"three")?;
-    assert_eq!(rt; sink.bytes(), b"onethree".as_slice());
-    assert_eq!(rt; PlainSink::new().put(b"four"), Ok(4));
+    let mut sink = MemSink::new(rt.alloc(), [2u32].to_vec(rt.alloc())?);
+    assert!(rt; sink_fails(&mut sink) && PlainSink::new().put(b"four") == Ok(4));
     Ok(())
 }
 
@@ -44,26 +53,40 @@ fn first(alloc: Global, bytes: &[u8]) -> Result<(&'static str, usize), AllocErro
     })
 }
 
-#[test]
-fn reads_pieces_behind_their_lengths(rt: HostRuntime) -> Result<(), Fail> {
-    for (bytes, found) in [
-        (b"".as_slice(), ("end", 0)),
-        (b"\x00\x00\x00", ("cut", 0)),
-        (b"\x00\x00\x00\x03ab", ("cut", 2)),
-        (b"\x00\x00\x00\x03abcd", ("whole", 3)),
-        (b"\x00\x00\x00\x04abcd", ("too long", 0)),
-    ] {
-        assert_eq!(rt; first(rt.alloc(), bytes)?, found);
+/// Bytes, and what stands first in them.
+const FIRST: &[(&[u8], (&str, usize))] = &[
+    (b"", ("end", 0)),
+    (b"\x00\x00\x00", ("cut", 0)),
+    (b"\x00\x00\x00\x03ab", ("cut", 2)),
+    (b"\x00\x00\x00\x03abcd", ("whole", 3)),
+    (b"\x00\x00\x00\x04abcd", ("too long", 0)),
+];
+
+/// Whether each row is as it says.
+fn reads_pieces(alloc: Global) -> Result<bool, AllocError> {
+    for (bytes, found) in FIRST {
+        if first(alloc, bytes)? != *found {
+            return Ok(false);
+        }
     }
-    Ok(())
+    Ok(true)
+}
+
+#[test]
+fn reads_pieces_behind_their_lengths(rt: HostRuntime) {
+    assert!(rt; matches!(reads_pieces(rt.alloc()), Ok(true)));
+}
+
+/// Whether a cursor takes fields, and none of which bytes are missing.
+fn takes_fields() -> bool {
+    let mut cursor = Cursor::new(b"\x01\x02\x03\x04\x05\x06\x07\x08");
+    let are_taken = cursor.take_u8() == Some(1)
+        && cursor.take_u16() == Some(0x0203)
+        && cursor.take_u32() == Some(0x0405_0607);
+    are_taken && cursor.take_u16().is_none() && (cursor.place(), cursor.left()) == (7, 1)
 }
 
 #[test]
 fn a_cursor_takes_fields(rt: HostRuntime) {
-    let mut cursor = Cursor::new(b"\x01\x02\x03\x04\x05\x06\x07\x08");
-    assert_eq!(rt; cursor.take_u8(), Some(1));
-    assert_eq!(rt; cursor.take_u16(), Some(0x0203));
-    assert_eq!(rt; cursor.take_u32(), Some(0x0405_0607));
-    assert_eq!(rt; cursor.take_u16(), None);
-    assert_eq!(rt; (cursor.place(), cursor.left()), (7, 1));
+    assert!(rt; takes_fields());
 }

@@ -72,67 +72,81 @@ impl Write for UnevenWriter<'_> {
     }
 }
 
-#[test]
-fn a_source_reads_on_unless_the_reader_fails(rt: HostRuntime) -> Result<(), Fail> {
-    let turns = [
-        Moves(2),
-        Fails(ErrorKind::Interrupted),
-        Moves(9),
-        Fails(ErrorKind::BrokenPipe),
-        Moves(1),
-    ];
-    let mut buf = [0u8; 4];
-    let mut source = HostSource::new(
-        rt.alloc(),
-        UnevenReader {
-            turns: &turns,
-            last: 0,
-        },
-    )?;
-    assert_eq!(rt; read_full(&mut source, &mut buf)?, 4);
-    assert_eq!(rt; buf, [1, 2, 3, 4]);
-    assert_eq!(rt; read_full(&mut source, &mut buf[..3])?, 3);
-    assert_eq!(rt; read_full(&mut source, &mut buf)?, 4);
-    assert_eq!(rt; buf, [8, 9, 10, 11]);
-    assert_eq!(rt; source.take(&mut buf), Err(Failed));
-    assert_eq!(rt; source.take(&mut buf), Ok(1));
-    assert_eq!(rt; buf, [12, 9, 10, 11]);
-    assert_eq!(rt; source.take(&mut buf), Ok(0));
-    Ok(())
+/// What a reader does.
+const READS: &[Turn] = &[
+    Moves(2),
+    Fails(ErrorKind::Interrupted),
+    Moves(9),
+    Fails(ErrorKind::BrokenPipe),
+    Moves(1),
+];
+
+/// Whether a source reads on over such a reader unless that fails.
+fn reads_on<S: Source>(source: &mut S) -> bool {
+    let (mut one, mut two, mut three) = ([0u8; 4], [0u8; 3], [0u8; 4]);
+    let full = (
+        read_full(source, &mut one),
+        read_full(source, &mut two),
+        read_full(source, &mut three),
+    );
+    let is_full = full == (Ok(4), Ok(3), Ok(4)) && (one, three) == ([1, 2, 3, 4], [8, 9, 10, 11]);
+    let rest = (
+        source.take(&mut three),
+        source.take(&mut three),
+        source.take(&mut one),
+    );
+    is_full && rest == (Err(Failed), Ok(1), Ok(0)) && three == [12, 9, 10, 11]
 }
 
 #[test]
-fn a_sink_writes_on_unless_the_writer_fails(rt: HostRuntime) -> Result<(), Fail> {
-    let turns = [
-        Moves(2),
-        Fails(ErrorKind::Interrupted),
-        Moves(9),
-        Fails(ErrorKind::BrokenPipe),
-        Moves(0),
-        Moves(1),
-    ];
+fn a_source_reads_on_unless_the_reader_fails(rt: HostRuntime) -> Result<(), Fail> {
+    let reader = UnevenReader {
+        turns: READS,
+        last: 0,
+    };
+    let mut source = HostSource::new(rt.alloc(), reader)?;
+    assert!(rt; reads_on(&mut source));
+    Ok(())
+}
+
+/// What a writer does.
+const WRITES: &[Turn] = &[
+    Moves(2),
+    Fails(ErrorKind::Interrupted),
+    Moves(9),
+    Fails(ErrorKind::BrokenPipe),
+    Moves(0),
+    Moves(1),
+];
+
+/// Whether a sink writes on over such a writer unless that fails.
+fn writes_on<K: Sink>(sink: &mut K) -> bool {
+    let first = write_all_of(sink, b"first");
+    let rest = (
+        sink.put(b"fails"),
+        sink.put(b"is not taken"),
+        sink.put(b"second"),
+    );
+    first == Ok(()) && rest == (Err(Failed), Err(Failed), Ok(1))
+}
+
+#[test]
+fn a_sink_writes_on_unless_the_writer_fails(rt: HostRuntime) {
     let mut writer = UnevenWriter {
-        turns: &turns,
+        turns: WRITES,
         taken: Vec::new(rt.alloc()),
         can_flush: true,
     };
-    let mut sink = HostSink::new(&mut writer);
-    write_all_of(&mut sink, b"first")?;
-    assert_eq!(rt; sink.put(b"fails"), Err(Failed));
-    assert_eq!(rt; sink.put(b"is not taken"), Err(Failed));
-    assert_eq!(rt; sink.put(b"second"), Ok(1));
-    assert_eq!(rt; writer.taken.as_slice(), b"firsts".as_slice());
-    Ok(())
+    let writes_on = writes_on(&mut HostSink::new(&mut writer));
+    assert!(rt; writes_on && writer.taken.as_slice() == b"firsts".as_slice());
 }
 
 #[test]
-fn a_flush_that_fails_is_a_fault(rt: HostRuntime) -> Result<(), Fail> {
-    let writer = UnevenWriter {
+fn a_flush_that_fails_is_a_fault(rt: HostRuntime) {
+    let mut sink = HostSink::new(UnevenWriter {
         turns: &[Moves(9)],
         taken: Vec::new(rt.alloc()),
         can_flush: false,
-    };
-    let mut sink = HostSink::new(writer);
-    assert_eq!(rt; sink.put(b"bytes"), Err(Failed));
-    Ok(())
+    });
+    assert!(rt; sink.put(b"bytes") == Err(Failed));
 }

@@ -9,7 +9,7 @@ use Rattle.update_model.specs.Node.{NodeData}
 use Rattle.table_model.specs.Verdicts.{ancestor_of, effects, in_table, judged}
 use Rattle.table_model.specs.Visible.{Effects, Rules, TableRow, is_visible, same_row, visible_rows}
 use Rattle.table_model.proofs.Standing.{row_from_same, same_row-refl, each-map}
-use Rattle.validity.specs.Answers.{AreAnswers, entry_in, equal_in, has_child_in}
+use Rattle.table_model.specs.Answers.{AreAnswers, entry_in, equal_in, has_child_in}
 use Rattle.tuple_state.specs.Kept.{are_layered, is_named}
 use Rattle.tuple_state.specs.declared.inserted.Inserted.{Inserted}
 use Rattle.tuple_state.specs.Past.{IsPastOf, child_then, count_then, done_then, equal_then, row_then, visible_then}

@@ -6,7 +6,7 @@ use Rattle.std.proofs.lemmas.Bool.{both_ways, and_from}
 use Rattle.update_model.specs.declared.row_name.RowName.{RowName}
 use Rattle.table_model.specs.Visible.{TableRow, is_deleted, is_visible, same_row}
 use Rattle.table_model.proofs.Standing.{row_from_same, same_row-refl, each-map}
-use Rattle.validity.specs.Answers.{entry_of_row}
+use Rattle.table_model.specs.Answers.{entry_of_row}
 use Rattle.tuple_state.specs.declared.inserted.Inserted.{Inserted}
 use Rattle.tuple_state.specs.Kept.{are_layered, place_of}
 use Rattle.tuple_state.specs.Past.{done_then, row_then}

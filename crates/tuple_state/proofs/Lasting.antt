@@ -10,9 +10,8 @@ use Rattle.update_model.specs.Node.{NodeData}
 use Rattle.table_model.specs.Nodes.{IsClosed}
 use Rattle.table_model.specs.Verdicts.{Judged, ancestor_of, effects, effects_in, effects_of, is_valid, judged}
 use Rattle.table_model.specs.Visible.{Effects, Rules, TableRow, cascade_refs, is_deleted, is_visible, same_row}
-use Rattle.table_model.proofs.DeclaredClaims.{each-append}
+use Rattle.table_model.proofs.Each.{each-append, each-left, each-right}
 use Rattle.table_model.proofs.Founded.{founded_closed}
-use Rattle.table_model.proofs.SameTables.{each-left, each-right}
 use Rattle.table_model.proofs.Standing.{all_both, any_each, row_from_same}
 use Rattle.tuple_state.specs.Kept.{are_layered, is_named}
 use Rattle.tuple_state.proofs.Layers.{Stands, each_stands, layer_parts, layered_founded, row_visible}

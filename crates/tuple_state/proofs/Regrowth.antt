@@ -3,7 +3,7 @@ use Rattle.std.proofs.Common.{◌≡◌, ℕ, zero, suc, Bool, true, false, ◌&
 use Rattle.std.specs.Prelude.{slice_get}
 use Rattle.std.specs.List.{AllByRecursion}
 use Rattle.table_model.specs.Visible.{TableRow}
-use Rattle.table_model.proofs.SameTables.{each-left, each-right}
+use Rattle.table_model.proofs.Each.{each-left, each-right}
 use Rattle.tuple_state.specs.declared.inserted.Inserted.{Inserted}
 use Rattle.tuple_state.specs.State.{row_of}
 use Rattle.tuple_state.proofs.Lookups.{reverse_cons}

@@ -12,7 +12,7 @@ use Rattle.table_model.specs.Verdicts.{ancestor_of, effects, in_table, judge_nex
 use Rattle.table_model.specs.Visible.{Effects, Rules, TableRow, is_visible, visible_rows}
 use Rattle.row_check.specs.declared.cmp.Cmp.TheVariants as cmp
 use Rattle.row_check.specs.Comparisons.{compares}
-use Rattle.validity.specs.Answers.{entry_in, has_child_in}
+use Rattle.table_model.specs.Answers.{entry_in, has_child_in}
 use Rattle.tuple_state.specs.declared.inserted.Inserted.{Inserted}
 use Rattle.tuple_state.specs.Parents.{passes_row}
 use Rattle.tuple_state.specs.State.{IsStateOf, State, done_in, row_of, rules_of_state}

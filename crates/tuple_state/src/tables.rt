@@ -12,7 +12,7 @@ ghost use Rattle.table_model.specs.Tables.{AreRowsIn, AreVoidsIn, name_cmp};
 ghost use Rattle.table_model.specs.Verdicts.{effects_in, in_table};
 ghost use Rattle.table_model.specs.Visible.{Rules, TableRow, cascade_refs, is_deleted, is_visible, refs, rules_with, same_row};
 ghost use Rattle.schema.specs.Columns.{is_restrict};
-ghost use Rattle.validity.specs.Answers.{AreAnswers};
+ghost use Rattle.table_model.specs.Answers.{AreAnswers};
 ghost use Rattle.tuple_state.specs.Past.{IsNextVerdict, IsPastOf, StandsAt, done_then, effects_before};
 ghost use Rattle.tuple_state.specs.Absence.{causes_of};
 ghost use Rattle.tuple_state.specs.Causes.{parents_from};

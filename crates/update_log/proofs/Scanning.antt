@@ -1,6 +1,7 @@
 -- Members of which one more is taken or refused, and the records that they are in.
-use Rattle.std.proofs.Common.{◌≡◌, ℕ, ◌+◌, ◌<◌, ◌≤◌, Bool, true, false, not, List, [], ◌∷◌, ◌++◌, length, map, refl, sym, ap, subst, ◌∙◌, append_assoc, append-nil, length-append, All, Vec, Option, Some, None, Ok, arith}
-use Rattle.std.specs.Prelude.{find, is_some}
+use Rattle.std.proofs.Common.{◌≡◌, ◌≢◌, ℕ, ◌+◌, ◌<◌, ◌≤◌, Bool, true, false, not, List, [], ◌∷◌, ◌++◌, length, map, refl, sym, ap, subst, ◌∙◌, append_assoc, append-nil, length-append, All, Vec, Option, Some, None, Result, Ok, Err, arith}
+use Rattle.std.specs.Prelude.{find, is_some, nat_eq}
+use Rattle.std.proofs.lemmas.Bool.Decides.{nat_tests}
 use Rattle.std.proofs.lemmas.List.{map-append, length-map}
 use Rattle.std.specs.declared.alloc.Global.{Global}
 use Rattle.std.proofs.lemmas.List.Elements.{All-head, All-tail, All-push}
@@ -17,11 +18,12 @@ use Rattle.update_codec.specs.declared.limits.TheConstants.{UPDATE_LIMIT}
 use Rattle.record_check.specs.Records.{IsCheckedFront, bytes_of}
 use Rattle.update_check.specs.Signed.{IsChecked}
 use Rattle.update_check.specs.Members.{AreMembers}
+use Rattle.hash_graph.specs.declared.added.Added.{Added}
 use Rattle.hash_graph.specs.declared.added.Added.TheVariants.{New, Known}
 use Rattle.hash_graph.specs.declared.refusal.Refusal.{Refusal}
 use Rattle.hash_graph.specs.declared.refusal.Refusal.TheVariants.{Lacks, Full, Memory}
-use Rattle.hash_graph.specs.Answer.{answer_by, answer_of, IsRefusedBy}
-use Rattle.update_log.specs.Reading.{HoldsRecords, IsStop, StopsAt, TakesSome}
+use Rattle.hash_graph.specs.Answer.{answer_by, answer_of, IsNew, IsRefusedBy}
+use Rattle.update_log.specs.Reading.{HoldsRecords, IsStop, StopsAt, TakesPart, TakesSome}
 
 -- ---- one member more
 
@@ -74,6 +76,15 @@ takes_new rule old new m r n are checked same is is_new =
       within = ap is_within parts ∙ next.1;
     } in
     (is_new ∙ ap (λ (x : List ℕ). old ++ x ∷ []) same, subst (AreMembers rule) (sym is_new) more)
+
+-- memory runs out only for a member that can stand last
+pub memory_is_next : (rule : RuleData) (old : List (List ℕ)) (m : List ℕ) → AreMembers rule old → IsChecked rule m → IsRefusedBy Memory (answer_of (map entry_of old) (entry_of m)) → AreMembers rule (old ++ m ∷ [])
+memory_is_next rule old m are checked new = by_answer (answer_of (map entry_of old) (entry_of m)) refl new
+  where
+    by_answer : (answer : Result Added Refusal) → answer_of (map entry_of old) (entry_of m) ≡ answer → IsNew answer → AreMembers rule (old ++ m ∷ [])
+    by_answer (Ok (New n)) is it = (takes_new rule old (old ++ m ∷ []) m m n are checked refl is refl).1
+    by_answer (Ok (Known n)) is it = absurd it
+    by_answer (Err why) is it = absurd it
 
 -- one that is held can't stand last
 pub known_stops : (rule : RuleData) (old : List (List ℕ)) (m r : List ℕ) (n : ℕ) → m ≡ r → answer_of (map entry_of old) (entry_of m) ≡ Ok (Known n) → AreMembers rule (old ++ r ∷ []) → ⊥
@@ -170,6 +181,18 @@ none_left records front (r ∷ more) parts few = absurd (let size = ap length pa
 -- all records
 pub takes_all : (rule : RuleData) (old records front new : List (List ℕ)) → IsCheckedFront rule records front → length records ≤ length front → (new ≡ old ++ front) × AreMembers rule new → (new ≡ old ++ records) × AreMembers rule new
 takes_all rule old records front new is few taken = (taken.0 ∙ ap (λ (l : List (List ℕ)). old ++ l) (none_left records front is.rest is.parts few), taken.1)
+
+-- all of the front was taken, which is as long as the records or not
+pub takes_counted : (rule : RuleData) (old records front new : List (List ℕ)) (checked count : ℕ) → IsCheckedFront rule records front → checked ≡ length front → count ≡ length records
+    → (new ≡ old ++ front) × AreMembers rule new → TakesPart rule old records (nat_eq checked count) new
+takes_counted rule old records front new checked count is long many taken = by_test (nat_eq checked count) refl
+  where
+    by_test : (b : Bool) → nat_eq checked count ≡ b → TakesPart rule old records b new
+    by_test true e = let same : checked ≡ count = grind (arith, nat_tests) in takes_all rule old records front new is (omega arith) taken
+    by_test false e =
+        let other : checked ≢ count = grind (arith, nat_tests) in
+        let size = ap length is.parts in
+        takes_front rule old records front new is (omega (arith, length-append front is.rest)) taken
 
 stream_parts : (xs ys : List (List ℕ)) → stream_of (xs ++ ys) ≡ stream_of xs ++ stream_of ys
 unfolding stream_of

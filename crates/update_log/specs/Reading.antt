@@ -60,6 +60,14 @@ pub record TakesSome (rule : RuleData) (old records new : List (List ℕ)) : Typ
   pub members : AreMembers rule new
   pub refused : AreMembers rule (new ++ next ∷ []) → ⊥
 
+-- One of the records can be taken after those in front of it.
+pub record HasNext (rule : RuleData) (old records : List (List ℕ)) : Type 0 where
+  pub taken : List (List ℕ)
+  pub next : List ℕ
+  pub more : List (List ℕ)
+  pub parts : records ≡ taken ++ next ∷ more
+  pub members : AreMembers rule ((old ++ taken) ++ next ∷ [])
+
 -- All records stand last, or those up to one that can't be taken.
 abbrev pub TakesPart : RuleData → List (List ℕ) → List (List ℕ) → Bool → List (List ℕ) → Type 0
 TakesPart rule old records true new = (new ≡ old ++ records) × AreMembers rule new

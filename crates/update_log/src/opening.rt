@@ -1,6 +1,6 @@
 //! Which records of a disk are a closed list under a rule, and cutting what stands behind them.
 
-ghost use Rattle.std.specs.Prelude.{◌≡◌, ◌≤◌, ◌<◌, ◌+◌, ◌^◌, All, IsTrue, IfOk, IsErrOf, length};
+ghost use Rattle.std.specs.Prelude.{◌≡◌, ◌≤◌, ◌<◌, ◌+◌, ◌^◌, ◌++◌, ◌∷◌, [], All, IsTrue, IfOk, IsErrOf, OnErr, length};
 ghost use Rattle.bec_bytes.specs.Causes.{Rose};
 ghost use Rattle.bec_bytes.specs.Framed.{stream_of};
 ghost use Rattle.bec_disk.specs.Disk.{IsSettled};
@@ -9,7 +9,7 @@ ghost use Rattle.update_log.specs.Logset.{IsLogset};
 ghost use Rattle.update_check.specs.Members.{AreMembers};
 ghost use Rattle.record_check.specs.Records.{bytes_of};
 ghost use Rattle.update_check.specs.Signed.{IsChecked};
-ghost use Rattle.update_log.specs.Reading.{IsOver, StopsAt, TakesOne, TakesPart, count_left, left_of};
+ghost use Rattle.update_log.specs.Reading.{HasNext, IsOver, StopsAt, TakesOne, TakesPart, count_left, left_of};
 
 use crate::part::next_part;
 use crate::piece_reader::{PIECE, PieceReader};
@@ -117,13 +117,8 @@ fn take_part<V: Verifier>(
     let count = records.len();
     let front = verifier.check_front(alloc, rule, records)?;
     let checked = front.len();
-    if !take_front(rule, graph, front)? {
-        return Ok(false);
-    }
-    if checked < count {
-        return Ok(false);
-    }
-    Ok(true)
+    let all = take_front(rule, graph, front)?;
+    Ok(all && checked == count)
 }
 
 /// Takes checked updates into the graph, up to the first that can't stand there next, and tells whether these are all.
@@ -134,7 +129,10 @@ fn take_front(
 ) -> Result<bool, AllocError>
     requires members { AreMembers rule.now graph.old }
     requires checked { All (IsChecked rule.now) front.items }
-    ensures { IfOk result (λ all. TakesPart rule.now graph.old front.items all graph.new) }
+    ensures taken { IfOk result (λ all. TakesPart rule.now graph.old front.items all graph.new) }
+
+    // Memory may run out only where one of them could be taken.
+    ensures memory { OnErr result (HasNext rule.now graph.old front.items) }
 {
     for update in front {
         if !take_update(rule, graph, update)? {
@@ -152,7 +150,10 @@ fn take_update(
 ) -> Result<bool, AllocError>
     requires members { AreMembers _rule.now graph.old }
     requires checked { IsChecked _rule.now update }
-    ensures { IfOk result (λ taken. TakesOne _rule.now graph.old update taken graph.new) }
+    ensures taken { IfOk result (λ taken. TakesOne _rule.now graph.old update taken graph.new) }
+
+    // Memory may run out only for one that can stand there.
+    ensures memory { OnErr result (AreMembers _rule.now (graph.old ++ update ∷ [])) }
 {
     match graph.add(update) {
         Ok(Added::New(_position)) => Ok(true),

@@ -1,4 +1,7 @@
-ghost use Rattle.std.specs.Prelude.{◌≡◌, IfOk, IfErr, IfSome, IfNone};
+ghost use Rattle.std.specs.Prelude.{◌≡◌, IfOk, IfErr, IfSome, IfNone, OnErr, map};
+ghost use Rattle.hash_graph.specs.Answer.{IsNew, answer_of};
+ghost use Rattle.update_model.specs.Rule.{RuleData};
+ghost use Rattle.update_codec.specs.Parts.{entry_of};
 ghost use Rattle.update_check.specs.Causes.{IsCause};
 ghost use Rattle.update_check.specs.Signed.{IsChecked};
 ghost use Rattle.update_stream.specs.Steps.{Takes, rule_for, set_after};
@@ -35,7 +38,18 @@ pub fn take_record(
         Ok(checked) => checked,
         Err(fault) => return Ok(Some(RecordFault::Check(fault))),
     };
-    match graph.add(checked) {
+    add_next(graph, checked)
+}
+
+/// Adds a checked update to the graph, or tells its fault and leaves the graph as it was.
+fn add_next(graph: &mut Graph<Checked>, update: Checked) -> Result<Option<RecordFault>, AllocError>
+    ensures ok { IfOk result (λ fault. (rule : RuleData) → IsChecked rule update → Takes rule graph.old update graph.new fault) }
+    ensures kept { IfOk result (λ fault. IfSome fault (λ _. graph.new ≡ graph.old)) }
+
+    // Memory may run out only for an update that would stand last.
+    ensures memory { OnErr result (IsNew (answer_of (map entry_of graph.old) (entry_of update))) }
+{
+    match graph.add(update) {
         Ok(_added) => Ok(None),
         Err(refused) => match refused.why {
             Refusal::Lacks(id) => Ok(Some(RecordFault::Lacks(id))),

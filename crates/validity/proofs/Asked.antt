@@ -18,7 +18,7 @@ use Rattle.table_model.specs.Verdicts.{delete_reason, first_reason, insert_reaso
 use Rattle.schema.specs.Checks.{checks_hold}
 use Rattle.schema.specs.Columns.{all_fit}
 use Rattle.validity.specs.declared.own_row.OwnRow.{OwnRow}
-use Rattle.validity.specs.Answers.{AreAnswers}
+use Rattle.table_model.specs.Answers.{AreAnswers}
 use Rattle.validity.specs.Asked.{delete_asked, insert_asked, is_anothers, is_deletable, is_in, is_match, is_matched, match_asked, own_row, row_of, stands_asked, verdict_asked}
 use Rattle.validity.proofs.Named.{Once, entry_any}
 

@@ -7,7 +7,7 @@ use Rattle.update_model.specs.declared.row_entry.RowEntry.{RowEntry}
 use Rattle.update_model.specs.declared.row_name.RowName.{RowName}
 use Rattle.table_model.specs.Visible.{TableRow, same_row}
 use Rattle.table_model.proofs.Standing.{row_from_same}
-use Rattle.validity.specs.Answers.{entry_of_row, entry_in}
+use Rattle.table_model.specs.Answers.{entry_of_row, entry_in}
 
 -- rows with one name are one
 pub record Once (rows : List TableRow) : Type 0 where

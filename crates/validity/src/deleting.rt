@@ -2,7 +2,7 @@
 
 ghost use Rattle.std.specs.Prelude.{◌≡◌, IfOk, slice_get, option_copied};
 ghost use Rattle.std.specs.List.{list_any};
-ghost use Rattle.schema.specs.Schemas.{Meaning};
+ghost use Rattle.schema.specs.Data.{Meaning};
 ghost use Rattle.table_model.specs.Verdicts.{same_author};
 ghost use Rattle.table_model.specs.Visible.{rules_with, same_row};
 ghost use Rattle.validity.specs.Asked.{delete_asked, is_anothers, is_deletable};

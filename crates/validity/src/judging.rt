@@ -1,9 +1,9 @@
 ghost use Rattle.std.specs.Prelude.{◌≡◌, ◌+◌, ◌<◌, [], ◌∷◌, ◌++◌, IsTrue, IfOk};
 ghost use Rattle.std.specs.List.{list_all};
-ghost use Rattle.schema.specs.Schemas.{Meaning};
+ghost use Rattle.schema.specs.Data.{Meaning};
 ghost use Rattle.table_model.specs.Verdicts.{is_unlimited, verdict_on};
 ghost use Rattle.table_model.specs.Visible.{Effects, rules_with};
-ghost use Rattle.validity.specs.Answers.{AreAnswers};
+ghost use Rattle.table_model.specs.Answers.{AreAnswers};
 ghost use Rattle.validity.specs.Asked.{delete_asked, deleted_after, insert_asked, op_asked, own_after, verdict_asked};
 
 use crate::deleting::delete_reason;

@@ -1,53 +1,29 @@
-ghost use Rattle.std.specs.Prelude.{◌≡◌, ◌≢◌, ◌≤◌, ◌⊎◌, Err, IfErr, IfOk, IsTrue, codes, length};
+ghost use Rattle.std.specs.Prelude.{◌≡◌, ◌≢◌, Err, IfErr, IfOk, IsTrue};
 ghost use Rattle.bec_disk.specs.Shelf.{out};
 ghost use Rattle.bec_disk.specs.declared.part.Part.TheVariants.{Key, Used};
-ghost use Rattle.schema_verdict.specs.Inputs.{IsWholeText};
-ghost use Rattle.node_commands.specs.Outside.{outside};
-ghost use Rattle.node_commands.specs.Run.{HasFirstWord, Runs};
-ghost use Rattle.node_commands.specs.Signing.{ApplyAnswer, Applies, IsNoStop, IsSourceFault, MakeAnswer, SignsIn, SignsOpen, StopsReading, TakesText};
-ghost use Rattle.node_commands.specs.StoreAnswers.{next_bytes};
-ghost use Rattle.store_directory.specs.Stores.{IsHome, part_in};
+ghost use Rattle.outcomes.specs.Outside.{outside};
+ghost use Rattle.node_commands.specs.Signing.{Applies, ApplyAnswer, IsNoStop, MakeAnswer, SignsIn, SignsOpen, StopsReading, TakesText};
+ghost use Rattle.outcomes.specs.Comes.{IsSourceFault};
+ghost use Rattle.outcomes.specs.StoreAnswers.{next_bytes};
+ghost use Rattle.key_directory.specs.Parts.{IsHome, part_in};
 ghost use Rattle.txn_text.specs.Outcome.{MayStand};
 
-use crate::printed_lines::{id_line, room_for_id};
-use crate::program::run_alone;
-use crate::refusal::{Refusal, made_refusal};
-use crate::standing::each_stands;
-use bec_bytes::{Sink, Source};
+use bec_bytes::Source;
 use bec_disk::{Disk, Shelf};
+use key_directory::{put_key, take_key};
 use key_index::KeyStore;
+use outcomes::{Refusal, each_stands, id_line, made_refusal, room_for_id};
 use rand_core::Rng;
 use record_check::Verifier;
 use replica::Replica;
 use row_check::{Luhn, Native};
-use schema::{Schema, one_schema};
+use schema::Schema;
+use schema_text::one_schema;
 use schema_verdict::read_text;
 use std::alloc::Global;
-use store_directory::{put_key, put_store, take_key, take_store};
+use store_directory::{put_store, take_store};
 use txn_text::{MAX_TRANSACTION_BYTES, read_txn};
 use update_model::OpList;
-
-/// The command `apply DIR`: makes an update of the transaction that it reads, by the key of the directory, adds it to the
-/// directory's store, and prints its id. The first word has to be `apply`.
-///
-/// Its clause is that of [`run_alone`](crate::run_alone) for these words.
-pub fn command_apply<V: Verifier, H: Shelf, R: Rng, S: Source, K: Sink>(
-    verifier: &V,
-    alloc: Global,
-    words: &[String],
-    shelf: &mut H,
-    random: &mut R,
-    input: &mut S,
-    out: &mut K,
-) -> u8
-    requires first { HasFirstWord (codes "apply") words.now }
-    requires home { IsTrue (H.state shelf.old).tells → IsHome (H.state shelf.old) }
-    ensures { Runs words.now
-        (outside S.left S.faults H.state H.faults R.stream input.old shelf.old random.old) (outside S.left S.faults H.state H.faults R.stream input.new shelf.new random.new)
-        (record { held = K.held out.old; faults = K.faults out.old }) (record { held = K.held out.new; faults = K.faults out.new }) result }
-{
-    run_alone(verifier, alloc, words, shelf, random, input, out)
-}
 
 /// Makes an update in the store of a directory, by its key, and answers the line of its id.
 pub fn apply_in<V: Verifier, H: Shelf, R: Rng, S: Source>(

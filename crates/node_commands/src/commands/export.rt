@@ -1,46 +1,19 @@
-ghost use Rattle.std.specs.Prelude.{◌≡◌, ◌<◌, ◌^◌, ◌++◌, IsTrue, IfOk, OnOk, codes, cond, length};
+ghost use Rattle.std.specs.Prelude.{◌≡◌, ◌<◌, ◌^◌, ◌++◌, IsTrue, IfOk, OnOk, cond, length};
 ghost use Rattle.bec_bytes.specs.Framed.{framed, stream_of};
-ghost use Rattle.store_directory.specs.Stores.{IsHome};
-ghost use Rattle.node_commands.specs.Comes.{ReadsShelf};
-ghost use Rattle.node_commands.specs.Outside.{outside};
-ghost use Rattle.node_commands.specs.Run.{HasFirstWord, Runs};
-ghost use Rattle.node_commands.specs.StoreAnswers.{Printing, ReadsStore, ShowsRecords};
+ghost use Rattle.outcomes.specs.Comes.{ReadsShelf};
+ghost use Rattle.outcomes.specs.StoreAnswers.{Printing, ReadsStore};
+ghost use Rattle.node_commands.specs.Shows.{ShowsRecords};
+ghost use Rattle.key_directory.specs.Parts.{IsHome};
 
-use crate::program::run_alone;
-use crate::refusal::Refusal;
-use crate::standing::each_stands;
-use bec_bytes::{Sink, Source};
 use bec_disk::{Disk, Shelf};
-use rand_core::Rng;
+use outcomes::{Refusal, each_stands};
 use record_check::Verifier;
 use replica::Replica;
 use row_check::{Luhn, Native};
-use schema::one_schema;
+use schema_text::one_schema;
 use std::alloc::{AllocError, Global};
 use store_directory::{put_store, take_store};
 use update_model::Member;
-
-/// The command `export DIR [--updates]`: prints the bundle of the directory's store, its schema and its updates in the order
-/// of arrival, or the updates alone. The first word has to be `export`.
-///
-/// Its clause is that of [`run_alone`](crate::run_alone) for these words.
-pub fn command_export<V: Verifier, H: Shelf, R: Rng, S: Source, K: Sink>(
-    verifier: &V,
-    alloc: Global,
-    words: &[String],
-    shelf: &mut H,
-    random: &mut R,
-    input: &mut S,
-    out: &mut K,
-) -> u8
-    requires first { HasFirstWord (codes "export") words.now }
-    requires home { IsTrue (H.state shelf.old).tells → IsHome (H.state shelf.old) }
-    ensures { Runs words.now
-        (outside S.left S.faults H.state H.faults R.stream input.old shelf.old random.old) (outside S.left S.faults H.state H.faults R.stream input.new shelf.new random.new)
-        (record { held = K.held out.old; faults = K.faults out.old }) (record { held = K.held out.new; faults = K.faults out.new }) result }
-{
-    run_alone(verifier, alloc, words, shelf, random, input, out)
-}
 
 /// The bundle of the store of a directory, or its update stream alone.
 pub fn export_in<V: Verifier, H: Shelf>(

@@ -1,53 +1,27 @@
-ghost use Rattle.std.specs.Prelude.{◌≡◌, ◌++◌, IfOk, IsTrue, List, OnOk, codes, map};
-ghost use Rattle.store_directory.specs.Stores.{IsHome};
+ghost use Rattle.std.specs.Prelude.{IfOk, IsTrue, List, OnOk, map, ◌++◌, ◌≡◌};
+ghost use Rattle.key_directory.specs.Parts.{IsHome};
 ghost use Rattle.update_codec.specs.Parts.{entry_of};
 ghost use Rattle.update_model.specs.Graph.{AreHeads};
 ghost use Rattle.update_model.specs.declared.update_id.UpdateId.{UpdateId as Id};
-ghost use Rattle.node_commands.specs.Comes.{ReadsShelf};
+ghost use Rattle.outcomes.specs.Comes.{ReadsShelf};
 ghost use Rattle.node_commands.specs.Heads.{HeadsAnswer};
-ghost use Rattle.node_commands.specs.Outcome.{ComesTo};
-ghost use Rattle.node_commands.specs.Outside.{outside};
-ghost use Rattle.node_commands.specs.Run.{HasFirstWord, Runs};
-ghost use Rattle.node_commands.specs.StoreAnswers.{Printing, ReadsStore, ShowsHeads};
-ghost use Rattle.node_commands.specs.Texts.{line_of, printed};
+ghost use Rattle.outcomes.specs.Outcome.{ComesTo};
+ghost use Rattle.outcomes.specs.StoreAnswers.{Printing, ReadsStore};
+ghost use Rattle.node_commands.specs.Shows.{ShowsHeads};
+ghost use Rattle.outcomes.specs.Texts.{line_of, printed};
 
 use crate::heads::heads_of;
-use crate::program::run_alone;
-use crate::refusal::Refusal;
-use crate::standing::each_stands;
 use crate::stream::read_graph;
-use bec_bytes::{Sink, Source};
+use bec_bytes::Source;
 use bec_disk::{Disk, Shelf};
-use rand_core::Rng;
+use outcomes::{Refusal, each_stands};
 use record_check::Verifier;
 use replica::Replica;
 use row_check::{Luhn, Native};
-use schema::one_schema;
+use schema_text::one_schema;
 use std::alloc::{AllocError, Global};
 use store_directory::{put_store, take_store};
 use update_model::UpdateId;
-
-/// The command `heads [DIR]`: prints the ids of the heads of the update stream that it reads, or of the directory's store,
-/// rising, one per line in lower-case hexadecimal; or the line for what is refused. The first word has to be `heads`.
-///
-/// Its clause is that of [`run_alone`](crate::run_alone) for these words.
-pub fn command_heads<V: Verifier, H: Shelf, R: Rng, S: Source, K: Sink>(
-    verifier: &V,
-    alloc: Global,
-    words: &[String],
-    shelf: &mut H,
-    random: &mut R,
-    input: &mut S,
-    out: &mut K,
-) -> u8
-    requires first { HasFirstWord (codes "heads") words.now }
-    requires home { IsTrue (H.state shelf.old).tells → IsHome (H.state shelf.old) }
-    ensures { Runs words.now
-        (outside S.left S.faults H.state H.faults R.stream input.old shelf.old random.old) (outside S.left S.faults H.state H.faults R.stream input.new shelf.new random.new)
-        (record { held = K.held out.old; faults = K.faults out.old }) (record { held = K.held out.new; faults = K.faults out.new }) result }
-{
-    run_alone(verifier, alloc, words, shelf, random, input, out)
-}
 
 /// The heads of a stream, as they are printed.
 pub fn stream_heads<S: Source>(alloc: Global, input: &mut S) -> Result<Vec<u8>, Refusal>

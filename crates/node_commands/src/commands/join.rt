@@ -1,49 +1,22 @@
-ghost use Rattle.std.specs.Prelude.{◌≡◌, ◌≢◌, IsTrue, MatchOption, [], codes, length};
+ghost use Rattle.std.specs.Prelude.{◌≡◌, ◌≢◌, IsTrue, MatchOption, [], length};
 ghost use Rattle.bec_disk.specs.Shelf.{out};
 ghost use Rattle.bec_disk.specs.declared.part.Part.TheVariants.{Key, Used};
-ghost use Rattle.node_commands.specs.Outside.{outside};
-ghost use Rattle.node_commands.specs.Run.{HasFirstWord, Runs};
 ghost use Rattle.node_commands.specs.Signing.{IsNoStop, JoinAnswer, MakesUpdate, SignsIn, SignsOpen};
-ghost use Rattle.node_commands.specs.Texts.{line_of};
-ghost use Rattle.store_directory.specs.Stores.{IsHome, part_in};
+ghost use Rattle.outcomes.specs.Texts.{line_of};
+ghost use Rattle.key_directory.specs.Parts.{IsHome, part_in};
 
-use crate::printed_lines::{ID_LINE, id_line, room_for_id};
-use crate::program::run_alone;
-use crate::refusal::{Refusal, made_refusal};
-use crate::standing::each_stands;
-use bec_bytes::{Sink, Source};
 use bec_disk::{Disk, Shelf};
+use key_directory::{put_key, take_key};
 use key_index::KeyStore;
+use outcomes::{ID_LINE, Refusal, each_stands, id_line, made_refusal, room_for_id};
 use rand_core::Rng;
 use record_check::Verifier;
 use replica::Replica;
 use row_check::{Luhn, Native};
-use schema::one_schema;
+use schema_text::one_schema;
 use std::alloc::Global;
-use store_directory::{put_key, put_store, take_key, take_store};
+use store_directory::{put_store, take_store};
 use update_model::UpdateId;
-
-/// The command `join DIR`: joins the heads of the directory's store by an update without operations, and prints its id, or
-/// nothing where there are fewer than two heads. The first word has to be `join`.
-///
-/// Its clause is that of [`run_alone`](crate::run_alone) for these words.
-pub fn command_join<V: Verifier, H: Shelf, R: Rng, S: Source, K: Sink>(
-    verifier: &V,
-    alloc: Global,
-    words: &[String],
-    shelf: &mut H,
-    random: &mut R,
-    input: &mut S,
-    out: &mut K,
-) -> u8
-    requires first { HasFirstWord (codes "join") words.now }
-    requires home { IsTrue (H.state shelf.old).tells → IsHome (H.state shelf.old) }
-    ensures { Runs words.now
-        (outside S.left S.faults H.state H.faults R.stream input.old shelf.old random.old) (outside S.left S.faults H.state H.faults R.stream input.new shelf.new random.new)
-        (record { held = K.held out.old; faults = K.faults out.old }) (record { held = K.held out.new; faults = K.faults out.new }) result }
-{
-    run_alone(verifier, alloc, words, shelf, random, input, out)
-}
 
 /// Joins the heads of the store of a directory, by its key, and answers the line of the update's id, or nothing.
 pub fn join_in<V: Verifier, H: Shelf, R: Rng>(

@@ -1,46 +1,19 @@
-ghost use Rattle.std.specs.Prelude.{◌≡◌, ◌++◌, IsTrue, OnOk, codes};
+ghost use Rattle.std.specs.Prelude.{◌≡◌, ◌++◌, IsTrue, OnOk};
 ghost use Rattle.node_commands.specs.Creating.{DrawsKey};
-ghost use Rattle.node_commands.specs.Outside.{outside};
-ghost use Rattle.node_commands.specs.Run.{HasFirstWord, Runs};
-ghost use Rattle.node_commands.specs.Texts.{key_text};
-ghost use Rattle.store_directory.specs.Stores.{IsHome};
+ghost use Rattle.outcomes.specs.Texts.{key_text};
+ghost use Rattle.key_directory.specs.Parts.{IsHome};
 
-use crate::program::run_alone;
-use crate::refusal::Refusal;
-use bec_bytes::{Sink, Source};
 use bec_disk::Shelf;
+use key_directory::{new_key, put_key};
 use lm_ots::OtsType;
 use lms_tree::LmsType;
+use outcomes::Refusal;
 use rand_core::Rng;
-use record_check::Verifier;
 use std::alloc::{AllocError, Global};
-use store_directory::{new_key, put_key};
 use update_model::AuthorKey;
 
 /// How many bytes the line of a public key has: 112 digits and the end.
 const KEY_LINE: usize = 113;
-
-/// The command `keygen DIR [--height 5,10,15] [--width 1,2,4,8]`: draws a key for a directory that has none, and prints its
-/// public key in lower-case hexadecimal. The first word has to be `keygen`.
-///
-/// Its clause is that of [`run_alone`](crate::run_alone) for these words.
-pub fn command_keygen<V: Verifier, H: Shelf, R: Rng, S: Source, K: Sink>(
-    verifier: &V,
-    alloc: Global,
-    words: &[String],
-    shelf: &mut H,
-    random: &mut R,
-    input: &mut S,
-    out: &mut K,
-) -> u8
-    requires first { HasFirstWord (codes "keygen") words.now }
-    requires home { IsTrue (H.state shelf.old).tells → IsHome (H.state shelf.old) }
-    ensures { Runs words.now
-        (outside S.left S.faults H.state H.faults R.stream input.old shelf.old random.old) (outside S.left S.faults H.state H.faults R.stream input.new shelf.new random.new)
-        (record { held = K.held out.old; faults = K.faults out.old }) (record { held = K.held out.new; faults = K.faults out.new }) result }
-{
-    run_alone(verifier, alloc, words, shelf, random, input, out)
-}
 
 /// Draws a key of these types for a directory that has none, and answers the line of its public key. Room for the line is
 /// there before anything is made.

@@ -1,54 +1,26 @@
-ghost use Rattle.std.specs.Prelude.{◌≡◌, ◌≢◌, ◌≤◌, IsTrue, IfOk, codes, length};
+ghost use Rattle.std.specs.Prelude.{◌≡◌, ◌≢◌, ◌≤◌, IsTrue, IfOk, length};
 ghost use Rattle.std.specs.List.Sorted.{IsStrictlySortedBy};
 ghost use Rattle.bec_disk.specs.Shelf.{out};
 ghost use Rattle.bec_disk.specs.declared.part.Part.TheVariants.{Schema, Updates, Peers as PeersPart};
-ghost use Rattle.node_commands.specs.Merging.{MergesBeside, MergesOpen, MergesStores, opened_store, start_of};
-ghost use Rattle.node_commands.specs.Outside.{outside};
-ghost use Rattle.node_commands.specs.Texts.{merged_text};
+ghost use Rattle.node_commands.specs.Merging.{MergesBeside, MergesOpen, MergesStores, start_of};
+ghost use Rattle.outcomes.specs.OpenStores.{opened_store};
+ghost use Rattle.outcomes.specs.Texts.{merged_text};
 ghost use Rattle.session_rules.specs.declared.limits.TheConstants.{MAX_NEEDS};
 ghost use Rattle.update_model.specs.Entry.{id_cmp};
-ghost use Rattle.node_commands.specs.Run.{HasFirstWord, Runs};
-ghost use Rattle.store_directory.specs.Stores.{IsHome, part_in};
+ghost use Rattle.key_directory.specs.Parts.{IsHome, part_in};
 
-use crate::program::run_alone;
-use crate::refusal::Refusal;
-use crate::remembering::{keep_peers, peers_of};
-use crate::standing::each_stands;
-use bec_bytes::{Sink, Source};
 use bec_disk::{Disk, Shelf};
+use outcomes::{Refusal, each_stands, keep_peers, peers_of};
 use peer_memory::Peers;
-use rand_core::Rng;
 use record_check::Verifier;
 use replica::Replica;
 use row_check::{Luhn, Native};
-use schema::one_schema;
+use schema_text::one_schema;
 use session_rules::End;
 use std::alloc::{AllocError, Global};
 use store_directory::{put_store, take_store};
 use sync_session::{PairEnd, PairStart, sync_pair};
 use update_model::IdList;
-
-/// The command `merge DIR OTHER`: reconciles the stores of two directories, and prints how many updates each gained, and in how many turns. The first word
-/// has to be `merge`.
-///
-/// Its clause is that of [`run_alone`](crate::run_alone) for these words.
-pub fn command_merge<V: Verifier, H: Shelf, R: Rng, S: Source, K: Sink>(
-    verifier: &V,
-    alloc: Global,
-    words: &[String],
-    shelf: &mut H,
-    random: &mut R,
-    input: &mut S,
-    out: &mut K,
-) -> u8
-    requires first { HasFirstWord (codes "merge") words.now }
-    requires home { IsTrue (H.state shelf.old).tells → IsHome (H.state shelf.old) }
-    ensures { Runs words.now
-        (outside S.left S.faults H.state H.faults R.stream input.old shelf.old random.old) (outside S.left S.faults H.state H.faults R.stream input.new shelf.new random.new)
-        (record { held = K.held out.old; faults = K.faults out.old }) (record { held = K.held out.new; faults = K.faults out.new }) result }
-{
-    run_alone(verifier, alloc, words, shelf, random, input, out)
-}
 
 /// Reconciles the stores of two directories, and answers the lines of what each gained and of the turns.
 pub fn merge_in<V: Verifier, H: Shelf>(

@@ -1,51 +1,24 @@
-ghost use Rattle.std.specs.Prelude.{◌≡◌, ◌⊎◌, IsTrue, Err, codes};
-ghost use Rattle.store_directory.specs.Stores.{IsHome};
+ghost use Rattle.std.specs.Prelude.{Err, IsTrue, ◌≡◌, ◌⊎◌};
+ghost use Rattle.key_directory.specs.Parts.{IsHome};
 ghost use Rattle.node_commands.specs.Asking.{QueryAnswer};
-ghost use Rattle.node_commands.specs.Comes.{ReadsShelf};
-ghost use Rattle.node_commands.specs.Merging.{opened_store};
-ghost use Rattle.node_commands.specs.Outside.{outside};
-ghost use Rattle.node_commands.specs.Run.{HasFirstWord, Runs};
-ghost use Rattle.node_commands.specs.StoreAnswers.{ReadsStore};
-ghost use Rattle.node_commands.specs.declared.refusal.Refusal.TheVariants.{Memory as memory};
+ghost use Rattle.outcomes.specs.Comes.{ReadsShelf};
+ghost use Rattle.outcomes.specs.OpenStores.{opened_store};
+ghost use Rattle.outcomes.specs.StoreAnswers.{ReadsStore};
+ghost use Rattle.outcomes.specs.declared.refusal.Refusal.TheVariants.{Memory as memory};
 
-use crate::program::run_alone;
-use crate::refusal::Refusal;
-use crate::standing::each_stands;
-use bec_bytes::{Sink, Source};
 use bec_disk::{Disk, Shelf};
+use confluence_laws::tables_are_of_the_set;
 use head_set::equal_heads_mean_equal_sets;
+use outcomes::{Refusal, each_stands};
 use query::read_query;
 use query_answer::{answer, json_lines, print_lines};
-use rand_core::Rng;
 use record_check::Verifier;
 use replica::Replica;
 use row_check::{Luhn, Native};
-use schema::one_schema;
+use schema_text::one_schema;
 use std::alloc::Global;
 use store_directory::{put_store, take_store};
-use table_model::{arrivals_are_closed, tables_are_of_the_set};
-
-/// The command `query DIR TEXT [--json]`: prints what a query asks of the directory's store, a line for each row with its
-/// columns apart by a tab, or one JSON object; or the line for what is refused. The first word has to be `query`.
-///
-/// Its clause is that of [`run_alone`](crate::run_alone) for these words.
-pub fn command_query<V: Verifier, H: Shelf, R: Rng, S: Source, K: Sink>(
-    verifier: &V,
-    alloc: Global,
-    words: &[String],
-    shelf: &mut H,
-    random: &mut R,
-    input: &mut S,
-    out: &mut K,
-) -> u8
-    requires first { HasFirstWord (codes "query") words.now }
-    requires home { IsTrue (H.state shelf.old).tells → IsHome (H.state shelf.old) }
-    ensures { Runs words.now
-        (outside S.left S.faults H.state H.faults R.stream input.old shelf.old random.old) (outside S.left S.faults H.state H.faults R.stream input.new shelf.new random.new)
-        (record { held = K.held out.old; faults = K.faults out.old }) (record { held = K.held out.new; faults = K.faults out.new }) result }
-{
-    run_alone(verifier, alloc, words, shelf, random, input, out)
-}
+use table_model::arrivals_are_closed;
 
 /// What a query asks of the store of a directory, as it is printed.
 pub fn query_in<V: Verifier, H: Shelf>(

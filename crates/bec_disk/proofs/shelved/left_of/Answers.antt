@@ -1,6 +1,5 @@
-use Rattle.std.proofs.Common.{List, take, ◌+◌, sym, subst}
+use Rattle.std.proofs.Common.{take, ◌+◌, sym, subst}
 use Rattle.bec_disk.specs.Left.{AreLeft}
-use Rattle.bec_disk.specs.declared.shelved.Shelved.{Shelved}
 use Rattle.bec_disk.proofs.Crashes.{entry_left, next_left}
 use Rattle.bec_disk.proofs.shelved.left_of.Goals as goal
 

@@ -1,6 +1,6 @@
 use Rattle.std.proofs.Common.{reverse, sym, ◌∙◌}
-use Rattle.table_model.proofs.Confirmed.{closed_from_test}
-use Rattle.table_model.proofs.Sides.{test_from_closed}
+use Rattle.confluence_laws.proofs.Confirmed.{closed_from_test}
+use Rattle.confluence_laws.proofs.Sides.{test_from_closed}
 use Rattle.confluence_checker.proofs.ids.is_closed.Goals as goal
 
 pub returns : goal.returns

@@ -1,6 +1,6 @@
 use Rattle.std.proofs.Common.{◌≡◌, Bool, true, false, refl}
 use Rattle.std.proofs.lemmas.Bool.{both_ways}
-use Rattle.table_model.specs.Confluence.{confirms}
+use Rattle.confluence_laws.specs.Confluence.{confirms}
 use Rattle.table_model.specs.Invariants.{claim_holds, shown_in}
 use Rattle.table_model.specs.Nodes.{union}
 use Rattle.confluence_checker.specs.Parting.{parted}

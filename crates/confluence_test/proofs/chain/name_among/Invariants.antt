@@ -1,5 +1,5 @@
 use Rattle.std.proofs.Common.{◌≡◌, reverse, take}
-use Rattle.table_model.specs.Examples.{name_in}
+use Rattle.confluence_laws.specs.Examples.{name_in}
 use Rattle.confluence_test.proofs.chain.name_among.Given as goal
 
 abbrev pub invariant-loop-older : goal.invariant-loop-older

@@ -1,5 +1,5 @@
 use Rattle.std.proofs.Common.{◌≡◌}
-use Rattle.table_model.specs.Examples.{copies}
+use Rattle.confluence_laws.specs.Examples.{copies}
 use Rattle.confluence_test.proofs.examples.push_copies.Given as goal
 
 abbrev pub invariant-loop : goal.invariant-loop

@@ -3,7 +3,7 @@ use Rattle.std.proofs.lemmas.List.{length-reverse}
 use Rattle.update_model.specs.declared.op.Op.TheVariants as op
 use Rattle.update_model.specs.declared.row_name.RowName.{RowName}
 use Rattle.table_model.specs.declared.counterexample.Counterexample.{Counterexample}
-use Rattle.table_model.specs.Examples.{Step, path_items, shared_of, one_after, row_numbered}
+use Rattle.confluence_laws.specs.Examples.{Step, path_items, shared_of, one_after, row_numbered}
 use Rattle.table_model.specs.Visible.{bare_rules}
 use Rattle.confluence_test.proofs.Restricts.{restrict_is}
 use Rattle.confluence_test.proofs.examples.restrict_example.Goals as goal

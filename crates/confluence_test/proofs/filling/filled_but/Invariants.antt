@@ -1,5 +1,5 @@
 use Rattle.std.proofs.Common.{◌≡◌, ◌++◌, drop}
-use Rattle.table_model.specs.Examples.{filled_but}
+use Rattle.confluence_laws.specs.Examples.{filled_but}
 use Rattle.confluence_test.proofs.filling.filled_but.Given as goal
 
 abbrev pub invariant-loop-number : goal.invariant-loop-number

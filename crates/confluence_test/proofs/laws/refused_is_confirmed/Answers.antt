@@ -1,7 +1,7 @@
 use Rattle.std.proofs.Common.{sym, subst}
 use Rattle.std.specs.Prelude.{IsTrue}
 use Rattle.table_model.specs.declared.counterexample.Counterexample.{Counterexample}
-use Rattle.table_model.specs.Confluence.{confirms}
+use Rattle.confluence_laws.specs.Confluence.{confirms}
 use Rattle.table_model.specs.Invariants.{claims_of}
 use Rattle.confluence_test.proofs.laws.refused_is_confirmed.Goals as goal
 

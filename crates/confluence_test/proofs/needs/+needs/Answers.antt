@@ -1,6 +1,6 @@
 use Rattle.std.proofs.Common.{◌≡◌, ◌<◌, ◌≤◌, ◌∙◌, sym, subst, arith, List, ◌∷◌, length}
 use Rattle.schema.specs.declared.column.Column.{Column}
-use Rattle.table_model.specs.Examples.{Item, need, needed_but, for_each}
+use Rattle.confluence_laws.specs.Examples.{Item, need, needed_but, for_each}
 use Rattle.table_model.specs.Visible.{table_of, bare_rules}
 use Rattle.confluence_test.specs.Plans.{AreOnce}
 use Rattle.confluence_test.proofs.Needing.{need_none, need_kept, need_new, need_end}

@@ -1,5 +1,5 @@
 use Rattle.std.proofs.Common.{◌≡◌, ◌+◌, ◌*◌, drop, length}
-use Rattle.table_model.specs.Examples.{need, needed_but, for_each}
+use Rattle.confluence_laws.specs.Examples.{need, needed_but, for_each}
 use Rattle.confluence_test.specs.Plans.{AreOnce}
 use Rattle.table_model.specs.Visible.{bare_rules}
 use Rattle.confluence_test.proofs.needs.+needs.Given as goal

@@ -1,5 +1,5 @@
 use Rattle.std.proofs.Common.{◌≡◌, reverse, take}
-use Rattle.table_model.specs.Examples.{chain}
+use Rattle.confluence_laws.specs.Examples.{chain}
 use Rattle.confluence_test.proofs.nodes.chain_of.Given as goal
 
 abbrev pub invariant-loop-older : goal.invariant-loop-older

@@ -1,7 +1,7 @@
 use Rattle.std.proofs.Common.{◌≡◌, ◌-◌, ◌<◌, ◌∙◌, false, ap, sym, arith, Some}
 use Rattle.schema.specs.declared.table_def.TableDef.{TableDef}
 use Rattle.table_model.specs.Visible.{table_of, bare_rules}
-use Rattle.table_model.specs.Examples.{Step, path_from}
+use Rattle.confluence_laws.specs.Examples.{Step, path_from}
 use Rattle.confluence_test.proofs.Paths.{next_of, next_low, path_stop, path_on, path_more}
 use Rattle.confluence_test.proofs.Sounds.{sound_columns}
 use Rattle.confluence_test.proofs.path.+follow.Goals as goal

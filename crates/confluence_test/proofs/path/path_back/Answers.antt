@@ -1,6 +1,6 @@
 use Rattle.std.proofs.Common.{◌≡◌, ◌+◌, ◌<◌, ◌≤◌, ◌++◌, ◌∙◌, List, length, ap, sym, subst, arith}
 use Rattle.std.proofs.lemmas.List.{length-reverse}
-use Rattle.table_model.specs.Examples.{Step, path_from}
+use Rattle.confluence_laws.specs.Examples.{Step, path_from}
 use Rattle.confluence_test.specs.Plans.{AreBelow}
 use Rattle.table_model.specs.Visible.{bare_rules}
 use Rattle.confluence_test.proofs.Listing.{each_back}

@@ -1,5 +1,5 @@
 use Rattle.std.proofs.Common.{◌≡◌, ℕ, ◌+◌, ◌∙◌, List, [], ◌∷◌, ◌++◌, length, length-append, ap, sym, subst, arith, take, reverse}
-use Rattle.table_model.specs.Examples.{Step, Item, item_naming, path_items}
+use Rattle.confluence_laws.specs.Examples.{Step, Item, item_naming, path_items}
 use Rattle.table_model.specs.Visible.{bare_rules}
 use Rattle.confluence_test.proofs.Paths.{rows_next}
 use Rattle.confluence_test.proofs.path.path_rows.Goals as goal

@@ -1,5 +1,5 @@
 use Rattle.std.proofs.Common.{◌≡◌, ◌++◌, take, length, reverse}
-use Rattle.table_model.specs.Examples.{path_items}
+use Rattle.confluence_laws.specs.Examples.{path_items}
 use Rattle.table_model.specs.Visible.{bare_rules}
 use Rattle.confluence_test.proofs.path.path_rows.Given as goal
 

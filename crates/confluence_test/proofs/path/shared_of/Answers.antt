@@ -1,5 +1,5 @@
 use Rattle.std.proofs.Common.{◌≡◌, ◌≤◌, ◌∙◌, length, ap, arith}
-use Rattle.table_model.specs.Examples.{Step, need, for_each}
+use Rattle.confluence_laws.specs.Examples.{Step, need, for_each}
 use Rattle.table_model.specs.Visible.{bare_rules}
 use Rattle.confluence_test.proofs.Paths.{needed_of, shared_next, shared_end}
 use Rattle.confluence_test.proofs.path.shared_of.Goals as goal

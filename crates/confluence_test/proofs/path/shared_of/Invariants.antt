@@ -1,6 +1,6 @@
 use Rattle.std.proofs.Common.{◌≡◌, [], drop, length}
 use Rattle.std.specs.List.{flat_map}
-use Rattle.table_model.specs.Examples.{need, for_each}
+use Rattle.confluence_laws.specs.Examples.{need, for_each}
 use Rattle.confluence_test.specs.Plans.{AreOnce}
 use Rattle.table_model.specs.Visible.{bare_rules}
 use Rattle.confluence_test.proofs.Paths.{needed_of}

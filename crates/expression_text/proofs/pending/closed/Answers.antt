@@ -1,4 +1,4 @@
-use Rattle.expression_text.specs.Trees.{tree_of}
+use Rattle.row_check.specs.Trees.{tree_of}
 use Rattle.expression_text.proofs.pending.closed.Goals as goal
 
 pub returns-then-takes_bracket : goal.returns-then-takes_bracket

@@ -4,7 +4,7 @@ use Rattle.std.proofs.lemmas.Result.{IfOk-weaker}
 use Rattle.update_model.specs.Node.{NodeData}
 use Rattle.table_model.specs.Visible.{Rules, rules_with}
 use Rattle.table_model.specs.Verdicts.{ancestor_of, effects, judged}
-use Rattle.replay.specs.Arrivals.{place_in}
+use Rattle.history.specs.Arrivals.{place_in}
 use Rattle.history.specs.Histories.{nodes_of}
 use Rattle.history.proofs.Drafts.{draft_lower, draft_past, draft_places}
 use Rattle.history.proofs.Fronts.{all_state}

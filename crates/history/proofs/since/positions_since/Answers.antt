@@ -1,7 +1,7 @@
 use Rattle.std.proofs.Common.{◌∙◌, ◌<◌, ◌≤◌, ℕ, List, All, length, map, take, sym, ap, subst, arith}
 use Rattle.std.proofs.lemmas.List.{length-map, length-take-le}
 use Rattle.update_codec.specs.Parts.{entry_of}
-use Rattle.replay.proofs.Arriving.{length-before}
+use Rattle.history.proofs.Arriving.{length-before}
 use Rattle.history.proofs.Numbers.{old_low}
 use Rattle.update_check.specs.Holding.{ArePositionsSince}
 use Rattle.history.proofs.Behind.{positions_since}

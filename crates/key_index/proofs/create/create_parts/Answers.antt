@@ -118,4 +118,4 @@ returns-clause-creates g c =
     let opened = c.in_ok-fresh.fresh.opened in
     let store = store_of g.D.Disk.state g.D.Counted.faults c.write_parts.new.key c.write_parts.new.used opened.secret opened.indices in
     parts_written secret old mid store c.deref.result.now (length c.deref-2.result.now) _ same later absent spelled long c.in_ok-write_parts.ensures (c.in_ok-fresh.ensures.secret ∙ drawn)
-    (c.in_ok-fresh.ensures.indices ∙ ap (λ (s : SecretData). replicate (leaf_count s.lms) false) drawn)
+    (c.in_ok-fresh.ensures.indices ∙ ap (λ (s : SecretData). replicate (leaf_count s.lms) false) drawn) refl

@@ -39,4 +39,5 @@ returns-clause-opens g c =
       holds = λ tells. subst (Holds (g.D.Disk.state c.args.key.now).seen) (sym made.secret) (held.held tells);
       size = λ tells. same_size c.in-Some.taken.items _ _ (read.value tells) count;
       taken = λ tells. made.used ∙ read.value tells;
+      tried = refl;
     }

@@ -1,5 +1,4 @@
-use Rattle.node_commands.specs.Bundle.{nodes_of}
-use Rattle.node_commands.specs.Verdict.{rules_of}
+use Rattle.outcomes.specs.Rules.{nodes_of, rules_of}
 use Rattle.node_commands.proofs.graph_tables.graph_text.Goals as goal
 
 pub replay-requires-after_bounds : goal.replay-requires-after_bounds

@@ -1,17 +1,17 @@
 use Rattle.std.proofs.Common.{List, subst}
 use Rattle.row_check.specs.Checksum.{is_luhn}
-use Rattle.schema.specs.Schemas.{SchemaData}
+use Rattle.schema.specs.Data.{SchemaData}
 use Rattle.update_model.specs.Node.{NodeData}
 use Rattle.tuple_state.specs.State.{IsStateOf}
-use Rattle.node_commands.specs.Bundle.{ShowsState, nodes_of}
-use Rattle.node_commands.specs.Verdict.{rules_of}
+use Rattle.node_commands.specs.Bundle.{ShowsState}
+use Rattle.outcomes.specs.Rules.{nodes_of, rules_of}
 use Rattle.node_commands.proofs.Tables.{has_tables}
 use Rattle.node_commands.proofs.graph_tables.replica_tables.Goals as goal
 
 pub returns : goal.returns
 returns g c =
     let history = c.args.replica.now.history in
-    let taken = c.each_stands.ensures.history_is.taken in
+    let taken = c.each_stands.ensures.taken in
     let P : SchemaData → Type 0 = λ s. (nodes : List NodeData) → IsStateOf (rules_of s) nodes c.tables.result.now → ShowsState c.args.json s nodes c.in_ok-text.text.items in
     let t : ShowsState c.args.json history.schema (nodes_of history.members) c.in_ok-text.text.items = subst P c.schema.ensures c.in_ok-text.ensures (nodes_of history.members) c.tables.ensures in (
       t.0,

@@ -3,7 +3,7 @@ use Rattle.row_check.specs.Checksum.{is_luhn}
 use Rattle.table_model.specs.declared.shown_row.ShownRow.{ShownRow}
 use Rattle.table_model.specs.declared.void_line.VoidLine.{VoidLine}
 use Rattle.node_commands.specs.Bundle.{dump_text}
-use Rattle.node_commands.specs.Verdict.{rules_of}
+use Rattle.outcomes.specs.Rules.{rules_of}
 use Rattle.node_commands.proofs.Bundles.{tables_shown}
 use Rattle.node_commands.proofs.graph_tables.state_text.Goals as goal
 

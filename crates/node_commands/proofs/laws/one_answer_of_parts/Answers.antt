@@ -1,4 +1,4 @@
-use Rattle.node_commands.proofs.StoreOnce.{OneOfParts, answered_of_parts}
+use Rattle.node_commands.proofs.PartsOnce.{OneOfParts, answered_of_parts}
 use Rattle.node_commands.proofs.laws.one_answer_of_parts.Goals as goal
 
 pub returns : goal.returns

@@ -1,5 +1,5 @@
 use Rattle.std.proofs.Common.{◌≡◌, List, map, take}
-use Rattle.expression_text.specs.Kinds.{FitsKinds}
+use Rattle.row_check.specs.Kinds.{FitsKinds}
 use Rattle.query.specs.Columns.{seen_kinds}
 use Rattle.table_model.specs.declared.shown_row.ShownRow.{ShownRow}
 use Rattle.query_answer.specs.Rows.{AreListsOf, shown_row}

@@ -13,3 +13,6 @@ returns-in-Full-clause-full g c _ =
     let answer = rw c.in-Full.is at c.in-Err.ensures.answer in
     let over = full_over (map g.M.Member.entry c.args.graph.now) (g.M.Member.entry c.args.member) c.len.ensures.closed answer in
     rw c.in-Err.ensures.list over
+
+pub returns-in-Memory-clause-memory : goal.returns-in-Memory-clause-memory
+returns-in-Memory-clause-memory g c _ = rw c.in-Memory.is at c.in-Err.ensures.answer

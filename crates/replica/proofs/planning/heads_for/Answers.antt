@@ -2,7 +2,7 @@ use Rattle.std.proofs.Common.{rules, ◌≡◌, IsTrue, length, map, sym, ap, su
 use Rattle.update_model.specs.declared.author_key.AuthorKey.{AuthorKey}
 use Rattle.update_model.specs.Rule.{IsListed, RuleData}
 use Rattle.update_codec.specs.Parts.{entry_of}
-use Rattle.schema.specs.Schemas.{SchemaData}
+use Rattle.schema.specs.Data.{SchemaData}
 use Rattle.lms_tree.specs.SecretKey.{public_key}
 use Rattle.replica.proofs.HeadLists.{one_heads}
 use Rattle.replica.proofs.planning.heads_for.Goals as goal

@@ -2,7 +2,7 @@ use Rattle.std.proofs.Common.{rules, ◌≡◌, ℕ, ◌+◌, List, length, subs
 use Rattle.update_model.specs.Form.{BodyData, IsBody, signature_length}
 use Rattle.update_model.specs.Rule.{RuleData}
 use Rattle.update_codec.specs.Spelling.{message, signed_length}
-use Rattle.schema.specs.Schemas.{SchemaData}
+use Rattle.schema.specs.Data.{SchemaData}
 use Rattle.lms_tree.specs.SecretKey.{public_key}
 use Rattle.replica.specs.Making.{AreSignedBy, HasRoom, IsMadeBy, IsNewCause, IsSignCause, body_by}
 use Rattle.replica.proofs.MadeBy.{body_is, has_length, made_by, new_cause}

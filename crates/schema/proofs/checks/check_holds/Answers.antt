@@ -1,5 +1,5 @@
 use Rattle.std.proofs.Common.{sym, subst}
-use Rattle.expression_text.specs.Kinds.{HasKinds}
+use Rattle.row_check.specs.Kinds.{HasKinds}
 use Rattle.schema.specs.Checks.{CheckData}
 use Rattle.schema.specs.Columns.{kinds_of}
 use Rattle.schema.proofs.checks.check_holds.Goals as goal

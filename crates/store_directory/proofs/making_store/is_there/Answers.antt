@@ -1,7 +1,7 @@
 use Rattle.bec_disk.specs.declared.part.Part.TheVariants.{Schema}
 use Rattle.bec_disk.specs.Slot.{slot}
-use Rattle.store_directory.proofs.Making.{read_others, read_untouched}
-use Rattle.store_directory.proofs.Putting.{found}
+use Rattle.key_directory.proofs.Making.{read_others, read_untouched}
+use Rattle.key_directory.proofs.Putting.{found}
 use Rattle.store_directory.proofs.making_store.is_there.Goals as goal
 
 pub returns-in_err-read-clause-untouched : goal.returns-in_err-read-clause-untouched

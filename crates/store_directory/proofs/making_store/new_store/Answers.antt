@@ -4,10 +4,10 @@ use Rattle.bec_disk.specs.Disk.{DiskState}
 use Rattle.bec_disk.specs.Gated.{gated_of}
 use Rattle.bec_disk.specs.declared.gated.Gated.TheVariants.{Absent}
 use Rattle.bec_disk.specs.Slot.{slot}
-use Rattle.store_directory.specs.Making.{HandsOutAny}
-use Rattle.store_directory.specs.Stores.{part_in}
-use Rattle.store_directory.proofs.Making.{cause_before, create_cause, first_still_out, lets_both_new_go, lets_first_go, lets_second_go, makes_store, order_of}
-use Rattle.store_directory.proofs.Putting.{told}
+use Rattle.key_directory.specs.Parts.{HandsOutAny, part_in}
+use Rattle.key_directory.proofs.Making.{first_still_out, lets_both_new_go, lets_first_go, lets_second_go}
+use Rattle.store_directory.proofs.Making.{cause_before, create_cause, makes_store, order_of}
+use Rattle.key_directory.proofs.Putting.{told}
 use Rattle.store_directory.proofs.making_store.new_store.Goals as goal
 
 pub returns-in_default-clause-lets_go : goal.returns-in_default-clause-lets_go

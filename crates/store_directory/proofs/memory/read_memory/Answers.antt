@@ -1,7 +1,7 @@
 use Rattle.bec_disk.specs.declared.part.Part.TheVariants.{Peers}
 use Rattle.bec_disk.specs.Slot.{slot}
-use Rattle.store_directory.proofs.Making.{read_others, read_untouched}
-use Rattle.store_directory.proofs.Putting.{found}
+use Rattle.key_directory.proofs.Making.{read_others, read_untouched}
+use Rattle.key_directory.proofs.Putting.{found}
 use Rattle.store_directory.proofs.memory.read_memory.Goals as goal
 
 pub returns-in_err-gated-clause-untouched : goal.returns-in_err-gated-clause-untouched

@@ -1,5 +1,6 @@
 use Rattle.bec_disk.specs.declared.part.Part.TheVariants.{Peers}
-use Rattle.store_directory.proofs.Making.{made_others, made_written}
+use Rattle.key_directory.proofs.Making.{made_others}
+use Rattle.store_directory.proofs.Making.{made_written}
 use Rattle.store_directory.proofs.memory.write_memory.Goals as goal
 
 pub returns-clause-written : goal.returns-clause-written

@@ -3,7 +3,8 @@ use Rattle.bec_disk.specs.declared.part.Part.TheVariants.{Schema, Updates}
 use Rattle.bec_disk.specs.Disk.{DiskState}
 use Rattle.bec_disk.specs.Slot.{slot}
 use Rattle.store_directory.specs.Holding.{OpenData, PutsStore}
-use Rattle.store_directory.proofs.Putting.{out_still, puts_store, told}
+use Rattle.key_directory.proofs.Putting.{out_still, told}
+use Rattle.store_directory.proofs.Putting.{puts_store}
 use Rattle.store_directory.proofs.store.put_store.Goals as goal
 
 pub put_back-requires : goal.put_back-requires

@@ -1,6 +1,7 @@
 use Rattle.bec_disk.specs.declared.part.Part.TheVariants.{Schema}
 use Rattle.bec_disk.specs.Slot.{slot}
-use Rattle.store_directory.proofs.Putting.{found, lets_store_go}
+use Rattle.key_directory.proofs.Putting.{found}
+use Rattle.store_directory.proofs.Putting.{lets_store_go}
 use Rattle.store_directory.proofs.store.take_store.Goals as goal
 
 pub returns-in-Err-clause-lets_go : goal.returns-in-Err-clause-lets_go

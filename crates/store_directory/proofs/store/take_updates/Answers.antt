@@ -3,7 +3,8 @@ use Rattle.bec_disk.specs.declared.part.Part.TheVariants.{Updates}
 use Rattle.bec_disk.specs.Disk.{DiskState}
 use Rattle.bec_disk.specs.Slot.{slot}
 use Rattle.replica.specs.Opening.{KeepsStore}
-use Rattle.store_directory.proofs.Putting.{found, lets_updates_go}
+use Rattle.key_directory.proofs.Putting.{found}
+use Rattle.store_directory.proofs.Putting.{lets_updates_go}
 use Rattle.store_directory.proofs.store.take_updates.Goals as goal
 
 pub returns-in-Err-clause-lets_go : goal.returns-in-Err-clause-lets_go

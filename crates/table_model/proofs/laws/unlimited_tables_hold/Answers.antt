@@ -1,4 +1,4 @@
-use Rattle.table_model.proofs.ShownFit.{unlimited_holds}
+use Rattle.table_model.proofs.Unlimited.{unlimited_holds}
 use Rattle.table_model.proofs.laws.unlimited_tables_hold.Goals as goal
 
 pub returns : goal.returns

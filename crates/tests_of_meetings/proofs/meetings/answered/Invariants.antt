@@ -1,5 +1,5 @@
 use Rattle.bec_disk.specs.Shelved.{shelf_of}
-use Rattle.store_directory.specs.Stores.{IsHome}
+use Rattle.key_directory.specs.Parts.{IsHome}
 use Rattle.tests_of_meetings.proofs.meetings.answered.Given as goal
 
 abbrev pub invariant-loop-number : goal.invariant-loop-number

@@ -6,7 +6,7 @@ use Rattle.history.proofs.Steps.{members_grown, same_history}
 use Rattle.history.proofs.history.History.add_batch.Goals as goal
 
 pub grow-requires-clause-unlimited : goal.grow-requires-clause-unlimited
-grow-requires-clause-unlimited g c κs within = c.accepted_is_unlimited.ensures (rules_with g.L.Relation.answer c.self.inside.schema.tables) c.self.invariant.is.taken.accepted
+grow-requires-clause-unlimited g c κs within = c.self.invariant.is.unlimited
 
 pub grow-requires-clause-views : goal.grow-requires-clause-views
 grow-requires-clause-views g c κs within = c.self.invariant.are
@@ -17,7 +17,7 @@ invariant_of-self g c =
     let checked = subst (λ (h : HistoryData). All (IsChecked h.schema.rule) c.args.batch.items) (sym c.self.view_is) c.requires in
     record {
       is = record {
-        taken = c.self.invariant.is.taken;
+        unlimited = c.self.invariant.is.unlimited;
         members = members_grown at.schema.rule at.graph c.args.batch.items c.grow.new.graph c.self.invariant.is.members checked c.grow.ensures.grown c.grow.ensures.closed c.grow.ensures.within;
       };
       are = c.grow.ensures.views;

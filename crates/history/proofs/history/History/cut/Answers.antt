@@ -1,7 +1,7 @@
 use Rattle.std.proofs.Common.{◌≤◌, ℕ, List, length, take, drop, sym, ap, subst, arith}
 use Rattle.std.proofs.lemmas.List.{length-take-le, take-append-drop}
 use Rattle.update_check.specs.Members.{AreMembers}
-use Rattle.replay.proofs.Arriving.{front_closed}
+use Rattle.history.proofs.Arriving.{front_closed}
 use Rattle.history.specs.Histories.{HistoryData}
 use Rattle.history.specs.Kept.{AreViewsOf}
 use Rattle.history.proofs.Fronts.{views_cut_back}
@@ -51,7 +51,7 @@ invariant_of-self g c =
     (subst (λ (n : ℕ). AreViewsOf ask at.schema at.graph n views) (sym (length-take-le len at.graph low)) are) in
     record {
       is = record {
-        taken = c.self.invariant.is.taken;
+        unlimited = c.self.invariant.is.unlimited;
         members = subst (AreMembers at.schema.rule) (sym c.cut-2.ensures) (members_cut at.schema.rule at.graph len c.self.invariant.is.members);
       };
       are = subst (λ (l : List (List ℕ)). AreViewsOf ask at.schema l (length l) views) (sym c.cut-2.ensures) back;

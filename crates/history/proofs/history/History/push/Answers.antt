@@ -6,7 +6,7 @@ use Rattle.history.proofs.Steps.{members_pushed, pushed_history, same_history, v
 use Rattle.history.proofs.history.History.push.Goals as goal
 
 pub grow_by_one-requires-clause-unlimited : goal.grow_by_one-requires-clause-unlimited
-grow_by_one-requires-clause-unlimited g c κs within = c.accepted_is_unlimited.ensures (rules_with g.L.Relation.answer c.self.inside.schema.tables) c.self.invariant.is.taken.accepted
+grow_by_one-requires-clause-unlimited g c κs within = c.self.invariant.is.unlimited
 
 pub grow_by_one-requires-clause-views : goal.grow_by_one-requires-clause-views
 grow_by_one-requires-clause-views g c κs within = c.self.invariant.are
@@ -17,7 +17,7 @@ invariant_of-self g c =
     let more = subst (λ (h : HistoryData). AreMembers h.schema.rule (h.members ++ c.args.update ∷ [])) (sym c.self.view_is) c.requires in
     record {
       is = record {
-        taken = c.self.invariant.is.taken;
+        unlimited = c.self.invariant.is.unlimited;
         members = members_pushed c.grow_by_one.result at.schema.rule at.graph c.grow_by_one.new.graph c.args.update more c.self.invariant.is.members c.grow_by_one.ensures.pushed c.grow_by_one.ensures.same;
       };
       are = c.grow_by_one.ensures.views;

@@ -2,8 +2,8 @@ use Rattle.std.proofs.Common.{◌∙◌, List, length, ap, subst, arith}
 use Rattle.update_model.specs.Node.{NodeData}
 use Rattle.table_model.specs.Visible.{rules_with}
 use Rattle.tuple_state.specs.State.{IsStateOf}
-use Rattle.replay.specs.Arrivals.{nodes_before}
-use Rattle.replay.proofs.Arriving.{length-before, length-nodes}
+use Rattle.history.specs.Arrivals.{nodes_before}
+use Rattle.history.proofs.Arriving.{length-before, length-nodes}
 use Rattle.history.proofs.Fronts.{newer_nodes, nodes_split}
 use Rattle.history.proofs.Steps.{heads_count, views_cut}
 use Rattle.history.proofs.views.Views.cut.Goals as goal

@@ -1,4 +1,4 @@
-use Rattle.std.proofs.Common.{ℕ, ◌≡◌, [], ◌∷◌, refl, sym, subst, arith, Result, Err, Ok}
+use Rattle.std.proofs.Common.{ℕ, ◌≡◌, [], ◌∷◌, refl, sym, subst, arith, Result, Err, Ok, Some}
 use Rattle.bec_disk.specs.Disk.{overwritten}
 use Rattle.key_index.specs.KeyState.{KeyState, store_of}
 use Rattle.key_index.specs.Reserving.{Reserves}
@@ -16,30 +16,30 @@ write_synced-requires g c tells =
 pub invariant_of-self-in_err-write_synced : goal.invariant_of-self-in_err-write_synced
 invariant_of-self-in_err-write_synced g c =
     let here = c.self.inside in
-    let old = store_of g.D.Disk.state g.D.Counted.faults here.key here.used here.secret here.indices in
-    let new = store_of g.D.Disk.state g.D.Counted.faults here.key c.write_synced.new.disk here.secret c.take_least.new.self in
+    let old : KeyState = record (store_of g.D.Disk.state g.D.Counted.faults here.key here.used here.secret here.indices) { tried = here.tried } in
+    let new : KeyState = record (store_of g.D.Disk.state g.D.Counted.faults here.key c.write_synced.new.disk here.secret c.take_least.new.self) { tried = Some c.in-Some.index } in
     let tried =
-    has_tried old new c.in-Some.index c.from.result c.self.invariant (g.met.D.Disk.reads here.used) c.in-Some.ensures.least c.in-Some.ensures.used
+    has_tried old new c.in-Some.index c.from.result c.self.invariant (g.met.D.Disk.reads here.used) c.in-Some.ensures.least c.in-Some.ensures.used refl
     c.from.ensures c.write_synced.ensures.any_moment c.write_synced.ensures.cause.later refl refl refl in
     still_store old new c.in-Some.index tried
 
 pub invariant_of-self-2 : goal.invariant_of-self-2
 invariant_of-self-2 g c =
     let here = c.self.inside in
-    let old = store_of g.D.Disk.state g.D.Counted.faults here.key here.used here.secret here.indices in
-    let new = store_of g.D.Disk.state g.D.Counted.faults here.key c.write_synced.new.disk here.secret c.take_least.new.self in
+    let old : KeyState = record (store_of g.D.Disk.state g.D.Counted.faults here.key here.used here.secret here.indices) { tried = here.tried } in
+    let new : KeyState = record (store_of g.D.Disk.state g.D.Counted.faults here.key c.write_synced.new.disk here.secret c.take_least.new.self) { tried = Some c.in-Some.index } in
     let tried =
-    has_tried old new c.in-Some.index c.from.result c.self.invariant (g.met.D.Disk.reads here.used) c.in-Some.ensures.least c.in-Some.ensures.used
+    has_tried old new c.in-Some.index c.from.result c.self.invariant (g.met.D.Disk.reads here.used) c.in-Some.ensures.least c.in-Some.ensures.used refl
     c.from.ensures c.write_synced.ensures.any_moment c.write_synced.ensures.cause.later refl refl refl in
     still_store old new c.in-Some.index tried
 
 pub returns-in_err-write_synced : goal.returns-in_err-write_synced
 returns-in_err-write_synced g c =
     let here = c.self.inside in
-    let old = store_of g.D.Disk.state g.D.Counted.faults here.key here.used here.secret here.indices in
-    let new = store_of g.D.Disk.state g.D.Counted.faults here.key c.write_synced.new.disk here.secret c.take_least.new.self in
+    let old : KeyState = record (store_of g.D.Disk.state g.D.Counted.faults here.key here.used here.secret here.indices) { tried = here.tried } in
+    let new : KeyState = record (store_of g.D.Disk.state g.D.Counted.faults here.key c.write_synced.new.disk here.secret c.take_least.new.self) { tried = Some c.in-Some.index } in
     let tried =
-    has_tried old new c.in-Some.index c.from.result c.self.invariant (g.met.D.Disk.reads here.used) c.in-Some.ensures.least c.in-Some.ensures.used
+    has_tried old new c.in-Some.index c.from.result c.self.invariant (g.met.D.Disk.reads here.used) c.in-Some.ensures.least c.in-Some.ensures.used refl
     c.from.ensures c.write_synced.ensures.any_moment c.write_synced.ensures.cause.later refl refl refl in
     subst (λ (r : Result ℕ Reserve). Reserves c.args.self.now r new) (sym (only_fault _ c.from_residual.ensures.0 c.from_residual.ensures.1))
     (subst (λ (k : KeyState). Reserves k (Err DiskFault) new) c.self.view_is (reserve_fails old new c.in-Some.index tried c.in_err-write_synced.ensures.cause.failed))
@@ -47,10 +47,10 @@ returns-in_err-write_synced g c =
 pub returns : goal.returns
 returns g c =
     let here = c.self.inside in
-    let old = store_of g.D.Disk.state g.D.Counted.faults here.key here.used here.secret here.indices in
-    let new = store_of g.D.Disk.state g.D.Counted.faults here.key c.write_synced.new.disk here.secret c.take_least.new.self in
+    let old : KeyState = record (store_of g.D.Disk.state g.D.Counted.faults here.key here.used here.secret here.indices) { tried = here.tried } in
+    let new : KeyState = record (store_of g.D.Disk.state g.D.Counted.faults here.key c.write_synced.new.disk here.secret c.take_least.new.self) { tried = Some c.in-Some.index } in
     let tried =
-    has_tried old new c.in-Some.index c.from.result c.self.invariant (g.met.D.Disk.reads here.used) c.in-Some.ensures.least c.in-Some.ensures.used
+    has_tried old new c.in-Some.index c.from.result c.self.invariant (g.met.D.Disk.reads here.used) c.in-Some.ensures.least c.in-Some.ensures.used refl
     c.from.ensures c.write_synced.ensures.any_moment c.write_synced.ensures.cause.later refl refl refl in
     subst (λ (k : KeyState). Reserves k (Ok c.in-Some.index) new) c.self.view_is
     (reserve_answers old new c.in-Some.index tried

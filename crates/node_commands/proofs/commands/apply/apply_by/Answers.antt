@@ -1,6 +1,6 @@
 use Rattle.std.proofs.Common.{subst}
 use Rattle.std.proofs.lemmas.Result.{err_from_is_err_and}
-use Rattle.schema.specs.Schemas.{SchemaData}
+use Rattle.schema.specs.Data.{SchemaData}
 use Rattle.node_commands.specs.Signing.{StopsReading, TakesText}
 use Rattle.node_commands.proofs.Signs.{apply_asked, apply_stopped}
 use Rattle.node_commands.proofs.commands.apply.apply_by.Goals as goal

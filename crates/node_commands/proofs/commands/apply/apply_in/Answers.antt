@@ -2,8 +2,8 @@ use Rattle.std.proofs.Common.{Err, ap, refl, subst, sym}
 use Rattle.std.proofs.lemmas.Result.{err_from_is_err_and}
 use Rattle.row_check.specs.Checksum.{is_luhn}
 use Rattle.store_directory.specs.Holding.{OpenData, TakesStore}
-use Rattle.node_commands.specs.Comes.{is_done}
-use Rattle.node_commands.specs.Signing.{ApplyAnswer, IsSourceFault}
+use Rattle.outcomes.specs.Comes.{is_done, IsSourceFault}
+use Rattle.node_commands.specs.Signing.{ApplyAnswer}
 use Rattle.node_commands.proofs.Signs.{signs_stored, signs_storeless, store_disks}
 use Rattle.node_commands.proofs.commands.apply.apply_in.Goals as goal
 

@@ -1,6 +1,7 @@
 use Rattle.std.proofs.Common.{Err, ap, refl}
 use Rattle.std.proofs.lemmas.Result.{err_from_is_err_and}
-use Rattle.node_commands.specs.Signing.{ApplyAnswer, IsSourceFault}
+use Rattle.node_commands.specs.Signing.{ApplyAnswer}
+use Rattle.outcomes.specs.Comes.{IsSourceFault}
 use Rattle.node_commands.proofs.Signs.{key_disks, signs_keyed, signs_keyless}
 use Rattle.node_commands.proofs.commands.apply.apply_to.Goals as goal
 

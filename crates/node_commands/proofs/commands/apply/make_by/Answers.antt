@@ -3,10 +3,10 @@ use Rattle.std.proofs.lemmas.Result.{err_from_is_err_and}
 use Rattle.store_directory.proofs.Signing.{tried_by}
 use Rattle.lms_tree.specs.SecretKey.{SecretData}
 use Rattle.update_model.specs.declared.update_id.UpdateId.{UpdateId}
-use Rattle.node_commands.specs.declared.refusal.Refusal.{Refusal}
-use Rattle.node_commands.specs.Outcome.{from_make}
+use Rattle.outcomes.specs.declared.refusal.Refusal.{Refusal}
+use Rattle.outcomes.specs.Outcome.{from_make}
 use Rattle.node_commands.specs.Signing.{IsNoStop, MakeAnswer, SignsOpen}
-use Rattle.node_commands.specs.StoreAnswers.{next_bytes}
+use Rattle.outcomes.specs.StoreAnswers.{next_bytes}
 use Rattle.node_commands.proofs.Signs.{makes, makes_not, same_secret, signs_nothing}
 use Rattle.node_commands.proofs.commands.apply.make_by.Goals as goal
 

@@ -3,9 +3,10 @@ use Rattle.std.proofs.lemmas.Result.{err_from_is_err_and}
 use Rattle.replica.specs.Replicas.{ReplicaState}
 use Rattle.store_directory.specs.Holding.{OpenData}
 use Rattle.store_directory.proofs.Working.{store_of}
-use Rattle.node_commands.specs.Standing.{Stands}
-use Rattle.node_commands.specs.StoreAnswers.{Printing, ShowsRecords}
-use Rattle.node_commands.proofs.Reading.{put_slots, read_answered, read_lacked, read_refused}
+use Rattle.outcomes.specs.Standing.{Stands}
+use Rattle.outcomes.specs.StoreAnswers.{Printing}
+use Rattle.node_commands.specs.Shows.{ShowsRecords}
+use Rattle.outcomes.proofs.Reading.{put_slots, read_answered, read_lacked, read_refused}
 use Rattle.node_commands.proofs.commands.export.export_in.Goals as goal
 
 pub put_store-requires-clause-schema_of : goal.put_store-requires-clause-schema_of

@@ -1,7 +1,7 @@
 use Rattle.std.proofs.Common.{◌∙◌, ◌++◌, ◌<◌, ◌^◌, ℕ, List, ap, append-nil, length, subst, sym}
 use Rattle.bec_bytes.specs.Framed.{framed}
 use Rattle.bec_bytes.proofs.Frames.{stream_of-nil}
-use Rattle.node_commands.proofs.Reading.{member_short, one_record}
+use Rattle.node_commands.proofs.Records.{member_short, one_record}
 use Rattle.node_commands.proofs.commands.export.push_records.Goals as goal
 
 pub loop-position-init : goal.loop-position-init

@@ -1,5 +1,5 @@
 use Rattle.std.proofs.Common.{◌≡◌, take}
-use Rattle.node_commands.specs.Texts.{printed}
+use Rattle.outcomes.specs.Texts.{printed}
 use Rattle.node_commands.proofs.commands.heads.heads_text.Given as goal
 
 abbrev pub invariant-loop-id : goal.invariant-loop-id

@@ -2,7 +2,7 @@ use Rattle.std.proofs.Common.{◌∙◌, ap}
 use Rattle.std.proofs.lemmas.Result.{err_from_is_err_and}
 use Rattle.head_set.specs.Present.{present}
 use Rattle.node_commands.specs.Heads.{done}
-use Rattle.node_commands.specs.Texts.{printed}
+use Rattle.outcomes.specs.Texts.{printed}
 use Rattle.node_commands.proofs.Answering.{heads_refused}
 use Rattle.node_commands.proofs.commands.heads.stream_heads.Goals as goal
 

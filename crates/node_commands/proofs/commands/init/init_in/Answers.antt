@@ -5,16 +5,17 @@ use Rattle.bec_disk.specs.declared.part.Part.TheVariants.{Schema, Updates}
 use Rattle.update_model.specs.Rule.{RuleData}
 use Rattle.confluence_test.specs.Taking.{TakesSchema}
 use Rattle.store_directory.specs.Holding.{OpenData}
-use Rattle.store_directory.specs.Making.{IsNewStoreCause, LetsNewGo, MakesStore}
-use Rattle.store_directory.specs.Stores.{IsNoStore, part_in, reading}
-use Rattle.node_commands.specs.Comes.{readings}
-use Rattle.node_commands.specs.Creating.{HasSchema}
-use Rattle.node_commands.specs.StoreAnswers.{next_bytes}
+use Rattle.outcomes.specs.Comes.{readings}
+use Rattle.outcomes.specs.Parts.{HasSchema}
+use Rattle.outcomes.specs.StoreAnswers.{next_bytes}
+use Rattle.key_directory.specs.Parts.{LetsNewGo, part_in, reading}
+use Rattle.store_directory.specs.Making.{IsNewStoreCause, MakesStore}
+use Rattle.store_directory.specs.Stores.{IsNoStore}
 use Rattle.schema_verdict.specs.Inputs.{ReadsText}
-use Rattle.node_commands.specs.Outside.{outside}
-use Rattle.node_commands.specs.Standing.{Stands}
-use Rattle.node_commands.specs.Texts.{database_text}
-use Rattle.node_commands.proofs.Answering.{rose_later}
+use Rattle.outcomes.specs.Outside.{outside}
+use Rattle.outcomes.specs.Standing.{Stands}
+use Rattle.outcomes.specs.Texts.{database_text}
+use Rattle.outcomes.proofs.Saying.{rose_later}
 use Rattle.node_commands.proofs.NewStores.{init_lacked, init_made, init_not_made, init_refused, init_there, init_unlooked, init_unread, made_slots}
 use Rattle.node_commands.proofs.commands.init.init_in.Goals as goal
 

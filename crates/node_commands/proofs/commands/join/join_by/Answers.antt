@@ -3,10 +3,10 @@ use Rattle.std.proofs.lemmas.Result.{err_from_is_err_and}
 use Rattle.lms_tree.specs.SecretKey.{SecretData}
 use Rattle.replica.specs.Making.{IsJoinCause, JoinsTo}
 use Rattle.store_directory.proofs.Signing.{tried_by_joining}
-use Rattle.node_commands.specs.declared.refusal.Refusal.{Refusal}
-use Rattle.node_commands.specs.Outcome.{from_make}
+use Rattle.outcomes.specs.declared.refusal.Refusal.{Refusal}
+use Rattle.outcomes.specs.Outcome.{from_make}
 use Rattle.node_commands.specs.Signing.{IsNoStop, JoinAnswer, SignsOpen}
-use Rattle.node_commands.specs.StoreAnswers.{next_bytes}
+use Rattle.outcomes.specs.StoreAnswers.{next_bytes}
 use Rattle.node_commands.proofs.Signs.{joins_not, joins_to, same_secret, signs_nothing}
 use Rattle.node_commands.proofs.commands.join.join_by.Goals as goal
 

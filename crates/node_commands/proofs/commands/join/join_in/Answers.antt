@@ -2,7 +2,7 @@ use Rattle.std.proofs.Common.{Err, ap, refl, subst, sym}
 use Rattle.std.proofs.lemmas.Result.{err_from_is_err_and}
 use Rattle.row_check.specs.Checksum.{is_luhn}
 use Rattle.store_directory.specs.Holding.{OpenData, TakesStore}
-use Rattle.node_commands.specs.Comes.{is_done}
+use Rattle.outcomes.specs.Comes.{is_done}
 use Rattle.node_commands.specs.Signing.{IsNoStop, JoinAnswer}
 use Rattle.node_commands.proofs.Signs.{signs_stored, signs_storeless, store_disks}
 use Rattle.node_commands.proofs.commands.join.join_in.Goals as goal

@@ -1,7 +1,7 @@
 use Rattle.std.proofs.Common.{◌∙◌, ◌++◌, ℕ, List, ap, refl, rules}
 use Rattle.std.proofs.lemmas.Result.{err_from_is_err_and}
 use Rattle.key_index.specs.Creating.{drawn_key}
-use Rattle.node_commands.specs.Texts.{key_text}
+use Rattle.outcomes.specs.Texts.{key_text}
 use Rattle.node_commands.proofs.NewKeys.{key_lacked, key_made, key_refused, key_slots, key_unasked}
 use Rattle.node_commands.proofs.commands.keygen.keygen_in.Goals as goal
 

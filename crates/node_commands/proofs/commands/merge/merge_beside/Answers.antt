@@ -2,7 +2,8 @@ use Rattle.std.proofs.Common.{Err, ap, refl, subst, sym}
 use Rattle.std.proofs.lemmas.Result.{err_from_is_err_and}
 use Rattle.row_check.specs.Checksum.{is_luhn}
 use Rattle.store_directory.specs.Holding.{OpenData, TakesStore}
-use Rattle.node_commands.proofs.Merging.{beside_none, beside_taken, disks_of, second_kept}
+use Rattle.node_commands.proofs.Merging.{beside_none, beside_taken, second_kept}
+use Rattle.outcomes.proofs.Around.{disks_of}
 use Rattle.node_commands.proofs.commands.merge.merge_beside.Goals as goal
 
 pub put_store-requires-clause-schema_of : goal.put_store-requires-clause-schema_of

@@ -2,7 +2,8 @@ use Rattle.std.proofs.Common.{IsTrue, List, ℕ, true, false, Ok, Err, inl, inr,
 use Rattle.std.proofs.lemmas.Bool.{true≢false}
 use Rattle.std.proofs.lemmas.Result.{err_from_is_err_and}
 use Rattle.session_rules.specs.declared.end.End.TheVariants.{Done, Store}
-use Rattle.node_commands.specs.Merging.{RemembersIn, done, full, memory_in, peer}
+use Rattle.outcomes.specs.Remembering.{RemembersIn, memory_in}
+use Rattle.node_commands.specs.Merging.{done, full, peer}
 use Rattle.node_commands.proofs.Meeting.{KeepsBoth, ReadsBoth, Shelved, both_kept, both_read, is_done_end, is_store_end, meets, merges_open, met_by, open_stopped, peers_fault, shelved_first, shelved_none, shelved_second, told_apart}
 use Rattle.node_commands.proofs.commands.merge.merge_open.Goals as goal
 

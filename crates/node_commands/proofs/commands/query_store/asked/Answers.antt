@@ -3,7 +3,7 @@ use Rattle.std.specs.declared.alloc.Global.{Global}
 use Rattle.std.specs.declared.alloc.AllocError.{AllocError}
 use Rattle.std.proofs.lemmas.Result.{err_from_is_err_and}
 use Rattle.row_check.specs.Checksum.{is_luhn}
-use Rattle.schema.specs.Schemas.{SchemaData}
+use Rattle.schema.specs.Data.{SchemaData}
 use Rattle.table_model.specs.Visible.{rules_with}
 use Rattle.tuple_state.specs.State.{IsStateOf}
 use Rattle.update_model.specs.Node.{NodeData}
@@ -12,10 +12,10 @@ use Rattle.query.specs.Queries.{Reads}
 use Rattle.query_answer.specs.Answers.{IsAnswerOver, data_of}
 use Rattle.query_answer.specs.Json.{json_text}
 use Rattle.query_answer.specs.Lines.{lines_text}
-use Rattle.node_commands.specs.declared.refusal.Refusal.{Refusal}
+use Rattle.outcomes.specs.declared.refusal.Refusal.{Refusal}
 use Rattle.node_commands.specs.Asking.{answers}
-use Rattle.node_commands.specs.Bundle.{nodes_of}
-use Rattle.node_commands.specs.Merging.{opened_store}
+use Rattle.outcomes.specs.Rules.{nodes_of}
+use Rattle.outcomes.specs.OpenStores.{opened_store}
 use Rattle.node_commands.proofs.Asking.{has_answer, query_refused}
 use Rattle.node_commands.proofs.commands.query_store.asked.Goals as goal
 use Rattle.node_commands.proofs.commands.query_store.asked.Goals.{then-json, else-json}

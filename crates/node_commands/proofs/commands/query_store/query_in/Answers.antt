@@ -2,13 +2,13 @@ use Rattle.std.proofs.Common.{◌≡◌, ◌⊎◌, inl, inr, Err, ap, subst}
 use Rattle.std.proofs.lemmas.Result.{err_from_is_err_and}
 use Rattle.replica.specs.Replicas.{ReplicaState}
 use Rattle.store_directory.specs.Holding.{OpenData}
-use Rattle.node_commands.specs.declared.refusal.Refusal.TheVariants.{Memory}
+use Rattle.outcomes.specs.declared.refusal.Refusal.TheVariants.{Memory}
 use Rattle.node_commands.specs.Asking.{QueryAnswer}
-use Rattle.node_commands.specs.Comes.{ReadsShelf}
-use Rattle.node_commands.specs.Merging.{opened_store}
-use Rattle.node_commands.specs.Standing.{Stands}
-use Rattle.node_commands.specs.StoreAnswers.{ReadsStore}
-use Rattle.node_commands.proofs.Reading.{put_slots, read_answered, read_lacked, read_refused}
+use Rattle.outcomes.specs.Comes.{ReadsShelf}
+use Rattle.outcomes.specs.OpenStores.{opened_store}
+use Rattle.outcomes.specs.Standing.{Stands}
+use Rattle.outcomes.specs.StoreAnswers.{ReadsStore}
+use Rattle.outcomes.proofs.Reading.{put_slots, read_answered, read_lacked, read_refused}
 use Rattle.node_commands.proofs.commands.query_store.query_in.Goals as goal
 
 pub put_store-requires-clause-schema_of : goal.put_store-requires-clause-schema_of

@@ -1,5 +1,5 @@
 use Rattle.std.proofs.Common.{sym, subst}
-use Rattle.expression_text.specs.Kinds.{FitsKinds}
+use Rattle.row_check.specs.Kinds.{FitsKinds}
 use Rattle.query.specs.Columns.{seen_kinds}
 use Rattle.query.specs.Data.{ConditionData}
 use Rattle.query.proofs.condition.Condition.holds.Goals as goal

@@ -10,7 +10,7 @@ use Rattle.update_model.specs.Form.{AreRising, IsBody}
 use Rattle.update_model.specs.Graph.{holds}
 use Rattle.update_model.specs.Rule.{IsListed, RuleData}
 use Rattle.update_codec.specs.Parts.{entry_of}
-use Rattle.schema.specs.Schemas.{SchemaData}
+use Rattle.schema.specs.Data.{SchemaData}
 use Rattle.lms_tree.specs.SecretKey.{public_key}
 use Rattle.replica.specs.Making.{AddsMade, AfterLeastHeads, IsAddCause, IsJoinCause, IsSignCause, Joins, body_by}
 use Rattle.replica.specs.Replicas.{ReplicaState}

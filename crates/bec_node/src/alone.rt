@@ -1,0 +1,106 @@
+//! The commands without a net, by the words of a command line.
+
+ghost use Rattle.std.specs.Prelude.{IsTrue};
+ghost use Rattle.bec_node.specs.RunAlone.{NamesApart, Comes, Runs};
+ghost use Rattle.outcomes.specs.Outside.{outside};
+ghost use Rattle.command_words.specs.Seen.{request_seen};
+ghost use Rattle.key_directory.specs.Parts.{IsHome};
+
+use bec_bytes::{Sink, Source};
+use bec_disk::Shelf;
+use command_words::{Request, one_request, request_in};
+use node_commands::{
+    apply_in, bundle_tables, dump_in, export_in, heads_in, init_in, join_in, keygen_in, merge_in,
+    one_answer, one_answer_of_makers, one_answer_of_merge, one_answer_of_parts, query_in,
+    stream_heads, verdict,
+};
+use outcomes::status::OUT_OF_MEMORY;
+use outcomes::{Refusal, finish, no_command};
+use rand_core::Rng;
+use record_check::Verifier;
+use std::alloc::Global;
+
+/// Does what the words of a command line ask for without a net, over a shelf of directories, a generator of random words, a
+/// source and a sink, and answers the exit status. No part of the shelf may be handed out, and none is afterwards. Words that
+/// ask for something over a net are no command here.
+///
+/// Words that ask for something come to an outcome: it is done and prints a text, or it is refused, and why is printed. Each
+/// outcome has its cause in the words, in what the source has left and in what the parts of a directory read as; only where
+/// the source or the shelf failed, or memory ran out, another one comes in its place. The outcome is written whole, with its status; or the sink failed, and a front of it is
+/// written, with the status of a stream fault.
+pub fn run_alone<V: Verifier, H: Shelf, R: Rng, S: Source, K: Sink>(
+    verifier: &V,
+    alloc: Global,
+    words: &[String],
+    shelf: &mut H,
+    random: &mut R,
+    input: &mut S,
+    out: &mut K,
+) -> u8
+    requires { IsTrue (H.state shelf.old).tells → IsHome (H.state shelf.old) }
+    ensures { Runs words.now
+        (outside S.left S.faults H.state H.faults R.stream input.old shelf.old random.old) (outside S.left S.faults H.state H.faults R.stream input.new shelf.new random.new)
+        (record { held = K.held out.old; faults = K.faults out.old }) (record { held = K.held out.new; faults = K.faults out.new }) result }
+{
+    one_answer();
+    one_answer_of_makers();
+    one_answer_of_merge();
+    one_answer_of_parts();
+    one_request();
+    let Ok(asked) = request_in(alloc, words) else {
+        return OUT_OF_MEMORY;
+    };
+    let Some(request) = asked else {
+        return no_command(out);
+    };
+    let outcome = outcome_of(verifier, alloc, &request, shelf, random, input);
+    finish(alloc, out, outcome)
+}
+
+/// What a request comes to.
+fn outcome_of<V: Verifier, H: Shelf, R: Rng, S: Source>(
+    verifier: &V,
+    alloc: Global,
+    request: &Request,
+    shelf: &mut H,
+    random: &mut R,
+    input: &mut S,
+) -> Result<Vec<u8>, Refusal>
+    requires home { IsTrue (H.state shelf.old).tells → IsHome (H.state shelf.old) }
+    requires apart { NamesApart (request_seen request.now) }
+    ensures { Comes (request_seen request.now) (outside S.left S.faults H.state H.faults R.stream input.old shelf.old random.old)
+        (outside S.left S.faults H.state H.faults R.stream input.new shelf.new random.new) result }
+{
+    match request {
+        Request::Heads { directory: None } => stream_heads(alloc, input),
+        Request::Heads {
+            directory: Some(directory),
+        } => heads_in(verifier, alloc, shelf, directory),
+        Request::Check => verdict(alloc, input),
+        Request::Dump {
+            directory: None,
+            json,
+        } => bundle_tables(alloc, input, *json),
+        Request::Dump {
+            directory: Some(directory),
+            json,
+        } => dump_in(verifier, alloc, shelf, directory, *json),
+        Request::Init { directory } => init_in(alloc, shelf, directory, random, input),
+        Request::Keygen {
+            directory,
+            height,
+            width,
+        } => keygen_in(alloc, shelf, directory, *height, *width, random),
+        Request::Apply { directory } => apply_in(verifier, alloc, shelf, directory, random, input),
+        Request::Join { directory } => join_in(verifier, alloc, shelf, directory, random),
+        Request::Export { directory, updates } => export_in(
+            verifier, alloc, shelf, directory, *updates,
+        ),
+        Request::Query {
+            directory,
+            text,
+            json,
+        } => query_in(verifier, alloc, shelf, directory, text, *json),
+        Request::Merge { first, second } => merge_in(verifier, alloc, shelf, first, second),
+    }
+}

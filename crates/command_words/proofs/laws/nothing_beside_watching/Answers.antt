@@ -1,0 +1,12 @@
+use Rattle.std.proofs.Common.{◌∙◌, arith, sym}
+use Rattle.command_words.proofs.Families.{of_alone, of_audits, of_net, of_watching}
+use Rattle.command_words.proofs.laws.nothing_beside_watching.Goals as goal
+
+pub returns-clause-alone : goal.returns-clause-alone
+returns-clause-alone c = λ words request other here there. let same = sym (of_alone words request here) ∙ of_watching words other there in absurd (omega (arith, same))
+
+pub returns-clause-over_net : goal.returns-clause-over_net
+returns-clause-over_net c = λ words request other here there. let same = sym (of_net words request here) ∙ of_watching words other there in absurd (omega (arith, same))
+
+pub returns-clause-audited : goal.returns-clause-audited
+returns-clause-audited c = λ words request other here there. let same = sym (of_audits words request here) ∙ of_watching words other there in absurd (omega (arith, same))

@@ -1,0 +1,2 @@
+pub mod Confluence
+pub mod Examples

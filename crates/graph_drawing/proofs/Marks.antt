@@ -1,0 +1,38 @@
+-- Maps that are filled from the end of a list.
+use Rattle.std.proofs.Common.{◌≡◌, ℕ, suc, ◌<◌, ◌≤◌, ◌-◌, Bool, true, false, cond, ◌||◌, List, ◌∷◌, length, drop, get_or, refl, sym, ◌∙◌, ap, arith, Some, option_map, find}
+use Rattle.std.specs.BTreeMap.{get, BTreeMap, Updates}
+use Rattle.std.specs.Option.{is_some}
+use Rattle.std.proofs.Math.Seq.{drop-cons}
+use Rattle.update_model.specs.declared.update_id.UpdateId.{UpdateId}
+use Rattle.update_model.specs.Entry.{id_cmp, same_id}
+use Rattle.table_model.specs.declared.void_line.VoidLine.{VoidLine}
+use Rattle.graph_drawing.specs.Boxes.{is_head, reason_of}
+
+-- what is left of a list, one step further to its front
+from_before : {X : Type 0} (l : List X) (p : ℕ) (d : X) → 0 < p → p ≤ length l → drop (p - 1) l ≡ get_or l (p - 1) d ∷ drop p l
+from_before l p d some within =
+    let low : p - 1 < length l = omega (arith, some, within) in
+    let next : suc (p - 1) ≡ p = omega (arith, some) in
+    drop-cons l (p - 1) d low ∙ ap (λ k. get_or l (p - 1) d ∷ drop k l) next
+
+-- one more head is known
+pub heads_next : (heads : List UpdateId) (p : ℕ) (d : UpdateId) (before after : BTreeMap UpdateId (Unit {0})) → 0 < p → p ≤ length heads
+    → ((id : UpdateId) → is_some (get id_cmp before id) ≡ is_head (drop p heads) id) → Updates id_cmp before after (get_or heads (p - 1) d) (Some tt)
+    → (id : UpdateId) → is_some (get id_cmp after id) ≡ is_head (drop (p - 1) heads) id
+heads_next heads p d before after some within known updates id =
+    ap is_some (updates.0 id) ∙ by (same_id (get_or heads (p - 1) d) id) ∙ sym (ap (λ l. is_head l id) (from_before heads p d some within))
+  where
+    by : (b : Bool) → is_some (cond b (Some tt) (get id_cmp before id)) ≡ (b || is_head (drop p heads) id)
+    by true = refl
+    by false = known id
+
+-- one more reason is known
+pub reasons_next : (voids : List VoidLine) (p : ℕ) (d : VoidLine) (before after : BTreeMap UpdateId ℕ) → 0 < p → p ≤ length voids
+    → ((id : UpdateId) → get id_cmp before id ≡ reason_of (drop p voids) id) → Updates id_cmp before after (get_or voids (p - 1) d).id (Some (get_or voids (p - 1) d).reason)
+    → (id : UpdateId) → get id_cmp after id ≡ reason_of (drop (p - 1) voids) id
+reasons_next voids p d before after some within known updates id =
+    updates.0 id ∙ by (same_id (get_or voids (p - 1) d).id id) ∙ sym (ap (λ l. reason_of l id) (from_before voids p d some within))
+  where
+    by : (b : Bool) → cond b (Some (get_or voids (p - 1) d).reason) (get id_cmp before id) ≡ option_map (λ (line : VoidLine). line.reason) (cond b (Some (get_or voids (p - 1) d)) (find (λ (line : VoidLine). same_id line.id id) (drop p voids)))
+    by true = refl
+    by false = known id

@@ -1,0 +1,4 @@
+pub mod Doubles
+pub mod Entries
+pub mod Pairs
+pub mod Walk

@@ -1,0 +1,8 @@
+pub mod Handing
+pub mod Made
+pub mod Making
+pub mod Places
+pub mod Putting
+pub mod Readings
+pub mod Signing
+pub mod TakingKeys

@@ -1,0 +1,5 @@
+pub mod Differing
+pub mod Following
+pub mod Refreshing
+pub mod Rising
+pub mod Those

@@ -1,0 +1,7 @@
+pub mod Concluding
+pub mod Dialling
+pub mod Open
+pub mod OpenServing
+pub mod Remembering
+pub mod Serving
+pub mod Sharing

@@ -1,0 +1,282 @@
+-- A store that is open while it meets others, and how it is put back.
+use Rattle.std.proofs.Common.{◌≡◌, ◌≢◌, ◌⊎◌, inl, inr, ℕ, ◌<◌, ◌≤◌, false, List, [], refl, sym, ap, subst, ◌∙◌, IsTrue, Some, Ok, Err, Result, arith}
+use Rattle.std.proofs.lemmas.Bool.{true≢false}
+use Rattle.sha2.specs.Sha256.{sha256}
+use Rattle.row_check.specs.Checksum.{is_luhn}
+use Rattle.bec_bytes.specs.Causes.{Rose}
+use Rattle.bec_disk.specs.declared.part.Part.TheVariants.{Peers}
+use Rattle.bec_disk.specs.Shelf.{PartState, ShelfState, out}
+use Rattle.bec_disk.specs.Slot.{slot}
+use Rattle.bec_links.specs.Nets.{NetState}
+use Rattle.peer_memory.specs.declared.peer.Peer.{Peer as PeerEntry}
+use Rattle.peer_memory.specs.Payload.{Reads}
+use Rattle.replica.specs.Replicas.{ReplicaState}
+use Rattle.store_directory.specs.declared.store_refusal.StoreRefusal.{StoreRefusal}
+use Rattle.store_directory.specs.declared.store_refusal.StoreRefusal.TheVariants as store_refusals
+use Rattle.store_directory.specs.Holding.{IsStoreCause, LetsGo, OpenData, PutsStore, TakesStore}
+use Rattle.key_directory.specs.Parts.{IsHome, KeepsAllBut, part_in}
+use Rattle.store_directory.specs.Stores.{HoldsRun}
+use Rattle.key_directory.proofs.Putting.{told}
+use Rattle.store_directory.proofs.Readings.{OneSchema}
+use Rattle.store_directory.proofs.Working.{held_run, holds_run, read_before, store_of}
+use Rattle.session_server.specs.declared.ending.Ending.TheVariants as endings
+use Rattle.session_server.specs.declared.served.Served.{Served}
+use Rattle.session_rules.specs.declared.role.Role.TheVariants.{Initiator}
+use Rattle.session_server.specs.Serving.{Ran}
+use Rattle.session_server.specs.Sessions.{IsSession}
+use Rattle.outcomes.specs.declared.refusal.Refusal.{Refusal}
+use Rattle.outcomes.specs.declared.refusal.Refusal.TheVariants as refusals
+use Rattle.outcomes.specs.Comes.{readings}
+use Rattle.outcomes.specs.Remembering.{IsPeersFault, KeepsPeers, memory_in, touched}
+use Rattle.outcomes.specs.OpenStores.{opened_store}
+use Rattle.outcomes.specs.Outcome.{from_store}
+use Rattle.outcomes.specs.Standing.{Stands}
+use Rattle.outcomes.specs.StoreAnswers.{bad_store, no_store}
+use Rattle.outcomes.proofs.Around.{closing_told, of_peers, of_store, opened_told, places_around, same_memory}
+use Rattle.net_commands.specs.Meetings.{Dials, HandsNone, IsMeetingFault, Meets, SyncAnswer, SyncsStore, handed, met, no_meeting, not_asked, refused}
+use Rattle.outcomes.specs.Told.{Told, told_done}
+use Rattle.net_commands.specs.Open.{Concludes, ConcludesAs, HoldsSession, KeepsGrowing, MeetsBy, MeetsOpen, SyncsOpen, held, no_memory, not_dialled}
+use Rattle.net_commands.proofs.Sharing.{grows_none, grows_then, holds_grown, passes_by}
+
+-- ---- the part Peers
+
+pub keeps_peers_then : (dir : List ℕ) (before mid after : ShelfState) → KeepsPeers dir before mid → KeepsPeers dir mid after → KeepsPeers dir before after
+keeps_peers_then dir before mid after a b = record {
+  tells = b.tells ∙ a.tells;
+  others = λ tells other away. b.others (on tells) other away ∙ a.others tells other away;
+  places = λ tells place here. b.places (on tells) place (a.places tells place here);
+}
+  where
+    on : IsTrue before.tells → IsTrue mid.tells
+    on tells = told before.tells mid.tells a.tells tells
+
+-- while the store of a directory is taken, its peers are in their place
+pub peers_home : (dir : List ℕ) (before opened : ShelfState) (taken : OpenData) → (IsTrue before.tells → IsHome before) → TakesStore is_luhn before dir taken opened → IsTrue opened.tells → part_in opened dir Peers ≢ out
+peers_home dir before opened taken home takes tells =
+    subst (λ (p : PartState). p ≢ out) (sym (takes.others (slot dir Peers) refl)) (home (told opened.tells before.tells (sym takes.tells) tells) (slot dir Peers))
+
+-- ---- where it did not come to a session
+
+module _ (dir address : List ℕ) (before after : ShelfState) (net net_new : NetState) (faults faults_new net_faults net_faults_new : ℕ) (old now : ReplicaState) (keeps : KeepsPeers dir before after) (later : faults ≤ faults_new) where
+  -- want of memory
+  pub open_memory : Dials net net_new → KeepsGrowing old now → Stands now → SyncsOpen dir address before after net net_new faults faults_new net_faults net_faults_new old now (Err refusals.Memory)
+  open_memory dials grows stands = record {
+    added = grows.added;
+    holds = holds_grown old now false grows stands (λ is. absurd (true≢false (sym is)));
+    comes = inr (inl refl);
+    dials = dials;
+    keeps = keeps;
+    later = later;
+    store_fault = λ is. absurd (cc (is));
+    stream_fault = λ is. absurd (cc (is));
+  }
+
+  -- the net handed no link out
+  pub open_undialled : HandsNone net net_new → Rose net_faults net_faults_new → KeepsGrowing old now → Stands now
+      → SyncsOpen dir address before after net net_new faults faults_new net_faults net_faults_new old now (Err refusals.Stream)
+  open_undialled none rose grows stands = record {
+    added = grows.added;
+    holds = holds_grown old now false grows stands (λ is. absurd (true≢false (sym is)));
+    comes = inr (inr (inr refl));
+    dials = refused none;
+    keeps = keeps;
+    later = later;
+    store_fault = λ is. absurd (cc (is));
+    stream_fault = λ is. rose;
+  }
+
+-- what is remembered of peers was not read
+pub open_stopped : (dir address : List ℕ) (before after : ShelfState) (net : NetState) (faults faults_new net_faults : ℕ) (replica : ReplicaState) (refusal : Refusal) → KeepsPeers dir before after → faults ≤ faults_new → Stands replica
+    → IsPeersFault faults faults_new refusal → SyncsOpen dir address before after net net faults faults_new net_faults net_faults replica replica (Err refusal)
+open_stopped dir address before after net faults faults_new net_faults replica refusal keeps later stands (inl memory) =
+    subst (λ (r : Refusal). SyncsOpen dir address before after net net faults faults_new net_faults net_faults replica replica (Err r)) (sym memory)
+    (open_memory dir address before after net net faults faults_new net_faults net_faults replica replica keeps later (not_asked refl) (grows_none replica) stands)
+open_stopped dir address before after net faults faults_new net_faults replica refusal keeps later stands (inr (is, rose)) =
+    subst (λ (r : Refusal). SyncsOpen dir address before after net net faults faults_new net_faults net_faults replica replica (Err r)) (sym is)
+    (record {
+      added = (grows_none replica).added;
+      holds = holds_grown replica replica false (grows_none replica) stands (λ e. absurd (true≢false (sym e)));
+      comes = inr (inr (inl refl));
+      dials = not_asked refl;
+      keeps = keeps;
+      later = later;
+      store_fault = λ status. inl rose;
+      stream_fault = λ status. absurd (cc (status));
+    })
+
+-- ---- where it came to a session
+
+module _ (dir address : List ℕ) (before mid after : ShelfState) (net net_new : NetState) (faults between faults_new net_faults net_faults_new : ℕ) (old ended now : ReplicaState)
+    (peers : List PeerEntry) (name : List ℕ) (ran : Ran) (served : Served) (answer : Told) where
+  pub open_met : KeepsPeers dir before mid → (IsTrue before.tells → Reads (memory_in before dir) peers) → (IsTrue before.tells → memory_in mid dir ≡ memory_in before dir) → faults ≤ between
+      → name ≡ sha256 address → KeepsGrowing old ended → served ≡ ran.served → HoldsSession peers name net net_new net_faults net_faults_new old ended ran
+      → Concludes dir mid after between faults_new ended now peers name served answer → Stands now
+      → SyncsOpen dir address before after net net_new faults faults_new net_faults net_faults_new old now answer
+  open_met keeps reads same one_later is_name grew is_served holds concludes stands = record {
+    added = whole.added;
+    holds = holds_grown old now (told_done answer) whole stands concludes.clean;
+    comes = by concludes.comes;
+    dials = handed ran holds.handed;
+    keeps = keeps_peers_then dir before mid after keeps concludes.keeps;
+    later = let two = concludes.later in omega (arith, one_later, two);
+    store_fault = λ is. from (concludes.store_fault is);
+    stream_fault = λ is. holds.broken (sym (ap (λ (s : Served). s.ending) is_served) ∙ concludes.stream_fault is);
+  }
+    where
+      whole : KeepsGrowing old now
+      whole = grows_then old ended now grew concludes.grows
+
+      from : (served.ending ≡ endings.Store) ⊎ (Rose between faults_new ⊎ (0 < now.log.faults)) → Rose faults faults_new ⊎ (0 < now.log.faults)
+      from (inl store) = let counted = holds.stored (sym (ap (λ (s : Served). s.ending) is_served) ∙ store) in let more = concludes.log_later in inr (omega (arith, counted, more))
+      from (inr (inl rose)) = inl (omega (arith, one_later, rose))
+      from (inr (inr some)) = inr some
+
+      on : IsTrue before.tells → IsTrue mid.tells
+      on tells = told before.tells mid.tells keeps.tells tells
+
+      by : ConcludesAs dir mid after peers name served answer ⊎ IsMeetingFault answer
+          → (IsTrue before.tells → Meets (opened_store old) address (memory_in before dir) (memory_in after dir) net net_new whole.added answer) ⊎ IsMeetingFault answer
+      by (inr fault) = inr fault
+      by (inl concluded) =
+          let said : ConcludesAs dir mid after peers (sha256 address) ran.served answer =
+          subst (λ (s : Served). ConcludesAs dir mid after peers (sha256 address) s answer) is_served (subst (λ (n : List ℕ). ConcludesAs dir mid after peers n served answer) is_name concluded) in
+          inl (λ tells. record {
+            peers = peers;
+            reads = reads tells;
+            ran = ran;
+            handed = holds.handed;
+            passes = passes_by old ended now ran.before ran.after whole concludes.grows holds.opened holds.seen holds.within;
+            session = subst (λ (n : List ℕ). IsSession old.history.schema.rule Initiator peers (Some n) ran.before ran.after ran.left ran.left' ran.held ran.held' ran.faults ran.faults' ran.served) is_name holds.session;
+            tells = said.tells;
+            remembers = λ is. said.remembers is (on tells);
+            forgets = λ not. said.forgets not (on tells) ∙ same tells;
+          })
+
+-- ---- what meeting came to
+
+module _ (dir address : List ℕ) (before mid : ShelfState) (net net_new : NetState) (faults between net_faults net_faults_new : ℕ) (old ended : ReplicaState) (peers : List PeerEntry) (name : List ℕ) (result : Result Served Refusal)
+    (keeps : KeepsPeers dir before mid) (one_later : faults ≤ between) (meets : MeetsOpen peers name net net_new net_faults net_faults_new old ended result) where
+  -- nobody was met
+  pub open_unmet : (refusal : Refusal) → result ≡ Err refusal → Stands ended → SyncsOpen dir address before mid net net_new faults between net_faults net_faults_new old ended (Err refusal)
+  open_unmet refusal is stands = by meets.comes
+    where
+      by : MeetsBy peers name net net_new net_faults net_faults_new old ended result → SyncsOpen dir address before mid net net_new faults between net_faults net_faults_new old ended (Err refusal)
+      by (no_memory same memory) =
+          let e : refusal ≡ refusals.Memory = cc (is, memory) in
+          subst (λ (r : Refusal). SyncsOpen dir address before mid net net_new faults between net_faults net_faults_new old ended (Err r)) (sym e)
+          (open_memory dir address before mid net net_new faults between net_faults net_faults_new old ended keeps one_later (not_asked same) meets.grows stands)
+      by (not_dialled none rose stream) =
+          let e : refusal ≡ refusals.Stream = cc (is, stream) in
+          subst (λ (r : Refusal). SyncsOpen dir address before mid net net_new faults between net_faults net_faults_new old ended (Err r)) (sym e)
+          (open_undialled dir address before mid net net_new faults between net_faults net_faults_new old ended keeps one_later none rose meets.grows stands)
+      by (held ran ok holds) = absurd (cc (is, ok))
+
+  -- somebody was
+  pub open_told : (after : ShelfState) (faults_new : ℕ) (now : ReplicaState) (served : Served) (answer : Told) → result ≡ Ok served → (IsTrue before.tells → Reads (memory_in before dir) peers)
+      → (IsTrue before.tells → memory_in mid dir ≡ memory_in before dir) → name ≡ sha256 address → Concludes dir mid after between faults_new ended now peers name served answer → Stands now
+      → SyncsOpen dir address before after net net_new faults faults_new net_faults net_faults_new old now answer
+  open_told after faults_new now served answer is reads same is_name concludes stands = by meets.comes
+    where
+      by : MeetsBy peers name net net_new net_faults net_faults_new old ended result → SyncsOpen dir address before after net net_new faults faults_new net_faults net_faults_new old now answer
+      by (no_memory unasked memory) = absurd (cc (is, memory))
+      by (not_dialled none rose stream) = absurd (cc (is, stream))
+      by (held ran ok holds) =
+          let e : served ≡ ran.served = cc (is, ok) in
+          open_met dir address before mid after net net_new faults between faults_new net_faults net_faults_new old ended now peers name ran served answer keeps reads same one_later is_name meets.grows e holds concludes stands
+
+-- ---- a store that is taken and put back
+
+module _ (dir address : List ℕ) (before after : ShelfState) (net net_new : NetState) (faults faults_new net_faults net_faults_new : ℕ) where
+  -- where it was refused
+  pub syncs_none : (why : StoreRefusal) → (IsTrue before.tells → IsHome before) → LetsGo is_luhn before dir after → (IsTrue before.tells → IsStoreCause is_luhn before dir why)
+      → (why ≡ store_refusals.DiskFault → Rose faults faults_new) → net_new ≡ net → SyncsStore dir address before after net net_new faults faults_new net_faults net_faults_new (Err (from_store why))
+  syncs_none why home lets cause failed same = by why cause failed
+    where
+      others_kept : IsTrue before.tells → KeepsAllBut touched dir before after
+      others_kept tells other away = lets.others tells other (of_store dir other away)
+
+      home_still : IsTrue before.tells → IsHome after
+      home_still tells place = lets.places tells place (home tells place)
+
+      run : IsTrue before.tells → HoldsRun is_luhn before after dir [] false
+      run tells = holds_run is_luhn before after dir [] false (lets.run tells)
+
+      by : (why : StoreRefusal) → (IsTrue before.tells → IsStoreCause is_luhn before dir why) → (why ≡ store_refusals.DiskFault → Rose faults faults_new)
+          → SyncsStore dir address before after net net_new faults faults_new net_faults net_faults_new (Err (from_store why))
+      by store_refusals.NoStore so f = record {
+        added = [];
+        comes = inl (λ tells. no_meeting refusals.NoStore (no_store (so tells) refl) same refl refl);
+        dials = not_asked same;
+        run = run;
+        others = others_kept;
+        home = home_still;
+        store_fault = λ is. absurd (cc (is));
+        stream_fault = λ is. absurd (cc (is));
+      }
+      by store_refusals.BadStore so f = record {
+        added = [];
+        comes = inl (λ tells. no_meeting refusals.BadStore (bad_store (so tells) refl) same refl refl);
+        dials = not_asked same;
+        run = run;
+        others = others_kept;
+        home = home_still;
+        store_fault = λ is. absurd (cc (is));
+        stream_fault = λ is. absurd (cc (is));
+      }
+      by store_refusals.DiskFault so f = record {
+        added = [];
+        comes = inr (inr (inl refl));
+        dials = not_asked same;
+        run = run;
+        others = others_kept;
+        home = home_still;
+        store_fault = λ is. f refl;
+        stream_fault = λ is. absurd (cc (is));
+      }
+      by store_refusals.Memory so f = record {
+        added = [];
+        comes = inr (inl refl);
+        dials = not_asked same;
+        run = run;
+        others = others_kept;
+        home = home_still;
+        store_fault = λ is. absurd (cc (is));
+        stream_fault = λ is. absurd (cc (is));
+      }
+
+  -- where it was taken and put back
+  pub syncs_taken : OneSchema → (opened closing : ShelfState) (opened_faults closing_faults : ℕ) (taken : OpenData) (now : ReplicaState) (answer : Told) → (IsTrue before.tells → IsHome before)
+      → TakesStore is_luhn before dir taken opened → SyncsOpen dir address opened closing net net_new opened_faults closing_faults net_faults net_faults_new taken.replica now answer
+      → PutsStore closing dir taken.schema now.log.disk after → faults ≤ opened_faults → closing_faults ≤ faults_new → (0 < now.log.faults → Rose closing_faults faults_new)
+      → SyncsStore dir address before after net net_new faults faults_new net_faults net_faults_new answer
+  syncs_taken schemas opened closing opened_faults closing_faults taken now answer home takes syncs puts one_later two_later faulted = record {
+    added = syncs.added;
+    comes = by syncs.comes;
+    dials = syncs.dials;
+    run = λ tells. held_run schemas is_luhn before opened closing after dir taken now syncs.added (told_done answer) tells (still tells) takes puts syncs.holds;
+    others = λ tells other away. puts.others (still tells) other (of_store dir other away) ∙ syncs.keeps.others (inside tells) other (of_peers dir other away) ∙ takes.others other (of_store dir other away);
+    home = λ tells place. places_around dir before opened closing after taken now takes puts syncs.keeps.tells syncs.keeps.places tells place (home tells place);
+    store_fault = λ is. from (syncs.store_fault is);
+    stream_fault = syncs.stream_fault;
+  }
+    where
+      inside : IsTrue before.tells → IsTrue opened.tells
+      inside = opened_told dir before opened closing after taken now takes puts syncs.keeps.tells syncs.keeps.places
+
+      still : IsTrue before.tells → IsTrue closing.tells
+      still = closing_told dir before opened closing after taken now takes puts syncs.keeps.tells syncs.keeps.places
+
+      from : Rose opened_faults closing_faults ⊎ (0 < now.log.faults) → Rose faults faults_new
+      from (inl rose) = omega (arith, one_later, two_later, rose)
+      from (inr some) = let more = faulted some in let mid = syncs.later in omega (arith, one_later, mid, more)
+
+      by : (IsTrue opened.tells → Meets (opened_store taken.replica) address (memory_in opened dir) (memory_in closing dir) net net_new syncs.added answer) ⊎ IsMeetingFault answer
+          → (IsTrue before.tells → SyncAnswer (readings before dir) address (memory_in before dir) (memory_in after dir) net net_new syncs.added answer) ⊎ IsMeetingFault answer
+      by (inr fault) = inr fault
+      by (inl meets) = inl (λ tells.
+          met (store_of taken.replica) (read_before is_luhn before opened dir taken tells takes)
+          (rw (
+            sym (same_memory before opened dir (takes.others (slot dir Peers) refl)),
+            same_memory closing after dir (puts.others (still tells) (slot dir Peers) refl),
+          )
+          (meets (inside tells))))

@@ -1,0 +1,16 @@
+use Rattle.std.proofs.Common.{ap}
+use Rattle.net_commands.proofs.Serving.{serves_failed, serves_held, serves_none_open}
+use Rattle.net_commands.proofs.serve.serve_peers.Goals as goal
+
+pub returns-in-Err : goal.returns-in-Err
+returns-in-Err g c = serves_none_open _ _ _ _ _ _ _ c.in-Err.ensures.err
+
+pub returns-then-memory : goal.returns-then-memory
+returns-then-memory g c =
+    serves_failed c.args.rule.now _ _ _ _ _ _ _ _ c.in-Ok.both.1 c.serve-pass.result.pass c.serve-pass.result.sessions c.serve-pass.result.net_failed c.serve-pass.result.memory c.end-replica.ensures.0
+    c.serve-pass.ensures (ap (λ k. k.seen) c.in-Ok.ensures.ok) c.end-replica.ensures.1 c.end-replica.ensures.2 _
+
+pub returns : goal.returns
+returns g c =
+    serves_held c.args.rule.now _ _ _ _ _ _ _ _ c.in-Ok.both.1 c.serve-pass.result.pass c.serve-pass.result.sessions c.serve-pass.result.net_failed c.serve-pass.result.memory c.end-replica.ensures.0
+    c.serve-pass.ensures (ap (λ k. k.seen) c.in-Ok.ensures.ok) c.end-replica.ensures.1 c.end-replica.ensures.2 c.if-memory.false c.requires.rule

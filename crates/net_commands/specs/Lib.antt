@@ -1,0 +1,4 @@
+pub mod Meetings
+pub mod Open
+pub mod OpenServing
+pub mod Words

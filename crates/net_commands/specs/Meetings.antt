@@ -1,0 +1,159 @@
+-- What the commands `sync` and `serve` come to, and what they leave.
+use Rattle.std.specs.Prelude.{◌≡◌, ◌≢◌, ◌⊎◌, ℕ, Bool, true, false, List, [], ◌∷◌, ◌++◌, IsTrue, Option, Some, Err}
+use mathlib.Core.List.{IsPrefix}
+use Rattle.sha2.specs.Sha256.{sha256}
+use Rattle.row_check.specs.Checksum.{is_luhn}
+use Rattle.bec_bytes.specs.Causes.{Rose}
+use Rattle.bec_disk.specs.Shelf.{ShelfState}
+use Rattle.bec_links.specs.Nets.{IsFirst, NetState, with_held}
+use Rattle.update_model.specs.declared.update_id.UpdateId.{UpdateId}
+use Rattle.session_rules.specs.declared.role.Role.TheVariants.{Initiator}
+use Rattle.peer_memory.specs.declared.peer.Peer.{Peer as PeerEntry}
+use Rattle.peer_memory.specs.Payload.{Reads, Spells}
+use Rattle.peer_memory.specs.Peers.{Remembers}
+use Rattle.turn_lock.specs.Seats.{Known}
+use Rattle.key_directory.specs.Parts.{IsHome, KeepsAllBut}
+use Rattle.store_directory.specs.Stores.{HoldsRun, StoreData}
+use Rattle.shared_replica.specs.declared.entry.Entry.{Entry}
+use Rattle.shared_replica.specs.declared.entry.Entry.TheVariants.{First}
+use Rattle.shared_replica.specs.declared.entry.Opening.{Opening}
+use Rattle.shared_replica.specs.Entries.{updates_of}
+use Rattle.session_server.specs.declared.ending.Ending.{Ending}
+use Rattle.session_server.specs.declared.ending.Ending.TheVariants as endings
+use Rattle.session_server.specs.declared.served.Served.{Served}
+use Rattle.session_server.specs.Serving.{Ran, Serves}
+use Rattle.session_server.specs.Sessions.{IsSession}
+use Rattle.outcomes.specs.declared.refusal.Refusal.{Refusal}
+use Rattle.outcomes.specs.declared.refusal.Refusal.TheVariants as refusals
+use Rattle.schema_verdict.specs.declared.status.TheConstants.{DONE, STORE_FAULT, STREAM_FAULT}
+use Rattle.outcomes.specs.Comes.{readings}
+use Rattle.outcomes.specs.Remembering.{RemembersIn, memory_in, touched}
+use Rattle.outcomes.specs.StoreAnswers.{HasStore, Readings, RefusesStore}
+use Rattle.net_commands.specs.Words.{has_status, serve_status, serve_text, status_by, sync_text}
+use Rattle.outcomes.specs.Told.{Told, told_status, told_done, Tells}
+
+-- ---- sessions
+
+-- The list is that of a store of this node with this schema, whose updates it had in front.
+pub record IsListOf (store : StoreData) (list : List Entry) : Type 0 where
+  pub opening : Opening
+  pub rest : List Entry
+  pub first : list ≡ First opening ∷ rest
+  pub node : opening.node ≡ store.node
+  pub schema : opening.schema ≡ store.schema
+  pub updates : IsPrefix store.members (updates_of list)
+
+-- A pass went through a store, from its opening on. What it has seen at its end stands in front of what the store has then.
+pub record Passes (store : StoreData) (added : List (List ℕ)) (first last : Known Entry) : Type 0 where
+  pub opened : IsListOf store first.seen
+  pub began : updates_of first.seen ≡ store.members
+  pub seen : IsPrefix first.seen last.seen
+  pub held : IsPrefix (updates_of last.seen) (store.members ++ added)
+
+-- ---- nets
+
+-- A link was handed out, and put back after this session.
+pub record HandsOver (before : NetState) (ran : Ran) (after : NetState) : Type 0 where
+  pub first : IsFirst before.coming ran.left ran.held after.coming
+  pub given : after.given ≡ with_held before.given ran.held'
+  pub out : after.out ≡ before.out
+  pub failed : after.failed ≡ before.failed
+
+-- No link was handed out, and that counts as a call that failed.
+pub record HandsNone (before after : NetState) : Type 0 where
+  pub coming : after.coming ≡ before.coming
+  pub given : after.given ≡ before.given
+  pub out : after.out ≡ before.out
+  pub failed : Rose before.failed after.failed
+
+-- What `sync` does to the net: nothing; or it asks for a link, and gets none; or it gets one, and puts it back.
+pub data Dials (before after : NetState) : Type 0 where
+  not_asked : after ≡ before → Dials before after
+  refused : HandsNone before after → Dials before after
+  handed : (ran : Ran) → HandsOver before ran after → Dials before after
+
+-- What may come in place of an answer: memory ran out, a disk failed, or the net did.
+abbrev pub IsMeetingFault : Told → Type 0
+IsMeetingFault told = (told ≡ Err refusals.Memory) ⊎ ((told ≡ Err refusals.StoreFault) ⊎ (told ≡ Err refusals.Stream))
+
+-- ---- `sync`
+
+-- The store met the peer at the address, whose name is the digest of that word: in a session over the net's next link, which it began.
+pub record Meets (store : StoreData) (address : List ℕ) (memory memory_new : List ℕ) (net net_new : NetState) (added : List (List ℕ)) (told : Told) : Type 0 where
+  pub peers : List PeerEntry
+  pub reads : Reads memory peers
+  pub ran : Ran
+  pub handed : HandsOver net ran net_new
+  pub passes : Passes store added ran.before ran.after
+  pub session : IsSession store.schema.rule Initiator peers (Some (sha256 address)) ran.before ran.after ran.left ran.left' ran.held ran.held' ran.faults ran.faults' ran.served
+  pub tells : Tells told (sync_text ran.served) (status_by ran.served.ending)
+  pub remembers : ran.served.ending ≡ endings.Done → RemembersIn peers (sha256 address) ran.served.heads memory_new
+  pub forgets : ran.served.ending ≢ endings.Done → memory_new ≡ memory
+
+-- What `sync` answers to what the parts of a directory read as: the store is refused, and the net left alone; or it met the peer.
+pub data SyncAnswer (parts : Readings) (address : List ℕ) (memory memory_new : List ℕ) (net net_new : NetState) (added : List (List ℕ)) (told : Told) : Type 0 where
+  no_meeting : (refusal : Refusal) → RefusesStore parts refusal → net_new ≡ net → added ≡ [] → told ≡ Err refusal → SyncAnswer parts address memory memory_new net net_new added told
+  met : (store : StoreData) → HasStore parts store → Meets store address memory memory_new net net_new added told → SyncAnswer parts address memory memory_new net net_new added told
+
+-- A run of `sync` over a directory and a net. Where the shelf tells what it has, what is told is the answer to what the parts read as, or a fault came in
+-- its place. These were added to the list of the store, in whatever way it ends. No part but these is touched, and each is put back.
+pub record SyncsStore (dir address : List ℕ) (before after : ShelfState) (net net_new : NetState) (faults faults_new net_faults net_faults_new : ℕ) (told : Told) : Type 0 where
+  pub added : List (List ℕ)
+  pub comes : (IsTrue before.tells → SyncAnswer (readings before dir) address (memory_in before dir) (memory_in after dir) net net_new added told) ⊎ IsMeetingFault told
+  pub dials : Dials net net_new
+  pub run : IsTrue before.tells → HoldsRun is_luhn before after dir added (told_done told)
+  pub others : IsTrue before.tells → KeepsAllBut touched dir before after
+  pub home : IsTrue before.tells → IsHome after
+  pub store_fault : told_status told ≡ STORE_FAULT → Rose faults faults_new
+  pub stream_fault : told_status told ≡ STREAM_FAULT → Rose net_faults net_faults_new
+
+-- ---- `serve`
+
+-- what is remembered of peers after one session: of one that is done its ids, under the peer's node
+abbrev pub RemembersOne : List PeerEntry → Ending → Option (List ℕ) → List UpdateId → List PeerEntry → Type 0
+RemembersOne peers endings.Done (Some node) ids peers_new = Remembers peers node ids peers_new
+RemembersOne peers ending whose ids peers_new = peers_new ≡ peers
+
+-- and after all of them, in their order
+abbrev pub RemembersAll : List PeerEntry → List Served → List PeerEntry → Type 0
+RemembersAll peers [] peers_new = peers_new ≡ peers
+RemembersAll peers (served ∷ others) peers_new = (between : List PeerEntry) × RemembersOne peers served.ending served.peer served.heads between × RemembersAll between others peers_new
+
+-- The payload after the sessions: where one of them is done it is made anew, and else it stays.
+pub record RemembersSessions (peers : List PeerEntry) (sessions : List Served) (memory memory_new : List ℕ) : Type 0 where
+  pub peers_new : List PeerEntry
+  pub all : RemembersAll peers sessions peers_new
+  pub written : has_status DONE sessions ≡ true → Spells peers_new memory_new
+  pub stays : has_status DONE sessions ≡ false → memory_new ≡ memory
+
+-- The store served so many peers, each in a session over one of the net's next links, which the peer began.
+pub record ServesPeers (store : StoreData) (asked : ℕ) (memory memory_new : List ℕ) (net net_new : NetState) (net_faults net_faults_new : ℕ) (added : List (List ℕ)) (told : Told) : Type 0 where
+  pub peers : List PeerEntry
+  pub reads : Reads memory peers
+  pub first : Known Entry
+  pub last : Known Entry
+  pub passes : Passes store added first last
+  pub sessions : List Served
+  pub net_failed : Bool
+  pub store_failed : Bool
+  pub serves : Serves store.schema.rule peers asked first last net net_new net_faults net_faults_new sessions net_failed false
+  pub tells : Tells told (serve_text sessions store_failed net_failed) (serve_status sessions store_failed net_failed)
+  pub remembers : store_failed ≡ false → RemembersSessions peers sessions memory memory_new
+
+-- What `serve` answers to what the parts of a directory read as: the store is refused, and the net left alone; or it served.
+pub data ServeAnswer (parts : Readings) (asked : ℕ) (memory memory_new : List ℕ) (net net_new : NetState) (net_faults net_faults_new : ℕ) (added : List (List ℕ)) (told : Told) : Type 0 where
+  not_served : (refusal : Refusal) → RefusesStore parts refusal → net_new ≡ net → added ≡ [] → told ≡ Err refusal
+      → ServeAnswer parts asked memory memory_new net net_new net_faults net_faults_new added told
+  served : (store : StoreData) → HasStore parts store → ServesPeers store asked memory memory_new net net_new net_faults net_faults_new added told
+      → ServeAnswer parts asked memory memory_new net net_new net_faults net_faults_new added told
+
+-- A run of `serve` over a directory and a net, as one of `sync`.
+pub record ServesStore (dir : List ℕ) (asked : ℕ) (before after : ShelfState) (net net_new : NetState) (faults faults_new net_faults net_faults_new : ℕ) (told : Told) : Type 0 where
+  pub added : List (List ℕ)
+  pub comes : (IsTrue before.tells → ServeAnswer (readings before dir) asked (memory_in before dir) (memory_in after dir) net net_new net_faults net_faults_new added told) ⊎ IsMeetingFault told
+  pub out : net_new.out ≡ net.out
+  pub run : IsTrue before.tells → HoldsRun is_luhn before after dir added (told_done told)
+  pub others : IsTrue before.tells → KeepsAllBut touched dir before after
+  pub home : IsTrue before.tells → IsHome after
+  pub store_fault : told_status told ≡ STORE_FAULT → Rose faults faults_new
+  pub stream_fault : told_status told ≡ STREAM_FAULT → Rose net_faults net_faults_new

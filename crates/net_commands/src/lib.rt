@@ -1,0 +1,17 @@
+//! The commands of the program `bec` that meet other nodes, over a shelf of directories and a net.
+//!
+//! ```text
+//! bec sync DIR ADDR                  reconciles the store of a directory with the one that is served at an address
+//! bec serve DIR ADDR --sessions N    waits at an address, and reconciles the store of a directory over N sessions
+//! ```
+//!
+//! Both wait for others, and `serve` starts threads.
+#![tactic(auto)]
+
+mod serve;
+mod settling;
+mod sync;
+mod words;
+
+pub use serve::serve_in;
+pub use sync::sync_in;

@@ -1,0 +1,203 @@
+//! The command `serve DIR ADDR --sessions N`: a session with each of the nodes that dial.
+
+ghost use Rattle.std.specs.Prelude.{◌≡◌, ◌≢◌, ◌<◌, IfOk, IsTrue, OnOk};
+ghost use Rattle.bec_disk.specs.declared.part.Part.TheVariants.{Peers as PeersPart};
+ghost use Rattle.bec_disk.specs.Shelf.{out};
+ghost use Rattle.net_commands.specs.Meetings.{RemembersAll, ServesStore};
+ghost use Rattle.net_commands.specs.OpenServing.{ConcludesAll, HasFailed, KeepsSessions, ServesOpen, ServesPeersOpen};
+ghost use Rattle.key_directory.specs.Parts.{IsHome, part_in};
+
+use crate::settling::settle;
+use crate::words::{has_status, serve_status, serve_text};
+use bec_disk::{Disk, Shelf};
+use bec_links::Net;
+use outcomes::status::{DONE, OUT_OF_MEMORY};
+use outcomes::{Refusal, Reply, each_stands, peers_of};
+use peer_memory::Peers;
+use record_check::ManyThreads;
+use replica::Replica;
+use row_check::{Luhn, Native};
+use schema_text::one_schema;
+use session_server::{Ending, Served, ServedAll, ServedList, serve};
+use shared_replica::Shared;
+use std::alloc::{AllocError, Global};
+use std::sync::Wait;
+use std::thread::Threads;
+use store_directory::{OpenStore, put_store, take_store, write_memory};
+use update_model::DbRule;
+
+/// Serves so many sessions at an address, and tells how each ended.
+pub fn serve_in<T: Threads + Wait + Sync, H: Shelf, N: Net>(
+    rt: &T,
+    alloc: Global,
+    shelf: &mut H,
+    net: &mut N,
+    directory: &str,
+    address: &str,
+    asked: u32,
+) -> Result<Reply, Refusal>
+where
+    H::D: Send,
+    requires home { IsTrue (H.state shelf.old).tells → IsHome (H.state shelf.old) }
+    requires some { 0 < asked }
+    ensures { ServesStore directory.now asked (H.state shelf.old) (H.state shelf.new) (N.state net.old) (N.state net.new) (H.faults shelf.old) (H.faults shelf.new) (N.faults net.old) (N.faults net.new) result }
+{
+    one_schema();
+    let verifier = ManyThreads::new(rt);
+    let store = take_store(&verifier, alloc, shelf, directory, Native::new(Luhn))?;
+    let OpenStore { schema, replica } = store;
+    let (replica, told) = serve_open(rt, alloc, shelf, net, directory, address, asked, replica);
+    put_store(shelf, directory, OpenStore { schema, replica });
+    told
+}
+
+/// The same over the store, which is open and comes back.
+fn serve_open<T: Threads + Wait + Sync, H: Shelf, N: Net>(
+    rt: &T,
+    alloc: Global,
+    shelf: &mut H,
+    net: &mut N,
+    directory: &str,
+    address: &str,
+    asked: u32,
+    replica: Replica<H::D, Luhn, Luhn>,
+) -> (Replica<H::D, Luhn, Luhn>, Result<Reply, Refusal>)
+where
+    H::D: Send,
+    requires peers_in { IsTrue (H.state shelf.old).tells → part_in (H.state shelf.old) directory.now PeersPart ≢ out }
+    requires some { 0 < asked }
+    ensures { ServesOpen directory.now asked (H.state shelf.old) (H.state shelf.new) (N.state net.old) (N.state net.new) (H.faults shelf.old) (H.faults shelf.new) (N.faults net.old) (N.faults net.new) replica result.0 result.1 }
+{
+    each_stands(&replica);
+    let peers = match peers_of(alloc, shelf, directory) {
+        Ok(peers) => peers,
+        Err(refusal) => return (replica, Err(refusal)),
+    };
+    let rule = match replica.schema().rule().copy(alloc) {
+        Ok(rule) => rule,
+        Err(_) => return (replica, Err(Refusal::Memory)),
+    };
+    let (mut replica, met) = serve_peers(rt, alloc, net, &rule, &peers, address, asked, replica);
+    each_stands(&replica);
+    let met = match met {
+        Ok(met) => met,
+        Err(_) => return (replica, Err(Refusal::Memory)),
+    };
+    let told = conclude_all(alloc, shelf, directory, &mut replica, peers, &met);
+    each_stands(&replica);
+    (replica, told)
+}
+
+/// The sessions that were held, and whether the net failed before all of them were.
+#[derive(Drop)]
+struct Met {
+    /// The sessions, in the order of acceptance.
+    sessions: ServedList,
+    /// Whether the net failed.
+    net_failed: bool,
+}
+
+/// Serves the peers of a replica, which comes back. The one refusal is want of memory.
+fn serve_peers<T: Threads + Wait + Sync, N: Net, D: Disk + Send>(
+    rt: &T,
+    alloc: Global,
+    net: &mut N,
+    rule: &DbRule,
+    peers: &Peers,
+    address: &str,
+    asked: u32,
+    replica: Replica<D, Luhn, Luhn>,
+) -> (Replica<D, Luhn, Luhn>, Result<Met, AllocError>)
+    requires rule { rule.now ≡ replica.history.schema.rule }
+    requires some { 0 < asked }
+    ensures { ServesPeersOpen peers.now asked (N.state net.old) (N.state net.new) (N.faults net.old) (N.faults net.new) replica result.0 result.1 }
+{
+    let (shared, pass) = match Shared::new(alloc, replica) {
+        Ok(both) => both,
+        Err(refused) => return (refused.back, Err(AllocError)),
+    };
+    let ServedAll {
+        pass,
+        sessions,
+        net_failed,
+        memory,
+    } = serve(rt, alloc, net, &shared, rule, pass, address, asked, peers);
+    let replica = shared.end(rt, pass);
+    if memory || has_status(OUT_OF_MEMORY, sessions.as_slice()) {
+        return (replica, Err(AllocError));
+    }
+    let met = Met {
+        sessions,
+        net_failed,
+    };
+    (replica, Ok(met))
+}
+
+/// Tells how the sessions ended. After those that are done, the directory remembers what their peers held; that its disk failed then is told besides.
+fn conclude_all<H: Shelf>(
+    alloc: Global,
+    shelf: &mut H,
+    directory: &str,
+    replica: &mut Replica<H::D, Luhn, Luhn>,
+    peers: Peers,
+    met: &Met,
+) -> Result<Reply, Refusal>
+    requires { IsTrue (H.state shelf.old).tells → part_in (H.state shelf.old) directory.now PeersPart ≢ out }
+    ensures { ConcludesAll directory.now (H.state shelf.old) (H.state shelf.new) (H.faults shelf.old) (H.faults shelf.new) replica.old replica.new peers met.now result }
+{
+    let sessions = met.sessions.as_slice();
+    let kept = keep_sessions(alloc, shelf, directory, replica, peers, sessions);
+    let store_failed = has_store_failed(kept)?;
+    Ok(Reply {
+        text: serve_text(alloc, sessions, store_failed, met.net_failed)?,
+        status: serve_status(sessions, store_failed, met.net_failed),
+    })
+}
+
+/// Whether a disk failed while something was kept. The error is that memory ran out.
+fn has_store_failed(kept: Result<(), Refusal>) -> Result<bool, AllocError>
+    ensures { IfOk result (HasFailed kept) }
+{
+    match kept {
+        Ok(()) => Ok(false),
+        Err(Refusal::StoreFault) => Ok(true),
+        Err(_) => Err(AllocError),
+    }
+}
+
+/// Settles the log, and where a session is done keeps what is to be remembered of the peers.
+fn keep_sessions<H: Shelf>(
+    alloc: Global,
+    shelf: &mut H,
+    directory: &str,
+    replica: &mut Replica<H::D, Luhn, Luhn>,
+    peers: Peers,
+    sessions: &[Served],
+) -> Result<(), Refusal>
+    requires { IsTrue (H.state shelf.old).tells → part_in (H.state shelf.old) directory.now PeersPart ≢ out }
+    ensures { KeepsSessions directory.now (H.state shelf.old) (H.state shelf.new) (H.faults shelf.old) (H.faults shelf.new) replica.old replica.new peers sessions.now result }
+{
+    settle(alloc, replica)?;
+    if !has_status(DONE, sessions) {
+        return Ok(());
+    }
+    let mut peers = peers;
+    remember_all(alloc, &mut peers, sessions)?;
+    let payload = peers.payload(alloc)?;
+    match write_memory(shelf, directory, &payload) {
+        Ok(()) => Ok(()),
+        Err(_fault) => Err(Refusal::StoreFault),
+    }
+}
+
+/// Remembers what is to be remembered of each peer, in the order of the sessions.
+fn remember_all(alloc: Global, peers: &mut Peers, sessions: &[Served]) -> Result<(), AllocError>
+    ensures { OnOk result (RemembersAll peers.old sessions.now peers.new) }
+{
+    for served in sessions {
+        if let (Ending::Done, Some(node)) = (served.ending, served.peer) {
+            peers.remember(alloc, node, served.heads.as_slice())?;
+        }
+    }
+    Ok(())
+}

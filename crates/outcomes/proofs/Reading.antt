@@ -1,0 +1,110 @@
+-- Commands that only read the store of a directory.
+use Rattle.std.proofs.Common.{Bool, Err, IsTrue, List, Some, [], append-nil, false, inl, inr, refl, subst, sym, ℕ, ◌∙◌, ◌∷◌, ◌≡◌, ◌≢◌, ◌⊎◌}
+use Rattle.bec_bytes.specs.Framed.{stream_of}
+use Rattle.history.proofs.Arriving.{take_next}
+use Rattle.row_check.specs.Checksum.{is_luhn}
+use Rattle.bec_bytes.specs.Causes.{Rose}
+use Rattle.bec_disk.specs.Disk.{handed_out}
+use Rattle.bec_disk.specs.declared.part.Part.TheVariants.{Schema, Updates}
+use Rattle.bec_disk.specs.Shelf.{ShelfState, out}
+use Rattle.bec_disk.specs.Slot.{slot}
+use Rattle.bec_disk.proofs.Moments as moments
+use Rattle.update_log.specs.Logset.{BeginsWith}
+use Rattle.store_directory.specs.Holding.{IsStoreCause, LetsGo, OpenData, PutsStore, TakesStore, WorksOn}
+use Rattle.key_directory.specs.Parts.{IsHome, KeepsAllBut, part_in}
+use Rattle.store_directory.specs.Stores.{StoreData, StoreRun}
+use Rattle.store_directory.specs.declared.store_refusal.StoreRefusal.{StoreRefusal}
+use Rattle.store_directory.specs.declared.store_refusal.StoreRefusal.TheVariants.{NoStore, BadStore, DiskFault, Memory}
+use Rattle.key_directory.proofs.Places.{keeps_through}
+use Rattle.key_directory.proofs.Putting.{slot_of, told}
+use Rattle.store_directory.proofs.Readings.{OneSchema}
+use Rattle.store_directory.proofs.Working.{home_after_store, read_before, store_of, worked_run}
+use Rattle.outcomes.specs.declared.refusal.Refusal.{Refusal}
+use Rattle.outcomes.specs.declared.refusal.Refusal.TheVariants as refusals
+use Rattle.outcomes.specs.Comes.{IsShelfFault, ReadsShelf, is_done, readings}
+use Rattle.outcomes.specs.Outcome.{Outcome, from_store}
+use Rattle.outcomes.specs.Standing.{Stands}
+use Rattle.outcomes.specs.StoreAnswers.{ReadsStore, answered, bad_store, no_store, refused}
+
+-- the disks of a store that was taken are those of its parts
+pub put_slots : (before opened : ShelfState) (dir : List ℕ) (taken : OpenData) → TakesStore is_luhn before dir taken opened → IsTrue opened.tells
+    → ((taken.schema.slot ≡ Some (slot dir Schema)) × (part_in opened dir Schema ≡ out)) × ((taken.replica.log.disk.slot ≡ Some (slot dir Updates)) × (part_in opened dir Updates ≡ out))
+put_slots before opened dir taken takes tells =
+    let before_tells : IsTrue before.tells = told opened.tells before.tells (sym takes.tells) tells in
+    let s = takes.schema before_tells in
+    let u = takes.updates before_tells in (
+      (slot_of (slot dir Schema) s.0 taken.schema s.2, takes.schema_out before_tells),
+      (u.3.disk.slot ∙ slot_of (slot dir Updates) u.0 (handed_out (slot dir Updates) u.0) refl, takes.updates_out before_tells),
+    )
+
+module _ (Answers : StoreData → Outcome → Type 0) (dir : List ℕ) (before after : ShelfState) (old new : ℕ) where
+  -- where no store was taken
+  pub read_refused : (why : StoreRefusal) → (IsTrue before.tells → IsHome before) → LetsGo is_luhn before dir after → (IsTrue before.tells → IsStoreCause is_luhn before dir why)
+      → (why ≡ DiskFault → Rose old new) → ReadsShelf (ReadsStore Answers) dir before after old new (Err (from_store why))
+  read_refused NoStore home lets cause failed =
+      record { added = []; comes = inl (λ tells. refused refusals.NoStore (no_store (cause tells) refl) refl refl); run = lets.run; others = lets.others; home = λ tells place. lets.places tells place (home tells place) }
+  read_refused BadStore home lets cause failed =
+      record { added = []; comes = inl (λ tells. refused refusals.BadStore (bad_store (cause tells) refl) refl refl); run = lets.run; others = lets.others; home = λ tells place. lets.places tells place (home tells place) }
+  read_refused DiskFault home lets cause failed =
+      record { added = []; comes = inr (inr (refl, failed refl), refl); run = lets.run; others = lets.others; home = λ tells place. lets.places tells place (home tells place) }
+  read_refused Memory home lets cause failed = record { added = []; comes = inr (inl refl, refl); run = lets.run; others = lets.others; home = λ tells place. lets.places tells place (home tells place) }
+
+  -- where one was taken, read and put back
+  module _ (one : OneSchema) (opened : ShelfState) (taken : OpenData) (home : IsTrue before.tells → IsHome before) (takes : TakesStore is_luhn before dir taken opened)
+      (puts : PutsStore opened dir taken.schema taken.replica.log.disk after) (stands : Stands taken.replica) where
+    works : (done : Bool) → IsTrue before.tells → WorksOn taken taken.replica [] done
+    works done tells =
+        let members = taken.replica.history.members in record {
+          schema = refl;
+          members = sym (append-nil members);
+          closed = stands.history_is.members;
+          any_moment = moments.stays taken.replica.log.disk taken.replica.log.disk (BeginsWith (stream_of members)) refl stands.on_disk;
+          on_disk = stands.on_disk;
+          log = λ is_done. stands.log_is;
+          clean = λ is_done log_tells. (takes.updates tells).2.clean refl;
+        }
+
+    opened_tells : IsTrue before.tells → IsTrue opened.tells
+    opened_tells tells = told before.tells opened.tells takes.tells tells
+
+    runs : (done : Bool) → IsTrue before.tells → StoreRun is_luhn before after dir [] done
+    runs done tells = worked_run one is_luhn before opened opened after dir taken taken.replica [] done tells (opened_tells tells) takes (works done tells) puts
+
+    others : IsTrue before.tells → KeepsAllBut (Schema ∷ Updates ∷ []) dir before after
+    others tells = keeps_through (Schema ∷ Updates ∷ []) dir before opened after takes.others (puts.others (opened_tells tells))
+
+    home_again : IsTrue before.tells → IsHome after
+    home_again tells =
+        home_after_store opened after dir taken.schema taken.replica.log.disk (opened_tells tells) puts (λ other away. subst (λ p. p ≢ out) (sym (takes.others other away)) (home tells other))
+
+    pub read_answered : (outcome : Outcome) → Answers (store_of taken.replica) outcome → ReadsShelf (ReadsStore Answers) dir before after old new outcome
+    read_answered outcome answers = record {
+      added = [];
+      comes = inl (λ tells. answered (store_of taken.replica) (read_before is_luhn before opened dir taken tells takes) answers refl);
+      run = runs (is_done outcome);
+      others = others;
+      home = home_again;
+    }
+
+    pub read_lacked : ReadsShelf (ReadsStore Answers) dir before after old new (Err refusals.Memory)
+    read_lacked = record { added = []; comes = inr (inl refl, refl); run = runs false; others = others; home = home_again }
+
+-- ---- want of memory in place of a refusal
+
+none_of_refused : (Answers : StoreData → Outcome → Type 0) (dir : List ℕ) (shelf : ShelfState) (added : List (List ℕ)) (refusal : Refusal) → ReadsStore Answers (readings shelf dir) added (Err refusal) → added ≡ []
+none_of_refused Answers dir shelf added refusal (answered store has answers none) = none
+none_of_refused Answers dir shelf added refusal (refused why refuses none is) = none
+
+pub read_without_memory : (Answers : StoreData → Outcome → Type 0) (dir : List ℕ) (before after : ShelfState) (old new : ℕ) (refusal : Refusal)
+    → ReadsShelf (ReadsStore Answers) dir before after old new (Err refusal) → ReadsShelf (ReadsStore Answers) dir before after old new (Err refusals.Memory)
+read_without_memory Answers dir before after old new refusal runs = record {
+  added = [];
+  comes = inr (inl refl, refl);
+  run = λ tells. subst (λ (l : List (List ℕ)). StoreRun is_luhn before after dir l false) (none runs.comes tells) (runs.run tells);
+  others = runs.others;
+  home = runs.home;
+}
+  where
+    none : (IsTrue before.tells → ReadsStore Answers (readings before dir) runs.added (Err refusal)) ⊎ (IsShelfFault old new (Err refusal) × (runs.added ≡ [])) → IsTrue before.tells → runs.added ≡ []
+    none (inl answers) tells = none_of_refused Answers dir before runs.added refusal (answers tells)
+    none (inr fault) tells = fault.1

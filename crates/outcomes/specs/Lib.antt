@@ -1,0 +1,12 @@
+pub mod Comes
+pub mod Only
+pub mod OpenStores
+pub mod Outcome
+pub mod Outside
+pub mod Parts
+pub mod Remembering
+pub mod Rules
+pub mod Standing
+pub mod StoreAnswers
+pub mod Texts
+pub mod Told

@@ -1,0 +1,12 @@
+ghost use Rattle.outcomes.specs.Standing.{Stands};
+
+use bec_disk::Disk;
+use replica::Replica;
+use row_check::Luhn;
+
+/// What holds of each store that is open, by its type. It does nothing.
+pub fn each_stands<D: Disk>(replica: &Replica<D, Luhn, Luhn>)
+    ensures { Stands replica.now }
+{
+    let _count = replica.len();
+}

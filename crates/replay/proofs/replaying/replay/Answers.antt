@@ -1,9 +1,0 @@
-use Rattle.replay.specs.Arrivals.{places_of}
-use Rattle.replay.proofs.replaying.replay.Goals as goal
-
-pub loop-position-init : goal.loop-position-init
-unfolding places_of
-loop-position-init g c = record {
-  state = c.in_ok-tables.ensures g.L.Relation.answer;
-  places = c.new-ancestry.ensures;
-}

@@ -1,5 +1,0 @@
-use Rattle.schema.proofs.Keeping.{declared_sound}
-use Rattle.schema.proofs.laws.declared_is_sound.Goals as goal
-
-pub returns : goal.returns
-returns c = declared_sound c.one_expression.ensures

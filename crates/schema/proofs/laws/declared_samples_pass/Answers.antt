@@ -1,5 +1,0 @@
-use Rattle.schema.proofs.DeclaredSamples.{declared_pass}
-use Rattle.schema.proofs.laws.declared_samples_pass.Goals as goal
-
-pub returns : goal.returns
-returns c = declared_pass c.one_expression.ensures

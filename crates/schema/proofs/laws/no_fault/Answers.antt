@@ -1,5 +1,0 @@
-use Rattle.schema.proofs.Unique.{declared_no_fault}
-use Rattle.schema.proofs.laws.no_fault.Goals as goal
-
-pub returns : goal.returns
-returns c = declared_no_fault c.one_expression.ensures

@@ -1,5 +1,0 @@
-use Rattle.std.proofs.Common.{length}
-use Rattle.schema.proofs.samples.+fits_sample.Given as goal
-
-abbrev pub decreases-fits_sample : goal.decreases-fits_sample
-decreases-fits_sample l = length l.columns.now

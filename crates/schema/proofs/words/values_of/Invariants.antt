@@ -1,8 +1,0 @@
-use Rattle.std.proofs.Common.{◌≡◌, drop}
-use Rattle.schema.specs.Forms.{values_of}
-use Rattle.schema.proofs.SampleRows.{with_front}
-use Rattle.schema.proofs.words.values_of.Given as goal
-
--- the values so far and those of the words that are left are those of all
-abbrev pub invariant-loop-word : goal.invariant-loop-word
-invariant-loop-word l = values_of l.words ≡ with_front l.values.items (values_of (drop l.word-index l.words))

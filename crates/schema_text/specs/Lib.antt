@@ -1,0 +1,10 @@
+pub mod Drafts
+pub mod Faults
+pub mod Forms
+pub mod Kept
+pub mod Outcome
+pub mod Printing
+pub mod Schemas
+pub mod Steps
+pub mod Words
+pub mod Written

@@ -1,5 +1,0 @@
-use Rattle.store_directory.proofs.Readings.{same_key}
-use Rattle.store_directory.proofs.laws.one_key.Goals as goal
-
-pub returns : goal.returns
-returns c = same_key

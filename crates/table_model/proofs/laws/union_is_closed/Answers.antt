@@ -1,5 +1,0 @@
-use Rattle.table_model.proofs.Union.{union_closed}
-use Rattle.table_model.proofs.laws.union_is_closed.Goals as goal
-
-pub returns : goal.returns
-returns c xs ys a b = union_closed xs ys a b

@@ -1,0 +1,16 @@
+pub mod Belonging
+pub mod Below
+pub mod Courses
+pub mod Events
+pub mod Extending
+pub mod Hearing
+pub mod Keys
+pub mod Making
+pub mod Moving
+pub mod Passing
+pub mod Places
+pub mod Schemas
+pub mod Sets
+pub mod Signing
+pub mod Sites
+pub mod Standing

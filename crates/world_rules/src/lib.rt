@@ -1,0 +1,11 @@
+//! What a world is: correct replicas, the sessions that they hold among themselves and with liars, and what happens to them.
+#![tactic(auto)]
+
+mod event;
+mod laws;
+
+pub use event::{Event, Stepped};
+pub use laws::{
+    equal_heads_mean_equal_tables, invariants_always_hold, lists_only_grow, members_were_made,
+    one_index_one_message, sessions_are_sound,
+};
