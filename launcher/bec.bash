@@ -3,9 +3,9 @@
 _bec() {
     local word=${COMP_WORDS[COMP_CWORD]} command=${COMP_WORDS[1]} offered=''
     if [ "$COMP_CWORD" -eq 1 ]; then
-        offered="init keygen apply join dump query heads export draw log show who diff status schema csv page merge sync serve check help --help --version"
+        offered="init keygen apply join dump query heads export draw log show who diff status schema csv page merge sync serve check unseal audit confirm help --help --version"
     elif [ "$command" = help ]; then
-        offered="init keygen apply join dump query heads export draw log show who diff status schema csv page merge sync serve check status"
+        offered="init keygen apply join dump query heads export draw log show who diff status schema csv page merge sync serve check unseal audit confirm status"
     else
         case $command,${COMP_WORDS[COMP_CWORD - 1]} in
         keygen,--height) offered="5 10 15" ;;

@@ -15,7 +15,9 @@
 
 mod alone;
 mod commands;
+mod families;
 mod program;
+mod seals;
 
 pub use alone::run_alone;
 pub use commands::{
