@@ -15,7 +15,7 @@ use Rattle.audit_text.specs.Certificates.{HoldsDoubled}
 use Rattle.audit_text.specs.Texts.{audit_text, doubled_text}
 
 pub audit_shown : ((members : List (List ℕ)) (doubles others : List Doubled) → IsClosed (map entry_of members) → AreFound members doubles → AreFound members others → doubles ≡ others) → IsShownOnce ShowsDoubled
-audit_shown once store text line a b = a.1.1 ∙ ap audit_text (once store.members a.0 b.0 a.1.0.taken.closed a.1.0.found b.1.0.found) ∙ sym b.1.1
+audit_shown once store text line a b = a.2 ∙ ap audit_text (once store.members a.0 b.0 a.1.taken.closed a.1.found b.1.found) ∙ sym b.2
 
 module _ (one : (bytes : List ℕ) (key other : AuthorKey) (index number : ℕ) → HoldsDoubled bytes key index → HoldsDoubled bytes other number → (key ≡ other) × (index ≡ number)) where
   pub confirm_answered : IsOneAnswer ConfirmAnswer

@@ -50,7 +50,7 @@ fn records_of(alloc: Global, updates: &[Made]) -> Result<Vec<u8>, AllocError> {
     let mut input = Vec::new(alloc);
     for made in updates {
         let bytes = signed(alloc, *made)?;
-        input.extend_from_slice(&(bytes.len() as u32).to_be_bytes())?;
+        input.extend_from_slice(&(bytes.len().min(65_535) as u32).to_be_bytes())?;
         input.extend_from_slice(&bytes)?;
     }
     Ok(input)

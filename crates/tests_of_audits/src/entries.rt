@@ -1,12 +1,15 @@
 //! The entries of holders.
 
+ghost use Rattle.std.specs.Prelude.{All, IfOk};
+ghost use Rattle.update_check.specs.Signed.{IsChecked};
+
 use crate::signed::{DATABASE, Made, signed};
 use audit_text::entries_text;
 use key_audit::{Doubled, find};
 use mem_holder::MemHolder;
 use std::alloc::Global;
 use std::test::Fail;
-use update_check::{Holder, check};
+use update_check::{Checked, Holder, check};
 use update_codec::id_of;
 use update_model::{DbRule, KeyList};
 
@@ -54,17 +57,25 @@ const ROWS: &[Row<'static>] = &[
     ),
 ];
 
+/// These updates, which are checked under a rule.
+fn checked(alloc: Global, rule: &DbRule, updates: &[Made]) -> Result<Vec<Checked>, Fail>
+    ensures { IfOk result (λ batch. All (IsChecked rule.now) batch.items) }
+{
+    let mut batch = Vec::new(alloc);
+    'updates: for made in updates {
+        batch.push(check(alloc, rule, signed(alloc, *made)?)?)?;
+    }
+    Ok(batch)
+}
+
 /// The entries of a holder of these updates.
 fn entries_of(alloc: Global, updates: &[Made]) -> Result<Vec<Doubled>, Fail> {
     let rule = DbRule {
         database: DATABASE,
         authors: KeyList::from_vec(Vec::new(alloc)),
     };
-    let mut batch = Vec::new(alloc);
-    for made in updates {
-        batch.push(check(alloc, &rule, signed(alloc, *made)?)?)?;
-    }
     let mut holder = MemHolder::new(alloc, rule, 64, None);
+    let batch = checked(alloc, holder.rule(), updates)?;
     holder.commit(alloc, batch)?;
     Ok(find(alloc, &holder)?)
 }

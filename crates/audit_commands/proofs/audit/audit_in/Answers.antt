@@ -36,6 +36,8 @@ pub returns : goal.returns
 returns g c =
     let same : c.store.inside.replica ≡ c.in_ok-store.store.replica = ap (λ (o : OpenData). o.replica) c.store.view_is in
     let stands : Stands c.in_ok-store.store.replica = subst Stands same c.each_stands.ensures in
-    let shown = subst (λ (r : ReplicaState). ShowsDoubled (store_of r) c.in_ok-text.field-0.items) same c.in_ok-text.ensures in
+    let found = c.in_ok-text.ensures in
+    let here : ShowsDoubled (store_of c.store.inside.replica) c.in_ok-text.field-0.items = (found.0, record { taken = c.each_stands.ensures.history_is.members; found = found.1 }, found.2) in
+    let shown = subst (λ (r : ReplicaState). ShowsDoubled (store_of r) c.in_ok-text.field-0.items) same here in
     read_answered (Printing ShowsDoubled) c.args.dir.now (g.H.Shelf.state c.args.shelf.now) (g.H.Shelf.state c.put_store.new.shelf) (g.H.Counted.faults c.args.shelf.now) (g.H.Counted.faults c.put_store.new.shelf)
     c.one_schema.ensures (g.H.Shelf.state c.take_store.new.shelf) c.in_ok-store.store c.requires c.in_ok-store.ensures.takes c.put_store.ensures.puts stands (Ok c.in_ok-text.field-0) (c.in_ok-text.field-0.items, shown, refl)
