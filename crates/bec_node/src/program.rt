@@ -87,7 +87,8 @@ where
             let outcome = unsealed(alloc, key, signature, input);
             finish(alloc, out, outcome)
         }
-        FamilyRequest::Seals(_) => finish(alloc, out, Err(Refusal::Words)),
+        FamilyRequest::Seals(SealRequest::Hsskey { .. }) => finish(alloc, out, Err(Refusal::Words)),
+        FamilyRequest::Seals(SealRequest::Seal { .. }) => finish(alloc, out, Err(Refusal::Words)),
         FamilyRequest::Audits(AuditRequest::Audit { directory }) => {
             let verifier = ManyThreads::new(rt);
             let outcome = audit_in(&verifier, alloc, shelf, directory);
