@@ -78,12 +78,8 @@ fn is_answered(alloc: Global, row: &Row) -> Result<bool, Fail> {
 
 #[test]
 fn two_updates_are_a_certificate(rt: HostRuntime) -> Result<(), Fail> {
-    let mut right = 0;
     for row in ROWS {
-        if is_answered(rt.alloc(), row)? {
-            right += 1;
-        }
+        assert!(rt; is_answered(rt.alloc(), row)?);
     }
-    assert_eq!(rt; right, ROWS.len());
     Ok(())
 }

@@ -63,7 +63,8 @@ fn checked(alloc: Global, rule: &DbRule, updates: &[Made]) -> Result<Vec<Checked
 {
     let mut batch = Vec::new(alloc);
     'updates: for made in updates {
-        batch.push(check(alloc, rule, signed(alloc, *made)?)?)?;
+        let bytes = signed(alloc, *made)?;
+        batch.push(check(alloc, rule, bytes)?)?;
     }
     Ok(batch)
 }
@@ -92,7 +93,10 @@ fn has_entries(alloc: Global, row: &Row) -> Result<bool, Fail> {
     let (updates, wanted) = row;
     let found = entries_of(alloc, updates)?;
     for (entry, pair) in found.iter().zip(wanted.iter()) {
-        if !names(alloc, entry, updates[pair.0], updates[pair.1])? {
+        let (Some(first), Some(second)) = (updates.get(pair.0), updates.get(pair.1)) else {
+            return Ok(false);
+        };
+        if !names(alloc, entry, *first, *second)? {
             return Ok(false);
         }
     }
@@ -101,13 +105,9 @@ fn has_entries(alloc: Global, row: &Row) -> Result<bool, Fail> {
 
 #[test]
 fn holders_have_their_entries(rt: HostRuntime) -> Result<(), Fail> {
-    let mut right = 0;
     for row in ROWS {
-        if has_entries(rt.alloc(), row)? {
-            right += 1;
-        }
+        assert!(rt; has_entries(rt.alloc(), row)?);
     }
-    assert_eq!(rt; right, ROWS.len());
     Ok(())
 }
 
