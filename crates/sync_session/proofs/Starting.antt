@@ -1,5 +1,6 @@
 -- How a session begins, and what it remembers.
-use Rattle.std.proofs.Common.{◌≡◌, ℕ, Bool, true, false, ◌||◌, List, [], All, length, map, take, take_all, Some, None, refl, sym, ap, subst, ◌∙◌, arith}
+use Rattle.std.proofs.Common.{◌≡◌, ℕ, ◌≤◌, Bool, true, false, ◌||◌, List, [], All, length, map, take, take_all, Some, None, refl, sym, ap, subst, ◌∙◌, arith, length-take}
+use Rattle.std.specs.List.Sorted.{IsStrictlySortedBy}
 use Rattle.std.proofs.lemmas.List.{length-map}
 use Rattle.std.proofs.lemmas.List.Elements.{All-nil}
 use Rattle.update_check.specs.Holding.{IsHeld}
@@ -7,7 +8,7 @@ use Rattle.update_check.specs.Signed.{IsChecked}
 use Rattle.update_codec.specs.Parts.{entry_of}
 use Rattle.update_model.specs.declared.update_id.UpdateId.{UpdateId}
 use Rattle.update_model.specs.Batch.{Limits}
-use Rattle.update_model.specs.Entry.{Entry}
+use Rattle.update_model.specs.Entry.{Entry, id_cmp}
 use Rattle.update_model.specs.Graph.{has}
 use Rattle.update_model.specs.Rule.{RuleData}
 use Rattle.session_rules.specs.declared.limits.TheConstants.{MAX_NEEDS}
@@ -22,6 +23,7 @@ use Rattle.sync_session.specs.declared.out.Out.{Out}
 use Rattle.sync_frames.specs.Payload as payload
 use Rattle.sync_session.specs.Starts.{before_hello, IsFresh, StartsAs}
 use Rattle.sync_session.proofs.Hellos.{members_few}
+use Rattle.sync_session.proofs.Turning.{sorted_take}
 
 -- ---- the beginning
 
@@ -126,3 +128,10 @@ least_of_both start heads first peers all ids none j j2 front = record {
 -- the same ids, found otherwise
 pub least_same : (p q : UpdateId → Bool) (ids : List UpdateId) → ((id : UpdateId) → p id ≡ q id) → AreLeast p MAX_NEEDS ids → AreLeast q MAX_NEEDS ids
 least_same p q ids same least = record { all = least.all; rising = least.rising; exact = λ id. least.exact id ∙ same id; front = least.front }
+
+-- the least ids are few, and rise
+pub least_few : (test : UpdateId → Bool) (ids : List UpdateId) → AreLeast test MAX_NEEDS ids → length ids ≤ MAX_NEEDS
+least_few test ids least = rw least.front (omega (arith, length-take MAX_NEEDS least.all))
+
+pub least_rising : (test : UpdateId → Bool) (ids : List UpdateId) → AreLeast test MAX_NEEDS ids → IsStrictlySortedBy id_cmp ids
+least_rising test ids least = rw least.front (sorted_take MAX_NEEDS least.all least.rising)
