@@ -30,6 +30,7 @@ use Rattle.replica.specs.declared.make_fault.MakeFault.TheVariants.{NotListed, T
 use Rattle.replica.specs.declared.make_fault.Side.TheVariants.{Key as KeySide, Log as LogSide}
 use Rattle.replica.specs.Making.{HasNoneToJoin, IsJoinCause, IsMakeCause, Joins, JoinsTo, Makes}
 use Rattle.replica.specs.Replicas.{ReplicaState}
+use Rattle.replica.specs.Signing.{KeyAfter, KeyAfterJoin, SignsAtLeast, TriesLeast}
 use Rattle.store_directory.specs.Holding.{IsStoreCause, LetsGo, OpenData, PutsStore, TakesStore}
 use Rattle.key_directory.specs.Keys.{IsKeyCause, KeepsUsed, LetsKeyGo, PutsKey, TakesKey, WorksWith}
 use Rattle.key_directory.specs.Parts.{IfStands, IsHome, IsUntouched, KeepsAllBut, part_in, reading}
@@ -42,7 +43,7 @@ use Rattle.key_directory.proofs.Handing.{untouched_by}
 use Rattle.key_directory.proofs.Places.{home_again, keeps_through, stands-not-out}
 use Rattle.key_directory.proofs.Putting.{slot_of, told}
 use Rattle.store_directory.proofs.Readings.{OneSchema}
-use Rattle.key_directory.proofs.Signing.{keeps_key, keeps_used}
+use Rattle.key_directory.proofs.Signing.{keeps_key, keeps_used, signs_at_least, tries_least, untouched_used}
 use Rattle.store_directory.proofs.Working.{home_after_store, read_before, store_of, worked_run}
 use Rattle.txn_text.specs.Transactions.{FirstFault, Reads}
 use Rattle.txn_text.specs.declared.fault.TextError.{TextError}
@@ -55,7 +56,7 @@ use Rattle.outcomes.specs.declared.refusal.Refusal.TheVariants as refusals
 use Rattle.outcomes.specs.Comes.{IsShelfFault, is_done, readings, IsSourceFault}
 use Rattle.schema_verdict.specs.Inputs.{ReadsText}
 use Rattle.outcomes.specs.Outcome.{Outcome, from_key, from_make, from_store, from_text}
-use Rattle.node_commands.specs.Signing.{ApplyAnswer, IsInnerFault, IsNoStop, IsOpenFault, JoinAnswer, KeyedAnswer, MakeAnswer, MakesUpdate, SignAnswer, SignsIn, SignsOpen, StopsReading, StoreAnswer, TakesText, asked, bad_text, history_of, joined, made, none, not_joined, not_made, taken_of, with_key, with_store, without_key, without_store}
+use Rattle.node_commands.specs.Signing.{ApplyAnswer, IsInnerFault, IsNoStop, IsOpenFault, JoinAnswer, KeyedAnswer, MakeAnswer, MakesUpdate, SignAnswer, SignsIn, SignsOpen, StopsReading, StoreAnswer, TakesText, UsesKey, UsesKeyIn, asked, bad_text, history_of, joined, made, none, not_joined, not_made, taken_of, with_key, with_store, without_key, without_store}
 use Rattle.outcomes.specs.OpenStores.{WorksFrom}
 use Rattle.outcomes.specs.StoreAnswers.{bad_key, bad_store, next_bytes, no_key, no_store}
 use Rattle.outcomes.specs.Standing.{Stands}
@@ -74,16 +75,62 @@ same_secret key key_new (inr tries) = tries.1.secret
 with_same_key : (key : KeyState) → WorksWith key key
 with_same_key key = record { tried = inl refl; used = λ index used. moments.stays key.parts.used key.parts.used (IsUsed index) refl used }
 
+-- ---- what a key was used for
+
+-- of a key that is open
+abbrev pub UsesOpen : KeyState → KeyState → List (List ℕ) → Outcome → Type 0
+UsesOpen key key_new added outcome = UsesKey (key_new ≡ key) (TriesLeast key key_new) (SignsAtLeast key key_new) added outcome
+
+-- said in other words
+uses_as : {NotUsed Tries Signs NotUsed' Tries' Signs' : Type 0} → (NotUsed → NotUsed') → (Tries → Tries') → (Signs → Signs') → (added : List (List ℕ)) (outcome : Outcome)
+    → UsesKey NotUsed Tries Signs added outcome → UsesKey NotUsed' Tries' Signs' added outcome
+uses_as {NotUsed} {Tries} {Signs} {NotUsed'} {Tries'} {Signs'} n t s = by
+  where
+    any : NotUsed ⊎ (Tries ⊎ Signs) → NotUsed' ⊎ (Tries' ⊎ Signs')
+    any (inl not) = inl (n not)
+    any (inr (inl tries)) = inr (inl (t tries))
+    any (inr (inr signs)) = inr (inr (s signs))
+
+    by : (added : List (List ℕ)) (outcome : Outcome) → UsesKey NotUsed Tries Signs added outcome → UsesKey NotUsed' Tries' Signs' added outcome
+    by [] (Ok text) uses = n uses
+    by (bytes ∷ others) (Ok text) uses = s uses
+    by added (Err refusals.IdTaken) uses = s uses
+    by added (Err refusals.StoreFault) uses = any uses
+    by added (Err refusals.Memory) uses = any uses
+    by added (Err refusal) uses = n uses
+
+-- where a refusal gives way to want of memory
+uses_lacking : {NotUsed Tries Signs : Type 0} → (added : List (List ℕ)) (refusal : Refusal) → UsesKey NotUsed Tries Signs added (Err refusal) → NotUsed ⊎ (Tries ⊎ Signs)
+uses_lacking added refusals.IdTaken uses = inr (inr uses)
+uses_lacking added refusals.StoreFault uses = uses
+uses_lacking added refusals.Memory uses = uses
+uses_lacking added refusal uses = inl uses
+
+-- where no update was made
+uses_not : (key key_new : KeyState) (why : MakeFault) → KeyAfter {T = UpdateId} key (Err why) key_new → UsesOpen key key_new [] (Err (from_make key.secret why))
+uses_not key key_new NotListed after = after
+uses_not key key_new (TooManyHeads n) after = after
+uses_not key key_new (Invalid reason operation) after = after
+uses_not key key_new (TooLong len) after = after
+uses_not key key_new Full after = after
+uses_not key key_new Spent after = after
+uses_not key key_new (Taken id) after = after
+uses_not key key_new (DiskFault KeySide) after = inr (inl after)
+uses_not key key_new (DiskFault LogSide) after = inr (inr after)
+uses_not key key_new Memory (inl same) = inl same
+uses_not key key_new Memory (inr signs) = inr (inr signs)
+
 -- ---- over what is open
 
 -- nothing was done
 pub signs_nothing : (Answer : SignAnswer) (Stops : Outcome → Type 0) (replica : ReplicaState) (key : KeyState) (outcome : Outcome) → Stands replica
-    → Answer replica.history key.secret key.taken [] outcome ⊎ IsOpenFault Stops replica key replica key outcome → SignsOpen Answer Stops replica key replica key outcome
-signs_nothing Answer Stops replica key outcome stands comes = record {
+    → Answer replica.history key.secret key.taken [] outcome ⊎ IsOpenFault Stops replica key replica key outcome → UsesOpen key key [] outcome → SignsOpen Answer Stops replica key replica key outcome
+signs_nothing Answer Stops replica key outcome stands comes uses = record {
   added = [];
   comes = so comes;
   works = works_not replica (is_done outcome) stands;
   works_with = with_same_key key;
+  uses = uses;
   log_later = omega arith;
   key_later = omega arith;
 }
@@ -102,6 +149,7 @@ signs_as One Other Stops Halts old key new key_new outcome answers halts signs =
   comes = so signs.comes;
   works = signs.works;
   works_with = signs.works_with;
+  uses = signs.uses;
   log_later = signs.log_later;
   key_later = signs.key_later;
 }
@@ -120,23 +168,27 @@ module _ (old : ReplicaState) (key : KeyState) (new : ReplicaState) (key_new : K
     (tried : (key_new ≡ key) ⊎ ((index : ℕ) × Tries key index key_new)) where
   -- something was added
   adds : (Answer : SignAnswer) (added : List (List ℕ)) (text : Vec ℕ Global) → new.history ≡ record { schema = old.history.schema; members = old.history.members ++ added }
-      → (IsTrue old.log.disk.tells → IsClean new.log.end new.log.disk) → Answer old.history key.secret key.taken added (Ok text) → SignsOpen Answer IsNoStop old key new key_new (Ok text)
-  adds Answer added text is clean answer = record {
+      → (IsTrue old.log.disk.tells → IsClean new.log.end new.log.disk) → Answer old.history key.secret key.taken added (Ok text) → UsesOpen key key_new added (Ok text)
+      → SignsOpen Answer IsNoStop old key new key_new (Ok text)
+  adds Answer added text is clean answer uses = record {
     added = added;
     comes = inl answer;
     works = works_on old new added true is leaves stands (λ was is_done. clean);
     works_with = record { tried = tried; used = used };
+    uses = uses;
     log_later = log_later;
     key_later = key_later;
   }
 
   fails : (Answer : SignAnswer) (refusal : Refusal) → new.history ≡ old.history
-      → Answer old.history key.secret key.taken [] (Err refusal) ⊎ IsOpenFault IsNoStop old key new key_new (Err refusal) → SignsOpen Answer IsNoStop old key new key_new (Err refusal)
-  fails Answer refusal same comes = record {
+      → Answer old.history key.secret key.taken [] (Err refusal) ⊎ IsOpenFault IsNoStop old key new key_new (Err refusal) → UsesOpen key key_new [] (Err refusal)
+      → SignsOpen Answer IsNoStop old key new key_new (Err refusal)
+  fails Answer refusal same comes uses = record {
     added = [];
     comes = so comes;
     works = works_failed old new same leaves stands;
     works_with = record { tried = tried; used = used };
+    uses = uses;
     log_later = log_later;
     key_later = key_later;
   }
@@ -147,15 +199,17 @@ module _ (old : ReplicaState) (key : KeyState) (new : ReplicaState) (key_new : K
       so (inr fault) = inr (fault, refl)
 
   pub makes : (ops : List Op) (c : List ℕ) (id : UpdateId) (text : Vec ℕ Global) → Makes is_luhn old.history key.secret key.taken ops c id new.history
-      → (IsTrue old.log.disk.tells → IsClean new.log.end new.log.disk) → text.items ≡ line_of id → SignsOpen (MakeAnswer ops c) IsNoStop old key new key_new (Ok text)
-  makes ops c id text is clean printed =
+      → (IsTrue old.log.disk.tells → IsClean new.log.end new.log.disk) → text.items ≡ line_of id → SignsAtLeast key key_new
+      → SignsOpen (MakeAnswer ops c) IsNoStop old key new key_new (Ok text)
+  makes ops c id text is clean printed signs =
       adds (MakeAnswer ops c) (is.bytes ∷ []) text is.last clean
-      (made id is.bytes (subst (λ (h : HistoryData). Makes is_luhn old.history key.secret key.taken ops c id h) is.last is) refl printed)
+      (made id is.bytes (subst (λ (h : HistoryData). Makes is_luhn old.history key.secret key.taken ops c id h) is.last is) refl printed) signs
 
   pub makes_not : (ops : List Op) (c : List ℕ) (why : MakeFault) → new.history ≡ old.history → IsMakeCause is_luhn old.history key.secret key.taken ops c why
       → (why ≡ DiskFault KeySide → Rose key.parts.used_faults key_new.parts.used_faults) → (why ≡ DiskFault LogSide → Rose old.log.faults new.log.faults)
-      → SignsOpen (MakeAnswer ops c) IsNoStop old key new key_new (Err (from_make key.secret why))
-  makes_not ops c why same cause key_failed log_failed = fails (MakeAnswer ops c) (from_make key.secret why) same (by why cause key_failed log_failed)
+      → KeyAfter {T = UpdateId} key (Err why) key_new → SignsOpen (MakeAnswer ops c) IsNoStop old key new key_new (Err (from_make key.secret why))
+  makes_not ops c why same cause key_failed log_failed after =
+      fails (MakeAnswer ops c) (from_make key.secret why) same (by why cause key_failed log_failed) (uses_not key key_new why after)
     where
       by : (why : MakeFault) → IsMakeCause is_luhn old.history key.secret key.taken ops c why → (why ≡ DiskFault KeySide → Rose key.parts.used_faults key_new.parts.used_faults)
           → (why ≡ DiskFault LogSide → Rose old.log.faults new.log.faults)
@@ -172,32 +226,35 @@ module _ (old : ReplicaState) (key : KeyState) (new : ReplicaState) (key_new : K
       by Memory so k l = inr (inl refl)
 
   joins : (stream : Stream) (id : UpdateId) (text : Vec ℕ Global) → Joins old.history key.secret key.taken (next_bytes stream) id new.history
-      → (IsTrue old.log.disk.tells → IsClean new.log.end new.log.disk) → text.items ≡ line_of id → SignsOpen (JoinAnswer stream) IsNoStop old key new key_new (Ok text)
-  joins stream id text is clean printed =
+      → (IsTrue old.log.disk.tells → IsClean new.log.end new.log.disk) → text.items ≡ line_of id → SignsAtLeast key key_new
+      → SignsOpen (JoinAnswer stream) IsNoStop old key new key_new (Ok text)
+  joins stream id text is clean printed signs =
       adds (JoinAnswer stream) (is.bytes ∷ []) text is.last clean
-      (joined id is.bytes (subst (λ (h : HistoryData). Joins old.history key.secret key.taken (next_bytes stream) id h) is.last is) refl printed)
+      (joined id is.bytes (subst (λ (h : HistoryData). Joins old.history key.secret key.taken (next_bytes stream) id h) is.last is) refl printed) signs
 
-  joins_none : (stream : Stream) (text : Vec ℕ Global) → new ≡ old → HasNoneToJoin old.history → text.items ≡ [] → SignsOpen (JoinAnswer stream) IsNoStop old key new key_new (Ok text)
-  joins_none stream text same few printed = record {
+  joins_none : (stream : Stream) (text : Vec ℕ Global) → new ≡ old → HasNoneToJoin old.history → text.items ≡ [] → key_new ≡ key → SignsOpen (JoinAnswer stream) IsNoStop old key new key_new (Ok text)
+  joins_none stream text same few printed unused = record {
     added = [];
     comes = inl (none few refl printed);
     works = works_on old new [] true (ap (λ (r : ReplicaState). r.history) same ∙ ap (λ (l : List (List ℕ)). record { schema = old.history.schema; members = l }) (sym (append-nil old.history.members))) leaves stands
         (λ was is_done. subst (λ (r : ReplicaState). IsTrue old.log.disk.tells → IsClean r.log.end r.log.disk) (sym same) was);
     works_with = record { tried = tried; used = used };
+    uses = unused;
     log_later = log_later;
     key_later = key_later;
   }
 
   pub joins_to : (stream : Stream) (id : Option UpdateId) (text : Vec ℕ Global) → JoinsTo old.history key.secret key.taken (next_bytes stream) id new.history
       → (IsTrue old.log.disk.tells → IfSome id (λ _. IsClean new.log.end new.log.disk)) → IfNone id (new ≡ old) → MatchOption id (text.items ≡ []) (λ one. text.items ≡ line_of one)
-      → SignsOpen (JoinAnswer stream) IsNoStop old key new key_new (Ok text)
-  joins_to stream (Some id) text is clean same printed = joins stream id text is clean printed
-  joins_to stream None text is clean same printed = joins_none stream text same is.0 printed
+      → KeyAfterJoin key (Ok id) key_new → SignsOpen (JoinAnswer stream) IsNoStop old key new key_new (Ok text)
+  joins_to stream (Some id) text is clean same printed after = joins stream id text is clean printed after
+  joins_to stream None text is clean same printed after = joins_none stream text same is.0 printed after
 
   pub joins_not : (stream : Stream) (why : MakeFault) → new.history ≡ old.history → IsJoinCause old.history key.secret key.taken (next_bytes stream) why
       → (why ≡ DiskFault KeySide → Rose key.parts.used_faults key_new.parts.used_faults) → (why ≡ DiskFault LogSide → Rose old.log.faults new.log.faults)
-      → SignsOpen (JoinAnswer stream) IsNoStop old key new key_new (Err (from_make key.secret why))
-  joins_not stream why same cause key_failed log_failed = fails (JoinAnswer stream) (from_make key.secret why) same (by why cause key_failed log_failed)
+      → KeyAfter {T = UpdateId} key (Err why) key_new → SignsOpen (JoinAnswer stream) IsNoStop old key new key_new (Err (from_make key.secret why))
+  joins_not stream why same cause key_failed log_failed after =
+      fails (JoinAnswer stream) (from_make key.secret why) same (by why cause key_failed log_failed) (uses_not key key_new why after)
     where
       by : (why : MakeFault) → IsJoinCause old.history key.secret key.taken (next_bytes stream) why → (why ≡ DiskFault KeySide → Rose key.parts.used_faults key_new.parts.used_faults)
           → (why ≡ DiskFault LogSide → Rose old.log.faults new.log.faults)
@@ -253,8 +310,13 @@ text_refused (Some input) after old new schema read (text_errors.Fault fault) re
 pub apply_stopped : (before after : Option (List ℕ)) (stream : Stream) (old new : ℕ) (replica : ReplicaState) (key : KeyState) (refusal : Refusal) → Stands replica
     → StopsReading before after old new replica.history.schema refusal → SignsOpen (ApplyAnswer before after stream) (IsSourceFault old new) replica key replica key (Err refusal)
 apply_stopped before after stream old new replica key refusal stands stopped =
-    signs_nothing (ApplyAnswer before after stream) (IsSourceFault old new) replica key (Err refusal) stands (by stopped)
+    signs_nothing (ApplyAnswer before after stream) (IsSourceFault old new) replica key (Err refusal) stands (by stopped) (unused stopped)
   where
+    unused : StopsReading before after old new replica.history.schema refusal → UsesOpen key key [] (Err refusal)
+    unused (inl faults) = subst (λ (r : Refusal). UsesOpen key key [] (Err r)) (sym faults.is) refl
+    unused (inr (inl memory)) = subst (λ (r : Refusal). UsesOpen key key [] (Err r)) (sym memory) (inl refl)
+    unused (inr (inr failed)) = subst (λ (r : Refusal). UsesOpen key key [] (Err r)) (sym failed.0) refl
+
     by : StopsReading before after old new replica.history.schema refusal
         → ApplyAnswer before after stream replica.history key.secret key.taken [] (Err refusal) ⊎ IsOpenFault (IsSourceFault old new) replica key replica key (Err refusal)
     by (inl faults) = inl (bad_text faults.text faults.fault faults.whole faults.first refl (ap Err faults.is))
@@ -280,7 +342,7 @@ in_place out new same place = absurd (place refl)
 
 -- a part that was at most read keeps what it has used
 keeps_untouched : (old new : PartState) → IsUntouched old new → KeepsUsed old new
-keeps_untouched old new same = record { reads = inl same; used = λ index is. by old new same index is }
+keeps_untouched old new same index is = by old new same index is
   where
     by : (old new : PartState) → IsUntouched old new → (index : ℕ) → IfStands old (λ before. IsUsed index before.seen)
         → LeavesSince (moments_of old) (moments_of new) (IsUsed index) × IfStands new (λ after. IsUsed index after.seen)
@@ -323,6 +385,7 @@ module _ (Unused : Type 0) (Answer : SignAnswer) (Stops : Outcome → Type 0) (d
     tells = lets.tells;
     key = lets.key_part;
     used = λ tells. keeps_untouched (part_in before dir Used) (part_in after dir Used) (lets.used_part tells);
+    uses = λ tells. unused why (lets.used_part tells);
     key_home = λ tells. in_place (part_in before dir Key) (part_in after dir Key) (lets.key_part tells) (key_in tells);
     used_home = λ tells. in_place (part_in before dir Used) (part_in after dir Used) (lets.used_part tells) (used_in_its tells);
     others = lets.others;
@@ -330,6 +393,12 @@ module _ (Unused : Type 0) (Answer : SignAnswer) (Stops : Outcome → Type 0) (d
     log_later = omega arith;
   }
     where
+      unused : (why : KeyRefusal) → IsUntouched (part_in before dir Used) (part_in after dir Used) → UsesKeyIn (part_in before dir Used) (part_in after dir Used) [] (Err (from_key why))
+      unused key_refusals.NoKey same = same
+      unused key_refusals.BadKey same = same
+      unused key_refusals.DiskFault same = inl same
+      unused key_refusals.Memory same = inl same
+
       by : (why : KeyRefusal) → (IsTrue before.tells → IsKeyCause before dir why) → (why ≡ key_refusals.DiskFault → Rose faults faults_new)
           → (IsTrue before.tells → KeyedAnswer Unused Answer (reading (part_in before dir Key)) (reading (part_in before dir Used)) replica.history [] (Err (from_key why)))
           ⊎ (IsInnerFault Stops faults faults_new replica replica (Err (from_key why)) × (nothing ≡ []))
@@ -350,6 +419,10 @@ module _ (Unused : Type 0) (Answer : SignAnswer) (Stops : Outcome → Type 0) (d
     tells = puts.tells ∙ takes.tells;
     key = λ tells. keeps_key before opened opened after dir taken now tells (opened_told tells) takes signs.works_with puts;
     used = λ tells. keeps_used before opened opened after dir taken now tells (opened_told tells) takes signs.works_with (image (used_told tells signs.works_with.tried)) puts;
+    uses = λ tells. uses_as (λ same. untouched_used before opened opened after dir taken now tells (opened_told tells) takes same puts)
+        (λ t. tries_least before opened opened after dir taken now tells (opened_told tells) takes t.index t.least t.tries (image (used_told tells signs.works_with.tried)) puts)
+        (λ s. signs_at_least before opened opened after dir taken now tells (opened_told tells) takes s.index s.least s.tries s.reserved (image (used_told tells signs.works_with.tried)) puts)
+        signs.added outcome signs.uses;
     key_home = λ tells. stands-not-out (part_in after dir Key) now.parts.key (puts.key_back (opened_told tells));
     used_home = λ tells. stands-not-out (part_in after dir Used) now.parts.used (puts.used_back (opened_told tells));
     others = λ tells. keeps_through (Key ∷ Used ∷ []) dir before opened after takes.others (puts.others (opened_told tells));
@@ -457,8 +530,15 @@ module _ (Unused : Type 0) (Answer : SignAnswer) (Stops : Outcome → Type 0) (d
     };
     key = λ tells. untouched_by (part_in before dir Key) (part_in after dir Key) (lets.others tells (slot dir Key) refl);
     used = λ tells. keeps_untouched (part_in before dir Used) (part_in after dir Used) (untouched_by (part_in before dir Used) (part_in after dir Used) (lets.others tells (slot dir Used) refl));
+    uses = λ tells. unused why (untouched_by (part_in before dir Used) (part_in after dir Used) (lets.others tells (slot dir Used) refl));
   }
     where
+      unused : (why : StoreRefusal) → IsUntouched (part_in before dir Used) (part_in after dir Used) → UsesKeyIn (part_in before dir Used) (part_in after dir Used) [] (Err (from_store why))
+      unused store_refusals.NoStore same = same
+      unused store_refusals.BadStore same = same
+      unused store_refusals.DiskFault same = inl same
+      unused store_refusals.Memory same = inl same
+
       by : (why : StoreRefusal) → (IsTrue before.tells → IsStoreCause is_luhn before dir why) → (why ≡ store_refusals.DiskFault → Rose old new)
           → (IsTrue before.tells → StoreAnswer Unused Answer (readings before dir) [] (Err (from_store why))) ⊎ ((IsShelfFault old new (Err (from_store why)) ⊎ Stops (Err (from_store why))) × (nothing ≡ []))
       by store_refusals.NoStore so f = inl (λ tells. without_store refusals.NoStore (no_store (so tells) refl) unused refl refl)
@@ -487,6 +567,9 @@ module _ (Unused : Type 0) (Answer : SignAnswer) (Stops : Outcome → Type 0) (d
     used = λ tells.
         subst (λ (p : PartState). KeepsUsed p (part_in after dir Used)) (takes.others (slot dir Used) refl)
         (subst (λ (p : PartState). KeepsUsed (part_in opened dir Used) p) (sym (puts.others (closing_told tells) (slot dir Used) refl)) (signs.used (opened_told tells)));
+    uses = λ tells.
+        subst (λ (p : PartState). UsesKeyIn p (part_in after dir Used) signs.added outcome) (takes.others (slot dir Used) refl)
+        (subst (λ (p : PartState). UsesKeyIn (part_in opened dir Used) p signs.added outcome) (sym (puts.others (closing_told tells) (slot dir Used) refl)) (signs.uses (opened_told tells)));
   }
     where
       opened_told : IsTrue before.tells → IsTrue opened.tells
@@ -553,6 +636,7 @@ signs_without_memory Unused Answer Stops dir before after old new refusal adds_n
   };
   key = makes_it.key;
   used = makes_it.used;
+  uses = λ tells. uses_lacking makes_it.runs.added refusal (makes_it.uses tells);
 }
   where
     no_update : (IsTrue before.tells → StoreAnswer Unused Answer (readings before dir) makes_it.runs.added (Err refusal)) ⊎ ((IsShelfFault old new (Err refusal) ⊎ Stops (Err refusal)) × (makes_it.runs.added ≡ []))

@@ -1,10 +1,10 @@
 -- What the commands that make an update by the key of a directory answer, and what they leave.
-use Rattle.std.specs.Prelude.{◌≡◌, ◌≢◌, ◌⊎◌, ℕ, ◌≤◌, Bool, List, [], ◌∷◌, ◌++◌, IsTrue, Err, Option, Some, None}
+use Rattle.std.specs.Prelude.{◌≡◌, ◌≢◌, ◌⊎◌, ℕ, ◌≤◌, Bool, List, [], ◌∷◌, ◌++◌, IsTrue, Ok, Err, Option, Some, None}
 use Rattle.rand_core.specs.Stream.{Stream}
 use Rattle.row_check.specs.Checksum.{is_luhn}
 use Rattle.bec_bytes.specs.Causes.{Rose}
 use Rattle.bec_disk.specs.declared.part.Part.TheVariants.{Schema, Updates, Key, Used}
-use Rattle.bec_disk.specs.Shelf.{ShelfState, out}
+use Rattle.bec_disk.specs.Shelf.{PartState, ShelfState, out}
 use Rattle.update_model.specs.declared.op.Op.{Op}
 use Rattle.update_model.specs.declared.update_id.UpdateId.{UpdateId}
 use Rattle.lms_tree.specs.SecretKey.{SecretData}
@@ -14,14 +14,15 @@ use Rattle.key_index.specs.Used.{used_in}
 use Rattle.replica.specs.declared.make_fault.MakeFault.{MakeFault}
 use Rattle.replica.specs.Making.{HasNoneToJoin, IsJoinCause, IsMakeCause, Joins, Makes}
 use Rattle.replica.specs.Replicas.{ReplicaState}
-use Rattle.key_directory.specs.Keys.{IsBadKey, IsNoKey, KeepsUsed, ReadsAsKey, WorksWith}
+use Rattle.replica.specs.Signing.{SignsAtLeast, TriesLeast}
+use Rattle.key_directory.specs.Keys.{IsBadKey, IsNoKey, KeepsUsed, ReadsAsKey, SignsAtLeastIn, TriesLeastIn, WorksWith}
 use Rattle.key_directory.specs.Parts.{IsUntouched, KeepsAllBut, part_in, reading}
 use Rattle.store_directory.specs.Stores.{StoreData}
 use Rattle.txn_text.specs.declared.fault.TextFault.{TextFault}
 use Rattle.txn_text.specs.declared.limits.TheConstants.{MAX_TRANSACTION_BYTES}
 use Rattle.txn_text.specs.Transactions.{Reads, FirstFault}
 use Rattle.outcomes.specs.declared.refusal.Refusal.{Refusal}
-use Rattle.outcomes.specs.declared.refusal.Refusal.TheVariants.{BadKey, Memory, NoKey, StoreFault, Transaction}
+use Rattle.outcomes.specs.declared.refusal.Refusal.TheVariants.{BadKey, IdTaken, Memory, NoKey, StoreFault, Transaction}
 use Rattle.outcomes.specs.declared.refusal.Refusal.TheVariants as refusals
 use Rattle.outcomes.specs.Comes.{IsShelfFault, RunsStore, is_done, IsRefused, IsSourceFault}
 use Rattle.schema_verdict.specs.Inputs.{IsWholeText}
@@ -84,12 +85,33 @@ pub data StoreAnswer (Unused : Type 0) (Answer : SignAnswer) (parts : Readings) 
   without_store : (refusal : Refusal) → RefusesStore parts refusal → Unused → added ≡ [] → outcome ≡ Err refusal → StoreAnswer Unused Answer parts added outcome
   with_store : (store : StoreData) → HasStore parts store → KeyedAnswer Unused Answer parts.key parts.used (history_of store) added outcome → StoreAnswer Unused Answer parts added outcome
 
--- A command that makes an update by the key of a directory. Its part Key is at most read, and at most one index is used besides. In place of an answer
--- comes a fault of the shelf, or what else may stop it.
+-- the one where nothing was added, and the other where something was
+abbrev pub IfAdded : List (List ℕ) → Type 0 → Type 0 → Type 0
+IfAdded [] None Some = None
+IfAdded (bytes ∷ others) None Some = Some
+
+-- What a key was used for, by what was added and by the outcome: nothing, or its least unused index was tried, or a message was signed at that
+-- index. A message was signed where an update was added, and where its id is taken. Where the store failed, the disk tells: the log's fails after a
+-- message was signed, the key's after the index was tried, every other before. Memory may run out before or after. With every other outcome the key
+-- was not used.
+abbrev pub UsesKey : (NotUsed Tries Signs : Type 0) → List (List ℕ) → Outcome → Type 0
+UsesKey NotUsed Tries Signs added (Ok text) = IfAdded added NotUsed Signs
+UsesKey NotUsed Tries Signs added (Err IdTaken) = Signs
+UsesKey NotUsed Tries Signs added (Err StoreFault) = NotUsed ⊎ (Tries ⊎ Signs)
+UsesKey NotUsed Tries Signs added (Err Memory) = NotUsed ⊎ (Tries ⊎ Signs)
+UsesKey NotUsed Tries Signs added (Err refusal) = NotUsed
+
+-- The same of the part Used, by how it was and how it is.
+abbrev pub UsesKeyIn : PartState → PartState → List (List ℕ) → Outcome → Type 0
+UsesKeyIn old new added outcome = UsesKey (IsUntouched old new) (TriesLeastIn old new) (SignsAtLeastIn old new) added outcome
+
+-- A command that makes an update by the key of a directory. Its part Key is at most read. Of its part Used the least unused index is used where a
+-- message was signed, and no other; what was used stays so at each moment. In place of an answer comes a fault of the shelf, or what else may stop it.
 pub record MakesUpdate (Unused : Type 0) (Answer : SignAnswer) (Stops : Outcome → Type 0) (dir : List ℕ) (before after : ShelfState) (old new : ℕ) (outcome : Outcome) : Type 0 where
   pub runs : RunsStore (λ given. IsShelfFault old new given ⊎ Stops given) (StoreAnswer Unused Answer) (Schema ∷ Updates ∷ Key ∷ Used ∷ []) dir before after outcome
   pub key : IsTrue before.tells → IsUntouched (part_in before dir Key) (part_in after dir Key)
   pub used : IsTrue before.tells → KeepsUsed (part_in before dir Used) (part_in after dir Used)
+  pub uses : IsTrue before.tells → UsesKeyIn (part_in before dir Used) (part_in after dir Used) runs.added outcome
 
 -- Nothing else stops it.
 abbrev pub IsNoStop : Outcome → Type 0
@@ -145,6 +167,7 @@ pub record SignsOpen (Answer : SignAnswer) (Stops : Outcome → Type 0) (old : R
   pub comes : Answer old.history key.secret key.taken added outcome ⊎ (IsOpenFault Stops old key new key_new outcome × (added ≡ []))
   pub works : WorksFrom old new added (is_done outcome)
   pub works_with : WorksWith key key_new
+  pub uses : UsesKey (key_new ≡ key) (TriesLeast key key_new) (SignsAtLeast key key_new) added outcome
   pub log_later : old.log.faults ≤ new.log.faults
   pub key_later : key.parts.used_faults ≤ key_new.parts.used_faults
 
@@ -161,6 +184,7 @@ pub record SignsIn (Unused : Type 0) (Answer : SignAnswer) (Stops : Outcome → 
   pub tells : after.tells ≡ before.tells
   pub key : IsTrue before.tells → IsUntouched (part_in before dir Key) (part_in after dir Key)
   pub used : IsTrue before.tells → KeepsUsed (part_in before dir Used) (part_in after dir Used)
+  pub uses : IsTrue before.tells → UsesKeyIn (part_in before dir Used) (part_in after dir Used) added outcome
   pub key_home : IsTrue before.tells → part_in after dir Key ≢ out
   pub used_home : IsTrue before.tells → part_in after dir Used ≢ out
   pub others : IsTrue before.tells → KeepsAllBut (Key ∷ Used ∷ []) dir before after

@@ -13,7 +13,7 @@ use Rattle.node_commands.proofs.commands.apply.make_by.Goals as goal
 pub returns-in_err-room : goal.returns-in_err-room
 returns-in_err-room g c =
     let p = err_from_is_err_and c.from_residual.result c.from_residual.ensures.1 in
-    rw (p.1, p.2) (signs_nothing (MakeAnswer c.args.ops (next_bytes (g.R.Rng.stream c.args.random.now))) IsNoStop c.args.replica.now c.args.key.now (Err _) c.each_stands.ensures (inr (inl refl)))
+    rw (p.1, p.2) (signs_nothing (MakeAnswer c.args.ops (next_bytes (g.R.Rng.stream c.args.random.now))) IsNoStop c.args.replica.now c.args.key.now (Err _) c.each_stands.ensures (inr (inl refl)) (inl refl))
 
 pub returns-in-Ok : goal.returns-in-Ok
 returns-in-Ok g c =
@@ -24,7 +24,7 @@ returns-in-Ok g c =
     let e = c.in-Ok.ensures in
     let drawn : c.fill_bytes.new.dst ≡ next_bytes (g.R.Rng.stream c.args.random.now) = search rules in
     subst (λ (w : List ℕ). SignsOpen (MakeAnswer c.args.ops w) IsNoStop old key new key_new (Ok c.id_line.result)) drawn
-    (makes old key new key_new c.each_stands-2.ensures e.any_moment e.used e.later e.key_later (tried_by key (Ok c.in-Ok.id) key_new e.key) c.args.ops c.fill_bytes.new.dst c.in-Ok.id c.id_line.result e.made e.clean c.id_line.ensures)
+    (makes old key new key_new c.each_stands-2.ensures e.any_moment e.used e.later e.key_later (tried_by key (Ok c.in-Ok.id) key_new e.key) c.args.ops c.fill_bytes.new.dst c.in-Ok.id c.id_line.result e.made e.clean c.id_line.ensures e.key)
 
 pub returns-in-Err : goal.returns-in-Err
 returns-in-Err g c =
@@ -37,4 +37,4 @@ returns-in-Err g c =
     let drawn : c.fill_bytes.new.dst ≡ next_bytes (g.R.Rng.stream c.args.random.now) = search rules in
     subst (λ (w : List ℕ). SignsOpen (MakeAnswer c.args.ops w) IsNoStop old key new key_new (Err c.made_refusal.result)) drawn
     (subst (λ (r : Refusal). SignsOpen (MakeAnswer c.args.ops c.fill_bytes.new.dst) IsNoStop old key new key_new (Err r)) (sym (c.made_refusal.ensures ∙ ap (λ (s : SecretData). from_make s c.in-Err.fault) (same_secret key key_new tried)))
-    (makes_not old key new key_new c.each_stands-2.ensures e.any_moment e.used e.later e.key_later tried c.args.ops c.fill_bytes.new.dst c.in-Err.fault e.same e.refused (λ is. e.key_failed (ap Err is)) (λ is. e.log_failed (ap Err is))))
+    (makes_not old key new key_new c.each_stands-2.ensures e.any_moment e.used e.later e.key_later tried c.args.ops c.fill_bytes.new.dst c.in-Err.fault e.same e.refused (λ is. e.key_failed (ap Err is)) (λ is. e.log_failed (ap Err is)) e.key))

@@ -13,7 +13,7 @@ use Rattle.node_commands.proofs.commands.join.join_by.Goals as goal
 pub returns-in_err-room : goal.returns-in_err-room
 returns-in_err-room g c =
     let p = err_from_is_err_and c.from_residual.result c.from_residual.ensures.1 in
-    rw (p.1, p.2) (signs_nothing (JoinAnswer (g.R.Rng.stream c.args.random.now)) IsNoStop c.args.replica.now c.args.key.now (Err _) c.each_stands.ensures (inr (inl refl)))
+    rw (p.1, p.2) (signs_nothing (JoinAnswer (g.R.Rng.stream c.args.random.now)) IsNoStop c.args.replica.now c.args.key.now (Err _) c.each_stands.ensures (inr (inl refl)) (inl refl))
 
 pub returns-in-Ok : goal.returns-in-Ok
 returns-in-Ok g c =
@@ -24,7 +24,7 @@ returns-in-Ok g c =
     let e = c.in-Ok.ensures in
     let drawn : c.fill_bytes.new.dst ≡ next_bytes (g.R.Rng.stream c.args.random.now) = search rules in
     joins_to old key new key_new c.each_stands-2.ensures e.any_moment e.used e.later e.key_later (tried_by_joining key (Ok c.in-Ok.id) key_new e.key) (g.R.Rng.stream c.args.random.now) c.in-Ok.id c.line_or_none.result
-    (subst (λ (w : List ℕ). JoinsTo old.history key.secret key.taken w c.in-Ok.id new.history) drawn e.joined) e.clean e.untouched c.line_or_none.ensures
+    (subst (λ (w : List ℕ). JoinsTo old.history key.secret key.taken w c.in-Ok.id new.history) drawn e.joined) e.clean e.untouched c.line_or_none.ensures e.key
 
 pub returns-in-Err : goal.returns-in-Err
 returns-in-Err g c =
@@ -37,4 +37,4 @@ returns-in-Err g c =
     let drawn : c.fill_bytes.new.dst ≡ next_bytes (g.R.Rng.stream c.args.random.now) = search rules in
     subst (λ (r : Refusal). SignsOpen (JoinAnswer (g.R.Rng.stream c.args.random.now)) IsNoStop old key new key_new (Err r)) (sym (c.made_refusal.ensures ∙ ap (λ (s : SecretData). from_make s c.in-Err.fault) (same_secret key key_new tried)))
     (joins_not old key new key_new c.each_stands-2.ensures e.any_moment e.used e.later e.key_later tried (g.R.Rng.stream c.args.random.now) c.in-Err.fault e.same
-    (subst (λ (w : List ℕ). IsJoinCause old.history key.secret key.taken w c.in-Err.fault) drawn e.refused) (λ is. e.key_failed (ap Err is)) (λ is. e.log_failed (ap Err is)))
+    (subst (λ (w : List ℕ). IsJoinCause old.history key.secret key.taken w c.in-Err.fault) drawn e.refused) (λ is. e.key_failed (ap Err is)) (λ is. e.log_failed (ap Err is)) e.key)
