@@ -56,7 +56,7 @@ use Rattle.outcomes.specs.declared.refusal.Refusal.TheVariants as refusals
 use Rattle.outcomes.specs.Comes.{IsShelfFault, is_done, readings, IsSourceFault}
 use Rattle.schema_verdict.specs.Inputs.{ReadsText}
 use Rattle.outcomes.specs.Outcome.{Outcome, from_key, from_make, from_store, from_text}
-use Rattle.node_commands.specs.Signing.{ApplyAnswer, IsInnerFault, IsNoStop, IsOpenFault, JoinAnswer, KeyedAnswer, MakeAnswer, MakesUpdate, SignAnswer, SignsIn, SignsOpen, StopsReading, StoreAnswer, TakesText, UsesKey, UsesKeyIn, asked, bad_text, history_of, joined, made, none, not_joined, not_made, taken_of, with_key, with_store, without_key, without_store}
+use Rattle.node_commands.specs.Signing.{ApplyAnswer, IsInnerFault, IsNoStop, IsOpenFault, JoinAnswer, KeyedAnswer, MakeAnswer, MakesUpdate, SignAnswer, SignsIn, SignsOpen, StopsReading, StoreAnswer, TakesText, UsesKey, UsesKeyIn, AnswersSomeKey, answered, by_fault, unopened, asked, bad_text, history_of, joined, made, none, not_joined, not_made, taken_of, with_key, with_store, without_key, without_store}
 use Rattle.outcomes.specs.OpenStores.{WorksFrom}
 use Rattle.outcomes.specs.StoreAnswers.{bad_key, bad_store, next_bytes, no_key, no_store}
 use Rattle.outcomes.specs.Standing.{Stands}
@@ -378,9 +378,10 @@ module _ (Unused : Type 0) (Answer : SignAnswer) (Stops : Outcome → Type 0) (d
   -- where no key was taken
   pub signs_keyless : (replica : ReplicaState) (why : KeyRefusal) → (IsTrue before.tells → part_in before dir Key ≢ out) → (IsTrue before.tells → part_in before dir Used ≢ out) → Stands replica → Unused → LetsKeyGo before dir after → (IsTrue before.tells → IsKeyCause before dir why) → (why ≡ key_refusals.DiskFault → Rose faults faults_new)
       → faults ≤ faults_new → SignsIn Unused Answer Stops dir before after faults faults_new replica replica (Err (from_key why))
-  signs_keyless replica why key_in used_in_its stands unused lets cause failed later = record {
+  signs_keyless replica why key_in used_in_its stands unused lets cause rose later = record {
     added = [];
-    comes = by why cause failed;
+    comes = by why cause rose;
+    ends = some why rose;
     works = works_not replica false stands;
     tells = lets.tells;
     key = lets.key_part;
@@ -407,6 +408,12 @@ module _ (Unused : Type 0) (Answer : SignAnswer) (Stops : Outcome → Type 0) (d
       by key_refusals.DiskFault so f = inr (inr (inr (refl, inl (f refl))), refl)
       by key_refusals.Memory so f = inr (inl refl, refl)
 
+      some : (why : KeyRefusal) → (why ≡ key_refusals.DiskFault → Rose faults faults_new) → AnswersSomeKey Answer (IsInnerFault Stops faults faults_new replica replica) [] (Err (from_key why))
+      some key_refusals.NoKey f = unopened tt refl
+      some key_refusals.BadKey f = unopened tt refl
+      some key_refusals.DiskFault f = by_fault (inr (inr (refl, inl (f refl)))) refl
+      some key_refusals.Memory f = by_fault (inl refl) refl
+
   -- where one was taken and put back
   pub signs_keyed : (opened : ShelfState) (opened_faults : ℕ) (old new : ReplicaState) (taken now : KeyState) (outcome : Outcome) → TakesKey before dir taken opened
       → SignsOpen Answer Stops old taken new now outcome → PutsKey opened dir now.parts after → (IsTrue now.parts.used.tells → IsImage now.parts.used.now now.parts.used.seen)
@@ -415,6 +422,7 @@ module _ (Unused : Type 0) (Answer : SignAnswer) (Stops : Outcome → Type 0) (d
   signs_keyed opened opened_faults old new taken now outcome takes signs puts image first second faulted = record {
     added = signs.added;
     comes = by signs.comes;
+    ends = some signs.comes;
     works = signs.works;
     tells = puts.tells ∙ takes.tells;
     key = λ tells. keeps_key before opened opened after dir taken now tells (opened_told tells) takes signs.works_with puts;
@@ -455,10 +463,18 @@ module _ (Unused : Type 0) (Answer : SignAnswer) (Stops : Outcome → Type 0) (d
           → (IsTrue before.tells → KeyedAnswer Unused Answer (reading (part_in before dir Key)) (reading (part_in before dir Used)) old.history signs.added outcome)
           ⊎ (IsInnerFault Stops faults faults_new old new outcome × (signs.added ≡ []))
       by (inl answer) = inl (λ tells. key_of tells answer)
-      by (inr (inl memory, is)) = inr (inl memory, is)
-      by (inr (inr (inl stopped), is)) = inr (inr (inl stopped), is)
-      by (inr (inr (inr (failed, inl log)), is)) = inr (inr (inr (failed, inr log)), is)
-      by (inr (inr (inr (failed, inr key)), is)) = inr (inr (inr (failed, inl (rose key))), is)
+      by (inr (fault, is)) = inr (inner fault, is)
+
+      inner : IsOpenFault Stops old taken new now outcome → IsInnerFault Stops faults faults_new old new outcome
+      inner (inl memory) = inl memory
+      inner (inr (inl stopped)) = inr (inl stopped)
+      inner (inr (inr (store, inl log))) = inr (inr (store, inr log))
+      inner (inr (inr (store, inr key))) = inr (inr (store, inl (rose key)))
+
+      some : Answer old.history taken.secret taken.taken signs.added outcome ⊎ (IsOpenFault Stops old taken new now outcome × (signs.added ≡ []))
+          → AnswersSomeKey Answer (IsInnerFault Stops faults faults_new old new) signs.added outcome
+      some (inl answer) = answered old.history taken.secret taken.taken answer
+      some (inr (fault, is)) = by_fault (inner fault) is
 
 -- ---- the store of a directory
 
@@ -520,24 +536,31 @@ module _ (Unused : Type 0) (Answer : SignAnswer) (Stops : Outcome → Type 0) (d
   -- where no store was taken
   pub signs_storeless : (why : StoreRefusal) → (IsTrue before.tells → IsHome before) → Unused → LetsGo is_luhn before dir after → (IsTrue before.tells → IsStoreCause is_luhn before dir why)
       → (why ≡ store_refusals.DiskFault → Rose old new) → MakesUpdate Unused Answer Stops dir before after old new (Err (from_store why))
-  signs_storeless why home unused lets cause failed = record {
+  signs_storeless why home unused lets cause rose = record {
     runs = record {
       added = [];
-      comes = by why cause failed;
+      comes = by why cause rose;
       run = lets.run;
       others = λ tells other away. lets.others tells other (of_four_first dir other away);
       home = λ tells place. lets.places tells place (home tells place);
     };
     key = λ tells. untouched_by (part_in before dir Key) (part_in after dir Key) (lets.others tells (slot dir Key) refl);
     used = λ tells. keeps_untouched (part_in before dir Used) (part_in after dir Used) (untouched_by (part_in before dir Used) (part_in after dir Used) (lets.others tells (slot dir Used) refl));
-    uses = λ tells. unused why (untouched_by (part_in before dir Used) (part_in after dir Used) (lets.others tells (slot dir Used) refl));
+    uses = λ tells. not_used why (untouched_by (part_in before dir Used) (part_in after dir Used) (lets.others tells (slot dir Used) refl));
+    ends = some why rose;
   }
     where
-      unused : (why : StoreRefusal) → IsUntouched (part_in before dir Used) (part_in after dir Used) → UsesKeyIn (part_in before dir Used) (part_in after dir Used) [] (Err (from_store why))
-      unused store_refusals.NoStore same = same
-      unused store_refusals.BadStore same = same
-      unused store_refusals.DiskFault same = inl same
-      unused store_refusals.Memory same = inl same
+      some : (why : StoreRefusal) → (why ≡ store_refusals.DiskFault → Rose old new) → AnswersSomeKey Answer (λ given. IsShelfFault old new given ⊎ Stops given) [] (Err (from_store why))
+      some store_refusals.NoStore f = unopened tt refl
+      some store_refusals.BadStore f = unopened tt refl
+      some store_refusals.DiskFault f = by_fault (inl (inr (refl, f refl))) refl
+      some store_refusals.Memory f = by_fault (inl (inl refl)) refl
+
+      not_used : (why : StoreRefusal) → IsUntouched (part_in before dir Used) (part_in after dir Used) → UsesKeyIn (part_in before dir Used) (part_in after dir Used) [] (Err (from_store why))
+      not_used store_refusals.NoStore same = same
+      not_used store_refusals.BadStore same = same
+      not_used store_refusals.DiskFault same = inl same
+      not_used store_refusals.Memory same = inl same
 
       by : (why : StoreRefusal) → (IsTrue before.tells → IsStoreCause is_luhn before dir why) → (why ≡ store_refusals.DiskFault → Rose old new)
           → (IsTrue before.tells → StoreAnswer Unused Answer (readings before dir) [] (Err (from_store why))) ⊎ ((IsShelfFault old new (Err (from_store why)) ⊎ Stops (Err (from_store why))) × (nothing ≡ []))
@@ -570,6 +593,7 @@ module _ (Unused : Type 0) (Answer : SignAnswer) (Stops : Outcome → Type 0) (d
     uses = λ tells.
         subst (λ (p : PartState). UsesKeyIn p (part_in after dir Used) signs.added outcome) (takes.others (slot dir Used) refl)
         (subst (λ (p : PartState). UsesKeyIn (part_in opened dir Used) p signs.added outcome) (sym (puts.others (closing_told tells) (slot dir Used) refl)) (signs.uses (opened_told tells)));
+    ends = some signs.ends;
   }
     where
       opened_told : IsTrue before.tells → IsTrue opened.tells
@@ -590,13 +614,23 @@ module _ (Unused : Type 0) (Answer : SignAnswer) (Stops : Outcome → Type 0) (d
           with_store (store_of taken.replica) (read_before is_luhn before opened dir taken tells takes)
           (subst (λ (p : PartState). KeyedAnswer Unused Answer (reading p) (reading (part_in before dir Used)) taken.replica.history signs.added outcome) (takes.others (slot dir Key) refl)
           (subst (λ (p : PartState). KeyedAnswer Unused Answer (reading (part_in opened dir Key)) (reading p) taken.replica.history signs.added outcome) (takes.others (slot dir Used) refl) (answer (opened_told tells)))))
-      by (inr (inl memory, is)) = inr (inl (inl memory), is)
-      by (inr (inr (inl stopped), is)) = inr (inr stopped, is)
-      by (inr (inr (inr (failed, inl shelf)), is)) = inr (inl (inr (failed, (omega (arith, first, second, shelf)))), is)
-      by (inr (inr (inr (failed, inr log)), is)) =
-          let some : 0 < replica.log.faults = omega (arith, log) in
+      by (inr (fault, is)) = inr (outer fault, is)
+
+      outer : IsInnerFault Stops opened_faults closing_faults taken.replica replica outcome → IsShelfFault old new outcome ⊎ Stops outcome
+      outer (inl memory) = inl (inl memory)
+      outer (inr (inl stopped)) = inr stopped
+      outer (inr (inr (store, inl shelf))) = inl (inr (store, (omega (arith, first, second, shelf))))
+      outer (inr (inr (store, inr log))) =
+          let any : 0 < replica.log.faults = omega (arith, log) in
           let later = signs.later in
-          let more = faulted some in inr (inl (inr (failed, (omega (arith, first, later, more)))), is)
+          let more = faulted any in
+          inl (inr (store, (omega (arith, first, later, more))))
+
+      some : AnswersSomeKey Answer (IsInnerFault Stops opened_faults closing_faults taken.replica replica) signs.added outcome
+          → AnswersSomeKey Answer (λ given. IsShelfFault old new given ⊎ Stops given) signs.added outcome
+      some (answered history secret taken_indices answer) = answered history secret taken_indices answer
+      some (unopened is adds_none) = unopened is adds_none
+      some (by_fault fault is) = by_fault (outer fault) is
 
 -- ---- want of memory in place of a refusal
 
@@ -637,6 +671,7 @@ signs_without_memory Unused Answer Stops dir before after old new refusal adds_n
   key = makes_it.key;
   used = makes_it.used;
   uses = λ tells. uses_lacking makes_it.runs.added refusal (makes_it.uses tells);
+  ends = by_fault (inl (inl refl)) refl;
 }
   where
     no_update : (IsTrue before.tells → StoreAnswer Unused Answer (readings before dir) makes_it.runs.added (Err refusal)) ⊎ ((IsShelfFault old new (Err refusal) ⊎ Stops (Err refusal)) × (makes_it.runs.added ≡ []))

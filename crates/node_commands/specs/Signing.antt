@@ -105,13 +105,29 @@ UsesKey NotUsed Tries Signs added (Err refusal) = NotUsed
 abbrev pub UsesKeyIn : PartState → PartState → List (List ℕ) → Outcome → Type 0
 UsesKeyIn old new added outcome = UsesKey (IsUntouched old new) (TriesLeastIn old new) (SignsAtLeastIn old new) added outcome
 
+-- There is no store or no key, or a bad one.
+abbrev pub IsUnopened : Outcome → Type 0
+IsUnopened (Err refusals.NoStore) = Unit {0}
+IsUnopened (Err refusals.BadStore) = Unit {0}
+IsUnopened (Err NoKey) = Unit {0}
+IsUnopened (Err BadKey) = Unit {0}
+IsUnopened outcome = ⊥
+
+-- The outcome is the answer over some updates and some key, or there is no store or no key, or a fault came in its place.
+pub data AnswersSomeKey (Answer : SignAnswer) (Fault : Outcome → Type 0) (added : List (List ℕ)) (outcome : Outcome) : Type 0 where
+  answered : (history : HistoryData) (secret : SecretData) (taken : List Bool) → Answer history secret taken added outcome → AnswersSomeKey Answer Fault added outcome
+  unopened : IsUnopened outcome → added ≡ [] → AnswersSomeKey Answer Fault added outcome
+  by_fault : Fault outcome → added ≡ [] → AnswersSomeKey Answer Fault added outcome
+
 -- A command that makes an update by the key of a directory. Its part Key is at most read. Of its part Used the least unused index is used where a
 -- message was signed, and no other; what was used stays so at each moment. In place of an answer comes a fault of the shelf, or what else may stop it.
+-- Whether the shelf tells what it has or not, the outcome is an answer over some updates and some key, or one of those.
 pub record MakesUpdate (Unused : Type 0) (Answer : SignAnswer) (Stops : Outcome → Type 0) (dir : List ℕ) (before after : ShelfState) (old new : ℕ) (outcome : Outcome) : Type 0 where
   pub runs : RunsStore (λ given. IsShelfFault old new given ⊎ Stops given) (StoreAnswer Unused Answer) (Schema ∷ Updates ∷ Key ∷ Used ∷ []) dir before after outcome
   pub key : IsTrue before.tells → IsUntouched (part_in before dir Key) (part_in after dir Key)
   pub used : IsTrue before.tells → KeepsUsed (part_in before dir Used) (part_in after dir Used)
   pub uses : IsTrue before.tells → UsesKeyIn (part_in before dir Used) (part_in after dir Used) runs.added outcome
+  pub ends : AnswersSomeKey Answer (λ given. IsShelfFault old new given ⊎ Stops given) runs.added outcome
 
 -- Nothing else stops it.
 abbrev pub IsNoStop : Outcome → Type 0
@@ -180,6 +196,7 @@ pub record SignsIn (Unused : Type 0) (Answer : SignAnswer) (Stops : Outcome → 
   pub added : List (List ℕ)
   pub comes : (IsTrue before.tells → KeyedAnswer Unused Answer (reading (part_in before dir Key)) (reading (part_in before dir Used)) old.history added outcome)
       ⊎ (IsInnerFault Stops faults faults_new old new outcome × (added ≡ []))
+  pub ends : AnswersSomeKey Answer (IsInnerFault Stops faults faults_new old new) added outcome
   pub works : WorksFrom old new added (is_done outcome)
   pub tells : after.tells ≡ before.tells
   pub key : IsTrue before.tells → IsUntouched (part_in before dir Key) (part_in after dir Key)
