@@ -115,9 +115,9 @@ module _ (lms : LmsType) (ots : OtsType) (stream : Stream) (dir : List ℕ) (bef
     pub key_refused : (why : CreateKeyKind) → (IsTrue before.tells → IsNewKeyCause (reading (part_in before dir Key)) why) → (why ≡ key_kinds.DiskFault → Rose old new)
         → DrawsKey lms ots stream dir before after old new (Err (from_creating_key why))
     key_refused key_kinds.KeyThere cause failed =
-        record { comes = inl (λ tells. key_there (cause tells) refl); kept = kept; any_moment = lets.any_moment; lasts = λ tells. tt; others = lets.others; home = λ tells. lets.home tells (home tells) }
-    key_refused key_kinds.DiskFault cause failed = record { comes = inr (inr (refl, failed refl)); kept = kept; any_moment = lets.any_moment; lasts = λ tells. tt; others = lets.others; home = λ tells. lets.home tells (home tells) }
-    key_refused key_kinds.Memory cause failed = record { comes = inr (inl refl); kept = kept; any_moment = lets.any_moment; lasts = λ tells. tt; others = lets.others; home = λ tells. lets.home tells (home tells) }
+        record { comes = inl (λ tells. key_there (cause tells) refl); ends = inl tt; kept = kept; any_moment = lets.any_moment; lasts = λ tells. tt; others = lets.others; home = λ tells. lets.home tells (home tells) }
+    key_refused key_kinds.DiskFault cause failed = record { comes = inr (inr (refl, failed refl)); ends = inr (inr (refl, failed refl)); kept = kept; any_moment = lets.any_moment; lasts = λ tells. tt; others = lets.others; home = λ tells. lets.home tells (home tells) }
+    key_refused key_kinds.Memory cause failed = record { comes = inr (inl refl); ends = inr (inl refl); kept = kept; any_moment = lets.any_moment; lasts = λ tells. tt; others = lets.others; home = λ tells. lets.home tells (home tells) }
 
   -- where none was asked for
   pub key_unasked : after ≡ before → DrawsKey lms ots stream dir before after old new (Err refusals.Memory)
@@ -126,6 +126,7 @@ module _ (lms : LmsType) (ots : OtsType) (stream : Stream) (dir : List ℕ) (bef
       let here : DrawsKey lms ots stream dir before before old new (Err refusals.Memory) =
       record {
         comes = inr (inl refl);
+        ends = inr (inl refl);
         kept = λ tells there. (untouched (part_in before dir Key), untouched (part_in before dir Used));
         any_moment = λ tells. untouched_since (part_in before dir Key) (part_in before dir Key) (payload_of (drawn_key lms ots stream)) (untouched (part_in before dir Key));
         lasts = λ tells. tt;
@@ -169,6 +170,7 @@ module _ (lms : LmsType) (ots : OtsType) (stream : Stream) (dir : List ℕ) (bef
           (ap reading (puts.key_back (opened_tells tells)) ∙ ap Some (c.3.key (key_told (drawn_key lms ots stream) dir before opened key makes tells)).seen)
           (ap reading (puts.used_back (opened_tells tells)) ∙ ap Some (c.3.used (used_told (drawn_key lms ots stream) dir before opened key makes tells)).seen)
           (printed ∙ ap (λ (s : SecretData). key_text (public_key s)) c.3.made));
+      ends = inl tt;
       kept = untouched_key;
       any_moment = key_moments;
       lasts = key_lasts;
@@ -177,10 +179,10 @@ module _ (lms : LmsType) (ots : OtsType) (stream : Stream) (dir : List ℕ) (bef
     }
 
     pub key_lacked : DrawsKey lms ots stream dir before after old new (Err refusals.Memory)
-    key_lacked = record { comes = inr (inl refl); kept = untouched_key; any_moment = key_moments; lasts = λ tells. tt; others = key_others; home = key_home }
+    key_lacked = record { comes = inr (inl refl); ends = inr (inl refl); kept = untouched_key; any_moment = key_moments; lasts = λ tells. tt; others = key_others; home = key_home }
 
 -- ---- want of memory in place of a refusal
 
 pub key_without_memory : (lms : LmsType) (ots : OtsType) (stream : Stream) (dir : List ℕ) (before after : ShelfState) (old new : ℕ) (refusal : Refusal) → DrawsKey lms ots stream dir before after old new (Err refusal)
     → DrawsKey lms ots stream dir before after old new (Err refusals.Memory)
-key_without_memory lms ots stream dir before after old new refusal draws = record { comes = inr (inl refl); kept = draws.kept; any_moment = draws.any_moment; lasts = λ tells. tt; others = draws.others; home = draws.home }
+key_without_memory lms ots stream dir before after old new refusal draws = record { comes = inr (inl refl); ends = inr (inl refl); kept = draws.kept; any_moment = draws.any_moment; lasts = λ tells. tt; others = draws.others; home = draws.home }

@@ -1,5 +1,5 @@
 -- What `merge` answers over the stores of two directories, and what it leaves.
-use Rattle.std.specs.Prelude.{◌≡◌, ◌≢◌, ◌⊎◌, ℕ, ◌≤◌, true, false, List, [], ◌∷◌, ◌++◌, All, Contains, IsTrue, Err, map}
+use Rattle.std.specs.Prelude.{◌≡◌, ◌≢◌, ◌⊎◌, ℕ, ◌≤◌, true, false, List, [], ◌∷◌, ◌++◌, All, Contains, IsTrue, Ok, Err, map}
 use Rattle.std.specs.List.{list_any}
 use Rattle.row_check.specs.Checksum.{is_luhn}
 use Rattle.bec_bytes.specs.Causes.{Rose}
@@ -23,9 +23,9 @@ use Rattle.replica.specs.Replicas.{ReplicaState}
 use Rattle.store_directory.specs.Stores.{IsStore, StoreData, StoreRun}
 use Rattle.outcomes.specs.declared.refusal.Refusal.{Refusal}
 use Rattle.outcomes.specs.declared.refusal.Refusal.TheVariants as refusals
-use Rattle.outcomes.specs.Comes.{IsShelfFault, is_done, readings}
+use Rattle.outcomes.specs.Comes.{IsRefused, IsShelfFault, is_done, readings}
 use Rattle.outcomes.specs.Outcome.{Outcome}
-use Rattle.key_directory.specs.Parts.{IsHome, KeepsAllBut, KeepsPlaces, part_in, reading}
+use Rattle.key_directory.specs.Parts.{IsHome, IsUntouched, KeepsAllBut, KeepsPlaces, part_in, reading}
 use Rattle.schema_verdict.specs.Verdict.{Prints}
 use Rattle.outcomes.specs.Outside.{Outside}
 use Rattle.outcomes.specs.OpenStores.{WorksFrom, opened_store}
@@ -100,13 +100,30 @@ pub record IsWithin (members members_other added added_other : List (List ℕ)) 
   pub first : All (Contains (members ++ members_other)) added
   pub second : All (Contains (members ++ members_other)) added_other
 
+-- It is done, or a store is refused, or the session ended by a fault of a peer or at a limit.
+abbrev pub IsMergeEnd : Outcome → Type 0
+IsMergeEnd (Ok text) = Unit {0}
+IsMergeEnd (Err refusals.NoStore) = Unit {0}
+IsMergeEnd (Err refusals.BadStore) = Unit {0}
+IsMergeEnd (Err (refusals.Peer fault)) = Unit {0}
+IsMergeEnd (Err refusals.Full) = Unit {0}
+IsMergeEnd outcome = ⊥
+
+-- Of the parts Peers of two directories both were at most read.
+abbrev pub AreUnremembered : List ℕ → List ℕ → ShelfState → ShelfState → Type 0
+AreUnremembered first second before after =
+    IsUntouched (part_in before first Peers) (part_in after first Peers) × IsUntouched (part_in before second Peers) (part_in after second Peers)
+
 -- A run of `merge` over two directories. Where the shelf tells what it has, the outcome is the answer to what the parts read as, or a fault came in its
--- place. These were added to each list, in whatever way it ends. No part but these is touched, and every part is put back.
+-- place. These were added to each list, in whatever way it ends. No part but these is touched, and every part is put back. Where it is refused, both
+-- parts Peers are at most read. Whether the shelf tells what it has or not, it is done, or refused for one of its own reasons, or a fault came.
 pub record MergesStores (first second : List ℕ) (before after : ShelfState) (old new : ℕ) (outcome : Outcome) : Type 0 where
   pub added : List (List ℕ)
   pub added_other : List (List ℕ)
   pub comes : (IsTrue before.tells → MergeAnswer (readings before first) (readings before second) (memory_in before first) (memory_in before second)
       (memory_in after first) (memory_in after second) added added_other outcome) ⊎ IsShelfFault old new outcome
+  pub ends : IsMergeEnd outcome ⊎ IsShelfFault old new outcome
+  pub peers : IsTrue before.tells → IsRefused outcome → AreUnremembered first second before after
   pub run : IsTrue before.tells → StoreRun is_luhn before after first added (is_done outcome)
   pub run_other : IsTrue before.tells → StoreRun is_luhn before after second added_other (is_done outcome)
   pub within : IsTrue before.tells → (one other : StoreData) → IsStore is_luhn before first one → IsStore is_luhn before second other → IsWithin one.members other.members added added_other
@@ -133,6 +150,8 @@ pub record MergesOpen (first second : List ℕ) (before after : ShelfState) (fau
   pub added_other : List (List ℕ)
   pub comes : (IsTrue before.tells → Meets (opened_store one) (opened_store other) (memory_in before first) (memory_in before second)
       (memory_in after first) (memory_in after second) added added_other outcome) ⊎ IsMergeFault faults faults_new one other one_new other_new outcome
+  pub ends : IsMergeEnd outcome ⊎ IsMergeFault faults faults_new one other one_new other_new outcome
+  pub peers : IsTrue before.tells → IsRefused outcome → AreUnremembered first second before after
   pub works : IsWhole other → WorksFrom one one_new added (is_done outcome)
   pub works_other : IsWhole one → WorksFrom other other_new added_other (is_done outcome)
   pub slot : one_new.log.disk.slot ≡ one.log.disk.slot
@@ -162,6 +181,8 @@ pub record MergesBeside (first second : List ℕ) (before after : ShelfState) (f
   pub added_other : List (List ℕ)
   pub comes : (IsTrue before.tells → BesideAnswer (opened_store one) (readings before second) (memory_in before first) (memory_in before second)
       (memory_in after first) (memory_in after second) added added_other outcome) ⊎ IsBesideFault faults faults_new one one_new outcome
+  pub ends : IsMergeEnd outcome ⊎ IsBesideFault faults faults_new one one_new outcome
+  pub peers : IsTrue before.tells → IsRefused outcome → AreUnremembered first second before after
   pub works : WorksFrom one one_new added (is_done outcome)
   pub slot : one_new.log.disk.slot ≡ one.log.disk.slot
   pub run_other : IsWhole one → IsTrue before.tells → StoreRun is_luhn before after second added_other (is_done outcome)

@@ -49,7 +49,7 @@ returns-in_err-start g c =
     let r = c.in_ok-peers.ensures in
     let s = c.in_ok-peers_other.ensures in
     let read : ReadsBoth c.args.first.now c.args.second.now before then old counted c.in_ok-peers.peers c.in_ok-peers_other.peers_other =
-    both_read c.args.first.now c.args.second.now c.requires.differ before mid then old between counted c.in_ok-peers.peers c.in_ok-peers_other.peers_other r.keeps s.keeps r.later s.later r.reads s.reads in
+    both_read c.args.first.now c.args.second.now c.requires.differ before mid then old between counted c.in_ok-peers.peers c.in_ok-peers_other.peers_other r.keeps s.keeps r.later s.later r.reads s.reads r.untouched s.untouched in
     rw (p.1, p.2) (open_stopped c.args.first.now c.args.second.now before after old new c.args.one.now c.args.other.now _ c.each_stands.ensures c.each_stands-2.ensures read.shelf (inl refl))
 
 pub returns-in_err-ended : goal.returns-in_err-ended
@@ -66,7 +66,7 @@ returns-in_err-ended g c =
     let r = c.in_ok-peers.ensures in
     let s = c.in_ok-peers_other.ensures in
     let read : ReadsBoth c.args.first.now c.args.second.now before then old counted c.in_ok-peers.peers c.in_ok-peers_other.peers_other =
-    both_read c.args.first.now c.args.second.now c.requires.differ before mid then old between counted c.in_ok-peers.peers c.in_ok-peers_other.peers_other r.keeps s.keeps r.later s.later r.reads s.reads in
+    both_read c.args.first.now c.args.second.now c.requires.differ before mid then old between counted c.in_ok-peers.peers c.in_ok-peers_other.peers_other r.keeps s.keeps r.later s.later r.reads s.reads r.untouched s.untouched in
     let e = c.in_err-ended.ensures in
     let one = c.args.one.now in
     let other = c.args.other.now in
@@ -90,7 +90,7 @@ returns-in_err-keep_peers-in-Done g c =
     let r = c.in_ok-peers.ensures in
     let s = c.in_ok-peers_other.ensures in
     let read : ReadsBoth c.args.first.now c.args.second.now before then old counted c.in_ok-peers.peers c.in_ok-peers_other.peers_other =
-    both_read c.args.first.now c.args.second.now c.requires.differ before mid then old between counted c.in_ok-peers.peers c.in_ok-peers_other.peers_other r.keeps s.keeps r.later s.later r.reads s.reads in
+    both_read c.args.first.now c.args.second.now c.requires.differ before mid then old between counted c.in_ok-peers.peers c.in_ok-peers_other.peers_other r.keeps s.keeps r.later s.later r.reads s.reads r.untouched s.untouched in
     let e = c.in_ok-ended.ensures in
     let one = c.args.one.now in
     let other = c.args.other.now in
@@ -117,7 +117,7 @@ returns-in_err-keep_peers-in-Done-2 g c =
     let r = c.in_ok-peers.ensures in
     let s = c.in_ok-peers_other.ensures in
     let read : ReadsBoth c.args.first.now c.args.second.now before then old counted c.in_ok-peers.peers c.in_ok-peers_other.peers_other =
-    both_read c.args.first.now c.args.second.now c.requires.differ before mid then old between counted c.in_ok-peers.peers c.in_ok-peers_other.peers_other r.keeps s.keeps r.later s.later r.reads s.reads in
+    both_read c.args.first.now c.args.second.now c.requires.differ before mid then old between counted c.in_ok-peers.peers c.in_ok-peers_other.peers_other r.keeps s.keeps r.later s.later r.reads s.reads r.untouched s.untouched in
     let e = c.in_ok-ended.ensures in
     let one = c.args.one.now in
     let other = c.args.other.now in
@@ -148,7 +148,7 @@ returns-in_err-merged_lines-in-Done g c =
     let r = c.in_ok-peers.ensures in
     let s = c.in_ok-peers_other.ensures in
     let read : ReadsBoth c.args.first.now c.args.second.now before then old counted c.in_ok-peers.peers c.in_ok-peers_other.peers_other =
-    both_read c.args.first.now c.args.second.now c.requires.differ before mid then old between counted c.in_ok-peers.peers c.in_ok-peers_other.peers_other r.keeps s.keeps r.later s.later r.reads s.reads in
+    both_read c.args.first.now c.args.second.now c.requires.differ before mid then old between counted c.in_ok-peers.peers c.in_ok-peers_other.peers_other r.keeps s.keeps r.later s.later r.reads s.reads r.untouched s.untouched in
     let e = c.in_ok-ended.ensures in
     let one = c.args.one.now in
     let other = c.args.other.now in
@@ -177,7 +177,7 @@ returns-in_ok-merged_lines-in-Done g c =
     let r = c.in_ok-peers.ensures in
     let s = c.in_ok-peers_other.ensures in
     let read : ReadsBoth c.args.first.now c.args.second.now before then old counted c.in_ok-peers.peers c.in_ok-peers_other.peers_other =
-    both_read c.args.first.now c.args.second.now c.requires.differ before mid then old between counted c.in_ok-peers.peers c.in_ok-peers_other.peers_other r.keeps s.keeps r.later s.later r.reads s.reads in
+    both_read c.args.first.now c.args.second.now c.requires.differ before mid then old between counted c.in_ok-peers.peers c.in_ok-peers_other.peers_other r.keeps s.keeps r.later s.later r.reads s.reads r.untouched s.untouched in
     let e = c.in_ok-ended.ensures in
     let one = c.args.one.now in
     let other = c.args.other.now in
@@ -198,10 +198,10 @@ returns-in_ok-merged_lines-in-Done g c =
     (λ tells. subst (λ (node : List ℕ). RemembersIn c.in_ok-peers.peers node c.in_ok-ended.ended.remembered_a (memory_in wrote c.args.first.now)) node_is (k.remembers tells))
     (λ tells. subst (λ (node : List ℕ). RemembersIn c.in_ok-peers_other.peers_other node c.in_ok-ended.ended.remembered_b (memory_in after c.args.second.now)) node_other_is (l.remembers tells)) in
     merges_open c.args.first.now c.args.second.now before after old new one other one_new other_new (Ok c.in_ok-merged_lines-in-Done.field-0) shelf met
-    (inl (λ tells. meets one other one_new other_new c.in_ok-start.start c.in_ok-ended.ended c.in_ok-peers.peers c.in_ok-peers_other.peers_other c.in_ok-start.ensures.is e.moves_a.grows e.moves_b.grows e.syncs e.unites e.room
+    (inl ((λ tells. meets one other one_new other_new c.in_ok-start.start c.in_ok-ended.ended c.in_ok-peers.peers c.in_ok-peers_other.peers_other c.in_ok-start.ensures.is e.moves_a.grows e.moves_b.grows e.syncs e.unites e.room
     (λ is. told_apart is_store_end c.in_ok-ended.ended.a _ Store refl refl c.in-Done.is is)
     (memory_in before c.args.first.now) (memory_in before c.args.second.now) (memory_in after c.args.first.now) (memory_in after c.args.second.now) (Ok c.in_ok-merged_lines-in-Done.field-0) (read.reads tells) (read.reads_other tells)
-    (done c.in-Done.is c.in_ok-merged_lines-in-Done.ensures) (λ is. kept.remembers (subst IsTrue (sym read.shelf.tells) tells)) (λ is. kept.remembers_other (subst IsTrue (sym read.shelf.tells) tells))))
+    (done c.in-Done.is c.in_ok-merged_lines-in-Done.ensures) (λ is. kept.remembers (subst IsTrue (sym read.shelf.tells) tells)) (λ is. kept.remembers_other (subst IsTrue (sym read.shelf.tells) tells))), tt, λ is. absurd is))
 
 pub returns-in-Peer : goal.returns-in-Peer
 returns-in-Peer g c =
@@ -216,7 +216,7 @@ returns-in-Peer g c =
     let r = c.in_ok-peers.ensures in
     let s = c.in_ok-peers_other.ensures in
     let read : ReadsBoth c.args.first.now c.args.second.now before then old counted c.in_ok-peers.peers c.in_ok-peers_other.peers_other =
-    both_read c.args.first.now c.args.second.now c.requires.differ before mid then old between counted c.in_ok-peers.peers c.in_ok-peers_other.peers_other r.keeps s.keeps r.later s.later r.reads s.reads in
+    both_read c.args.first.now c.args.second.now c.requires.differ before mid then old between counted c.in_ok-peers.peers c.in_ok-peers_other.peers_other r.keeps s.keeps r.later s.later r.reads s.reads r.untouched s.untouched in
     let e = c.in_ok-ended.ensures in
     let one = c.args.one.now in
     let other = c.args.other.now in
@@ -225,10 +225,10 @@ returns-in-Peer g c =
     let met = met_by one other one_new other_new false c.each_stands.ensures c.each_stands-2.ensures c.each_stands-3.ensures c.each_stands-4.ensures e.keeps_a e.keeps_b e.moves_a.grows e.moves_b.grows e.moves_a.later e.moves_b.later
     (λ is_done. absurd (true≢false (sym is_done))) in
     merges_open c.args.first.now c.args.second.now before after old new one other one_new other_new (Err _) read.shelf met
-    (inl (λ tells. meets one other one_new other_new c.in_ok-start.start c.in_ok-ended.ended c.in_ok-peers.peers c.in_ok-peers_other.peers_other c.in_ok-start.ensures.is e.moves_a.grows e.moves_b.grows e.syncs e.unites e.room
+    (inl ((λ tells. meets one other one_new other_new c.in_ok-start.start c.in_ok-ended.ended c.in_ok-peers.peers c.in_ok-peers_other.peers_other c.in_ok-start.ensures.is e.moves_a.grows e.moves_b.grows e.syncs e.unites e.room
     (λ is. told_apart is_store_end c.in_ok-ended.ended.a _ Store refl refl c.in-Peer.is is)
     (memory_in before c.args.first.now) (memory_in before c.args.second.now) (memory_in after c.args.first.now) (memory_in after c.args.second.now) (Err _) (read.reads tells) (read.reads_other tells)
-    (peer c.in-Peer.fault c.in-Peer.is refl) (λ is. absurd (told_apart is_done_end c.in_ok-ended.ended.a _ Done refl refl c.in-Peer.is is)) (λ is. absurd (told_apart is_done_end c.in_ok-ended.ended.a _ Done refl refl c.in-Peer.is is))))
+    (peer c.in-Peer.fault c.in-Peer.is refl) (λ is. absurd (told_apart is_done_end c.in_ok-ended.ended.a _ Done refl refl c.in-Peer.is is)) (λ is. absurd (told_apart is_done_end c.in_ok-ended.ended.a _ Done refl refl c.in-Peer.is is))), tt, λ is. read.untouched))
 
 pub returns-in-Full : goal.returns-in-Full
 returns-in-Full g c =
@@ -243,7 +243,7 @@ returns-in-Full g c =
     let r = c.in_ok-peers.ensures in
     let s = c.in_ok-peers_other.ensures in
     let read : ReadsBoth c.args.first.now c.args.second.now before then old counted c.in_ok-peers.peers c.in_ok-peers_other.peers_other =
-    both_read c.args.first.now c.args.second.now c.requires.differ before mid then old between counted c.in_ok-peers.peers c.in_ok-peers_other.peers_other r.keeps s.keeps r.later s.later r.reads s.reads in
+    both_read c.args.first.now c.args.second.now c.requires.differ before mid then old between counted c.in_ok-peers.peers c.in_ok-peers_other.peers_other r.keeps s.keeps r.later s.later r.reads s.reads r.untouched s.untouched in
     let e = c.in_ok-ended.ensures in
     let one = c.args.one.now in
     let other = c.args.other.now in
@@ -252,10 +252,10 @@ returns-in-Full g c =
     let met = met_by one other one_new other_new false c.each_stands.ensures c.each_stands-2.ensures c.each_stands-3.ensures c.each_stands-4.ensures e.keeps_a e.keeps_b e.moves_a.grows e.moves_b.grows e.moves_a.later e.moves_b.later
     (λ is_done. absurd (true≢false (sym is_done))) in
     merges_open c.args.first.now c.args.second.now before after old new one other one_new other_new (Err _) read.shelf met
-    (inl (λ tells. meets one other one_new other_new c.in_ok-start.start c.in_ok-ended.ended c.in_ok-peers.peers c.in_ok-peers_other.peers_other c.in_ok-start.ensures.is e.moves_a.grows e.moves_b.grows e.syncs e.unites e.room
+    (inl ((λ tells. meets one other one_new other_new c.in_ok-start.start c.in_ok-ended.ended c.in_ok-peers.peers c.in_ok-peers_other.peers_other c.in_ok-start.ensures.is e.moves_a.grows e.moves_b.grows e.syncs e.unites e.room
     (λ is. told_apart is_store_end c.in_ok-ended.ended.a _ Store refl refl c.in-Full.is is)
     (memory_in before c.args.first.now) (memory_in before c.args.second.now) (memory_in after c.args.first.now) (memory_in after c.args.second.now) (Err _) (read.reads tells) (read.reads_other tells)
-    (full c.in-Full.is refl) (λ is. absurd (told_apart is_done_end c.in_ok-ended.ended.a _ Done refl refl c.in-Full.is is)) (λ is. absurd (told_apart is_done_end c.in_ok-ended.ended.a _ Done refl refl c.in-Full.is is))))
+    (full c.in-Full.is refl) (λ is. absurd (told_apart is_done_end c.in_ok-ended.ended.a _ Done refl refl c.in-Full.is is)) (λ is. absurd (told_apart is_done_end c.in_ok-ended.ended.a _ Done refl refl c.in-Full.is is))), tt, λ is. read.untouched))
 
 pub returns-in-Store : goal.returns-in-Store
 returns-in-Store g c =
@@ -270,7 +270,7 @@ returns-in-Store g c =
     let r = c.in_ok-peers.ensures in
     let s = c.in_ok-peers_other.ensures in
     let read : ReadsBoth c.args.first.now c.args.second.now before then old counted c.in_ok-peers.peers c.in_ok-peers_other.peers_other =
-    both_read c.args.first.now c.args.second.now c.requires.differ before mid then old between counted c.in_ok-peers.peers c.in_ok-peers_other.peers_other r.keeps s.keeps r.later s.later r.reads s.reads in
+    both_read c.args.first.now c.args.second.now c.requires.differ before mid then old between counted c.in_ok-peers.peers c.in_ok-peers_other.peers_other r.keeps s.keeps r.later s.later r.reads s.reads r.untouched s.untouched in
     let e = c.in_ok-ended.ensures in
     let one = c.args.one.now in
     let other = c.args.other.now in
