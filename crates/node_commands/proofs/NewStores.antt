@@ -39,7 +39,7 @@ use Rattle.node_commands.specs.Creating.{InitAnswer, Inits, IsInitEnd, IsInitFau
 use Rattle.schema_verdict.specs.Inputs.{ReadsText}
 use Rattle.outcomes.specs.Outcome.{from_creating, from_disk, from_reading, from_taking}
 use Rattle.outcomes.specs.Outside.{Outside}
-use Rattle.outcomes.specs.StoreAnswers.{next_bytes}
+use Rattle.outcomes.specs.StoreAnswers.{after_bytes, next_bytes}
 use Rattle.outcomes.specs.Texts.{database_text}
 use Rattle.schema_verdict.proofs.Reading.{no_longer, whole_refused, whole_taken}
 use Rattle.outcomes.proofs.Lasting.{lasting}
@@ -99,7 +99,8 @@ module _ (dir : List ℕ) (before after : ShelfState) (home : IsTrue before.tell
 
 module _ {S H R : Type 0} (dir : List ℕ) (before after : Outside S H R) (home : IsTrue before.store.tells → IsHome before.store) where
   -- where nothing was made
-  module _ (untouched : IsTrue before.store.tells → IsUntouched (part_in before.store dir Schema) (part_in after.store dir Schema)) (others : IsTrue before.store.tells → KeepsAllBut (Schema ∷ []) dir before.store after.store) where
+  module _ (untouched : IsTrue before.store.tells → IsUntouched (part_in before.store dir Schema) (part_in after.store dir Schema)) (others : IsTrue before.store.tells → KeepsAllBut (Schema ∷ []) dir before.store after.store)
+      (still : after.stream ≡ before.stream) where
     looked_moments : (left : Option (List ℕ)) → IsTrue before.store.tells → (text : List ℕ) × IfSome left (λ input. text ≡ input) × LeavesOldOrNew (next_bytes before.stream ++ text) (part_in before.store dir Schema) (part_in after.store dir Schema)
     looked_moments None tells = ([], tt, untouched_since (part_in before.store dir Schema) (part_in after.store dir Schema) (next_bytes before.stream ++ []) (untouched tells))
     looked_moments (Some input) tells = (input, refl, untouched_since (part_in before.store dir Schema) (part_in after.store dir Schema) (next_bytes before.stream ++ input) (untouched tells))
@@ -113,6 +114,8 @@ module _ {S H R : Type 0} (dir : List ℕ) (before after : Outside S H R) (home 
       kept = λ tells is. looked_kept dir before.store after.store home untouched others tells;
       any_moment = λ tells. looked_moments before.left tells;
       lasts = λ tells. tt;
+      draws = inl still;
+      undrawn = λ tells is. still;
       others = looked_others dir before.store after.store home untouched others;
       home = looked_home dir before.store after.store home untouched others;
     }
@@ -172,10 +175,10 @@ module _ {S H R : Type 0} (dir : List ℕ) (before after : Outside S H R) (home 
     unread_here : IsTrue before.store.tells → HasSchema (readings before.store dir) → after.source ≡ before.source
     unread_here tells there = absurd (there (none tells))
 
-    pub init_not_made : TakenOrRefused → (node : List ℕ) (why : CreateKind) → node ≡ next_bytes before.stream → ReadsText 65536 before.left after.left read → LetsNewGo Schema Updates (node ++ read) [] mid dir after.store
+    pub init_not_made : TakenOrRefused → (node : List ℕ) (why : CreateKind) → node ≡ next_bytes before.stream → after.stream ≡ after_bytes before.stream → ReadsText 65536 before.left after.left read → LetsNewGo Schema Updates (node ++ read) [] mid dir after.store
         → (IsTrue mid.tells → IsNewStoreCause is_luhn (reading (part_in mid dir Schema)) read why) → (why ≡ create_kinds.DiskFault → Rose before.shelf_faults after.shelf_faults)
         → Inits dir before after (Err (from_creating why))
-    init_not_made either node why drawn reads lets cause failed = by why cause failed
+    init_not_made either node why drawn went reads lets cause failed = by why cause failed
       where
         Untouched : Type 0
         Untouched = IsUntouched (part_in before.store dir Schema) (part_in after.store dir Schema) × IsUntouched (part_in before.store dir Updates) (part_in after.store dir Updates)
@@ -194,6 +197,8 @@ module _ {S H R : Type 0} (dir : List ℕ) (before after : Outside S H R) (home 
           kept = λ tells. kept tells;
           any_moment = λ tells. (read, text_is before.left reads, run tells);
           lasts = λ tells. tt;
+          draws = inr went;
+          undrawn = λ tells is. absurd (not tells is);
           others = λ tells. keeps_through (Schema ∷ Updates ∷ []) dir before.store mid after.store (looked_others dir before.store mid home untouched others tells) (lets.others (mid_told tells));
           home = λ tells. lets.home (mid_told tells) (mid_home tells);
         }
@@ -217,16 +222,18 @@ module _ {S H R : Type 0} (dir : List ℕ) (before after : Outside S H R) (home 
         by create_kinds.DiskFault why_so rose = so refusals.StoreFault (inr (inr (inr (refl, rose refl)))) (λ tells is. is)
         by create_kinds.Memory why_so rose = so refusals.Memory (inr (inr (inl refl))) (λ tells is. is)
 
-    pub init_made : OneSchema → (opened : ShelfState) (node : List ℕ) (store : OpenData) → node ≡ next_bytes before.stream → length node ≡ 32 → MakesStore is_luhn mid dir node read store opened
+    pub init_made : OneSchema → (opened : ShelfState) (node : List ℕ) (store : OpenData) → node ≡ next_bytes before.stream → after.stream ≡ after_bytes before.stream → length node ≡ 32 → MakesStore is_luhn mid dir node read store opened
         → AreMembers store.replica.history.schema.rule store.replica.history.members → PutsStore opened dir store.schema store.replica.log.disk after.store → ReadsText 65536 before.left after.left read
         → (line : Vec ℕ Global) → line.items ≡ database_text schema.rule.database → Inits dir before after (Ok line)
-    init_made one opened node store drawn size makes closed puts reads line printed = record {
+    init_made one opened node store drawn went size makes closed puts reads line printed = record {
       comes = inl (λ tells. by before.left reads (none tells) (has tells));
       ends = inl tt;
       unread = unread_here;
       kept = λ tells. kept tells;
       any_moment = λ tells. (read, text_is before.left reads, run tells);
       lasts = lasts;
+      draws = went;
+      undrawn = λ tells is. absurd is;
       others = all_others;
       home = λ tells. home_after_store opened after.store dir store.schema store.replica.log.disk (opened_told tells) puts
           (λ other away. subst (λ (p : PartState). p ≢ out) (sym (makes.others other away ∙ looked_others dir before.store mid home untouched others tells other away)) (home tells other));
@@ -285,7 +292,7 @@ made_slots mid opened dir node text store makes tells =
 
 pub init_without_memory : {S H R : Type 0} (dir : List ℕ) (before after : Outside S H R) (refusal : Refusal) → Inits dir before after (Err refusal) → Inits dir before after (Err refusals.Memory)
 init_without_memory dir before after refusal inits =
-    record { comes = inr (inr (inl refl)); ends = inr (inr (inl refl)); unread = inits.unread; kept = λ tells. kept tells; any_moment = inits.any_moment; lasts = λ tells. tt; others = inits.others; home = inits.home }
+    record { comes = inr (inr (inl refl)); ends = inr (inr (inl refl)); unread = inits.unread; kept = λ tells. kept tells; any_moment = inits.any_moment; lasts = λ tells. tt; draws = inits.draws; undrawn = λ tells is. absurd is; others = inits.others; home = inits.home }
   where
     kept : IsTrue before.store.tells → HasSchema (readings before.store dir) ⊎ IsRefused (Err refusals.Memory)
         → IsUntouched (part_in before.store dir Schema) (part_in after.store dir Schema) × IsUntouched (part_in before.store dir Updates) (part_in after.store dir Updates)

@@ -30,7 +30,7 @@ use Rattle.outcomes.specs.Outcome.{IsFault, Outcome, from_make}
 use Rattle.schema.specs.Data.{SchemaData}
 use Rattle.schema_verdict.specs.Verdict.{Prints}
 use Rattle.outcomes.specs.Outside.{Outside}
-use Rattle.outcomes.specs.StoreAnswers.{HasStore, Readings, RefusesStore, next_bytes, RefusesKey}
+use Rattle.outcomes.specs.StoreAnswers.{HasStore, Readings, RefusesStore, after_bytes, next_bytes, RefusesKey}
 use Rattle.outcomes.specs.Texts.{line_of}
 use Rattle.outcomes.specs.OpenStores.{WorksFrom}
 
@@ -105,6 +105,19 @@ UsesKey NotUsed Tries Signs added (Err refusal) = NotUsed
 abbrev pub UsesKeyIn : PartState → PartState → List (List ℕ) → Outcome → Type 0
 UsesKeyIn old new added outcome = UsesKey (IsUntouched old new) (TriesLeastIn old new) (SignsAtLeastIn old new) added outcome
 
+-- How far the generator went, by the outcome. It was not used where there is no store or no key, or the text is no transaction or was not read; before
+-- the store failed or memory ran out it may have been used; with every other outcome its next 32 bytes were, and no more.
+abbrev pub DrawsFor : Stream → Stream → Outcome → Type 0
+DrawsFor old new (Err refusals.NoStore) = new ≡ old
+DrawsFor old new (Err refusals.BadStore) = new ≡ old
+DrawsFor old new (Err NoKey) = new ≡ old
+DrawsFor old new (Err BadKey) = new ≡ old
+DrawsFor old new (Err (Transaction fault)) = new ≡ old
+DrawsFor old new (Err refusals.Stream) = new ≡ old
+DrawsFor old new (Err StoreFault) = (new ≡ old) ⊎ (new ≡ after_bytes old)
+DrawsFor old new (Err Memory) = (new ≡ old) ⊎ (new ≡ after_bytes old)
+DrawsFor old new outcome = new ≡ after_bytes old
+
 -- There is no store or no key, or a bad one.
 abbrev pub IsUnopened : Outcome → Type 0
 IsUnopened (Err refusals.NoStore) = Unit {0}
@@ -122,12 +135,13 @@ pub data AnswersSomeKey (Answer : SignAnswer) (Fault : Outcome → Type 0) (adde
 -- A command that makes an update by the key of a directory. Its part Key is at most read. Of its part Used the least unused index is used where a
 -- message was signed, and no other; what was used stays so at each moment. In place of an answer comes a fault of the shelf, or what else may stop it.
 -- Whether the shelf tells what it has or not, the outcome is an answer over some updates and some key, or one of those.
-pub record MakesUpdate (Unused : Type 0) (Answer : SignAnswer) (Stops : Outcome → Type 0) (dir : List ℕ) (before after : ShelfState) (old new : ℕ) (outcome : Outcome) : Type 0 where
+pub record MakesUpdate (Unused : Type 0) (Answer : SignAnswer) (Stops : Outcome → Type 0) (stream stream_new : Stream) (dir : List ℕ) (before after : ShelfState) (old new : ℕ) (outcome : Outcome) : Type 0 where
   pub runs : RunsStore (λ given. IsShelfFault old new given ⊎ Stops given) (StoreAnswer Unused Answer) (Schema ∷ Updates ∷ Key ∷ Used ∷ []) dir before after outcome
   pub key : IsTrue before.tells → IsUntouched (part_in before dir Key) (part_in after dir Key)
   pub used : IsTrue before.tells → KeepsUsed (part_in before dir Used) (part_in after dir Used)
   pub uses : IsTrue before.tells → UsesKeyIn (part_in before dir Used) (part_in after dir Used) runs.added outcome
   pub ends : AnswersSomeKey Answer (λ given. IsShelfFault old new given ⊎ Stops given) runs.added outcome
+  pub draws : DrawsFor stream stream_new outcome
 
 -- Nothing else stops it.
 abbrev pub IsNoStop : Outcome → Type 0
@@ -163,11 +177,11 @@ IsSureOfApply input stream parts outcome =
 abbrev pub Applies : {S H R : Type 0} → List ℕ → Outside S H R → Outside S H R → Outcome → Type 0
 Applies dir before after outcome =
     MakesUpdate ((after.source ≡ before.source) × (after.random ≡ before.random)) (ApplyAnswer before.left after.left before.stream) (IsSourceFault before.source_faults after.source_faults)
-    dir before.store after.store before.shelf_faults after.shelf_faults outcome
+    before.stream after.stream dir before.store after.store before.shelf_faults after.shelf_faults outcome
 
 -- `join`, which does not use the source.
 pub record JoinsHeads {S H R : Type 0} (dir : List ℕ) (before after : Outside S H R) (outcome : Outcome) : Type 0 where
-  pub joins : MakesUpdate (after.random ≡ before.random) (JoinAnswer before.stream) IsNoStop dir before.store after.store before.shelf_faults after.shelf_faults outcome
+  pub joins : MakesUpdate (after.random ≡ before.random) (JoinAnswer before.stream) IsNoStop before.stream after.stream dir before.store after.store before.shelf_faults after.shelf_faults outcome
   pub source : after.source ≡ before.source
 
 -- ---- the same of what is open
@@ -178,12 +192,13 @@ IsOpenFault Stops old key new key_new outcome =
     (outcome ≡ Err Memory) ⊎ (Stops outcome ⊎ ((outcome ≡ Err StoreFault) × (Rose old.log.faults new.log.faults ⊎ Rose key.parts.used_faults key_new.parts.used_faults)))
 
 -- A command over an open store and an open key.
-pub record SignsOpen (Answer : SignAnswer) (Stops : Outcome → Type 0) (old : ReplicaState) (key : KeyState) (new : ReplicaState) (key_new : KeyState) (outcome : Outcome) : Type 0 where
+pub record SignsOpen (Answer : SignAnswer) (Stops : Outcome → Type 0) (stream stream_new : Stream) (old : ReplicaState) (key : KeyState) (new : ReplicaState) (key_new : KeyState) (outcome : Outcome) : Type 0 where
   pub added : List (List ℕ)
   pub comes : Answer old.history key.secret key.taken added outcome ⊎ (IsOpenFault Stops old key new key_new outcome × (added ≡ []))
   pub works : WorksFrom old new added (is_done outcome)
   pub works_with : WorksWith key key_new
   pub uses : UsesKey (key_new ≡ key) (TriesLeast key key_new) (SignsAtLeast key key_new) added outcome
+  pub draws : DrawsFor stream stream_new outcome
   pub log_later : old.log.faults ≤ new.log.faults
   pub key_later : key.parts.used_faults ≤ key_new.parts.used_faults
 
@@ -192,11 +207,12 @@ abbrev pub IsInnerFault : (Outcome → Type 0) → ℕ → ℕ → ReplicaState 
 IsInnerFault Stops faults faults_new old new outcome = (outcome ≡ Err Memory) ⊎ (Stops outcome ⊎ ((outcome ≡ Err StoreFault) × (Rose faults faults_new ⊎ Rose old.log.faults new.log.faults)))
 
 -- A command over an open store, by the key of the directory.
-pub record SignsIn (Unused : Type 0) (Answer : SignAnswer) (Stops : Outcome → Type 0) (dir : List ℕ) (before after : ShelfState) (faults faults_new : ℕ) (old new : ReplicaState) (outcome : Outcome) : Type 0 where
+pub record SignsIn (Unused : Type 0) (Answer : SignAnswer) (Stops : Outcome → Type 0) (stream stream_new : Stream) (dir : List ℕ) (before after : ShelfState) (faults faults_new : ℕ) (old new : ReplicaState) (outcome : Outcome) : Type 0 where
   pub added : List (List ℕ)
   pub comes : (IsTrue before.tells → KeyedAnswer Unused Answer (reading (part_in before dir Key)) (reading (part_in before dir Used)) old.history added outcome)
       ⊎ (IsInnerFault Stops faults faults_new old new outcome × (added ≡ []))
   pub ends : AnswersSomeKey Answer (IsInnerFault Stops faults faults_new old new) added outcome
+  pub draws : DrawsFor stream stream_new outcome
   pub works : WorksFrom old new added (is_done outcome)
   pub tells : after.tells ≡ before.tells
   pub key : IsTrue before.tells → IsUntouched (part_in before dir Key) (part_in after dir Key)
