@@ -23,12 +23,12 @@ use Rattle.replica.specs.Replicas.{ReplicaState}
 use Rattle.store_directory.specs.Holding.{WorksOn}
 use Rattle.outcomes.specs.declared.refusal.Refusal.{Refusal}
 use Rattle.outcomes.specs.Comes.{IsRefused, is_done}
-use Rattle.node_commands.specs.Merging.{AreUnremembered, IsMergeEnd, IsMergeFault, KeepsAllButIn, Meets, MergesOpen, TellsEnd, start_of}
+use Rattle.node_commands.specs.Merging.{AreUnremembered, IfStoreFault, IsMergeEnd, IsMergeFault, IsStopped, held, unheld, KeepsAllButIn, Meets, MergesOpen, TellsEnd, start_of}
 use Rattle.outcomes.specs.Remembering.{IsPeersFault, KeepsPeers, RemembersIn, memory_in}
 use Rattle.outcomes.specs.OpenStores.{WorksFrom, opened_store}
 use Rattle.outcomes.specs.Outcome.{Outcome}
 use Rattle.outcomes.specs.Standing.{Stands}
-use Rattle.node_commands.proofs.Merging.{away_from}
+use Rattle.node_commands.proofs.Merging.{away_from, if_fault}
 use Rattle.outcomes.proofs.Around.{same_memory}
 use Rattle.key_directory.specs.Parts.{IsUntouched, KeepsPlaces, part_in}
 
@@ -202,12 +202,15 @@ module _ (first second : List ℕ) (before after : ShelfState) (faults faults_ne
   Met_so : Type 0
   Met_so = IsTrue before.tells → Meets (opened_store one) (opened_store other) (memory_in before first) (memory_in before second) (memory_in after first) (memory_in after second) met.grows.added met.grows_other.added outcome
 
+  Stopped_so : Type 0
+  Stopped_so = IsTrue before.tells → IfStoreFault outcome (IsStopped (opened_store one) (opened_store other) (memory_in before first) (memory_in before second) met.grows.added met.grows_other.added)
+
   Unremembered : Type 0
   Unremembered = IsRefused outcome → IsTrue before.tells → AreUnremembered first second before after
 
-  pub merges_open : (Met_so × (IsMergeEnd outcome × Unremembered)) ⊎ IsMergeFault faults faults_new one other one_new other_new outcome
+  pub merges_open : (Met_so × (IsMergeEnd outcome × Unremembered)) ⊎ IsMergeFault faults faults_new one other one_new other_new outcome → Stopped_so
       → MergesOpen first second before after faults faults_new one other one_new other_new outcome
-  merges_open comes = record {
+  merges_open comes stopped = record {
     added = met.grows.added;
     added_other = met.grows_other.added;
     comes = so comes;
@@ -218,6 +221,7 @@ module _ (first second : List ℕ) (before after : ShelfState) (faults faults_ne
     slot = (met.on.disk met.was).any_moment.disk.slot;
     slot_other = (met.on_other.disk met.was_other).any_moment.disk.slot;
     within = record { first = met.grows.of; second = met.grows_other.of };
+    stopped = stopped;
     tells = shelf.tells;
     places = shelf.places;
     others = shelf.others;
@@ -248,6 +252,24 @@ pub open_stopped : (first second : List ℕ) (before after : ShelfState) (faults
     → MergesOpen first second before after faults faults_new one other one other (Err refusal)
 open_stopped first second before after faults faults_new one other refusal stands stands_other shelf fault =
     merges_open first second before after faults faults_new one other one other (Err refusal) shelf (met_none one other false stands stands_other) (inr fault)
+    (λ tells. if_fault (Err refusal) (unheld refl refl))
+
+-- What a session added that was held where the store failed.
+pub stopped_in : (one other one_new other_new : ReplicaState) (start : PairStart) (ended : PairEnd) (peers peers_other : List PeerEntry)
+    → start ≡ start_of (opened_store one) (opened_store other) peers peers_other
+    → (grows : GrowsBy (one.history.members ++ other.history.members) one.history.members one_new.history.members)
+    → (grows_other : GrowsBy (one.history.members ++ other.history.members) other.history.members other_new.history.members)
+    → Syncs store_limits store_limits one.history.schema.rule other.history.schema.rule start one.history.members other.history.members ended one_new.history.members other_new.history.members
+    → (memory memory_other : List ℕ) → Reads memory peers → Reads memory_other peers_other → (ended.a ≡ Store) ⊎ (ended.a ≡ Done)
+    → IsStopped (opened_store one) (opened_store other) memory memory_other grows.added grows_other.added
+stopped_in one other one_new other_new start ended peers peers_other starts grows grows_other syncs memory memory_other reads reads_other end =
+    held ended peers peers_other reads reads_other end
+    (subst (λ (s : PairStart). Syncs store_limits store_limits one.history.schema.rule other.history.schema.rule s one.history.members other.history.members ended
+    (one.history.members ++ grows.added) (other.history.members ++ grows_other.added)) starts
+    (subst (λ (l : List (List ℕ)). Syncs store_limits store_limits one.history.schema.rule other.history.schema.rule start one.history.members other.history.members ended l
+    (other.history.members ++ grows_other.added)) grows.behind
+    (subst (λ (l : List (List ℕ)). Syncs store_limits store_limits one.history.schema.rule other.history.schema.rule start one.history.members other.history.members ended one_new.history.members l)
+    grows_other.behind syncs)))
 
 -- What the session of two stores came to.
 module _ (one other one_new other_new : ReplicaState) (start : PairStart) (ended : PairEnd) (peers peers_other : List PeerEntry)

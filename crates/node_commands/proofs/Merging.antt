@@ -25,7 +25,7 @@ use Rattle.store_directory.proofs.Working.{read_before, store_of, worked_run}
 use Rattle.outcomes.specs.declared.refusal.Refusal.{Refusal}
 use Rattle.outcomes.specs.declared.refusal.Refusal.TheVariants as refusals
 use Rattle.outcomes.specs.Comes.{IsShelfFault, is_done, readings}
-use Rattle.node_commands.specs.Merging.{BesideAnswer, IsBesideFault, IsMergeEnd, IsMergeFault, IsWithin, KeepsAllButIn, Meets, MergeAnswer, MergesBeside, MergesOpen, MergesStores, with_both, with_it, without, without_first, without_second}
+use Rattle.node_commands.specs.Merging.{BesideAnswer, IfStoreFault, IsBesideFault, IsMergeEnd, IsMergeFault, IsStopped, IsWithin, unheld, KeepsAllButIn, Meets, MergeAnswer, MergesBeside, MergesOpen, MergesStores, with_both, with_it, without, without_first, without_second}
 use Rattle.outcomes.specs.Remembering.{memory_in, touched}
 use Rattle.outcomes.specs.OpenStores.{opened_store, WorksFrom}
 use Rattle.outcomes.specs.Outcome.{Outcome, from_store}
@@ -85,6 +85,11 @@ same_run before opened closing after dir added done s u s2 u2 run = record {
     again : (store : StoreData) → IsStore is_luhn closing dir store → IsStore is_luhn after dir store
     again store is = rw (s2, u2) is
 
+-- what holds anyway holds where the store failed
+pub if_fault : {P : Type 0} → (outcome : Outcome) → P → IfStoreFault outcome P
+if_fault (Err refusals.StoreFault) is = is
+if_fault outcome is = tt
+
 -- parts that were at most read, between moments at which they are as they are at others
 untouched_around : (before opened closing after before_two opened_two closing_two after_two : PartState) → opened ≡ before → opened_two ≡ before_two → after ≡ closing → after_two ≡ closing_two
     → IsUntouched opened closing × IsUntouched opened_two closing_two → IsUntouched before after × IsUntouched before_two after_two
@@ -128,6 +133,7 @@ module _ (first second : List ℕ) (differ : first ≢ second) (before after : S
     slot = ap (λ (r : ReplicaState). r.log.disk.slot) same;
     run_other = λ whole. lets.run;
     within = λ tells other is. record { first = All-nil (Contains (one.history.members ++ other.members)); second = All-nil (Contains (one.history.members ++ other.members)) };
+    stopped = λ tells other is. if_fault (Err (from_store why)) (unheld refl refl);
     tells = lets.tells;
     places = lets.places;
     others = λ tells other away away_too. lets.others tells other (of_store second other away_too);
@@ -170,6 +176,14 @@ module _ (first second : List ℕ) (differ : first ≢ second) (before after : S
     within = λ tells other is.
         subst (λ (s : StoreData). IsWithin one.history.members s.members merges.added merges.added_other)
         (same_store schemas is_luhn (reading (part_in before second Schema)) (reading (part_in before second Updates)) (store_of taken.replica) other (read_before is_luhn before opened second taken tells takes) is) merges.within;
+    stopped = λ tells other is.
+        subst (λ (s : StoreData). IfStoreFault outcome (IsStopped (opened_store one) s (memory_in before first) (memory_in before second) merges.added merges.added_other))
+        (same_store schemas is_luhn (reading (part_in before second Schema)) (reading (part_in before second Updates)) (store_of taken.replica) other (read_before is_luhn before opened second taken tells takes) is)
+        (rw (
+          sym (same_memory before opened first (takes.others (slot first Peers) away)),
+          sym (same_memory before opened second (takes.others (slot second Peers) refl)),
+        )
+        (merges.stopped (inside tells)));
     tells = tells_still second before opened closing after taken now takes puts merges.tells merges.places;
     places = places_around second before opened closing after taken now takes puts merges.tells merges.places;
     others = λ tells other away away_too.
@@ -234,6 +248,7 @@ module _ (first second : List ℕ) (differ : first ≢ second) (before after : S
     run_other = λ tells. not_run before after second (lets.others tells (slot second Schema) (away_from first second differ (Schema ∷ Updates ∷ []) Schema))
         (lets.others tells (slot second Updates) (away_from first second differ (Schema ∷ Updates ∷ []) Updates));
     within = λ tells one other is_one is_other. record { first = All-nil (Contains (one.members ++ other.members)); second = All-nil (Contains (one.members ++ other.members)) };
+    stopped = λ tells one other is_one is_other. if_fault (Err (from_store why)) (unheld refl refl);
     others = λ tells other away away_too. lets.others tells other (of_store first other away);
     home = λ tells place. lets.places tells place (home tells place);
   }
@@ -276,6 +291,14 @@ module _ (first second : List ℕ) (differ : first ≢ second) (before after : S
         subst (λ (s : StoreData). IsWithin s.members other.members merges.added merges.added_other)
         (same_store schemas is_luhn (reading (part_in before first Schema)) (reading (part_in before first Updates)) (store_of taken.replica) one (read_before is_luhn before opened first taken tells takes) is_one)
         (merges.within (inside tells) other (rw (takes.others (slot second Schema) (away Schema), takes.others (slot second Updates) (away Updates)) is_other));
+    stopped = λ tells one other is_one is_other.
+        subst (λ (s : StoreData). IfStoreFault outcome (IsStopped s other (memory_in before first) (memory_in before second) merges.added merges.added_other))
+        (same_store schemas is_luhn (reading (part_in before first Schema)) (reading (part_in before first Updates)) (store_of taken.replica) one (read_before is_luhn before opened first taken tells takes) is_one)
+        (rw (
+          sym (same_memory before opened first (takes.others (slot first Peers) refl)),
+          sym (same_memory before opened second (takes.others (slot second Peers) (away Peers))),
+        )
+        (merges.stopped (inside tells) other (rw (takes.others (slot second Schema) (away Schema), takes.others (slot second Updates) (away Updates)) is_other)));
     others = λ tells other away_one away_two.
         puts.others (still tells) other (of_store first other away_one) ∙ merges.others (inside tells) other (of_peers first other away_one) away_two ∙ takes.others other (of_store first other away_one);
     home = λ tells place. places_around first before opened closing after taken now takes puts merges.tells merges.places tells place (home tells place);
@@ -337,6 +360,7 @@ merge_without_memory first second before after old new refusal merges = record {
   run = merges.run;
   run_other = merges.run_other;
   within = merges.within;
+  stopped = λ tells one other is_one is_other. tt;
   others = merges.others;
   home = merges.home;
 }

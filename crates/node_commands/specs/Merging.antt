@@ -9,7 +9,7 @@ use Rattle.bec_disk.specs.Shelf.{ShelfState}
 use Rattle.bec_disk.specs.Slot.{Slot, same_slot, slot}
 use Rattle.update_model.specs.Batch.{store_limits}
 use Rattle.update_codec.specs.Parts.{entry_of}
-use Rattle.session_rules.specs.declared.end.End.TheVariants.{Done, Peer, Full}
+use Rattle.session_rules.specs.declared.end.End.TheVariants.{Done, Peer, Full, Store}
 use Rattle.session_rules.specs.declared.peer_fault.PeerFault.{PeerFault}
 use Rattle.session_rules.specs.Laws.{NoCollision}
 use Rattle.sync_session.specs.Carrying.{HasRoom, Syncs, Unites}
@@ -68,6 +68,20 @@ pub record Meets (one other : StoreData) (memory memory_other memory_new memory_
   pub remembers : ended.a ≡ Done → RemembersIn peers other.node ended.remembered_a memory_new
   pub remembers_other : ended.a ≡ Done → RemembersIn peers_other one.node ended.remembered_b memory_other_new
 
+-- What was added where the store failed: nothing, before a session; or what the session added that was held, up to its end by the store, or done, and
+-- then what is remembered was not kept.
+pub data IsStopped (one other : StoreData) (memory memory_other : List ℕ) (added added_other : List (List ℕ)) : Type 0 where
+  unheld : added ≡ [] → added_other ≡ [] → IsStopped one other memory memory_other added added_other
+  held : (ended : PairEnd) (peers peers_other : List PeerEntry) → Reads memory peers → Reads memory_other peers_other → (ended.a ≡ Store) ⊎ (ended.a ≡ Done)
+      → Syncs store_limits store_limits one.schema.rule other.schema.rule (start_of one other peers peers_other) one.members other.members ended
+      (one.members ++ added) (other.members ++ added_other)
+      → IsStopped one other memory memory_other added added_other
+
+-- This holds where the store failed.
+abbrev pub IfStoreFault : Outcome → Type 0 → Type 0
+IfStoreFault (Err refusals.StoreFault) P = P
+IfStoreFault outcome P = Unit {0}
+
 -- What is answered by what both directories read as: the store of the first or of the second is refused, or they meet.
 pub data MergeAnswer (parts parts_other : Readings) (memory memory_other memory_new memory_other_new : List ℕ) (added added_other : List (List ℕ)) (outcome : Outcome) : Type 0 where
   without_first : (refusal : Refusal) → RefusesStore parts refusal → added ≡ [] → added_other ≡ [] → outcome ≡ Err refusal
@@ -115,7 +129,7 @@ AreUnremembered first second before after =
     IsUntouched (part_in before first Peers) (part_in after first Peers) × IsUntouched (part_in before second Peers) (part_in after second Peers)
 
 -- A run of `merge` over two directories. Where the shelf tells what it has, the outcome is the answer to what the parts read as, or a fault came in its
--- place. These were added to each list, in whatever way it ends. No part but these is touched, and every part is put back. Where it is refused, both
+-- place. These were added to each list, in whatever way it ends; where the store failed, they are what the session added up to there. No part but these is touched, and every part is put back. Where it is refused, both
 -- parts Peers are at most read. Whether the shelf tells what it has or not, it is done, or refused for one of its own reasons, or a fault came.
 pub record MergesStores (first second : List ℕ) (before after : ShelfState) (old new : ℕ) (outcome : Outcome) : Type 0 where
   pub added : List (List ℕ)
@@ -127,6 +141,8 @@ pub record MergesStores (first second : List ℕ) (before after : ShelfState) (o
   pub run : IsTrue before.tells → StoreRun is_luhn before after first added (is_done outcome)
   pub run_other : IsTrue before.tells → StoreRun is_luhn before after second added_other (is_done outcome)
   pub within : IsTrue before.tells → (one other : StoreData) → IsStore is_luhn before first one → IsStore is_luhn before second other → IsWithin one.members other.members added added_other
+  pub stopped : IsTrue before.tells → (one other : StoreData) → IsStore is_luhn before first one → IsStore is_luhn before second other
+      → IfStoreFault outcome (IsStopped one other (memory_in before first) (memory_in before second) added added_other)
   pub others : IsTrue before.tells → KeepsAllButIn touched first touched second before after
   pub home : IsTrue before.tells → IsHome after
 
@@ -157,6 +173,7 @@ pub record MergesOpen (first second : List ℕ) (before after : ShelfState) (fau
   pub slot : one_new.log.disk.slot ≡ one.log.disk.slot
   pub slot_other : other_new.log.disk.slot ≡ other.log.disk.slot
   pub within : IsWithin one.history.members other.history.members added added_other
+  pub stopped : IsTrue before.tells → IfStoreFault outcome (IsStopped (opened_store one) (opened_store other) (memory_in before first) (memory_in before second) added added_other)
   pub tells : after.tells ≡ before.tells
   pub places : IsTrue before.tells → KeepsPlaces before after
   pub others : IsTrue before.tells → KeepsAllButIn (Peers ∷ []) first (Peers ∷ []) second before after
@@ -187,6 +204,8 @@ pub record MergesBeside (first second : List ℕ) (before after : ShelfState) (f
   pub slot : one_new.log.disk.slot ≡ one.log.disk.slot
   pub run_other : IsWhole one → IsTrue before.tells → StoreRun is_luhn before after second added_other (is_done outcome)
   pub within : IsTrue before.tells → (other : StoreData) → IsStore is_luhn before second other → IsWithin one.history.members other.members added added_other
+  pub stopped : IsTrue before.tells → (other : StoreData) → IsStore is_luhn before second other
+      → IfStoreFault outcome (IsStopped (opened_store one) other (memory_in before first) (memory_in before second) added added_other)
   pub tells : after.tells ≡ before.tells
   pub places : IsTrue before.tells → KeepsPlaces before after
   pub others : IsTrue before.tells → KeepsAllButIn (Peers ∷ []) first touched second before after
