@@ -85,17 +85,17 @@ pub data StoreAnswer (Unused : Type 0) (Answer : SignAnswer) (parts : Readings) 
   without_store : (refusal : Refusal) → RefusesStore parts refusal → Unused → added ≡ [] → outcome ≡ Err refusal → StoreAnswer Unused Answer parts added outcome
   with_store : (store : StoreData) → HasStore parts store → KeyedAnswer Unused Answer parts.key parts.used (history_of store) added outcome → StoreAnswer Unused Answer parts added outcome
 
--- the one where nothing was added, and the other where something was
-abbrev pub IfAdded : List (List ℕ) → Type 0 → Type 0 → Type 0
-IfAdded [] None Some = None
-IfAdded (bytes ∷ others) None Some = Some
+-- This holds where nothing was added, and that where something was.
+abbrev pub WhereAdded : List (List ℕ) → Type 0 → Type 0 → Type 0
+WhereAdded [] This That = This
+WhereAdded (bytes ∷ others) This That = That
 
 -- What a key was used for, by what was added and by the outcome: nothing, or its least unused index was tried, or a message was signed at that
 -- index. A message was signed where an update was added, and where its id is taken. Where the store failed, the disk tells: the log's fails after a
 -- message was signed, the key's after the index was tried, every other before. Memory may run out before or after. With every other outcome the key
 -- was not used.
 abbrev pub UsesKey : (NotUsed Tries Signs : Type 0) → List (List ℕ) → Outcome → Type 0
-UsesKey NotUsed Tries Signs added (Ok text) = IfAdded added NotUsed Signs
+UsesKey NotUsed Tries Signs added (Ok text) = WhereAdded added NotUsed Signs
 UsesKey NotUsed Tries Signs added (Err IdTaken) = Signs
 UsesKey NotUsed Tries Signs added (Err StoreFault) = NotUsed ⊎ (Tries ⊎ Signs)
 UsesKey NotUsed Tries Signs added (Err Memory) = NotUsed ⊎ (Tries ⊎ Signs)
