@@ -71,6 +71,7 @@ tries_least before opened closing after dir taken now tells tells' takes index l
 pub signs_at_least : (before opened closing after : ShelfState) (dir : List ℕ) (taken now : KeyState) → IsTrue before.tells → IsTrue closing.tells → TakesKey before dir taken opened
     → (index : ℕ) → least_unused taken.taken ≡ Some index → Tries taken index now → (IsTrue taken.parts.used.tells → IsReserved taken.parts.used index now.parts.used)
     → IsImage now.parts.used.now now.parts.used.seen → PutsKey closing dir now.parts after → SignsAtLeastIn (part_in before dir Used) (part_in after dir Used)
+unfolding tries_least
 signs_at_least before opened closing after dir taken now tells tells' takes index least tries reserved image puts =
     let u = takes.used_part tells in
     let is = reserved (told before.tells taken.parts.used.tells takes.used_tells tells) in

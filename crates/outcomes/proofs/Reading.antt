@@ -49,15 +49,15 @@ no_updates = []
 -- ---- parts of some directory
 
 -- parts that have no store
-no_parts : Readings
+abbrev no_parts : Readings
 no_parts = record { schema = None; updates = None; key = None; used = None }
 
 -- parts that have a bad one
-bad_parts : Readings
+abbrev bad_parts : Readings
 bad_parts = record { schema = Some (whole_of []); updates = None; key = None; used = None }
 
 -- parts that have the store that is open
-parts_of : ReplicaState → Readings
+abbrev parts_of : ReplicaState → Readings
 parts_of replica =
     record { schema = Some (whole_of (replica.node ++ replica.history.schema.text)); updates = Some (stream_of replica.history.members); key = None; used = None }
 
