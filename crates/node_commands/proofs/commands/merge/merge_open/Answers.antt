@@ -203,10 +203,14 @@ returns-in_ok-merged_lines-in-Done g c =
     (λ tells. subst (λ (node : List ℕ). RemembersIn c.in_ok-peers.peers node c.in_ok-ended.ended.remembered_a (memory_in wrote c.args.first.now)) node_is (k.remembers tells))
     (λ tells. subst (λ (node : List ℕ). RemembersIn c.in_ok-peers_other.peers_other node c.in_ok-ended.ended.remembered_b (memory_in after c.args.second.now)) node_other_is (l.remembers tells)) in
     merges_open c.args.first.now c.args.second.now before after old new one other one_new other_new (Ok c.in_ok-merged_lines-in-Done.field-0) shelf met
-    (inl ((λ tells. meets one other one_new other_new c.in_ok-start.start c.in_ok-ended.ended c.in_ok-peers.peers c.in_ok-peers_other.peers_other c.in_ok-start.ensures.is e.moves_a.grows e.moves_b.grows e.syncs e.unites e.room
-    (λ is. told_apart is_store_end c.in_ok-ended.ended.a _ Store refl refl c.in-Done.is is)
-    (memory_in before c.args.first.now) (memory_in before c.args.second.now) (memory_in after c.args.first.now) (memory_in after c.args.second.now) (Ok c.in_ok-merged_lines-in-Done.field-0) (read.reads tells) (read.reads_other tells)
-    (done c.in-Done.is c.in_ok-merged_lines-in-Done.ensures) (λ is. kept.remembers (subst IsTrue (sym read.shelf.tells) tells)) (λ is. kept.remembers_other (subst IsTrue (sym read.shelf.tells) tells))), tt, λ is. absurd is)) (λ tells. tt)
+    (inl (
+      (λ tells. meets one other one_new other_new c.in_ok-start.start c.in_ok-ended.ended c.in_ok-peers.peers c.in_ok-peers_other.peers_other c.in_ok-start.ensures.is e.moves_a.grows e.moves_b.grows e.syncs e.unites e.room
+          (λ is. told_apart is_store_end c.in_ok-ended.ended.a _ Store refl refl c.in-Done.is is)
+          (memory_in before c.args.first.now) (memory_in before c.args.second.now) (memory_in after c.args.first.now) (memory_in after c.args.second.now) (Ok c.in_ok-merged_lines-in-Done.field-0) (read.reads tells) (read.reads_other tells)
+          (done c.in-Done.is c.in_ok-merged_lines-in-Done.ensures) (λ is. kept.remembers (subst IsTrue (sym read.shelf.tells) tells)) (λ is. kept.remembers_other (subst IsTrue (sym read.shelf.tells) tells))),
+      tt,
+      λ is. absurd is,
+    )) (λ tells. tt)
 
 pub returns-in-Peer : goal.returns-in-Peer
 returns-in-Peer g c =
@@ -230,10 +234,14 @@ returns-in-Peer g c =
     let met = met_by one other one_new other_new false c.each_stands.ensures c.each_stands-2.ensures c.each_stands-3.ensures c.each_stands-4.ensures e.keeps_a e.keeps_b e.moves_a.grows e.moves_b.grows e.moves_a.later e.moves_b.later
     (λ is_done. absurd (true≢false (sym is_done))) in
     merges_open c.args.first.now c.args.second.now before after old new one other one_new other_new (Err _) read.shelf met
-    (inl ((λ tells. meets one other one_new other_new c.in_ok-start.start c.in_ok-ended.ended c.in_ok-peers.peers c.in_ok-peers_other.peers_other c.in_ok-start.ensures.is e.moves_a.grows e.moves_b.grows e.syncs e.unites e.room
-    (λ is. told_apart is_store_end c.in_ok-ended.ended.a _ Store refl refl c.in-Peer.is is)
-    (memory_in before c.args.first.now) (memory_in before c.args.second.now) (memory_in after c.args.first.now) (memory_in after c.args.second.now) (Err _) (read.reads tells) (read.reads_other tells)
-    (peer c.in-Peer.fault c.in-Peer.is refl) (λ is. absurd (told_apart is_done_end c.in_ok-ended.ended.a _ Done refl refl c.in-Peer.is is)) (λ is. absurd (told_apart is_done_end c.in_ok-ended.ended.a _ Done refl refl c.in-Peer.is is))), tt, λ is. read.untouched)) (λ tells. tt)
+    (inl (
+      (λ tells. meets one other one_new other_new c.in_ok-start.start c.in_ok-ended.ended c.in_ok-peers.peers c.in_ok-peers_other.peers_other c.in_ok-start.ensures.is e.moves_a.grows e.moves_b.grows e.syncs e.unites e.room
+          (λ is. told_apart is_store_end c.in_ok-ended.ended.a _ Store refl refl c.in-Peer.is is)
+          (memory_in before c.args.first.now) (memory_in before c.args.second.now) (memory_in after c.args.first.now) (memory_in after c.args.second.now) (Err _) (read.reads tells) (read.reads_other tells)
+          (peer c.in-Peer.fault c.in-Peer.is refl) (λ is. absurd (told_apart is_done_end c.in_ok-ended.ended.a _ Done refl refl c.in-Peer.is is)) (λ is. absurd (told_apart is_done_end c.in_ok-ended.ended.a _ Done refl refl c.in-Peer.is is))),
+      tt,
+      λ is. read.untouched,
+    )) (λ tells. tt)
 
 pub returns-in-Full : goal.returns-in-Full
 returns-in-Full g c =
@@ -257,10 +265,14 @@ returns-in-Full g c =
     let met = met_by one other one_new other_new false c.each_stands.ensures c.each_stands-2.ensures c.each_stands-3.ensures c.each_stands-4.ensures e.keeps_a e.keeps_b e.moves_a.grows e.moves_b.grows e.moves_a.later e.moves_b.later
     (λ is_done. absurd (true≢false (sym is_done))) in
     merges_open c.args.first.now c.args.second.now before after old new one other one_new other_new (Err _) read.shelf met
-    (inl ((λ tells. meets one other one_new other_new c.in_ok-start.start c.in_ok-ended.ended c.in_ok-peers.peers c.in_ok-peers_other.peers_other c.in_ok-start.ensures.is e.moves_a.grows e.moves_b.grows e.syncs e.unites e.room
-    (λ is. told_apart is_store_end c.in_ok-ended.ended.a _ Store refl refl c.in-Full.is is)
-    (memory_in before c.args.first.now) (memory_in before c.args.second.now) (memory_in after c.args.first.now) (memory_in after c.args.second.now) (Err _) (read.reads tells) (read.reads_other tells)
-    (full c.in-Full.is refl) (λ is. absurd (told_apart is_done_end c.in_ok-ended.ended.a _ Done refl refl c.in-Full.is is)) (λ is. absurd (told_apart is_done_end c.in_ok-ended.ended.a _ Done refl refl c.in-Full.is is))), tt, λ is. read.untouched)) (λ tells. tt)
+    (inl (
+      (λ tells. meets one other one_new other_new c.in_ok-start.start c.in_ok-ended.ended c.in_ok-peers.peers c.in_ok-peers_other.peers_other c.in_ok-start.ensures.is e.moves_a.grows e.moves_b.grows e.syncs e.unites e.room
+          (λ is. told_apart is_store_end c.in_ok-ended.ended.a _ Store refl refl c.in-Full.is is)
+          (memory_in before c.args.first.now) (memory_in before c.args.second.now) (memory_in after c.args.first.now) (memory_in after c.args.second.now) (Err _) (read.reads tells) (read.reads_other tells)
+          (full c.in-Full.is refl) (λ is. absurd (told_apart is_done_end c.in_ok-ended.ended.a _ Done refl refl c.in-Full.is is)) (λ is. absurd (told_apart is_done_end c.in_ok-ended.ended.a _ Done refl refl c.in-Full.is is))),
+      tt,
+      λ is. read.untouched,
+    )) (λ tells. tt)
 
 pub returns-in-Store : goal.returns-in-Store
 returns-in-Store g c =
