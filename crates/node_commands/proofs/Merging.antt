@@ -204,6 +204,12 @@ module _ (first second : List ℕ) (differ : first ≢ second) (before after : S
       away : to_first (Schema ∷ Updates ∷ [])
       away = away_from second first (λ e. differ (sym e)) (Schema ∷ Updates ∷ []) Peers
 
+      beside : IsMergeFault opened_faults closing_faults one taken.replica one_new now outcome → IsBesideFault old new one one_new outcome
+      beside (inl memory) = inl memory
+      beside (inr (is, inl shelf)) = inr (is, inl (omega (arith, one_later, two_later, shelf)))
+      beside (inr (is, inr (inl log))) = inr (is, inr log)
+      beside (inr (is, inr (inr log))) = let any : 0 < now.log.faults = omega (arith, log) in let mid = merges.later in let more = faulted any in inr (is, inl (omega (arith, one_later, mid, more)))
+
       by : (IsTrue opened.tells → Meets (opened_store one) (opened_store taken.replica) (memory_in opened first) (memory_in opened second) (memory_in closing first) (memory_in closing second) merges.added merges.added_other outcome)
           ⊎ IsMergeFault opened_faults closing_faults one taken.replica one_new now outcome
           → (IsTrue before.tells → BesideAnswer (opened_store one) (readings before second) (memory_in before first) (memory_in before second) (memory_in after first) (memory_in after second) merges.added merges.added_other outcome)
@@ -218,12 +224,6 @@ module _ (first second : List ℕ) (differ : first ≢ second) (before after : S
           )
           (meets (inside tells))))
       by (inr fault) = inr (beside fault)
-
-      beside : IsMergeFault opened_faults closing_faults one taken.replica one_new now outcome → IsBesideFault old new one one_new outcome
-      beside (inl memory) = inl memory
-      beside (inr (is, inl shelf)) = inr (is, inl (omega (arith, one_later, two_later, shelf)))
-      beside (inr (is, inr (inl log))) = inr (is, inr log)
-      beside (inr (is, inr (inr log))) = let any : 0 < now.log.faults = omega (arith, log) in let mid = merges.later in let more = faulted any in inr (is, inl (omega (arith, one_later, mid, more)))
 
       some : IsMergeEnd outcome ⊎ IsMergeFault opened_faults closing_faults one taken.replica one_new now outcome → IsMergeEnd outcome ⊎ IsBesideFault old new one one_new outcome
       some (inl end) = inl end
@@ -313,6 +313,11 @@ module _ (first second : List ℕ) (differ : first ≢ second) (before after : S
       away : (part : Part) → list_any (λ other. same_slot (slot first other) (slot second part)) (Schema ∷ Updates ∷ []) ≡ false
       away part = away_from first second differ (Schema ∷ Updates ∷ []) part
 
+      outer : IsBesideFault opened_faults closing_faults taken.replica now outcome → IsShelfFault old new outcome
+      outer (inl memory) = inl memory
+      outer (inr (is, inl shelf)) = inr (is, omega (arith, one_later, two_later, shelf))
+      outer (inr (is, inr log)) = let any : 0 < now.log.faults = omega (arith, log) in let mid = merges.later in let more = faulted any in inr (is, omega (arith, one_later, mid, more))
+
       by : (IsTrue opened.tells → BesideAnswer (opened_store taken.replica) (readings opened second) (memory_in opened first) (memory_in opened second) (memory_in closing first) (memory_in closing second) merges.added merges.added_other outcome)
           ⊎ IsBesideFault opened_faults closing_faults taken.replica now outcome
           → (IsTrue before.tells → MergeAnswer (readings before first) (readings before second) (memory_in before first) (memory_in before second) (memory_in after first) (memory_in after second) merges.added merges.added_other outcome)
@@ -337,11 +342,6 @@ module _ (first second : List ℕ) (differ : first ≢ second) (before after : S
           whole tells (without refusal refuses nothing none is) = without_second (store_of taken.replica) refusal (read_before is_luhn before opened first taken tells takes) refuses nothing none is
           whole tells (with_it other has meets) = with_both (store_of taken.replica) other (read_before is_luhn before opened first taken tells takes) has meets
       by (inr fault) = inr (outer fault)
-
-      outer : IsBesideFault opened_faults closing_faults taken.replica now outcome → IsShelfFault old new outcome
-      outer (inl memory) = inl memory
-      outer (inr (is, inl shelf)) = inr (is, omega (arith, one_later, two_later, shelf))
-      outer (inr (is, inr log)) = let any : 0 < now.log.faults = omega (arith, log) in let mid = merges.later in let more = faulted any in inr (is, omega (arith, one_later, mid, more))
 
       some : IsMergeEnd outcome ⊎ IsBesideFault opened_faults closing_faults taken.replica now outcome → IsMergeEnd outcome ⊎ IsShelfFault old new outcome
       some (inl end) = inl end

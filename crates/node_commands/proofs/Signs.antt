@@ -503,17 +503,17 @@ module _ (Unused : Type 0) (Answer : SignAnswer) (Stops : Outcome → Type 0) (s
           let more = faulted some in
           omega (arith, first, more)
 
-      by : Answer old.history taken.secret taken.taken signs.added outcome ⊎ (IsOpenFault Stops old taken new now outcome × (signs.added ≡ []))
-          → (IsTrue before.tells → KeyedAnswer Unused Answer (reading (part_in before dir Key)) (reading (part_in before dir Used)) old.history signs.added outcome)
-          ⊎ (IsInnerFault Stops faults faults_new old new outcome × (signs.added ≡ []))
-      by (inl answer) = inl (λ tells. key_of tells answer)
-      by (inr (fault, is)) = inr (inner fault, is)
-
       inner : IsOpenFault Stops old taken new now outcome → IsInnerFault Stops faults faults_new old new outcome
       inner (inl memory) = inl memory
       inner (inr (inl stopped)) = inr (inl stopped)
       inner (inr (inr (store, inl log))) = inr (inr (store, inr log))
       inner (inr (inr (store, inr key))) = inr (inr (store, inl (rose key)))
+
+      by : Answer old.history taken.secret taken.taken signs.added outcome ⊎ (IsOpenFault Stops old taken new now outcome × (signs.added ≡ []))
+          → (IsTrue before.tells → KeyedAnswer Unused Answer (reading (part_in before dir Key)) (reading (part_in before dir Used)) old.history signs.added outcome)
+          ⊎ (IsInnerFault Stops faults faults_new old new outcome × (signs.added ≡ []))
+      by (inl answer) = inl (λ tells. key_of tells answer)
+      by (inr (fault, is)) = inr (inner fault, is)
 
       some : Answer old.history taken.secret taken.taken signs.added outcome ⊎ (IsOpenFault Stops old taken new now outcome × (signs.added ≡ []))
           → AnswersSomeKey Answer (IsInnerFault Stops faults faults_new old new) signs.added outcome
@@ -659,15 +659,6 @@ module _ (Unused : Type 0) (Answer : SignAnswer) (Stops : Outcome → Type 0) (s
           home_but dir taken.schema closing (signs.key_home (opened_told tells)) (signs.used_home (opened_told tells))
           (λ other away far. subst (λ (p : PartState). p ≢ out) (sym (signs.others (opened_told tells) other far ∙ takes.others other away)) (home tells other))
 
-      by : (IsTrue opened.tells → KeyedAnswer Unused Answer (reading (part_in opened dir Key)) (reading (part_in opened dir Used)) taken.replica.history signs.added outcome)
-          ⊎ (IsInnerFault Stops opened_faults closing_faults taken.replica replica outcome × (signs.added ≡ []))
-          → (IsTrue before.tells → StoreAnswer Unused Answer (readings before dir) signs.added outcome) ⊎ ((IsShelfFault old new outcome ⊎ Stops outcome) × (signs.added ≡ []))
-      by (inl answer) = inl (λ tells.
-          with_store (store_of taken.replica) (read_before is_luhn before opened dir taken tells takes)
-          (subst (λ (p : PartState). KeyedAnswer Unused Answer (reading p) (reading (part_in before dir Used)) taken.replica.history signs.added outcome) (takes.others (slot dir Key) refl)
-          (subst (λ (p : PartState). KeyedAnswer Unused Answer (reading (part_in opened dir Key)) (reading p) taken.replica.history signs.added outcome) (takes.others (slot dir Used) refl) (answer (opened_told tells)))))
-      by (inr (fault, is)) = inr (outer fault, is)
-
       outer : IsInnerFault Stops opened_faults closing_faults taken.replica replica outcome → IsShelfFault old new outcome ⊎ Stops outcome
       outer (inl memory) = inl (inl memory)
       outer (inr (inl stopped)) = inr stopped
@@ -677,6 +668,15 @@ module _ (Unused : Type 0) (Answer : SignAnswer) (Stops : Outcome → Type 0) (s
           let later = signs.later in
           let more = faulted any in
           inl (inr (store, (omega (arith, first, later, more))))
+
+      by : (IsTrue opened.tells → KeyedAnswer Unused Answer (reading (part_in opened dir Key)) (reading (part_in opened dir Used)) taken.replica.history signs.added outcome)
+          ⊎ (IsInnerFault Stops opened_faults closing_faults taken.replica replica outcome × (signs.added ≡ []))
+          → (IsTrue before.tells → StoreAnswer Unused Answer (readings before dir) signs.added outcome) ⊎ ((IsShelfFault old new outcome ⊎ Stops outcome) × (signs.added ≡ []))
+      by (inl answer) = inl (λ tells.
+          with_store (store_of taken.replica) (read_before is_luhn before opened dir taken tells takes)
+          (subst (λ (p : PartState). KeyedAnswer Unused Answer (reading p) (reading (part_in before dir Used)) taken.replica.history signs.added outcome) (takes.others (slot dir Key) refl)
+          (subst (λ (p : PartState). KeyedAnswer Unused Answer (reading (part_in opened dir Key)) (reading p) taken.replica.history signs.added outcome) (takes.others (slot dir Used) refl) (answer (opened_told tells)))))
+      by (inr (fault, is)) = inr (outer fault, is)
 
       some : AnswersSomeKey Answer (IsInnerFault Stops opened_faults closing_faults taken.replica replica) signs.added outcome
           → AnswersSomeKey Answer (λ given. IsShelfFault old new given ⊎ Stops given) signs.added outcome
