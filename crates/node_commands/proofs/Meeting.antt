@@ -199,13 +199,13 @@ works_by old new added done on here stands members whole = λ was taken same.
 
 module _ (first second : List ℕ) (before after : ShelfState) (faults faults_new : ℕ) (one other one_new other_new : ReplicaState) (outcome : Outcome)
     (shelf : Shelved first second before after faults faults_new) (met : Met one other one_new other_new (is_done outcome)) where
-  abbrev Met_so : Type 0
+  abbrev pub Met_so : Type 0
   Met_so = IsTrue before.tells → Meets (opened_store one) (opened_store other) (memory_in before first) (memory_in before second) (memory_in after first) (memory_in after second) met.grows.added met.grows_other.added outcome
 
-  abbrev Stopped_so : Type 0
+  abbrev pub Stopped_so : Type 0
   Stopped_so = IsTrue before.tells → IfStoreFault outcome (IsStopped (opened_store one) (opened_store other) (memory_in before first) (memory_in before second) met.grows.added met.grows_other.added)
 
-  abbrev Unremembered : Type 0
+  abbrev pub Unremembered : Type 0
   Unremembered = IsRefused outcome → IsTrue before.tells → AreUnremembered first second before after
 
   pub merges_open : (Met_so × (IsMergeEnd outcome × Unremembered)) ⊎ IsMergeFault faults faults_new one other one_new other_new outcome → Stopped_so

@@ -103,7 +103,7 @@ returns-in_err-keep_peers-in-Done g c =
     let shelf : Shelved c.args.first.now c.args.second.now before after old new = shelved_first c.args.first.now c.args.second.now before old then after counted new read.shelf k.later k.keeps in
     rw (p.1, p.2) (merges_open c.args.first.now c.args.second.now before after old new one other one_new other_new (Err c.in_err-keep_peers-in-Done.field-0.0) shelf met
     (inr (peers_fault old counted new one other one_new other_new c.in_err-keep_peers-in-Done.field-0.0 read.shelf.later k.failed))
-    (λ tells. if_fault _ (stopped_in one other one_new other_new c.in_ok-start.start c.in_ok-ended.ended c.in_ok-peers.peers c.in_ok-peers_other.peers_other c.in_ok-start.ensures.is e.moves_a.grows e.moves_b.grows e.syncs
+    (λ tells. if_fault (Err c.in_err-keep_peers-in-Done.field-0.0) (stopped_in one other one_new other_new c.in_ok-start.start c.in_ok-ended.ended c.in_ok-peers.peers c.in_ok-peers_other.peers_other c.in_ok-start.ensures.is e.moves_a.grows e.moves_b.grows e.syncs
     (memory_in before c.args.first.now) (memory_in before c.args.second.now) (read.reads tells) (read.reads_other tells) (inr c.in-Done.is))))
 
 pub returns-in_err-keep_peers-in-Done-2 : goal.returns-in_err-keep_peers-in-Done-2
@@ -136,7 +136,7 @@ returns-in_err-keep_peers-in-Done-2 g c =
     let shelf : Shelved c.args.first.now c.args.second.now before after old new = shelved_second c.args.first.now c.args.second.now before old wrote after writing new shelf_one l.later l.keeps in
     rw (p.1, p.2) (merges_open c.args.first.now c.args.second.now before after old new one other one_new other_new (Err c.in_err-keep_peers-in-Done-2.field-0.0) shelf met
     (inr (peers_fault old writing new one other one_new other_new c.in_err-keep_peers-in-Done-2.field-0.0 shelf_one.later l.failed))
-    (λ tells. if_fault _ (stopped_in one other one_new other_new c.in_ok-start.start c.in_ok-ended.ended c.in_ok-peers.peers c.in_ok-peers_other.peers_other c.in_ok-start.ensures.is e.moves_a.grows e.moves_b.grows e.syncs
+    (λ tells. if_fault (Err c.in_err-keep_peers-in-Done-2.field-0.0) (stopped_in one other one_new other_new c.in_ok-start.start c.in_ok-ended.ended c.in_ok-peers.peers c.in_ok-peers_other.peers_other c.in_ok-start.ensures.is e.moves_a.grows e.moves_b.grows e.syncs
     (memory_in before c.args.first.now) (memory_in before c.args.second.now) (read.reads tells) (read.reads_other tells) (inr c.in-Done.is))))
 
 pub returns-in_err-merged_lines-in-Done : goal.returns-in_err-merged_lines-in-Done
@@ -296,5 +296,5 @@ returns-in-Store g c =
     let met = met_by one other one_new other_new false c.each_stands.ensures c.each_stands-2.ensures c.each_stands-3.ensures c.each_stands-4.ensures e.keeps_a e.keeps_b e.moves_a.grows e.moves_b.grows e.moves_a.later e.moves_b.later
     (λ is_done. absurd (true≢false (sym is_done))) in
     merges_open c.args.first.now c.args.second.now before after old new one other one_new other_new (Err _) read.shelf met (inr (inr (refl, inr (e.store c.in-Store.is))))
-    (λ tells. if_fault _ (stopped_in one other one_new other_new c.in_ok-start.start c.in_ok-ended.ended c.in_ok-peers.peers c.in_ok-peers_other.peers_other c.in_ok-start.ensures.is e.moves_a.grows e.moves_b.grows e.syncs
-    (memory_in before c.args.first.now) (memory_in before c.args.second.now) (read.reads tells) (read.reads_other tells) (inl c.in-Store.is)))
+    (λ tells. stopped_in one other one_new other_new c.in_ok-start.start c.in_ok-ended.ended c.in_ok-peers.peers c.in_ok-peers_other.peers_other c.in_ok-start.ensures.is e.moves_a.grows e.moves_b.grows e.syncs
+    (memory_in before c.args.first.now) (memory_in before c.args.second.now) (read.reads tells) (read.reads_other tells) (inl c.in-Store.is))
