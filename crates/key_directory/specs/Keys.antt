@@ -1,6 +1,6 @@
 -- The key of a directory, as it is taken from a shelf, made, and put back.
-use Rattle.std.specs.Prelude.{◌≡◌, ◌≢◌, ◌⊎◌, ℕ, ◌+◌, List, [], ◌∷◌, IsTrue, Option, Some, None, slice_set}
-use Rattle.bec_disk.specs.Disk.{DiskState, EveryImage, IsSettled, LeavesOnly, LeavesSince, handed_out, moments}
+use Rattle.std.specs.Prelude.{◌≡◌, ◌≢◌, ◌⊎◌, ℕ, ◌+◌, List, [], ◌∷◌, IsTrue, Option, Some, None}
+use Rattle.bec_disk.specs.Disk.{DiskState, EveryImage, LeavesOnly, LeavesSince, handed_out}
 use Rattle.bec_disk.specs.Images.{IsTorn}
 use Rattle.bec_disk.specs.Gated.{gated_of}
 use Rattle.bec_disk.specs.declared.gated.Gated.TheVariants.{Absent}
@@ -10,7 +10,7 @@ use Rattle.bec_disk.specs.Slot.{slot}
 use Rattle.key_index.specs.KeyState.{KeyParts, KeyState}
 use Rattle.key_index.specs.Opening.{AreOfKey, AreOfNoKey}
 use Rattle.key_index.specs.Reserving.{Tries}
-use Rattle.key_index.specs.Used.{IsUsed, least_unused, used_in}
+use Rattle.key_index.specs.Used.{IsUsed, used_in}
 use Rattle.lms_tree.specs.SecretKey.{SecretData}
 use Rattle.key_directory.specs.declared.key_refusal.KeyRefusal.{KeyRefusal}
 use Rattle.key_directory.specs.declared.key_refusal.KeyRefusal.TheVariants.{NoKey, BadKey, DiskFault, Memory}
@@ -75,28 +75,12 @@ pub record PutsKey (before : ShelfState) (dir : List ℕ) (parts : KeyParts) (af
   pub used_back : IsTrue before.tells → part_in after dir Used ≡ stands parts.used
   pub others : IsTrue before.tells → KeepsAllBut (Key ∷ Used ∷ []) dir before after
 
--- An index of the part Used that reads as used stays so, whatever a crash leaves at each moment of a run.
-abbrev pub KeepsUsed : PartState → PartState → Type 0
-KeepsUsed old new = (index : ℕ) → IfStands old (λ before. IsUsed index before.seen)
-    → LeavesSince (moments_of old) (moments_of new) (IsUsed index) × IfStands new (λ after. IsUsed index after.seen)
-
--- The least index of the part Used that was not used was tried. Whatever a crash leaves at each moment of it, and whatever the part reads as, no byte
--- but that of this index differs.
-pub record TriesLeastIn (old new : PartState) : Type 0 where
-  pub index : ℕ
-  pub before : DiskState
-  pub after : DiskState
-  pub stood : old ≡ stands before
-  pub in_place : new ≡ stands after
-  pub least : least_unused (used_in before.seen) ≡ Some index
-  pub any_moment : LeavesSince (moments before) (moments after) (IsTorn index (index + 1) before.seen)
-  pub reads : IsTorn index (index + 1) before.seen after.seen
-
--- A message was signed at it: the byte of this index is 1 and every other is as it was, and they are on the disk.
-pub record SignsAtLeastIn (old new : PartState) : Type 0 where
-  pub tries : TriesLeastIn old new
-  pub reads : tries.after.seen ≡ slice_set tries.before.seen tries.index 1
-  pub settled : IsSettled tries.after
+-- What a run that tries at most one index does to the part Used: it reads as before, or the byte of one index alone was written; and an index
+-- that reads as used stays so, whatever a crash leaves at each moment.
+pub record KeepsUsed (old new : PartState) : Type 0 where
+  pub reads : IsUntouched old new ⊎ IfStands old (λ before. IfStands new (λ after. (index : ℕ) × IsTorn index (index + 1) before.seen after.seen))
+  pub used : (index : ℕ) → IfStands old (λ before. IsUsed index before.seen)
+      → LeavesSince (moments_of old) (moments_of new) (IsUsed index) × IfStands new (λ after. IsUsed index after.seen)
 
 -- What calls that sign at most once have done to a key that was taken: nothing, or one index was tried. An index that each crash left used
 -- stays so at each moment.

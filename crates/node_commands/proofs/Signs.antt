@@ -43,7 +43,8 @@ use Rattle.key_directory.proofs.Handing.{untouched_by}
 use Rattle.key_directory.proofs.Places.{home_again, keeps_through, stands-not-out}
 use Rattle.key_directory.proofs.Putting.{slot_of, told}
 use Rattle.store_directory.proofs.Readings.{OneSchema}
-use Rattle.key_directory.proofs.Signing.{keeps_key, keeps_used, signs_at_least, tries_least, untouched_used}
+use Rattle.key_directory.proofs.Signing.{keeps_key, keeps_used}
+use Rattle.node_commands.proofs.KeyUse.{signs_at_least, tries_least, untouched_used}
 use Rattle.store_directory.proofs.Working.{home_after_store, read_before, store_of, worked_run}
 use Rattle.txn_text.specs.Transactions.{FirstFault, Reads}
 use Rattle.txn_text.specs.declared.fault.TextError.{TextError}
@@ -377,7 +378,7 @@ in_place out new same place = absurd (place refl)
 
 -- a part that was at most read keeps what it has used
 keeps_untouched : (old new : PartState) → IsUntouched old new → KeepsUsed old new
-keeps_untouched old new same index is = by old new same index is
+keeps_untouched old new same = record { reads = inl same; used = λ index is. by old new same index is }
   where
     by : (old new : PartState) → IsUntouched old new → (index : ℕ) → IfStands old (λ before. IsUsed index before.seen)
         → LeavesSince (moments_of old) (moments_of new) (IsUsed index) × IfStands new (λ after. IsUsed index after.seen)

@@ -1,21 +1,23 @@
 -- What the commands that make an update by the key of a directory answer, and what they leave.
-use Rattle.std.specs.Prelude.{◌≡◌, ◌≢◌, ◌⊎◌, ℕ, ◌≤◌, Bool, List, [], ◌∷◌, ◌++◌, IsTrue, Ok, Err, Option, Some, None}
+use Rattle.std.specs.Prelude.{◌≡◌, ◌≢◌, ◌⊎◌, ℕ, ◌+◌, ◌≤◌, Bool, List, [], ◌∷◌, ◌++◌, IsTrue, Ok, Err, Option, Some, None, slice_set}
 use Rattle.rand_core.specs.Stream.{Stream}
 use Rattle.row_check.specs.Checksum.{is_luhn}
 use Rattle.bec_bytes.specs.Causes.{Rose}
 use Rattle.bec_disk.specs.declared.part.Part.TheVariants.{Schema, Updates, Key, Used}
-use Rattle.bec_disk.specs.Shelf.{PartState, ShelfState, out}
+use Rattle.bec_disk.specs.Disk.{DiskState, IsSettled, LeavesSince, moments}
+use Rattle.bec_disk.specs.Images.{IsTorn}
+use Rattle.bec_disk.specs.Shelf.{PartState, ShelfState, out, stands}
 use Rattle.update_model.specs.declared.op.Op.{Op}
 use Rattle.update_model.specs.declared.update_id.UpdateId.{UpdateId}
 use Rattle.lms_tree.specs.SecretKey.{SecretData}
 use Rattle.history.specs.Histories.{HistoryData}
 use Rattle.key_index.specs.KeyState.{KeyState}
-use Rattle.key_index.specs.Used.{used_in}
+use Rattle.key_index.specs.Used.{least_unused, used_in}
 use Rattle.replica.specs.declared.make_fault.MakeFault.{MakeFault}
 use Rattle.replica.specs.Making.{HasNoneToJoin, IsJoinCause, IsMakeCause, Joins, Makes}
 use Rattle.replica.specs.Replicas.{ReplicaState}
 use Rattle.replica.specs.Signing.{SignsAtLeast, TriesLeast}
-use Rattle.key_directory.specs.Keys.{IsBadKey, IsNoKey, KeepsUsed, ReadsAsKey, SignsAtLeastIn, TriesLeastIn, WorksWith}
+use Rattle.key_directory.specs.Keys.{IsBadKey, IsNoKey, KeepsUsed, ReadsAsKey, WorksWith}
 use Rattle.key_directory.specs.Parts.{IsUntouched, KeepsAllBut, part_in, reading}
 use Rattle.store_directory.specs.Stores.{StoreData}
 use Rattle.txn_text.specs.declared.fault.TextFault.{TextFault}
@@ -100,6 +102,24 @@ UsesKey NotUsed Tries Signs added (Err IdTaken) = Signs
 UsesKey NotUsed Tries Signs added (Err StoreFault) = NotUsed ⊎ (Tries ⊎ Signs)
 UsesKey NotUsed Tries Signs added (Err Memory) = NotUsed ⊎ (Tries ⊎ Signs)
 UsesKey NotUsed Tries Signs added (Err refusal) = NotUsed
+
+-- The least index of the part Used that was not used was tried. Whatever a crash leaves at each moment of it, and whatever the part reads as, no byte
+-- but that of this index differs.
+pub record TriesLeastIn (old new : PartState) : Type 0 where
+  pub index : ℕ
+  pub before : DiskState
+  pub after : DiskState
+  pub stood : old ≡ stands before
+  pub in_place : new ≡ stands after
+  pub least : least_unused (used_in before.seen) ≡ Some index
+  pub any_moment : LeavesSince (moments before) (moments after) (IsTorn index (index + 1) before.seen)
+  pub reads : IsTorn index (index + 1) before.seen after.seen
+
+-- A message was signed at it: the byte of this index is 1 and every other is as it was, and they are on the disk.
+pub record SignsAtLeastIn (old new : PartState) : Type 0 where
+  pub tries : TriesLeastIn old new
+  pub reads : tries.after.seen ≡ slice_set tries.before.seen tries.index 1
+  pub settled : IsSettled tries.after
 
 -- The same of the part Used, by how it was and how it is.
 abbrev pub UsesKeyIn : PartState → PartState → List (List ℕ) → Outcome → Type 0

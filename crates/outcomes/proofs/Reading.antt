@@ -1,5 +1,5 @@
 -- Commands that only read the store of a directory.
-use Rattle.std.proofs.Common.{Bool, Err, IsTrue, List, None, Some, [], append-nil, arith, false, inl, inr, refl, subst, sym, ℕ, ◌++◌, ◌∙◌, ◌∷◌, ◌≡◌, ◌≢◌, ◌⊎◌}
+use Rattle.std.proofs.Common.{Bool, Err, IsTrue, List, None, Some, [], append-nil, arith, false, inl, inr, length-append, refl, subst, sym, ℕ, ◌++◌, ◌∙◌, ◌∷◌, ◌≡◌, ◌≢◌, ◌⊎◌}
 use Rattle.bec_bytes.specs.Framed.{stream_of}
 use Rattle.history.proofs.Arriving.{take_next}
 use Rattle.row_check.specs.Checksum.{is_luhn}
@@ -22,7 +22,6 @@ use Rattle.store_directory.specs.declared.store_refusal.StoreRefusal.TheVariants
 use Rattle.key_directory.proofs.Places.{keeps_through}
 use Rattle.key_directory.proofs.Putting.{slot_of, told}
 use Rattle.key_directory.proofs.Readings.{whole-not-absent}
-use Rattle.store_directory.proofs.Made.{declared}
 use Rattle.store_directory.proofs.Readings.{OneSchema}
 use Rattle.store_directory.proofs.Working.{home_after_store, read_before, store_of, worked_run}
 use Rattle.outcomes.specs.declared.refusal.Refusal.{Refusal}
@@ -63,7 +62,7 @@ parts_of replica =
 
 has_parts : (replica : ReplicaState) → Stands replica → HasStore (parts_of replica) (store_of replica)
 has_parts replica stands = (
-  declared is_luhn replica.node replica.history.schema.text (whole_of (replica.node ++ replica.history.schema.text)) replica.history.schema stands.node stands.taken refl,
+  record { whole = gated-whole (replica.node ++ replica.history.schema.text) (omega (arith, length-append replica.node replica.history.schema.text, stands.node, stands.taken.declares.0)); size = stands.node; taken = stands.taken },
   records_logset replica.history.schema.rule replica.history.members stands.history_is.members,
 )
 

@@ -30,7 +30,7 @@ abbrev pub empty_store : List ℕ → SchemaData → StoreData
 empty_store node schema = record { node = node; schema = schema; members = [] }
 
 -- the part Schema that was written declares it
-pub declared : (ask : Meaning) (node text seen : List ℕ) (schema : SchemaData) → length node ≡ 32 → TakesSchema ask text schema → seen ≡ whole_of (node ++ text) → DeclaresStore ask seen node schema
+declared : (ask : Meaning) (node text seen : List ℕ) (schema : SchemaData) → length node ≡ 32 → TakesSchema ask text schema → seen ≡ whole_of (node ++ text) → DeclaresStore ask seen node schema
 declared ask node text seen schema size taken is =
     let text_is : schema.text ≡ text = ap (λ (s : SchemaData). s.text) taken.declares.1.3 in
     let small : length (node ++ text) < 2 ^ 32 = omega (arith, length-append node text, size, taken.declares.0) in
