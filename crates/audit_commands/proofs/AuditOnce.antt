@@ -1,13 +1,12 @@
 -- What the parts of a directory read as has one answer to `audit`, and an input one to `confirm`.
-use Rattle.std.proofs.Common.{◌≡◌, ◌∙◌, List, ℕ, refl, sym, ap, subst, map, Option, Some}
+use Rattle.std.proofs.Common.{◌≡◌, ◌∙◌, List, ℕ, refl, sym, ap, subst, map}
 use Rattle.update_model.specs.Graph.{IsClosed}
 use Rattle.update_model.specs.declared.author_key.AuthorKey.{AuthorKey}
 use Rattle.update_codec.specs.Parts.{entry_of}
 use Rattle.key_audit.specs.Entries.{AreFound}
 use Rattle.key_audit.specs.declared.doubled.Doubled.{Doubled}
-use Rattle.outcomes.specs.Outcome.{Outcome}
 use Rattle.outcomes.specs.declared.refusal.Refusal.TheVariants.{NotDoubled}
-use Rattle.outcomes.proofs.Same.{IsOneAnswer, Same, same_prints, same_refused}
+use Rattle.outcomes.proofs.Same.{IsOneAnswer, same_prints, same_refused}
 use Rattle.outcomes.proofs.StoreOnce.{IsShownOnce}
 use Rattle.audit_commands.specs.Audits.{ShowsDoubled}
 use Rattle.audit_commands.specs.Confirming.{ConfirmAnswer, confirmed, refused}

@@ -40,10 +40,7 @@ pub fn audit_in<V: Verifier, H: Shelf>(
 }
 
 /// The one-time keys that signed two messages among the updates of a store, as they are printed.
-fn audited<D: Disk>(
-    alloc: Global,
-    replica: &Replica<D, Luhn, Luhn>,
-) -> Result<Vec<u8>, AllocError>
+fn audited<D: Disk>(alloc: Global, replica: &Replica<D, Luhn, Luhn>) -> Result<Vec<u8>, AllocError>
     ensures { IfOk result (λ text. (entries : List Entry)
         × AreFound replica.now.history.members entries
         × (text.items ≡ audit_text entries)) }

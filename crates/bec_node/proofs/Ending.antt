@@ -1,5 +1,5 @@
 -- How a run ends.
-use Rattle.std.proofs.Common.{◌≡◌, inl, inr, ℕ, List, [], append-nil, codes, refl, sym, subst, map, Option, Some, None, Ok, Err, String}
+use Rattle.std.proofs.Common.{◌≡◌, inl, inr, ℕ, List, [], codes, refl, sym, subst, map, Option, Some, None, Ok, Err, String}
 use Rattle.std.specs.declared.alloc.Global.{Global}
 use Rattle.std.specs.String.{string_bytes}
 use Rattle.std.specs.Io.KnownBytes.{Appends}

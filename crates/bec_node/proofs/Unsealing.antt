@@ -1,5 +1,5 @@
 -- What `unseal` comes to, as the program tells it.
-use Rattle.std.proofs.Common.{◌≡◌, ◌∙◌, ◌⊎◌, inl, inr, ℕ, ◌<◌, ◌≤◌, List, length, codes, refl, sym, ap, subst, Option, Some, Ok, Err, Vec, arith}
+use Rattle.std.proofs.Common.{◌≡◌, ◌∙◌, ◌⊎◌, inl, inr, ℕ, ◌<◌, ◌≤◌, List, length, codes, refl, sym, ap, subst, Option, Ok, Err, Vec, arith}
 use Rattle.std.specs.declared.alloc.Global.{Global}
 use Rattle.hss_chain.specs.Sealing.{SealedBy}
 use Rattle.schema_verdict.specs.Verdict.{OutcomeOf}

@@ -1,4 +1,4 @@
-use Rattle.std.proofs.Common.{◌≡◌, ◌∙◌, ℕ, List, ap, subst, Vec}
+use Rattle.std.proofs.Common.{◌∙◌, ℕ, List, ap, subst, Vec}
 use Rattle.std.specs.declared.alloc.Global.{Global}
 use Rattle.std.proofs.lemmas.Result.{err_from_is_err_and}
 use Rattle.audit_text.specs.Certificates.{HoldsDoubled, HoldsNone}

@@ -1,4 +1,4 @@
-use Rattle.std.proofs.Common.{◌≡◌, ℕ, List, refl, subst}
+use Rattle.std.proofs.Common.{ℕ, List, refl, subst}
 use Rattle.command_words.specs.AuditRequests.{audit, confirm}
 use Rattle.command_words.specs.SealRequests.{unseal}
 use Rattle.command_words.specs.Seen.{net_seen}
