@@ -208,7 +208,7 @@ module _ (first second : List ℕ) (before after : ShelfState) (faults faults_ne
   abbrev pub Unremembered : Type 0
   Unremembered = IsRefused outcome → IsTrue before.tells → AreUnremembered first second before after
 
-  pub merges_open : (Met_so × (IsMergeEnd outcome × Unremembered)) ⊎ IsMergeFault faults faults_new one other one_new other_new outcome → Stopped_so
+  pub merges_open : (Met_so × IsMergeEnd outcome × Unremembered) ⊎ IsMergeFault faults faults_new one other one_new other_new outcome → Stopped_so
       → MergesOpen first second before after faults faults_new one other one_new other_new outcome
   merges_open comes stopped = record {
     added = met.grows.added;
@@ -233,15 +233,15 @@ module _ (first second : List ℕ) (before after : ShelfState) (faults faults_ne
       Fault : Type 0
       Fault = IsMergeFault faults faults_new one other one_new other_new outcome
 
-      so : (Met_so × (IsMergeEnd outcome × Unremembered)) ⊎ Fault → Met_so ⊎ Fault
+      so : (Met_so × IsMergeEnd outcome × Unremembered) ⊎ Fault → Met_so ⊎ Fault
       so (inl met_so) = inl met_so.0
       so (inr fault) = inr fault
 
-      end_of : (Met_so × (IsMergeEnd outcome × Unremembered)) ⊎ Fault → IsMergeEnd outcome ⊎ Fault
+      end_of : (Met_so × IsMergeEnd outcome × Unremembered) ⊎ Fault → IsMergeEnd outcome ⊎ Fault
       end_of (inl met_so) = inl met_so.1
       end_of (inr fault) = inr fault
 
-      unremembered : (Met_so × (IsMergeEnd outcome × Unremembered)) ⊎ Fault → Unremembered
+      unremembered : (Met_so × IsMergeEnd outcome × Unremembered) ⊎ Fault → Unremembered
       unremembered (inl met_so) = met_so.2
       unremembered (inr (inl memory)) = λ is. absurd (subst IsRefused memory is)
       unremembered (inr (inr store)) = λ is. absurd (subst IsRefused store.0 is)

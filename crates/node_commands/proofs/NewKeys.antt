@@ -138,7 +138,7 @@ module _ (lms : LmsType) (ots : OtsType) (stream stream_new : Stream) (dir : Lis
 
   -- where one was made and put back
   module _ (opened : ShelfState) (key : KeyState) (makes : MakesKey (drawn_key lms ots stream) before dir key opened) (puts : PutsKey opened dir key.parts after)
-      (drawn : stream_new ≡ after_draw stream) where
+      (after_it : stream_new ≡ after_draw stream) where
     opened_tells : IsTrue before.tells → IsTrue opened.tells
     opened_tells tells = told before.tells opened.tells makes.tells tells
 
@@ -176,13 +176,13 @@ module _ (lms : LmsType) (ots : OtsType) (stream stream_new : Stream) (dir : Lis
       kept = untouched_key;
       any_moment = key_moments;
       lasts = key_lasts;
-      draws = drawn;
+      draws = after_it;
       others = key_others;
       home = key_home;
     }
 
     pub key_lacked : DrawsKey lms ots stream stream_new dir before after old new (Err refusals.Memory)
-    key_lacked = record { comes = inr (inl refl); ends = inr (inl refl); kept = untouched_key; any_moment = key_moments; lasts = λ tells. tt; draws = inr drawn; others = key_others; home = key_home }
+    key_lacked = record { comes = inr (inl refl); ends = inr (inl refl); kept = untouched_key; any_moment = key_moments; lasts = λ tells. tt; draws = inr after_it; others = key_others; home = key_home }
 
 -- ---- want of memory in place of a refusal
 

@@ -424,7 +424,7 @@ module _ (Unused : Type 0) (Answer : SignAnswer) (Stops : Outcome → Type 0) (s
     tells = lets.tells;
     key = lets.key_part;
     used = λ tells. keeps_untouched (part_in before dir Used) (part_in after dir Used) (lets.used_part tells);
-    uses = λ tells. unused why (lets.used_part tells);
+    uses = λ tells. uses_none why (lets.used_part tells);
     key_home = λ tells. in_place (part_in before dir Key) (part_in after dir Key) (lets.key_part tells) (key_in tells);
     used_home = λ tells. in_place (part_in before dir Used) (part_in after dir Used) (lets.used_part tells) (used_in_its tells);
     others = lets.others;
@@ -432,11 +432,11 @@ module _ (Unused : Type 0) (Answer : SignAnswer) (Stops : Outcome → Type 0) (s
     log_later = omega arith;
   }
     where
-      unused : (why : KeyRefusal) → IsUntouched (part_in before dir Used) (part_in after dir Used) → UsesKeyIn (part_in before dir Used) (part_in after dir Used) [] (Err (from_key why))
-      unused key_refusals.NoKey kept = kept
-      unused key_refusals.BadKey kept = kept
-      unused key_refusals.DiskFault kept = inl kept
-      unused key_refusals.Memory kept = inl kept
+      uses_none : (why : KeyRefusal) → IsUntouched (part_in before dir Used) (part_in after dir Used) → UsesKeyIn (part_in before dir Used) (part_in after dir Used) [] (Err (from_key why))
+      uses_none key_refusals.NoKey kept = kept
+      uses_none key_refusals.BadKey kept = kept
+      uses_none key_refusals.DiskFault kept = inl kept
+      uses_none key_refusals.Memory kept = inl kept
 
       by : (why : KeyRefusal) → (IsTrue before.tells → IsKeyCause before dir why) → (why ≡ key_refusals.DiskFault → Rose faults faults_new)
           → (IsTrue before.tells → KeyedAnswer Unused Answer (reading (part_in before dir Key)) (reading (part_in before dir Used)) replica.history [] (Err (from_key why)))
