@@ -13,13 +13,12 @@ use Rattle.bec_disk.specs.Slot.{Slot, same_slot, slot}
 use Rattle.replica.specs.Replicas.{ReplicaState}
 use Rattle.store_directory.specs.Holding.{IsStoreCause, LetsGo, OpenData, PutsStore, TakesStore}
 use Rattle.store_directory.specs.Stores.{IsStore, KeepsList, StoreData, StoreRun, with_added}
-use Rattle.key_directory.specs.Parts.{IsHome, IsUntouched, KeepsPlaces, part_in, reading}
+use Rattle.key_directory.specs.Parts.{IsHome, IsUntouched, part_in, reading}
 use Rattle.store_directory.specs.declared.store_refusal.StoreRefusal.{StoreRefusal}
 use Rattle.store_directory.specs.declared.store_refusal.StoreRefusal.TheVariants as store_refusals
 use Rattle.key_directory.proofs.Handing.{untouched_by}
 use Rattle.store_directory.proofs.Handing.{list_as_it_was}
-use Rattle.key_directory.proofs.Places.{place_again, same_place, stands-not-out}
-use Rattle.key_directory.proofs.Putting.{slot_of, told}
+use Rattle.key_directory.proofs.Places.{same_place}
 use Rattle.store_directory.proofs.Readings.{OneSchema, same_store}
 use Rattle.store_directory.proofs.Working.{read_before, store_of, worked_run}
 use Rattle.outcomes.specs.declared.refusal.Refusal.{Refusal}

@@ -20,7 +20,7 @@ use Rattle.outcomes.specs.declared.refusal.Refusal.TheVariants.{KeyThere, StoreT
 use Rattle.outcomes.specs.declared.refusal.Refusal.TheVariants as refusals
 use Rattle.outcomes.specs.Comes.{IsAnyFault, IsRefused, IsShelfFault, readings}
 use Rattle.key_directory.specs.Keys.{IsNoKey}
-use Rattle.key_directory.specs.Parts.{IsHome, IsUntouched, KeepsAllBut, part_in, seen_in}
+use Rattle.key_directory.specs.Parts.{IsHome, IsUntouched, KeepsAllBut, part_in}
 use Rattle.store_directory.specs.Stores.{IsNoStore}
 use Rattle.schema_verdict.specs.Inputs.{IsWholeText}
 use Rattle.outcomes.specs.Outcome.{Outcome, from_taking}

@@ -25,7 +25,7 @@ use Rattle.outcomes.specs.declared.refusal.Refusal.{Refusal}
 use Rattle.outcomes.specs.declared.refusal.Refusal.TheVariants as refusals
 use Rattle.outcomes.specs.Comes.{IsRefused, IsShelfFault, is_done, readings}
 use Rattle.outcomes.specs.Outcome.{Outcome}
-use Rattle.key_directory.specs.Parts.{IsHome, IsUntouched, KeepsAllBut, KeepsPlaces, part_in, reading}
+use Rattle.key_directory.specs.Parts.{IsHome, IsUntouched, KeepsPlaces, part_in}
 use Rattle.schema_verdict.specs.Verdict.{Prints}
 use Rattle.outcomes.specs.Outside.{Outside}
 use Rattle.outcomes.specs.OpenStores.{WorksFrom, opened_store}

@@ -17,7 +17,7 @@ use Rattle.replica.specs.declared.make_fault.MakeFault.{MakeFault}
 use Rattle.replica.specs.Making.{HasNoneToJoin, IsJoinCause, IsMakeCause, Joins, Makes}
 use Rattle.replica.specs.Replicas.{ReplicaState}
 use Rattle.replica.specs.Signing.{SignsAtLeast, TriesLeast}
-use Rattle.key_directory.specs.Keys.{IsBadKey, IsNoKey, KeepsUsed, ReadsAsKey, WorksWith}
+use Rattle.key_directory.specs.Keys.{KeepsUsed, ReadsAsKey, WorksWith}
 use Rattle.key_directory.specs.Parts.{IsUntouched, KeepsAllBut, part_in, reading}
 use Rattle.store_directory.specs.Stores.{StoreData}
 use Rattle.txn_text.specs.declared.fault.TextFault.{TextFault}

@@ -1,7 +1,6 @@
 -- What `check` answers.
 use Rattle.std.specs.Prelude.{ℕ, List}
 use Rattle.std.specs.declared.option.Option.{Option}
-use Rattle.schema.specs.Data.{SchemaData}
 use Rattle.schema_verdict.specs.Verdict.{CheckAnswer as IsVerdict}
 use Rattle.outcomes.specs.Outcome.{Outcome, from_taking}
 

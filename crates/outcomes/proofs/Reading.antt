@@ -1,7 +1,6 @@
 -- Commands that only read the store of a directory.
 use Rattle.std.proofs.Common.{Bool, Err, IsTrue, List, None, Some, [], append-nil, arith, false, inl, inr, length-append, refl, subst, sym, ℕ, ◌++◌, ◌∙◌, ◌∷◌, ◌≡◌, ◌≢◌, ◌⊎◌}
 use Rattle.bec_bytes.specs.Framed.{stream_of}
-use Rattle.history.proofs.Arriving.{take_next}
 use Rattle.row_check.specs.Checksum.{is_luhn}
 use Rattle.bec_bytes.specs.Causes.{Rose}
 use Rattle.bec_disk.specs.Disk.{handed_out}

@@ -1,5 +1,5 @@
 -- What is done to the list of a store that is open.
-use Rattle.std.proofs.Common.{◌≡◌, ◌≢◌, ℕ, Bool, true, false, List, [], ◌++◌, append-nil, refl, sym, ap, subst, ◌∙◌, IsTrue}
+use Rattle.std.proofs.Common.{◌≡◌, ℕ, Bool, true, false, List, [], ◌++◌, append-nil, refl, sym, ap, subst, ◌∙◌, IsTrue}
 use Rattle.std.proofs.lemmas.Bool.{true≢false}
 use Rattle.bec_bytes.specs.Framed.{stream_of}
 use Rattle.bec_disk.specs.Disk.{LeavesOnly}
@@ -9,7 +9,6 @@ use Rattle.update_log.specs.Logset.{BeginsWith}
 use Rattle.history.specs.Histories.{HistoryData}
 use Rattle.replica.specs.Replicas.{ReplicaState}
 use Rattle.store_directory.specs.Holding.{WorksOn}
-use Rattle.outcomes.specs.Comes.{is_done}
 use Rattle.outcomes.specs.OpenStores.{WorksFrom}
 use Rattle.outcomes.specs.Standing.{Stands}
 
