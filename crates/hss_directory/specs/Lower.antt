@@ -47,8 +47,8 @@ pub data LetsLowerGo (lms : LmsType) (ots : OtsType) (random : Stream) (before :
 
 -- No key with an index left was taken or made: none was; or one was taken that is spent, and was put back.
 pub data OpensNoLower (lms : LmsType) (ots : OtsType) (random : Stream) (before : ShelfState) (dir : List ℕ) (why : HssFault) (after : ShelfState) (left : Stream) : Type 0 where
-  no_key : LetsLowerGo lms ots random before dir why after left → OpensNoLower lms ots random before dir why after left
-  spent : (key : KeyState) (mid : ShelfState) → why ≡ BadKey → TakesLower lms ots random before dir key mid left → IsSpent key → PutsKey mid dir key.parts after
+  opens_none : LetsLowerGo lms ots random before dir why after left → OpensNoLower lms ots random before dir why after left
+  opens_spent : (key : KeyState) (mid : ShelfState) → why ≡ BadKey → TakesLower lms ots random before dir key mid left → IsSpent key → PutsKey mid dir key.parts after
       → OpensNoLower lms ots random before dir why after left
 
 -- The top key signed this key, and its signature and the key stand whole in the part Peers of the directory.
@@ -79,7 +79,7 @@ pub record MakesLower (random : Stream) (before : ShelfState) (dir : List ℕ) (
 pub data RefusesLower (random : Stream) (before : ShelfState) (dir : List ℕ) (top : KeyState) (why : HssFault) (new : KeyState) (after : ShelfState) (left : Stream) : Type 0 where
   top_spent : why ≡ Spent → IsSpent top → new ≡ top → after ≡ before → left ≡ random → RefusesLower random before dir top why new after left
   no_memory : why ≡ Memory → new ≡ top → after ≡ before → left ≡ random → RefusesLower random before dir top why new after left
-  no_key : (index : ℕ) → least_unused top.taken ≡ Some index → OpensNoLower top.secret.lms top.secret.ots random before (low_dir dir index) why after left → new ≡ top
+  refuses_key : (index : ℕ) → least_unused top.taken ≡ Some index → OpensNoLower top.secret.lms top.secret.ots random before (low_dir dir index) why after left → new ≡ top
       → RefusesLower random before dir top why new after left
   no_vouching : (index : ℕ) (key : KeyState) (mid done : ShelfState) (between : Stream) → least_unused top.taken ≡ Some index
       → TakesLower top.secret.lms top.secret.ots random before (low_dir dir index) key mid between → HasLeft key

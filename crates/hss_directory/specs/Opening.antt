@@ -1,5 +1,5 @@
 -- The current lower key, as an opening finds it.
-use Rattle.std.specs.Prelude.{◌≡◌, ◌⊎◌, ◌++◌, ℕ, ◌<◌, ◌^◌, List, Option, Some, None, IsTrue}
+use Rattle.std.specs.Prelude.{◌≡◌, ◌⊎◌, ◌++◌, ℕ, List, Option, Some, None, IsTrue}
 use Rattle.update_model.specs.declared.author_key.AuthorKey.{AuthorKey}
 use Rattle.bec_disk.specs.declared.gated.Gated.TheVariants.{Absent, Damaged, Whole}
 use Rattle.bec_disk.specs.declared.part.Part.TheVariants.{Key, Used}
@@ -26,7 +26,7 @@ pub data FindsLower (dir : List ℕ) (top : KeyState) (before : ShelfState) (low
   none_used : IsLast top None → lower ≡ None → after ≡ before → FindsLower dir top before lower after
   unrecorded : (index : ℕ) → IsLast top (Some index) → (IsTrue before.tells → peers_in before (low_dir dir index) ≡ Absent) → ReadsPeers before (low_dir dir index) after
       → lower ≡ None → FindsLower dir top before lower after
-  recorded : (found : LowerState) (mid : ShelfState) (payload : List ℕ) → IsLast top (Some found.index) → found.dir ≡ low_dir dir found.index → found.index < 2 ^ 32
+  recorded : (found : LowerState) (mid : ShelfState) (payload : List ℕ) → IsLast top (Some found.index) → found.dir ≡ low_dir dir found.index
       → (IsTrue before.tells → peers_in before found.dir ≡ Whole payload) → ReadsPeers before found.dir mid → TakesKey mid found.dir found.key after
       → VouchesFor (public_key top.secret) (public_key found.key.secret) found.index payload found.top_sig → lower ≡ Some found → FindsLower dir top before lower after
 

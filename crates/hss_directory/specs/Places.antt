@@ -1,5 +1,5 @@
 -- Which parts on a shelf a two-level key holds, and which are in their places.
-use Rattle.std.specs.Prelude.{◌≡◌, ◌≢◌, ℕ, ◌<◌, ◌^◌, List, Option, Some, None, IsTrue}
+use Rattle.std.specs.Prelude.{◌≡◌, ◌≢◌, ℕ, List, Option, Some, None, IsTrue}
 use Rattle.bec_disk.specs.declared.part.Part.TheVariants.{Key, Used, Peers}
 use Rattle.bec_disk.specs.Shelf.{ShelfState, out}
 use Rattle.bec_disk.specs.Slot.{Slot, slot}
@@ -22,7 +22,7 @@ pub record AreIn (shelf : ShelfState) (dir : List ℕ) : Type 0 where
 
 -- None is handed out of the lower keys' directories.
 abbrev pub AreLowersIn : ShelfState → List ℕ → Type 0
-AreLowersIn shelf dir = (n : ℕ) → n < 2 ^ 32 → AreIn shelf (low_dir dir n)
+AreLowersIn shelf dir = (n : ℕ) → AreIn shelf (low_dir dir n)
 
 -- None is handed out of the top key's directory or of a lower key's.
 pub record AreHome (shelf : ShelfState) (dir : List ℕ) : Type 0 where
@@ -30,13 +30,13 @@ pub record AreHome (shelf : ShelfState) (dir : List ℕ) : Type 0 where
   pub used_in : part_in shelf dir Used ≢ out
   pub lowers : AreLowersIn shelf dir
 
--- None is handed out of the lower keys' directories but of this one.
-abbrev pub AreOthersIn : ShelfState → List ℕ → ℕ → Type 0
-AreOthersIn shelf dir index = (n : ℕ) → n < 2 ^ 32 → n ≢ index → AreIn shelf (low_dir dir n)
+-- None is handed out of the lower keys' directories but this one.
+abbrev pub AreOthersIn : ShelfState → List ℕ → List ℕ → Type 0
+AreOthersIn shelf dir low = (n : ℕ) → low_dir dir n ≢ low → AreIn shelf (low_dir dir n)
 
 -- Of the parts of the top key's directory and of the lower keys', those that the value holds are handed out, and no other.
 abbrev pub HoldsLower : ShelfState → List ℕ → Option LowerState → Type 0
-HoldsLower shelf dir (Some lower) = HoldsKey shelf lower.dir lower.key × (part_in shelf lower.dir Peers ≢ out) × AreOthersIn shelf dir lower.index
+HoldsLower shelf dir (Some lower) = HoldsKey shelf lower.dir lower.key × (part_in shelf lower.dir Peers ≢ out) × AreOthersIn shelf dir lower.dir
 HoldsLower shelf dir None = AreLowersIn shelf dir
 
 pub record Holds (shelf : ShelfState) (hss : HssState) : Type 0 where

@@ -1,5 +1,5 @@
 -- Two-level keys as their callers see them.
-use Rattle.std.specs.Prelude.{◌≡◌, ◌≢◌, ℕ, ◌<◌, ◌^◌, ◌++◌, List, Option, Some, None, IfSome, IsNone, IsSome, IsTrue, MatchOption, codes}
+use Rattle.std.specs.Prelude.{◌≡◌, ℕ, ◌++◌, List, Option, Some, IfSome, IsNone, IsSome, IsTrue, codes}
 use Rattle.std.specs.Fmt.{decimal}
 use Rattle.bec_disk.specs.Disk.{EveryImage}
 use Rattle.lms_tree.specs.SecretKey.{public_key}
@@ -33,7 +33,6 @@ vouching_bytes top_sig key = top_sig ++ key_bytes (public_key key.secret)
 -- that index used.
 pub record IsCurrent (dir : List ℕ) (top : KeyState) (lower : LowerState) : Type 0 where
   pub place : lower.dir ≡ low_dir dir lower.index
-  pub small : lower.index < 2 ^ 32
   pub signed : Signed (public_key top.secret) (key_bytes (public_key lower.key.secret)) lower.top_sig
   pub leaf : leaf_number lower.top_sig ≡ lower.index
   pub last : IsLast top (Some lower.index)

@@ -1,6 +1,6 @@
 //! The current lower key: it seals, and is put back.
 
-ghost use Rattle.std.specs.Prelude.{◌≡◌, ◌≤◌, ◌<◌, IsTrue, IfOk, IfErr, IfSome, IsErrOf};
+ghost use Rattle.std.specs.Prelude.{◌≡◌, ◌≤◌, ◌<◌, IsTrue, IfOk, IfErr, IfSome, IsErrOf, None, Some};
 ghost use Rattle.bec_bytes.specs.Causes.{Rose};
 ghost use Rattle.update_model.specs.Form.{IsKey, IsKnownKey};
 ghost use Rattle.lms_tree.specs.SecretKey.{public_key};
@@ -82,5 +82,16 @@ pub(crate) fn put_lower<H: Shelf>(shelf: &mut H, lower: Option<Lower<H::D>>)
             top_sig: _,
         } = lower;
         put_key(shelf, dir.as_str(), key);
+    }
+}
+
+/// Puts a value in a place where there is none.
+pub(crate) fn put_in<T>(place: &mut Option<T>, value: T)
+    requires { place.old ≡ None }
+    ensures { place.new ≡ Some value }
+{
+    match place.replace(value) {
+        None => {}
+        Some(_before) => unreachable!(),
     }
 }

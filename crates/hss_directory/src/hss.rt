@@ -15,7 +15,7 @@ ghost use Rattle.hss_directory.specs.Calls.{CreatesHss, HeldRose, IsOpeningCause
 ghost use Rattle.hss_directory.specs.Places.{AreHome, Holds, OnlyReads};
 ghost use Rattle.hss_directory.specs.Values.{IsSound};
 
-use crate::current::{put_lower, seal_by, unspent};
+use crate::current::{put_in, put_lower, seal_by, unspent};
 use crate::fault::HssFault;
 use crate::lower::{Lower, types_of};
 use crate::making::next_lower;
@@ -166,12 +166,12 @@ impl<D: Disk> Hss<D> {
         ensures later { H.faults shelf.old ≤ H.faults shelf.new }
         ensures failed { IsErrOf result HssFault.Disk → Rose (H.faults shelf.old) (H.faults shelf.new) ⊎ Rose self.old.top.parts.used_faults self.new.top.parts.used_faults }
     {
-        self.lower = unspent(shelf, self.lower.take());
-        if self.lower.is_some() {
+        if let Some(lower) = unspent(shelf, self.lower.take()) {
+            put_in(&mut self.lower, lower);
             return Ok(());
         }
         let lower = next_lower(alloc, shelf, self.dir.as_str(), &mut self.top, random)?;
-        self.lower = Some(lower);
+        put_in(&mut self.lower, lower);
         Ok(())
     }
 

@@ -1,0 +1,4 @@
+pub mod Keys
+pub mod Lowers
+pub mod Peers
+pub mod Places
