@@ -1,4 +1,6 @@
+pub mod Gates
+pub mod Held
 pub mod Keys
 pub mod Lowers
-pub mod Peers
+pub mod Opens
 pub mod Places

@@ -27,13 +27,13 @@ use Rattle.key_directory.proofs.Places.{stands-not-out}
 use Rattle.key_directory.proofs.Putting.{told}
 use Rattle.hss_chain.specs.Keys.{key_bytes}
 use Rattle.hss_directory.specs.Lower.{LetsLowerGo, MakesLower, OpensNoLower, RefusesLower, TakesLower, VouchesNot, no_memory, no_vouching, not_made, not_taken, opens_none, opens_spent, refuses_key, top_spent, unsigned, unwritten}
-use Rattle.hss_directory.specs.Places.{AreIn, AreLowersIn, HoldsKey, HoldsLower}
+use Rattle.hss_directory.specs.Places.{AreIn, AreLowersIn, HoldsKey, HoldsLower, KeepsElse}
 use Rattle.hss_directory.specs.Signing.{SignsBy, SignsNone}
 use Rattle.hss_directory.specs.Values.{IsCurrent, LowerState, low_dir}
 use Rattle.hss_directory.specs.declared.fault.HssFault.{HssFault}
 use Rattle.hss_directory.specs.declared.fault.HssFault.TheVariants.{Disk, KeyThere, NoKey, BadKey, Spent, Memory}
 use Rattle.hss_directory.proofs.Keys.{holds_lower, lower_keeps, lower_tells, untouched_in}
-use Rattle.hss_directory.proofs.Places.{ElseSame, but_one, else_key, else_peers, else_through, holds_by, holds_else, in_by, key_not_peers, low-ne, lowers_in, others_in, peers_not_key}
+use Rattle.hss_directory.proofs.Places.{ElseSame, but_one, else_key, else_peers, else_through, holds_by, holds_else, in_by, keeps_lower, keeps_same, key_not_peers, low-ne, lowers_in, others_in, peers_not_key}
 
 -- ---- indices
 
@@ -95,7 +95,7 @@ refused_top dir shelf top new same holds = subst (λ (k : KeyState). HoldsKey sh
 
 -- where a lower key was made
 pub made_holds : (random left : Stream) (before after : ShelfState) (dir : List ℕ) (top new : KeyState) (lower : LowerState) → MakesLower random before dir top lower new after left
-    → IsTrue before.tells → HoldsKey before dir top → AreLowersIn before dir → HoldsKey after dir new × HoldsLower after dir (Some lower)
+    → IsTrue before.tells → HoldsKey before dir top → AreLowersIn before dir → HoldsKey after dir new × HoldsLower after dir (Some lower) × KeepsElse dir before after
 made_holds random left before after dir top new lower small makes tells holds lowers =
     let told_mid : IsTrue makes.mid.tells = told before.tells makes.mid.tells (lower_tells top.secret.lms top.secret.ots random makes.between before makes.mid lower.dir lower.key makes.takes) tells in
     let writes = makes.vouches.writes in
@@ -111,6 +111,7 @@ made_holds random left before after dir top new lower small makes tells holds lo
         writes.in_place told_mid,
         others_in lower.dir dir before after else_same lowers,
       ),
+      keeps_lower dir lower.dir lower.index before after makes.place else_same,
     )
 
 -- what a refusal leaves of the places
@@ -186,13 +187,13 @@ opens_leaves : (lms : LmsType) (ots : OtsType) (random left : Stream) (why : Hss
     → LeavesIn low before after
 opens_leaves lms ots random left why low before after are (opens_none goes) = lower_leaves lms ots random left why low before after are goes
 opens_leaves lms ots random left why low before after are (opens_spent key mid is takes spent puts) =
-    back_leaves lms ots random left low before mid mid after key takes refl (peers_after lms ots random left low before mid key are takes) (λ tells. λ d ne part. refl) puts
+    back_leaves lms ots random left low before mid mid after key takes refl (peers_after lms ots random left low before mid key are takes) (λ tells place off. refl) puts
 
 same_leaves : (mid done : ShelfState) (low : List ℕ) → done ≡ mid → (IsTrue mid.tells → part_in mid low Peers ≢ out)
     → (done.tells ≡ mid.tells) × ((IsTrue mid.tells → part_in done low Peers ≢ out) × (IsTrue mid.tells → ElseSame low mid done))
 same_leaves mid done low same peers = (
   ap (λ (s : ShelfState). s.tells) same,
-  (λ tells. in_by (part_in mid low Peers) (part_in done low Peers) (ap (λ (s : ShelfState). part_in s low Peers) same) (peers tells), λ tells dir ne part. ap (λ (s : ShelfState). part_in s dir part) same),
+  (λ tells. in_by (part_in mid low Peers) (part_in done low Peers) (ap (λ (s : ShelfState). part_in s low Peers) same) (peers tells), λ tells place off. ap (λ (s : ShelfState). s.parts place) same),
 )
 
 vouch_leaves : (random left : Stream) (why : HssFault) (low : List ℕ) (mid done : ShelfState) (top new : KeyState) (key : AuthorKey) → (IsTrue mid.tells → part_in mid low Peers ≢ out) → VouchesNot random mid low top key why new done left
@@ -215,36 +216,38 @@ vouch_top random left why low mid done shelf top new key dir (unsigned none same
 vouch_top random left why low mid done shelf top new key dir (unwritten sig signs is or) holds = holds_top shelf dir top new (Ok signs.index) holds signs.reserves
 
 nothing_holds : (before after : ShelfState) (dir : List ℕ) (top new : KeyState) → new ≡ top → after ≡ before → (IsTrue before.tells → AreLowersIn before dir)
-    → (after.tells ≡ before.tells) × (IsTrue before.tells → (HoldsKey before dir top → HoldsKey after dir new) × AreLowersIn after dir)
+    → (after.tells ≡ before.tells) × (IsTrue before.tells → (HoldsKey before dir top → HoldsKey after dir new) × AreLowersIn after dir × KeepsElse dir before after)
 nothing_holds before after dir top new same_top same lowers = (
   ap (λ (s : ShelfState). s.tells) same,
   λ tells. (
     λ holds. refused_top dir after top new same_top (subst (λ (s : ShelfState). HoldsKey s dir top) (sym same) holds),
     subst (λ (s : ShelfState). AreLowersIn s dir) (sym same) (lowers tells),
+    keeps_same dir before after same,
   ),
 )
 
-leaves_hold : (low dir : List ℕ) (before after : ShelfState) (top new : KeyState) → LeavesIn low before after → low ≢ dir → (IsTrue before.tells → AreLowersIn before dir)
-    → ((shelf : ShelfState) → HoldsKey shelf dir top → HoldsKey shelf dir new) → (after.tells ≡ before.tells) × (IsTrue before.tells → (HoldsKey before dir top → HoldsKey after dir new) × AreLowersIn after dir)
-leaves_hold low dir before after top new leaves ne lowers then = (
+leaves_hold : (index : ℕ) (dir : List ℕ) (before after : ShelfState) (top new : KeyState) → LeavesIn (low_dir dir index) before after → (IsTrue before.tells → AreLowersIn before dir)
+    → ((shelf : ShelfState) → HoldsKey shelf dir top → HoldsKey shelf dir new) → (after.tells ≡ before.tells) × (IsTrue before.tells → (HoldsKey before dir top → HoldsKey after dir new) × AreLowersIn after dir × KeepsElse dir before after)
+leaves_hold index dir before after top new leaves lowers then = (
   leaves.tells,
   λ tells. (
-    λ holds. then after (holds_else low dir before after top (leaves.else_same tells) ne holds),
-    lowers_in low dir before after (leaves.low_in tells) (leaves.else_same tells) (but_one low dir before (lowers tells)),
+    λ holds. then after (holds_else (low_dir dir index) dir before after top (leaves.else_same tells) (λ same. low-ne dir index (sym same)) holds),
+    lowers_in (low_dir dir index) dir before after (leaves.low_in tells) (leaves.else_same tells) (but_one (low_dir dir index) dir before (lowers tells)),
+    keeps_lower dir (low_dir dir index) index before after refl (leaves.else_same tells),
   ),
 )
 
 -- Where none was made, nothing of a lower key is handed out, and the top key is held.
 pub refused_holds : (random left : Stream) (why : HssFault) (before after : ShelfState) (dir : List ℕ) (top new : KeyState) → RefusesLower random before dir top why new after left
-    → (IsTrue before.tells → AreLowersIn before dir) → (after.tells ≡ before.tells) × (IsTrue before.tells → (HoldsKey before dir top → HoldsKey after dir new) × AreLowersIn after dir)
+    → (IsTrue before.tells → AreLowersIn before dir) → (after.tells ≡ before.tells) × (IsTrue before.tells → (HoldsKey before dir top → HoldsKey after dir new) × AreLowersIn after dir × KeepsElse dir before after)
 refused_holds random left why before after dir top new (top_spent is spent same_top same drawn) lowers = nothing_holds before after dir top new same_top same lowers
 refused_holds random left why before after dir top new (no_memory is same_top same drawn) lowers = nothing_holds before after dir top new same_top same lowers
 refused_holds random left why before after dir top new (refuses_key index least opened same_top) lowers =
-    leaves_hold (low_dir dir index) dir before after top new (opens_leaves top.secret.lms top.secret.ots random left why (low_dir dir index) before after (λ tells. lowers tells index) opened) (λ same. low-ne dir index (sym same)) lowers
+    leaves_hold index dir before after top new (opens_leaves top.secret.lms top.secret.ots random left why (low_dir dir index) before after (λ tells. lowers tells index) opened) lowers
     (λ shelf holds. refused_top dir shelf top new same_top holds)
 refused_holds random left why before after dir top new (no_vouching index key mid done between least takes has_left vouches puts) lowers =
     let low = low_dir dir index in
     let peers = peers_after top.secret.lms top.secret.ots random between low before mid key (λ tells. lowers tells index) takes in
     let v = vouch_leaves between left why low mid done top new (public_key key.secret) peers vouches in
-    leaves_hold low dir before after top new (back_leaves top.secret.lms top.secret.ots random between low before mid done after key takes v.0 v.1.0 v.1.1 puts) (λ same. low-ne dir index (sym same)) lowers
+    leaves_hold index dir before after top new (back_leaves top.secret.lms top.secret.ots random between low before mid done after key takes v.0 v.1.0 v.1.1 puts) lowers
     (λ shelf holds. vouch_top between left why low mid done shelf top new (public_key key.secret) dir vouches holds)

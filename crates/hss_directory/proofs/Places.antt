@@ -12,7 +12,7 @@ use Rattle.bec_disk.specs.Slot.{Slot, same_slot, slot}
 use Rattle.key_index.specs.KeyState.{KeyState}
 use Rattle.key_directory.specs.Parts.{KeepsAllBut, part_in}
 use Rattle.key_directory.proofs.Places.{neither_of, same_place}
-use Rattle.hss_directory.specs.Places.{AreIn, AreLowersIn, AreOthersIn, HoldsKey}
+use Rattle.hss_directory.specs.Places.{AreIn, AreLowersIn, AreOthersIn, HoldsKey, IsOff, KeepsElse}
 use Rattle.hss_directory.specs.Values.{low_dir}
 
 pub low-ne : (dir : List ℕ) (n : ℕ) → dir ≢ low_dir dir n
@@ -24,15 +24,7 @@ low-ne dir n e =
     let same : length dir ≡ length (dir ++ (codes "." ++ decimal n)) = ap length e in
     absurd (omega (arith, whole, behind, dot, same))
 
--- places of two directories are apart
-pub dirs_apart : (a b : List ℕ) (p q : Part) → a ≢ b → same_slot (slot a p) (slot b q) ≡ false
-dirs_apart a b p q ne = by (same_slot (slot a p) (slot b q)) refl
-  where
-    by : (x : Bool) → same_slot (slot a p) (slot b q) ≡ x → same_slot (slot a p) (slot b q) ≡ false
-    by false e = e
-    by true e = absurd (ne (ap (λ (s : Slot). s.dir) (same_place (slot a p) (slot b q) e)))
-
-one_false : (x : Bool) → x ≡ false → x || false ≡ false
+pub one_false : (x : Bool) → x ≡ false → x || false ≡ false
 one_false true e = absurd (true≢false e)
 one_false false e = refl
 
@@ -40,17 +32,9 @@ pub false_of : (x : Bool) → x || false ≡ false → x ≡ false
 false_of true e = absurd (true≢false e)
 false_of false e = refl
 
--- what is done to the key of a directory leaves other directories alone, and the part Peers
-pub key_elsewhere : (before after : ShelfState) (dir other : List ℕ) (part : Part) → dir ≢ other → KeepsAllBut (Key ∷ Used ∷ []) dir before after → part_in after other part ≡ part_in before other part
-key_elsewhere before after dir other part ne keeps =
-    keeps (slot other part) (neither_of (same_slot (slot dir Key) (slot other part)) (same_slot (slot dir Used) (slot other part)) (dirs_apart dir other Key part ne) (dirs_apart dir other Used part ne))
-
+-- what is done to the key of a directory leaves the part Peers alone, and the other way round
 pub key_not_peers : (before after : ShelfState) (dir : List ℕ) → KeepsAllBut (Key ∷ Used ∷ []) dir before after → part_in after dir Peers ≡ part_in before dir Peers
 key_not_peers before after dir keeps = keeps (slot dir Peers) refl
-
--- and what is done to the part Peers
-pub peers_elsewhere : (before after : ShelfState) (dir other : List ℕ) (part : Part) → dir ≢ other → KeepsAllBut (Peers ∷ []) dir before after → part_in after other part ≡ part_in before other part
-peers_elsewhere before after dir other part ne keeps = keeps (slot other part) (one_false (same_slot (slot dir Peers) (slot other part)) (dirs_apart dir other Peers part ne))
 
 pub peers_not_key : (before after : ShelfState) (dir : List ℕ) → KeepsAllBut (Peers ∷ []) dir before after → (part_in after dir Key ≡ part_in before dir Key) × (part_in after dir Used ≡ part_in before dir Used)
 peers_not_key before after dir keeps = (keeps (slot dir Key) refl, keeps (slot dir Used) refl)
@@ -66,21 +50,37 @@ are_in_by before after dir key used peers are = record {
   peers_in = in_by (part_in before dir Peers) (part_in after dir Peers) peers are.peers_in;
 }
 
--- Every part of another directory is as it was.
+-- Every part but those of a lower key in this directory is as it was.
 abbrev pub ElseSame : List ℕ → ShelfState → ShelfState → Type 0
-ElseSame low before after = (dir : List ℕ) → low ≢ dir → (part : Part) → part_in after dir part ≡ part_in before dir part
+ElseSame low before after = (place : Slot) → IsOff low place → after.parts place ≡ before.parts place
+
+-- a place that is not this one
+pub off_place : (a b : Slot) → b ≢ a → same_slot a b ≡ false
+off_place a b ne = by (same_slot a b) refl
+  where
+    by : (x : Bool) → same_slot a b ≡ x → same_slot a b ≡ false
+    by false e = e
+    by true e = absurd (ne (sym (same_place a b e)))
 
 pub else_key : (low : List ℕ) (before after : ShelfState) → KeepsAllBut (Key ∷ Used ∷ []) low before after → ElseSame low before after
-else_key low before after keeps dir ne part = key_elsewhere before after low dir part ne keeps
+else_key low before after keeps place off = keeps place (neither_of (same_slot (slot low Key) place) (same_slot (slot low Used) place) (off_place (slot low Key) place off.key) (off_place (slot low Used) place off.used))
 
 pub else_peers : (low : List ℕ) (before after : ShelfState) → KeepsAllBut (Peers ∷ []) low before after → ElseSame low before after
-else_peers low before after keeps dir ne part = peers_elsewhere before after low dir part ne keeps
+else_peers low before after keeps place off = keeps place (one_false (same_slot (slot low Peers) place) (off_place (slot low Peers) place off.peers))
 
 pub else_through : (low : List ℕ) (before mid after : ShelfState) → ElseSame low before mid → ElseSame low mid after → ElseSame low before after
-else_through low before mid after a b dir ne part = b dir ne part ∙ a dir ne part
+else_through low before mid after a b place off = b place off ∙ a place off
+
+off_dir : (low dir : List ℕ) (part other : Part) → low ≢ dir → slot dir part ≢ slot low other
+off_dir low dir part other ne same = ne (sym (ap (λ (s : Slot). s.dir) same))
+
+-- the parts of another directory
+pub else_at : (low dir : List ℕ) (before after : ShelfState) (part : Part) → ElseSame low before after → low ≢ dir → part_in after dir part ≡ part_in before dir part
+else_at low dir before after part same ne = same (slot dir part) (record { key = off_dir low dir part Key ne; used = off_dir low dir part Used ne; peers = off_dir low dir part Peers ne })
 
 pub in_else : (low dir : List ℕ) (before after : ShelfState) → ElseSame low before after → low ≢ dir → AreIn before dir → AreIn after dir
-in_else low dir before after same ne are = are_in_by before after dir (same dir ne Key) (same dir ne Used) (same dir ne Peers) are
+in_else low dir before after same ne are =
+    are_in_by before after dir (else_at low dir before after Key same ne) (else_at low dir before after Used same ne) (else_at low dir before after Peers same ne) are
 
 -- what is held of a directory, through what is done elsewhere
 pub holds_by : (before after : ShelfState) (dir : List ℕ) (key : KeyState) → part_in after dir Key ≡ part_in before dir Key → part_in after dir Used ≡ part_in before dir Used → HoldsKey before dir key → HoldsKey after dir key
@@ -92,7 +92,7 @@ holds_by before after dir key same_key same_used holds = record {
 }
 
 pub holds_else : (low dir : List ℕ) (before after : ShelfState) (key : KeyState) → ElseSame low before after → low ≢ dir → HoldsKey before dir key → HoldsKey after dir key
-holds_else low dir before after key same ne holds = holds_by before after dir key (same dir ne Key) (same dir ne Used) holds
+holds_else low dir before after key same ne holds = holds_by before after dir key (else_at low dir before after Key same ne) (else_at low dir before after Used same ne) holds
 
 -- a directory is this one or another
 pub this_or : (low dir : List ℕ) → (low ≡ dir) ⊎ (low ≢ dir)
@@ -115,3 +115,17 @@ others_in low dir before after same lowers n ne = in_else low (low_dir dir n) be
 
 pub but_one : (low dir : List ℕ) (shelf : ShelfState) → AreLowersIn shelf dir → AreOthersIn shelf dir low
 but_one low dir shelf lowers n ne = lowers n
+
+-- ---- elsewhere
+
+pub keeps_lower : (dir low : List ℕ) (n : ℕ) (before after : ShelfState) → low ≡ low_dir dir n → ElseSame low before after → KeepsElse dir before after
+keeps_lower dir low n before after is same place off = same place (subst (λ (d : List ℕ). IsOff d place) (sym is) (off.lowers n))
+
+pub keeps_top : (dir : List ℕ) (before after : ShelfState) → KeepsAllBut (Key ∷ Used ∷ []) dir before after → KeepsElse dir before after
+keeps_top dir before after keeps place off = keeps place (neither_of (same_slot (slot dir Key) place) (same_slot (slot dir Used) place) (off_place (slot dir Key) place off.key) (off_place (slot dir Used) place off.used))
+
+pub keeps_same : (dir : List ℕ) (before after : ShelfState) → after ≡ before → KeepsElse dir before after
+keeps_same dir before after same place off = ap (λ (s : ShelfState). s.parts place) same
+
+pub keeps_both : (dir : List ℕ) (before mid after : ShelfState) → KeepsElse dir before mid → KeepsElse dir mid after → KeepsElse dir before after
+keeps_both dir before mid after a b place off = b place off ∙ a place off

@@ -43,6 +43,22 @@ pub record Holds (shelf : ShelfState) (hss : HssState) : Type 0 where
   pub top : HoldsKey shelf hss.dir hss.top
   pub lower : HoldsLower shelf hss.dir hss.lower
 
+-- The place is not that of a part that a lower key has in this directory.
+pub record IsOff (low : List ℕ) (place : Slot) : Type 0 where
+  pub key : place ≢ slot low Key
+  pub used : place ≢ slot low Used
+  pub peers : place ≢ slot low Peers
+
+-- Nor is it that of a part that the top key has in its own.
+pub record IsElsewhere (dir : List ℕ) (place : Slot) : Type 0 where
+  pub key : place ≢ slot dir Key
+  pub used : place ≢ slot dir Used
+  pub lowers : (n : ℕ) → IsOff (low_dir dir n) place
+
+-- Every part but those of the top key and of its lower keys is as it was.
+abbrev pub KeepsElse : List ℕ → ShelfState → ShelfState → Type 0
+KeepsElse dir before after = (place : Slot) → IsElsewhere dir place → after.parts place ≡ before.parts place
+
 -- Every part is as it was, or was at most read.
 pub record OnlyReads (before after : ShelfState) : Type 0 where
   pub tells : after.tells ≡ before.tells

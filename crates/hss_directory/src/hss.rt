@@ -12,7 +12,7 @@ ghost use Rattle.key_directory.specs.Keys.{IsNoKey};
 ghost use Rattle.key_directory.specs.Parts.{LetsNewGo, part_in, reading};
 ghost use Rattle.hss_chain.specs.Sealing.{SealedBy, public_bytes};
 ghost use Rattle.hss_directory.specs.Calls.{CreatesHss, HeldRose, IsOpeningCause, IsReady, OpensHss, PutsHss, Readies, RefusesToReady, RefusesToSign, Signs};
-ghost use Rattle.hss_directory.specs.Places.{AreHome, Holds, OnlyReads};
+ghost use Rattle.hss_directory.specs.Places.{AreHome, Holds, KeepsElse, OnlyReads};
 ghost use Rattle.hss_directory.specs.Values.{IsSound};
 
 use crate::current::{put_in, put_lower, seal_by, unspent};
@@ -66,6 +66,7 @@ pub fn create_hss<H: Shelf, R: Rng>(
     ensures drawn { OnOk result (R.stream random.new ≡ after_draw (R.stream random.old)) }
     ensures may_draw { (R.stream random.new ≡ R.stream random.old) ⊎ (R.stream random.new ≡ after_draw (R.stream random.old)) }
     ensures holds { IsTrue (H.state shelf.old).tells → IfOk result (λ hss. Holds (H.state shelf.new) hss) }
+    ensures others { IsTrue (H.state shelf.old).tells → OnOk result (KeepsElse dir.now (H.state shelf.old) (H.state shelf.new)) }
     ensures later { H.faults shelf.old ≤ H.faults shelf.new }
     ensures failed { IsErrOf result HssFault.Disk → Rose (H.faults shelf.old) (H.faults shelf.new) }
 {
@@ -86,6 +87,7 @@ pub fn open_hss<H: Shelf>(alloc: Global, shelf: &mut H, dir: &str) -> Result<Hss
     ensures lets_go { IfErr result (λ _. OnlyReads (H.state shelf.old) (H.state shelf.new)) }
     ensures refused { IfErr result (λ why. IsTrue (H.state shelf.old).tells → IsOpeningCause (H.state shelf.old) dir.now why) }
     ensures holds { IsTrue (H.state shelf.old).tells → IfOk result (λ hss. Holds (H.state shelf.new) hss) }
+    ensures others { IsTrue (H.state shelf.old).tells → OnOk result (KeepsElse dir.now (H.state shelf.old) (H.state shelf.new)) }
     ensures sound { IfOk result (λ hss. IsSound hss) }
     ensures later { H.faults shelf.old ≤ H.faults shelf.new }
     ensures failed { IsErrOf result HssFault.Disk → Rose (H.faults shelf.old) (H.faults shelf.new) }
@@ -137,6 +139,7 @@ impl<D: Disk> Hss<D> {
         ensures sealed { IfOk result (λ seal. SealedBy (public_bytes (public_key self.old.top.secret)) msg.now seal.items) }
         ensures public { self.new.top.secret ≡ self.old.top.secret }
         ensures holds { IsTrue (H.state shelf.old).tells → Holds (H.state shelf.new) self.new }
+        ensures others { IsTrue (H.state shelf.old).tells → KeepsElse self.old.dir (H.state shelf.old) (H.state shelf.new) }
         ensures still_sound { IsSound self.new }
         ensures later { H.faults shelf.old ≤ H.faults shelf.new }
         ensures failed { IsErrOf result HssFault.Disk → Rose (H.faults shelf.old) (H.faults shelf.new) ⊎ HeldRose self.old self.new }
@@ -163,6 +166,7 @@ impl<D: Disk> Hss<D> {
         ensures has_left { OnOk result (IsReady self.new) }
         ensures still_sound { IsSound self.new }
         ensures holds { IsTrue (H.state shelf.old).tells → Holds (H.state shelf.new) self.new }
+        ensures others { IsTrue (H.state shelf.old).tells → KeepsElse self.old.dir (H.state shelf.old) (H.state shelf.new) }
         ensures later { H.faults shelf.old ≤ H.faults shelf.new }
         ensures failed { IsErrOf result HssFault.Disk → Rose (H.faults shelf.old) (H.faults shelf.new) ⊎ Rose self.old.top.parts.used_faults self.new.top.parts.used_faults }
     {
@@ -181,6 +185,7 @@ impl<D: Disk> Hss<D> {
         requires sound { IsSound self }
         ensures puts { PutsHss (H.state shelf.old) self (H.state shelf.new) }
         ensures home { IsTrue (H.state shelf.old).tells → AreHome (H.state shelf.new) self.dir }
+        ensures others { IsTrue (H.state shelf.old).tells → KeepsElse self.dir (H.state shelf.old) (H.state shelf.new) }
         ensures later { H.faults shelf.old ≤ H.faults shelf.new }
         ensures top_faulted { 0 < self.top.parts.used_faults → Rose (H.faults shelf.old) (H.faults shelf.new) }
         ensures lower_faulted { IfSome self.lower (λ lower. 0 < lower.key.parts.used_faults → Rose (H.faults shelf.old) (H.faults shelf.new)) }
