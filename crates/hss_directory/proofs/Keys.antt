@@ -45,7 +45,7 @@ pub untouched_through : (old mid new : PartState) → IsUntouched old mid → Is
 untouched_through (stands old) (stands mid) (stands new) a b = (
   b.0 ∙ a.0,
   since_then (moments old) (moments mid) (moments new) (λ image. image ≡ old.seen) a.1
-  (subst (λ (bytes : List ℕ). LeavesSince (moments mid) (moments new) (λ image. image ≡ bytes)) a.0 b.1),
+      (subst (λ (bytes : List ℕ). LeavesSince (moments mid) (moments new) (λ image. image ≡ bytes)) a.0 b.1),
 )
 untouched_through (stands old) (stands mid) absent a b = absurd b
 untouched_through (stands old) (stands mid) out a b = absurd b
@@ -128,4 +128,4 @@ holds_lower lms ots random left before after dir key (made mid goes none makes d
 
 pub lower_keeps : (lms : LmsType) (ots : OtsType) (random left : Stream) (before after : ShelfState) (dir : List ℕ) (key : KeyState) → TakesLower lms ots random before dir key after left → IsTrue before.tells → KeepsAllBut (Key ∷ Used ∷ []) dir before after
 lower_keeps lms ots random left before after dir key (taken takes same) tells = takes.others
-lower_keeps lms ots random left before after dir key (made mid goes none makes drawn) tells other away = makes.others other away ∙ goes.others tells other away
+lower_keeps lms ots random left before after dir key (made mid goes none makes drawn) tells = λ other away. makes.others other away ∙ goes.others tells other away

@@ -28,7 +28,7 @@ use Rattle.key_directory.proofs.Putting.{told}
 use Rattle.hss_chain.specs.Keys.{key_bytes}
 use Rattle.hss_directory.specs.Lower.{LetsLowerGo, MakesLower, OpensNoLower, RefusesLower, TakesLower, VouchesNot, no_memory, no_vouching, not_made, not_taken, opens_none, opens_spent, refuses_key, top_spent, unsigned, unwritten}
 use Rattle.hss_directory.specs.Places.{AreIn, AreLowersIn, HoldsKey, HoldsLower, KeepsElse}
-use Rattle.hss_directory.specs.Signing.{SignsBy, SignsNone}
+use Rattle.hss_directory.specs.Signing.{SignsNone, drawn_c}
 use Rattle.hss_directory.specs.Values.{IsCurrent, LowerState, low_dir}
 use Rattle.hss_directory.specs.declared.fault.HssFault.{HssFault}
 use Rattle.hss_directory.specs.declared.fault.HssFault.TheVariants.{Disk, KeyThere, NoKey, BadKey, Spent, Memory}
@@ -74,7 +74,7 @@ made_current random left before after dir top new lower small makes =
     record {
       place = makes.place;
       signed = subst (λ (s : SecretData). Signed (public_key s) (key_bytes (public_key lower.key.secret)) lower.top_sig) (sym alone.1) signs.signed;
-      leaf = ap leaf_number signs.made ∙ leaf_of top.secret signs.index _ _ (subst (λ (k : ℕ). k < 2 ^ 32) (sym same) small) ∙ same;
+      leaf = ap leaf_number signs.made ∙ leaf_of top.secret signs.index (drawn_c makes.between) (key_bytes (public_key lower.key.secret)) (subst (λ (k : ℕ). k < 2 ^ 32) (sym same) small) ∙ same;
       last = last_is new lower.index (tries_at top new (least_unused top.taken) lower.index makes.index signs.reserves.tries).tried;
       used = λ tells. subst (λ (k : ℕ). EveryImage new.parts.used.now (IsUsed k)) same (signs.reserves.reserved (told new.parts.used.tells top.parts.used.tells (sym signs.reserves.disk.tells) tells)).used;
     }
@@ -96,7 +96,7 @@ refused_top dir shelf top new same holds = subst (λ (k : KeyState). HoldsKey sh
 -- where a lower key was made
 pub made_holds : (random left : Stream) (before after : ShelfState) (dir : List ℕ) (top new : KeyState) (lower : LowerState) → MakesLower random before dir top lower new after left
     → IsTrue before.tells → HoldsKey before dir top → AreLowersIn before dir → HoldsKey after dir new × HoldsLower after dir (Some lower) × KeepsElse dir before after
-made_holds random left before after dir top new lower small makes tells holds lowers =
+made_holds random left before after dir top new lower makes tells holds lowers =
     let told_mid : IsTrue makes.mid.tells = told before.tells makes.mid.tells (lower_tells top.secret.lms top.secret.ots random makes.between before makes.mid lower.dir lower.key makes.takes) tells in
     let writes = makes.vouches.writes in
     let else_same : ElseSame lower.dir before after =
@@ -251,3 +251,22 @@ refused_holds random left why before after dir top new (no_vouching index key mi
     let v = vouch_leaves between left why low mid done top new (public_key key.secret) peers vouches in
     leaves_hold index dir before after top new (back_leaves top.secret.lms top.secret.ots random between low before mid done after key takes v.0 v.1.0 v.1.1 puts) lowers
     (λ shelf holds. vouch_top between left why low mid done shelf top new (public_key key.secret) dir vouches holds)
+
+vouch_secret : (random left : Stream) (why : HssFault) (low : List ℕ) (mid done : ShelfState) (top new : KeyState) (key : AuthorKey) → VouchesNot random mid low top key why new done left → new.secret ≡ top.secret
+vouch_secret random left why low mid done top new key (unsigned none same) = none_secret why none
+  where
+    none_secret : (why : HssFault) → SignsNone top random why new left → new.secret ≡ top.secret
+    none_secret Memory none = ap (λ (k : KeyState). k.secret) none.0
+    none_secret Disk none = (key_alone top new (Err reserve.DiskFault) none.0).1
+    none_secret KeyThere none = absurd none
+    none_secret NoKey none = absurd none
+    none_secret BadKey none = absurd none
+    none_secret Spent none = absurd none
+vouch_secret random left why low mid done top new key (unwritten sig signs is or) = (key_alone top new (Ok signs.index) signs.reserves).1
+
+-- the top key stays the same key
+pub refused_secret : (random left : Stream) (why : HssFault) (before after : ShelfState) (dir : List ℕ) (top new : KeyState) → RefusesLower random before dir top why new after left → new.secret ≡ top.secret
+refused_secret random left why before after dir top new (top_spent is spent same_top same drawn) = ap (λ (k : KeyState). k.secret) same_top
+refused_secret random left why before after dir top new (no_memory is same_top same drawn) = ap (λ (k : KeyState). k.secret) same_top
+refused_secret random left why before after dir top new (refuses_key index least opened same_top) = ap (λ (k : KeyState). k.secret) same_top
+refused_secret random left why before after dir top new (no_vouching index key mid done between least takes has_left vouches puts) = vouch_secret between left why (low_dir dir index) mid done top new (public_key key.secret) vouches

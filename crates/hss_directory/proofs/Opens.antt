@@ -22,8 +22,8 @@ use Rattle.hss_directory.specs.Opening.{FindsLower, none_used, recorded, unrecor
 use Rattle.hss_directory.specs.Peers.{ReadsPeers}
 use Rattle.hss_directory.specs.Places.{AreIn, AreLowersIn, HoldsKey, HoldsLower, KeepsElse, OnlyReads}
 use Rattle.hss_directory.specs.Values.{IsCurrent, LowerState, low_dir}
-use Rattle.hss_directory.proofs.Keys.{holds_taken, untouched_in}
-use Rattle.hss_directory.proofs.Places.{ElseSame, but_one, else_key, else_peers, else_through, holds_else, in_by, keeps_lower, keeps_same, key_not_peers, low-ne, lowers_in, one_false, others_in, peers_not_key}
+use Rattle.hss_directory.proofs.Keys.{holds_taken, untouched_in, untouched_out}
+use Rattle.hss_directory.proofs.Places.{ElseSame, but_one, else_key, else_peers, else_through, holds_else, in_by, in_else, keeps_lower, keeps_same, key_not_peers, low-ne, lowers_in, one_false, others_in, peers_not_key}
 
 -- ---- the part Peers was read
 
@@ -74,12 +74,11 @@ finds_holds dir top before after lower (recorded found mid payload last place wh
     let ne : found.dir ≢ dir = λ e. low-ne dir found.index (sym e ∙ place) in
     let are : AreIn before found.dir = subst (λ (d : List ℕ). AreIn before d) (sym place) (lowers found.index) in (
       holds_else found.dir dir before after top same ne holds,
-      subst (λ (l : Option LowerState). HoldsLower after dir l) (sym is)
-          (
-            holds_taken mid after found.dir found.key takes mid_told,
-            in_by (part_in mid found.dir Peers) (part_in after found.dir Peers) (key_not_peers mid after found.dir takes.others) (peers_in_place before mid found.dir tells are reads).peers_in,
-            others_in found.dir dir before after same lowers,
-          ),
+      subst (λ (l : Option LowerState). HoldsLower after dir l) (sym is) (
+        holds_taken mid after found.dir found.key takes mid_told,
+        in_by (part_in mid found.dir Peers) (part_in after found.dir Peers) (key_not_peers mid after found.dir takes.others) (peers_in_place before mid found.dir tells are reads).peers_in,
+        others_in found.dir dir before after same lowers,
+      ),
       keeps_lower dir found.dir found.index before after place same,
     )
 
@@ -108,3 +107,16 @@ finds_sound dir top first before after lower takes (recorded found mid payload l
       last = last;
       used = taken_used first before dir top found.index takes last;
     })
+
+-- what is held, through what at most read
+pub only_holds : (before after : ShelfState) (dir : List ℕ) (key : KeyState) → OnlyReads before after → IsTrue before.tells → HoldsKey before dir key → HoldsKey after dir key
+only_holds before after dir key only tells holds = record {
+  key_slot = holds.key_slot;
+  key_out = untouched_out (part_in before dir Key) (part_in after dir Key) (only.parts tells (slot dir Key)) holds.key_out;
+  used_slot = holds.used_slot;
+  used_out = untouched_out (part_in before dir Used) (part_in after dir Used) (only.parts tells (slot dir Used)) holds.used_out;
+}
+
+-- the lower keys' parts, once the top key is taken
+pub lowers_beside : (before mid : ShelfState) (dir : List ℕ) → AreLowersIn before dir → ElseSame dir before mid → AreLowersIn mid dir
+lowers_beside before mid dir lowers same n = in_else dir (low_dir dir n) before mid same (low-ne dir n) (lowers n)

@@ -1,10 +1,10 @@
 -- What the calls of a two-level key do.
-use Rattle.std.specs.Prelude.{◌≡◌, ◌⊎◌, ℕ, List, Option, Some, None, IsSomeAnd, IsTrue}
+use Rattle.std.specs.Prelude.{◌≡◌, ◌⊎◌, ℕ, List, Option, Some, None, IsTrue}
 use Rattle.rand_core.specs.Stream.{Stream}
 use Rattle.bec_disk.specs.declared.part.Part.TheVariants.{Key, Used}
 use Rattle.bec_disk.specs.Shelf.{ShelfState}
 use Rattle.lms_tree.specs.SecretKey.{SecretData, public_key}
-use Rattle.key_index.specs.KeyState.{KeyState, OneRose}
+use Rattle.key_index.specs.KeyState.{KeyState}
 use Rattle.key_directory.specs.Keys.{IsBadKey, IsNoKey, MakesKey, PutsKey, TakesKey}
 use Rattle.key_directory.specs.Parts.{part_in, reading}
 use Rattle.bec_bytes.specs.Causes.{Rose}
@@ -12,10 +12,10 @@ use Rattle.hss_chain.specs.Sealing.{seal_bytes}
 use Rattle.hss_directory.specs.Lower.{MakesLower, RefusesLower}
 use Rattle.hss_directory.specs.Opening.{FindsLower, IsUnfoundCause}
 use Rattle.hss_directory.specs.Signing.{SignsBy, SignsNone}
-use Rattle.hss_directory.specs.Values.{HasLeft, HssState, IsSpent, LacksLower, LowerState, low_dir}
+use Rattle.hss_directory.specs.Places.{AreHome, Holds, KeepsElse}
+use Rattle.hss_directory.specs.Values.{HasLeft, HssState, IsSound, IsSpent, LowerState}
 use Rattle.hss_directory.specs.declared.fault.HssFault.{HssFault}
 use Rattle.hss_directory.specs.declared.fault.HssFault.TheVariants.{Disk, KeyThere, NoKey, BadKey, Spent, Memory}
-use Rattle.key_index.specs.KeyState.{IsLast}
 
 -- a two-level key of these parts
 abbrev pub hss_of : List ℕ → KeyState → Option LowerState → HssState
@@ -64,10 +64,6 @@ pub record Readies (random : Stream) (before : ShelfState) (old new : HssState) 
   pub keeps : KeepsUnspent before old.lower kept mid
   pub ready : KeepsOrMakes random mid old kept new after left
 
--- There is a current lower key, and it has an index left.
-abbrev pub IsReady : HssState → Type 0
-IsReady hss = IsSomeAnd hss.lower (λ lower. HasLeft lower.key)
-
 -- There was none or it is spent, and the next one was not made.
 pub record RefusesToReady (random : Stream) (before : ShelfState) (old : HssState) (why : HssFault) (new : HssState) (after : ShelfState) (left : Stream) : Type 0 where
   pub mid : ShelfState
@@ -104,11 +100,34 @@ pub data RefusesToSign (random : Stream) (before : ShelfState) (old : HssState) 
   not_sealed : (ready : HssState) (between : Stream) (lower signed : LowerState) → Readies random before old ready after between → ready.lower ≡ Some lower
       → SealsNone lower between msg why signed left → new ≡ hss_of ready.dir ready.top (Some signed) → RefusesToSign random before old msg why new after left
 
+-- A two-level key of this directory is open, and holds its parts. No part but those of the key is touched.
+pub record BeginsHss (before : ShelfState) (dir : List ℕ) (hss : HssState) (after : ShelfState) : Type 0 where
+  pub tells : after.tells ≡ before.tells
+  pub place : hss.dir ≡ dir
+  pub sound : IsSound hss
+  pub holds : IsTrue before.tells → Holds after hss
+  pub others : IsTrue before.tells → KeepsElse dir before after
+
+-- It stays one, of the same key, and holds its parts.
+pub record KeepsHss (before : ShelfState) (old : HssState) (after : ShelfState) (new : HssState) : Type 0 where
+  pub tells : after.tells ≡ before.tells
+  pub place : new.dir ≡ old.dir
+  pub secret : new.top.secret ≡ old.top.secret
+  pub sound : IsSound new
+  pub holds : IsTrue before.tells → Holds after new
+  pub others : IsTrue before.tells → KeepsElse old.dir before after
+
+-- Its parts are in their places.
+pub record EndsHss (before : ShelfState) (dir : List ℕ) (after : ShelfState) : Type 0 where
+  pub tells : after.tells ≡ before.tells
+  pub home : IsTrue before.tells → AreHome after dir
+  pub others : IsTrue before.tells → KeepsElse dir before after
+
 -- Why a two-level key was not opened.
 abbrev pub IsOpeningCause : ShelfState → List ℕ → HssFault → Type 0
 IsOpeningCause shelf dir NoKey = IsNoKey (reading (part_in shelf dir Key))
 IsOpeningCause shelf dir BadKey = IsBadKey (reading (part_in shelf dir Key)) (reading (part_in shelf dir Used))
-    ⊎ ((top : KeyState) × ((mid : ShelfState) × ((index : ℕ) × TakesKey shelf dir top mid × IsLast top (Some index) × IsUnfoundCause mid (low_dir dir index) (public_key top.secret) index BadKey)))
+    ⊎ ((top : KeyState) × ((mid : ShelfState) × (TakesKey shelf dir top mid × IsUnfoundCause mid dir top BadKey)))
 IsOpeningCause shelf dir Disk = Unit {0}
 IsOpeningCause shelf dir Memory = Unit {0}
 IsOpeningCause shelf dir KeyThere = ⊥

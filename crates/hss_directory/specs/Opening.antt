@@ -44,12 +44,16 @@ IsUnvouchedCause top index payload key used KeyThere = ⊥
 IsUnvouchedCause top index payload key used NoKey = ⊥
 IsUnvouchedCause top index payload key used Spent = ⊥
 
--- Why no lower key of this index was found.
-abbrev pub IsUnfoundCause : ShelfState → List ℕ → AuthorKey → ℕ → HssFault → Type 0
-IsUnfoundCause shelf dir top index BadKey = (peers_in shelf dir ≡ Damaged)
+-- What stands behind the gate of the part Peers of this directory is damaged, or vouches for no key that the parts Key and Used are of.
+abbrev pub IsUnfound : ShelfState → List ℕ → AuthorKey → ℕ → Type 0
+IsUnfound shelf dir top index = (peers_in shelf dir ≡ Damaged)
     ⊎ ((payload : List ℕ) × (peers_in shelf dir ≡ Whole payload) × AreUnvouched top index payload (reading (part_in shelf dir Key)) (reading (part_in shelf dir Used)))
-IsUnfoundCause shelf dir top index Disk = Unit {0}
-IsUnfoundCause shelf dir top index Memory = Unit {0}
-IsUnfoundCause shelf dir top index KeyThere = ⊥
-IsUnfoundCause shelf dir top index NoKey = ⊥
-IsUnfoundCause shelf dir top index Spent = ⊥
+
+-- Why the lower key of the top index that was used last was not found.
+abbrev pub IsUnfoundCause : ShelfState → List ℕ → KeyState → HssFault → Type 0
+IsUnfoundCause shelf dir top BadKey = (index : ℕ) × IsLast top (Some index) × IsUnfound shelf (low_dir dir index) (public_key top.secret) index
+IsUnfoundCause shelf dir top Disk = Unit {0}
+IsUnfoundCause shelf dir top Memory = Unit {0}
+IsUnfoundCause shelf dir top KeyThere = ⊥
+IsUnfoundCause shelf dir top NoKey = ⊥
+IsUnfoundCause shelf dir top Spent = ⊥

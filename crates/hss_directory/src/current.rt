@@ -1,28 +1,56 @@
 //! The current lower key: it seals, and is put back.
 
-ghost use Rattle.std.specs.Prelude.{◌≡◌, ◌≤◌, ◌<◌, IsTrue, IfOk, IfErr, IfSome, IsErrOf, None, Some};
+ghost use Rattle.std.specs.Prelude.{◌≡◌, ◌≤◌, ◌<◌, ◌⊎◌, IsTrue, IfOk, IfErr, IfSome, IsErrOf, None, Some};
 ghost use Rattle.bec_bytes.specs.Causes.{Rose};
 ghost use Rattle.update_model.specs.Form.{IsKey, IsKnownKey};
 ghost use Rattle.lms_tree.specs.SecretKey.{public_key};
 ghost use Rattle.lms_tree.specs.Signature.{Signed};
 ghost use Rattle.hss_chain.specs.Keys.{key_bytes};
 ghost use Rattle.hss_chain.specs.Sealing.{SealedBy, public_bytes};
-ghost use Rattle.hss_directory.specs.Calls.{KeepsUnspent, PutsLower, SealsBy, SealsNone};
-ghost use Rattle.hss_directory.specs.Places.{HoldsKey};
-ghost use Rattle.hss_directory.specs.Values.{HasLeft};
+ghost use Rattle.hss_directory.specs.Calls.{KeepsHss, KeepsUnspent, PutsLower, Readies, RefusesToReady, SealsBy, SealsNone, hss_of};
+ghost use Rattle.hss_directory.specs.Places.{Holds, HoldsKey};
+ghost use Rattle.hss_directory.specs.Values.{HasLeft, IsSound};
 
 use crate::fault::HssFault;
 use crate::lower::Lower;
+use crate::making::next_lower;
 use crate::signing::signature_of;
 use bec_disk::{Disk, Shelf};
 use hss_chain::{parts_make_a_seal, seal_bytes};
 use key_directory::put_key;
+use key_index::KeyStore;
 use lms_tree::signed_has_length;
 use rand_core::Rng;
 use std::alloc::Global;
 use update_model::AuthorKey;
 
+/// A lower key that has an index left: the current one, or where there is none or it is spent, the next one.
+pub(crate) fn ready_lower<H: Shelf, R: Rng>(
+    alloc: Global,
+    shelf: &mut H,
+    dir: &str,
+    top: &mut KeyStore<H::D>,
+    lower: Option<Lower<H::D>>,
+    random: &mut R,
+) -> Result<Lower<H::D>, HssFault>
+    requires held { IsTrue (H.state shelf.old).tells → Holds (H.state shelf.old) (hss_of dir.now top.old lower) }
+    requires sound { IsSound (hss_of dir.now top.old lower) }
+    ensures readies { IfOk result (λ ready. Readies (R.stream random.old) (H.state shelf.old) (hss_of dir.now top.old lower) (hss_of dir.now top.new (Some ready)) (H.state shelf.new) (R.stream random.new)) }
+    ensures refused { IfErr result (λ why. RefusesToReady (R.stream random.old) (H.state shelf.old) (hss_of dir.now top.old lower) why (hss_of dir.now top.new None) (H.state shelf.new) (R.stream random.new)) }
+    ensures has_left { IfOk result (λ ready. HasLeft ready.key) }
+    ensures keeps { IfOk result (λ ready. KeepsHss (H.state shelf.old) (hss_of dir.now top.old lower) (H.state shelf.new) (hss_of dir.now top.new (Some ready))) }
+    ensures keeps_none { IfErr result (λ _. KeepsHss (H.state shelf.old) (hss_of dir.now top.old lower) (H.state shelf.new) (hss_of dir.now top.new None)) }
+    ensures later { H.faults shelf.old ≤ H.faults shelf.new }
+    ensures failed { IsErrOf result HssFault.Disk → Rose (H.faults shelf.old) (H.faults shelf.new) ⊎ Rose top.old.parts.used_faults top.new.parts.used_faults }
+{
+    match unspent(shelf, lower) {
+        Some(kept) => Ok(kept),
+        None => next_lower(alloc, shelf, dir, top, random),
+    }
+}
+
 /// The seal of a message by a lower key that this top key signed.
+#[tactic(none)]
 pub(crate) fn seal_by<D: Disk, R: Rng>(
     alloc: Global,
     top: &AuthorKey,

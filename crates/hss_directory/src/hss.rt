@@ -11,14 +11,13 @@ ghost use Rattle.key_index.specs.Used.{none_used};
 ghost use Rattle.key_directory.specs.Keys.{IsNoKey};
 ghost use Rattle.key_directory.specs.Parts.{LetsNewGo, part_in, reading};
 ghost use Rattle.hss_chain.specs.Sealing.{SealedBy, public_bytes};
-ghost use Rattle.hss_directory.specs.Calls.{CreatesHss, HeldRose, IsOpeningCause, IsReady, OpensHss, PutsHss, Readies, RefusesToReady, RefusesToSign, Signs};
-ghost use Rattle.hss_directory.specs.Places.{AreHome, Holds, KeepsElse, OnlyReads};
+ghost use Rattle.hss_directory.specs.Calls.{BeginsHss, CreatesHss, EndsHss, HeldRose, IsOpeningCause, KeepsHss, OpensHss, PutsHss, RefusesToSign, Signs};
+ghost use Rattle.hss_directory.specs.Places.{AreHome, Holds, OnlyReads};
 ghost use Rattle.hss_directory.specs.Values.{IsSound};
 
-use crate::current::{put_in, put_lower, seal_by, unspent};
+use crate::current::{put_in, put_lower, ready_lower, seal_by};
 use crate::fault::HssFault;
 use crate::lower::{Lower, types_of};
-use crate::making::next_lower;
 use crate::opening::current_lower;
 use bec_disk::{Disk, Shelf};
 use hss_chain::public_array;
@@ -65,8 +64,7 @@ pub fn create_hss<H: Shelf, R: Rng>(
     ensures answers { IfErr result (λ why. (why ≡ HssFault.Disk) ⊎ ((why ≡ HssFault.KeyThere) ⊎ (why ≡ HssFault.Memory))) }
     ensures drawn { OnOk result (R.stream random.new ≡ after_draw (R.stream random.old)) }
     ensures may_draw { (R.stream random.new ≡ R.stream random.old) ⊎ (R.stream random.new ≡ after_draw (R.stream random.old)) }
-    ensures holds { IsTrue (H.state shelf.old).tells → IfOk result (λ hss. Holds (H.state shelf.new) hss) }
-    ensures others { IsTrue (H.state shelf.old).tells → OnOk result (KeepsElse dir.now (H.state shelf.old) (H.state shelf.new)) }
+    ensures begins { IfOk result (λ hss. BeginsHss (H.state shelf.old) dir.now hss (H.state shelf.new)) }
     ensures later { H.faults shelf.old ≤ H.faults shelf.new }
     ensures failed { IsErrOf result HssFault.Disk → Rose (H.faults shelf.old) (H.faults shelf.new) }
 {
@@ -81,14 +79,13 @@ pub fn create_hss<H: Shelf, R: Rng>(
 
 /// Opens the key of two levels of a directory, with its current lower key: that of the top index that was used last, where one was and the part
 /// Peers of that directory is not absent. It writes nothing. Where it is refused, every part is in its place again.
+#[tactic(none)]
 pub fn open_hss<H: Shelf>(alloc: Global, shelf: &mut H, dir: &str) -> Result<Hss<H::D>, HssFault>
     requires { IsTrue (H.state shelf.old).tells → AreHome (H.state shelf.old) dir.now }
     ensures opens { IfOk result (λ hss. OpensHss (H.state shelf.old) dir.now hss (H.state shelf.new)) }
     ensures lets_go { IfErr result (λ _. OnlyReads (H.state shelf.old) (H.state shelf.new)) }
     ensures refused { IfErr result (λ why. IsTrue (H.state shelf.old).tells → IsOpeningCause (H.state shelf.old) dir.now why) }
-    ensures holds { IsTrue (H.state shelf.old).tells → IfOk result (λ hss. Holds (H.state shelf.new) hss) }
-    ensures others { IsTrue (H.state shelf.old).tells → OnOk result (KeepsElse dir.now (H.state shelf.old) (H.state shelf.new)) }
-    ensures sound { IfOk result (λ hss. IsSound hss) }
+    ensures begins { IfOk result (λ hss. BeginsHss (H.state shelf.old) dir.now hss (H.state shelf.new)) }
     ensures later { H.faults shelf.old ≤ H.faults shelf.new }
     ensures failed { IsErrOf result HssFault.Disk → Rose (H.faults shelf.old) (H.faults shelf.new) }
 {
@@ -125,6 +122,7 @@ impl<D: Disk> Hss<D> {
 
     /// The seal of a message. The current lower key signs it by its least index that is not used; where there is none or it is spent, the next one
     /// is made first, by the least top index that is not used. An index is on its disk before it signs.
+    #[tactic(none)]
     pub fn sign<H: Shelf<D = D>, R: Rng>(
         &mut self,
         alloc: Global,
@@ -137,55 +135,24 @@ impl<D: Disk> Hss<D> {
         ensures signs { IfOk result (λ seal. Signs (R.stream random.old) (H.state shelf.old) self.old msg.now seal.items self.new (H.state shelf.new) (R.stream random.new)) }
         ensures refused { IfErr result (λ why. RefusesToSign (R.stream random.old) (H.state shelf.old) self.old msg.now why self.new (H.state shelf.new) (R.stream random.new)) }
         ensures sealed { IfOk result (λ seal. SealedBy (public_bytes (public_key self.old.top.secret)) msg.now seal.items) }
-        ensures public { self.new.top.secret ≡ self.old.top.secret }
-        ensures holds { IsTrue (H.state shelf.old).tells → Holds (H.state shelf.new) self.new }
-        ensures others { IsTrue (H.state shelf.old).tells → KeepsElse self.old.dir (H.state shelf.old) (H.state shelf.new) }
-        ensures still_sound { IsSound self.new }
+        ensures keeps { KeepsHss (H.state shelf.old) self.old (H.state shelf.new) self.new }
         ensures later { H.faults shelf.old ≤ H.faults shelf.new }
         ensures failed { IsErrOf result HssFault.Disk → Rose (H.faults shelf.old) (H.faults shelf.new) ⊎ HeldRose self.old self.new }
     {
-        self.ready(alloc, shelf, random)?;
-        let top = self.top.public();
-        match &mut self.lower {
-            Some(lower) => seal_by(alloc, &top, lower, random, msg),
-            None => unreachable!(),
-        }
-    }
-
-    /// Readies a current lower key that has an index left.
-    fn ready<H: Shelf<D = D>, R: Rng>(
-        &mut self,
-        alloc: Global,
-        shelf: &mut H,
-        random: &mut R,
-    ) -> Result<(), HssFault>
-        requires held { IsTrue (H.state shelf.old).tells → Holds (H.state shelf.old) self.old }
-        requires sound { IsSound self.old }
-        ensures readies { OnOk result (Readies (R.stream random.old) (H.state shelf.old) self.old self.new (H.state shelf.new) (R.stream random.new)) }
-        ensures refused { IfErr result (λ why. RefusesToReady (R.stream random.old) (H.state shelf.old) self.old why self.new (H.state shelf.new) (R.stream random.new)) }
-        ensures has_left { OnOk result (IsReady self.new) }
-        ensures still_sound { IsSound self.new }
-        ensures holds { IsTrue (H.state shelf.old).tells → Holds (H.state shelf.new) self.new }
-        ensures others { IsTrue (H.state shelf.old).tells → KeepsElse self.old.dir (H.state shelf.old) (H.state shelf.new) }
-        ensures later { H.faults shelf.old ≤ H.faults shelf.new }
-        ensures failed { IsErrOf result HssFault.Disk → Rose (H.faults shelf.old) (H.faults shelf.new) ⊎ Rose self.old.top.parts.used_faults self.new.top.parts.used_faults }
-    {
-        if let Some(lower) = unspent(shelf, self.lower.take()) {
-            put_in(&mut self.lower, lower);
-            return Ok(());
-        }
-        let lower = next_lower(alloc, shelf, self.dir.as_str(), &mut self.top, random)?;
+        let dir = self.dir.as_str();
+        let mut lower = ready_lower(alloc, shelf, dir, &mut self.top, self.lower.take(), random)?;
+        let sealed = seal_by(alloc, &self.top.public(), &mut lower, random, msg);
         put_in(&mut self.lower, lower);
-        Ok(())
+        sealed
     }
 
     /// Puts all parts back that the key holds. A disk that counted a fault makes the shelf's count rise.
+    #[tactic(none)]
     pub fn close<H: Shelf<D = D>>(self, shelf: &mut H)
         requires held { IsTrue (H.state shelf.old).tells → Holds (H.state shelf.old) self }
         requires sound { IsSound self }
         ensures puts { PutsHss (H.state shelf.old) self (H.state shelf.new) }
-        ensures home { IsTrue (H.state shelf.old).tells → AreHome (H.state shelf.new) self.dir }
-        ensures others { IsTrue (H.state shelf.old).tells → KeepsElse self.dir (H.state shelf.old) (H.state shelf.new) }
+        ensures ends { EndsHss (H.state shelf.old) self.dir (H.state shelf.new) }
         ensures later { H.faults shelf.old ≤ H.faults shelf.new }
         ensures top_faulted { 0 < self.top.parts.used_faults → Rose (H.faults shelf.old) (H.faults shelf.new) }
         ensures lower_faulted { IfSome self.lower (λ lower. 0 < lower.key.parts.used_faults → Rose (H.faults shelf.old) (H.faults shelf.new)) }

@@ -11,6 +11,7 @@ ghost use Rattle.hss_directory.specs.Values.{HasLeft};
 
 use crate::fault::HssFault;
 use crate::lower::{Lower, low_dir, types_of};
+use crate::opening::key_has_length;
 use crate::peers::write_peers;
 use crate::signing::signature_of;
 use bec_disk::Shelf;
@@ -25,6 +26,7 @@ use update_model::AuthorKey;
 
 /// Makes the lower key of the least top index that is not used: its key, which is taken where it is there, then the top key's signature of it, and
 /// then the part Peers. Where it is refused, no part of a lower key is handed out.
+#[tactic(none)]
 pub(crate) fn next_lower<H: Shelf, R: Rng>(
     alloc: Global,
     shelf: &mut H,
@@ -60,6 +62,7 @@ pub(crate) fn next_lower<H: Shelf, R: Rng>(
 }
 
 /// Takes the key of a directory, or makes one of these types where there is none. It has an index left.
+#[tactic(none)]
 fn open_lower<H: Shelf, R: Rng>(
     alloc: Global,
     shelf: &mut H,
@@ -115,6 +118,7 @@ fn take_or_make<H: Shelf, R: Rng>(
 }
 
 /// Signs a lower key by the top key, and then writes both as the part Peers of its directory.
+#[tactic(none)]
 fn vouch<H: Shelf, R: Rng>(
     alloc: Global,
     shelf: &mut H,
@@ -131,6 +135,7 @@ fn vouch<H: Shelf, R: Rng>(
     ensures failed { IsErrOf result HssFault.Disk → Rose (H.faults shelf.old) (H.faults shelf.new) ⊎ Rose top.old.parts.used_faults top.new.parts.used_faults }
 {
     signed_has_length();
+    key_has_length(*low);
     let mut bytes = Vec::new(alloc);
     push_key(&mut bytes, low)?;
     let sig = signature_of(alloc, top, random, &bytes)?;

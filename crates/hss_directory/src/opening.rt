@@ -1,17 +1,16 @@
 //! The current lower key, found at an opening.
 
-ghost use Rattle.std.specs.Prelude.{◌≡◌, ◌≢◌, ◌≤◌, ◌<◌, ◌^◌, ◌⊎◌, ℕ, List, Some, IsTrue, IfOk, IfErr, IsErrOf, MatchOption, string_bytes};
+ghost use Rattle.std.specs.Prelude.{◌≡◌, ◌≢◌, ◌≤◌, ◌<◌, ◌^◌, ◌⊎◌, ℕ, List, IsTrue, IfOk, IfErr, IsErrOf, MatchOption, length, string_bytes};
 ghost use Rattle.bec_bytes.specs.Causes.{Rose};
 ghost use Rattle.bec_disk.specs.declared.part.Part.TheVariants.{Key, Used};
 ghost use Rattle.bec_disk.specs.Shelf.{out};
 ghost use Rattle.lms_tree.specs.SecretKey.{public_key};
-ghost use Rattle.key_index.specs.KeyState.{IsLast};
 ghost use Rattle.key_directory.specs.Keys.{TakesKey};
 ghost use Rattle.key_directory.specs.Parts.{part_in, reading};
+ghost use Rattle.hss_chain.specs.Keys.{key_bytes};
 ghost use Rattle.hss_directory.specs.Faults.{lower_fault};
 ghost use Rattle.hss_directory.specs.Opening.{FindsLower, IsUnfoundCause, IsUnvouchedCause, VouchesFor};
 ghost use Rattle.hss_directory.specs.Places.{AreLowersIn, OnlyReads};
-ghost use Rattle.hss_directory.specs.Values.{low_dir};
 
 use crate::fault::HssFault;
 use crate::lower::{Lower, low_dir};
@@ -21,12 +20,13 @@ use byteorder::{BigEndian, ByteOrder};
 use hss_chain::public_array;
 use key_directory::{KeyRefusal, put_key, take_key};
 use key_index::KeyStore;
-use lms_tree::verify;
+use lms_tree::{signed_has_length, verify};
 use std::alloc::Global;
 use update_model::AuthorKey;
 
 /// The current lower key of this top key, by the part Peers of its directory. Where it is refused, every part is in its place, and nothing was
 /// written.
+#[tactic(none)]
 pub(crate) fn current_lower<H: Shelf>(
     alloc: Global,
     shelf: &mut H,
@@ -36,8 +36,7 @@ pub(crate) fn current_lower<H: Shelf>(
     requires { IsTrue (H.state shelf.old).tells → AreLowersIn (H.state shelf.old) dir.now }
     ensures finds { IfOk result (λ lower. FindsLower dir.now top.now (H.state shelf.old) lower (H.state shelf.new)) }
     ensures only { IfErr result (λ _. OnlyReads (H.state shelf.old) (H.state shelf.new)) }
-    ensures refused { IfErr result (λ why. IsTrue (H.state shelf.old).tells → (index : ℕ) → IsLast top.now (Some index)
-        → IsUnfoundCause (H.state shelf.old) (low_dir dir.now index) (public_key top.now.secret) index why) }
+    ensures refused { IfErr result (λ why. IsTrue (H.state shelf.old).tells → IsUnfoundCause (H.state shelf.old) dir.now top.now why) }
     ensures later { H.faults shelf.old ≤ H.faults shelf.new }
     ensures failed { IsErrOf result HssFault.Disk → Rose (H.faults shelf.old) (H.faults shelf.new) }
 {
@@ -58,6 +57,7 @@ pub(crate) fn current_lower<H: Shelf>(
 }
 
 /// Takes the lower key of a directory, where this payload vouches for it.
+#[tactic(none)]
 fn vouched_lower<H: Shelf>(
     alloc: Global,
     shelf: &mut H,
@@ -125,6 +125,7 @@ fn vouching_in(
 }
 
 /// The top key's signature of this lower key by this index, where the payload has it.
+#[tactic(none)]
 fn top_sig_in<'a>(
     top: &AuthorKey,
     low: &AuthorKey,
@@ -133,14 +134,26 @@ fn top_sig_in<'a>(
 ) -> Option<&'a [u8]>
     ensures { MatchOption result ((sig : List ℕ) → VouchesFor top.now low.now index payload.now sig → ⊥) (λ sig. VouchesFor top.now low.now index payload.now sig.now) }
 {
+    signed_has_length();
+    key_has_length(*low);
     if payload.len() < 60 {
         return None;
     }
     let (sig, key) = payload.split_at(payload.len() - 56);
     let low_bytes = public_array(low);
     let (_levels, low_key) = low_bytes.split_at(4);
-    let is_vouching = key == low_key
-        && BigEndian::read_u32(sig) == index
-        && verify(top, low_key, sig);
-    if is_vouching { Some(sig) } else { None }
+    if key != low_key || BigEndian::read_u32(sig) != index {
+        return None;
+    }
+    if verify(top, low_key, sig) {
+        Some(sig)
+    } else {
+        None
+    }
 }
+
+/// How long the bytes of a key are, by its type.
+#[tactic(auto, unfolding(hss_chain::specs::Keys::key_bytes))]
+pub(crate) fn key_has_length(_key: AuthorKey)
+    ensures { length (key_bytes _key) ≡ 56 }
+{}
