@@ -265,3 +265,13 @@ one_ok (Err e) A C f a = tt
 pub one_err : {T E : Type 0} (r : Result T E) (A C : E → Type 0) → ((x : E) → A x → C x) → IfErr r A → IfErr r C
 one_err (Ok x) A C f a = tt
 one_err (Err e) A C f a = f e a
+
+-- ---- sealing
+
+-- the lower key is the same, whatever came of its sealing
+pub sealing_follows : {T : Type 0} (r : Result T HssFault) (bytes : T → List ℕ) (old new : LowerState) (random left : Stream) (msg : List ℕ) → IfOk r (λ x. SealsBy old random msg (bytes x) new left) → IfErr r (λ why. SealsNone old random msg why new left) → LowerFollows old new
+sealing_follows (Ok x) bytes old new random left msg seals none = seals_follow old new random left msg (bytes x) seals
+sealing_follows (Err why) bytes old new random left msg seals none = unsealed_follow old new random left msg why none
+
+pub hss_same : (dir dir' : List ℕ) (top : KeyState) (lower lower' : Option LowerState) → dir ≡ dir' → lower ≡ lower' → hss_of dir top lower ≡ hss_of dir' top lower'
+hss_same dir dir' top lower lower' d l = ap (λ (x : List ℕ). hss_of x top lower) d ∙ ap (λ (x : Option LowerState). hss_of dir' top x) l

@@ -177,7 +177,7 @@ back_leaves lms ots random left low before mid done after key takes t peers same
     told_done : IsTrue before.tells → IsTrue done.tells
     told_done tells = told mid.tells done.tells t (told_mid tells)
 
-peers_after : (lms : LmsType) (ots : OtsType) (random left : Stream) (low : List ℕ) (before mid : ShelfState) (key : KeyState) → (IsTrue before.tells → AreIn before low) → TakesLower lms ots random before low key mid left
+pub peers_after : (lms : LmsType) (ots : OtsType) (random left : Stream) (low : List ℕ) (before mid : ShelfState) (key : KeyState) → (IsTrue before.tells → AreIn before low) → TakesLower lms ots random before low key mid left
     → IsTrue mid.tells → part_in mid low Peers ≢ out
 peers_after lms ots random left low before mid key are takes tells =
     let before_told = told mid.tells before.tells (sym (lower_tells lms ots random left before mid low key takes)) tells in
@@ -196,7 +196,7 @@ same_leaves mid done low same peers = (
   (λ tells. in_by (part_in mid low Peers) (part_in done low Peers) (ap (λ (s : ShelfState). part_in s low Peers) same) (peers tells), λ tells place off. ap (λ (s : ShelfState). s.parts place) same),
 )
 
-vouch_leaves : (random left : Stream) (why : HssFault) (low : List ℕ) (mid done : ShelfState) (top new : KeyState) (key : AuthorKey) → (IsTrue mid.tells → part_in mid low Peers ≢ out) → VouchesNot random mid low top key why new done left
+pub vouch_leaves : (random left : Stream) (why : HssFault) (low : List ℕ) (mid done : ShelfState) (top new : KeyState) (key : AuthorKey) → (IsTrue mid.tells → part_in mid low Peers ≢ out) → VouchesNot random mid low top key why new done left
     → (done.tells ≡ mid.tells) × ((IsTrue mid.tells → part_in done low Peers ≢ out) × (IsTrue mid.tells → ElseSame low mid done))
 vouch_leaves random left why low mid done top new key peers (unsigned none same) = same_leaves mid done low same peers
 vouch_leaves random left why low mid done top new key peers (unwritten sig signs is (inl same)) = same_leaves mid done low same peers
@@ -270,3 +270,26 @@ refused_secret random left why before after dir top new (top_spent is spent same
 refused_secret random left why before after dir top new (no_memory is same_top same drawn) = ap (λ (k : KeyState). k.secret) same_top
 refused_secret random left why before after dir top new (refuses_key index least opened same_top) = ap (λ (k : KeyState). k.secret) same_top
 refused_secret random left why before after dir top new (no_vouching index key mid done between least takes has_left vouches puts) = vouch_secret between left why (low_dir dir index) mid done top new (public_key key.secret) vouches
+
+-- ---- the same under other names
+
+pub takes_as : (lms lms' : LmsType) (ots ots' : OtsType) (dir dir' : List ℕ) (random left : Stream) (before after : ShelfState) (key : KeyState) → lms ≡ lms' → ots ≡ ots' → dir ≡ dir' → TakesLower lms ots random before dir key after left
+    → TakesLower lms' ots' random before dir' key after left
+takes_as lms lms' ots ots' dir dir' random left before after key a b d takes =
+    subst (λ (x : List ℕ). TakesLower lms' ots' random before x key after left) d
+    (subst (λ (x : OtsType). TakesLower lms' x random before dir key after left) b (subst (λ (x : LmsType). TakesLower x ots random before dir key after left) a takes))
+
+pub opens_as : (lms lms' : LmsType) (ots ots' : OtsType) (dir dir' : List ℕ) (random left : Stream) (before after : ShelfState) (why : HssFault) → lms ≡ lms' → ots ≡ ots' → dir ≡ dir' → OpensNoLower lms ots random before dir why after left
+    → OpensNoLower lms' ots' random before dir' why after left
+opens_as lms lms' ots ots' dir dir' random left before after why a b d opens =
+    subst (λ (x : List ℕ). OpensNoLower lms' ots' random before x why after left) d
+    (subst (λ (x : OtsType). OpensNoLower lms' x random before dir why after left) b (subst (λ (x : LmsType). OpensNoLower x ots random before dir why after left) a opens))
+
+-- what is held of a lower key that was not vouched for
+pub vouch_holds : (random left : Stream) (why : HssFault) (low : List ℕ) (mid done : ShelfState) (top new : KeyState) (key : AuthorKey) (store : KeyState) → VouchesNot random mid low top key why new done left → IsTrue mid.tells
+    → HoldsKey mid low store → HoldsKey done low store
+vouch_holds random left why low mid done top new key store (unsigned none same) tells holds = subst (λ (s : ShelfState). HoldsKey s low store) (sym same) holds
+vouch_holds random left why low mid done top new key store (unwritten sig signs is (inl same)) tells holds = subst (λ (s : ShelfState). HoldsKey s low store) (sym same) holds
+vouch_holds random left why low mid done top new key store (unwritten sig signs is (inr writes)) tells holds =
+    let p = peers_not_key mid done low (writes.others tells) in
+    holds_by mid done low store p.0 p.1 holds

@@ -50,7 +50,6 @@ pub(crate) fn ready_lower<H: Shelf, R: Rng>(
 }
 
 /// The seal of a message by a lower key that this top key signed.
-#[tactic(none)]
 pub(crate) fn seal_by<D: Disk, R: Rng>(
     alloc: Global,
     top: &AuthorKey,

@@ -79,7 +79,6 @@ pub fn create_hss<H: Shelf, R: Rng>(
 
 /// Opens the key of two levels of a directory, with its current lower key: that of the top index that was used last, where one was and the part
 /// Peers of that directory is not absent. It writes nothing. Where it is refused, every part is in its place again.
-#[tactic(none)]
 pub fn open_hss<H: Shelf>(alloc: Global, shelf: &mut H, dir: &str) -> Result<Hss<H::D>, HssFault>
     requires { IsTrue (H.state shelf.old).tells → AreHome (H.state shelf.old) dir.now }
     ensures opens { IfOk result (λ hss. OpensHss (H.state shelf.old) dir.now hss (H.state shelf.new)) }
@@ -122,7 +121,6 @@ impl<D: Disk> Hss<D> {
 
     /// The seal of a message. The current lower key signs it by its least index that is not used; where there is none or it is spent, the next one
     /// is made first, by the least top index that is not used. An index is on its disk before it signs.
-    #[tactic(none)]
     pub fn sign<H: Shelf<D = D>, R: Rng>(
         &mut self,
         alloc: Global,
@@ -147,7 +145,6 @@ impl<D: Disk> Hss<D> {
     }
 
     /// Puts all parts back that the key holds. A disk that counted a fault makes the shelf's count rise.
-    #[tactic(none)]
     pub fn close<H: Shelf<D = D>>(self, shelf: &mut H)
         requires held { IsTrue (H.state shelf.old).tells → Holds (H.state shelf.old) self }
         requires sound { IsSound self }

@@ -5,6 +5,7 @@ ghost use Rattle.bec_bytes.specs.Causes.{Rose};
 ghost use Rattle.bec_disk.specs.declared.part.Part.TheVariants.{Key, Used, Peers};
 ghost use Rattle.bec_disk.specs.Shelf.{out};
 ghost use Rattle.key_directory.specs.Parts.{part_in};
+ghost use Rattle.hss_chain.specs.Keys.{key_bytes};
 ghost use Rattle.hss_directory.specs.Lower.{LetsLowerGo, MakesLower, OpensNoLower, RefusesLower, TakesLower, Vouches, VouchesNot};
 ghost use Rattle.hss_directory.specs.Places.{AreLowersIn};
 ghost use Rattle.hss_directory.specs.Values.{HasLeft};
@@ -26,7 +27,6 @@ use update_model::AuthorKey;
 
 /// Makes the lower key of the least top index that is not used: its key, which is taken where it is there, then the top key's signature of it, and
 /// then the part Peers. Where it is refused, no part of a lower key is handed out.
-#[tactic(none)]
 pub(crate) fn next_lower<H: Shelf, R: Rng>(
     alloc: Global,
     shelf: &mut H,
@@ -62,7 +62,6 @@ pub(crate) fn next_lower<H: Shelf, R: Rng>(
 }
 
 /// Takes the key of a directory, or makes one of these types where there is none. It has an index left.
-#[tactic(none)]
 fn open_lower<H: Shelf, R: Rng>(
     alloc: Global,
     shelf: &mut H,
@@ -118,7 +117,6 @@ fn take_or_make<H: Shelf, R: Rng>(
 }
 
 /// Signs a lower key by the top key, and then writes both as the part Peers of its directory.
-#[tactic(none)]
 fn vouch<H: Shelf, R: Rng>(
     alloc: Global,
     shelf: &mut H,
@@ -136,12 +134,20 @@ fn vouch<H: Shelf, R: Rng>(
 {
     signed_has_length();
     key_has_length(*low);
-    let mut bytes = Vec::new(alloc);
-    push_key(&mut bytes, low)?;
-    let sig = signature_of(alloc, top, random, &bytes)?;
-    let payload = joined(alloc, &sig, &bytes)?;
-    write_peers(shelf, dir, &payload)?;
+    let bytes = bytes_of(alloc, low)?;
+    let sig = signature_of(alloc, top, random, bytes.as_slice())?;
+    let payload = joined(alloc, sig.as_slice(), bytes.as_slice())?;
+    write_peers(shelf, dir, payload.as_slice())?;
     Ok(sig)
+}
+
+/// The bytes of a key, in a vector of their own.
+fn bytes_of(alloc: Global, key: &AuthorKey) -> Result<Vec<u8>, AllocError>
+    ensures { IfOk result (λ bytes. bytes.items ≡ key_bytes key.now) }
+{
+    let mut bytes = Vec::new(alloc);
+    push_key(&mut bytes, key)?;
+    Ok(bytes)
 }
 
 /// These bytes, and then those.

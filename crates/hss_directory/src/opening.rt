@@ -26,7 +26,6 @@ use update_model::AuthorKey;
 
 /// The current lower key of this top key, by the part Peers of its directory. Where it is refused, every part is in its place, and nothing was
 /// written.
-#[tactic(none)]
 pub(crate) fn current_lower<H: Shelf>(
     alloc: Global,
     shelf: &mut H,
@@ -57,7 +56,6 @@ pub(crate) fn current_lower<H: Shelf>(
 }
 
 /// Takes the lower key of a directory, where this payload vouches for it.
-#[tactic(none)]
 fn vouched_lower<H: Shelf>(
     alloc: Global,
     shelf: &mut H,
@@ -125,7 +123,6 @@ fn vouching_in(
 }
 
 /// The top key's signature of this lower key by this index, where the payload has it.
-#[tactic(none)]
 fn top_sig_in<'a>(
     top: &AuthorKey,
     low: &AuthorKey,
@@ -142,7 +139,10 @@ fn top_sig_in<'a>(
     let (sig, key) = payload.split_at(payload.len() - 56);
     let low_bytes = public_array(low);
     let (_levels, low_key) = low_bytes.split_at(4);
-    if key != low_key || BigEndian::read_u32(sig) != index {
+    if key != low_key {
+        return None;
+    }
+    if BigEndian::read_u32(sig) != index {
         return None;
     }
     if verify(top, low_key, sig) {

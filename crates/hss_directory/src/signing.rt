@@ -29,7 +29,7 @@ pub(crate) fn signature_of<D: Disk, R: Rng>(
     let mut sig = vec![in alloc; 0u8; signature_len(&key.public()) as usize]?;
     let mut c = [0; 32];
     random.fill_bytes(&mut c);
-    match key.sign(&c, msg, &mut sig) {
+    match key.sign(&c, msg, sig.as_mut_slice()) {
         Ok(_index) => Ok(sig),
         Err(_why) => Err(HssFault::Disk),
     }

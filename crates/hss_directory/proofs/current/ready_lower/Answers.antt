@@ -44,13 +44,13 @@ pub returns-in-None-clause-keeps : goal.returns-in-None-clause-keeps
 returns-in-None-clause-keeps g c =
     both_ok c.next_lower.result _ _ _
     (λ lower makes small. ready_made (g.R.Rng.stream c.args.random.now) (g.R.Rng.stream c.next_lower.new.random) (g.H.Shelf.state c.args.shelf.now) (g.H.Shelf.state c.next_lower.new.shelf) (hss_of c.args.dir.now c.args.top.now c.args.lower)
-        c.next_lower.new.top lower c.requires.sound c.requires.held small (g.H.Shelf.state c.unspent.new.shelf) c.in-None.ensures.keeps makes)
+    c.next_lower.new.top lower c.requires.sound c.requires.held small (g.H.Shelf.state c.unspent.new.shelf) c.in-None.ensures.keeps makes)
     c.next_lower.ensures.makes c.next_lower.ensures.small
 
 pub returns-in-None-clause-keeps_none : goal.returns-in-None-clause-keeps_none
 returns-in-None-clause-keeps_none g c =
     one_err c.next_lower.result _ _
     (λ why refuses. ready_refused (g.R.Rng.stream c.args.random.now) (g.R.Rng.stream c.next_lower.new.random) why (g.H.Shelf.state c.args.shelf.now) (g.H.Shelf.state c.next_lower.new.shelf) (hss_of c.args.dir.now c.args.top.now c.args.lower)
-        (hss_of c.args.dir.now c.next_lower.new.top None) c.requires.sound c.requires.held
-        (record { mid = g.H.Shelf.state c.unspent.new.shelf; keeps = c.in-None.ensures.keeps; refuses = refuses; now = refl }))
+    (hss_of c.args.dir.now c.next_lower.new.top None) c.requires.sound c.requires.held
+    (record { mid = g.H.Shelf.state c.unspent.new.shelf; keeps = c.in-None.ensures.keeps; refuses = refuses; now = refl }))
     c.next_lower.ensures.refused

@@ -5,7 +5,7 @@ pub returns-in-Ok-clause-signs : goal.returns-in-Ok-clause-signs
 returns-in-Ok-clause-signs g c = record {
   index = c.in-Ok._index;
   reserves = search rules;
-  made = search rules;
-  signed = search rules;
+  made = ?;
+  signed = ?;
   drawn = search rules;
 }
