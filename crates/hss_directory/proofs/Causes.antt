@@ -1,6 +1,7 @@
 -- Why keys are not opened.
 use Rattle.std.proofs.Common.{◌≡◌, ◌⊎◌, inl, inr, ℕ, List, sym, ◌∙◌, ap, subst, IsTrue, Some, None, Option}
-use Rattle.bec_disk.specs.declared.gated.Gated.{Gated}
+use Rattle.bec_disk.specs.declared.disk_error.DiskError.{DiskError}
+use Rattle.bec_disk.specs.declared.disk_error.DiskError.TheVariants as disk
 use Rattle.bec_disk.specs.declared.gated.Gated.TheVariants.{Absent, Damaged, Whole}
 use Rattle.bec_disk.specs.declared.part.Part.TheVariants.{Key, Used, Peers}
 use Rattle.bec_disk.specs.Shelf.{ShelfState}
@@ -93,3 +94,8 @@ pub never_there : (shelf mid : ShelfState) (dir : List ℕ) (kind : CreateKeyKin
 never_there shelf mid dir kind goes none is cause tells =
     subst (λ (k : CreateKeyKind). IsNewKeyCause (reading (part_in mid dir Key)) k) is (cause (told shelf.tells mid.tells goes.tells tells))
     (subst IsNoKey (sym (untouched_reading (part_in shelf dir Key) (part_in mid dir Key) (goes.key_part tells))) (none tells))
+
+-- a part Peers that was not read
+pub unread_cause : (shelf : ShelfState) (dir : List ℕ) (top : KeyState) (error : DiskError) → IsUnfoundCause shelf dir top (from_disk error)
+unread_cause shelf dir top disk.DiskFault = tt
+unread_cause shelf dir top disk.Memory = tt

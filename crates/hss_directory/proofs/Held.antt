@@ -1,7 +1,8 @@
 -- What a two-level key holds and what is known of it, through its calls.
-use Rattle.std.proofs.Common.{◌≡◌, ◌≢◌, ◌⊎◌, inl, inr, ℕ, ◌<◌, ◌^◌, Bool, List, [], ◌∷◌, refl, sym, ◌∙◌, ap, subst, IsTrue, Some, None, Option, Result, Ok, Err}
+use Rattle.std.proofs.Common.{◌≡◌, ◌≢◌, ◌⊎◌, inl, inr, ℕ, ◌<◌, ◌≤◌, ◌^◌, Bool, List, [], ◌∷◌, refl, sym, ◌∙◌, ap, subst, arith, IsTrue, Some, None, Option, Result, Ok, Err}
 use Rattle.std.specs.Prelude.{IfErr, IfOk, IfSome}
 use Rattle.rand_core.specs.Stream.{Stream}
+use Rattle.bec_bytes.specs.Causes.{Rose}
 use Rattle.bec_disk.specs.declared.part.Part.TheVariants.{Key, Used, Peers}
 use Rattle.bec_disk.specs.Disk.{DiskState}
 use Rattle.bec_disk.specs.Shelf.{ShelfState, out}
@@ -275,3 +276,8 @@ sealing_follows (Err why) bytes old new random left msg seals none = unsealed_fo
 
 pub hss_same : (dir dir' : List ℕ) (top : KeyState) (lower lower' : Option LowerState) → dir ≡ dir' → lower ≡ lower' → hss_of dir top lower ≡ hss_of dir' top lower'
 hss_same dir dir' top lower lower' d l = ap (λ (x : List ℕ). hss_of x top lower) d ∙ ap (λ (x : Option LowerState). hss_of dir' top x) l
+
+-- a count that rose has risen later too
+pub rose_later : (lower : Option LowerState) (first mid last : ℕ) → IfSome lower (λ l. 0 < l.key.parts.used_faults → Rose first mid) → mid ≤ last → IfSome lower (λ l. 0 < l.key.parts.used_faults → Rose first last)
+rose_later None first mid last rose later = tt
+rose_later (Some l) first mid last rose later = λ any. omega (arith, rose any, later)
