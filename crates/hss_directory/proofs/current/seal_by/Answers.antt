@@ -9,7 +9,7 @@ use Rattle.hss_chain.specs.Keys.{key_bytes}
 use Rattle.hss_chain.specs.Sealing.{SealedBy, public_bytes, seal_bytes}
 use Rattle.hss_directory.specs.Calls.{SealsBy, SealsNone, unjoined, unsigned}
 use Rattle.hss_directory.specs.Values.{HasLeft, LowerState}
-use Rattle.hss_directory.specs.declared.fault.HssFault.{HssFault}
+use Rattle.hss_directory.specs.declared.fault.HssFault.TheVariants.{Memory}
 use Rattle.hss_directory.proofs.current.seal_by.Goals as goal
 
 pub signature_of-requires : goal.signature_of-requires
@@ -23,10 +23,24 @@ returns-in_err-sig-clause-refused g c =
     rw (p.1, p.2) (subst (λ (l : LowerState). SealsNone l (g.R.Rng.stream c.args.random.now) c.args.msg.now c.in_err-sig.field-0.0 new (g.R.Rng.stream c.signature_of.new.random)) c.lower.view_is (unsigned c.in_err-sig.ensures.signs refl))
 
 pub returns-in_err-seal_bytes-clause-refused : goal.returns-in_err-seal_bytes-clause-refused
-returns-in_err-seal_bytes-clause-refused g c = ?
+returns-in_err-seal_bytes-clause-refused g c =
+    let p = err_from_is_err_and c.from_residual-in_err-seal_bytes.result c.from_residual-in_err-seal_bytes.ensures.1 in
+    let here = c.lower.inside in
+    let new : LowerState = record { dir = string_bytes here.dir; index = here.index; key = c.signature_of.new.key; top_sig = here.top_sig.items } in
+    rw (p.1, p.2) (subst (λ (l : LowerState). SealsNone l (g.R.Rng.stream c.args.random.now) c.args.msg.now Memory new (g.R.Rng.stream c.signature_of.new.random)) c.lower.view_is (unjoined c.in_ok-sig.sig.items c.in_ok-sig.ensures.signs refl refl))
 
 pub returns-clause-seals : goal.returns-clause-seals
-returns-clause-seals g c = ?
+returns-clause-seals g c =
+    let here = c.lower.inside in
+    let sig : List ℕ = c.in_ok-sig.sig.items in
+    let seal : List ℕ = c.in_ok-seal_bytes.field-0.items in
+    let new : LowerState = record { dir = string_bytes here.dir; index = here.index; key = c.signature_of.new.key; top_sig = here.top_sig.items } in
+    let bytes : seal ≡ seal_bytes here.top_sig.items (public_key here.key.secret) sig =
+    c.in_ok-seal_bytes.ensures ∙ ap (λ (s : List ℕ). seal_bytes s c.public-key.result c.deref.result.now) c.as_slice.ensures.value
+    ∙ ap (λ (k : AuthorKey). seal_bytes here.top_sig.items k c.deref.result.now) c.public-key.ensures.value
+    ∙ ap (λ (s : List ℕ). seal_bytes here.top_sig.items (public_key here.key.secret) s) c.deref.ensures.value in
+    subst (λ (l : LowerState). SealsBy l (g.R.Rng.stream c.args.random.now) c.args.msg.now seal new (g.R.Rng.stream c.signature_of.new.random)) c.lower.view_is
+    (record { sig = sig; signs = c.in_ok-sig.ensures.signs; seal_is = bytes; now = refl })
 
 pub returns-clause-sealed : goal.returns-clause-sealed
 returns-clause-sealed g c =

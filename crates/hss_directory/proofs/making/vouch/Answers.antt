@@ -32,10 +32,33 @@ pub write_peers-requires-clause-in_place : goal.write_peers-requires-clause-in_p
 write_peers-requires-clause-in_place g c = c.requires.peers_in
 
 pub write_peers-requires-clause-fits : goal.write_peers-requires-clause-fits
-write_peers-requires-clause-fits g c = ?
+write_peers-requires-clause-fits g c =
+    let sig : List ℕ = c.in_ok-sig.sig.items in
+    let whole : c.as_slice-4.result.now ≡ sig ++ key_bytes c.args.low.now =
+    c.as_slice-4.ensures.value ∙ c.in_ok-payload.ensures ∙ ap (λ (x : List ℕ). x ++ c.as_slice-3.result.now) c.as_slice-2.ensures.value ∙ ap (λ (x : List ℕ). sig ++ x) (c.as_slice-3.ensures.value ∙ c.in_ok-bytes.ensures) in
+    let n = c.signed_has_length.ensures.length (public_key c.args.top.now.secret) c.as_slice.result.now sig c.in_ok-sig.ensures.signs.signed in
+    omega (arith, ap length whole, length-append sig (key_bytes c.args.low.now), n, short_signature (public_key c.args.top.now.secret), c.key_has_length.ensures)
 
 pub returns-in_err-write_peers-clause-refused : goal.returns-in_err-write_peers-clause-refused
-returns-in_err-write_peers-clause-refused g c = ?
+returns-in_err-write_peers-clause-refused g c =
+    let p = err_from_is_err_and c.from_residual-in_err-write_peers.result c.from_residual-in_err-write_peers.ensures.1 in
+    let sig : List ℕ = c.in_ok-sig.sig.items in
+    let whole : c.as_slice-4.result.now ≡ sig ++ key_bytes c.args.low.now =
+    c.as_slice-4.ensures.value ∙ c.in_ok-payload.ensures ∙ ap (λ (x : List ℕ). x ++ c.as_slice-3.result.now) c.as_slice-2.ensures.value ∙ ap (λ (x : List ℕ). sig ++ x) (c.as_slice-3.ensures.value ∙ c.in_ok-bytes.ensures) in
+    let msg_is : c.as_slice.result.now ≡ key_bytes c.args.low.now = c.as_slice.ensures.value ∙ c.in_ok-bytes.ensures in
+    let signs = subst (λ (m : List ℕ). SignsBy c.args.top.now (g.R.Rng.stream c.args.random.now) m sig c.signature_of.new.key (g.R.Rng.stream c.signature_of.new.random)) msg_is c.in_ok-sig.ensures.signs in
+    let writes = subst (λ (x : List ℕ). WritesPeers x (g.H.Shelf.state c.args.shelf.now) c.args.dir.now (g.H.Shelf.state c.write_peers.new.shelf)) whole c.in_err-write_peers.ensures.writes in
+    rw (p.1, p.2) (unwritten sig signs (inl refl) (inr writes))
 
 pub returns-clause-vouches : goal.returns-clause-vouches
-returns-clause-vouches g c = ?
+returns-clause-vouches g c =
+    let sig : List ℕ = c.in_ok-sig.sig.items in
+    let whole : c.as_slice-4.result.now ≡ sig ++ key_bytes c.args.low.now =
+    c.as_slice-4.ensures.value ∙ c.in_ok-payload.ensures ∙ ap (λ (x : List ℕ). x ++ c.as_slice-3.result.now) c.as_slice-2.ensures.value ∙ ap (λ (x : List ℕ). sig ++ x) (c.as_slice-3.ensures.value ∙ c.in_ok-bytes.ensures) in
+    let msg_is : c.as_slice.result.now ≡ key_bytes c.args.low.now = c.as_slice.ensures.value ∙ c.in_ok-bytes.ensures in
+    let signs = subst (λ (m : List ℕ). SignsBy c.args.top.now (g.R.Rng.stream c.args.random.now) m sig c.signature_of.new.key (g.R.Rng.stream c.signature_of.new.random)) msg_is c.in_ok-sig.ensures.signs in
+    record {
+      signs = signs;
+      writes = subst (λ (x : List ℕ). WritesPeers x (g.H.Shelf.state c.args.shelf.now) c.args.dir.now (g.H.Shelf.state c.write_peers.new.shelf)) whole c.in_ok-write_peers.ensures.writes;
+      has = λ tells. subst (λ (x : List ℕ). HasPeers x (g.H.Shelf.state c.write_peers.new.shelf) c.args.dir.now) whole (c.in_ok-write_peers.ensures.written tells);
+    }
