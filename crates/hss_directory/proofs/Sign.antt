@@ -1,6 +1,8 @@
 -- Signing by a key, and how long what is signed is.
 use Rattle.std.proofs.Common.{◌≡◌, ◌≢◌, ℕ, ◌+◌, ◌-◌, ◌<◌, ◌≤◌, ◌^◌, Bool, true, false, List, [], ◌∷◌, ◌++◌, length, take, drop, refl, sym, ◌∙◌, ap, subst, arith, Some, None, Option, Result, Ok, Err, length-append}
-use Rattle.std.specs.Prelude.{IsSome, IsNone, if◌then◌else◌, ◌==◌}
+use Rattle.std.specs.Prelude.{not, if◌then◌else◌, ◌==◌}
+use Rattle.std.specs.Str.{bytes_eq}
+use Rattle.std.proofs.lemmas.Slice.Eq.{bytes_eq-Decides}
 use Rattle.std.proofs.lemmas.Bool.{true≢false}
 use Rattle.std.proofs.Math.Seq.{take-append_seam}
 use Rattle.std.proofs.lemmas.List.{append_cancel_left, take-append-drop}
@@ -38,3 +40,14 @@ same_parts low payload sig front rest long front_is rest_is is =
     let whole : sig ++ rest ≡ sig ++ low =
     ap (λ (l : List ℕ). l ++ rest) (sym first) ∙ ap (λ (l : List ℕ). l ++ rest) front_is ∙ ap (λ (l : List ℕ). take (length payload - 56) payload ++ l) rest_is ∙ take-append-drop (length payload - 56) payload ∙ is in
     (first, append_cancel_left sig rest low whole)
+
+-- what a test of bytes says
+pub told_same : (r : Bool) (a b : List ℕ) → r ≡ not (bytes_eq a b) → r ≡ false → a ≡ b
+told_same r a b is e = (bytes_eq-Decides a b).0 (by (bytes_eq a b) (sym is ∙ e))
+  where
+    by : (x : Bool) → not x ≡ false → x ≡ true
+    by true f = refl
+    by false f = absurd (true≢false f)
+
+pub told_other : (r : Bool) (a b : List ℕ) → r ≡ not (bytes_eq a b) → r ≡ true → a ≢ b
+told_other r a b is e same = true≢false (sym e ∙ is ∙ ap not ((bytes_eq-Decides a b).1 same))

@@ -1,6 +1,8 @@
-use Rattle.std.proofs.Common.{◌≡◌, ◌∙◌, ℕ, List, ◌++◌, length, arith, ap, sym, length-append, rules}
+use Rattle.std.proofs.Common.{◌≡◌, ◌∙◌, ℕ, List, ◌++◌, length, drop, arith, ap, sym, length-append}
+use Rattle.std.proofs.Math.Seq.{drop-append_seam}
+use Rattle.std.specs.Int.{w32, to_be_bytes}
 use Rattle.hss_chain.specs.Keys.{key_bytes}
-use Rattle.hss_directory.proofs.Sign.{same_parts}
+use Rattle.hss_directory.proofs.Sign.{same_parts, told_other, told_same}
 use Rattle.hss_directory.proofs.opening.top_sig_in.Goals as goal
 
 pub returns-then-payload-lt60 : goal.returns-then-payload-lt60
@@ -8,7 +10,11 @@ returns-then-payload-lt60 c sig v =
     absurd (omega (arith, ap length v.payload_is, length-append sig (key_bytes c.args.low.now), c.key_has_length.ensures, c.signed_has_length.ensures.length c.args.top.now (key_bytes c.args.low.now) sig v.signed, c.if-payload-lt60.true))
 
 pub returns-then-ne : goal.returns-then-ne
-returns-then-ne c = ?
+returns-then-ne c sig v =
+    let low : List ℕ = key_bytes c.args.low.now in
+    let low_is : c.split_at-2.result.1.now ≡ low = c.split_at-2.ensures.back ∙ ap (λ (l : List ℕ). drop 4 l) c.public_array-low_bytes.ensures ∙ drop-append_seam (to_be_bytes w32 2) low in
+    let parts = same_parts low c.args.payload.now sig c.split_at.result.0.now c.split_at.result.1.now c.key_has_length.ensures c.split_at.ensures.front c.split_at.ensures.back v.payload_is in
+    told_other c.ne.result c.split_at.result.1.now c.split_at-2.result.1.now c.ne.ensures c.if-ne.true (parts.1 ∙ sym low_is)
 
 pub returns-then-verify : goal.returns-then-verify
 returns-then-verify c = ?
