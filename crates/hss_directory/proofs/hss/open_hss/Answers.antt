@@ -14,7 +14,7 @@ use Rattle.hss_directory.proofs.hss.open_hss.Goals as goal
 pub returns-in_err-name-clause-lets_go : goal.returns-in_err-name-clause-lets_go
 returns-in_err-name-clause-lets_go g c =
     let p = err_from_is_err_and c.from_residual.result c.from_residual.ensures.1 in
-    rw (p.1, p.2) (only_same (g.H.Shelf.state c.args.shelf.now) (g.H.Shelf.state c.args.shelf.now) refl)
+    rw p.1 (only_same (g.H.Shelf.state c.args.shelf.now) (g.H.Shelf.state c.args.shelf.now) refl)
 
 pub returns-in_err-name-clause-refused : goal.returns-in_err-name-clause-refused
 returns-in_err-name-clause-refused g c =
@@ -30,7 +30,7 @@ take_key-requires-clause-used_in g c tells = (c.requires tells).used_in
 pub returns-in_err-top-clause-lets_go : goal.returns-in_err-top-clause-lets_go
 returns-in_err-top-clause-lets_go g c =
     let p = err_from_is_err_and c.from_residual-in_err-top.result c.from_residual-in_err-top.ensures.1 in
-    rw (p.1, p.2) (go_only (g.H.Shelf.state c.args.shelf.now) (g.H.Shelf.state c.take_key.new.shelf) c.args.dir.now c.in_err-top.ensures.lets_go)
+    rw p.1 (go_only (g.H.Shelf.state c.args.shelf.now) (g.H.Shelf.state c.take_key.new.shelf) c.args.dir.now c.in_err-top.ensures.lets_go)
 
 pub returns-in_err-top-clause-refused : goal.returns-in_err-top-clause-refused
 returns-in_err-top-clause-refused g c =
@@ -68,7 +68,7 @@ put_key-requires-clause-used_of g c tells =
     let h = only_holds mid done c.args.dir.now c.in_ok-top.top only t2 (holds_taken before mid c.args.dir.now c.in_ok-top.top takes t1) in (h.used_slot, h.used_out)
 
 pub returns-in-Ok-clause-opens : goal.returns-in-Ok-clause-opens
-returns-in-Ok-clause-opens g c = record { mid = g.H.Shelf.state c.take_key.new.shelf; place = c.in_ok-name.ensures; takes = c.in_ok-top.ensures.takes; finds = c.in-Ok.ensures.finds }
+returns-in-Ok-clause-opens g c = record { mid = g.H.Shelf.state c.take_key.new.shelf; place = c.in_ok-name.ensures.ok; takes = c.in_ok-top.ensures.takes; finds = c.in-Ok.ensures.finds }
 
 pub returns-in-Ok-clause-begins : goal.returns-in-Ok-clause-begins
 returns-in-Ok-clause-begins g c =
@@ -76,7 +76,7 @@ returns-in-Ok-clause-begins g c =
     let after = g.H.Shelf.state c.current_lower.new.shelf in
     let opens : OpensHss before c.args.dir.now (hss_of (string_bytes c.in_ok-name.name) c.in_ok-top.top c.in-Ok.lower) after = record {
       mid = g.H.Shelf.state c.take_key.new.shelf;
-      place = c.in_ok-name.ensures;
+      place = c.in_ok-name.ensures.ok;
       takes = c.in_ok-top.ensures.takes;
       finds = c.in-Ok.ensures.finds;
     } in

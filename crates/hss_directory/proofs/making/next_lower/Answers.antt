@@ -93,7 +93,7 @@ put_key-requires-clause-key_of g c tells =
     let t2 : IsTrue mid.tells = told done.tells mid.tells (sym v.0) tells in
     let t1 : IsTrue before.tells = told mid.tells before.tells (sym (lower_tells top.secret.lms top.secret.ots random between before mid low key takes)) t2 in
     let h = vouch_holds between left why low mid done top new (public_key key.secret) key none t2 (holds_lower top.secret.lms top.secret.ots random between before mid low key takes t1) in
-    subst (λ (d : List ℕ). (key.parts.key.slot ≡ Some (slot d Key)) × (part_in done d Key ≡ out)) (sym (c.as_str-3.ensures.value ∙ c.in_ok-low.ensures)) (h.key_slot, h.key_out)
+    subst (λ (d : List ℕ). (key.parts.key.slot ≡ Some (slot d Key)) × (part_in done d Key ≡ out)) (sym (c.as_str-in-Err.ensures.value ∙ c.in_ok-low.ensures)) (h.key_slot, h.key_out)
 
 pub put_key-requires-clause-used_of : goal.put_key-requires-clause-used_of
 put_key-requires-clause-used_of g c tells =
@@ -120,7 +120,7 @@ put_key-requires-clause-used_of g c tells =
     let t2 : IsTrue mid.tells = told done.tells mid.tells (sym v.0) tells in
     let t1 : IsTrue before.tells = told mid.tells before.tells (sym (lower_tells top.secret.lms top.secret.ots random between before mid low key takes)) t2 in
     let h = vouch_holds between left why low mid done top new (public_key key.secret) key none t2 (holds_lower top.secret.lms top.secret.ots random between before mid low key takes t1) in
-    subst (λ (d : List ℕ). (key.parts.used.slot ≡ Some (slot d Used)) × (part_in done d Used ≡ out)) (sym (c.as_str-3.ensures.value ∙ c.in_ok-low.ensures)) (h.used_slot, h.used_out)
+    subst (λ (d : List ℕ). (key.parts.used.slot ≡ Some (slot d Used)) × (part_in done d Used ≡ out)) (sym (c.as_str-in-Err.ensures.value ∙ c.in_ok-low.ensures)) (h.used_slot, h.used_out)
 
 pub returns-in-Ok-clause-makes : goal.returns-in-Ok-clause-makes
 returns-in-Ok-clause-makes g c =
@@ -163,5 +163,5 @@ returns-in-Err-clause-refused g c =
     let why = c.in-Err.why in
     let none = subst (λ (k : AuthorKey). VouchesNot between mid low top k why new done left) c.public-2.ensures.value
     (subst (λ (d : List ℕ). VouchesNot between mid d top c.public-2.result why new done left) (c.as_str-2.ensures.value ∙ c.in_ok-low.ensures) c.in-Err.ensures.refused) in
-    let puts = subst (λ (d : List ℕ). PutsKey done d key.parts (g.H.Shelf.state c.put_key.new.shelf)) (c.as_str-3.ensures.value ∙ c.in_ok-low.ensures) c.put_key.ensures.puts in
+    let puts = subst (λ (d : List ℕ). PutsKey done d key.parts (g.H.Shelf.state c.put_key.new.shelf)) (c.as_str-in-Err.ensures.value ∙ c.in_ok-low.ensures) c.put_key.ensures.puts in
     no_vouching index key mid done between least takes c.in_ok-key.ensures.has_left none puts

@@ -27,7 +27,7 @@ returns-in_default-clause-finds g c =
 pub returns-in_err-low-clause-only : goal.returns-in_err-low-clause-only
 returns-in_err-low-clause-only g c =
     let p = err_from_is_err_and c.from_residual.result c.from_residual.ensures.1 in
-    rw (p.1, p.2) (only_same (g.H.Shelf.state c.args.shelf.now) (g.H.Shelf.state c.args.shelf.now) refl)
+    rw p.1 (only_same (g.H.Shelf.state c.args.shelf.now) (g.H.Shelf.state c.args.shelf.now) refl)
 
 pub returns-in_err-low-clause-refused : goal.returns-in_err-low-clause-refused
 returns-in_err-low-clause-refused g c =
@@ -46,7 +46,7 @@ read_peers-requires g c tells =
 pub returns-in_err-read_peers-clause-only : goal.returns-in_err-read_peers-clause-only
 returns-in_err-read_peers-clause-only g c =
     let p = err_from_is_err_and c.from_residual-in_err-read_peers.result c.from_residual-in_err-read_peers.ensures.1 in
-    rw (p.1, p.2) (peers_only (g.H.Shelf.state c.args.shelf.now) (g.H.Shelf.state c.read_peers.new.shelf) c.as_str.result.now c.in_err-read_peers.ensures.reads)
+    rw p.1 (peers_only (g.H.Shelf.state c.args.shelf.now) (g.H.Shelf.state c.read_peers.new.shelf) c.as_str.result.now c.in_err-read_peers.ensures.reads)
 
 pub returns-in_err-read_peers-clause-refused : goal.returns-in_err-read_peers-clause-refused
 returns-in_err-read_peers-clause-refused g c =
@@ -126,7 +126,7 @@ returns-in-Ok-clause-finds g c =
     let same_name : c.as_str.result.now ≡ found.dir = c.as_str.ensures.value ∙ sym e.place in
     let payload : List ℕ = c.as_slice.result.now in
     let whole : IsTrue before.tells → peers_in before found.dir ≡ Whole payload =
-    λ tells. sym (subst (λ (x : List ℕ). Whole x ≡ peers_in before found.dir) (sym c.as_slice.ensures.value)
+    λ tells. sym (subst (λ (x : List ℕ). Whole x ≡ peers_in before found.dir) (sym c.as_slice.ensures)
     (subst (λ (d : List ℕ). Whole c.in-Whole.payload ≡ peers_in before d) same_name (subst (λ (x : Gated). x ≡ peers_in before c.as_str.result.now) c.in-Whole.is (c.in_ok-read_peers.ensures.value tells)))) in
     let reads = subst (λ (d : List ℕ). ReadsPeers before d mid) same_name c.in_ok-read_peers.ensures.reads in
     let takes = subst (λ (d : List ℕ). TakesKey mid d found.key (g.H.Shelf.state c.vouched_lower.new.shelf)) (sym e.place) e.takes in
@@ -155,7 +155,7 @@ returns-clause-refused g c tells =
     let why = c.in-Err.why in
     let payload : List ℕ = c.as_slice.result.now in
     let whole : Whole payload ≡ peers_in before low =
-    subst (λ (x : List ℕ). Whole x ≡ peers_in before low) (sym c.as_slice.ensures.value)
+    subst (λ (x : List ℕ). Whole x ≡ peers_in before low) (sym c.as_slice.ensures)
     (subst (λ (d : List ℕ). Whole c.in-Whole.payload ≡ peers_in before d) low_is (subst (λ (x : Gated). x ≡ peers_in before c.as_str.result.now) c.in-Whole.is (c.in_ok-read_peers.ensures.value tells))) in
     let cause = c.in-Err.ensures.refused (told before.tells mid.tells reads.tells tells) in
     let at_low = subst (λ (d : List ℕ). IsUnvouchedCause c.public.result index payload (reading (part_in mid d Key)) (reading (part_in mid d Used)) why) c.in_ok-low.ensures cause in

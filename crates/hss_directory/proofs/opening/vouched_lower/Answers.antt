@@ -40,7 +40,7 @@ put_key-requires-clause-key_of g c tells =
     let name : List ℕ = string_bytes c.args.dir in
     let takes = subst (λ (d : List ℕ). TakesKey before d key mid) c.as_str.ensures.value c.in-Ok.ensures.takes in
     let h = holds_taken before mid name key takes (told mid.tells before.tells (sym takes.tells) tells) in
-    subst (λ (d : List ℕ). (key.parts.key.slot ≡ Some (slot d Key)) × (part_in mid d Key ≡ out)) (sym c.as_str-2.ensures.value) (h.key_slot, h.key_out)
+    subst (λ (d : List ℕ). (key.parts.key.slot ≡ Some (slot d Key)) × (part_in mid d Key ≡ out)) (sym c.as_str-in-Err-vouching_in.ensures.value) (h.key_slot, h.key_out)
 
 pub put_key-requires-clause-used_of : goal.put_key-requires-clause-used_of
 put_key-requires-clause-used_of g c tells =
@@ -50,7 +50,7 @@ put_key-requires-clause-used_of g c tells =
     let name : List ℕ = string_bytes c.args.dir in
     let takes = subst (λ (d : List ℕ). TakesKey before d key mid) c.as_str.ensures.value c.in-Ok.ensures.takes in
     let h = holds_taken before mid name key takes (told mid.tells before.tells (sym takes.tells) tells) in
-    subst (λ (d : List ℕ). (key.parts.used.slot ≡ Some (slot d Used)) × (part_in mid d Used ≡ out)) (sym c.as_str-2.ensures.value) (h.used_slot, h.used_out)
+    subst (λ (d : List ℕ). (key.parts.used.slot ≡ Some (slot d Used)) × (part_in mid d Used ≡ out)) (sym c.as_str-in-Err-vouching_in.ensures.value) (h.used_slot, h.used_out)
 
 pub returns-in-Ok-vouching_in-clause-takes : goal.returns-in-Ok-vouching_in-clause-takes
 returns-in-Ok-vouching_in-clause-takes g c =
@@ -67,7 +67,7 @@ returns-in-Err-vouching_in-clause-only g c =
     let key = c.in-Ok.key in
     let name : List ℕ = string_bytes c.args.dir in
     let takes = subst (λ (d : List ℕ). TakesKey before d key mid) c.as_str.ensures.value c.in-Ok.ensures.takes in
-    let puts = subst (λ (d : List ℕ). PutsKey mid d key.parts (g.H.Shelf.state c.put_key.new.shelf)) c.as_str-2.ensures.value c.put_key.ensures.puts in
+    let puts = subst (λ (d : List ℕ). PutsKey mid d key.parts (g.H.Shelf.state c.put_key.new.shelf)) c.as_str-in-Err-vouching_in.ensures.value c.put_key.ensures.puts in
     taken_back before mid mid (g.H.Shelf.state c.put_key.new.shelf) name key takes (only_same mid mid refl) puts
 
 pub returns-in-Err-vouching_in-clause-refused : goal.returns-in-Err-vouching_in-clause-refused
