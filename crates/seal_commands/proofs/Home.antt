@@ -1,18 +1,24 @@
 -- Where every part was in its place, every part is, once the parts of a two-level key are back.
-use Rattle.std.proofs.Common.{◌≡◌, ◌≢◌, ◌⊎◌, inl, inr, ℕ, ◌<◌, ◌≤◌, List, Some, None, Option, refl, sym, ◌∙◌, subst, arith, IsTrue}
+use Rattle.std.proofs.Common.{◌≡◌, ◌≢◌, ◌⊎◌, inl, inr, ℕ, ◌<◌, ◌≤◌, List, Some, None, Option, Result, Err, refl, sym, ◌∙◌, ap, subst, arith, IsTrue}
 use Rattle.std.specs.Prelude.{IfSome}
 use Rattle.bec_bytes.specs.Causes.{Rose}
 use Rattle.bec_disk.specs.declared.part.Part.TheVariants.{Key, Used, Peers}
 use Rattle.bec_disk.specs.Shelf.{ShelfState, out}
 use Rattle.bec_disk.specs.Slot.{Slot, slot}
 use Rattle.key_directory.specs.Parts.{IsHome, LetsNewGo}
-use Rattle.hss_directory.specs.Calls.{HeldRose, LowerRose}
+use Rattle.rand_core.specs.Stream.{Stream}
+use Rattle.key_directory.proofs.Putting.{told}
+use Rattle.hss_directory.specs.Calls.{BeginsHss, EndsHss, HeldRose, KeepsHss, LowerRose}
 use Rattle.hss_directory.specs.declared.fault.HssFault.{HssFault}
 use Rattle.hss_directory.specs.declared.fault.HssFault.TheVariants as faults
-use Rattle.hss_directory.specs.Places.{AreHome, AreIn, IsElsewhere, KeepsElse, OnlyReads}
-use Rattle.hss_directory.specs.Values.{HssState, LowerState, low_dir}
-use Rattle.seal_commands.specs.Sealing.{refusal_of}
-use Rattle.seal_commands.specs.declared.refusal.SealRefusal.TheVariants.{Store}
+use Rattle.hss_directory.specs.Places.{AreHome, Holds, IsElsewhere, KeepsElse, OnlyReads}
+use Rattle.hss_directory.specs.Values.{HssState, IsSound, LowerState, low_dir}
+use Rattle.hss_directory.proofs.Places.{keeps_both}
+use Rattle.seal_commands.specs.Inputs.{IsInputFault, IsLongText}
+use Rattle.seal_commands.specs.Sealing.{SealsInput, refusal_of, too_long, unread}
+use Rattle.seal_commands.specs.declared.reading.TheConstants.{INPUT_LIMIT}
+use Rattle.seal_commands.specs.declared.refusal.SealRefusal.{SealRefusal}
+use Rattle.seal_commands.specs.declared.refusal.SealRefusal.TheVariants.{InputTooLong, Store}
 use Rattle.hss_directory.proofs.Keys.{untouched_in}
 
 -- no part of a two-level key is handed out of such a shelf
@@ -66,3 +72,37 @@ held_rose old new first mid last (inr (inr rose)) later before top lower = by ne
     by : (l : Option LowerState) → LowerRose l → IfSome l (λ l. 0 < l.key.parts.used_faults → Rose mid last) → Rose first last
     by None rose lower = absurd rose
     by (Some l) rose lower = omega (arith, lower (omega (arith, rose.1)), before)
+
+pub err_same : {T : Type 0} (a b : SealRefusal) → ◌≡◌ {A = Result T SealRefusal} (Err a) (Err b) → a ≡ b
+err_same a b is = cc
+
+-- a key is where it was while nothing is done
+pub keeps_still : (shelf : ShelfState) (hss : HssState) → IsSound hss → (IsTrue shelf.tells → Holds shelf hss) → KeepsHss shelf hss shelf hss
+keeps_still shelf hss sound holds = record { tells = refl; place = refl; secret = refl; sound = sound; holds = holds; others = λ tells place off. refl }
+
+-- an input that was not read
+pub unread_input : (hss : HssState) (shelf : ShelfState) (random : Stream) (left later : Option (List ℕ)) (old new : ℕ) (why : SealRefusal)
+    → ((why ≡ InputTooLong) × IsLongText INPUT_LIMIT left later) ⊎ IsInputFault old new why → SealsInput hss shelf random left later old new (Err why) hss shelf
+unread_input hss shelf random left later old new why (inl long) = too_long long.1 (ap (λ (w : SealRefusal). Err w) long.0) refl refl
+unread_input hss shelf random left later old new why (inr fault) = unread why fault refl refl refl
+
+pub never_store : (left later : Option (List ℕ)) (old new : ℕ) (why : SealRefusal) → ((why ≡ InputTooLong) × IsLongText INPUT_LIMIT left later) ⊎ IsInputFault old new why → why ≡ Store → ⊥
+never_store left later old new why (inl long) is = absurd cc
+never_store left later old new why (inr (inl memory)) is = absurd cc
+never_store left later old new why (inr (inr stream)) is = absurd cc
+
+-- where all is in its place in the end
+pub home_after_all : (before mid done after : ShelfState) (dir : List ℕ) (hss signed : HssState) → BeginsHss before dir hss mid → KeepsHss mid hss done signed → EndsHss done signed.dir after → IsTrue before.tells → IsHome before → IsHome after
+home_after_all before mid done after dir hss signed begins keeps ends tells home =
+    let t1 : IsTrue mid.tells = told before.tells mid.tells begins.tells tells in
+    let t2 : IsTrue done.tells = told mid.tells done.tells keeps.tells t1 in
+    let same : signed.dir ≡ dir = keeps.place ∙ begins.place in
+    let first = keeps_both dir before mid done (begins.others tells) (subst (λ (d : List ℕ). KeepsElse d mid done) begins.place (keeps.others t1)) in
+    let all = keeps_both dir before done after first (subst (λ (d : List ℕ). KeepsElse d done after) same (ends.others t2)) in
+    home_else before after dir home all (subst (λ (d : List ℕ). AreHome after d) same (ends.home t2))
+
+pub home_after_close : (before mid after : ShelfState) (dir : List ℕ) (hss : HssState) → BeginsHss before dir hss mid → EndsHss mid hss.dir after → IsTrue before.tells → IsHome before → IsHome after
+home_after_close before mid after dir hss begins ends tells home =
+    let t1 : IsTrue mid.tells = told before.tells mid.tells begins.tells tells in
+    let all = keeps_both dir before mid after (begins.others tells) (subst (λ (d : List ℕ). KeepsElse d mid after) begins.place (ends.others t1)) in
+    home_else before after dir home all (subst (λ (d : List ℕ). AreHome after d) begins.place (ends.home t1))

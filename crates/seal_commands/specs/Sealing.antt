@@ -50,7 +50,7 @@ pub data HsskeyRun (lms : LmsType) (ots : OtsType) (random : Stream) (dir : List
   undrawn : (why : HssFault) → (IsTrue before.tells → why ≡ faults.KeyThere → IsNoKey (reading (part_in before dir Key)) → ⊥) → outcome ≡ Err (refusal_of why (leaf_count lms))
       → (after ≡ before) ⊎ LetsNewGo Key Used (payload_of (drawn_key lms ots random)) (none_used (leaf_count lms)) before dir after → HsskeyRun lms ots random dir before after outcome
   drawn : (hss : HssState) (mid : ShelfState) → CreatesHss (drawn_key lms ots random) before dir hss mid → PutsHss mid hss after
-      → Prints outcome (hss_key_text (drawn_key lms ots random)) ⊎ (outcome ≡ Err Memory) → HsskeyRun lms ots random dir before after outcome
+      → Prints outcome (hss_key_text hss.top.secret) ⊎ (outcome ≡ Err Memory) → HsskeyRun lms ots random dir before after outcome
 
 -- The input was sealed by an open key, or it was not.
 pub data SealsInput (hss : HssState) (before : ShelfState) (random : Stream) (left later : Option (List ℕ)) (old new : ℕ) (outcome : OutcomeOf SealRefusal) (signed : HssState) (after : ShelfState) : Type 0 where

@@ -3,8 +3,8 @@
 ghost use Rattle.std.specs.Prelude.{◌≡◌, ◌≤◌, ◌⊎◌, IsErrOf, IsTrue};
 ghost use Rattle.bec_bytes.specs.Causes.{Rose};
 ghost use Rattle.key_directory.specs.Parts.{IsHome};
-ghost use Rattle.hss_directory.specs.Calls.{HeldRose};
-ghost use Rattle.hss_directory.specs.Places.{Holds, KeepsElse};
+ghost use Rattle.hss_directory.specs.Calls.{HeldRose, KeepsHss};
+ghost use Rattle.hss_directory.specs.Places.{Holds};
 ghost use Rattle.hss_directory.specs.Values.{IsSound};
 ghost use Rattle.seal_commands.specs.Sealing.{HsskeyRun, SealRun, SealsInput};
 
@@ -75,11 +75,7 @@ fn seal_input<H: Shelf, R: Rng, S: Source>(
     requires held { IsTrue (H.state shelf.old).tells → Holds (H.state shelf.old) hss.old }
     requires sound { IsSound hss.old }
     ensures seals { SealsInput hss.old (H.state shelf.old) (R.stream random.old) (S.left input.old) (S.left input.new) (S.faults input.old) (S.faults input.new) result hss.new (H.state shelf.new) }
-    ensures holds { IsTrue (H.state shelf.old).tells → Holds (H.state shelf.new) hss.new }
-    ensures still_sound { IsSound hss.new }
-    ensures dir { hss.new.dir ≡ hss.old.dir }
-    ensures tells { (H.state shelf.new).tells ≡ (H.state shelf.old).tells }
-    ensures others { IsTrue (H.state shelf.old).tells → KeepsElse hss.old.dir (H.state shelf.old) (H.state shelf.new) }
+    ensures keeps { KeepsHss (H.state shelf.old) hss.old (H.state shelf.new) hss.new }
     ensures later { H.faults shelf.old ≤ H.faults shelf.new }
     ensures failed { IsErrOf result SealRefusal.Store → Rose (H.faults shelf.old) (H.faults shelf.new) ⊎ HeldRose hss.old hss.new }
 {

@@ -1,4 +1,4 @@
-use Rattle.std.proofs.Common.{◌≡◌, ◌≢◌, ◌∙◌, ℕ, List, inl, inr, refl, sym, ap, subst, IsTrue, Some, Option, rules}
+use Rattle.std.proofs.Common.{◌≡◌, ◌≢◌, ◌∙◌, arith, ℕ, List, inl, inr, refl, sym, ap, subst, IsTrue, Some, Option, rules}
 use Rattle.std.specs.Prelude.{is_some, string_bytes}
 use Rattle.std.proofs.lemmas.Result.{err_from_is_err_and}
 use Rattle.update_model.specs.declared.author_key.AuthorKey.{AuthorKey}
@@ -165,3 +165,10 @@ returns-in-Err-clause-refused g c =
     (subst (λ (d : List ℕ). VouchesNot between mid d top c.public-2.result why new done left) (c.as_str-2.ensures.value ∙ c.in_ok-low.ensures) c.in-Err.ensures.refused) in
     let puts = subst (λ (d : List ℕ). PutsKey done d key.parts (g.H.Shelf.state c.put_key.new.shelf)) (c.as_str-in-Err.ensures.value ∙ c.in_ok-low.ensures) c.put_key.ensures.puts in
     no_vouching index key mid done between least takes c.in_ok-key.ensures.has_left none puts
+
+pub returns-in-Err-clause-failed : goal.returns-in-Err-clause-failed
+returns-in-Err-clause-failed g c is =
+    elim (c.in-Err.ensures.failed is) [
+      | inl rose ↦ inl (omega (arith, rose, c.in_ok-key.ensures.later, c.put_key.ensures.later))
+      | inr rose ↦ inr rose
+    ]

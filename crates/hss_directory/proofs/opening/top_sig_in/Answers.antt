@@ -3,7 +3,7 @@ use Rattle.std.proofs.Math.Seq.{drop-append_seam}
 use Rattle.std.specs.Int.{w32, to_be_bytes}
 use Rattle.std.proofs.lemmas.Bool.{true≢false}
 use Rattle.lms_tree.specs.Signature.{Signed}
-use Rattle.lms_tree.proofs.SignatureLaws.{read_word}
+use Rattle.hss_chain.proofs.KeyLaws.{read_word}
 use Rattle.hss_chain.specs.Keys.{key_bytes}
 use Rattle.hss_directory.proofs.Sign.{same_parts, told_other, told_same}
 use Rattle.hss_directory.proofs.opening.top_sig_in.Goals as goal
