@@ -1,5 +1,5 @@
 -- Why keys are not opened.
-use Rattle.std.proofs.Common.{◌≡◌, ◌⊎◌, inl, inr, ℕ, List, sym, ◌∙◌, ap, subst, IsTrue, Some, None, Option}
+use Rattle.std.proofs.Common.{◌≡◌, ◌⊎◌, inl, inr, ℕ, List, sym, ◌∙◌, ap, subst, IsTrue, Some, None, Option, Result, Err}
 use Rattle.bec_disk.specs.declared.disk_error.DiskError.{DiskError}
 use Rattle.bec_disk.specs.declared.disk_error.DiskError.TheVariants as disk
 use Rattle.bec_disk.specs.declared.gated.Gated.TheVariants.{Absent, Damaged, Whole}
@@ -99,3 +99,6 @@ never_there shelf mid dir kind goes none is cause tells =
 pub unread_cause : (shelf : ShelfState) (dir : List ℕ) (top : KeyState) (error : DiskError) → IsUnfoundCause shelf dir top (from_disk error)
 unread_cause shelf dir top disk.DiskFault = tt
 unread_cause shelf dir top disk.Memory = tt
+
+pub err_same : {T : Type 0} (a b : HssFault) → ◌≡◌ {A = Result T HssFault} (Err a) (Err b) → a ≡ b
+err_same a b is = cc

@@ -1,4 +1,4 @@
-use Rattle.std.proofs.Common.{◌≡◌, ◌≢◌, ◌∙◌, arith, ℕ, List, inl, inr, refl, sym, ap, subst, IsTrue, Some, Option, rules}
+use Rattle.std.proofs.Common.{◌≡◌, ◌≢◌, ◌∙◌, arith, ℕ, List, inl, inr, refl, sym, ap, subst, IsTrue, Err, Some, Option, rules}
 use Rattle.std.specs.Prelude.{is_some, string_bytes}
 use Rattle.std.proofs.lemmas.Result.{err_from_is_err_and}
 use Rattle.update_model.specs.declared.author_key.AuthorKey.{AuthorKey}
@@ -12,6 +12,8 @@ use Rattle.key_directory.specs.Parts.{part_in}
 use Rattle.key_directory.proofs.Putting.{told}
 use Rattle.hss_directory.specs.Lower.{TakesLower, Vouches, VouchesNot, no_memory, no_vouching, refuses_key, top_spent}
 use Rattle.hss_directory.specs.Values.{IsSpent, low_dir}
+use Rattle.hss_directory.specs.declared.fault.HssFault.{HssFault}
+use Rattle.hss_directory.proofs.Causes.{err_same}
 use Rattle.hss_directory.proofs.Keys.{holds_lower, lower_tells}
 use Rattle.hss_directory.proofs.Lowers.{opens_as, peers_after, takes_as, vouch_holds, vouch_leaves}
 use Rattle.hss_directory.proofs.making.next_lower.Goals as goal
@@ -168,7 +170,7 @@ returns-in-Err-clause-refused g c =
 
 pub returns-in-Err-clause-failed : goal.returns-in-Err-clause-failed
 returns-in-Err-clause-failed g c is =
-    elim (c.in-Err.ensures.failed is) [
+    elim (c.in-Err.ensures.failed (ap (λ (w : HssFault). Err w) (err_same _ _ is))) [
       | inl rose ↦ inl (omega (arith, rose, c.in_ok-key.ensures.later, c.put_key.ensures.later))
       | inr rose ↦ inr rose
     ]

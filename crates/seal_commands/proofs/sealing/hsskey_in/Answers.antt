@@ -1,5 +1,6 @@
-use Rattle.std.proofs.Common.{◌≡◌, ◌∙◌, ℕ, inl, inr, sym, refl, ap, IsTrue, Err}
+use Rattle.std.proofs.Common.{◌≡◌, ◌∙◌, ◌++◌, ◌∷◌, [], ℕ, List, inl, inr, sym, refl, ap, IsTrue, Err}
 use Rattle.std.proofs.lemmas.Result.{err_from_is_err_and}
+use Rattle.hex.specs.Hex.{encode_lower}
 use Rattle.key_directory.proofs.Putting.{told}
 use Rattle.hss_directory.specs.declared.fault.HssFault.{HssFault}
 use Rattle.seal_commands.specs.Sealing.{drawn, refusal_of, undrawn}
@@ -40,7 +41,9 @@ returns-in_err-hex_line-clause-home g c tells =
     home_after_close (g.H.Shelf.state c.args.shelf.now) (g.H.Shelf.state c.create_hss.new.shelf) (g.H.Shelf.state c.close.new.shelf) c.args.dir.now c.in-Ok.hss c.in-Ok.ensures.begins c.close.ensures.ends tells (c.requires tells)
 
 pub returns-clause-comes : goal.returns-clause-comes
-returns-clause-comes g c = ?
+returns-clause-comes g c =
+    drawn c.in-Ok.hss (g.H.Shelf.state c.create_hss.new.shelf) c.in-Ok.ensures.creates c.close.ensures.puts
+    (inl (c.in_ok-hex_line.ensures ∙ ap (λ (b : List ℕ). encode_lower b ++ 10 ∷ []) c.public-public.ensures))
 
 pub returns-clause-home : goal.returns-clause-home
 returns-clause-home g c tells =
