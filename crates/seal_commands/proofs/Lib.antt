@@ -1,2 +1,1 @@
-pub mod Home
 pub mod WholeInput
