@@ -3,9 +3,9 @@
 _bec() {
     local word=${COMP_WORDS[COMP_CWORD]} command=${COMP_WORDS[1]} offered=''
     if [ "$COMP_CWORD" -eq 1 ]; then
-        offered="init keygen apply join dump query heads export draw log show who diff status schema csv page merge sync serve check help --help --version"
+        offered="init keygen apply join set dump query heads export draw log show who diff status schema key csv page import clone merge sync serve check unseal audit confirm help --help --version"
     elif [ "$command" = help ]; then
-        offered="init keygen apply join dump query heads export draw log show who diff status schema csv page merge sync serve check status"
+        offered="init keygen apply join set dump query heads export draw log show who diff status schema key csv page import clone merge sync serve check unseal audit confirm status"
     else
         case $command,${COMP_WORDS[COMP_CWORD - 1]} in
         keygen,--height) offered="5 10 15" ;;
@@ -15,7 +15,11 @@ _bec() {
         query,*) [[ $word == -* ]] && offered="--json" ;;
         export,*) [[ $word == -* ]] && offered="--updates" ;;
         draw,*) [[ $word == -* ]] && offered="--dot" ;;
-        log,*) [[ $word == -* ]] && offered="--rows --full" ;;
+        log,*) [[ $word == -* ]] && offered="--rows --full --json" ;;
+        show,*) [[ $word == -* ]] && offered="--full" ;;
+        who,*) [[ $word == -* ]] && offered="--full" ;;
+        diff,*) [[ $word == -* ]] && offered="--full" ;;
+        status,*) [[ $word == -* ]] && offered="--json" ;;
         serve,--sessions) offered="1 2 3 4 5 6 7 8" ;;
         serve,*) [[ $word == -* ]] && offered="--sessions" ;;
         esac

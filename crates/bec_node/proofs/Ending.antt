@@ -1,5 +1,5 @@
 -- How a run ends.
-use Rattle.std.proofs.Common.{◌≡◌, inl, inr, ℕ, List, [], append-nil, codes, refl, sym, subst, map, Option, Some, None, Ok, Err, String}
+use Rattle.std.proofs.Common.{◌≡◌, inl, inr, ℕ, List, [], codes, refl, sym, subst, map, Option, Some, None, Ok, Err, String}
 use Rattle.std.specs.declared.alloc.Global.{Global}
 use Rattle.std.specs.String.{string_bytes}
 use Rattle.std.specs.Io.KnownBytes.{Appends}
@@ -23,6 +23,7 @@ use Rattle.node_commands.specs.Shows.{ShowsHeads, ShowsRecords, ShowsTables}
 use Rattle.node_commands.specs.Creating.{DrawsKeyOnly, Inits}
 use Rattle.node_commands.proofs.NewKeys.{key_without_memory}
 use Rattle.node_commands.proofs.NewStores.{init_without_memory}
+use Rattle.node_commands.proofs.Merging.{merge_without_memory}
 use Rattle.outcomes.proofs.Reading.{read_without_memory}
 use Rattle.node_commands.specs.Merging.{Merges}
 use Rattle.node_commands.specs.Signing.{Applies, ApplyAnswer, IsNoStop, JoinAnswer, JoinsHeads}
@@ -45,16 +46,7 @@ module _ {S H R : Type 0} (before after : Outside S H R) where
   merge_lacks : (first second : List ℕ) (outcome : Outcome) → MayLackMemory outcome → Merges first second before after outcome → Merges first second before after (Err Memory)
   merge_lacks first second (Ok text) lacks comes = absurd lacks
   merge_lacks first second (Err refusal) lacks comes = record {
-    stores = record {
-      added = comes.stores.added;
-      added_other = comes.stores.added_other;
-      comes = inr (inl refl);
-      run = comes.stores.run;
-      run_other = comes.stores.run_other;
-      within = comes.stores.within;
-      others = comes.stores.others;
-      home = comes.stores.home;
-    };
+    stores = merge_without_memory first second before.store after.store before.shelf_faults after.shelf_faults refusal comes.stores;
     source = comes.source;
     random = comes.random;
   }

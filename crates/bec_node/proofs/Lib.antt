@@ -1,3 +1,5 @@
+pub mod Answered
 pub mod Asking
 pub mod Ending
 pub mod Only
+pub mod Unsealing

@@ -6,28 +6,25 @@ use Rattle.command_words.specs.Requests.{RequestText, heads, check, dump, init, 
 use Rattle.bec_disk.specs.declared.part.Part.TheVariants.{Schema, Updates, Key, Used}
 use Rattle.schema_verdict.specs.declared.status.TheConstants.{OUT_OF_MEMORY}
 use Rattle.node_commands.specs.Bundle.{DumpAnswer}
-use Rattle.store_directory.specs.Stores.{StoreData}
-use Rattle.outcomes.specs.Comes.{IsShelfFault, ReadsStoreOnly, RunsStore, readings, IsSourceFault}
+use Rattle.outcomes.specs.Comes.{IsShelfFault, RunsStore, readings, IsSourceFault}
 use Rattle.node_commands.specs.Creating.{DrawsKeyOnly, InitAnswer, IsInitFault, KeygenAnswer}
 use Rattle.node_commands.specs.Heads.{HeadsAnswer}
 use Rattle.node_commands.specs.Verdict.{CheckAnswer}
 use Rattle.node_commands.specs.Merging.{IsSureOfMerge, MayMerge, MergeAnswer, Merges}
 use Rattle.outcomes.specs.Remembering.{memory_in}
-use Rattle.outcomes.specs.Outcome.{ComesTo, Outcome, status_of}
+use Rattle.outcomes.specs.Outcome.{Outcome, status_of}
 use Rattle.outcomes.specs.Outside.{Outside}
 use Rattle.bec_node.specs.RunAlone.{AnswersOnly, Comes, SignOnly}
-use Rattle.outcomes.specs.Only.{EachAs, ShelfOnly, SourceOnly}
+use Rattle.outcomes.specs.Only.{EachAs}
 use Rattle.node_commands.specs.Signing.{ApplyAnswer, IsNoStop, IsSureOfApply, JoinAnswer, JoinsHeads, StoreAnswer}
 use Rattle.node_commands.specs.Asking.{QueryAnswer}
 use Rattle.outcomes.specs.StoreAnswers.{Readings, Printing, ReadsStore}
 use Rattle.node_commands.specs.Shows.{ShowsHeads, ShowsRecords, ShowsTables}
-use Rattle.outcomes.proofs.Same.{IsOneAnswer}
 use Rattle.node_commands.proofs.Answer.{OneAnswer}
 use Rattle.node_commands.proofs.MakersOnce.{OneOfMakers, used_or_not}
 use Rattle.node_commands.proofs.MergeOnce.{OneOfMerge}
-use Rattle.outcomes.proofs.StoreOnce.{IsOneOfParts}
 use Rattle.node_commands.proofs.PartsOnce.{OneOfParts}
-use Rattle.outcomes.proofs.Only.{IsSaidAs, IsFaultStatus, each_fault, each_said, source_fault, source_said, shelf_fault, fault_status, shelf_said, told_now, told_only, read_only, source_only}
+use Rattle.outcomes.proofs.Only.{IsSaidAs, IsFaultStatus, each_fault, source_fault, shelf_fault, fault_status, shelf_said, told_now, told_only, read_only, source_only}
 
 -- ---- a request
 

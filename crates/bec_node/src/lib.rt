@@ -2,20 +2,23 @@
 //! words, a source and a sink, and answers an exit status.
 //!
 //! The program itself makes the real objects and calls [`run`]; tests call it over objects in memory. What each command does is
-//! told by the crates below: `node_commands` has those that need no net, and `net_commands` the two that do:
+//! told by the crates below, one for each family: `node_commands` has those that need no net, `seal_commands` those over seals,
+//! `audit_commands` those that audit keys, and `net_commands` the two that use a net:
 //!
 //! ```text
 //! bec sync DIR ADDR                  reconciles the store of a directory with the one that is served at an address
 //! bec serve DIR ADDR --sessions N    waits at an address, and reconciles the store of a directory over N sessions
 //! ```
 //!
-//! Only these two wait for others, use the net and start threads. [`run_alone`] does what words ask for without a net, and each
-//! command that needs none has a function of its own, for a caller that knows the first word.
+//! Only these two wait for others, use the net and start threads. [`run_alone`] does what words ask for of `node_commands`, and
+//! each command there has a function of its own, for a caller that knows the first word.
 #![tactic(auto)]
 
 mod alone;
 mod commands;
+mod families;
 mod program;
+mod seals;
 
 pub use alone::run_alone;
 pub use commands::{

@@ -10,7 +10,7 @@ ghost use Rattle.key_index.specs.Reserving.{Reserves};
 use crate::indices::Indices;
 use crate::opened::Opened;
 use crate::reserve::Reserve;
-use bec_disk::{Disk, write_synced};
+use bec_disk::{Disk, MemDisk, write_synced};
 use lms_tree::Secret;
 use std::marker::Model;
 use update_model::AuthorKey;
@@ -132,5 +132,20 @@ impl<D: Disk> KeyStore<D> {
         let index = self.reserve()?;
         self.secret.sign_at(index, c, msg, out);
         Ok(index)
+    }
+}
+
+impl KeyStore<MemDisk> {
+    /// Lets each of both disks pass so many calls more and then fail every call.
+    pub fn arm(&mut self, calls: u32)
+        ensures { self.new ≡ self.old }
+    {
+        self.key.arm(calls);
+        self.used.arm(calls);
+    }
+
+    /// Whether a call of one of the disks failed for want of memory.
+    pub fn starved(&self) -> bool {
+        self.key.starved() || self.used.starved()
     }
 }

@@ -13,6 +13,7 @@ use Rattle.outcomes.specs.declared.refusal.Refusal.{Refusal}
 use Rattle.outcomes.specs.declared.refusal.Refusal.TheVariants as refusals
 use Rattle.schema_verdict.specs.declared.status.TheConstants.{DONE, STORE_FAULT, STREAM_FAULT}
 use Rattle.outcomes.specs.declared.reply.Reply.{Reply}
+use Rattle.net_commands.specs.Meetings.{not_kept, kept as kept_as}
 use Rattle.net_commands.specs.Open.{AreKept, Concludes, IsKeepFault, Keeps}
 use Rattle.net_commands.specs.Words.{status_by, sync_text}
 
@@ -48,35 +49,35 @@ stream_by endings.Memory is = absurd (cc (is))
 module _ (dir : List ℕ) (before after : ShelfState) (faults faults_new : ℕ) (old now : ReplicaState) (peers : List PeerEntry) (name : List ℕ) (served : Served) {T : Type 0} where
   -- it was not kept
   pub concludes_not : (refusal : Refusal) (result : Result T Refusal) → result ≡ Err refusal → Keeps dir before after faults faults_new old now peers name served result → Concludes dir before after faults faults_new old now peers name served (Err refusal)
-  concludes_not refusal result is kept = by (subst (λ (r : Result T Refusal). IfErr r (IsKeepFault faults faults_new now)) is kept.failed)
+  concludes_not refusal result is kept = by (subst (λ (r : Result T Refusal). IfErr r (IsKeepFault faults faults_new now served)) is kept.failed)
     where
       with_memory : Concludes dir before after faults faults_new old now peers name served (Err refusals.Memory)
       with_memory = record {
         grows = kept.grows;
         clean = λ is. absurd (true≢false (sym is));
         keeps = kept.keeps;
-        comes = inr (inl refl);
+        comes = inr refl;
         later = kept.later;
         log_later = kept.log_later;
         store_fault = λ is. absurd (cc (is));
         stream_fault = λ is. absurd (cc (is));
       }
 
-      with_fault : (Rose faults faults_new ⊎ (0 < now.log.faults)) → Concludes dir before after faults faults_new old now peers name served (Err refusals.StoreFault)
-      with_fault rose = record {
+      with_fault : served.ending ≡ endings.Done → (Rose faults faults_new ⊎ (0 < now.log.faults)) → Concludes dir before after faults faults_new old now peers name served (Err refusals.StoreFault)
+      with_fault done rose = record {
         grows = kept.grows;
         clean = λ is. absurd (true≢false (sym is));
         keeps = kept.keeps;
-        comes = inr (inr (inl refl));
+        comes = inl (not_kept done refl);
         later = kept.later;
         log_later = kept.log_later;
         store_fault = λ is. inr rose;
         stream_fault = λ is. absurd (cc (is));
       }
 
-      by : IsKeepFault faults faults_new now refusal → Concludes dir before after faults faults_new old now peers name served (Err refusal)
+      by : IsKeepFault faults faults_new now served refusal → Concludes dir before after faults faults_new old now peers name served (Err refusal)
       by (inl memory) = subst (λ (r : Refusal). Concludes dir before after faults faults_new old now peers name served (Err r)) (sym memory) with_memory
-      by (inr (fault, rose)) = subst (λ (r : Refusal). Concludes dir before after faults faults_new old now peers name served (Err r)) (sym fault) (with_fault rose)
+      by (inr (fault, done, rose)) = subst (λ (r : Refusal). Concludes dir before after faults faults_new old now peers name served (Err r)) (sym fault) (with_fault done rose)
 
   module _ (done : T) (result : Result T Refusal) (is_done : result ≡ Ok done) (kept : Keeps dir before after faults faults_new old now peers name served result) where
     are_kept : AreKept dir before after now peers name served
@@ -88,7 +89,7 @@ module _ (dir : List ℕ) (before after : ShelfState) (faults faults_new : ℕ) 
       grows = kept.grows;
       clean = λ is. absurd (true≢false (sym is));
       keeps = kept.keeps;
-      comes = inr (inl refl);
+      comes = inr refl;
       later = kept.later;
       log_later = kept.log_later;
       store_fault = λ is. absurd (cc (is));
@@ -101,7 +102,7 @@ module _ (dir : List ℕ) (before after : ShelfState) (faults faults_new : ℕ) 
       grows = kept.grows;
       clean = λ is. are_kept.clean (done_by served.ending (subst (λ (n : ℕ). (n == DONE) ≡ true) status is));
       keeps = kept.keeps;
-      comes = inl (record { tells = record { reply = reply; is = refl; text_is = text; status_is = status }; remembers = are_kept.remembers; forgets = are_kept.forgets });
+      comes = inl (kept_as (record { reply = reply; is = refl; text_is = text; status_is = status }) are_kept.remembers are_kept.forgets);
       later = kept.later;
       log_later = kept.log_later;
       store_fault = λ is. inl (store_by served.ending (sym status ∙ is));

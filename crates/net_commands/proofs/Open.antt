@@ -1,5 +1,5 @@
 -- A store that is open while it meets others, and how it is put back.
-use Rattle.std.proofs.Common.{◌≡◌, ◌≢◌, ◌⊎◌, inl, inr, ℕ, ◌<◌, ◌≤◌, false, List, [], refl, sym, ap, subst, ◌∙◌, IsTrue, Some, Ok, Err, Result, arith}
+use Rattle.std.proofs.Common.{◌≡◌, ◌≢◌, ◌⊎◌, inl, inr, ℕ, ◌<◌, ◌≤◌, Bool, false, List, [], refl, sym, ap, subst, ◌∙◌, IsTrue, Some, Ok, Err, Result, arith}
 use Rattle.std.proofs.lemmas.Bool.{true≢false}
 use Rattle.sha2.specs.Sha256.{sha256}
 use Rattle.row_check.specs.Checksum.{is_luhn}
@@ -15,7 +15,7 @@ use Rattle.store_directory.specs.declared.store_refusal.StoreRefusal.{StoreRefus
 use Rattle.store_directory.specs.declared.store_refusal.StoreRefusal.TheVariants as store_refusals
 use Rattle.store_directory.specs.Holding.{IsStoreCause, LetsGo, OpenData, PutsStore, TakesStore}
 use Rattle.key_directory.specs.Parts.{IsHome, KeepsAllBut, part_in}
-use Rattle.store_directory.specs.Stores.{HoldsRun}
+use Rattle.store_directory.specs.Stores.{HoldsRun, StoreData}
 use Rattle.key_directory.proofs.Putting.{told}
 use Rattle.store_directory.proofs.Readings.{OneSchema}
 use Rattle.store_directory.proofs.Working.{held_run, holds_run, read_before, store_of}
@@ -27,15 +27,15 @@ use Rattle.session_server.specs.Sessions.{IsSession}
 use Rattle.outcomes.specs.declared.refusal.Refusal.{Refusal}
 use Rattle.outcomes.specs.declared.refusal.Refusal.TheVariants as refusals
 use Rattle.outcomes.specs.Comes.{readings}
-use Rattle.outcomes.specs.Remembering.{IsPeersFault, KeepsPeers, memory_in, touched}
+use Rattle.outcomes.specs.Remembering.{IsPeersFault, KeepsPeers, RemembersIn, memory_in, touched}
 use Rattle.outcomes.specs.OpenStores.{opened_store}
 use Rattle.outcomes.specs.Outcome.{from_store}
 use Rattle.outcomes.specs.Standing.{Stands}
 use Rattle.outcomes.specs.StoreAnswers.{bad_store, no_store}
 use Rattle.outcomes.proofs.Around.{closing_told, of_peers, of_store, opened_told, places_around, same_memory}
-use Rattle.net_commands.specs.Meetings.{Dials, HandsNone, IsMeetingFault, Meets, SyncAnswer, SyncsStore, handed, met, no_meeting, not_asked, refused}
+use Rattle.net_commands.specs.Meetings.{Concluded, Dials, HandsNone, MeetingOf, SyncAnswer, SyncsStore, handed, kept, met, no_meeting, not_asked, not_dialled as undialled, not_kept, not_read as unread, not_taken, opened as of_open, refused}
 use Rattle.outcomes.specs.Told.{Told, told_done}
-use Rattle.net_commands.specs.Open.{Concludes, ConcludesAs, HoldsSession, KeepsGrowing, MeetsBy, MeetsOpen, SyncsOpen, held, no_memory, not_dialled}
+use Rattle.net_commands.specs.Open.{Concludes, HoldsSession, KeepsGrowing, MeetsBy, MeetsOpen, SyncsOpen, held, no_memory, not_dialled}
 use Rattle.net_commands.proofs.Sharing.{grows_none, grows_then, holds_grown, passes_by}
 
 -- ---- the part Peers
@@ -63,7 +63,7 @@ module _ (dir address : List ℕ) (before after : ShelfState) (net net_new : Net
   open_memory dials grows stands = record {
     added = grows.added;
     holds = holds_grown old now false grows stands (λ is. absurd (true≢false (sym is)));
-    comes = inr (inl refl);
+    comes = inr refl;
     dials = dials;
     keeps = keeps;
     later = later;
@@ -77,7 +77,7 @@ module _ (dir address : List ℕ) (before after : ShelfState) (net net_new : Net
   open_undialled none rose grows stands = record {
     added = grows.added;
     holds = holds_grown old now false grows stands (λ is. absurd (true≢false (sym is)));
-    comes = inr (inr (inr refl));
+    comes = inl (undialled none refl);
     dials = refused none;
     keeps = keeps;
     later = later;
@@ -96,7 +96,7 @@ open_stopped dir address before after net faults faults_new net_faults replica r
     (record {
       added = (grows_none replica).added;
       holds = holds_grown replica replica false (grows_none replica) stands (λ e. absurd (true≢false (sym e)));
-      comes = inr (inr (inl refl));
+      comes = inl (unread refl refl);
       dials = not_asked refl;
       keeps = keeps;
       later = later;
@@ -134,23 +134,26 @@ module _ (dir address : List ℕ) (before mid after : ShelfState) (net net_new :
       on : IsTrue before.tells → IsTrue mid.tells
       on tells = told before.tells mid.tells keeps.tells tells
 
-      by : ConcludesAs dir mid after peers name served answer ⊎ IsMeetingFault answer
-          → (IsTrue before.tells → Meets (opened_store old) address (memory_in before dir) (memory_in after dir) net net_new whole.added answer) ⊎ IsMeetingFault answer
+      reading : Concluded mid.tells peers (sha256 address) (memory_in mid dir) (memory_in after dir) ran.served answer → Concluded before.tells peers (sha256 address) (memory_in before dir) (memory_in after dir) ran.served answer
+      reading (kept said remembers forgets) = kept said (λ is tells. remembers is (on tells)) (λ not tells. forgets not (on tells) ∙ same tells)
+      reading (not_kept done is) = not_kept done is
+
+      by : Concluded mid.tells peers name (memory_in mid dir) (memory_in after dir) served answer ⊎ (answer ≡ Err refusals.Memory)
+          → MeetingOf before.tells (opened_store old) address (memory_in before dir) (memory_in after dir) net net_new whole.added answer ⊎ (answer ≡ Err refusals.Memory)
       by (inr fault) = inr fault
       by (inl concluded) =
-          let said : ConcludesAs dir mid after peers (sha256 address) ran.served answer =
-          subst (λ (s : Served). ConcludesAs dir mid after peers (sha256 address) s answer) is_served (subst (λ (n : List ℕ). ConcludesAs dir mid after peers n served answer) is_name concluded) in
-          inl (λ tells. record {
+          let said : Concluded mid.tells peers (sha256 address) (memory_in mid dir) (memory_in after dir) ran.served answer =
+          subst (λ (s : Served). Concluded mid.tells peers (sha256 address) (memory_in mid dir) (memory_in after dir) s answer) is_served
+          (subst (λ (n : List ℕ). Concluded mid.tells peers n (memory_in mid dir) (memory_in after dir) served answer) is_name concluded) in
+          inl (met (record {
             peers = peers;
-            reads = reads tells;
+            reads = reads;
             ran = ran;
             handed = holds.handed;
             passes = passes_by old ended now ran.before ran.after whole concludes.grows holds.opened holds.seen holds.within;
             session = subst (λ (n : List ℕ). IsSession old.history.schema.rule Initiator peers (Some n) ran.before ran.after ran.left ran.left' ran.held ran.held' ran.faults ran.faults' ran.served) is_name holds.session;
-            tells = said.tells;
-            remembers = λ is. said.remembers is (on tells);
-            forgets = λ not. said.forgets not (on tells) ∙ same tells;
-          })
+            concluded = reading said;
+          }))
 
 -- ---- what meeting came to
 
@@ -186,6 +189,27 @@ module _ (dir address : List ℕ) (before mid : ShelfState) (net net_new : NetSt
 
 -- ---- a store that is taken and put back
 
+-- what is told of a part is told of it before it was taken and after it was put back
+concluded_moves : (a b : Bool) (peers : List PeerEntry) (name : List ℕ) (m n p q : List ℕ) (served : Served) (answer : Told) → (IsTrue b → IsTrue a) → m ≡ n → (IsTrue b → q ≡ p)
+    → Concluded a peers name m p served answer → Concluded b peers name n q served answer
+concluded_moves a b peers name m n p q served answer on old new (kept said remembers forgets) =
+    kept said (λ is tells. subst (RemembersIn peers name served.heads) (sym (new tells)) (remembers is (on tells))) (λ not tells. new tells ∙ forgets not (on tells) ∙ old)
+concluded_moves a b peers name m n p q served answer on old new (not_kept done is) = not_kept done is
+
+meeting_moves : (a b : Bool) (store : StoreData) (address m n p q : List ℕ) (net net_new : NetState) (added : List (List ℕ)) (answer : Told) → (IsTrue b → IsTrue a) → m ≡ n → (IsTrue b → q ≡ p)
+    → MeetingOf a store address m p net net_new added answer → MeetingOf b store address n q net net_new added answer
+meeting_moves a b store address m n p q net net_new added answer on old new (unread same is) = unread same is
+meeting_moves a b store address m n p q net net_new added answer on old new (undialled none is) = undialled none is
+meeting_moves a b store address m n p q net net_new added answer on old new (met w) = met (record {
+  peers = w.peers;
+  reads = λ tells. subst (λ (l : List ℕ). Reads l w.peers) old (w.reads (on tells));
+  ran = w.ran;
+  handed = w.handed;
+  passes = w.passes;
+  session = w.session;
+  concluded = concluded_moves a b w.peers (sha256 address) m n p q w.ran.served answer on old new w.concluded;
+})
+
 module _ (dir address : List ℕ) (before after : ShelfState) (net net_new : NetState) (faults faults_new net_faults net_faults_new : ℕ) where
   -- where it was refused
   pub syncs_none : (why : StoreRefusal) → (IsTrue before.tells → IsHome before) → LetsGo is_luhn before dir after → (IsTrue before.tells → IsStoreCause is_luhn before dir why)
@@ -205,7 +229,7 @@ module _ (dir address : List ℕ) (before after : ShelfState) (net net_new : Net
           → SyncsStore dir address before after net net_new faults faults_new net_faults net_faults_new (Err (from_store why))
       by store_refusals.NoStore so f = record {
         added = [];
-        comes = inl (λ tells. no_meeting refusals.NoStore (no_store (so tells) refl) same refl refl);
+        comes = inl (no_meeting refusals.NoStore (inl refl) (λ tells. no_store (so tells) refl) same refl refl);
         dials = not_asked same;
         run = run;
         others = others_kept;
@@ -215,7 +239,7 @@ module _ (dir address : List ℕ) (before after : ShelfState) (net net_new : Net
       }
       by store_refusals.BadStore so f = record {
         added = [];
-        comes = inl (λ tells. no_meeting refusals.BadStore (bad_store (so tells) refl) same refl refl);
+        comes = inl (no_meeting refusals.BadStore (inr refl) (λ tells. bad_store (so tells) refl) same refl refl);
         dials = not_asked same;
         run = run;
         others = others_kept;
@@ -225,7 +249,7 @@ module _ (dir address : List ℕ) (before after : ShelfState) (net net_new : Net
       }
       by store_refusals.DiskFault so f = record {
         added = [];
-        comes = inr (inr (inl refl));
+        comes = inl (not_taken same refl refl);
         dials = not_asked same;
         run = run;
         others = others_kept;
@@ -235,7 +259,7 @@ module _ (dir address : List ℕ) (before after : ShelfState) (net net_new : Net
       }
       by store_refusals.Memory so f = record {
         added = [];
-        comes = inr (inl refl);
+        comes = inr refl;
         dials = not_asked same;
         run = run;
         others = others_kept;
@@ -270,13 +294,9 @@ module _ (dir address : List ℕ) (before after : ShelfState) (net net_new : Net
       from (inl rose) = omega (arith, one_later, two_later, rose)
       from (inr some) = let more = faulted some in let mid = syncs.later in omega (arith, one_later, mid, more)
 
-      by : (IsTrue opened.tells → Meets (opened_store taken.replica) address (memory_in opened dir) (memory_in closing dir) net net_new syncs.added answer) ⊎ IsMeetingFault answer
-          → (IsTrue before.tells → SyncAnswer (readings before dir) address (memory_in before dir) (memory_in after dir) net net_new syncs.added answer) ⊎ IsMeetingFault answer
+      by : MeetingOf opened.tells (opened_store taken.replica) address (memory_in opened dir) (memory_in closing dir) net net_new syncs.added answer ⊎ (answer ≡ Err refusals.Memory)
+          → SyncAnswer before.tells (readings before dir) address (memory_in before dir) (memory_in after dir) net net_new syncs.added answer ⊎ (answer ≡ Err refusals.Memory)
       by (inr fault) = inr fault
-      by (inl meets) = inl (λ tells.
-          met (store_of taken.replica) (read_before is_luhn before opened dir taken tells takes)
-          (rw (
-            sym (same_memory before opened dir (takes.others (slot dir Peers) refl)),
-            same_memory closing after dir (puts.others (still tells) (slot dir Peers) refl),
-          )
-          (meets (inside tells))))
+      by (inl meets) = inl (of_open (store_of taken.replica) (λ tells. read_before is_luhn before opened dir taken tells takes)
+          (meeting_moves opened.tells before.tells (store_of taken.replica) address (memory_in opened dir) (memory_in before dir) (memory_in closing dir) (memory_in after dir) net net_new syncs.added answer inside
+          (same_memory before opened dir (takes.others (slot dir Peers) refl)) (λ tells. same_memory closing after dir (puts.others (still tells) (slot dir Peers) refl)) meets))

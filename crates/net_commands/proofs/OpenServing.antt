@@ -15,13 +15,13 @@ use Rattle.store_directory.specs.declared.store_refusal.StoreRefusal.{StoreRefus
 use Rattle.store_directory.specs.declared.store_refusal.StoreRefusal.TheVariants as store_refusals
 use Rattle.store_directory.specs.Holding.{IsStoreCause, LetsGo, OpenData, PutsStore, TakesStore}
 use Rattle.key_directory.specs.Parts.{IsHome, KeepsAllBut}
-use Rattle.store_directory.specs.Stores.{HoldsRun}
+use Rattle.store_directory.specs.Stores.{HoldsRun, StoreData}
 use Rattle.key_directory.proofs.Putting.{told}
 use Rattle.store_directory.proofs.Readings.{OneSchema}
 use Rattle.store_directory.proofs.Working.{held_run, holds_run, read_before, store_of}
 use Rattle.outcomes.specs.declared.refusal.Refusal.{Refusal}
 use Rattle.outcomes.specs.declared.refusal.Refusal.TheVariants as refusals
-use Rattle.schema_verdict.specs.declared.status.TheConstants.{DONE, FULL, PEER, STORE_FAULT, STREAM_FAULT}
+use Rattle.schema_verdict.specs.declared.status.TheConstants.{DONE, FULL, OUT_OF_MEMORY, PEER, STORE_FAULT, STREAM_FAULT}
 use Rattle.outcomes.specs.Comes.{readings}
 use Rattle.outcomes.specs.Remembering.{IsPeersFault, KeepsPeers, memory_in, touched}
 use Rattle.outcomes.specs.OpenStores.{opened_store}
@@ -31,7 +31,7 @@ use Rattle.outcomes.specs.StoreAnswers.{bad_store, no_store}
 use Rattle.outcomes.proofs.Around.{closing_told, of_peers, of_store, opened_told, places_around, same_memory}
 use Rattle.session_server.specs.declared.served.Served.{Served}
 use Rattle.net_commands.specs.declared.serve.Met.{Met}
-use Rattle.net_commands.specs.Meetings.{IsMeetingFault, RemembersSessions, ServeAnswer, ServesPeers, ServesStore, not_served, served}
+use Rattle.net_commands.specs.Meetings.{RemembersSessions, ServeAnswer, ServesStore, ServingOf, not_read as unread, not_served, not_taken, opened as of_open, served}
 use Rattle.outcomes.specs.Told.{Told, told_done}
 use Rattle.net_commands.specs.Open.{KeepsGrowing}
 use Rattle.net_commands.specs.OpenServing.{ConcludesAll, ConcludesAllAs, HasFailed, HoldsSessions, KeepsSessions, ServesOpen}
@@ -46,35 +46,42 @@ use Rattle.net_commands.proofs.Sharing.{grows_then, holds_grown, passes_by}
 -- where the status is that of a disk's fault, a session has it, or the disk failed outside
 pub store_status : (sessions : List Served) (store_failed net_failed : Bool) → serve_status sessions store_failed net_failed ≡ STORE_FAULT → (store_failed ≡ true) ⊎ (has_status STORE_FAULT sessions ≡ true)
 store_status sessions true net_failed is = inl refl
-store_status sessions false net_failed is = by (has_status STORE_FAULT sessions) refl net_failed (has_status STREAM_FAULT sessions) (has_status FULL sessions) (has_status PEER sessions)
-    is
+store_status sessions false net_failed is = by (has_status OUT_OF_MEMORY sessions) (has_status STORE_FAULT sessions) refl net_failed (has_status STREAM_FAULT sessions) (has_status FULL sessions)
+    (has_status PEER sessions) is
   where
-    by : (a : Bool) → has_status STORE_FAULT sessions ≡ a → (n b c d : Bool)
-        → cond a STORE_FAULT (cond (n || b) STREAM_FAULT (cond c FULL (cond d PEER DONE))) ≡ STORE_FAULT → (false ≡ true) ⊎ (has_status STORE_FAULT sessions ≡ true)
-    by true e n b c d is = inr e
-    by false e true b c d is = absurd (cc (is))
-    by false e false true c d is = absurd (cc (is))
-    by false e false false true d is = absurd (cc (is))
-    by false e false false false true is = absurd (cc (is))
-    by false e false false false false is = absurd (cc (is))
+    by : (m a : Bool) → has_status STORE_FAULT sessions ≡ a → (n b c d : Bool)
+        → cond m OUT_OF_MEMORY (cond a STORE_FAULT (cond (n || b) STREAM_FAULT (cond c FULL (cond d PEER DONE)))) ≡ STORE_FAULT → (false ≡ true) ⊎ (has_status STORE_FAULT sessions ≡ true)
+    by true a e n b c d is = absurd (cc (is))
+    by false true e n b c d is = inr e
+    by false false e true b c d is = absurd (cc (is))
+    by false false e false true c d is = absurd (cc (is))
+    by false false e false false true d is = absurd (cc (is))
+    by false false e false false false true is = absurd (cc (is))
+    by false false e false false false false is = absurd (cc (is))
 
 -- the same of the net
 pub stream_status : (sessions : List Served) (store_failed net_failed : Bool) → serve_status sessions store_failed net_failed ≡ STREAM_FAULT → (has_status STREAM_FAULT sessions ≡ true) ⊎ (net_failed ≡ true)
-stream_status sessions store_failed net_failed is = by store_failed (has_status STORE_FAULT sessions) net_failed refl (has_status STREAM_FAULT sessions) refl (has_status FULL sessions) (has_status PEER sessions) is
+stream_status sessions store_failed net_failed is = by (has_status OUT_OF_MEMORY sessions) store_failed (has_status STORE_FAULT sessions) net_failed refl (has_status STREAM_FAULT sessions) refl
+    (has_status FULL sessions) (has_status PEER sessions) is
   where
-    by : (s a n : Bool) → net_failed ≡ n → (b : Bool) → has_status STREAM_FAULT sessions ≡ b → (c d : Bool)
-        → cond (s || a) STORE_FAULT (cond (n || b) STREAM_FAULT (cond c FULL (cond d PEER DONE))) ≡ STREAM_FAULT → (has_status STREAM_FAULT sessions ≡ true) ⊎ (net_failed ≡ true)
-    by true a n m b e c d is = absurd (cc (is))
-    by false true n m b e c d is = absurd (cc (is))
-    by false false true m b e c d is = inr m
-    by false false false m true e c d is = inl e
-    by false false false m false e true d is = absurd (cc (is))
-    by false false false m false e false true is = absurd (cc (is))
-    by false false false m false e false false is = absurd (cc (is))
+    by : (o s a n : Bool) → net_failed ≡ n → (b : Bool) → has_status STREAM_FAULT sessions ≡ b → (c d : Bool)
+        → cond o OUT_OF_MEMORY (cond (s || a) STORE_FAULT (cond (n || b) STREAM_FAULT (cond c FULL (cond d PEER DONE)))) ≡ STREAM_FAULT → (has_status STREAM_FAULT sessions ≡ true) ⊎ (net_failed ≡ true)
+    by true s a n m b e c d is = absurd (cc (is))
+    by false true a n m b e c d is = absurd (cc (is))
+    by false false true n m b e c d is = absurd (cc (is))
+    by false false false true m b e c d is = inr m
+    by false false false false m true e c d is = inl e
+    by false false false false m false e true d is = absurd (cc (is))
+    by false false false false m false e false true is = absurd (cc (is))
+    by false false false false m false e false false is = absurd (cc (is))
 
 -- where the status is that of a thing done, no disk failed outside
 done_status : (sessions : List Served) (store_failed net_failed : Bool) → (serve_status sessions store_failed net_failed == DONE) ≡ true → store_failed ≡ false
-done_status sessions true net_failed is = absurd (cc (is))
+done_status sessions true net_failed is = by (has_status OUT_OF_MEMORY sessions) is
+  where
+    by : (m : Bool) → (cond m OUT_OF_MEMORY STORE_FAULT == DONE) ≡ true → true ≡ false
+    by true is = absurd (cc (is))
+    by false is = absurd (cc (is))
 done_status sessions false net_failed is = refl
 
 -- ---- what is told
@@ -149,7 +156,7 @@ module _ (dir : List ℕ) (asked : ℕ) (before after : ShelfState) (net net_new
   serving_memory out grows stands = record {
     added = grows.added;
     holds = holds_grown old now false grows stands (λ is. absurd (true≢false (sym is)));
-    comes = inr (inl refl);
+    comes = inr refl;
     out = out;
     keeps = keeps;
     later = later;
@@ -158,17 +165,17 @@ module _ (dir : List ℕ) (asked : ℕ) (before after : ShelfState) (net net_new
   }
 
   -- what is remembered of peers was not read
-  pub serving_stopped : (refusal : Refusal) → net_new.out ≡ net.out → KeepsGrowing old now → Stands now → IsPeersFault faults faults_new refusal
+  pub serving_stopped : (refusal : Refusal) → net_new ≡ net → KeepsGrowing old now → Stands now → IsPeersFault faults faults_new refusal
       → ServesOpen dir asked before after net net_new faults faults_new net_faults net_faults_new old now (Err refusal)
-  serving_stopped refusal out grows stands (inl memory) =
-      subst (λ (r : Refusal). ServesOpen dir asked before after net net_new faults faults_new net_faults net_faults_new old now (Err r)) (sym memory) (serving_memory out grows stands)
-  serving_stopped refusal out grows stands (inr (is, rose)) =
+  serving_stopped refusal same grows stands (inl memory) =
+      subst (λ (r : Refusal). ServesOpen dir asked before after net net_new faults faults_new net_faults net_faults_new old now (Err r)) (sym memory) (serving_memory (ap (λ (n : NetState). n.out) same) grows stands)
+  serving_stopped refusal same grows stands (inr (is, rose)) =
       subst (λ (r : Refusal). ServesOpen dir asked before after net net_new faults faults_new net_faults net_faults_new old now (Err r)) (sym is)
       (record {
         added = grows.added;
         holds = holds_grown old now false grows stands (λ e. absurd (true≢false (sym e)));
-        comes = inr (inr (inl refl));
-        out = out;
+        comes = inl (unread same refl);
+        out = ap (λ (n : NetState). n.out) same;
         keeps = keeps;
         later = later;
         store_fault = λ status. inl rose;
@@ -208,11 +215,11 @@ serving_held dir asked before mid after net net_new faults between faults_new ne
     on tells = told before.tells mid.tells keeps.tells tells
 
     by : ConcludesAllAs dir mid after peers held answer ⊎ (answer ≡ Err refusals.Memory)
-        → (IsTrue before.tells → ServesPeers (opened_store old) asked (memory_in before dir) (memory_in after dir) net net_new net_faults net_faults_new whole.added answer) ⊎ IsMeetingFault answer
-    by (inr memory) = inr (inl memory)
-    by (inl said) = inl (λ tells. record {
+        → ServingOf before.tells (opened_store old) asked (memory_in before dir) (memory_in after dir) net net_new net_faults net_faults_new whole.added answer ⊎ (answer ≡ Err refusals.Memory)
+    by (inr memory) = inr memory
+    by (inl said) = inl (served (record {
       peers = peers;
-      reads = reads tells;
+      reads = reads;
       first = holds.first;
       last = holds.last;
       passes = passes_by old ended now holds.first holds.last whole concludes.grows holds.opened holds.serves.seen holds.within;
@@ -220,11 +227,31 @@ serving_held dir asked before mid after net net_new faults between faults_new ne
       net_failed = held.net_failed;
       store_failed = said.store_failed;
       serves = holds.serves;
-      tells = said.tells;
-      remembers = λ not. subst (λ (m : List ℕ). RemembersSessions peers held.sessions m (memory_in after dir)) (same tells) (said.remembers not (on tells));
-    })
+      starved = holds.starved;
+      said = said.tells;
+      remembers = λ not tells. subst (λ (m : List ℕ). RemembersSessions peers held.sessions m (memory_in after dir)) (same tells) (said.remembers not (on tells));
+    }))
 
 -- ---- a store that is taken and put back
+
+-- what is told of a part is told of it before it was taken and after it was put back
+serving_moves : (a b : Bool) (store : StoreData) (asked : ℕ) (m n p q : List ℕ) (net net_new : NetState) (net_faults net_faults_new : ℕ) (added : List (List ℕ)) (answer : Told) → (IsTrue b → IsTrue a) → m ≡ n → (IsTrue b → q ≡ p)
+    → ServingOf a store asked m p net net_new net_faults net_faults_new added answer → ServingOf b store asked n q net net_new net_faults net_faults_new added answer
+serving_moves a b store asked m n p q net net_new net_faults net_faults_new added answer on old new (unread same is) = unread same is
+serving_moves a b store asked m n p q net net_new net_faults net_faults_new added answer on old new (served w) = served (record {
+  peers = w.peers;
+  reads = λ tells. subst (λ (l : List ℕ). Reads l w.peers) old (w.reads (on tells));
+  first = w.first;
+  last = w.last;
+  passes = w.passes;
+  sessions = w.sessions;
+  net_failed = w.net_failed;
+  store_failed = w.store_failed;
+  serves = w.serves;
+  starved = w.starved;
+  said = w.said;
+  remembers = λ not tells. subst (λ (l : List ℕ). RemembersSessions w.peers w.sessions l q) old (subst (λ (l : List ℕ). RemembersSessions w.peers w.sessions m l) (sym (new tells)) (w.remembers not (on tells)));
+})
 
 module _ (dir : List ℕ) (asked : ℕ) (before after : ShelfState) (net net_new : NetState) (faults faults_new net_faults net_faults_new : ℕ) where
   -- where it was refused
@@ -245,7 +272,7 @@ module _ (dir : List ℕ) (asked : ℕ) (before after : ShelfState) (net net_new
           → ServesStore dir asked before after net net_new faults faults_new net_faults net_faults_new (Err (from_store why))
       by store_refusals.NoStore so f = record {
         added = [];
-        comes = inl (λ tells. not_served refusals.NoStore (no_store (so tells) refl) same refl refl);
+        comes = inl (not_served refusals.NoStore (inl refl) (λ tells. no_store (so tells) refl) same refl refl);
         out = ap (λ (n : NetState). n.out) same;
         run = run;
         others = others_kept;
@@ -255,7 +282,7 @@ module _ (dir : List ℕ) (asked : ℕ) (before after : ShelfState) (net net_new
       }
       by store_refusals.BadStore so f = record {
         added = [];
-        comes = inl (λ tells. not_served refusals.BadStore (bad_store (so tells) refl) same refl refl);
+        comes = inl (not_served refusals.BadStore (inr refl) (λ tells. bad_store (so tells) refl) same refl refl);
         out = ap (λ (n : NetState). n.out) same;
         run = run;
         others = others_kept;
@@ -265,7 +292,7 @@ module _ (dir : List ℕ) (asked : ℕ) (before after : ShelfState) (net net_new
       }
       by store_refusals.DiskFault so f = record {
         added = [];
-        comes = inr (inr (inl refl));
+        comes = inl (not_taken same refl refl);
         out = ap (λ (n : NetState). n.out) same;
         run = run;
         others = others_kept;
@@ -275,7 +302,7 @@ module _ (dir : List ℕ) (asked : ℕ) (before after : ShelfState) (net net_new
       }
       by store_refusals.Memory so f = record {
         added = [];
-        comes = inr (inl refl);
+        comes = inr refl;
         out = ap (λ (n : NetState). n.out) same;
         run = run;
         others = others_kept;
@@ -310,13 +337,9 @@ module _ (dir : List ℕ) (asked : ℕ) (before after : ShelfState) (net net_new
       from (inl rose) = omega (arith, one_later, two_later, rose)
       from (inr some) = let more = faulted some in let mid = serves.later in omega (arith, one_later, mid, more)
 
-      by : (IsTrue opened.tells → ServesPeers (opened_store taken.replica) asked (memory_in opened dir) (memory_in closing dir) net net_new net_faults net_faults_new serves.added answer) ⊎ IsMeetingFault answer
-          → (IsTrue before.tells → ServeAnswer (readings before dir) asked (memory_in before dir) (memory_in after dir) net net_new net_faults net_faults_new serves.added answer) ⊎ IsMeetingFault answer
+      by : ServingOf opened.tells (opened_store taken.replica) asked (memory_in opened dir) (memory_in closing dir) net net_new net_faults net_faults_new serves.added answer ⊎ (answer ≡ Err refusals.Memory)
+          → ServeAnswer before.tells (readings before dir) asked (memory_in before dir) (memory_in after dir) net net_new net_faults net_faults_new serves.added answer ⊎ (answer ≡ Err refusals.Memory)
       by (inr fault) = inr fault
-      by (inl meets) = inl (λ tells.
-          served (store_of taken.replica) (read_before is_luhn before opened dir taken tells takes)
-          (rw (
-            sym (same_memory before opened dir (takes.others (slot dir Peers) refl)),
-            same_memory closing after dir (puts.others (still tells) (slot dir Peers) refl),
-          )
-          (meets (inside tells))))
+      by (inl meets) = inl (of_open (store_of taken.replica) (λ tells. read_before is_luhn before opened dir taken tells takes)
+          (serving_moves opened.tells before.tells (store_of taken.replica) asked (memory_in opened dir) (memory_in before dir) (memory_in closing dir) (memory_in after dir) net net_new net_faults net_faults_new
+          serves.added answer inside (same_memory before opened dir (takes.others (slot dir Peers) refl)) (λ tells. same_memory closing after dir (puts.others (still tells) (slot dir Peers) refl)) meets))

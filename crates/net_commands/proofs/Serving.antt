@@ -19,7 +19,7 @@ use Rattle.session_server.specs.declared.ending.Ending.TheVariants.{Done, Peer a
 use Rattle.session_server.specs.declared.served.Served.{Served}
 use Rattle.session_server.specs.Serving.{IsResponse, IsTold, IsWithin, Ran, Serves, served_of}
 use Rattle.shared_replica.proofs.Going.{updates_stay}
-use Rattle.schema_verdict.specs.declared.status.TheConstants.{STORE_FAULT, STREAM_FAULT}
+use Rattle.schema_verdict.specs.declared.status.TheConstants.{OUT_OF_MEMORY, STORE_FAULT, STREAM_FAULT}
 use Rattle.net_commands.specs.declared.serve.Met.{Met}
 use Rattle.net_commands.specs.Open.{KeepsGrowing, opening_list}
 use Rattle.net_commands.specs.OpenServing.{HoldsSessions, ServesPeersOpen}
@@ -91,22 +91,23 @@ module _ (rule : RuleData) (peers : List Peer) (asked : ℕ) (net net_new : NetS
   pub serves_failed : (fault : AllocError) → ServesPeersOpen peers asked net net_new faults faults_new old now (Err fault)
   serves_failed fault = record { grows = grew; out = serves.out; held = λ met is. absurd (cc (is)) }
 
-  holds : memory ≡ false → rule ≡ old.history.schema.rule → HoldsSessions peers asked net net_new faults faults_new old now (record { sessions = sessions; net_failed = net_failed })
-  holds whole ruled = record {
+  holds : memory ≡ false → has_status OUT_OF_MEMORY sessions ≡ false → rule ≡ old.history.schema.rule → HoldsSessions peers asked net net_new faults faults_new old now (record { sessions = sessions; net_failed = net_failed })
+  holds whole starved ruled = record {
     first = first;
     last = last;
     opened = opened;
     within = updates_stay last.seen list now begins store;
     serves = subst (λ (r : RuleData). Serves r peers asked first last net net_new faults faults_new sessions net_failed false) ruled
         (subst (λ (m : Bool). Serves rule peers asked first last net net_new faults faults_new sessions net_failed m) whole serves);
+    starved = starved;
     broken = λ is. some_broke rule peers first faults faults_new serves.ran serves.told serves.responses (subst (λ (l : List Served). has_status STREAM_FAULT l ≡ true) (serves.counted whole) is);
     stored = λ is. some_stored rule peers first last list now serves.ran begins store (serves.within whole) serves.responses (subst (λ (l : List Served). has_status STORE_FAULT l ≡ true) (serves.counted whole) is);
   }
 
   -- the sessions were held
-  pub serves_held : memory ≡ false → rule ≡ old.history.schema.rule → ServesPeersOpen peers asked net net_new faults faults_new old now (Ok (record { sessions = sessions; net_failed = net_failed }))
-  serves_held whole ruled = record {
+  pub serves_held : memory ≡ false → has_status OUT_OF_MEMORY sessions ≡ false → rule ≡ old.history.schema.rule → ServesPeersOpen peers asked net net_new faults faults_new old now (Ok (record { sessions = sessions; net_failed = net_failed }))
+  serves_held whole starved ruled = record {
     grows = grew;
     out = serves.out;
-    held = λ met is. let e : (record { sessions = sessions; net_failed = net_failed }) ≡ met = cc (is) in subst (λ (m : Met). HoldsSessions peers asked net net_new faults faults_new old now m) e (holds whole ruled);
+    held = λ met is. let e : (record { sessions = sessions; net_failed = net_failed }) ≡ met = cc (is) in subst (λ (m : Met). HoldsSessions peers asked net net_new faults faults_new old now m) e (holds whole starved ruled);
   }

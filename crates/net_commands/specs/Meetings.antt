@@ -25,7 +25,7 @@ use Rattle.session_server.specs.Serving.{Ran, Serves}
 use Rattle.session_server.specs.Sessions.{IsSession}
 use Rattle.outcomes.specs.declared.refusal.Refusal.{Refusal}
 use Rattle.outcomes.specs.declared.refusal.Refusal.TheVariants as refusals
-use Rattle.schema_verdict.specs.declared.status.TheConstants.{DONE, STORE_FAULT, STREAM_FAULT}
+use Rattle.schema_verdict.specs.declared.status.TheConstants.{DONE, OUT_OF_MEMORY, STORE_FAULT, STREAM_FAULT}
 use Rattle.outcomes.specs.Comes.{readings}
 use Rattle.outcomes.specs.Remembering.{RemembersIn, memory_in, touched}
 use Rattle.outcomes.specs.StoreAnswers.{HasStore, Readings, RefusesStore}
@@ -72,34 +72,50 @@ pub data Dials (before after : NetState) : Type 0 where
   refused : HandsNone before after → Dials before after
   handed : (ran : Ran) → HandsOver before ran after → Dials before after
 
--- What may come in place of an answer: memory ran out, a disk failed, or the net did.
-abbrev pub IsMeetingFault : Told → Type 0
-IsMeetingFault told = (told ≡ Err refusals.Memory) ⊎ ((told ≡ Err refusals.StoreFault) ⊎ (told ≡ Err refusals.Stream))
+-- The refusal is one of a store that is not opened.
+abbrev pub IsOfStore : Refusal → Type 0
+IsOfStore refusal = (refusal ≡ refusals.NoStore) ⊎ (refusal ≡ refusals.BadStore)
 
 -- ---- `sync`
 
--- The store met the peer at the address, whose name is the digest of that word: in a session over the net's next link, which it began.
-pub record Meets (store : StoreData) (address : List ℕ) (memory memory_new : List ℕ) (net net_new : NetState) (added : List (List ℕ)) (told : Told) : Type 0 where
+-- How a session is told: by what it came to, and after one that is done its ids are remembered, and after another nothing; or, after one that is done, by the disk that
+-- failed as the log was settled or the ids were to be remembered.
+pub data Concluded (tells : Bool) (peers : List PeerEntry) (name : List ℕ) (memory memory_new : List ℕ) (served : Served) (told : Told) : Type 0 where
+  kept : Tells told (sync_text served) (status_by served.ending) → (served.ending ≡ endings.Done → IsTrue tells → RemembersIn peers name served.heads memory_new)
+      → (served.ending ≢ endings.Done → IsTrue tells → memory_new ≡ memory) → Concluded tells peers name memory memory_new served told
+  not_kept : served.ending ≡ endings.Done → told ≡ Err refusals.StoreFault → Concluded tells peers name memory memory_new served told
+
+-- The store met the peer at the address, whose name is the digest of that word: in a session over the net's next link, which it began. What the directory remembers is
+-- told where the shelf tells what it has.
+pub record Meets (tells : Bool) (store : StoreData) (address : List ℕ) (memory memory_new : List ℕ) (net net_new : NetState) (added : List (List ℕ)) (told : Told) : Type 0 where
   pub peers : List PeerEntry
-  pub reads : Reads memory peers
+  pub reads : IsTrue tells → Reads memory peers
   pub ran : Ran
   pub handed : HandsOver net ran net_new
   pub passes : Passes store added ran.before ran.after
   pub session : IsSession store.schema.rule Initiator peers (Some (sha256 address)) ran.before ran.after ran.left ran.left' ran.held ran.held' ran.faults ran.faults' ran.served
-  pub tells : Tells told (sync_text ran.served) (status_by ran.served.ending)
-  pub remembers : ran.served.ending ≡ endings.Done → RemembersIn peers (sha256 address) ran.served.heads memory_new
-  pub forgets : ran.served.ending ≢ endings.Done → memory_new ≡ memory
+  pub concluded : Concluded tells peers (sha256 address) memory memory_new ran.served told
 
--- What `sync` answers to what the parts of a directory read as: the store is refused, and the net left alone; or it met the peer.
-pub data SyncAnswer (parts : Readings) (address : List ℕ) (memory memory_new : List ℕ) (net net_new : NetState) (added : List (List ℕ)) (told : Told) : Type 0 where
-  no_meeting : (refusal : Refusal) → RefusesStore parts refusal → net_new ≡ net → added ≡ [] → told ≡ Err refusal → SyncAnswer parts address memory memory_new net net_new added told
-  met : (store : StoreData) → HasStore parts store → Meets store address memory memory_new net net_new added told → SyncAnswer parts address memory memory_new net net_new added told
+-- What comes of a store that is open: a disk failed before a link was asked for; or none was handed out; or it met the peer.
+pub data MeetingOf (tells : Bool) (store : StoreData) (address : List ℕ) (memory memory_new : List ℕ) (net net_new : NetState) (added : List (List ℕ)) (told : Told) : Type 0 where
+  not_read : net_new ≡ net → told ≡ Err refusals.StoreFault → MeetingOf tells store address memory memory_new net net_new added told
+  not_dialled : HandsNone net net_new → told ≡ Err refusals.Stream → MeetingOf tells store address memory memory_new net net_new added told
+  met : Meets tells store address memory memory_new net net_new added told → MeetingOf tells store address memory memory_new net net_new added told
 
--- A run of `sync` over a directory and a net. Where the shelf tells what it has, what is told is the answer to what the parts read as, or a fault came in
--- its place. These were added to the list of the store, in whatever way it ends. No part but these is touched, and each is put back.
+-- What `sync` answers to what the parts of a directory read as, where the shelf tells it: the store is refused, or a disk failed as it was taken, and the net is left
+-- alone; or what comes of the open store.
+pub data SyncAnswer (tells : Bool) (parts : Readings) (address : List ℕ) (memory memory_new : List ℕ) (net net_new : NetState) (added : List (List ℕ)) (told : Told) : Type 0 where
+  no_meeting : (refusal : Refusal) → IsOfStore refusal → (IsTrue tells → RefusesStore parts refusal) → net_new ≡ net → added ≡ [] → told ≡ Err refusal
+      → SyncAnswer tells parts address memory memory_new net net_new added told
+  not_taken : net_new ≡ net → added ≡ [] → told ≡ Err refusals.StoreFault → SyncAnswer tells parts address memory memory_new net net_new added told
+  opened : (store : StoreData) → (IsTrue tells → HasStore parts store) → MeetingOf tells store address memory memory_new net net_new added told
+      → SyncAnswer tells parts address memory memory_new net net_new added told
+
+-- A run of `sync` over a directory and a net. What is told is the answer, and only want of memory may come in its place. These were added to the list of the store, in
+-- whatever way it ends. No part but these is touched, and each is put back.
 pub record SyncsStore (dir address : List ℕ) (before after : ShelfState) (net net_new : NetState) (faults faults_new net_faults net_faults_new : ℕ) (told : Told) : Type 0 where
   pub added : List (List ℕ)
-  pub comes : (IsTrue before.tells → SyncAnswer (readings before dir) address (memory_in before dir) (memory_in after dir) net net_new added told) ⊎ IsMeetingFault told
+  pub comes : SyncAnswer before.tells (readings before dir) address (memory_in before dir) (memory_in after dir) net net_new added told ⊎ (told ≡ Err refusals.Memory)
   pub dials : Dials net net_new
   pub run : IsTrue before.tells → HoldsRun is_luhn before after dir added (told_done told)
   pub others : IsTrue before.tells → KeepsAllBut touched dir before after
@@ -126,10 +142,11 @@ pub record RemembersSessions (peers : List PeerEntry) (sessions : List Served) (
   pub written : has_status DONE sessions ≡ true → Spells peers_new memory_new
   pub stays : has_status DONE sessions ≡ false → memory_new ≡ memory
 
--- The store served so many peers, each in a session over one of the net's next links, which the peer began.
-pub record ServesPeers (store : StoreData) (asked : ℕ) (memory memory_new : List ℕ) (net net_new : NetState) (net_faults net_faults_new : ℕ) (added : List (List ℕ)) (told : Told) : Type 0 where
+-- The store served so many peers, each in a session over one of the net's next links, which the peer began. None of them ran out of memory: where one does, `serve`
+-- tells that and nothing else. What failed outside of the sessions is told behind their lines.
+pub record ServesPeers (tells : Bool) (store : StoreData) (asked : ℕ) (memory memory_new : List ℕ) (net net_new : NetState) (net_faults net_faults_new : ℕ) (added : List (List ℕ)) (told : Told) : Type 0 where
   pub peers : List PeerEntry
-  pub reads : Reads memory peers
+  pub reads : IsTrue tells → Reads memory peers
   pub first : Known Entry
   pub last : Known Entry
   pub passes : Passes store added first last
@@ -137,20 +154,28 @@ pub record ServesPeers (store : StoreData) (asked : ℕ) (memory memory_new : Li
   pub net_failed : Bool
   pub store_failed : Bool
   pub serves : Serves store.schema.rule peers asked first last net net_new net_faults net_faults_new sessions net_failed false
-  pub tells : Tells told (serve_text sessions store_failed net_failed) (serve_status sessions store_failed net_failed)
-  pub remembers : store_failed ≡ false → RemembersSessions peers sessions memory memory_new
+  pub starved : has_status OUT_OF_MEMORY sessions ≡ false
+  pub said : Tells told (serve_text sessions store_failed net_failed) (serve_status sessions store_failed net_failed)
+  pub remembers : store_failed ≡ false → IsTrue tells → RemembersSessions peers sessions memory memory_new
 
--- What `serve` answers to what the parts of a directory read as: the store is refused, and the net left alone; or it served.
-pub data ServeAnswer (parts : Readings) (asked : ℕ) (memory memory_new : List ℕ) (net net_new : NetState) (net_faults net_faults_new : ℕ) (added : List (List ℕ)) (told : Told) : Type 0 where
-  not_served : (refusal : Refusal) → RefusesStore parts refusal → net_new ≡ net → added ≡ [] → told ≡ Err refusal
-      → ServeAnswer parts asked memory memory_new net net_new net_faults net_faults_new added told
-  served : (store : StoreData) → HasStore parts store → ServesPeers store asked memory memory_new net net_new net_faults net_faults_new added told
-      → ServeAnswer parts asked memory memory_new net net_new net_faults net_faults_new added told
+-- What comes of a store that is open: a disk failed before a link was asked for; or it served.
+pub data ServingOf (tells : Bool) (store : StoreData) (asked : ℕ) (memory memory_new : List ℕ) (net net_new : NetState) (net_faults net_faults_new : ℕ) (added : List (List ℕ)) (told : Told) : Type 0 where
+  not_read : net_new ≡ net → told ≡ Err refusals.StoreFault → ServingOf tells store asked memory memory_new net net_new net_faults net_faults_new added told
+  served : ServesPeers tells store asked memory memory_new net net_new net_faults net_faults_new added told → ServingOf tells store asked memory memory_new net net_new net_faults net_faults_new added told
+
+-- What `serve` answers to what the parts of a directory read as, where the shelf tells it: the store is refused, or a disk failed as it was taken, and the net is left
+-- alone; or what comes of the open store.
+pub data ServeAnswer (tells : Bool) (parts : Readings) (asked : ℕ) (memory memory_new : List ℕ) (net net_new : NetState) (net_faults net_faults_new : ℕ) (added : List (List ℕ)) (told : Told) : Type 0 where
+  not_served : (refusal : Refusal) → IsOfStore refusal → (IsTrue tells → RefusesStore parts refusal) → net_new ≡ net → added ≡ [] → told ≡ Err refusal
+      → ServeAnswer tells parts asked memory memory_new net net_new net_faults net_faults_new added told
+  not_taken : net_new ≡ net → added ≡ [] → told ≡ Err refusals.StoreFault → ServeAnswer tells parts asked memory memory_new net net_new net_faults net_faults_new added told
+  opened : (store : StoreData) → (IsTrue tells → HasStore parts store) → ServingOf tells store asked memory memory_new net net_new net_faults net_faults_new added told
+      → ServeAnswer tells parts asked memory memory_new net net_new net_faults net_faults_new added told
 
 -- A run of `serve` over a directory and a net, as one of `sync`.
 pub record ServesStore (dir : List ℕ) (asked : ℕ) (before after : ShelfState) (net net_new : NetState) (faults faults_new net_faults net_faults_new : ℕ) (told : Told) : Type 0 where
   pub added : List (List ℕ)
-  pub comes : (IsTrue before.tells → ServeAnswer (readings before dir) asked (memory_in before dir) (memory_in after dir) net net_new net_faults net_faults_new added told) ⊎ IsMeetingFault told
+  pub comes : ServeAnswer before.tells (readings before dir) asked (memory_in before dir) (memory_in after dir) net net_new net_faults net_faults_new added told ⊎ (told ≡ Err refusals.Memory)
   pub out : net_new.out ≡ net.out
   pub run : IsTrue before.tells → HoldsRun is_luhn before after dir added (told_done told)
   pub others : IsTrue before.tells → KeepsAllBut touched dir before after

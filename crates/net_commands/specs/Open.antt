@@ -22,7 +22,7 @@ use Rattle.outcomes.specs.declared.refusal.Refusal.TheVariants as refusals
 use Rattle.schema_verdict.specs.declared.status.TheConstants.{STORE_FAULT, STREAM_FAULT}
 use Rattle.outcomes.specs.Remembering.{KeepsPeers, RemembersIn, memory_in}
 use Rattle.outcomes.specs.OpenStores.{opened_store}
-use Rattle.net_commands.specs.Meetings.{Dials, HandsNone, HandsOver, IsMeetingFault, Meets}
+use Rattle.net_commands.specs.Meetings.{Concluded, Dials, HandsNone, HandsOver, MeetingOf}
 use Rattle.outcomes.specs.Told.{Tells, Told, told_done, told_status}
 use Rattle.net_commands.specs.Words.{status_by, sync_text}
 
@@ -70,30 +70,25 @@ pub record AreKept (dir : List ℕ) (before after : ShelfState) (now : ReplicaSt
   pub forgets : served.ending ≢ endings.Done → IsTrue before.tells → memory_in after dir ≡ memory_in before dir
   pub clean : served.ending ≡ endings.Done → IsTrue now.log.disk.tells → IsClean now.log.end now.log.disk
 
--- Why it is not: memory ran out, or a disk failed.
-abbrev pub IsKeepFault : ℕ → ℕ → ReplicaState → Refusal → Type 0
-IsKeepFault faults faults_new now refusal = (refusal ≡ refusals.Memory) ⊎ ((refusal ≡ refusals.StoreFault) × (Rose faults faults_new ⊎ (0 < now.log.faults)))
+-- Why it is not: memory ran out; or a disk failed, after a session that is done.
+abbrev pub IsKeepFault : ℕ → ℕ → ReplicaState → Served → Refusal → Type 0
+IsKeepFault faults faults_new now served refusal =
+    (refusal ≡ refusals.Memory) ⊎ ((refusal ≡ refusals.StoreFault) × (served.ending ≡ endings.Done) × (Rose faults faults_new ⊎ (0 < now.log.faults)))
 
 pub record Keeps (dir : List ℕ) (before after : ShelfState) (faults faults_new : ℕ) (old now : ReplicaState) (peers : List PeerEntry) (name : List ℕ) (served : Served) {T : Type 0} (result : Result T Refusal) : Type 0 where
   pub grows : KeepsGrowing old now
   pub keeps : KeepsPeers dir before after
   pub kept : OnOk result (AreKept dir before after now peers name served)
-  pub failed : IfErr result (IsKeepFault faults faults_new now)
+  pub failed : IfErr result (IsKeepFault faults faults_new now served)
   pub later : faults ≤ faults_new
   pub log_later : old.log.faults ≤ now.log.faults
 
--- What a session came to is told; after one that is done its ids are remembered, and after another nothing.
-pub record ConcludesAs (dir : List ℕ) (before after : ShelfState) (peers : List PeerEntry) (name : List ℕ) (served : Served) (told : Told) : Type 0 where
-  pub tells : Tells told (sync_text served) (status_by served.ending)
-  pub remembers : served.ending ≡ endings.Done → IsTrue before.tells → RemembersIn peers name served.heads (memory_in after dir)
-  pub forgets : served.ending ≢ endings.Done → IsTrue before.tells → memory_in after dir ≡ memory_in before dir
-
--- What it comes to, or a fault in its place.
+-- How the session is told, or that memory ran out.
 pub record Concludes (dir : List ℕ) (before after : ShelfState) (faults faults_new : ℕ) (old now : ReplicaState) (peers : List PeerEntry) (name : List ℕ) (served : Served) (told : Told) : Type 0 where
   pub grows : KeepsGrowing old now
   pub clean : told_done told ≡ true → IsTrue now.log.disk.tells → IsClean now.log.end now.log.disk
   pub keeps : KeepsPeers dir before after
-  pub comes : ConcludesAs dir before after peers name served told ⊎ IsMeetingFault told
+  pub comes : Concluded before.tells peers name (memory_in before dir) (memory_in after dir) served told ⊎ (told ≡ Err refusals.Memory)
   pub later : faults ≤ faults_new
   pub log_later : old.log.faults ≤ now.log.faults
   pub store_fault : told_status told ≡ STORE_FAULT → (served.ending ≡ endings.Store) ⊎ (Rose faults faults_new ⊎ (0 < now.log.faults))
@@ -103,7 +98,7 @@ pub record Concludes (dir : List ℕ) (before after : ShelfState) (faults faults
 pub record SyncsOpen (dir address : List ℕ) (before after : ShelfState) (net net_new : NetState) (faults faults_new net_faults net_faults_new : ℕ) (old now : ReplicaState) (told : Told) : Type 0 where
   pub added : List (List ℕ)
   pub holds : HoldsOn old now added (told_done told)
-  pub comes : (IsTrue before.tells → Meets (opened_store old) address (memory_in before dir) (memory_in after dir) net net_new added told) ⊎ IsMeetingFault told
+  pub comes : MeetingOf before.tells (opened_store old) address (memory_in before dir) (memory_in after dir) net net_new added told ⊎ (told ≡ Err refusals.Memory)
   pub dials : Dials net net_new
   pub keeps : KeepsPeers dir before after
   pub later : faults ≤ faults_new

@@ -16,11 +16,11 @@ use Rattle.session_server.specs.declared.served.Served.{Served}
 use Rattle.session_server.specs.Serving.{Serves}
 use Rattle.outcomes.specs.declared.refusal.Refusal.{Refusal}
 use Rattle.outcomes.specs.declared.refusal.Refusal.TheVariants as refusals
-use Rattle.schema_verdict.specs.declared.status.TheConstants.{STORE_FAULT, STREAM_FAULT}
+use Rattle.schema_verdict.specs.declared.status.TheConstants.{OUT_OF_MEMORY, STORE_FAULT, STREAM_FAULT}
 use Rattle.outcomes.specs.Remembering.{KeepsPeers, memory_in}
 use Rattle.outcomes.specs.OpenStores.{opened_store}
 use Rattle.net_commands.specs.declared.serve.Met.{Met}
-use Rattle.net_commands.specs.Meetings.{IsMeetingFault, RemembersSessions, ServesPeers}
+use Rattle.net_commands.specs.Meetings.{RemembersSessions, ServingOf}
 use Rattle.outcomes.specs.Told.{Tells, Told, told_done, told_status}
 use Rattle.net_commands.specs.Open.{KeepsGrowing, opening_list}
 use Rattle.net_commands.specs.Words.{has_status, serve_status, serve_text}
@@ -32,6 +32,7 @@ pub record HoldsSessions (peers : List PeerEntry) (asked : ℕ) (net net_new : N
   pub opened : first.seen ≡ opening_list old
   pub within : IsPrefix (updates_of last.seen) now.history.members
   pub serves : Serves old.history.schema.rule peers asked first last net net_new net_faults net_faults_new met.sessions met.net_failed false
+  pub starved : has_status OUT_OF_MEMORY met.sessions ≡ false
   pub broken : has_status STREAM_FAULT met.sessions ≡ true → Rose net_faults net_faults_new
   pub stored : has_status STORE_FAULT met.sessions ≡ true → 0 < now.log.faults
 
@@ -77,7 +78,7 @@ pub record ConcludesAll (dir : List ℕ) (before after : ShelfState) (faults fau
 pub record ServesOpen (dir : List ℕ) (asked : ℕ) (before after : ShelfState) (net net_new : NetState) (faults faults_new net_faults net_faults_new : ℕ) (old now : ReplicaState) (told : Told) : Type 0 where
   pub added : List (List ℕ)
   pub holds : HoldsOn old now added (told_done told)
-  pub comes : (IsTrue before.tells → ServesPeers (opened_store old) asked (memory_in before dir) (memory_in after dir) net net_new net_faults net_faults_new added told) ⊎ IsMeetingFault told
+  pub comes : ServingOf before.tells (opened_store old) asked (memory_in before dir) (memory_in after dir) net net_new net_faults net_faults_new added told ⊎ (told ≡ Err refusals.Memory)
   pub out : net_new.out ≡ net.out
   pub keeps : KeepsPeers dir before after
   pub later : faults ≤ faults_new

@@ -64,11 +64,12 @@ serve_text sessions store_failed net_failed = lines_from 1 sessions ++ said_last
 abbrev pub has_status : ℕ → List Served → Bool
 has_status status sessions = list_any (λ served. status_by served.ending == status) sessions
 
--- The exit status of `serve`: the first of 3, 4, 7 and 6 that a session has, and else 0. A disk that failed outside the sessions has 3, and the net has 4.
+-- The exit status of `serve`: the first of 5, 3, 4, 7 and 6 that a session has, and else 0. A disk that failed outside the sessions has 3, and the net has 4.
 abbrev pub serve_status : List Served → (store_failed net_failed : Bool) → ℕ
 serve_status sessions store_failed net_failed =
-    cond (store_failed || has_status STORE_FAULT sessions) STORE_FAULT
+    cond (has_status OUT_OF_MEMORY sessions) OUT_OF_MEMORY
+    (cond (store_failed || has_status STORE_FAULT sessions) STORE_FAULT
     (cond (net_failed || has_status STREAM_FAULT sessions) STREAM_FAULT
     (cond (has_status FULL sessions) FULL
     (cond (has_status PEER sessions) PEER
-    DONE)))
+    DONE))))

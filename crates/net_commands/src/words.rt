@@ -58,6 +58,9 @@ pub(crate) fn has_status(status: u8, sessions: &[Served]) -> bool
 pub(crate) fn serve_status(sessions: &[Served], store_failed: bool, net_failed: bool) -> u8
     ensures { result ≡ serve_status sessions.now store_failed net_failed }
 {
+    if has_status(OUT_OF_MEMORY, sessions) {
+        return OUT_OF_MEMORY;
+    }
     if store_failed || has_status(STORE_FAULT, sessions) {
         return STORE_FAULT;
     }

@@ -3,6 +3,7 @@ pub mod Answering
 pub mod Asking
 pub mod Bundles
 pub mod HeadSteps
+pub mod KeyUse
 pub mod MakersOnce
 pub mod Meeting
 pub mod MergeOnce

@@ -4,7 +4,7 @@ use Rattle.std.specs.Prelude.{Contains}
 use Rattle.std.proofs.lemmas.Bool.{true≢false}
 use Rattle.std.proofs.lemmas.List.Elements.{All-nil}
 use Rattle.bec_disk.specs.declared.part.Part.TheVariants.{Peers}
-use Rattle.bec_disk.specs.Shelf.{ShelfState}
+use Rattle.bec_disk.specs.Shelf.{PartState, ShelfState}
 use Rattle.bec_disk.specs.Slot.{slot}
 use Rattle.update_model.specs.Batch.{store_limits}
 use Rattle.update_model.specs.Rule.{RuleData}
@@ -22,15 +22,15 @@ use Rattle.replica.specs.Holding.{IsOnDisk, IsWhole, KeepsOn, keeps_itself}
 use Rattle.replica.specs.Replicas.{ReplicaState}
 use Rattle.store_directory.specs.Holding.{WorksOn}
 use Rattle.outcomes.specs.declared.refusal.Refusal.{Refusal}
-use Rattle.outcomes.specs.Comes.{is_done}
-use Rattle.node_commands.specs.Merging.{IsMergeFault, KeepsAllButIn, Meets, MergesOpen, TellsEnd, start_of}
+use Rattle.outcomes.specs.Comes.{IsRefused, is_done}
+use Rattle.node_commands.specs.Merging.{AreUnremembered, IfStoreFault, IsMergeEnd, IsMergeFault, IsStopped, held, unheld, KeepsAllButIn, Meets, MergesOpen, TellsEnd, start_of}
 use Rattle.outcomes.specs.Remembering.{IsPeersFault, KeepsPeers, RemembersIn, memory_in}
 use Rattle.outcomes.specs.OpenStores.{WorksFrom, opened_store}
 use Rattle.outcomes.specs.Outcome.{Outcome}
 use Rattle.outcomes.specs.Standing.{Stands}
-use Rattle.node_commands.proofs.Merging.{away_from}
+use Rattle.node_commands.proofs.Merging.{away_from, if_fault}
 use Rattle.outcomes.proofs.Around.{same_memory}
-use Rattle.key_directory.specs.Parts.{KeepsPlaces}
+use Rattle.key_directory.specs.Parts.{IsUntouched, KeepsPlaces, part_in}
 
 -- ---- the shelf
 
@@ -75,6 +75,7 @@ pub record ReadsBoth (first second : List ℕ) (before after : ShelfState) (faul
   pub shelf : Shelved first second before after faults faults_new
   pub reads : IsTrue before.tells → Reads (memory_in before first) peers
   pub reads_other : IsTrue before.tells → Reads (memory_in before second) peers_other
+  pub untouched : IsTrue before.tells → AreUnremembered first second before after
 
 -- the peers of a directory stay while those of another one are read or kept
 other_stays : (first second : List ℕ) → first ≢ second → (before after : ShelfState) → KeepsPeers first before after → IsTrue before.tells → memory_in after second ≡ memory_in before second
@@ -83,11 +84,18 @@ other_stays first second differ before after keeps tells = same_memory before af
 pub both_read : (first second : List ℕ) → first ≢ second → (before mid after : ShelfState) (faults between faults_new : ℕ) (peers peers_other : List PeerEntry)
     → KeepsPeers first before mid → KeepsPeers second mid after → faults ≤ between → between ≤ faults_new
     → (IsTrue before.tells → Reads (memory_in before first) peers) → (IsTrue mid.tells → Reads (memory_in mid second) peers_other)
+    → (IsTrue before.tells → IsUntouched (part_in before first Peers) (part_in mid first Peers)) → (IsTrue mid.tells → IsUntouched (part_in mid second Peers) (part_in after second Peers))
     → ReadsBoth first second before after faults faults_new peers peers_other
-both_read first second differ before mid after faults between faults_new peers peers_other keeps keeps_other one two reads reads_other = record {
+both_read first second differ before mid after faults between faults_new peers peers_other keeps keeps_other one two reads reads_other same same_other = record {
   shelf = shelved_second first second before faults mid after between faults_new (shelved_first first second before faults before mid faults between (shelved_none first second before faults) one keeps) two keeps_other;
   reads = reads;
   reads_other = λ tells. subst (λ (memory : List ℕ). Reads memory peers_other) (other_stays first second differ before mid keeps tells) (reads_other (told_on before.tells mid.tells keeps.tells tells));
+  untouched = λ tells. (
+    subst (λ (p : PartState). IsUntouched (part_in before first Peers) p)
+        (sym (keeps_other.others (told_on before.tells mid.tells keeps.tells tells) (slot first Peers) (away_from second first (λ e. differ (sym e)) (Peers ∷ []) Peers))) (same tells),
+    subst (λ (p : PartState). IsUntouched p (part_in after second Peers)) (keeps.others tells (slot second Peers) (away_from first second differ (Peers ∷ []) Peers))
+        (same_other (told_on before.tells mid.tells keeps.tells tells)),
+  );
 }
 
 -- What both directories remember of each other's peers is kept.
@@ -191,17 +199,29 @@ works_by old new added done on here stands members whole = λ was taken same.
 
 module _ (first second : List ℕ) (before after : ShelfState) (faults faults_new : ℕ) (one other one_new other_new : ReplicaState) (outcome : Outcome)
     (shelf : Shelved first second before after faults faults_new) (met : Met one other one_new other_new (is_done outcome)) where
-  pub merges_open : (IsTrue before.tells → Meets (opened_store one) (opened_store other) (memory_in before first) (memory_in before second) (memory_in after first) (memory_in after second) met.grows.added met.grows_other.added outcome)
-      ⊎ IsMergeFault faults faults_new one other one_new other_new outcome → MergesOpen first second before after faults faults_new one other one_new other_new outcome
-  merges_open comes = record {
+  abbrev pub Met_so : Type 0
+  Met_so = IsTrue before.tells → Meets (opened_store one) (opened_store other) (memory_in before first) (memory_in before second) (memory_in after first) (memory_in after second) met.grows.added met.grows_other.added outcome
+
+  abbrev pub Stopped_so : Type 0
+  Stopped_so = IsTrue before.tells → IfStoreFault outcome (IsStopped (opened_store one) (opened_store other) (memory_in before first) (memory_in before second) met.grows.added met.grows_other.added)
+
+  abbrev pub Unremembered : Type 0
+  Unremembered = IsRefused outcome → IsTrue before.tells → AreUnremembered first second before after
+
+  pub merges_open : (Met_so × (IsMergeEnd outcome × Unremembered)) ⊎ IsMergeFault faults faults_new one other one_new other_new outcome → Stopped_so
+      → MergesOpen first second before after faults faults_new one other one_new other_new outcome
+  merges_open comes stopped = record {
     added = met.grows.added;
     added_other = met.grows_other.added;
-    comes = comes;
+    comes = so comes;
+    ends = end_of comes;
+    peers = λ tells is. unremembered comes is tells;
     works = λ whole_other. works_by one one_new met.grows.added (is_done outcome) met.on met.was met.stands met.grows.behind (λ is_done was. (met.whole is_done was whole_other).0);
     works_other = λ whole. works_by other other_new met.grows_other.added (is_done outcome) met.on_other met.was_other met.stands_other met.grows_other.behind (λ is_done was. (met.whole is_done whole was).1);
     slot = (met.on.disk met.was).any_moment.disk.slot;
     slot_other = (met.on_other.disk met.was_other).any_moment.disk.slot;
     within = record { first = met.grows.of; second = met.grows_other.of };
+    stopped = stopped;
     tells = shelf.tells;
     places = shelf.places;
     others = shelf.others;
@@ -209,6 +229,22 @@ module _ (first second : List ℕ) (before after : ShelfState) (faults faults_ne
     log_later = met.later;
     log_later_other = met.later_other;
   }
+    where
+      Fault : Type 0
+      Fault = IsMergeFault faults faults_new one other one_new other_new outcome
+
+      so : (Met_so × (IsMergeEnd outcome × Unremembered)) ⊎ Fault → Met_so ⊎ Fault
+      so (inl met_so) = inl met_so.0
+      so (inr fault) = inr fault
+
+      end_of : (Met_so × (IsMergeEnd outcome × Unremembered)) ⊎ Fault → IsMergeEnd outcome ⊎ Fault
+      end_of (inl met_so) = inl met_so.1
+      end_of (inr fault) = inr fault
+
+      unremembered : (Met_so × (IsMergeEnd outcome × Unremembered)) ⊎ Fault → Unremembered
+      unremembered (inl met_so) = met_so.2
+      unremembered (inr (inl memory)) = λ is. absurd (subst IsRefused memory is)
+      unremembered (inr (inr store)) = λ is. absurd (subst IsRefused store.0 is)
 
 -- nothing was done to either store
 pub open_stopped : (first second : List ℕ) (before after : ShelfState) (faults faults_new : ℕ) (one other : ReplicaState) (refusal : Refusal) → Stands one → Stands other
@@ -216,6 +252,24 @@ pub open_stopped : (first second : List ℕ) (before after : ShelfState) (faults
     → MergesOpen first second before after faults faults_new one other one other (Err refusal)
 open_stopped first second before after faults faults_new one other refusal stands stands_other shelf fault =
     merges_open first second before after faults faults_new one other one other (Err refusal) shelf (met_none one other false stands stands_other) (inr fault)
+    (λ tells. if_fault (Err refusal) (unheld refl refl))
+
+-- What a session added that was held where the store failed.
+pub stopped_in : (one other one_new other_new : ReplicaState) (start : PairStart) (ended : PairEnd) (peers peers_other : List PeerEntry)
+    → start ≡ start_of (opened_store one) (opened_store other) peers peers_other
+    → (grows : GrowsBy (one.history.members ++ other.history.members) one.history.members one_new.history.members)
+    → (grows_other : GrowsBy (one.history.members ++ other.history.members) other.history.members other_new.history.members)
+    → Syncs store_limits store_limits one.history.schema.rule other.history.schema.rule start one.history.members other.history.members ended one_new.history.members other_new.history.members
+    → (memory memory_other : List ℕ) → Reads memory peers → Reads memory_other peers_other → (ended.a ≡ Store) ⊎ (ended.a ≡ Done)
+    → IsStopped (opened_store one) (opened_store other) memory memory_other grows.added grows_other.added
+stopped_in one other one_new other_new start ended peers peers_other starts grows grows_other syncs memory memory_other reads reads_other end =
+    held ended peers peers_other reads reads_other end
+    (subst (λ (s : PairStart). Syncs store_limits store_limits one.history.schema.rule other.history.schema.rule s one.history.members other.history.members ended
+    (one.history.members ++ grows.added) (other.history.members ++ grows_other.added)) starts
+    (subst (λ (l : List (List ℕ)). Syncs store_limits store_limits one.history.schema.rule other.history.schema.rule start one.history.members other.history.members ended l
+    (other.history.members ++ grows_other.added)) grows.behind
+    (subst (λ (l : List (List ℕ)). Syncs store_limits store_limits one.history.schema.rule other.history.schema.rule start one.history.members other.history.members ended one_new.history.members l)
+    grows_other.behind syncs)))
 
 -- What the session of two stores came to.
 module _ (one other one_new other_new : ReplicaState) (start : PairStart) (ended : PairEnd) (peers peers_other : List PeerEntry)

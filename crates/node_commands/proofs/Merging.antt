@@ -22,9 +22,10 @@ use Rattle.key_directory.proofs.Places.{place_again, same_place, stands-not-out}
 use Rattle.key_directory.proofs.Putting.{slot_of, told}
 use Rattle.store_directory.proofs.Readings.{OneSchema, same_store}
 use Rattle.store_directory.proofs.Working.{read_before, store_of, worked_run}
+use Rattle.outcomes.specs.declared.refusal.Refusal.{Refusal}
 use Rattle.outcomes.specs.declared.refusal.Refusal.TheVariants as refusals
 use Rattle.outcomes.specs.Comes.{IsShelfFault, is_done, readings}
-use Rattle.node_commands.specs.Merging.{BesideAnswer, IsBesideFault, IsMergeFault, IsWithin, KeepsAllButIn, Meets, MergeAnswer, MergesBeside, MergesOpen, MergesStores, with_both, with_it, without, without_first, without_second}
+use Rattle.node_commands.specs.Merging.{BesideAnswer, IfStoreFault, IsBesideFault, IsMergeEnd, IsMergeFault, IsStopped, IsWithin, unheld, KeepsAllButIn, Meets, MergeAnswer, MergesBeside, MergesOpen, MergesStores, with_both, with_it, without, without_first, without_second}
 use Rattle.outcomes.specs.Remembering.{memory_in, touched}
 use Rattle.outcomes.specs.OpenStores.{opened_store, WorksFrom}
 use Rattle.outcomes.specs.Outcome.{Outcome, from_store}
@@ -84,6 +85,19 @@ same_run before opened closing after dir added done s u s2 u2 run = record {
     again : (store : StoreData) → IsStore is_luhn closing dir store → IsStore is_luhn after dir store
     again store is = rw (s2, u2) is
 
+-- what holds anyway holds where the store failed
+pub if_fault : {P : Type 0} → (outcome : Outcome) → P → IfStoreFault outcome P
+if_fault (Err refusals.StoreFault) is = is
+if_fault outcome is = tt
+
+-- parts that were at most read, between moments at which they are as they are at others
+untouched_around : (before opened closing after before_two opened_two closing_two after_two : PartState) → opened ≡ before → opened_two ≡ before_two → after ≡ closing → after_two ≡ closing_two
+    → IsUntouched opened closing × IsUntouched opened_two closing_two → IsUntouched before after × IsUntouched before_two after_two
+untouched_around before opened closing after before_two opened_two closing_two after_two o o2 c c2 same = (
+  subst (λ (p : PartState). IsUntouched p after) o (subst (λ (p : PartState). IsUntouched opened p) (sym c) same.0),
+  subst (λ (p : PartState). IsUntouched p after_two) o2 (subst (λ (p : PartState). IsUntouched opened_two p) (sym c2) same.1),
+)
+
 -- ---- beside a store that is open
 
 -- the parts of the second store stay while both are open
@@ -110,10 +124,16 @@ module _ (first second : List ℕ) (differ : first ≢ second) (before after : S
     added = [];
     added_other = [];
     comes = by why cause failed;
+    ends = some why failed;
+    peers = λ tells is. (
+      untouched_by (part_in before first Peers) (part_in after first Peers) (lets.others tells (slot first Peers) (away_from second first (λ e. differ (sym e)) (Schema ∷ Updates ∷ []) Peers)),
+      untouched_by (part_in before second Peers) (part_in after second Peers) (lets.others tells (slot second Peers) refl),
+    );
     works = subst (λ (r : ReplicaState). WorksFrom one r [] false) (sym same) (works_not one false stands);
     slot = ap (λ (r : ReplicaState). r.log.disk.slot) same;
     run_other = λ whole. lets.run;
     within = λ tells other is. record { first = All-nil (Contains (one.history.members ++ other.members)); second = All-nil (Contains (one.history.members ++ other.members)) };
+    stopped = λ tells other is. if_fault (Err (from_store why)) (unheld refl refl);
     tells = lets.tells;
     places = lets.places;
     others = λ tells other away away_too. lets.others tells other (of_store second other away_too);
@@ -129,6 +149,12 @@ module _ (first second : List ℕ) (differ : first ≢ second) (before after : S
       by store_refusals.DiskFault so f = inr (inr (refl, inl (f refl)))
       by store_refusals.Memory so f = inr (inl refl)
 
+      some : (why : StoreRefusal) → (why ≡ store_refusals.DiskFault → Rose old new) → IsMergeEnd (Err (from_store why)) ⊎ IsBesideFault old new one one_new (Err (from_store why))
+      some store_refusals.NoStore f = inl tt
+      some store_refusals.BadStore f = inl tt
+      some store_refusals.DiskFault f = inr (inr (refl, inl (f refl)))
+      some store_refusals.Memory f = inr (inl refl)
+
   -- where it was taken and put back
   pub beside_taken : OneSchema → (opened closing : ShelfState) (opened_faults closing_faults : ℕ) (taken : OpenData) (now : ReplicaState) (outcome : Outcome)
       → TakesStore is_luhn before second taken opened → MergesOpen first second opened closing opened_faults closing_faults one taken.replica one_new now outcome
@@ -138,6 +164,11 @@ module _ (first second : List ℕ) (differ : first ≢ second) (before after : S
     added = merges.added;
     added_other = merges.added_other;
     comes = by merges.comes;
+    ends = some merges.ends;
+    peers = λ tells is. untouched_around (part_in before first Peers) (part_in opened first Peers) (part_in closing first Peers) (part_in after first Peers)
+        (part_in before second Peers) (part_in opened second Peers) (part_in closing second Peers) (part_in after second Peers)
+        (takes.others (slot first Peers) away) (takes.others (slot second Peers) refl) (puts.others (still tells) (slot first Peers) away) (puts.others (still tells) (slot second Peers) refl)
+        (merges.peers (inside tells) is);
     works = merges.works (whole_before second before opened closing after taken now takes puts merges.tells merges.places);
     slot = merges.slot;
     run_other = λ whole tells. worked_run schemas is_luhn before opened closing after second taken now merges.added_other (is_done outcome) tells (still tells) takes
@@ -145,6 +176,14 @@ module _ (first second : List ℕ) (differ : first ≢ second) (before after : S
     within = λ tells other is.
         subst (λ (s : StoreData). IsWithin one.history.members s.members merges.added merges.added_other)
         (same_store schemas is_luhn (reading (part_in before second Schema)) (reading (part_in before second Updates)) (store_of taken.replica) other (read_before is_luhn before opened second taken tells takes) is) merges.within;
+    stopped = λ tells other is.
+        subst (λ (s : StoreData). IfStoreFault outcome (IsStopped (opened_store one) s (memory_in before first) (memory_in before second) merges.added merges.added_other))
+        (same_store schemas is_luhn (reading (part_in before second Schema)) (reading (part_in before second Updates)) (store_of taken.replica) other (read_before is_luhn before opened second taken tells takes) is)
+        (rw (
+          sym (same_memory before opened first (takes.others (slot first Peers) away)),
+          sym (same_memory before opened second (takes.others (slot second Peers) refl)),
+        )
+        (merges.stopped (inside tells)));
     tells = tells_still second before opened closing after taken now takes puts merges.tells merges.places;
     places = places_around second before opened closing after taken now takes puts merges.tells merges.places;
     others = λ tells other away away_too.
@@ -165,6 +204,12 @@ module _ (first second : List ℕ) (differ : first ≢ second) (before after : S
       away : to_first (Schema ∷ Updates ∷ [])
       away = away_from second first (λ e. differ (sym e)) (Schema ∷ Updates ∷ []) Peers
 
+      beside : IsMergeFault opened_faults closing_faults one taken.replica one_new now outcome → IsBesideFault old new one one_new outcome
+      beside (inl memory) = inl memory
+      beside (inr (is, inl shelf)) = inr (is, inl (omega (arith, one_later, two_later, shelf)))
+      beside (inr (is, inr (inl log))) = inr (is, inr log)
+      beside (inr (is, inr (inr log))) = let any : 0 < now.log.faults = omega (arith, log) in let mid = merges.later in let more = faulted any in inr (is, inl (omega (arith, one_later, mid, more)))
+
       by : (IsTrue opened.tells → Meets (opened_store one) (opened_store taken.replica) (memory_in opened first) (memory_in opened second) (memory_in closing first) (memory_in closing second) merges.added merges.added_other outcome)
           ⊎ IsMergeFault opened_faults closing_faults one taken.replica one_new now outcome
           → (IsTrue before.tells → BesideAnswer (opened_store one) (readings before second) (memory_in before first) (memory_in before second) (memory_in after first) (memory_in after second) merges.added merges.added_other outcome)
@@ -178,10 +223,11 @@ module _ (first second : List ℕ) (differ : first ≢ second) (before after : S
             same_memory closing after second (puts.others (still tells) (slot second Peers) refl),
           )
           (meets (inside tells))))
-      by (inr (inl memory)) = inr (inl memory)
-      by (inr (inr (is, inl shelf))) = inr (inr (is, inl (omega (arith, one_later, two_later, shelf))))
-      by (inr (inr (is, inr (inl log)))) = inr (inr (is, inr log))
-      by (inr (inr (is, inr (inr log)))) = let some : 0 < now.log.faults = omega (arith, log) in let mid = merges.later in let more = faulted some in inr (inr (is, inl (omega (arith, one_later, mid, more))))
+      by (inr fault) = inr (beside fault)
+
+      some : IsMergeEnd outcome ⊎ IsMergeFault opened_faults closing_faults one taken.replica one_new now outcome → IsMergeEnd outcome ⊎ IsBesideFault old new one one_new outcome
+      some (inl end) = inl end
+      some (inr fault) = inr (beside fault)
 
 -- ---- of two directories
 
@@ -193,10 +239,16 @@ module _ (first second : List ℕ) (differ : first ≢ second) (before after : S
     added = [];
     added_other = [];
     comes = by why cause failed;
+    ends = some why failed;
+    peers = λ tells is. (
+      untouched_by (part_in before first Peers) (part_in after first Peers) (lets.others tells (slot first Peers) refl),
+      untouched_by (part_in before second Peers) (part_in after second Peers) (lets.others tells (slot second Peers) (away_from first second differ (Schema ∷ Updates ∷ []) Peers)),
+    );
     run = lets.run;
     run_other = λ tells. not_run before after second (lets.others tells (slot second Schema) (away_from first second differ (Schema ∷ Updates ∷ []) Schema))
         (lets.others tells (slot second Updates) (away_from first second differ (Schema ∷ Updates ∷ []) Updates));
     within = λ tells one other is_one is_other. record { first = All-nil (Contains (one.members ++ other.members)); second = All-nil (Contains (one.members ++ other.members)) };
+    stopped = λ tells one other is_one is_other. if_fault (Err (from_store why)) (unheld refl refl);
     others = λ tells other away away_too. lets.others tells other (of_store first other away);
     home = λ tells place. lets.places tells place (home tells place);
   }
@@ -209,6 +261,12 @@ module _ (first second : List ℕ) (differ : first ≢ second) (before after : S
       by store_refusals.DiskFault so f = inr (inr (refl, f refl))
       by store_refusals.Memory so f = inr (inl refl)
 
+      some : (why : StoreRefusal) → (why ≡ store_refusals.DiskFault → Rose old new) → IsMergeEnd (Err (from_store why)) ⊎ IsShelfFault old new (Err (from_store why))
+      some store_refusals.NoStore f = inl tt
+      some store_refusals.BadStore f = inl tt
+      some store_refusals.DiskFault f = inr (inr (refl, f refl))
+      some store_refusals.Memory f = inr (inl refl)
+
   -- where it was taken and put back
   pub merges_taken : OneSchema → (opened closing : ShelfState) (opened_faults closing_faults : ℕ) (taken : OpenData) (now : ReplicaState) (outcome : Outcome) → (IsTrue before.tells → IsHome before)
       → TakesStore is_luhn before first taken opened → MergesBeside first second opened closing opened_faults closing_faults taken.replica now outcome
@@ -218,6 +276,11 @@ module _ (first second : List ℕ) (differ : first ≢ second) (before after : S
     added = merges.added;
     added_other = merges.added_other;
     comes = by merges.comes;
+    ends = some merges.ends;
+    peers = λ tells is. untouched_around (part_in before first Peers) (part_in opened first Peers) (part_in closing first Peers) (part_in after first Peers)
+        (part_in before second Peers) (part_in opened second Peers) (part_in closing second Peers) (part_in after second Peers)
+        (takes.others (slot first Peers) refl) (takes.others (slot second Peers) (away Peers)) (puts.others (still tells) (slot first Peers) refl) (puts.others (still tells) (slot second Peers) (away Peers))
+        (merges.peers (inside tells) is);
     run = λ tells. worked_run schemas is_luhn before opened closing after first taken now merges.added (is_done outcome) tells (still tells) takes
         (merges.works (λ log_tells. (takes.updates tells).2.clean refl) taken refl) puts;
     run_other = λ tells. same_run before opened closing after second merges.added_other (is_done outcome)
@@ -228,6 +291,14 @@ module _ (first second : List ℕ) (differ : first ≢ second) (before after : S
         subst (λ (s : StoreData). IsWithin s.members other.members merges.added merges.added_other)
         (same_store schemas is_luhn (reading (part_in before first Schema)) (reading (part_in before first Updates)) (store_of taken.replica) one (read_before is_luhn before opened first taken tells takes) is_one)
         (merges.within (inside tells) other (rw (takes.others (slot second Schema) (away Schema), takes.others (slot second Updates) (away Updates)) is_other));
+    stopped = λ tells one other is_one is_other.
+        subst (λ (s : StoreData). IfStoreFault outcome (IsStopped s other (memory_in before first) (memory_in before second) merges.added merges.added_other))
+        (same_store schemas is_luhn (reading (part_in before first Schema)) (reading (part_in before first Updates)) (store_of taken.replica) one (read_before is_luhn before opened first taken tells takes) is_one)
+        (rw (
+          sym (same_memory before opened first (takes.others (slot first Peers) refl)),
+          sym (same_memory before opened second (takes.others (slot second Peers) (away Peers))),
+        )
+        (merges.stopped (inside tells) other (rw (takes.others (slot second Schema) (away Schema), takes.others (slot second Updates) (away Updates)) is_other)));
     others = λ tells other away_one away_two.
         puts.others (still tells) other (of_store first other away_one) ∙ merges.others (inside tells) other (of_peers first other away_one) away_two ∙ takes.others other (of_store first other away_one);
     home = λ tells place. places_around first before opened closing after taken now takes puts merges.tells merges.places tells place (home tells place);
@@ -241,6 +312,11 @@ module _ (first second : List ℕ) (differ : first ≢ second) (before after : S
 
       away : (part : Part) → list_any (λ other. same_slot (slot first other) (slot second part)) (Schema ∷ Updates ∷ []) ≡ false
       away part = away_from first second differ (Schema ∷ Updates ∷ []) part
+
+      outer : IsBesideFault opened_faults closing_faults taken.replica now outcome → IsShelfFault old new outcome
+      outer (inl memory) = inl memory
+      outer (inr (is, inl shelf)) = inr (is, omega (arith, one_later, two_later, shelf))
+      outer (inr (is, inr log)) = let any : 0 < now.log.faults = omega (arith, log) in let mid = merges.later in let more = faulted any in inr (is, omega (arith, one_later, mid, more))
 
       by : (IsTrue opened.tells → BesideAnswer (opened_store taken.replica) (readings opened second) (memory_in opened first) (memory_in opened second) (memory_in closing first) (memory_in closing second) merges.added merges.added_other outcome)
           ⊎ IsBesideFault opened_faults closing_faults taken.replica now outcome
@@ -265,6 +341,26 @@ module _ (first second : List ℕ) (differ : first ≢ second) (before after : S
               → MergeAnswer (readings before first) (readings before second) (memory_in before first) (memory_in before second) (memory_in after first) (memory_in after second) merges.added merges.added_other outcome
           whole tells (without refusal refuses nothing none is) = without_second (store_of taken.replica) refusal (read_before is_luhn before opened first taken tells takes) refuses nothing none is
           whole tells (with_it other has meets) = with_both (store_of taken.replica) other (read_before is_luhn before opened first taken tells takes) has meets
-      by (inr (inl memory)) = inr (inl memory)
-      by (inr (inr (is, inl shelf))) = inr (inr (is, omega (arith, one_later, two_later, shelf)))
-      by (inr (inr (is, inr log))) = let some : 0 < now.log.faults = omega (arith, log) in let mid = merges.later in let more = faulted some in inr (inr (is, omega (arith, one_later, mid, more)))
+      by (inr fault) = inr (outer fault)
+
+      some : IsMergeEnd outcome ⊎ IsBesideFault opened_faults closing_faults taken.replica now outcome → IsMergeEnd outcome ⊎ IsShelfFault old new outcome
+      some (inl end) = inl end
+      some (inr fault) = inr (outer fault)
+
+-- ---- want of memory in place of a refusal
+
+pub merge_without_memory : (first second : List ℕ) (before after : ShelfState) (old new : ℕ) (refusal : Refusal) → MergesStores first second before after old new (Err refusal)
+    → MergesStores first second before after old new (Err refusals.Memory)
+merge_without_memory first second before after old new refusal merges = record {
+  added = merges.added;
+  added_other = merges.added_other;
+  comes = inr (inl refl);
+  ends = inr (inl refl);
+  peers = λ tells is. absurd is;
+  run = merges.run;
+  run_other = merges.run_other;
+  within = merges.within;
+  stopped = λ tells one other is_one is_other. tt;
+  others = merges.others;
+  home = merges.home;
+}

@@ -1,5 +1,5 @@
 -- A command that makes the key of a directory.
-use Rattle.std.proofs.Common.{◌≡◌, ◌≢◌, inl, inr, ℕ, ◌/◌, ◌%◌, slice_index, List, [], ◌∷◌, ◌++◌, append_assoc, refl, sym, ap, subst, ◌∙◌, IsTrue, Some, Ok, Err, Vec}
+use Rattle.std.proofs.Common.{◌≡◌, ◌≢◌, ◌⊎◌, inl, inr, ℕ, ◌/◌, ◌%◌, slice_index, List, [], ◌∷◌, ◌++◌, append_assoc, refl, sym, ap, subst, ◌∙◌, IsTrue, Some, Ok, Err, Vec}
 use Rattle.std.specs.declared.alloc.Global.{Global}
 use Rattle.rand_core.specs.Stream.{Stream}
 use Rattle.std.specs.Int.{w32, to_be_bytes}
@@ -16,7 +16,7 @@ use Rattle.lm_ots.specs.declared.ots_type.OtsType.{OtsType}
 use Rattle.lms_tree.specs.declared.lms_type.LmsType.{LmsType}
 use Rattle.lms_tree.specs.LmsKind.{leaf_count}
 use Rattle.lms_tree.specs.SecretKey.{SecretData, public_key}
-use Rattle.key_index.specs.Creating.{drawn_key}
+use Rattle.key_index.specs.Creating.{after_draw, drawn_key}
 use Rattle.key_index.specs.KeyState.{KeyState}
 use Rattle.key_index.specs.Payload.{payload_of}
 use Rattle.key_index.specs.Used.{none_used}
@@ -105,7 +105,7 @@ module _ (secret : SecretData) (dir : List ℕ) (before opened : ShelfState) (ke
   none_there tells = no_key_handed (slot dir Key) (part_in before dir Key) (makes.created tells).0.key (makes.created tells).1 ((makes.created tells).3.absent (key_told tells))
 
 -- where no key was made
-module _ (lms : LmsType) (ots : OtsType) (stream : Stream) (dir : List ℕ) (before after : ShelfState) (old new : ℕ) (home : IsTrue before.tells → IsHome before) where
+module _ (lms : LmsType) (ots : OtsType) (stream stream_new : Stream) (dir : List ℕ) (before after : ShelfState) (old new : ℕ) (home : IsTrue before.tells → IsHome before) where
   module _ (lets : LetsNewGo Key Used (payload_of (drawn_key lms ots stream)) (none_used (leaf_count lms)) before dir after) where
     kept : IsTrue before.tells → HasKeyPart (readings before dir) → IsUntouched (part_in before dir Key) (part_in after dir Key) × IsUntouched (part_in before dir Used) (part_in after dir Used)
     kept tells there =
@@ -113,29 +113,32 @@ module _ (lms : LmsType) (ots : OtsType) (stream : Stream) (dir : List ℕ) (bef
         (same.0, untouched_by (part_in before dir Used) (part_in after dir Used) same.1)
 
     pub key_refused : (why : CreateKeyKind) → (IsTrue before.tells → IsNewKeyCause (reading (part_in before dir Key)) why) → (why ≡ key_kinds.DiskFault → Rose old new)
-        → DrawsKey lms ots stream dir before after old new (Err (from_creating_key why))
-    key_refused key_kinds.KeyThere cause failed =
-        record { comes = inl (λ tells. key_there (cause tells) refl); kept = kept; any_moment = lets.any_moment; lasts = λ tells. tt; others = lets.others; home = λ tells. lets.home tells (home tells) }
-    key_refused key_kinds.DiskFault cause failed = record { comes = inr (inr (refl, failed refl)); kept = kept; any_moment = lets.any_moment; lasts = λ tells. tt; others = lets.others; home = λ tells. lets.home tells (home tells) }
-    key_refused key_kinds.Memory cause failed = record { comes = inr (inl refl); kept = kept; any_moment = lets.any_moment; lasts = λ tells. tt; others = lets.others; home = λ tells. lets.home tells (home tells) }
+        → (stream_new ≡ stream) ⊎ (stream_new ≡ after_draw stream) → DrawsKey lms ots stream stream_new dir before after old new (Err (from_creating_key why))
+    key_refused key_kinds.KeyThere cause failed draws =
+        record { comes = inl (λ tells. key_there (cause tells) refl); ends = inl tt; kept = kept; any_moment = lets.any_moment; lasts = λ tells. tt; draws = draws; others = lets.others; home = λ tells. lets.home tells (home tells) }
+    key_refused key_kinds.DiskFault cause failed draws = record { comes = inr (inr (refl, failed refl)); ends = inr (inr (refl, failed refl)); kept = kept; any_moment = lets.any_moment; lasts = λ tells. tt; draws = draws; others = lets.others; home = λ tells. lets.home tells (home tells) }
+    key_refused key_kinds.Memory cause failed draws = record { comes = inr (inl refl); ends = inr (inl refl); kept = kept; any_moment = lets.any_moment; lasts = λ tells. tt; draws = draws; others = lets.others; home = λ tells. lets.home tells (home tells) }
 
   -- where none was asked for
-  pub key_unasked : after ≡ before → DrawsKey lms ots stream dir before after old new (Err refusals.Memory)
-  key_unasked same =
+  pub key_unasked : after ≡ before → stream_new ≡ stream → DrawsKey lms ots stream stream_new dir before after old new (Err refusals.Memory)
+  key_unasked same undrawn =
       let untouched : (p : PartState) → IsUntouched p p = λ p. untouched_by p p refl in
-      let here : DrawsKey lms ots stream dir before before old new (Err refusals.Memory) =
+      let here : DrawsKey lms ots stream stream_new dir before before old new (Err refusals.Memory) =
       record {
         comes = inr (inl refl);
+        ends = inr (inl refl);
         kept = λ tells there. (untouched (part_in before dir Key), untouched (part_in before dir Used));
         any_moment = λ tells. untouched_since (part_in before dir Key) (part_in before dir Key) (payload_of (drawn_key lms ots stream)) (untouched (part_in before dir Key));
         lasts = λ tells. tt;
+        draws = inl undrawn;
         others = λ tells other away. refl;
         home = home;
       } in
-      subst (λ (s : ShelfState). DrawsKey lms ots stream dir before s old new (Err refusals.Memory)) (sym same) here
+      subst (λ (s : ShelfState). DrawsKey lms ots stream stream_new dir before s old new (Err refusals.Memory)) (sym same) here
 
   -- where one was made and put back
-  module _ (opened : ShelfState) (key : KeyState) (makes : MakesKey (drawn_key lms ots stream) before dir key opened) (puts : PutsKey opened dir key.parts after) where
+  module _ (opened : ShelfState) (key : KeyState) (makes : MakesKey (drawn_key lms ots stream) before dir key opened) (puts : PutsKey opened dir key.parts after)
+      (drawn : stream_new ≡ after_draw stream) where
     opened_tells : IsTrue before.tells → IsTrue opened.tells
     opened_tells tells = told before.tells opened.tells makes.tells tells
 
@@ -161,7 +164,7 @@ module _ (lms : LmsType) (ots : OtsType) (stream : Stream) (dir : List ℕ) (bef
         home_again Key Used dir after (stands-not-out (part_in after dir Key) key.parts.key (puts.key_back (opened_tells tells))) (stands-not-out (part_in after dir Used) key.parts.used (puts.used_back (opened_tells tells)))
         (λ other away. subst (λ (p : PartState). p ≢ out) (sym (key_others tells other away)) (home tells other))
 
-    pub key_made : (text : Vec ℕ Global) → text.items ≡ key_text (public_key key.secret) → DrawsKey lms ots stream dir before after old new (Ok text)
+    pub key_made : (text : Vec ℕ Global) → text.items ≡ key_text (public_key key.secret) → DrawsKey lms ots stream stream_new dir before after old new (Ok text)
     key_made text printed = record {
       comes = inl (λ tells.
           let c = makes.created tells in
@@ -169,18 +172,20 @@ module _ (lms : LmsType) (ots : OtsType) (stream : Stream) (dir : List ℕ) (bef
           (ap reading (puts.key_back (opened_tells tells)) ∙ ap Some (c.3.key (key_told (drawn_key lms ots stream) dir before opened key makes tells)).seen)
           (ap reading (puts.used_back (opened_tells tells)) ∙ ap Some (c.3.used (used_told (drawn_key lms ots stream) dir before opened key makes tells)).seen)
           (printed ∙ ap (λ (s : SecretData). key_text (public_key s)) c.3.made));
+      ends = inl tt;
       kept = untouched_key;
       any_moment = key_moments;
       lasts = key_lasts;
+      draws = drawn;
       others = key_others;
       home = key_home;
     }
 
-    pub key_lacked : DrawsKey lms ots stream dir before after old new (Err refusals.Memory)
-    key_lacked = record { comes = inr (inl refl); kept = untouched_key; any_moment = key_moments; lasts = λ tells. tt; others = key_others; home = key_home }
+    pub key_lacked : DrawsKey lms ots stream stream_new dir before after old new (Err refusals.Memory)
+    key_lacked = record { comes = inr (inl refl); ends = inr (inl refl); kept = untouched_key; any_moment = key_moments; lasts = λ tells. tt; draws = inr drawn; others = key_others; home = key_home }
 
 -- ---- want of memory in place of a refusal
 
-pub key_without_memory : (lms : LmsType) (ots : OtsType) (stream : Stream) (dir : List ℕ) (before after : ShelfState) (old new : ℕ) (refusal : Refusal) → DrawsKey lms ots stream dir before after old new (Err refusal)
-    → DrawsKey lms ots stream dir before after old new (Err refusals.Memory)
-key_without_memory lms ots stream dir before after old new refusal draws = record { comes = inr (inl refl); kept = draws.kept; any_moment = draws.any_moment; lasts = λ tells. tt; others = draws.others; home = draws.home }
+pub key_without_memory : {stream_new : Stream} → (lms : LmsType) (ots : OtsType) (stream : Stream) (dir : List ℕ) (before after : ShelfState) (old new : ℕ) (refusal : Refusal) → DrawsKey lms ots stream stream_new dir before after old new (Err refusal)
+    → DrawsKey lms ots stream stream_new dir before after old new (Err refusals.Memory)
+key_without_memory lms ots stream dir before after old new refusal draws = record { comes = inr (inl refl); ends = inr (inl refl); kept = draws.kept; any_moment = draws.any_moment; lasts = λ tells. tt; draws = draws.draws; others = draws.others; home = draws.home }

@@ -1,6 +1,7 @@
 -- A command that makes the store of a directory.
 use Rattle.std.proofs.Common.{◌≡◌, ◌≢◌, ◌⊎◌, inl, inr, ℕ, Bool, true, false, List, [], ◌∷◌, ◌++◌, ◌≤◌, length, refl, sym, ap, subst, ◌∙◌, IsTrue, Option, Some, None, Ok, Err, Vec}
 use Rattle.std.specs.Prelude.{◌||◌, IfSome}
+use Rattle.std.proofs.lemmas.Bool.{true≢false}
 use Rattle.std.specs.declared.alloc.Global.{Global}
 use Rattle.row_check.specs.Checksum.{is_luhn}
 use Rattle.bec_bytes.specs.Causes.{Rose}
@@ -13,7 +14,7 @@ use Rattle.bec_disk.specs.declared.part.Part.TheVariants.{Schema, Updates}
 use Rattle.bec_disk.specs.Shelf.{PartState, ShelfState, absent, out, stands}
 use Rattle.bec_disk.specs.Slot.{same_slot, slot}
 use Rattle.schema.specs.Data.{Meaning, SchemaData}
-use Rattle.confluence_test.specs.Taking.{RefusesSchema, TakesSchema}
+use Rattle.confluence_test.specs.Taking.{RefusesSchema, TakesSchema, fault as by_fault, not_confluent as by_example}
 use Rattle.confluence_test.specs.declared.refusal.SchemaRefusal.{SchemaRefusal}
 use Rattle.confluence_test.specs.declared.refusal.SchemaRefusal.TheVariants as taking
 use Rattle.update_check.specs.Members.{AreMembers}
@@ -34,11 +35,11 @@ use Rattle.outcomes.specs.declared.refusal.Refusal.{Refusal}
 use Rattle.outcomes.specs.declared.refusal.Refusal.TheVariants as refusals
 use Rattle.outcomes.specs.Comes.{readings, IsRefused}
 use Rattle.outcomes.specs.Parts.{HasSchema, Lasts, LeavesOldOrNew}
-use Rattle.node_commands.specs.Creating.{InitAnswer, Inits, IsInitFault, created, refused, there as store_there}
+use Rattle.node_commands.specs.Creating.{InitAnswer, Inits, IsInitEnd, IsInitFault, created, refused, there as store_there}
 use Rattle.schema_verdict.specs.Inputs.{ReadsText}
 use Rattle.outcomes.specs.Outcome.{from_creating, from_disk, from_reading, from_taking}
 use Rattle.outcomes.specs.Outside.{Outside}
-use Rattle.outcomes.specs.StoreAnswers.{next_bytes}
+use Rattle.outcomes.specs.StoreAnswers.{after_bytes, next_bytes}
 use Rattle.outcomes.specs.Texts.{database_text}
 use Rattle.schema_verdict.proofs.Reading.{no_longer, whole_refused, whole_taken}
 use Rattle.outcomes.proofs.Lasting.{lasting}
@@ -46,6 +47,20 @@ use Rattle.outcomes.proofs.Lasting.{lasting}
 -- a text has no reason to be refused that is taken
 abbrev pub TakenOrRefused : Type 0
 TakenOrRefused = (ask : Meaning) (text : List ℕ) (schema : SchemaData) (refusal : SchemaRefusal) → TakesSchema ask text schema → RefusesSchema ask text refusal → ⊥
+
+abbrev lacks_memory : SchemaRefusal → Bool
+lacks_memory (taking.Schema fault) = false
+lacks_memory (taking.NotConfluent schema which example) = false
+lacks_memory taking.Memory = true
+
+-- what is answered, or a fault, and how it ends
+told_end : {Answers End Fault : Type 0} → (Answers × End) ⊎ Fault → Answers ⊎ Fault
+told_end (inl answers) = inl answers.0
+told_end (inr fault) = inr fault
+
+end_of : {Answers End Fault : Type 0} → (Answers × End) ⊎ Fault → End ⊎ Fault
+end_of (inl answers) = inl answers.1
+end_of (inr fault) = inr fault
 
 only_first : (x : Bool) → x ≡ false → x || false ≡ false
 only_first true e = e
@@ -84,19 +99,23 @@ module _ (dir : List ℕ) (before after : ShelfState) (home : IsTrue before.tell
 
 module _ {S H R : Type 0} (dir : List ℕ) (before after : Outside S H R) (home : IsTrue before.store.tells → IsHome before.store) where
   -- where nothing was made
-  module _ (untouched : IsTrue before.store.tells → IsUntouched (part_in before.store dir Schema) (part_in after.store dir Schema)) (others : IsTrue before.store.tells → KeepsAllBut (Schema ∷ []) dir before.store after.store) where
+  module _ (untouched : IsTrue before.store.tells → IsUntouched (part_in before.store dir Schema) (part_in after.store dir Schema)) (others : IsTrue before.store.tells → KeepsAllBut (Schema ∷ []) dir before.store after.store)
+      (still : after.stream ≡ before.stream) where
     looked_moments : (left : Option (List ℕ)) → IsTrue before.store.tells → (text : List ℕ) × IfSome left (λ input. text ≡ input) × LeavesOldOrNew (next_bytes before.stream ++ text) (part_in before.store dir Schema) (part_in after.store dir Schema)
     looked_moments None tells = ([], tt, untouched_since (part_in before.store dir Schema) (part_in after.store dir Schema) (next_bytes before.stream ++ []) (untouched tells))
     looked_moments (Some input) tells = (input, refl, untouched_since (part_in before.store dir Schema) (part_in after.store dir Schema) (next_bytes before.stream ++ input) (untouched tells))
 
-    init_looked : (why : Refusal) → (IsTrue before.store.tells → InitAnswer before.left after.left before.stream (readings before.store dir) (readings after.store dir) (Err why)) ⊎ IsInitFault before after (Err why)
+    init_looked : (why : Refusal) → ((IsTrue before.store.tells → InitAnswer before.left after.left before.stream (readings before.store dir) (readings after.store dir) (Err why)) × IsInitEnd (Err why)) ⊎ IsInitFault before after (Err why)
         → (IsTrue before.store.tells → HasSchema (readings before.store dir) → after.source ≡ before.source) → Inits dir before after (Err why)
     init_looked why comes unread = record {
-      comes = comes;
+      comes = told_end comes;
+      ends = end_of comes;
       unread = unread;
       kept = λ tells is. looked_kept dir before.store after.store home untouched others tells;
       any_moment = λ tells. looked_moments before.left tells;
       lasts = λ tells. tt;
+      draws = inl still;
+      undrawn = λ tells is. still;
       others = looked_others dir before.store after.store home untouched others;
       home = looked_home dir before.store after.store home untouched others;
     }
@@ -106,7 +125,7 @@ module _ {S H R : Type 0} (dir : List ℕ) (before after : Outside S H R) (home 
     init_unlooked disk_errors.Memory same failed = init_looked refusals.Memory (inr (inr (inl refl))) (λ tells there. same)
 
     pub init_there : after.source ≡ before.source → (IsTrue before.store.tells → HasSchema (readings before.store dir)) → Inits dir before after (Err refusals.StoreThere)
-    init_there same has = init_looked refusals.StoreThere (inl (λ tells. store_there (has tells) refl)) (λ tells there. same)
+    init_there same has = init_looked refusals.StoreThere (inl (λ tells. store_there (has tells) refl, tt)) (λ tells there. same)
 
     -- where there was no store
     module _ (none : IsTrue before.store.tells → IsNoStore (reading (part_in before.store dir Schema))) where
@@ -125,8 +144,14 @@ module _ {S H R : Type 0} (dir : List ℕ) (before after : Outside S H R) (home 
 
       pub init_refused : (read : List ℕ) (why : SchemaRefusal) → ReadsText 65536 before.left after.left read → RefusesSchema is_luhn read why ⊎ (why ≡ taking.Memory) → Inits dir before after (Err (from_taking why))
       init_refused read why reads (inr memory) = subst (λ (w : SchemaRefusal). Inits dir before after (Err (from_taking w))) (sym memory) init_lacked
-      init_refused read why reads (inl refuses) = init_looked (from_taking why) (inl (λ tells. by before.left reads refuses (none tells))) never
+      init_refused read why reads (inl refuses) = init_looked (from_taking why) (inl (λ tells. by before.left reads refuses (none tells), own why refuses)) never
         where
+          own : (why : SchemaRefusal) → RefusesSchema is_luhn read why → IsInitEnd (Err (from_taking why))
+          own (taking.Schema fault) refuses = tt
+          own (taking.NotConfluent schema which example) refuses = tt
+          own taking.Memory (by_fault first is_first is) = absurd (true≢false (ap lacks_memory is))
+          own taking.Memory (by_example schema which example declares refuted is) = absurd (true≢false (ap lacks_memory is))
+
           by : (left : Option (List ℕ)) → ReadsText 65536 left after.left read → RefusesSchema is_luhn read why → IsNoStore (reading (part_in before.store dir Schema))
               → InitAnswer left after.left before.stream (readings before.store dir) (readings after.store dir) (Err (from_taking why))
           by None told why_so gone = refused read why gone tt why_so refl
@@ -150,10 +175,10 @@ module _ {S H R : Type 0} (dir : List ℕ) (before after : Outside S H R) (home 
     unread_here : IsTrue before.store.tells → HasSchema (readings before.store dir) → after.source ≡ before.source
     unread_here tells there = absurd (there (none tells))
 
-    pub init_not_made : TakenOrRefused → (node : List ℕ) (why : CreateKind) → node ≡ next_bytes before.stream → ReadsText 65536 before.left after.left read → LetsNewGo Schema Updates (node ++ read) [] mid dir after.store
+    pub init_not_made : TakenOrRefused → (node : List ℕ) (why : CreateKind) → node ≡ next_bytes before.stream → after.stream ≡ after_bytes before.stream → ReadsText 65536 before.left after.left read → LetsNewGo Schema Updates (node ++ read) [] mid dir after.store
         → (IsTrue mid.tells → IsNewStoreCause is_luhn (reading (part_in mid dir Schema)) read why) → (why ≡ create_kinds.DiskFault → Rose before.shelf_faults after.shelf_faults)
         → Inits dir before after (Err (from_creating why))
-    init_not_made either node why drawn reads lets cause failed = by why cause failed
+    init_not_made either node why drawn went reads lets cause failed = by why cause failed
       where
         Untouched : Type 0
         Untouched = IsUntouched (part_in before.store dir Schema) (part_in after.store dir Schema) × IsUntouched (part_in before.store dir Updates) (part_in after.store dir Updates)
@@ -163,14 +188,17 @@ module _ {S H R : Type 0} (dir : List ℕ) (before after : Outside S H R) (home 
             subst (λ (n : List ℕ). LeavesOldOrNew (n ++ read) (part_in before.store dir Schema) (part_in after.store dir Schema)) drawn
             (untouched_then (part_in before.store dir Schema) (part_in mid dir Schema) (part_in after.store dir Schema) (node ++ read) (untouched tells) (lets.any_moment (mid_told tells)))
 
-        so : (refusal : Refusal) → (IsTrue before.store.tells → InitAnswer before.left after.left before.stream (readings before.store dir) (readings after.store dir) (Err refusal)) ⊎ IsInitFault before after (Err refusal)
+        so : (refusal : Refusal) → ((IsTrue before.store.tells → InitAnswer before.left after.left before.stream (readings before.store dir) (readings after.store dir) (Err refusal)) × IsInitEnd (Err refusal)) ⊎ IsInitFault before after (Err refusal)
             → (IsTrue before.store.tells → IsRefused (Err refusal) → ⊥) → Inits dir before after (Err refusal)
         so refusal comes not = record {
-          comes = comes;
+          comes = told_end comes;
+          ends = end_of comes;
           unread = unread_here;
           kept = λ tells. kept tells;
           any_moment = λ tells. (read, text_is before.left reads, run tells);
           lasts = λ tells. tt;
+          draws = inr went;
+          undrawn = λ tells is. absurd (not tells is);
           others = λ tells. keeps_through (Schema ∷ Updates ∷ []) dir before.store mid after.store (looked_others dir before.store mid home untouched others tells) (lets.others (mid_told tells));
           home = λ tells. lets.home (mid_told tells) (mid_home tells);
         }
@@ -184,25 +212,28 @@ module _ {S H R : Type 0} (dir : List ℕ) (before after : Outside S H R) (home 
 
         by : (kind : CreateKind) → (IsTrue mid.tells → IsNewStoreCause is_luhn (reading (part_in mid dir Schema)) read kind) → (kind ≡ create_kinds.DiskFault → Rose before.shelf_faults after.shelf_faults)
             → Inits dir before after (Err (from_creating kind))
-        by create_kinds.NotEmpty why_so rose = so refusals.StoreThere (inl (λ tells. absurd (why_so (mid_told tells) (still_none tells)))) (λ tells is. why_so (mid_told tells) (still_none tells))
+        by create_kinds.NotEmpty why_so rose = so refusals.StoreThere (inl (λ tells. absurd (why_so (mid_told tells) (still_none tells)), tt)) (λ tells is. why_so (mid_told tells) (still_none tells))
         by (create_kinds.BadSchema fault) why_so rose =
             let never : IsTrue before.store.tells → ⊥ = λ tells. either is_luhn read schema (taking.Schema fault) takes (why_so (mid_told tells)).1 in
-            so (refusals.Schema fault) (inl (λ tells. absurd (never tells))) (λ tells is. never tells)
+            so (refusals.Schema fault) (inl (λ tells. absurd (never tells), tt)) (λ tells is. never tells)
         by (create_kinds.NotConfluent declared which example) why_so rose =
             let never : IsTrue before.store.tells → ⊥ = λ tells. either is_luhn read schema (taking.NotConfluent declared which example) takes (why_so (mid_told tells)).1 in
-            so (refusals.NotConfluent declared which example) (inl (λ tells. absurd (never tells))) (λ tells is. never tells)
+            so (refusals.NotConfluent declared which example) (inl (λ tells. absurd (never tells), tt)) (λ tells is. never tells)
         by create_kinds.DiskFault why_so rose = so refusals.StoreFault (inr (inr (inr (refl, rose refl)))) (λ tells is. is)
         by create_kinds.Memory why_so rose = so refusals.Memory (inr (inr (inl refl))) (λ tells is. is)
 
-    pub init_made : OneSchema → (opened : ShelfState) (node : List ℕ) (store : OpenData) → node ≡ next_bytes before.stream → length node ≡ 32 → MakesStore is_luhn mid dir node read store opened
+    pub init_made : OneSchema → (opened : ShelfState) (node : List ℕ) (store : OpenData) → node ≡ next_bytes before.stream → after.stream ≡ after_bytes before.stream → length node ≡ 32 → MakesStore is_luhn mid dir node read store opened
         → AreMembers store.replica.history.schema.rule store.replica.history.members → PutsStore opened dir store.schema store.replica.log.disk after.store → ReadsText 65536 before.left after.left read
         → (line : Vec ℕ Global) → line.items ≡ database_text schema.rule.database → Inits dir before after (Ok line)
-    init_made one opened node store drawn size makes closed puts reads line printed = record {
+    init_made one opened node store drawn went size makes closed puts reads line printed = record {
       comes = inl (λ tells. by before.left reads (none tells) (has tells));
+      ends = inl tt;
       unread = unread_here;
       kept = λ tells. kept tells;
       any_moment = λ tells. (read, text_is before.left reads, run tells);
       lasts = lasts;
+      draws = went;
+      undrawn = λ tells is. absurd is;
       others = all_others;
       home = λ tells. home_after_store opened after.store dir store.schema store.replica.log.disk (opened_told tells) puts
           (λ other away. subst (λ (p : PartState). p ≢ out) (sym (makes.others other away ∙ looked_others dir before.store mid home untouched others tells other away)) (home tells other));
@@ -261,7 +292,7 @@ made_slots mid opened dir node text store makes tells =
 
 pub init_without_memory : {S H R : Type 0} (dir : List ℕ) (before after : Outside S H R) (refusal : Refusal) → Inits dir before after (Err refusal) → Inits dir before after (Err refusals.Memory)
 init_without_memory dir before after refusal inits =
-    record { comes = inr (inr (inl refl)); unread = inits.unread; kept = λ tells. kept tells; any_moment = inits.any_moment; lasts = λ tells. tt; others = inits.others; home = inits.home }
+    record { comes = inr (inr (inl refl)); ends = inr (inr (inl refl)); unread = inits.unread; kept = λ tells. kept tells; any_moment = inits.any_moment; lasts = λ tells. tt; draws = inits.draws; undrawn = λ tells is. absurd is; others = inits.others; home = inits.home }
   where
     kept : IsTrue before.store.tells → HasSchema (readings before.store dir) ⊎ IsRefused (Err refusals.Memory)
         → IsUntouched (part_in before.store dir Schema) (part_in after.store dir Schema) × IsUntouched (part_in before.store dir Updates) (part_in after.store dir Updates)

@@ -30,6 +30,7 @@ use Rattle.replica.specs.declared.make_fault.MakeFault.TheVariants.{NotListed, T
 use Rattle.replica.specs.declared.make_fault.Side.TheVariants.{Key as KeySide, Log as LogSide}
 use Rattle.replica.specs.Making.{HasNoneToJoin, IsJoinCause, IsMakeCause, Joins, JoinsTo, Makes}
 use Rattle.replica.specs.Replicas.{ReplicaState}
+use Rattle.replica.specs.Signing.{KeyAfter, KeyAfterJoin, SignsAtLeast, TriesLeast}
 use Rattle.store_directory.specs.Holding.{IsStoreCause, LetsGo, OpenData, PutsStore, TakesStore}
 use Rattle.key_directory.specs.Keys.{IsKeyCause, KeepsUsed, LetsKeyGo, PutsKey, TakesKey, WorksWith}
 use Rattle.key_directory.specs.Parts.{IfStands, IsHome, IsUntouched, KeepsAllBut, part_in, reading}
@@ -43,6 +44,7 @@ use Rattle.key_directory.proofs.Places.{home_again, keeps_through, stands-not-ou
 use Rattle.key_directory.proofs.Putting.{slot_of, told}
 use Rattle.store_directory.proofs.Readings.{OneSchema}
 use Rattle.key_directory.proofs.Signing.{keeps_key, keeps_used}
+use Rattle.node_commands.proofs.KeyUse.{signs_at_least, tries_least, untouched_used}
 use Rattle.store_directory.proofs.Working.{home_after_store, read_before, store_of, worked_run}
 use Rattle.txn_text.specs.Transactions.{FirstFault, Reads}
 use Rattle.txn_text.specs.declared.fault.TextError.{TextError}
@@ -55,9 +57,9 @@ use Rattle.outcomes.specs.declared.refusal.Refusal.TheVariants as refusals
 use Rattle.outcomes.specs.Comes.{IsShelfFault, is_done, readings, IsSourceFault}
 use Rattle.schema_verdict.specs.Inputs.{ReadsText}
 use Rattle.outcomes.specs.Outcome.{Outcome, from_key, from_make, from_store, from_text}
-use Rattle.node_commands.specs.Signing.{ApplyAnswer, IsInnerFault, IsNoStop, IsOpenFault, JoinAnswer, KeyedAnswer, MakeAnswer, MakesUpdate, SignAnswer, SignsIn, SignsOpen, StopsReading, StoreAnswer, TakesText, asked, bad_text, history_of, joined, made, none, not_joined, not_made, taken_of, with_key, with_store, without_key, without_store}
+use Rattle.node_commands.specs.Signing.{ApplyAnswer, IsInnerFault, IsNoStop, IsOpenFault, JoinAnswer, KeyedAnswer, MakeAnswer, MakesUpdate, SignAnswer, SignsIn, SignsOpen, StopsReading, StoreAnswer, TakesText, UsesKey, UsesKeyIn, AnswersSomeKey, DrawsFor, answered, by_fault, unopened, asked, bad_text, history_of, joined, made, none, not_joined, not_made, taken_of, with_key, with_store, without_key, without_store}
 use Rattle.outcomes.specs.OpenStores.{WorksFrom}
-use Rattle.outcomes.specs.StoreAnswers.{bad_key, bad_store, next_bytes, no_key, no_store}
+use Rattle.outcomes.specs.StoreAnswers.{after_bytes, bad_key, bad_store, next_bytes, no_key, no_store}
 use Rattle.outcomes.specs.Standing.{Stands}
 use Rattle.outcomes.specs.Texts.{line_of}
 use Rattle.outcomes.proofs.Working.{works_failed, works_not, works_on}
@@ -74,16 +76,88 @@ same_secret key key_new (inr tries) = tries.1.secret
 with_same_key : (key : KeyState) → WorksWith key key
 with_same_key key = record { tried = inl refl; used = λ index used. moments.stays key.parts.used key.parts.used (IsUsed index) refl used }
 
+-- ---- what a key was used for
+
+-- of a key that is open
+abbrev pub UsesOpen : KeyState → KeyState → List (List ℕ) → Outcome → Type 0
+UsesOpen key key_new added outcome = UsesKey (key_new ≡ key) (TriesLeast key key_new) (SignsAtLeast key key_new) added outcome
+
+-- said in other words
+uses_as : {NotUsed Tries Signs NotUsed' Tries' Signs' : Type 0} → (NotUsed → NotUsed') → (Tries → Tries') → (Signs → Signs') → (added : List (List ℕ)) (outcome : Outcome)
+    → UsesKey NotUsed Tries Signs added outcome → UsesKey NotUsed' Tries' Signs' added outcome
+uses_as {NotUsed} {Tries} {Signs} {NotUsed'} {Tries'} {Signs'} n t s = by
+  where
+    any : NotUsed ⊎ (Tries ⊎ Signs) → NotUsed' ⊎ (Tries' ⊎ Signs')
+    any (inl not) = inl (n not)
+    any (inr (inl tries)) = inr (inl (t tries))
+    any (inr (inr signs)) = inr (inr (s signs))
+
+    by : (added : List (List ℕ)) (outcome : Outcome) → UsesKey NotUsed Tries Signs added outcome → UsesKey NotUsed' Tries' Signs' added outcome
+    by [] (Ok text) uses = n uses
+    by (bytes ∷ others) (Ok text) uses = s uses
+    by added (Err refusals.IdTaken) uses = s uses
+    by added (Err refusals.StoreFault) uses = any uses
+    by added (Err refusals.Memory) uses = any uses
+    by added (Err refusal) uses = n uses
+
+-- where a refusal gives way to want of memory
+uses_lacking : {NotUsed Tries Signs : Type 0} → (added : List (List ℕ)) (refusal : Refusal) → UsesKey NotUsed Tries Signs added (Err refusal) → NotUsed ⊎ (Tries ⊎ Signs)
+uses_lacking added refusals.IdTaken uses = inr (inr uses)
+uses_lacking added refusals.StoreFault uses = uses
+uses_lacking added refusals.Memory uses = uses
+uses_lacking added refusal uses = inl uses
+
+-- how far the generator went where a refusal gives way to want of memory
+draws_lacking : (stream stream_new : Stream) (refusal : Refusal) → DrawsFor stream stream_new (Err refusal) → (stream_new ≡ stream) ⊎ (stream_new ≡ after_bytes stream)
+draws_lacking stream stream_new refusals.NoStore draws = inl draws
+draws_lacking stream stream_new refusals.BadStore draws = inl draws
+draws_lacking stream stream_new refusals.NoKey draws = inl draws
+draws_lacking stream stream_new refusals.BadKey draws = inl draws
+draws_lacking stream stream_new (refusals.Transaction fault) draws = inl draws
+draws_lacking stream stream_new refusals.Stream draws = inl draws
+draws_lacking stream stream_new refusals.StoreFault draws = draws
+draws_lacking stream stream_new refusals.Memory draws = draws
+draws_lacking stream stream_new refusal draws = inr draws
+
+-- and where no update was made
+draws_not : (stream stream_new : Stream) → stream_new ≡ after_bytes stream → (secret : SecretData) (why : MakeFault) → DrawsFor stream stream_new (Err (from_make secret why))
+draws_not stream stream_new drawn secret NotListed = drawn
+draws_not stream stream_new drawn secret (TooManyHeads n) = drawn
+draws_not stream stream_new drawn secret (Invalid reason operation) = drawn
+draws_not stream stream_new drawn secret (TooLong len) = drawn
+draws_not stream stream_new drawn secret Full = drawn
+draws_not stream stream_new drawn secret Spent = drawn
+draws_not stream stream_new drawn secret (Taken id) = drawn
+draws_not stream stream_new drawn secret (DiskFault side) = inr drawn
+draws_not stream stream_new drawn secret Memory = inr drawn
+
+-- where no update was made
+uses_not : (key key_new : KeyState) (why : MakeFault) → KeyAfter {T = UpdateId} key (Err why) key_new → UsesOpen key key_new [] (Err (from_make key.secret why))
+uses_not key key_new NotListed after = after
+uses_not key key_new (TooManyHeads n) after = after
+uses_not key key_new (Invalid reason operation) after = after
+uses_not key key_new (TooLong len) after = after
+uses_not key key_new Full after = after
+uses_not key key_new Spent after = after
+uses_not key key_new (Taken id) after = after
+uses_not key key_new (DiskFault KeySide) after = inr (inl after)
+uses_not key key_new (DiskFault LogSide) after = inr (inr after)
+uses_not key key_new Memory (inl same) = inl same
+uses_not key key_new Memory (inr signs) = inr (inr signs)
+
 -- ---- over what is open
 
 -- nothing was done
-pub signs_nothing : (Answer : SignAnswer) (Stops : Outcome → Type 0) (replica : ReplicaState) (key : KeyState) (outcome : Outcome) → Stands replica
-    → Answer replica.history key.secret key.taken [] outcome ⊎ IsOpenFault Stops replica key replica key outcome → SignsOpen Answer Stops replica key replica key outcome
-signs_nothing Answer Stops replica key outcome stands comes = record {
+pub signs_nothing : (Answer : SignAnswer) (Stops : Outcome → Type 0) (stream stream_new : Stream) (replica : ReplicaState) (key : KeyState) (outcome : Outcome) → Stands replica
+    → Answer replica.history key.secret key.taken [] outcome ⊎ IsOpenFault Stops replica key replica key outcome → UsesOpen key key [] outcome → DrawsFor stream stream_new outcome
+    → SignsOpen Answer Stops stream stream_new replica key replica key outcome
+signs_nothing Answer Stops stream stream_new replica key outcome stands comes uses draws = record {
   added = [];
   comes = so comes;
   works = works_not replica (is_done outcome) stands;
   works_with = with_same_key key;
+  uses = uses;
+  draws = draws;
   log_later = omega arith;
   key_later = omega arith;
 }
@@ -94,14 +168,16 @@ signs_nothing Answer Stops replica key outcome stands comes = record {
     so (inr fault) = inr (fault, refl)
 
 -- an answer that is one of another kind
-pub signs_as : (One Other : SignAnswer) (Stops Halts : Outcome → Type 0) (old : ReplicaState) (key : KeyState) (new : ReplicaState) (key_new : KeyState) (outcome : Outcome)
+pub signs_as : (One Other : SignAnswer) (Stops Halts : Outcome → Type 0) (stream stream_new : Stream) (old : ReplicaState) (key : KeyState) (new : ReplicaState) (key_new : KeyState) (outcome : Outcome)
     → ((added : List (List ℕ)) → One old.history key.secret key.taken added outcome → Other old.history key.secret key.taken added outcome) → (Stops outcome → Halts outcome)
-    → SignsOpen One Stops old key new key_new outcome → SignsOpen Other Halts old key new key_new outcome
-signs_as One Other Stops Halts old key new key_new outcome answers halts signs = record {
+    → SignsOpen One Stops stream stream_new old key new key_new outcome → SignsOpen Other Halts stream stream_new old key new key_new outcome
+signs_as One Other Stops Halts stream stream_new old key new key_new outcome answers halts signs = record {
   added = signs.added;
   comes = so signs.comes;
   works = signs.works;
   works_with = signs.works_with;
+  uses = signs.uses;
+  draws = signs.draws;
   log_later = signs.log_later;
   key_later = signs.key_later;
 }
@@ -117,26 +193,32 @@ module _ (old : ReplicaState) (key : KeyState) (new : ReplicaState) (key_new : K
     (leaves : LeavesOnly old.log.disk new.log.disk (BeginsWith (stream_of old.history.members)))
     (used : (index : ℕ) → (IsTrue key.parts.used.tells → EveryImage key.parts.used.now (IsUsed index)) → LeavesOnly key.parts.used key_new.parts.used (IsUsed index))
     (log_later : old.log.faults ≤ new.log.faults) (key_later : key.parts.used_faults ≤ key_new.parts.used_faults)
-    (tried : (key_new ≡ key) ⊎ ((index : ℕ) × Tries key index key_new)) where
+    (tried : (key_new ≡ key) ⊎ ((index : ℕ) × Tries key index key_new)) (stream stream_new : Stream) (drawn : stream_new ≡ after_bytes stream) where
   -- something was added
   adds : (Answer : SignAnswer) (added : List (List ℕ)) (text : Vec ℕ Global) → new.history ≡ record { schema = old.history.schema; members = old.history.members ++ added }
-      → (IsTrue old.log.disk.tells → IsClean new.log.end new.log.disk) → Answer old.history key.secret key.taken added (Ok text) → SignsOpen Answer IsNoStop old key new key_new (Ok text)
-  adds Answer added text is clean answer = record {
+      → (IsTrue old.log.disk.tells → IsClean new.log.end new.log.disk) → Answer old.history key.secret key.taken added (Ok text) → UsesOpen key key_new added (Ok text)
+      → SignsOpen Answer IsNoStop stream stream_new old key new key_new (Ok text)
+  adds Answer added text is clean answer uses = record {
     added = added;
     comes = inl answer;
     works = works_on old new added true is leaves stands (λ was is_done. clean);
     works_with = record { tried = tried; used = used };
+    uses = uses;
+    draws = drawn;
     log_later = log_later;
     key_later = key_later;
   }
 
   fails : (Answer : SignAnswer) (refusal : Refusal) → new.history ≡ old.history
-      → Answer old.history key.secret key.taken [] (Err refusal) ⊎ IsOpenFault IsNoStop old key new key_new (Err refusal) → SignsOpen Answer IsNoStop old key new key_new (Err refusal)
-  fails Answer refusal same comes = record {
+      → Answer old.history key.secret key.taken [] (Err refusal) ⊎ IsOpenFault IsNoStop old key new key_new (Err refusal) → UsesOpen key key_new [] (Err refusal) → DrawsFor stream stream_new (Err refusal)
+      → SignsOpen Answer IsNoStop stream stream_new old key new key_new (Err refusal)
+  fails Answer refusal same comes uses draws = record {
     added = [];
     comes = so comes;
     works = works_failed old new same leaves stands;
     works_with = record { tried = tried; used = used };
+    uses = uses;
+    draws = draws;
     log_later = log_later;
     key_later = key_later;
   }
@@ -147,15 +229,17 @@ module _ (old : ReplicaState) (key : KeyState) (new : ReplicaState) (key_new : K
       so (inr fault) = inr (fault, refl)
 
   pub makes : (ops : List Op) (c : List ℕ) (id : UpdateId) (text : Vec ℕ Global) → Makes is_luhn old.history key.secret key.taken ops c id new.history
-      → (IsTrue old.log.disk.tells → IsClean new.log.end new.log.disk) → text.items ≡ line_of id → SignsOpen (MakeAnswer ops c) IsNoStop old key new key_new (Ok text)
-  makes ops c id text is clean printed =
+      → (IsTrue old.log.disk.tells → IsClean new.log.end new.log.disk) → text.items ≡ line_of id → SignsAtLeast key key_new
+      → SignsOpen (MakeAnswer ops c) IsNoStop stream stream_new old key new key_new (Ok text)
+  makes ops c id text is clean printed signs =
       adds (MakeAnswer ops c) (is.bytes ∷ []) text is.last clean
-      (made id is.bytes (subst (λ (h : HistoryData). Makes is_luhn old.history key.secret key.taken ops c id h) is.last is) refl printed)
+      (made id is.bytes (subst (λ (h : HistoryData). Makes is_luhn old.history key.secret key.taken ops c id h) is.last is) refl printed) signs
 
   pub makes_not : (ops : List Op) (c : List ℕ) (why : MakeFault) → new.history ≡ old.history → IsMakeCause is_luhn old.history key.secret key.taken ops c why
       → (why ≡ DiskFault KeySide → Rose key.parts.used_faults key_new.parts.used_faults) → (why ≡ DiskFault LogSide → Rose old.log.faults new.log.faults)
-      → SignsOpen (MakeAnswer ops c) IsNoStop old key new key_new (Err (from_make key.secret why))
-  makes_not ops c why same cause key_failed log_failed = fails (MakeAnswer ops c) (from_make key.secret why) same (by why cause key_failed log_failed)
+      → KeyAfter {T = UpdateId} key (Err why) key_new → SignsOpen (MakeAnswer ops c) IsNoStop stream stream_new old key new key_new (Err (from_make key.secret why))
+  makes_not ops c why same cause key_failed log_failed after =
+      fails (MakeAnswer ops c) (from_make key.secret why) same (by why cause key_failed log_failed) (uses_not key key_new why after) (draws_not stream stream_new drawn key.secret why)
     where
       by : (why : MakeFault) → IsMakeCause is_luhn old.history key.secret key.taken ops c why → (why ≡ DiskFault KeySide → Rose key.parts.used_faults key_new.parts.used_faults)
           → (why ≡ DiskFault LogSide → Rose old.log.faults new.log.faults)
@@ -171,33 +255,37 @@ module _ (old : ReplicaState) (key : KeyState) (new : ReplicaState) (key_new : K
       by (DiskFault LogSide) so k l = inr (inr (inr (refl, inl (l refl))))
       by Memory so k l = inr (inl refl)
 
-  joins : (stream : Stream) (id : UpdateId) (text : Vec ℕ Global) → Joins old.history key.secret key.taken (next_bytes stream) id new.history
-      → (IsTrue old.log.disk.tells → IsClean new.log.end new.log.disk) → text.items ≡ line_of id → SignsOpen (JoinAnswer stream) IsNoStop old key new key_new (Ok text)
-  joins stream id text is clean printed =
+  joins : (id : UpdateId) (text : Vec ℕ Global) → Joins old.history key.secret key.taken (next_bytes stream) id new.history
+      → (IsTrue old.log.disk.tells → IsClean new.log.end new.log.disk) → text.items ≡ line_of id → SignsAtLeast key key_new
+      → SignsOpen (JoinAnswer stream) IsNoStop stream stream_new old key new key_new (Ok text)
+  joins id text is clean printed signs =
       adds (JoinAnswer stream) (is.bytes ∷ []) text is.last clean
-      (joined id is.bytes (subst (λ (h : HistoryData). Joins old.history key.secret key.taken (next_bytes stream) id h) is.last is) refl printed)
+      (joined id is.bytes (subst (λ (h : HistoryData). Joins old.history key.secret key.taken (next_bytes stream) id h) is.last is) refl printed) signs
 
-  joins_none : (stream : Stream) (text : Vec ℕ Global) → new ≡ old → HasNoneToJoin old.history → text.items ≡ [] → SignsOpen (JoinAnswer stream) IsNoStop old key new key_new (Ok text)
-  joins_none stream text same few printed = record {
+  joins_none : (text : Vec ℕ Global) → new ≡ old → HasNoneToJoin old.history → text.items ≡ [] → key_new ≡ key → SignsOpen (JoinAnswer stream) IsNoStop stream stream_new old key new key_new (Ok text)
+  joins_none text same few printed unused = record {
     added = [];
     comes = inl (none few refl printed);
     works = works_on old new [] true (ap (λ (r : ReplicaState). r.history) same ∙ ap (λ (l : List (List ℕ)). record { schema = old.history.schema; members = l }) (sym (append-nil old.history.members))) leaves stands
         (λ was is_done. subst (λ (r : ReplicaState). IsTrue old.log.disk.tells → IsClean r.log.end r.log.disk) (sym same) was);
     works_with = record { tried = tried; used = used };
+    uses = unused;
+    draws = drawn;
     log_later = log_later;
     key_later = key_later;
   }
 
-  pub joins_to : (stream : Stream) (id : Option UpdateId) (text : Vec ℕ Global) → JoinsTo old.history key.secret key.taken (next_bytes stream) id new.history
+  pub joins_to : (id : Option UpdateId) (text : Vec ℕ Global) → JoinsTo old.history key.secret key.taken (next_bytes stream) id new.history
       → (IsTrue old.log.disk.tells → IfSome id (λ _. IsClean new.log.end new.log.disk)) → IfNone id (new ≡ old) → MatchOption id (text.items ≡ []) (λ one. text.items ≡ line_of one)
-      → SignsOpen (JoinAnswer stream) IsNoStop old key new key_new (Ok text)
-  joins_to stream (Some id) text is clean same printed = joins stream id text is clean printed
-  joins_to stream None text is clean same printed = joins_none stream text same is.0 printed
+      → KeyAfterJoin key (Ok id) key_new → SignsOpen (JoinAnswer stream) IsNoStop stream stream_new old key new key_new (Ok text)
+  joins_to (Some id) text is clean same printed after = joins id text is clean printed after
+  joins_to None text is clean same printed after = joins_none text same is.0 printed after
 
-  pub joins_not : (stream : Stream) (why : MakeFault) → new.history ≡ old.history → IsJoinCause old.history key.secret key.taken (next_bytes stream) why
+  pub joins_not : (why : MakeFault) → new.history ≡ old.history → IsJoinCause old.history key.secret key.taken (next_bytes stream) why
       → (why ≡ DiskFault KeySide → Rose key.parts.used_faults key_new.parts.used_faults) → (why ≡ DiskFault LogSide → Rose old.log.faults new.log.faults)
-      → SignsOpen (JoinAnswer stream) IsNoStop old key new key_new (Err (from_make key.secret why))
-  joins_not stream why same cause key_failed log_failed = fails (JoinAnswer stream) (from_make key.secret why) same (by why cause key_failed log_failed)
+      → KeyAfter {T = UpdateId} key (Err why) key_new → SignsOpen (JoinAnswer stream) IsNoStop stream stream_new old key new key_new (Err (from_make key.secret why))
+  joins_not why same cause key_failed log_failed after =
+      fails (JoinAnswer stream) (from_make key.secret why) same (by why cause key_failed log_failed) (uses_not key key_new why after) (draws_not stream stream_new drawn key.secret why)
     where
       by : (why : MakeFault) → IsJoinCause old.history key.secret key.taken (next_bytes stream) why → (why ≡ DiskFault KeySide → Rose key.parts.used_faults key_new.parts.used_faults)
           → (why ≡ DiskFault LogSide → Rose old.log.faults new.log.faults)
@@ -251,21 +339,31 @@ text_refused (Some input) after old new schema read (text_errors.Fault fault) re
 
 -- what a text that was not read answers over what is open
 pub apply_stopped : (before after : Option (List ℕ)) (stream : Stream) (old new : ℕ) (replica : ReplicaState) (key : KeyState) (refusal : Refusal) → Stands replica
-    → StopsReading before after old new replica.history.schema refusal → SignsOpen (ApplyAnswer before after stream) (IsSourceFault old new) replica key replica key (Err refusal)
+    → StopsReading before after old new replica.history.schema refusal → SignsOpen (ApplyAnswer before after stream) (IsSourceFault old new) stream stream replica key replica key (Err refusal)
 apply_stopped before after stream old new replica key refusal stands stopped =
-    signs_nothing (ApplyAnswer before after stream) (IsSourceFault old new) replica key (Err refusal) stands (by stopped)
+    signs_nothing (ApplyAnswer before after stream) (IsSourceFault old new) stream stream replica key (Err refusal) stands (by stopped) (unused stopped) (undrawn stopped)
   where
+    undrawn : StopsReading before after old new replica.history.schema refusal → DrawsFor stream stream (Err refusal)
+    undrawn (inl faults) = subst (λ (r : Refusal). DrawsFor stream stream (Err r)) (sym faults.is) refl
+    undrawn (inr (inl memory)) = subst (λ (r : Refusal). DrawsFor stream stream (Err r)) (sym memory) (inl refl)
+    undrawn (inr (inr failed)) = subst (λ (r : Refusal). DrawsFor stream stream (Err r)) (sym failed.0) refl
+
+    unused : StopsReading before after old new replica.history.schema refusal → UsesOpen key key [] (Err refusal)
+    unused (inl faults) = subst (λ (r : Refusal). UsesOpen key key [] (Err r)) (sym faults.is) refl
+    unused (inr (inl memory)) = subst (λ (r : Refusal). UsesOpen key key [] (Err r)) (sym memory) (inl refl)
+    unused (inr (inr failed)) = subst (λ (r : Refusal). UsesOpen key key [] (Err r)) (sym failed.0) refl
+
     by : StopsReading before after old new replica.history.schema refusal
         → ApplyAnswer before after stream replica.history key.secret key.taken [] (Err refusal) ⊎ IsOpenFault (IsSourceFault old new) replica key replica key (Err refusal)
     by (inl faults) = inl (bad_text faults.text faults.fault faults.whole faults.first refl (ap Err faults.is))
     by (inr (inl memory)) = inr (inl (ap Err memory))
     by (inr (inr failed)) = inr (inr (inl (ap Err failed.0, failed.1)))
 
-pub apply_asked : (before after : Option (List ℕ)) (stream : Stream) (old new : ℕ) (replica : ReplicaState) (key : KeyState) (replica_new : ReplicaState) (key_new : KeyState) (ops : List Op) (outcome : Outcome)
-    → TakesText before after replica.history.schema ops → SignsOpen (MakeAnswer ops (next_bytes stream)) IsNoStop replica key replica_new key_new outcome
-    → SignsOpen (ApplyAnswer before after stream) (IsSourceFault old new) replica key replica_new key_new outcome
-apply_asked before after stream old new replica key replica_new key_new ops outcome takes signs =
-    signs_as (MakeAnswer ops (next_bytes stream)) (ApplyAnswer before after stream) IsNoStop (IsSourceFault old new) replica key replica_new key_new outcome
+pub apply_asked : (before after : Option (List ℕ)) (stream stream_new : Stream) (old new : ℕ) (replica : ReplicaState) (key : KeyState) (replica_new : ReplicaState) (key_new : KeyState) (ops : List Op) (outcome : Outcome)
+    → TakesText before after replica.history.schema ops → SignsOpen (MakeAnswer ops (next_bytes stream)) IsNoStop stream stream_new replica key replica_new key_new outcome
+    → SignsOpen (ApplyAnswer before after stream) (IsSourceFault old new) stream stream_new replica key replica_new key_new outcome
+apply_asked before after stream stream_new old new replica key replica_new key_new ops outcome takes signs =
+    signs_as (MakeAnswer ops (next_bytes stream)) (ApplyAnswer before after stream) IsNoStop (IsSourceFault old new) stream stream_new replica key replica_new key_new outcome
     (λ added answer. asked takes.text ops takes.whole takes.reads answer) (λ stops. absurd stops) signs
 
 -- ---- the key of a directory
@@ -312,17 +410,21 @@ key_disks before opened dir taken now takes works tells =
     used_kept (inl same) = ap (λ (s : KeyState). s.parts.used.slot) same
     used_kept (inr tries) = tries.1.only.disk.slot
 
-module _ (Unused : Type 0) (Answer : SignAnswer) (Stops : Outcome → Type 0) (dir : List ℕ) (before after : ShelfState) (faults faults_new : ℕ) where
+module _ (Unused : Type 0) (Answer : SignAnswer) (Stops : Outcome → Type 0) (stream stream_new : Stream) (dir : List ℕ) (before after : ShelfState) (faults faults_new : ℕ) where
   -- where no key was taken
   pub signs_keyless : (replica : ReplicaState) (why : KeyRefusal) → (IsTrue before.tells → part_in before dir Key ≢ out) → (IsTrue before.tells → part_in before dir Used ≢ out) → Stands replica → Unused → LetsKeyGo before dir after → (IsTrue before.tells → IsKeyCause before dir why) → (why ≡ key_refusals.DiskFault → Rose faults faults_new)
-      → faults ≤ faults_new → SignsIn Unused Answer Stops dir before after faults faults_new replica replica (Err (from_key why))
-  signs_keyless replica why key_in used_in_its stands unused lets cause failed later = record {
+      → faults ≤ faults_new → stream_new ≡ stream
+      → SignsIn Unused Answer Stops stream stream_new dir before after faults faults_new replica replica (Err (from_key why))
+  signs_keyless replica why key_in used_in_its stands unused lets cause rose later same = record {
     added = [];
-    comes = by why cause failed;
+    comes = by why cause rose;
+    ends = some why rose;
+    draws = undrawn why;
     works = works_not replica false stands;
     tells = lets.tells;
     key = lets.key_part;
     used = λ tells. keeps_untouched (part_in before dir Used) (part_in after dir Used) (lets.used_part tells);
+    uses = λ tells. unused why (lets.used_part tells);
     key_home = λ tells. in_place (part_in before dir Key) (part_in after dir Key) (lets.key_part tells) (key_in tells);
     used_home = λ tells. in_place (part_in before dir Used) (part_in after dir Used) (lets.used_part tells) (used_in_its tells);
     others = lets.others;
@@ -330,6 +432,12 @@ module _ (Unused : Type 0) (Answer : SignAnswer) (Stops : Outcome → Type 0) (d
     log_later = omega arith;
   }
     where
+      unused : (why : KeyRefusal) → IsUntouched (part_in before dir Used) (part_in after dir Used) → UsesKeyIn (part_in before dir Used) (part_in after dir Used) [] (Err (from_key why))
+      unused key_refusals.NoKey kept = kept
+      unused key_refusals.BadKey kept = kept
+      unused key_refusals.DiskFault kept = inl kept
+      unused key_refusals.Memory kept = inl kept
+
       by : (why : KeyRefusal) → (IsTrue before.tells → IsKeyCause before dir why) → (why ≡ key_refusals.DiskFault → Rose faults faults_new)
           → (IsTrue before.tells → KeyedAnswer Unused Answer (reading (part_in before dir Key)) (reading (part_in before dir Used)) replica.history [] (Err (from_key why)))
           ⊎ (IsInnerFault Stops faults faults_new replica replica (Err (from_key why)) × (nothing ≡ []))
@@ -338,18 +446,36 @@ module _ (Unused : Type 0) (Answer : SignAnswer) (Stops : Outcome → Type 0) (d
       by key_refusals.DiskFault so f = inr (inr (inr (refl, inl (f refl))), refl)
       by key_refusals.Memory so f = inr (inl refl, refl)
 
+      undrawn : (why : KeyRefusal) → DrawsFor stream stream_new (Err (from_key why))
+      undrawn key_refusals.NoKey = same
+      undrawn key_refusals.BadKey = same
+      undrawn key_refusals.DiskFault = inl same
+      undrawn key_refusals.Memory = inl same
+
+      some : (why : KeyRefusal) → (why ≡ key_refusals.DiskFault → Rose faults faults_new) → AnswersSomeKey Answer (IsInnerFault Stops faults faults_new replica replica) [] (Err (from_key why))
+      some key_refusals.NoKey f = unopened tt refl
+      some key_refusals.BadKey f = unopened tt refl
+      some key_refusals.DiskFault f = by_fault (inr (inr (refl, inl (f refl)))) refl
+      some key_refusals.Memory f = by_fault (inl refl) refl
+
   -- where one was taken and put back
   pub signs_keyed : (opened : ShelfState) (opened_faults : ℕ) (old new : ReplicaState) (taken now : KeyState) (outcome : Outcome) → TakesKey before dir taken opened
-      → SignsOpen Answer Stops old taken new now outcome → PutsKey opened dir now.parts after → (IsTrue now.parts.used.tells → IsImage now.parts.used.now now.parts.used.seen)
+      → SignsOpen Answer Stops stream stream_new old taken new now outcome → PutsKey opened dir now.parts after → (IsTrue now.parts.used.tells → IsImage now.parts.used.now now.parts.used.seen)
       → faults ≤ opened_faults → opened_faults ≤ faults_new → (0 < now.parts.used_faults → Rose opened_faults faults_new)
-      → SignsIn Unused Answer Stops dir before after faults faults_new old new outcome
+      → SignsIn Unused Answer Stops stream stream_new dir before after faults faults_new old new outcome
   signs_keyed opened opened_faults old new taken now outcome takes signs puts image first second faulted = record {
     added = signs.added;
     comes = by signs.comes;
+    ends = some signs.comes;
+    draws = signs.draws;
     works = signs.works;
     tells = puts.tells ∙ takes.tells;
     key = λ tells. keeps_key before opened opened after dir taken now tells (opened_told tells) takes signs.works_with puts;
     used = λ tells. keeps_used before opened opened after dir taken now tells (opened_told tells) takes signs.works_with (image (used_told tells signs.works_with.tried)) puts;
+    uses = λ tells. uses_as (λ same. untouched_used before opened opened after dir taken now tells (opened_told tells) takes same puts)
+        (λ t. tries_least before opened opened after dir taken now tells (opened_told tells) takes t.index t.least t.tries (image (used_told tells signs.works_with.tried)) puts)
+        (λ s. signs_at_least before opened opened after dir taken now tells (opened_told tells) takes s.index s.least s.tries s.reserved (image (used_told tells signs.works_with.tried)) puts)
+        signs.added outcome signs.uses;
     key_home = λ tells. stands-not-out (part_in after dir Key) now.parts.key (puts.key_back (opened_told tells));
     used_home = λ tells. stands-not-out (part_in after dir Used) now.parts.used (puts.used_back (opened_told tells));
     others = λ tells. keeps_through (Key ∷ Used ∷ []) dir before opened after takes.others (puts.others (opened_told tells));
@@ -378,14 +504,22 @@ module _ (Unused : Type 0) (Answer : SignAnswer) (Stops : Outcome → Type 0) (d
           let more = faulted some in
           omega (arith, first, more)
 
+      inner : IsOpenFault Stops old taken new now outcome → IsInnerFault Stops faults faults_new old new outcome
+      inner (inl memory) = inl memory
+      inner (inr (inl stopped)) = inr (inl stopped)
+      inner (inr (inr (store, inl log))) = inr (inr (store, inr log))
+      inner (inr (inr (store, inr key))) = inr (inr (store, inl (rose key)))
+
       by : Answer old.history taken.secret taken.taken signs.added outcome ⊎ (IsOpenFault Stops old taken new now outcome × (signs.added ≡ []))
           → (IsTrue before.tells → KeyedAnswer Unused Answer (reading (part_in before dir Key)) (reading (part_in before dir Used)) old.history signs.added outcome)
           ⊎ (IsInnerFault Stops faults faults_new old new outcome × (signs.added ≡ []))
       by (inl answer) = inl (λ tells. key_of tells answer)
-      by (inr (inl memory, is)) = inr (inl memory, is)
-      by (inr (inr (inl stopped), is)) = inr (inr (inl stopped), is)
-      by (inr (inr (inr (failed, inl log)), is)) = inr (inr (inr (failed, inr log)), is)
-      by (inr (inr (inr (failed, inr key)), is)) = inr (inr (inr (failed, inl (rose key))), is)
+      by (inr (fault, is)) = inr (inner fault, is)
+
+      some : Answer old.history taken.secret taken.taken signs.added outcome ⊎ (IsOpenFault Stops old taken new now outcome × (signs.added ≡ []))
+          → AnswersSomeKey Answer (IsInnerFault Stops faults faults_new old new) signs.added outcome
+      some (inl answer) = answered old.history taken.secret taken.taken answer
+      some (inr (fault, is)) = by_fault (inner fault) is
 
 -- ---- the store of a directory
 
@@ -443,22 +577,43 @@ home_but dir disk shelf key used rest other away =
         by true e = stands-not-out (standing disk) disk refl
         by false e = rest place e far
 
-module _ (Unused : Type 0) (Answer : SignAnswer) (Stops : Outcome → Type 0) (dir : List ℕ) (before after : ShelfState) (old new : ℕ) where
+module _ (Unused : Type 0) (Answer : SignAnswer) (Stops : Outcome → Type 0) (stream stream_new : Stream) (dir : List ℕ) (before after : ShelfState) (old new : ℕ) where
   -- where no store was taken
   pub signs_storeless : (why : StoreRefusal) → (IsTrue before.tells → IsHome before) → Unused → LetsGo is_luhn before dir after → (IsTrue before.tells → IsStoreCause is_luhn before dir why)
-      → (why ≡ store_refusals.DiskFault → Rose old new) → MakesUpdate Unused Answer Stops dir before after old new (Err (from_store why))
-  signs_storeless why home unused lets cause failed = record {
+      → (why ≡ store_refusals.DiskFault → Rose old new) → stream_new ≡ stream → MakesUpdate Unused Answer Stops stream stream_new dir before after old new (Err (from_store why))
+  signs_storeless why home unused lets cause rose same = record {
     runs = record {
       added = [];
-      comes = by why cause failed;
+      comes = by why cause rose;
       run = lets.run;
       others = λ tells other away. lets.others tells other (of_four_first dir other away);
       home = λ tells place. lets.places tells place (home tells place);
     };
     key = λ tells. untouched_by (part_in before dir Key) (part_in after dir Key) (lets.others tells (slot dir Key) refl);
     used = λ tells. keeps_untouched (part_in before dir Used) (part_in after dir Used) (untouched_by (part_in before dir Used) (part_in after dir Used) (lets.others tells (slot dir Used) refl));
+    uses = λ tells. not_used why (untouched_by (part_in before dir Used) (part_in after dir Used) (lets.others tells (slot dir Used) refl));
+    ends = some why rose;
+    draws = undrawn why;
   }
     where
+      undrawn : (why : StoreRefusal) → DrawsFor stream stream_new (Err (from_store why))
+      undrawn store_refusals.NoStore = same
+      undrawn store_refusals.BadStore = same
+      undrawn store_refusals.DiskFault = inl same
+      undrawn store_refusals.Memory = inl same
+
+      some : (why : StoreRefusal) → (why ≡ store_refusals.DiskFault → Rose old new) → AnswersSomeKey Answer (λ given. IsShelfFault old new given ⊎ Stops given) [] (Err (from_store why))
+      some store_refusals.NoStore f = unopened tt refl
+      some store_refusals.BadStore f = unopened tt refl
+      some store_refusals.DiskFault f = by_fault (inl (inr (refl, f refl))) refl
+      some store_refusals.Memory f = by_fault (inl (inl refl)) refl
+
+      not_used : (why : StoreRefusal) → IsUntouched (part_in before dir Used) (part_in after dir Used) → UsesKeyIn (part_in before dir Used) (part_in after dir Used) [] (Err (from_store why))
+      not_used store_refusals.NoStore kept = kept
+      not_used store_refusals.BadStore kept = kept
+      not_used store_refusals.DiskFault kept = inl kept
+      not_used store_refusals.Memory kept = inl kept
+
       by : (why : StoreRefusal) → (IsTrue before.tells → IsStoreCause is_luhn before dir why) → (why ≡ store_refusals.DiskFault → Rose old new)
           → (IsTrue before.tells → StoreAnswer Unused Answer (readings before dir) [] (Err (from_store why))) ⊎ ((IsShelfFault old new (Err (from_store why)) ⊎ Stops (Err (from_store why))) × (nothing ≡ []))
       by store_refusals.NoStore so f = inl (λ tells. without_store refusals.NoStore (no_store (so tells) refl) unused refl refl)
@@ -468,9 +623,9 @@ module _ (Unused : Type 0) (Answer : SignAnswer) (Stops : Outcome → Type 0) (d
 
   -- where one was taken and put back
   pub signs_stored : OneSchema → (opened closing : ShelfState) (opened_faults closing_faults : ℕ) (taken : OpenData) (replica : ReplicaState) (outcome : Outcome) → (IsTrue before.tells → IsHome before)
-      → TakesStore is_luhn before dir taken opened → SignsIn Unused Answer Stops dir opened closing opened_faults closing_faults taken.replica replica outcome
+      → TakesStore is_luhn before dir taken opened → SignsIn Unused Answer Stops stream stream_new dir opened closing opened_faults closing_faults taken.replica replica outcome
       → PutsStore closing dir taken.schema replica.log.disk after → old ≤ opened_faults → closing_faults ≤ new → (0 < replica.log.faults → Rose closing_faults new)
-      → MakesUpdate Unused Answer Stops dir before after old new outcome
+      → MakesUpdate Unused Answer Stops stream stream_new dir before after old new outcome
   signs_stored one opened closing opened_faults closing_faults taken replica outcome home takes signs puts first second faulted = record {
     runs = record {
       added = signs.added;
@@ -487,6 +642,11 @@ module _ (Unused : Type 0) (Answer : SignAnswer) (Stops : Outcome → Type 0) (d
     used = λ tells.
         subst (λ (p : PartState). KeepsUsed p (part_in after dir Used)) (takes.others (slot dir Used) refl)
         (subst (λ (p : PartState). KeepsUsed (part_in opened dir Used) p) (sym (puts.others (closing_told tells) (slot dir Used) refl)) (signs.used (opened_told tells)));
+    uses = λ tells.
+        subst (λ (p : PartState). UsesKeyIn p (part_in after dir Used) signs.added outcome) (takes.others (slot dir Used) refl)
+        (subst (λ (p : PartState). UsesKeyIn (part_in opened dir Used) p signs.added outcome) (sym (puts.others (closing_told tells) (slot dir Used) refl)) (signs.uses (opened_told tells)));
+    ends = some signs.ends;
+    draws = signs.draws;
   }
     where
       opened_told : IsTrue before.tells → IsTrue opened.tells
@@ -500,6 +660,16 @@ module _ (Unused : Type 0) (Answer : SignAnswer) (Stops : Outcome → Type 0) (d
           home_but dir taken.schema closing (signs.key_home (opened_told tells)) (signs.used_home (opened_told tells))
           (λ other away far. subst (λ (p : PartState). p ≢ out) (sym (signs.others (opened_told tells) other far ∙ takes.others other away)) (home tells other))
 
+      outer : IsInnerFault Stops opened_faults closing_faults taken.replica replica outcome → IsShelfFault old new outcome ⊎ Stops outcome
+      outer (inl memory) = inl (inl memory)
+      outer (inr (inl stopped)) = inr stopped
+      outer (inr (inr (store, inl shelf))) = inl (inr (store, (omega (arith, first, second, shelf))))
+      outer (inr (inr (store, inr log))) =
+          let any : 0 < replica.log.faults = omega (arith, log) in
+          let later = signs.later in
+          let more = faulted any in
+          inl (inr (store, (omega (arith, first, later, more))))
+
       by : (IsTrue opened.tells → KeyedAnswer Unused Answer (reading (part_in opened dir Key)) (reading (part_in opened dir Used)) taken.replica.history signs.added outcome)
           ⊎ (IsInnerFault Stops opened_faults closing_faults taken.replica replica outcome × (signs.added ≡ []))
           → (IsTrue before.tells → StoreAnswer Unused Answer (readings before dir) signs.added outcome) ⊎ ((IsShelfFault old new outcome ⊎ Stops outcome) × (signs.added ≡ []))
@@ -507,13 +677,13 @@ module _ (Unused : Type 0) (Answer : SignAnswer) (Stops : Outcome → Type 0) (d
           with_store (store_of taken.replica) (read_before is_luhn before opened dir taken tells takes)
           (subst (λ (p : PartState). KeyedAnswer Unused Answer (reading p) (reading (part_in before dir Used)) taken.replica.history signs.added outcome) (takes.others (slot dir Key) refl)
           (subst (λ (p : PartState). KeyedAnswer Unused Answer (reading (part_in opened dir Key)) (reading p) taken.replica.history signs.added outcome) (takes.others (slot dir Used) refl) (answer (opened_told tells)))))
-      by (inr (inl memory, is)) = inr (inl (inl memory), is)
-      by (inr (inr (inl stopped), is)) = inr (inr stopped, is)
-      by (inr (inr (inr (failed, inl shelf)), is)) = inr (inl (inr (failed, (omega (arith, first, second, shelf)))), is)
-      by (inr (inr (inr (failed, inr log)), is)) =
-          let some : 0 < replica.log.faults = omega (arith, log) in
-          let later = signs.later in
-          let more = faulted some in inr (inl (inr (failed, (omega (arith, first, later, more)))), is)
+      by (inr (fault, is)) = inr (outer fault, is)
+
+      some : AnswersSomeKey Answer (IsInnerFault Stops opened_faults closing_faults taken.replica replica) signs.added outcome
+          → AnswersSomeKey Answer (λ given. IsShelfFault old new given ⊎ Stops given) signs.added outcome
+      some (answered history secret taken_indices answer) = answered history secret taken_indices answer
+      some (unopened is adds_none) = unopened is adds_none
+      some (by_fault fault is) = by_fault (outer fault) is
 
 -- ---- want of memory in place of a refusal
 
@@ -541,9 +711,9 @@ none_by_store Unused Answer refusal adds_none dir shelf added (with_store store 
 none_by_store Unused Answer refusal adds_none dir shelf added (with_store store has (with_key secret reads answer)) =
     adds_none (history_of store) secret (taken_of (reading (part_in shelf dir Used))) added answer
 
-pub signs_without_memory : (Unused : Type 0) (Answer : SignAnswer) (Stops : Outcome → Type 0) (dir : List ℕ) (before after : ShelfState) (old new : ℕ) (refusal : Refusal) → IsAddedNone Answer refusal
-    → MakesUpdate Unused Answer Stops dir before after old new (Err refusal) → MakesUpdate Unused Answer Stops dir before after old new (Err refusals.Memory)
-signs_without_memory Unused Answer Stops dir before after old new refusal adds_none makes_it = record {
+pub signs_without_memory : {stream stream_new : Stream} → (Unused : Type 0) (Answer : SignAnswer) (Stops : Outcome → Type 0) (dir : List ℕ) (before after : ShelfState) (old new : ℕ) (refusal : Refusal) → IsAddedNone Answer refusal
+    → MakesUpdate Unused Answer Stops stream stream_new dir before after old new (Err refusal) → MakesUpdate Unused Answer Stops stream stream_new dir before after old new (Err refusals.Memory)
+signs_without_memory {stream} {stream_new} Unused Answer Stops dir before after old new refusal adds_none makes_it = record {
   runs = record {
     added = [];
     comes = inr (inl (inl refl), refl);
@@ -553,6 +723,9 @@ signs_without_memory Unused Answer Stops dir before after old new refusal adds_n
   };
   key = makes_it.key;
   used = makes_it.used;
+  uses = λ tells. uses_lacking makes_it.runs.added refusal (makes_it.uses tells);
+  ends = by_fault (inl (inl refl)) refl;
+  draws = draws_lacking stream stream_new refusal makes_it.draws;
 }
   where
     no_update : (IsTrue before.tells → StoreAnswer Unused Answer (readings before dir) makes_it.runs.added (Err refusal)) ⊎ ((IsShelfFault old new (Err refusal) ⊎ Stops (Err refusal)) × (makes_it.runs.added ≡ []))

@@ -1,5 +1,5 @@
 -- What `merge` answers over the stores of two directories, and what it leaves.
-use Rattle.std.specs.Prelude.{◌≡◌, ◌≢◌, ◌⊎◌, ℕ, ◌≤◌, true, false, List, [], ◌∷◌, ◌++◌, All, Contains, IsTrue, Err, map}
+use Rattle.std.specs.Prelude.{◌≡◌, ◌≢◌, ◌⊎◌, ℕ, ◌≤◌, true, false, List, [], ◌∷◌, ◌++◌, All, Contains, IsTrue, Ok, Err, map}
 use Rattle.std.specs.List.{list_any}
 use Rattle.row_check.specs.Checksum.{is_luhn}
 use Rattle.bec_bytes.specs.Causes.{Rose}
@@ -9,7 +9,7 @@ use Rattle.bec_disk.specs.Shelf.{ShelfState}
 use Rattle.bec_disk.specs.Slot.{Slot, same_slot, slot}
 use Rattle.update_model.specs.Batch.{store_limits}
 use Rattle.update_codec.specs.Parts.{entry_of}
-use Rattle.session_rules.specs.declared.end.End.TheVariants.{Done, Peer, Full}
+use Rattle.session_rules.specs.declared.end.End.TheVariants.{Done, Peer, Full, Store}
 use Rattle.session_rules.specs.declared.peer_fault.PeerFault.{PeerFault}
 use Rattle.session_rules.specs.Laws.{NoCollision}
 use Rattle.sync_session.specs.Carrying.{HasRoom, Syncs, Unites}
@@ -23,9 +23,9 @@ use Rattle.replica.specs.Replicas.{ReplicaState}
 use Rattle.store_directory.specs.Stores.{IsStore, StoreData, StoreRun}
 use Rattle.outcomes.specs.declared.refusal.Refusal.{Refusal}
 use Rattle.outcomes.specs.declared.refusal.Refusal.TheVariants as refusals
-use Rattle.outcomes.specs.Comes.{IsShelfFault, is_done, readings}
+use Rattle.outcomes.specs.Comes.{IsRefused, IsShelfFault, is_done, readings}
 use Rattle.outcomes.specs.Outcome.{Outcome}
-use Rattle.key_directory.specs.Parts.{IsHome, KeepsAllBut, KeepsPlaces, part_in, reading}
+use Rattle.key_directory.specs.Parts.{IsHome, IsUntouched, KeepsAllBut, KeepsPlaces, part_in, reading}
 use Rattle.schema_verdict.specs.Verdict.{Prints}
 use Rattle.outcomes.specs.Outside.{Outside}
 use Rattle.outcomes.specs.OpenStores.{WorksFrom, opened_store}
@@ -68,6 +68,20 @@ pub record Meets (one other : StoreData) (memory memory_other memory_new memory_
   pub remembers : ended.a ≡ Done → RemembersIn peers other.node ended.remembered_a memory_new
   pub remembers_other : ended.a ≡ Done → RemembersIn peers_other one.node ended.remembered_b memory_other_new
 
+-- What was added where the store failed: nothing, before a session; or what the session added that was held, up to its end by the store, or done, and
+-- then what is remembered was not kept.
+pub data IsStopped (one other : StoreData) (memory memory_other : List ℕ) (added added_other : List (List ℕ)) : Type 0 where
+  unheld : added ≡ [] → added_other ≡ [] → IsStopped one other memory memory_other added added_other
+  held : (ended : PairEnd) (peers peers_other : List PeerEntry) → Reads memory peers → Reads memory_other peers_other → (ended.a ≡ Store) ⊎ (ended.a ≡ Done)
+      → Syncs store_limits store_limits one.schema.rule other.schema.rule (start_of one other peers peers_other) one.members other.members ended
+      (one.members ++ added) (other.members ++ added_other)
+      → IsStopped one other memory memory_other added added_other
+
+-- This holds where the store failed.
+abbrev pub IfStoreFault : Outcome → Type 0 → Type 0
+IfStoreFault (Err refusals.StoreFault) P = P
+IfStoreFault outcome P = Unit {0}
+
 -- What is answered by what both directories read as: the store of the first or of the second is refused, or they meet.
 pub data MergeAnswer (parts parts_other : Readings) (memory memory_other memory_new memory_other_new : List ℕ) (added added_other : List (List ℕ)) (outcome : Outcome) : Type 0 where
   without_first : (refusal : Refusal) → RefusesStore parts refusal → added ≡ [] → added_other ≡ [] → outcome ≡ Err refusal
@@ -100,16 +114,35 @@ pub record IsWithin (members members_other added added_other : List (List ℕ)) 
   pub first : All (Contains (members ++ members_other)) added
   pub second : All (Contains (members ++ members_other)) added_other
 
+-- It is done, or a store is refused, or the session ended by a fault of a peer or at a limit.
+abbrev pub IsMergeEnd : Outcome → Type 0
+IsMergeEnd (Ok text) = Unit {0}
+IsMergeEnd (Err refusals.NoStore) = Unit {0}
+IsMergeEnd (Err refusals.BadStore) = Unit {0}
+IsMergeEnd (Err (refusals.Peer fault)) = Unit {0}
+IsMergeEnd (Err refusals.Full) = Unit {0}
+IsMergeEnd outcome = ⊥
+
+-- Of the parts Peers of two directories both were at most read.
+abbrev pub AreUnremembered : List ℕ → List ℕ → ShelfState → ShelfState → Type 0
+AreUnremembered first second before after =
+    IsUntouched (part_in before first Peers) (part_in after first Peers) × IsUntouched (part_in before second Peers) (part_in after second Peers)
+
 -- A run of `merge` over two directories. Where the shelf tells what it has, the outcome is the answer to what the parts read as, or a fault came in its
--- place. These were added to each list, in whatever way it ends. No part but these is touched, and every part is put back.
+-- place. These were added to each list, in whatever way it ends; where the store failed, they are what the session added up to there. No part but these is touched, and every part is put back. Where it is refused, both
+-- parts Peers are at most read. Whether the shelf tells what it has or not, it is done, or refused for one of its own reasons, or a fault came.
 pub record MergesStores (first second : List ℕ) (before after : ShelfState) (old new : ℕ) (outcome : Outcome) : Type 0 where
   pub added : List (List ℕ)
   pub added_other : List (List ℕ)
   pub comes : (IsTrue before.tells → MergeAnswer (readings before first) (readings before second) (memory_in before first) (memory_in before second)
       (memory_in after first) (memory_in after second) added added_other outcome) ⊎ IsShelfFault old new outcome
+  pub ends : IsMergeEnd outcome ⊎ IsShelfFault old new outcome
+  pub peers : IsTrue before.tells → IsRefused outcome → AreUnremembered first second before after
   pub run : IsTrue before.tells → StoreRun is_luhn before after first added (is_done outcome)
   pub run_other : IsTrue before.tells → StoreRun is_luhn before after second added_other (is_done outcome)
   pub within : IsTrue before.tells → (one other : StoreData) → IsStore is_luhn before first one → IsStore is_luhn before second other → IsWithin one.members other.members added added_other
+  pub stopped : IsTrue before.tells → (one other : StoreData) → IsStore is_luhn before first one → IsStore is_luhn before second other
+      → IfStoreFault outcome (IsStopped one other (memory_in before first) (memory_in before second) added added_other)
   pub others : IsTrue before.tells → KeepsAllButIn touched first touched second before after
   pub home : IsTrue before.tells → IsHome after
 
@@ -133,11 +166,14 @@ pub record MergesOpen (first second : List ℕ) (before after : ShelfState) (fau
   pub added_other : List (List ℕ)
   pub comes : (IsTrue before.tells → Meets (opened_store one) (opened_store other) (memory_in before first) (memory_in before second)
       (memory_in after first) (memory_in after second) added added_other outcome) ⊎ IsMergeFault faults faults_new one other one_new other_new outcome
+  pub ends : IsMergeEnd outcome ⊎ IsMergeFault faults faults_new one other one_new other_new outcome
+  pub peers : IsTrue before.tells → IsRefused outcome → AreUnremembered first second before after
   pub works : IsWhole other → WorksFrom one one_new added (is_done outcome)
   pub works_other : IsWhole one → WorksFrom other other_new added_other (is_done outcome)
   pub slot : one_new.log.disk.slot ≡ one.log.disk.slot
   pub slot_other : other_new.log.disk.slot ≡ other.log.disk.slot
   pub within : IsWithin one.history.members other.history.members added added_other
+  pub stopped : IsTrue before.tells → IfStoreFault outcome (IsStopped (opened_store one) (opened_store other) (memory_in before first) (memory_in before second) added added_other)
   pub tells : after.tells ≡ before.tells
   pub places : IsTrue before.tells → KeepsPlaces before after
   pub others : IsTrue before.tells → KeepsAllButIn (Peers ∷ []) first (Peers ∷ []) second before after
@@ -162,10 +198,14 @@ pub record MergesBeside (first second : List ℕ) (before after : ShelfState) (f
   pub added_other : List (List ℕ)
   pub comes : (IsTrue before.tells → BesideAnswer (opened_store one) (readings before second) (memory_in before first) (memory_in before second)
       (memory_in after first) (memory_in after second) added added_other outcome) ⊎ IsBesideFault faults faults_new one one_new outcome
+  pub ends : IsMergeEnd outcome ⊎ IsBesideFault faults faults_new one one_new outcome
+  pub peers : IsTrue before.tells → IsRefused outcome → AreUnremembered first second before after
   pub works : WorksFrom one one_new added (is_done outcome)
   pub slot : one_new.log.disk.slot ≡ one.log.disk.slot
   pub run_other : IsWhole one → IsTrue before.tells → StoreRun is_luhn before after second added_other (is_done outcome)
   pub within : IsTrue before.tells → (other : StoreData) → IsStore is_luhn before second other → IsWithin one.history.members other.members added added_other
+  pub stopped : IsTrue before.tells → (other : StoreData) → IsStore is_luhn before second other
+      → IfStoreFault outcome (IsStopped (opened_store one) other (memory_in before first) (memory_in before second) added added_other)
   pub tells : after.tells ≡ before.tells
   pub places : IsTrue before.tells → KeepsPlaces before after
   pub others : IsTrue before.tells → KeepsAllButIn (Peers ∷ []) first touched second before after

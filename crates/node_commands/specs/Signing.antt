@@ -1,19 +1,22 @@
 -- What the commands that make an update by the key of a directory answer, and what they leave.
-use Rattle.std.specs.Prelude.{◌≡◌, ◌≢◌, ◌⊎◌, ℕ, ◌≤◌, Bool, List, [], ◌∷◌, ◌++◌, IsTrue, Err, Option, Some, None}
+use Rattle.std.specs.Prelude.{◌≡◌, ◌≢◌, ◌⊎◌, ℕ, ◌+◌, ◌≤◌, Bool, List, [], ◌∷◌, ◌++◌, IsTrue, Ok, Err, Option, Some, None, slice_set}
 use Rattle.rand_core.specs.Stream.{Stream}
 use Rattle.row_check.specs.Checksum.{is_luhn}
 use Rattle.bec_bytes.specs.Causes.{Rose}
 use Rattle.bec_disk.specs.declared.part.Part.TheVariants.{Schema, Updates, Key, Used}
-use Rattle.bec_disk.specs.Shelf.{ShelfState, out}
+use Rattle.bec_disk.specs.Disk.{DiskState, IsSettled, LeavesSince, moments}
+use Rattle.bec_disk.specs.Images.{IsTorn}
+use Rattle.bec_disk.specs.Shelf.{PartState, ShelfState, out, stands}
 use Rattle.update_model.specs.declared.op.Op.{Op}
 use Rattle.update_model.specs.declared.update_id.UpdateId.{UpdateId}
 use Rattle.lms_tree.specs.SecretKey.{SecretData}
 use Rattle.history.specs.Histories.{HistoryData}
 use Rattle.key_index.specs.KeyState.{KeyState}
-use Rattle.key_index.specs.Used.{used_in}
+use Rattle.key_index.specs.Used.{least_unused, used_in}
 use Rattle.replica.specs.declared.make_fault.MakeFault.{MakeFault}
 use Rattle.replica.specs.Making.{HasNoneToJoin, IsJoinCause, IsMakeCause, Joins, Makes}
 use Rattle.replica.specs.Replicas.{ReplicaState}
+use Rattle.replica.specs.Signing.{SignsAtLeast, TriesLeast}
 use Rattle.key_directory.specs.Keys.{IsBadKey, IsNoKey, KeepsUsed, ReadsAsKey, WorksWith}
 use Rattle.key_directory.specs.Parts.{IsUntouched, KeepsAllBut, part_in, reading}
 use Rattle.store_directory.specs.Stores.{StoreData}
@@ -21,7 +24,7 @@ use Rattle.txn_text.specs.declared.fault.TextFault.{TextFault}
 use Rattle.txn_text.specs.declared.limits.TheConstants.{MAX_TRANSACTION_BYTES}
 use Rattle.txn_text.specs.Transactions.{Reads, FirstFault}
 use Rattle.outcomes.specs.declared.refusal.Refusal.{Refusal}
-use Rattle.outcomes.specs.declared.refusal.Refusal.TheVariants.{BadKey, Memory, NoKey, StoreFault, Transaction}
+use Rattle.outcomes.specs.declared.refusal.Refusal.TheVariants.{BadKey, IdTaken, Memory, NoKey, StoreFault, Transaction}
 use Rattle.outcomes.specs.declared.refusal.Refusal.TheVariants as refusals
 use Rattle.outcomes.specs.Comes.{IsShelfFault, RunsStore, is_done, IsRefused, IsSourceFault}
 use Rattle.schema_verdict.specs.Inputs.{IsWholeText}
@@ -29,7 +32,7 @@ use Rattle.outcomes.specs.Outcome.{IsFault, Outcome, from_make}
 use Rattle.schema.specs.Data.{SchemaData}
 use Rattle.schema_verdict.specs.Verdict.{Prints}
 use Rattle.outcomes.specs.Outside.{Outside}
-use Rattle.outcomes.specs.StoreAnswers.{HasStore, Readings, RefusesStore, next_bytes, RefusesKey}
+use Rattle.outcomes.specs.StoreAnswers.{HasStore, Readings, RefusesStore, after_bytes, next_bytes, RefusesKey}
 use Rattle.outcomes.specs.Texts.{line_of}
 use Rattle.outcomes.specs.OpenStores.{WorksFrom}
 
@@ -84,12 +87,81 @@ pub data StoreAnswer (Unused : Type 0) (Answer : SignAnswer) (parts : Readings) 
   without_store : (refusal : Refusal) → RefusesStore parts refusal → Unused → added ≡ [] → outcome ≡ Err refusal → StoreAnswer Unused Answer parts added outcome
   with_store : (store : StoreData) → HasStore parts store → KeyedAnswer Unused Answer parts.key parts.used (history_of store) added outcome → StoreAnswer Unused Answer parts added outcome
 
--- A command that makes an update by the key of a directory. Its part Key is at most read, and at most one index is used besides. In place of an answer
--- comes a fault of the shelf, or what else may stop it.
-pub record MakesUpdate (Unused : Type 0) (Answer : SignAnswer) (Stops : Outcome → Type 0) (dir : List ℕ) (before after : ShelfState) (old new : ℕ) (outcome : Outcome) : Type 0 where
+-- This holds where nothing was added, and that where something was.
+abbrev pub WhereAdded : List (List ℕ) → Type 0 → Type 0 → Type 0
+WhereAdded [] This That = This
+WhereAdded (bytes ∷ others) This That = That
+
+-- What a key was used for, by what was added and by the outcome: nothing, or its least unused index was tried, or a message was signed at that
+-- index. A message was signed where an update was added, and where its id is taken. Where the store failed, the disk tells: the log's fails after a
+-- message was signed, the key's after the index was tried, every other before. Memory may run out before or after. With every other outcome the key
+-- was not used.
+abbrev pub UsesKey : (NotUsed Tries Signs : Type 0) → List (List ℕ) → Outcome → Type 0
+UsesKey NotUsed Tries Signs added (Ok text) = WhereAdded added NotUsed Signs
+UsesKey NotUsed Tries Signs added (Err IdTaken) = Signs
+UsesKey NotUsed Tries Signs added (Err StoreFault) = NotUsed ⊎ (Tries ⊎ Signs)
+UsesKey NotUsed Tries Signs added (Err Memory) = NotUsed ⊎ (Tries ⊎ Signs)
+UsesKey NotUsed Tries Signs added (Err refusal) = NotUsed
+
+-- The least index of the part Used that was not used was tried. Whatever a crash leaves at each moment of it, and whatever the part reads as, no byte
+-- but that of this index differs.
+pub record TriesLeastIn (old new : PartState) : Type 0 where
+  pub index : ℕ
+  pub before : DiskState
+  pub after : DiskState
+  pub stood : old ≡ stands before
+  pub in_place : new ≡ stands after
+  pub least : least_unused (used_in before.seen) ≡ Some index
+  pub any_moment : LeavesSince (moments before) (moments after) (IsTorn index (index + 1) before.seen)
+  pub reads : IsTorn index (index + 1) before.seen after.seen
+
+-- A message was signed at it: the byte of this index is 1 and every other is as it was, and they are on the disk.
+pub record SignsAtLeastIn (old new : PartState) : Type 0 where
+  pub tries : TriesLeastIn old new
+  pub reads : tries.after.seen ≡ slice_set tries.before.seen tries.index 1
+  pub settled : IsSettled tries.after
+
+-- The same of the part Used, by how it was and how it is.
+abbrev pub UsesKeyIn : PartState → PartState → List (List ℕ) → Outcome → Type 0
+UsesKeyIn old new added outcome = UsesKey (IsUntouched old new) (TriesLeastIn old new) (SignsAtLeastIn old new) added outcome
+
+-- How far the generator went, by the outcome. It was not used where there is no store or no key, or the text is no transaction or was not read; before
+-- the store failed or memory ran out it may have been used; with every other outcome its next 32 bytes were, and no more.
+abbrev pub DrawsFor : Stream → Stream → Outcome → Type 0
+DrawsFor old new (Err refusals.NoStore) = new ≡ old
+DrawsFor old new (Err refusals.BadStore) = new ≡ old
+DrawsFor old new (Err NoKey) = new ≡ old
+DrawsFor old new (Err BadKey) = new ≡ old
+DrawsFor old new (Err (Transaction fault)) = new ≡ old
+DrawsFor old new (Err refusals.Stream) = new ≡ old
+DrawsFor old new (Err StoreFault) = (new ≡ old) ⊎ (new ≡ after_bytes old)
+DrawsFor old new (Err Memory) = (new ≡ old) ⊎ (new ≡ after_bytes old)
+DrawsFor old new outcome = new ≡ after_bytes old
+
+-- There is no store or no key, or a bad one.
+abbrev pub IsUnopened : Outcome → Type 0
+IsUnopened (Err refusals.NoStore) = Unit {0}
+IsUnopened (Err refusals.BadStore) = Unit {0}
+IsUnopened (Err NoKey) = Unit {0}
+IsUnopened (Err BadKey) = Unit {0}
+IsUnopened outcome = ⊥
+
+-- The outcome is the answer over some updates and some key, or there is no store or no key, or a fault came in its place.
+pub data AnswersSomeKey (Answer : SignAnswer) (Fault : Outcome → Type 0) (added : List (List ℕ)) (outcome : Outcome) : Type 0 where
+  answered : (history : HistoryData) (secret : SecretData) (taken : List Bool) → Answer history secret taken added outcome → AnswersSomeKey Answer Fault added outcome
+  unopened : IsUnopened outcome → added ≡ [] → AnswersSomeKey Answer Fault added outcome
+  by_fault : Fault outcome → added ≡ [] → AnswersSomeKey Answer Fault added outcome
+
+-- A command that makes an update by the key of a directory. Its part Key is at most read. Of its part Used the least unused index is used where a
+-- message was signed, and no other; what was used stays so at each moment. In place of an answer comes a fault of the shelf, or what else may stop it.
+-- Whether the shelf tells what it has or not, the outcome is an answer over some updates and some key, or one of those.
+pub record MakesUpdate (Unused : Type 0) (Answer : SignAnswer) (Stops : Outcome → Type 0) (stream stream_new : Stream) (dir : List ℕ) (before after : ShelfState) (old new : ℕ) (outcome : Outcome) : Type 0 where
   pub runs : RunsStore (λ given. IsShelfFault old new given ⊎ Stops given) (StoreAnswer Unused Answer) (Schema ∷ Updates ∷ Key ∷ Used ∷ []) dir before after outcome
   pub key : IsTrue before.tells → IsUntouched (part_in before dir Key) (part_in after dir Key)
   pub used : IsTrue before.tells → KeepsUsed (part_in before dir Used) (part_in after dir Used)
+  pub uses : IsTrue before.tells → UsesKeyIn (part_in before dir Used) (part_in after dir Used) runs.added outcome
+  pub ends : AnswersSomeKey Answer (λ given. IsShelfFault old new given ⊎ Stops given) runs.added outcome
+  pub draws : DrawsFor stream stream_new outcome
 
 -- Nothing else stops it.
 abbrev pub IsNoStop : Outcome → Type 0
@@ -125,11 +197,11 @@ IsSureOfApply input stream parts outcome =
 abbrev pub Applies : {S H R : Type 0} → List ℕ → Outside S H R → Outside S H R → Outcome → Type 0
 Applies dir before after outcome =
     MakesUpdate ((after.source ≡ before.source) × (after.random ≡ before.random)) (ApplyAnswer before.left after.left before.stream) (IsSourceFault before.source_faults after.source_faults)
-    dir before.store after.store before.shelf_faults after.shelf_faults outcome
+    before.stream after.stream dir before.store after.store before.shelf_faults after.shelf_faults outcome
 
 -- `join`, which does not use the source.
 pub record JoinsHeads {S H R : Type 0} (dir : List ℕ) (before after : Outside S H R) (outcome : Outcome) : Type 0 where
-  pub joins : MakesUpdate (after.random ≡ before.random) (JoinAnswer before.stream) IsNoStop dir before.store after.store before.shelf_faults after.shelf_faults outcome
+  pub joins : MakesUpdate (after.random ≡ before.random) (JoinAnswer before.stream) IsNoStop before.stream after.stream dir before.store after.store before.shelf_faults after.shelf_faults outcome
   pub source : after.source ≡ before.source
 
 -- ---- the same of what is open
@@ -140,11 +212,13 @@ IsOpenFault Stops old key new key_new outcome =
     (outcome ≡ Err Memory) ⊎ (Stops outcome ⊎ ((outcome ≡ Err StoreFault) × (Rose old.log.faults new.log.faults ⊎ Rose key.parts.used_faults key_new.parts.used_faults)))
 
 -- A command over an open store and an open key.
-pub record SignsOpen (Answer : SignAnswer) (Stops : Outcome → Type 0) (old : ReplicaState) (key : KeyState) (new : ReplicaState) (key_new : KeyState) (outcome : Outcome) : Type 0 where
+pub record SignsOpen (Answer : SignAnswer) (Stops : Outcome → Type 0) (stream stream_new : Stream) (old : ReplicaState) (key : KeyState) (new : ReplicaState) (key_new : KeyState) (outcome : Outcome) : Type 0 where
   pub added : List (List ℕ)
   pub comes : Answer old.history key.secret key.taken added outcome ⊎ (IsOpenFault Stops old key new key_new outcome × (added ≡ []))
   pub works : WorksFrom old new added (is_done outcome)
   pub works_with : WorksWith key key_new
+  pub uses : UsesKey (key_new ≡ key) (TriesLeast key key_new) (SignsAtLeast key key_new) added outcome
+  pub draws : DrawsFor stream stream_new outcome
   pub log_later : old.log.faults ≤ new.log.faults
   pub key_later : key.parts.used_faults ≤ key_new.parts.used_faults
 
@@ -153,14 +227,17 @@ abbrev pub IsInnerFault : (Outcome → Type 0) → ℕ → ℕ → ReplicaState 
 IsInnerFault Stops faults faults_new old new outcome = (outcome ≡ Err Memory) ⊎ (Stops outcome ⊎ ((outcome ≡ Err StoreFault) × (Rose faults faults_new ⊎ Rose old.log.faults new.log.faults)))
 
 -- A command over an open store, by the key of the directory.
-pub record SignsIn (Unused : Type 0) (Answer : SignAnswer) (Stops : Outcome → Type 0) (dir : List ℕ) (before after : ShelfState) (faults faults_new : ℕ) (old new : ReplicaState) (outcome : Outcome) : Type 0 where
+pub record SignsIn (Unused : Type 0) (Answer : SignAnswer) (Stops : Outcome → Type 0) (stream stream_new : Stream) (dir : List ℕ) (before after : ShelfState) (faults faults_new : ℕ) (old new : ReplicaState) (outcome : Outcome) : Type 0 where
   pub added : List (List ℕ)
   pub comes : (IsTrue before.tells → KeyedAnswer Unused Answer (reading (part_in before dir Key)) (reading (part_in before dir Used)) old.history added outcome)
       ⊎ (IsInnerFault Stops faults faults_new old new outcome × (added ≡ []))
+  pub ends : AnswersSomeKey Answer (IsInnerFault Stops faults faults_new old new) added outcome
+  pub draws : DrawsFor stream stream_new outcome
   pub works : WorksFrom old new added (is_done outcome)
   pub tells : after.tells ≡ before.tells
   pub key : IsTrue before.tells → IsUntouched (part_in before dir Key) (part_in after dir Key)
   pub used : IsTrue before.tells → KeepsUsed (part_in before dir Used) (part_in after dir Used)
+  pub uses : IsTrue before.tells → UsesKeyIn (part_in before dir Used) (part_in after dir Used) added outcome
   pub key_home : IsTrue before.tells → part_in after dir Key ≢ out
   pub used_home : IsTrue before.tells → part_in after dir Used ≢ out
   pub others : IsTrue before.tells → KeepsAllBut (Key ∷ Used ∷ []) dir before after

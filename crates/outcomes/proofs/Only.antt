@@ -106,4 +106,4 @@ module _ {S H R : Type 0} (before after : Outside S H R) (status : ℕ) where
   read_only Answers single dir outcome comes said =
       shelf_said (IsShelfFault before.shelf_faults after.shelf_faults) (ReadsStore Answers) (ReadsStore Answers) (Schema ∷ Updates ∷ []) dir before.store after.store outcome status
       (λ shown added others a b is so. (single shown added others a b is so).0)
-      (fault_status before.shelf_faults after.shelf_faults outcome) comes.runs said
+      (fault_status before.shelf_faults after.shelf_faults outcome) comes.runs.runs said

@@ -1,5 +1,5 @@
 -- Commands that only read the store of a directory.
-use Rattle.std.proofs.Common.{Bool, Err, IsTrue, List, Some, [], append-nil, false, inl, inr, refl, subst, sym, ℕ, ◌∙◌, ◌∷◌, ◌≡◌, ◌≢◌, ◌⊎◌}
+use Rattle.std.proofs.Common.{Bool, Err, IsTrue, List, None, Some, [], append-nil, arith, false, inl, inr, length-append, refl, subst, sym, ℕ, ◌++◌, ◌∙◌, ◌∷◌, ◌≡◌, ◌≢◌, ◌⊎◌}
 use Rattle.bec_bytes.specs.Framed.{stream_of}
 use Rattle.history.proofs.Arriving.{take_next}
 use Rattle.row_check.specs.Checksum.{is_luhn}
@@ -8,8 +8,12 @@ use Rattle.bec_disk.specs.Disk.{handed_out}
 use Rattle.bec_disk.specs.declared.part.Part.TheVariants.{Schema, Updates}
 use Rattle.bec_disk.specs.Shelf.{ShelfState, out}
 use Rattle.bec_disk.specs.Slot.{slot}
+use Rattle.bec_disk.proofs.Gates.{gated-whole}
+use Rattle.bec_disk.specs.Gated.{whole_of}
 use Rattle.bec_disk.proofs.Moments as moments
 use Rattle.update_log.specs.Logset.{BeginsWith}
+use Rattle.update_log.proofs.Logsets.{records_logset}
+use Rattle.replica.specs.Replicas.{ReplicaState}
 use Rattle.store_directory.specs.Holding.{IsStoreCause, LetsGo, OpenData, PutsStore, TakesStore, WorksOn}
 use Rattle.key_directory.specs.Parts.{IsHome, KeepsAllBut, part_in}
 use Rattle.store_directory.specs.Stores.{StoreData, StoreRun}
@@ -17,14 +21,15 @@ use Rattle.store_directory.specs.declared.store_refusal.StoreRefusal.{StoreRefus
 use Rattle.store_directory.specs.declared.store_refusal.StoreRefusal.TheVariants.{NoStore, BadStore, DiskFault, Memory}
 use Rattle.key_directory.proofs.Places.{keeps_through}
 use Rattle.key_directory.proofs.Putting.{slot_of, told}
+use Rattle.key_directory.proofs.Readings.{whole-not-absent}
 use Rattle.store_directory.proofs.Readings.{OneSchema}
 use Rattle.store_directory.proofs.Working.{home_after_store, read_before, store_of, worked_run}
 use Rattle.outcomes.specs.declared.refusal.Refusal.{Refusal}
 use Rattle.outcomes.specs.declared.refusal.Refusal.TheVariants as refusals
-use Rattle.outcomes.specs.Comes.{IsShelfFault, ReadsShelf, is_done, readings}
+use Rattle.outcomes.specs.Comes.{AnswersSome, IsShelfFault, ReadsShelf, is_done, readings}
 use Rattle.outcomes.specs.Outcome.{Outcome, from_store}
 use Rattle.outcomes.specs.Standing.{Stands}
-use Rattle.outcomes.specs.StoreAnswers.{ReadsStore, answered, bad_store, no_store, refused}
+use Rattle.outcomes.specs.StoreAnswers.{HasStore, Readings, ReadsStore, answered, bad_store, no_store, refused}
 
 -- the disks of a store that was taken are those of its parts
 pub put_slots : (before opened : ShelfState) (dir : List ℕ) (taken : OpenData) → TakesStore is_luhn before dir taken opened → IsTrue opened.tells
@@ -37,17 +42,61 @@ put_slots before opened dir taken takes tells =
       (u.3.disk.slot ∙ slot_of (slot dir Updates) u.0 (handed_out (slot dir Updates) u.0) refl, takes.updates_out before_tells),
     )
 
+abbrev no_updates : List (List ℕ)
+no_updates = []
+
+-- ---- parts of some directory
+
+-- parts that have no store
+abbrev no_parts : Readings
+no_parts = record { schema = None; updates = None; key = None; used = None }
+
+-- parts that have a bad one
+abbrev bad_parts : Readings
+bad_parts = record { schema = Some (whole_of []); updates = None; key = None; used = None }
+
+-- parts that have the store that is open
+abbrev parts_of : ReplicaState → Readings
+parts_of replica =
+    record { schema = Some (whole_of (replica.node ++ replica.history.schema.text)); updates = Some (stream_of replica.history.members); key = None; used = None }
+
+has_parts : (replica : ReplicaState) → Stands replica → HasStore (parts_of replica) (store_of replica)
+has_parts replica stands = (
+  record { whole = gated-whole (replica.node ++ replica.history.schema.text) (omega (arith, length-append replica.node replica.history.schema.text, stands.node, stands.taken.declares.0)); size = stands.node; taken = stands.taken },
+  records_logset replica.history.schema.rule replica.history.members stands.history_is.members,
+)
+
+module _ (Answers : StoreData → Outcome → Type 0) where
+  some_none : AnswersSome (ReadsStore Answers) (Err refusals.NoStore)
+  some_none = (no_parts, [], refused refusals.NoStore (no_store tt refl) refl refl)
+
+  some_bad : AnswersSome (ReadsStore Answers) (Err refusals.BadStore)
+  some_bad = (bad_parts, [], refused refusals.BadStore (bad_store (whole-not-absent (whole_of []) [] (gated-whole [] (omega arith))) refl) refl refl)
+
+  some_answered : (replica : ReplicaState) (outcome : Outcome) → Stands replica → Answers (store_of replica) outcome → AnswersSome (ReadsStore Answers) outcome
+  some_answered replica outcome stands answers = (parts_of replica, [], answered (store_of replica) (has_parts replica stands) answers refl)
+
 module _ (Answers : StoreData → Outcome → Type 0) (dir : List ℕ) (before after : ShelfState) (old new : ℕ) where
   -- where no store was taken
   pub read_refused : (why : StoreRefusal) → (IsTrue before.tells → IsHome before) → LetsGo is_luhn before dir after → (IsTrue before.tells → IsStoreCause is_luhn before dir why)
       → (why ≡ DiskFault → Rose old new) → ReadsShelf (ReadsStore Answers) dir before after old new (Err (from_store why))
-  read_refused NoStore home lets cause failed =
-      record { added = []; comes = inl (λ tells. refused refusals.NoStore (no_store (cause tells) refl) refl refl); run = lets.run; others = lets.others; home = λ tells place. lets.places tells place (home tells place) }
-  read_refused BadStore home lets cause failed =
-      record { added = []; comes = inl (λ tells. refused refusals.BadStore (bad_store (cause tells) refl) refl refl); run = lets.run; others = lets.others; home = λ tells place. lets.places tells place (home tells place) }
-  read_refused DiskFault home lets cause failed =
-      record { added = []; comes = inr (inr (refl, failed refl), refl); run = lets.run; others = lets.others; home = λ tells place. lets.places tells place (home tells place) }
-  read_refused Memory home lets cause failed = record { added = []; comes = inr (inl refl, refl); run = lets.run; others = lets.others; home = λ tells place. lets.places tells place (home tells place) }
+  read_refused why home lets cause failed = record {
+    runs = record { added = []; comes = by why cause failed; run = lets.run; others = lets.others; home = λ tells place. lets.places tells place (home tells place) };
+    ends = some why failed;
+  }
+    where
+      by : (why : StoreRefusal) → (IsTrue before.tells → IsStoreCause is_luhn before dir why) → (why ≡ DiskFault → Rose old new)
+          → (IsTrue before.tells → ReadsStore Answers (readings before dir) [] (Err (from_store why))) ⊎ (IsShelfFault old new (Err (from_store why)) × (no_updates ≡ []))
+      by NoStore cause failed = inl (λ tells. refused refusals.NoStore (no_store (cause tells) refl) refl refl)
+      by BadStore cause failed = inl (λ tells. refused refusals.BadStore (bad_store (cause tells) refl) refl refl)
+      by DiskFault cause failed = inr (inr (refl, failed refl), refl)
+      by Memory cause failed = inr (inl refl, refl)
+
+      some : (why : StoreRefusal) → (why ≡ DiskFault → Rose old new) → AnswersSome (ReadsStore Answers) (Err (from_store why)) ⊎ IsShelfFault old new (Err (from_store why))
+      some NoStore failed = inl (some_none Answers)
+      some BadStore failed = inl (some_bad Answers)
+      some DiskFault failed = inr (inr (refl, failed refl))
+      some Memory failed = inr (inl refl)
 
   -- where one was taken, read and put back
   module _ (one : OneSchema) (opened : ShelfState) (taken : OpenData) (home : IsTrue before.tells → IsHome before) (takes : TakesStore is_luhn before dir taken opened)
@@ -79,15 +128,18 @@ module _ (Answers : StoreData → Outcome → Type 0) (dir : List ℕ) (before a
 
     pub read_answered : (outcome : Outcome) → Answers (store_of taken.replica) outcome → ReadsShelf (ReadsStore Answers) dir before after old new outcome
     read_answered outcome answers = record {
-      added = [];
-      comes = inl (λ tells. answered (store_of taken.replica) (read_before is_luhn before opened dir taken tells takes) answers refl);
-      run = runs (is_done outcome);
-      others = others;
-      home = home_again;
+      runs = record {
+        added = [];
+        comes = inl (λ tells. answered (store_of taken.replica) (read_before is_luhn before opened dir taken tells takes) answers refl);
+        run = runs (is_done outcome);
+        others = others;
+        home = home_again;
+      };
+      ends = inl (some_answered Answers taken.replica outcome stands answers);
     }
 
     pub read_lacked : ReadsShelf (ReadsStore Answers) dir before after old new (Err refusals.Memory)
-    read_lacked = record { added = []; comes = inr (inl refl, refl); run = runs false; others = others; home = home_again }
+    read_lacked = record { runs = record { added = []; comes = inr (inl refl, refl); run = runs false; others = others; home = home_again }; ends = inr (inl refl) }
 
 -- ---- want of memory in place of a refusal
 
@@ -97,14 +149,17 @@ none_of_refused Answers dir shelf added refusal (refused why refuses none is) = 
 
 pub read_without_memory : (Answers : StoreData → Outcome → Type 0) (dir : List ℕ) (before after : ShelfState) (old new : ℕ) (refusal : Refusal)
     → ReadsShelf (ReadsStore Answers) dir before after old new (Err refusal) → ReadsShelf (ReadsStore Answers) dir before after old new (Err refusals.Memory)
-read_without_memory Answers dir before after old new refusal runs = record {
-  added = [];
-  comes = inr (inl refl, refl);
-  run = λ tells. subst (λ (l : List (List ℕ)). StoreRun is_luhn before after dir l false) (none runs.comes tells) (runs.run tells);
-  others = runs.others;
-  home = runs.home;
+read_without_memory Answers dir before after old new refusal reads = record {
+  runs = record {
+    added = [];
+    comes = inr (inl refl, refl);
+    run = λ tells. subst (λ (l : List (List ℕ)). StoreRun is_luhn before after dir l false) (none reads.runs.comes tells) (reads.runs.run tells);
+    others = reads.runs.others;
+    home = reads.runs.home;
+  };
+  ends = inr (inl refl);
 }
   where
-    none : (IsTrue before.tells → ReadsStore Answers (readings before dir) runs.added (Err refusal)) ⊎ (IsShelfFault old new (Err refusal) × (runs.added ≡ [])) → IsTrue before.tells → runs.added ≡ []
-    none (inl answers) tells = none_of_refused Answers dir before runs.added refusal (answers tells)
+    none : (IsTrue before.tells → ReadsStore Answers (readings before dir) reads.runs.added (Err refusal)) ⊎ (IsShelfFault old new (Err refusal) × (reads.runs.added ≡ [])) → IsTrue before.tells → reads.runs.added ≡ []
+    none (inl answers) tells = none_of_refused Answers dir before reads.runs.added refusal (answers tells)
     none (inr fault) tells = fault.1

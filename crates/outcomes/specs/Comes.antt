@@ -35,9 +35,15 @@ pub record RunsStore (Fault : Outcome → Type 0) (Answer : Readings → List (L
   pub others : IsTrue before.tells → KeepsAllBut touched dir before after
   pub home : IsTrue before.tells → IsHome after
 
--- A command that only reads the store of a directory: its two parts are at most read.
-abbrev pub ReadsShelf : (Readings → List (List ℕ) → Outcome → Type 0) → List ℕ → ShelfState → ShelfState → ℕ → ℕ → Outcome → Type 0
-ReadsShelf Answer dir before after old new outcome = RunsStore (IsShelfFault old new) Answer (Schema ∷ Updates ∷ []) dir before after outcome
+-- The outcome is the answer to what the parts of some directory read as.
+abbrev pub AnswersSome : (Readings → List (List ℕ) → Outcome → Type 0) → Outcome → Type 0
+AnswersSome Answer outcome = (parts : Readings) × (added : List (List ℕ)) × Answer parts added outcome
+
+-- A command that only reads the store of a directory: its two parts are at most read. Whether the shelf tells what it has or not, the outcome is an
+-- answer to some parts, or a fault.
+pub record ReadsShelf (Answer : Readings → List (List ℕ) → Outcome → Type 0) (dir : List ℕ) (before after : ShelfState) (old new : ℕ) (outcome : Outcome) : Type 0 where
+  pub runs : RunsStore (IsShelfFault old new) Answer (Schema ∷ Updates ∷ []) dir before after outcome
+  pub ends : AnswersSome Answer outcome ⊎ IsShelfFault old new outcome
 
 -- It uses neither the source nor the generator.
 pub record ReadsStoreOnly {S H R : Type 0} (Answer : Readings → List (List ℕ) → Outcome → Type 0) (dir : List ℕ) (before after : Outside S H R) (outcome : Outcome) : Type 0 where

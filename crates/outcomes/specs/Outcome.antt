@@ -1,5 +1,5 @@
 -- What a command comes to, and how it is said.
-use Rattle.std.specs.Prelude.{◌≡◌, ◌≢◌, ◌⊎◌, ℕ, List, [], codes, Option, Ok, Err}
+use Rattle.std.specs.Prelude.{◌≡◌, ◌⊎◌, ℕ, List, [], codes, Option, Ok, Err}
 use Rattle.std.specs.Io.KnownBytes.{Appends}
 use Rattle.bec_bytes.specs.Causes.{Rose}
 use Rattle.confluence_test.specs.declared.refusal.SchemaRefusal.{SchemaRefusal}
@@ -190,10 +190,18 @@ abbrev pub Says : ℕ → ℕ → Option (List ℕ) → Option (List ℕ) → Ou
 Says old new held held_new (Err Memory) status = (status ≡ OUT_OF_MEMORY) × Appends held held_new []
 Says old new held held_new outcome status = Puts old new held held_new (status_of outcome) (text_of outcome) status
 
--- The lines of a refusal may lack memory, but not the line for words that are no command.
+-- The lines of a refusal may lack memory that are made of what it has. Every other refusal has always the same line, which takes none.
 abbrev pub MayLackMemory : Outcome → Type 0
-MayLackMemory (Ok text) = ⊥
-MayLackMemory (Err refusal) = refusal ≢ Words
+MayLackMemory (Err (Record n fault)) = Unit {0}
+MayLackMemory (Err (Schema fault)) = Unit {0}
+MayLackMemory (Err (NotConfluent schema which example)) = Unit {0}
+MayLackMemory (Err (Query fault)) = Unit {0}
+MayLackMemory (Err (Transaction fault)) = Unit {0}
+MayLackMemory (Err (Invalid reason operation)) = Unit {0}
+MayLackMemory (Err (KeySpent count)) = Unit {0}
+MayLackMemory (Err (Heads count)) = Unit {0}
+MayLackMemory (Err Memory) = Unit {0}
+MayLackMemory outcome = ⊥
 
 -- An outcome is said, or want of memory is said in place of a refusal.
 abbrev pub Ends : ℕ → ℕ → Option (List ℕ) → Option (List ℕ) → Outcome → ℕ → Type 0

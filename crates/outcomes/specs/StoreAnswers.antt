@@ -38,6 +38,10 @@ Printing Shows store outcome = (text : List ℕ) × Shows store text × Prints o
 abbrev pub next_bytes : Stream → List ℕ
 next_bytes stream = (fill_bytes 32 stream).0
 
+-- the generator behind them
+abbrev pub after_bytes : Stream → Stream
+after_bytes stream = (fill_bytes 32 stream).1
+
 -- Why the key of a directory is not opened, by what its parts read as.
 pub data RefusesKey (key used : Option (List ℕ)) (refusal : Refusal) : Type 0 where
   no_key : IsNoKey key → refusal ≡ NoKey → RefusesKey key used refusal

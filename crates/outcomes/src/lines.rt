@@ -1,10 +1,10 @@
 //! Every line that begins with `! `, and what follows it.
 
-ghost use Rattle.std.specs.Prelude.{◌≡◌, ◌≢◌, IfOk, IfErr, IfSome, IfNone, OnErr, Err};
+ghost use Rattle.std.specs.Prelude.{◌≡◌, ◌≢◌, IfOk, IfSome, IfNone, OnErr, Err};
 ghost use Rattle.std.specs.String.{string_bytes};
-ghost use Rattle.outcomes.specs.declared.refusal.Refusal.TheVariants.{Memory, Words};
+ghost use Rattle.outcomes.specs.declared.refusal.Refusal.TheVariants.{Memory};
 ghost use Rattle.outcomes.specs.Texts.{invalid_text, many_heads_text, peer_text, query_text, record_text, spent_text, transaction_text};
-ghost use Rattle.outcomes.specs.Outcome.{Says, text_for};
+ghost use Rattle.outcomes.specs.Outcome.{MayLackMemory, Says, text_for};
 
 use crate::refusal::Refusal;
 use bec_bytes::Sink;
@@ -15,12 +15,12 @@ use std::alloc::{AllocError, Global};
 use txn_text::TextFault;
 use update_stream::RecordFault;
 
-/// Writes the lines of a refusal and answers its exit status. Where memory runs out nothing is written; that words are no
-/// command is said without memory.
+/// Writes the lines of a refusal and answers its exit status. Where memory runs out nothing is written; a refusal that has
+/// always the same line takes none.
 pub fn refuse<K: Sink>(alloc: Global, out: &mut K, refusal: &Refusal) -> Result<u8, AllocError>
     ensures said { IfOk result (λ status. Says (K.faults out.old) (K.faults out.new) (K.held out.old) (K.held out.new) (Err refusal.now) status) }
     ensures same { OnErr result (out.new ≡ out.old) }
-    ensures made { IfErr result (λ _. refusal.now ≢ Words) }
+    ensures made { OnErr result (MayLackMemory (Err refusal.now)) }
 {
     let status = refusal.status();
     if let Some(line) = plain_line(refusal) {
@@ -33,7 +33,7 @@ pub fn refuse<K: Sink>(alloc: Global, out: &mut K, refusal: &Refusal) -> Result<
 /// The line of a refusal that has always the same one.
 fn plain_line(refusal: &Refusal) -> Option<&'static [u8]>
     ensures line { IfSome result (λ line. (line.now ≡ text_for refusal.now) × (refusal.now ≢ Memory)) }
-    ensures other { IfNone result (refusal.now ≢ Words) }
+    ensures other { IfNone result (MayLackMemory (Err refusal.now)) }
 {
     match refusal {
         Refusal::Words => Some(b"! words\n"),
@@ -55,7 +55,9 @@ fn plain_line(refusal: &Refusal) -> Option<&'static [u8]>
         Refusal::BadKey => Some(b"! bad key\n"),
         Refusal::StoreFault => Some(b"! store fault\n"),
         Refusal::Stream => Some(b"! stream fault\n"),
-        _ => None,
+        Refusal::Record { .. } | Refusal::Schema(_) | Refusal::NotConfluent { .. } => None,
+        Refusal::Query(_) | Refusal::Transaction(_) | Refusal::Invalid { .. } => None,
+        Refusal::KeySpent(_) | Refusal::Heads(_) | Refusal::Memory => None,
     }
 }
 

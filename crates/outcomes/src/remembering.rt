@@ -5,7 +5,7 @@ ghost use Rattle.bec_disk.specs.Shelf.{out};
 ghost use Rattle.bec_disk.specs.declared.part.Part.TheVariants.{Peers as PeersPart};
 ghost use Rattle.outcomes.specs.Remembering.{IsPeersFault, KeepsPeers, RemembersIn, memory_in};
 ghost use Rattle.peer_memory.specs.Payload.{Reads};
-ghost use Rattle.key_directory.specs.Parts.{part_in};
+ghost use Rattle.key_directory.specs.Parts.{IsUntouched, part_in};
 
 use crate::refusal::Refusal;
 use bec_disk::Shelf;
@@ -14,11 +14,12 @@ use std::alloc::Global;
 use store_directory::{read_memory, write_memory};
 use update_model::IdList;
 
-/// What a directory remembers of peers. At most its part Peers is touched, and put back.
+/// What a directory remembers of peers. Its part Peers is at most read, and put back.
 pub fn peers_of<H: Shelf>(alloc: Global, shelf: &mut H, dir: &str) -> Result<Peers, Refusal>
     requires { IsTrue (H.state shelf.old).tells → part_in (H.state shelf.old) dir.now PeersPart ≢ out }
     ensures reads { IsTrue (H.state shelf.old).tells → IfOk result (λ peers. Reads (memory_in (H.state shelf.old) dir.now) peers) }
     ensures keeps { KeepsPeers dir.now (H.state shelf.old) (H.state shelf.new) }
+    ensures untouched { IsTrue (H.state shelf.old).tells → IsUntouched (part_in (H.state shelf.old) dir.now PeersPart) (part_in (H.state shelf.new) dir.now PeersPart) }
     ensures same { IsTrue (H.state shelf.old).tells → memory_in (H.state shelf.new) dir.now ≡ memory_in (H.state shelf.old) dir.now }
     ensures later { H.faults shelf.old ≤ H.faults shelf.new }
     ensures failed { IfErr result (IsPeersFault (H.faults shelf.old) (H.faults shelf.new)) }

@@ -8,5 +8,6 @@ use row_check::Luhn;
 pub fn each_stands<D: Disk>(replica: &Replica<D, Luhn, Luhn>)
     ensures { Stands replica.now }
 {
+    let _node = replica.node();
     let _count = replica.len();
 }

@@ -1,5 +1,5 @@
 -- What was made and added, as what making and joining answer.
-use Rattle.std.proofs.Common.{◌≡◌, ◌⊎◌, inl, inr, ℕ, ◌+◌, ◌*◌, ◌≤◌, ◌<◌, Bool, true, false, List, [], ◌++◌, length, refl, ap, ◌∙◌, arith, length-append}
+use Rattle.std.proofs.Common.{◌≡◌, ◌⊎◌, inl, inr, ℕ, ◌+◌, ◌*◌, ◌≤◌, ◌<◌, Bool, true, false, List, [], ◌++◌, length, Result, Ok, Err, refl, ap, ◌∙◌, arith, length-append}
 use Rattle.std.specs.Int.{w16, to_be_bytes}
 use Rattle.std.proofs.lemmas.Bool.Decides.{nat_tests}
 use Rattle.update_model.specs.declared.op.Op.{Op}
@@ -14,8 +14,9 @@ use Rattle.update_codec.proofs.Stops.{ids_place}
 use Rattle.lms_tree.specs.SecretKey.{SecretData, public_key}
 use Rattle.schema.specs.Data.{Meaning}
 use Rattle.history.specs.Histories.{HistoryData}
-use Rattle.replica.specs.Making.{AddsMade, AfterAllHeads, AfterLeastHeads, IsAddCause, IsJoinCause, IsSignCause, Joins, Makes, body_by}
+use Rattle.replica.specs.Making.{AddsMade, AfterAllHeads, AfterLeastHeads, IsAddCause, IsJoinCause, IsSignCause, HasBody, Joins, Makes, SignsBody, body_by}
 use Rattle.replica.specs.declared.make_fault.MakeFault.{MakeFault}
+use Rattle.replica.specs.declared.make_fault.Side.TheVariants.{Key, Log}
 use Rattle.replica.specs.declared.make_fault.MakeFault.TheVariants.{NotListed, TooManyHeads, Invalid, TooLong, Full, Spent, Taken, DiskFault, Memory}
 
 pub makes : (ask : Meaning) (old : HistoryData) (secret : SecretData) (taken : List Bool) (preds : List UpdateId) (ops : List Op) (c : List ℕ) (id : UpdateId) (new : HistoryData)
@@ -80,3 +81,17 @@ join_cause history secret taken preds c (Taken id) after listed form (inl h) = (
 join_cause history secret taken preds c (Taken id) after listed form (inr h) = absurd h
 join_cause history secret taken preds c (DiskFault side) after listed form h = (preds, after)
 join_cause history secret taken preds c Memory after listed form h = tt
+
+-- what was signed is a body after all heads, whatever the answer
+pub signs_any : (history : HistoryData) (secret : SecretData) (ops : List Op) (result : Result UpdateId MakeFault) → HasBody history secret ops → SignsBody result history secret ops
+signs_any history secret ops (Ok id) has = has
+signs_any history secret ops (Err NotListed) has = tt
+signs_any history secret ops (Err (TooManyHeads n)) has = tt
+signs_any history secret ops (Err (Invalid reason operation)) has = tt
+signs_any history secret ops (Err (TooLong len)) has = tt
+signs_any history secret ops (Err Full) has = tt
+signs_any history secret ops (Err Spent) has = tt
+signs_any history secret ops (Err (Taken id)) has = has
+signs_any history secret ops (Err (DiskFault Key)) has = tt
+signs_any history secret ops (Err (DiskFault Log)) has = has
+signs_any history secret ops (Err Memory) has = tt

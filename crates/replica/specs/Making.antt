@@ -1,5 +1,5 @@
 -- What a replica makes of operations, and why it makes nothing.
-use Rattle.std.specs.Prelude.{◌≡◌, ℕ, ◌+◌, ◌<◌, ◌≤◌, Bool, true, false, IsTrue, List, [], ◌∷◌, ◌++◌, length, map, take, Option, Some, None}
+use Rattle.std.specs.Prelude.{◌≡◌, ℕ, ◌+◌, ◌<◌, ◌≤◌, Bool, true, false, IsTrue, List, [], ◌∷◌, ◌++◌, length, map, take, Option, Some, None, Result, Ok, Err}
 use Rattle.std.specs.Int.{w32, to_be_bytes}
 use Rattle.std.specs.List.{list_any}
 use Rattle.update_model.specs.declared.author_key.AuthorKey.{AuthorKey}
@@ -10,7 +10,7 @@ use Rattle.update_model.specs.declared.update_id.UpdateId.{UpdateId}
 use Rattle.update_model.specs.declared.value.Value.{Value}
 use Rattle.update_model.specs.declared.value.Value.TheVariants.{Null, Int, Text, Flag, Row, Own}
 use Rattle.update_model.specs.Entry.{same_id}
-use Rattle.update_model.specs.Form.{BodyData, UpdateData, signature_length}
+use Rattle.update_model.specs.Form.{BodyData, IsBody, UpdateData, signature_length}
 use Rattle.update_model.specs.Block.{IsBlock}
 use Rattle.update_model.specs.Graph.{AreHeads, byte_count, holds}
 use Rattle.update_model.specs.Node.{NodeData}
@@ -198,6 +198,24 @@ IsMakeCause ask history secret taken ops c (Taken id) =
     × ((bytes : List ℕ) × IsMadeBy history secret taken preds ops c bytes × (id_of bytes ≡ id) × (holds (map entry_of history.members) id ≡ true))
 IsMakeCause ask history secret taken ops c (DiskFault side) = Unit {0}
 IsMakeCause ask history secret taken ops c Memory = Unit {0}
+
+-- The body of these operations after all heads, by this key, has its form.
+abbrev pub HasBody : HistoryData → SecretData → List Op → Type 0
+HasBody history secret ops = (preds : List UpdateId) × AfterAllHeads history preds × IsBody (body_by history (public_key secret) preds ops)
+
+-- Where one message was signed, it was that of the body of these operations after all heads.
+abbrev pub SignsBody : Result UpdateId MakeFault → HistoryData → SecretData → List Op → Type 0
+SignsBody (Ok id) history secret ops = HasBody history secret ops
+SignsBody (Err NotListed) history secret ops = Unit {0}
+SignsBody (Err (TooManyHeads n)) history secret ops = Unit {0}
+SignsBody (Err (Invalid reason operation)) history secret ops = Unit {0}
+SignsBody (Err (TooLong len)) history secret ops = Unit {0}
+SignsBody (Err Full) history secret ops = Unit {0}
+SignsBody (Err Spent) history secret ops = Unit {0}
+SignsBody (Err (Taken id)) history secret ops = HasBody history secret ops
+SignsBody (Err (DiskFault Key)) history secret ops = Unit {0}
+SignsBody (Err (DiskFault Log)) history secret ops = HasBody history secret ops
+SignsBody (Err Memory) history secret ops = Unit {0}
 
 -- An update of operations after these predecessors was made by the key, and stands last. It is valid where it had to be.
 pub record AddsMade (ask : Meaning) (has_to_be_valid : Bool) (old : HistoryData) (secret : SecretData) (taken : List Bool) (preds : List UpdateId) (ops : List Op) (c : List ℕ) (id : UpdateId) (new : HistoryData) : Type 0 where

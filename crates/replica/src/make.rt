@@ -12,7 +12,7 @@ ghost use Rattle.update_model.specs.Rows.{AreOps};
 ghost use Rattle.key_index.specs.Used.{IsUsed};
 ghost use Rattle.update_log.specs.Log.{IsClean};
 ghost use Rattle.update_log.specs.Logset.{BeginsWith};
-ghost use Rattle.replica.specs.Making.{IsJoinCause, IsMakeCause, JoinsTo, Makes};
+ghost use Rattle.replica.specs.Making.{IsJoinCause, IsMakeCause, JoinsTo, Makes, SignsBody};
 ghost use Rattle.replica.specs.Replicas.{IsSameStore};
 ghost use Rattle.replica.specs.Signing.{KeyAfter, KeyAfterJoin};
 ghost use Rattle.replica.specs.declared.make_fault.Side.TheVariants.{Key as KeySide, Log as LogSide};
@@ -52,6 +52,7 @@ impl<D: Disk, L: Relation, C: Checks<L>> Replica<D, L, C> {
         ensures refused { IfErr result (λ why. IsMakeCause L.answer self.old.history key.old.secret key.old.taken ops c.now why) }
         ensures clean { IsTrue self.old.log.disk.tells → OnOk result (IsClean self.new.log.end self.new.log.disk) }
         ensures key { KeyAfter key.old result key.new }
+        ensures signs { SignsBody result self.old.history key.old.secret ops }
 
         // A crash at any moment of it leaves what was held in front, and each index used that was used.
         ensures any_moment { LeavesOnly self.old.log.disk self.new.log.disk (BeginsWith (stream_of self.old.history.members)) }

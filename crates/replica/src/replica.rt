@@ -22,7 +22,7 @@ ghost use Rattle.replica.specs.Signing.{KeyAfter};
 ghost use Rattle.replica.specs.declared.make_fault.Side.TheVariants.{Key as KeySide, Log as LogSide};
 
 use crate::make_fault::{MakeFault, Side};
-use bec_disk::Disk;
+use bec_disk::{Disk, MemDisk};
 use history::History;
 use key_index::KeyStore;
 use row_check::{Checks, Native, Relation};
@@ -122,5 +122,19 @@ impl<D: Disk, L: Relation, C: Checks<L>> Replica<D, L, C> {
     {
         let Replica { log, history, .. } = self;
         (log.into_disk(), history.into_native())
+    }
+}
+
+impl<L: Relation, C: Checks<L>> Replica<MemDisk, L, C> {
+    /// Lets the log's disk pass so many calls more and then fail every call.
+    pub fn arm(&mut self, calls: u32)
+        ensures { self.new ≡ self.old }
+    {
+        self.log.arm(calls);
+    }
+
+    /// Whether a call of the log's disk failed for want of memory.
+    pub fn starved(&self) -> bool {
+        self.log.starved()
     }
 }

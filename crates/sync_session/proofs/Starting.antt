@@ -1,5 +1,7 @@
 -- How a session begins, and what it remembers.
-use Rattle.std.proofs.Common.{◌≡◌, ℕ, Bool, true, false, ◌||◌, List, [], All, length, map, take, take_all, Some, None, refl, sym, ap, subst, ◌∙◌, arith}
+use Rattle.std.proofs.Common.{◌≡◌, ℕ, ◌≤◌, Bool, true, false, ◌||◌, List, [], All, length, map, take, take_all, Some, None, Option, Result, Ok, Err, IfOk, refl, sym, ap, subst, ◌∙◌, arith, length-take}
+use Rattle.std.specs.List.Sorted.{IsStrictlySortedBy}
+use Rattle.std.specs.declared.alloc.AllocError.{AllocError}
 use Rattle.std.proofs.lemmas.List.{length-map}
 use Rattle.std.proofs.lemmas.List.Elements.{All-nil}
 use Rattle.update_check.specs.Holding.{IsHeld}
@@ -7,21 +9,25 @@ use Rattle.update_check.specs.Signed.{IsChecked}
 use Rattle.update_codec.specs.Parts.{entry_of}
 use Rattle.update_model.specs.declared.update_id.UpdateId.{UpdateId}
 use Rattle.update_model.specs.Batch.{Limits}
-use Rattle.update_model.specs.Entry.{Entry}
+use Rattle.update_model.specs.Entry.{Entry, id_cmp}
 use Rattle.update_model.specs.Graph.{has}
 use Rattle.update_model.specs.Rule.{RuleData}
 use Rattle.session_rules.specs.declared.limits.TheConstants.{MAX_NEEDS}
 use Rattle.session_rules.specs.declared.role.Role.{Role}
 use Rattle.session_rules.specs.declared.role.Role.TheVariants.{Initiator, Responder}
+use Rattle.session_rules.specs.declared.end.End.{End}
+use Rattle.session_rules.specs.declared.end.End.TheVariants.{Done}
+use Rattle.session_rules.specs.Course as course
 use Rattle.session_rules.specs.Course.{opened}
 use Rattle.session_rules.specs.Pair.{unfed}
-use Rattle.session_rules.specs.Steps.{begun, AreLeast, IsHello, Joins}
+use Rattle.session_rules.specs.Steps.{begun, AreLeast, IsHello, Joins, heads_in}
 use Rattle.sync_session.specs.Greeting.{IsHelloOver}
 use Rattle.sync_session.specs.Kept.{Kept, BelongsTo, Stands, hello_of, seen}
 use Rattle.sync_session.specs.declared.out.Out.{Out}
 use Rattle.sync_frames.specs.Payload as payload
-use Rattle.sync_session.specs.Starts.{before_hello, IsFresh, StartsAs}
+use Rattle.sync_session.specs.Starts.{before_hello, IsFresh, RemembersBy, StartsAs}
 use Rattle.sync_session.proofs.Hellos.{members_few}
+use Rattle.sync_session.proofs.Turning.{sorted_take}
 
 -- ---- the beginning
 
@@ -126,3 +132,20 @@ least_of_both start heads first peers all ids none j j2 front = record {
 -- the same ids, found otherwise
 pub least_same : (p q : UpdateId → Bool) (ids : List UpdateId) → ((id : UpdateId) → p id ≡ q id) → AreLeast p MAX_NEEDS ids → AreLeast q MAX_NEEDS ids
 least_same p q ids same least = record { all = least.all; rising = least.rising; exact = λ id. least.exact id ∙ same id; front = least.front }
+
+-- the least ids are few, and rise
+pub least_few : (test : UpdateId → Bool) (ids : List UpdateId) → AreLeast test MAX_NEEDS ids → length ids ≤ MAX_NEEDS
+least_few test ids least = rw least.front (omega (arith, length-take MAX_NEEDS least.all))
+
+pub least_rising : (test : UpdateId → Bool) (ids : List UpdateId) → AreLeast test MAX_NEEDS ids → IsStrictlySortedBy id_cmp ids
+least_rising test ids least = rw least.front (sorted_take MAX_NEEDS least.all least.rising)
+
+-- an end that is done remembers the least heads of both Hellos
+pub done_remembers : (k : Kept) (ids : List UpdateId) → k.failed ≡ false → k.state.ended ≡ Some Done → AreLeast (λ id. has k.heads id || has (heads_in k.state.peer) id) MAX_NEEDS ids → RemembersBy k.failed k ids
+done_remembers k ids fine done least = subst (λ (b : Bool). RemembersBy b k ids) (sym fine) (λ rule members stands.
+    subst (λ (e : Option End). course.RemembersBy e (seen members k) ids) (sym done)
+    (least_same (λ id. has k.heads id || has (heads_in k.state.peer) id) _ ids (λ id. ap (λ (b : Bool). b || has (heads_in k.state.peer) id) (stands.heads id)) least))
+
+pub if_ok_ids : (result : Result (List UpdateId) AllocError) (P Q : List UpdateId → Type 0) → ((ids : List UpdateId) → P ids → Q ids) → IfOk result P → IfOk result Q
+if_ok_ids (Ok ids) P Q f is = f ids is
+if_ok_ids (Err error) P Q f is = tt

@@ -1,8 +1,10 @@
 //! What a session tells of itself.
 
-ghost use Rattle.std.specs.Prelude.{◌≡◌, ◌||◌, option_map, IfOk};
+ghost use Rattle.std.specs.Prelude.{◌≡◌, ◌≤◌, ◌||◌, option_map, length, IfOk};
+ghost use Rattle.std.specs.List.Sorted.{IsStrictlySortedBy};
 ghost use Rattle.session_rules.specs.declared.limits.TheConstants.{MAX_NEEDS};
 ghost use Rattle.session_rules.specs.Steps.{heads_in, AreLeast};
+ghost use Rattle.update_model.specs.Entry.{id_cmp};
 ghost use Rattle.update_model.specs.Graph.{has};
 ghost use Rattle.sync_session.specs.Kept.{hello_of};
 ghost use Rattle.sync_session.specs.Starts.{RemembersBy, node_of};
@@ -43,7 +45,9 @@ impl Session {
     /// The ids to remember of the peer: of a session that is done the least 4,096 of both Hellos' heads, and of any other
     /// none.
     pub fn remembered(&self, alloc: Global) -> Result<IdList, AllocError>
-        ensures { IfOk result (RemembersBy self.now.failed self.now) }
+        ensures remembers { IfOk result (RemembersBy self.now.failed self.now) }
+        ensures few { IfOk result (λ ids. length ids ≤ MAX_NEEDS) }
+        ensures rising { IfOk result (λ ids. IsStrictlySortedBy id_cmp ids) }
     {
         if self.failed {
             return Ok(IdList::from_vec(Vec::new(alloc)));
@@ -61,7 +65,9 @@ fn least_heads(
     heads: &[UpdateId],
     peer: &Option<Hello>,
 ) -> Result<IdList, AllocError>
-    ensures { IfOk result (AreLeast (λ id. has heads.now id || has (heads_in (option_map hello_of peer.now)) id) MAX_NEEDS) }
+    ensures least { IfOk result (AreLeast (λ id. has heads.now id || has (heads_in (option_map hello_of peer.now)) id) MAX_NEEDS) }
+    ensures few { IfOk result (λ ids. length ids ≤ MAX_NEEDS) }
+    ensures rising { IfOk result (λ ids. IsStrictlySortedBy id_cmp ids) }
 {
     let mut ids = BTreeSet::new(alloc);
     join(&mut ids, heads)?;

@@ -5,6 +5,8 @@
 #[cfg(test)]
 mod bundles;
 #[cfg(test)]
+mod families;
+#[cfg(test)]
 mod records;
 #[cfg(test)]
 mod runs;

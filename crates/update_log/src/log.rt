@@ -1,7 +1,7 @@
 use crate::opening::{Opened, open_at};
 use crate::piece_reader::PIECE;
 use crate::writing::write_records;
-use bec_disk::{Disk, DiskError, DiskFault, cut_synced};
+use bec_disk::{Disk, DiskError, DiskFault, MemDisk, cut_synced};
 use hash_graph::Graph;
 use record_check::Verifier;
 use std::alloc::Global;
@@ -149,6 +149,22 @@ impl<D: Disk> Log<D> {
     {
         let Log { disk, .. } = self;
         disk
+    }
+}
+
+impl Log<MemDisk> {
+    ghost use Rattle.std.specs.Prelude.{◌≡◌};
+
+    /// Lets the disk pass so many calls more and then fail every call.
+    pub fn arm(&mut self, calls: u32)
+        ensures { self.new ≡ self.old }
+    {
+        self.disk.arm(calls);
+    }
+
+    /// Whether a call of the disk failed for want of memory.
+    pub fn starved(&self) -> bool {
+        self.disk.starved()
     }
 }
 

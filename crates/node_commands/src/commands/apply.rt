@@ -57,7 +57,7 @@ fn apply_to<H: Shelf, R: Rng, S: Source>(
     requires key_in { IsTrue (H.state shelf.old).tells → part_in (H.state shelf.old) dir.now Key ≢ out }
     requires used_in { IsTrue (H.state shelf.old).tells → part_in (H.state shelf.old) dir.now Used ≢ out }
     ensures { SignsIn ((input.new ≡ input.old) × (random.new ≡ random.old)) (ApplyAnswer (S.left input.old) (S.left input.new) (R.stream random.old)) (IsSourceFault (S.faults input.old) (S.faults input.new))
-        dir.now (H.state shelf.old) (H.state shelf.new) (H.faults shelf.old) (H.faults shelf.new) replica.old replica.new result }
+        (R.stream random.old) (R.stream random.new) dir.now (H.state shelf.old) (H.state shelf.new) (H.faults shelf.old) (H.faults shelf.new) replica.old replica.new result }
 {
     each_stands(replica);
     let mut key = take_key(alloc, shelf, dir)?;
@@ -74,7 +74,8 @@ fn apply_by<D: Disk, R: Rng, S: Source>(
     random: &mut R,
     input: &mut S,
 ) -> Result<Vec<u8>, Refusal>
-    ensures { SignsOpen (ApplyAnswer (S.left input.old) (S.left input.new) (R.stream random.old)) (IsSourceFault (S.faults input.old) (S.faults input.new)) replica.old key.old replica.new key.new result }
+    ensures { SignsOpen (ApplyAnswer (S.left input.old) (S.left input.new) (R.stream random.old)) (IsSourceFault (S.faults input.old) (S.faults input.new))
+        (R.stream random.old) (R.stream random.new) replica.old key.old replica.new key.new result }
 {
     each_stands(replica);
     let ops = read_ops(alloc, replica.schema(), input)?;
@@ -101,7 +102,7 @@ fn make_by<D: Disk, R: Rng>(
     random: &mut R,
 ) -> Result<Vec<u8>, Refusal>
     requires { MayStand ops }
-    ensures { SignsOpen (MakeAnswer ops (next_bytes (R.stream random.old))) IsNoStop replica.old key.old replica.new key.new result }
+    ensures { SignsOpen (MakeAnswer ops (next_bytes (R.stream random.old))) IsNoStop (R.stream random.old) (R.stream random.new) replica.old key.old replica.new key.new result }
 {
     each_stands(replica);
     let room = room_for_id(alloc)?;

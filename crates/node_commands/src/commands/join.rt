@@ -27,7 +27,8 @@ pub fn join_in<V: Verifier, H: Shelf, R: Rng>(
     random: &mut R,
 ) -> Result<Vec<u8>, Refusal>
     requires { IsTrue (H.state shelf.old).tells → IsHome (H.state shelf.old) }
-    ensures { MakesUpdate (random.new ≡ random.old) (JoinAnswer (R.stream random.old)) IsNoStop dir.now (H.state shelf.old) (H.state shelf.new) (H.faults shelf.old) (H.faults shelf.new) result }
+    ensures { MakesUpdate (random.new ≡ random.old) (JoinAnswer (R.stream random.old)) IsNoStop (R.stream random.old) (R.stream random.new)
+        dir.now (H.state shelf.old) (H.state shelf.new) (H.faults shelf.old) (H.faults shelf.new) result }
 {
     one_schema();
     let mut store = take_store(verifier, alloc, shelf, dir, Native::new(Luhn))?;
@@ -46,7 +47,7 @@ fn join_to<H: Shelf, R: Rng>(
 ) -> Result<Vec<u8>, Refusal>
     requires key_in { IsTrue (H.state shelf.old).tells → part_in (H.state shelf.old) dir.now Key ≢ out }
     requires used_in { IsTrue (H.state shelf.old).tells → part_in (H.state shelf.old) dir.now Used ≢ out }
-    ensures { SignsIn (random.new ≡ random.old) (JoinAnswer (R.stream random.old)) IsNoStop
+    ensures { SignsIn (random.new ≡ random.old) (JoinAnswer (R.stream random.old)) IsNoStop (R.stream random.old) (R.stream random.new)
         dir.now (H.state shelf.old) (H.state shelf.new) (H.faults shelf.old) (H.faults shelf.new) replica.old replica.new result }
 {
     each_stands(replica);
@@ -63,7 +64,7 @@ fn join_by<D: Disk, R: Rng>(
     key: &mut KeyStore<D>,
     random: &mut R,
 ) -> Result<Vec<u8>, Refusal>
-    ensures { SignsOpen (JoinAnswer (R.stream random.old)) IsNoStop replica.old key.old replica.new key.new result }
+    ensures { SignsOpen (JoinAnswer (R.stream random.old)) IsNoStop (R.stream random.old) (R.stream random.new) replica.old key.old replica.new key.new result }
 {
     each_stands(replica);
     let room = room_for_id(alloc)?;

@@ -26,7 +26,7 @@ pub fn keygen_in<H: Shelf, R: Rng>(
     random: &mut R,
 ) -> Result<Vec<u8>, Refusal>
     requires { IsTrue (H.state shelf.old).tells → IsHome (H.state shelf.old) }
-    ensures { DrawsKey height width (R.stream random.old) dir.now (H.state shelf.old) (H.state shelf.new) (H.faults shelf.old) (H.faults shelf.new) result }
+    ensures { DrawsKey height width (R.stream random.old) (R.stream random.new) dir.now (H.state shelf.old) (H.state shelf.new) (H.faults shelf.old) (H.faults shelf.new) result }
 {
     let mut line = Vec::with_capacity(alloc, KEY_LINE)?;
     let key = new_key(alloc, shelf, dir, height, width, random)?;

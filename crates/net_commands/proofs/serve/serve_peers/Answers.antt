@@ -1,4 +1,6 @@
-use Rattle.std.proofs.Common.{ap}
+use Rattle.std.proofs.Common.{rules, ◌≡◌, false, ap}
+use Rattle.schema_verdict.specs.declared.status.TheConstants.{OUT_OF_MEMORY}
+use Rattle.net_commands.specs.Words.{has_status}
 use Rattle.net_commands.proofs.Serving.{serves_failed, serves_held, serves_none_open}
 use Rattle.net_commands.proofs.serve.serve_peers.Goals as goal
 
@@ -12,5 +14,6 @@ returns-then-memory g c =
 
 pub returns : goal.returns
 returns g c =
+    let none : has_status OUT_OF_MEMORY c.serve-pass.result.sessions ≡ false = search rules in
     serves_held c.args.rule.now _ _ _ _ _ _ _ _ c.in-Ok.both.1 c.serve-pass.result.pass c.serve-pass.result.sessions c.serve-pass.result.net_failed c.serve-pass.result.memory c.end-replica.ensures.0
-    c.serve-pass.ensures (ap (λ k. k.seen) c.in-Ok.ensures.ok) c.end-replica.ensures.1 c.end-replica.ensures.2 c.if-memory.false c.requires.rule
+    c.serve-pass.ensures (ap (λ k. k.seen) c.in-Ok.ensures.ok) c.end-replica.ensures.1 c.end-replica.ensures.2 c.if-memory.false none c.requires.rule

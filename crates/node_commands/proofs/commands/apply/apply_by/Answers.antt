@@ -19,5 +19,5 @@ pub returns : goal.returns
 returns g c =
     let before = g.S.Source.left c.args.input.now in
     let after = g.S.Source.left c.read_ops.new.input in
-    apply_asked before after (g.R.Rng.stream c.args.random.now) (g.S.Counted.faults c.args.input.now) (g.S.Counted.faults c.read_ops.new.input) c.args.replica.now c.args.key.now c.make_by.new.replica c.make_by.new.key
+    apply_asked before after (g.R.Rng.stream c.args.random.now) (g.R.Rng.stream c.make_by.new.random) (g.S.Counted.faults c.args.input.now) (g.S.Counted.faults c.read_ops.new.input) c.args.replica.now c.args.key.now c.make_by.new.replica c.make_by.new.key
     c.in_ok-ops.ops c.make_by.result (subst (λ (s : SchemaData). TakesText before after s c.in_ok-ops.ops) c.schema.ensures c.in_ok-ops.ensures.read) c.make_by.ensures

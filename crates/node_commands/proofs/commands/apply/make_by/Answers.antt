@@ -6,14 +6,14 @@ use Rattle.update_model.specs.declared.update_id.UpdateId.{UpdateId}
 use Rattle.outcomes.specs.declared.refusal.Refusal.{Refusal}
 use Rattle.outcomes.specs.Outcome.{from_make}
 use Rattle.node_commands.specs.Signing.{IsNoStop, MakeAnswer, SignsOpen}
-use Rattle.outcomes.specs.StoreAnswers.{next_bytes}
+use Rattle.outcomes.specs.StoreAnswers.{after_bytes, next_bytes}
 use Rattle.node_commands.proofs.Signs.{makes, makes_not, same_secret, signs_nothing}
 use Rattle.node_commands.proofs.commands.apply.make_by.Goals as goal
 
 pub returns-in_err-room : goal.returns-in_err-room
 returns-in_err-room g c =
     let p = err_from_is_err_and c.from_residual.result c.from_residual.ensures.1 in
-    rw (p.1, p.2) (signs_nothing (MakeAnswer c.args.ops (next_bytes (g.R.Rng.stream c.args.random.now))) IsNoStop c.args.replica.now c.args.key.now (Err _) c.each_stands.ensures (inr (inl refl)))
+    rw (p.1, p.2) (signs_nothing (MakeAnswer c.args.ops (next_bytes (g.R.Rng.stream c.args.random.now))) IsNoStop (g.R.Rng.stream c.args.random.now) (g.R.Rng.stream c.args.random.now) c.args.replica.now c.args.key.now (Err _) c.each_stands.ensures (inr (inl refl)) (inl refl) (inl refl))
 
 pub returns-in-Ok : goal.returns-in-Ok
 returns-in-Ok g c =
@@ -22,9 +22,12 @@ returns-in-Ok g c =
     let new = c.make-made.new.self in
     let key_new = c.make-made.new.key in
     let e = c.in-Ok.ensures in
-    let drawn : c.fill_bytes.new.dst ≡ next_bytes (g.R.Rng.stream c.args.random.now) = search rules in
-    subst (λ (w : List ℕ). SignsOpen (MakeAnswer c.args.ops w) IsNoStop old key new key_new (Ok c.id_line.result)) drawn
-    (makes old key new key_new c.each_stands-2.ensures e.any_moment e.used e.later e.key_later (tried_by key (Ok c.in-Ok.id) key_new e.key) c.args.ops c.fill_bytes.new.dst c.in-Ok.id c.id_line.result e.made e.clean c.id_line.ensures)
+    let stream = g.R.Rng.stream c.args.random.now in
+    let stream_new = g.R.Rng.stream c.fill_bytes.new.self in
+    let drawn : c.fill_bytes.new.dst ≡ next_bytes stream = search rules in
+    let went : stream_new ≡ after_bytes stream = search rules in
+    subst (λ (w : List ℕ). SignsOpen (MakeAnswer c.args.ops w) IsNoStop stream stream_new old key new key_new (Ok c.id_line.result)) drawn
+    (makes old key new key_new c.each_stands-2.ensures e.any_moment e.used e.later e.key_later (tried_by key (Ok c.in-Ok.id) key_new e.key) stream stream_new went c.args.ops c.fill_bytes.new.dst c.in-Ok.id c.id_line.result e.made e.clean c.id_line.ensures e.key)
 
 pub returns-in-Err : goal.returns-in-Err
 returns-in-Err g c =
@@ -34,7 +37,10 @@ returns-in-Err g c =
     let key_new = c.make-made.new.key in
     let e = c.in-Err.ensures in
     let tried = tried_by {T = UpdateId} key (Err c.in-Err.fault) key_new e.key in
-    let drawn : c.fill_bytes.new.dst ≡ next_bytes (g.R.Rng.stream c.args.random.now) = search rules in
-    subst (λ (w : List ℕ). SignsOpen (MakeAnswer c.args.ops w) IsNoStop old key new key_new (Err c.made_refusal.result)) drawn
-    (subst (λ (r : Refusal). SignsOpen (MakeAnswer c.args.ops c.fill_bytes.new.dst) IsNoStop old key new key_new (Err r)) (sym (c.made_refusal.ensures ∙ ap (λ (s : SecretData). from_make s c.in-Err.fault) (same_secret key key_new tried)))
-    (makes_not old key new key_new c.each_stands-2.ensures e.any_moment e.used e.later e.key_later tried c.args.ops c.fill_bytes.new.dst c.in-Err.fault e.same e.refused (λ is. e.key_failed (ap Err is)) (λ is. e.log_failed (ap Err is))))
+    let stream = g.R.Rng.stream c.args.random.now in
+    let stream_new = g.R.Rng.stream c.fill_bytes.new.self in
+    let drawn : c.fill_bytes.new.dst ≡ next_bytes stream = search rules in
+    let went : stream_new ≡ after_bytes stream = search rules in
+    subst (λ (w : List ℕ). SignsOpen (MakeAnswer c.args.ops w) IsNoStop stream stream_new old key new key_new (Err c.made_refusal.result)) drawn
+    (subst (λ (r : Refusal). SignsOpen (MakeAnswer c.args.ops c.fill_bytes.new.dst) IsNoStop stream stream_new old key new key_new (Err r)) (sym (c.made_refusal.ensures ∙ ap (λ (s : SecretData). from_make s c.in-Err.fault) (same_secret key key_new tried)))
+    (makes_not old key new key_new c.each_stands-2.ensures e.any_moment e.used e.later e.key_later tried stream stream_new went c.args.ops c.fill_bytes.new.dst c.in-Err.fault e.same e.refused (λ is. e.key_failed (ap Err is)) (λ is. e.log_failed (ap Err is)) e.key))

@@ -7,7 +7,7 @@ use Rattle.confluence_test.specs.Taking.{TakesSchema}
 use Rattle.store_directory.specs.Holding.{OpenData}
 use Rattle.outcomes.specs.Comes.{readings}
 use Rattle.outcomes.specs.Parts.{HasSchema}
-use Rattle.outcomes.specs.StoreAnswers.{next_bytes}
+use Rattle.outcomes.specs.StoreAnswers.{after_bytes, next_bytes}
 use Rattle.key_directory.specs.Parts.{LetsNewGo, part_in, reading}
 use Rattle.store_directory.specs.Making.{IsNewStoreCause, MakesStore}
 use Rattle.store_directory.specs.Stores.{IsNoStore}
@@ -32,14 +32,14 @@ returns-in_err-is_there g c =
     let p = err_from_is_err_and c.from_residual.result c.from_residual.ensures.1 in
     let before = outside g.S.Source.left g.S.Counted.faults g.H.Shelf.state g.H.Counted.faults g.R.Rng.stream c.args.input.now c.args.shelf.now c.args.random.now in
     let after = outside g.S.Source.left g.S.Counted.faults g.H.Shelf.state g.H.Counted.faults g.R.Rng.stream c.args.input.now c.is_there.new.shelf c.args.random.now in
-    rw (p.1, p.2) (init_unlooked c.args.dir.now before after c.requires c.is_there.ensures.untouched c.is_there.ensures.others c.in_err-is_there.field-0.0 refl (λ is. c.in_err-is_there.ensures.failed (search rules)))
+    rw (p.1, p.2) (init_unlooked c.args.dir.now before after c.requires c.is_there.ensures.untouched c.is_there.ensures.others refl c.in_err-is_there.field-0.0 refl (λ is. c.in_err-is_there.ensures.failed (search rules)))
 
 pub returns-then-branch : goal.returns-then-branch
 returns-then-branch g c =
     let before = outside g.S.Source.left g.S.Counted.faults g.H.Shelf.state g.H.Counted.faults g.R.Rng.stream c.args.input.now c.args.shelf.now c.args.random.now in
     let after = outside g.S.Source.left g.S.Counted.faults g.H.Shelf.state g.H.Counted.faults g.R.Rng.stream c.args.input.now c.is_there.new.shelf c.args.random.now in
     let there : IsTrue (g.H.Shelf.state c.args.shelf.now).tells → HasSchema (readings (g.H.Shelf.state c.args.shelf.now) c.args.dir.now) = search rules in
-    init_there c.args.dir.now before after c.requires c.is_there.ensures.untouched c.is_there.ensures.others refl there
+    init_there c.args.dir.now before after c.requires c.is_there.ensures.untouched c.is_there.ensures.others refl refl there
 
 pub returns-in_err-text : goal.returns-in_err-text
 returns-in_err-text g c =
@@ -47,7 +47,7 @@ returns-in_err-text g c =
     let before = outside g.S.Source.left g.S.Counted.faults g.H.Shelf.state g.H.Counted.faults g.R.Rng.stream c.args.input.now c.args.shelf.now c.args.random.now in
     let after = outside g.S.Source.left g.S.Counted.faults g.H.Shelf.state g.H.Counted.faults g.R.Rng.stream c.read_text.new.input c.is_there.new.shelf c.args.random.now in
     let none : IsTrue (g.H.Shelf.state c.args.shelf.now).tells → IsNoStore (reading (part_in (g.H.Shelf.state c.args.shelf.now) c.args.dir.now Schema)) = search rules in
-    rw (p.1, p.2) (init_unread c.args.dir.now before after c.requires c.is_there.ensures.untouched c.is_there.ensures.others none c.in_err-text.field-0.0 c.in_err-text.ensures.failed)
+    rw (p.1, p.2) (init_unread c.args.dir.now before after c.requires c.is_there.ensures.untouched c.is_there.ensures.others refl none c.in_err-text.field-0.0 c.in_err-text.ensures.failed)
 
 pub returns-in_err-schema : goal.returns-in_err-schema
 returns-in_err-schema g c =
@@ -56,7 +56,7 @@ returns-in_err-schema g c =
     let after = outside g.S.Source.left g.S.Counted.faults g.H.Shelf.state g.H.Counted.faults g.R.Rng.stream c.read_text.new.input c.is_there.new.shelf c.args.random.now in
     let none : IsTrue (g.H.Shelf.state c.args.shelf.now).tells → IsNoStore (reading (part_in (g.H.Shelf.state c.args.shelf.now) c.args.dir.now Schema)) = search rules in
     let P : List ℕ → Type 0 = λ w. ReadsText 65536 (g.S.Source.left c.args.input.now) (g.S.Source.left c.read_text.new.input) w in
-    rw (p.1, p.2) (init_refused c.args.dir.now before after c.requires c.is_there.ensures.untouched c.is_there.ensures.others none c.deref.result.now c.in_err-schema.field-0.0
+    rw (p.1, p.2) (init_refused c.args.dir.now before after c.requires c.is_there.ensures.untouched c.is_there.ensures.others refl none c.deref.result.now c.in_err-schema.field-0.0
     (subst P (sym c.deref.ensures.value) c.in_ok-text.ensures.text) c.in_err-schema.ensures.refused)
 
 pub returns-in_err-line : goal.returns-in_err-line
@@ -65,7 +65,7 @@ returns-in_err-line g c =
     let before = outside g.S.Source.left g.S.Counted.faults g.H.Shelf.state g.H.Counted.faults g.R.Rng.stream c.args.input.now c.args.shelf.now c.args.random.now in
     let after = outside g.S.Source.left g.S.Counted.faults g.H.Shelf.state g.H.Counted.faults g.R.Rng.stream c.read_text.new.input c.is_there.new.shelf c.args.random.now in
     let none : IsTrue (g.H.Shelf.state c.args.shelf.now).tells → IsNoStore (reading (part_in (g.H.Shelf.state c.args.shelf.now) c.args.dir.now Schema)) = search rules in
-    rw (p.1, p.2) (init_lacked c.args.dir.now before after c.requires c.is_there.ensures.untouched c.is_there.ensures.others none)
+    rw (p.1, p.2) (init_lacked c.args.dir.now before after c.requires c.is_there.ensures.untouched c.is_there.ensures.others refl none)
 
 pub returns-in_err-store : goal.returns-in_err-store
 returns-in_err-store g c =
@@ -75,11 +75,12 @@ returns-in_err-store g c =
     let none : IsTrue (g.H.Shelf.state c.args.shelf.now).tells → IsNoStore (reading (part_in (g.H.Shelf.state c.args.shelf.now) c.args.dir.now Schema)) = search rules in
     let e = c.in_err-store.ensures in
     let drawn : c.fill_bytes.new.dst ≡ next_bytes (g.R.Rng.stream c.args.random.now) = search rules in
+    let went : g.R.Rng.stream c.fill_bytes.new.self ≡ after_bytes (g.R.Rng.stream c.args.random.now) = search rules in
     let lets : LetsNewGo Schema Updates (c.fill_bytes.new.dst ++ c.in_ok-text.text.items) [] (g.H.Shelf.state c.is_there.new.shelf) c.args.dir.now (g.H.Shelf.state c.new_store.new.shelf) =
     subst (λ (t : List ℕ). LetsNewGo Schema Updates (c.fill_bytes.new.dst ++ t) [] (g.H.Shelf.state c.is_there.new.shelf) c.args.dir.now (g.H.Shelf.state c.new_store.new.shelf)) c.deref-2.ensures.value e.lets_go in
     rw (p.1, p.2) (init_not_made c.args.dir.now before after c.requires (g.H.Shelf.state c.is_there.new.shelf) c.is_there.ensures.tells c.is_there.ensures.untouched c.is_there.ensures.others none
     c.in_ok-text.text.items c.in_ok-schema.schema (subst (λ (t : List ℕ). TakesSchema is_luhn t c.in_ok-schema.schema) c.deref.ensures.value c.in_ok-schema.ensures.taken)
-    c.taken_or_refused.ensures c.fill_bytes.new.dst c.in_err-store.field-0.0 drawn c.in_ok-text.ensures.text lets
+    c.taken_or_refused.ensures c.fill_bytes.new.dst c.in_err-store.field-0.0 drawn went c.in_ok-text.ensures.text lets
     (λ tells. subst (λ (t : List ℕ). IsNewStoreCause is_luhn (reading (part_in (g.H.Shelf.state c.is_there.new.shelf) c.args.dir.now Schema)) t c.in_err-store.field-0.0) c.deref-2.ensures.value (e.refused tells))
     (λ is. rose_later (g.H.Counted.faults c.args.shelf.now) (g.H.Counted.faults c.is_there.new.shelf) (g.H.Counted.faults c.new_store.new.shelf) c.is_there.ensures.later (e.failed is)))
 
@@ -91,6 +92,7 @@ returns g c =
     let same : c.store.inside.replica ≡ c.in_ok-store.store.replica = ap (λ (o : OpenData). o.replica) c.store.view_is in
     let stands : Stands c.in_ok-store.store.replica = subst Stands same c.each_stands.ensures in
     let drawn : c.fill_bytes.new.dst ≡ next_bytes (g.R.Rng.stream c.args.random.now) = search rules in
+    let went : g.R.Rng.stream c.fill_bytes.new.self ≡ after_bytes (g.R.Rng.stream c.args.random.now) = search rules in
     let size : length c.fill_bytes.new.dst ≡ 32 = search rules in
     let makes : MakesStore is_luhn (g.H.Shelf.state c.is_there.new.shelf) c.args.dir.now c.fill_bytes.new.dst c.in_ok-text.text.items c.in_ok-store.store (g.H.Shelf.state c.new_store.new.shelf) =
     subst (λ (t : List ℕ). MakesStore is_luhn (g.H.Shelf.state c.is_there.new.shelf) c.args.dir.now c.fill_bytes.new.dst t c.in_ok-store.store (g.H.Shelf.state c.new_store.new.shelf)) c.deref-2.ensures.value c.in_ok-store.ensures.makes in
@@ -98,5 +100,5 @@ returns g c =
     c.in_ok-line.ensures ∙ ap database_text (ap (λ (r : RuleData). r.database) c.behind-schema.view_is ∙ ap (λ (r : RuleData). r.database) c.rule.ensures) in
     init_made c.args.dir.now before after c.requires (g.H.Shelf.state c.is_there.new.shelf) c.is_there.ensures.tells c.is_there.ensures.untouched c.is_there.ensures.others none
     c.in_ok-text.text.items c.in_ok-schema.schema (subst (λ (t : List ℕ). TakesSchema is_luhn t c.in_ok-schema.schema) c.deref.ensures.value c.in_ok-schema.ensures.taken)
-    c.one_schema.ensures (g.H.Shelf.state c.new_store.new.shelf) c.fill_bytes.new.dst c.in_ok-store.store drawn size makes stands.history_is.members c.put_store.ensures.puts c.in_ok-text.ensures.text
+    c.one_schema.ensures (g.H.Shelf.state c.new_store.new.shelf) c.fill_bytes.new.dst c.in_ok-store.store drawn went size makes stands.history_is.members c.put_store.ensures.puts c.in_ok-text.ensures.text
     c.in_ok-line.line printed

@@ -30,8 +30,8 @@ returns-in_err-store g c =
     let p = err_from_is_err_and c.from_residual.result c.from_residual.ensures.1 in
     let e = c.in_err-store.ensures in
     rw (p.1, p.2) (signs_storeless _ (JoinAnswer (g.R.Rng.stream c.args.random.now)) IsNoStop
-    c.args.dir.now (g.H.Shelf.state c.args.shelf.now) (g.H.Shelf.state c.take_store.new.shelf) (g.H.Counted.faults c.args.shelf.now) (g.H.Counted.faults c.take_store.new.shelf)
-    c.in_err-store.field-0.0 c.requires refl e.lets_go e.refused (λ is. e.failed (ap Err is)))
+    (g.R.Rng.stream c.args.random.now) (g.R.Rng.stream c.args.random.now) c.args.dir.now (g.H.Shelf.state c.args.shelf.now) (g.H.Shelf.state c.take_store.new.shelf) (g.H.Counted.faults c.args.shelf.now) (g.H.Counted.faults c.take_store.new.shelf)
+    c.in_err-store.field-0.0 c.requires refl e.lets_go e.refused (λ is. e.failed (ap Err is)) refl)
 
 pub returns : goal.returns
 returns g c =
@@ -40,6 +40,6 @@ returns g c =
     let opened = g.H.Shelf.state c.take_store.new.shelf in
     let takes : TakesStore is_luhn before c.args.dir.now o opened = subst (λ (w : OpenData). TakesStore is_luhn before c.args.dir.now w opened) (sym c.store.view_is) c.in_ok-store.ensures.takes in
     signs_stored _ (JoinAnswer (g.R.Rng.stream c.args.random.now)) IsNoStop
-    c.args.dir.now before (g.H.Shelf.state c.put_store.new.shelf) (g.H.Counted.faults c.args.shelf.now) (g.H.Counted.faults c.put_store.new.shelf)
+    (g.R.Rng.stream c.args.random.now) (g.R.Rng.stream c.join_to-outcome.new.random) c.args.dir.now before (g.H.Shelf.state c.put_store.new.shelf) (g.H.Counted.faults c.args.shelf.now) (g.H.Counted.faults c.put_store.new.shelf)
     c.one_schema.ensures opened (g.H.Shelf.state c.join_to-outcome.new.shelf) (g.H.Counted.faults c.take_store.new.shelf) (g.H.Counted.faults c.join_to-outcome.new.shelf) o c.join_to-outcome.new.replica c.join_to-outcome.result
     c.requires takes c.join_to-outcome.ensures c.put_store.ensures.puts c.in_ok-store.ensures.later c.put_store.ensures.later c.put_store.ensures.log_faulted

@@ -17,12 +17,12 @@ returns-in_err-key g c =
     let p = err_from_is_err_and c.from_residual.result c.from_residual.ensures.1 in
     let e = c.in_err-key.ensures in
     rw (p.1, p.2) (signs_keyless _ (JoinAnswer (g.R.Rng.stream c.args.random.now)) IsNoStop
-    c.args.dir.now (g.H.Shelf.state c.args.shelf.now) (g.H.Shelf.state c.take_key.new.shelf) (g.H.Counted.faults c.args.shelf.now) (g.H.Counted.faults c.take_key.new.shelf) c.args.replica.now c.in_err-key.field-0.0
-    c.requires.key_in c.requires.used_in c.each_stands.ensures refl e.lets_go e.refused (λ is. e.failed (ap Err is)) e.later)
+    (g.R.Rng.stream c.args.random.now) (g.R.Rng.stream c.args.random.now) c.args.dir.now (g.H.Shelf.state c.args.shelf.now) (g.H.Shelf.state c.take_key.new.shelf) (g.H.Counted.faults c.args.shelf.now) (g.H.Counted.faults c.take_key.new.shelf) c.args.replica.now c.in_err-key.field-0.0
+    c.requires.key_in c.requires.used_in c.each_stands.ensures refl e.lets_go e.refused (λ is. e.failed (ap Err is)) e.later refl)
 
 pub returns : goal.returns
 returns g c =
     signs_keyed _ (JoinAnswer (g.R.Rng.stream c.args.random.now)) IsNoStop
-    c.args.dir.now (g.H.Shelf.state c.args.shelf.now) (g.H.Shelf.state c.put_key.new.shelf) (g.H.Counted.faults c.args.shelf.now) (g.H.Counted.faults c.put_key.new.shelf)
+    (g.R.Rng.stream c.args.random.now) (g.R.Rng.stream c.join_by-outcome.new.random) c.args.dir.now (g.H.Shelf.state c.args.shelf.now) (g.H.Shelf.state c.put_key.new.shelf) (g.H.Counted.faults c.args.shelf.now) (g.H.Counted.faults c.put_key.new.shelf)
     (g.H.Shelf.state c.take_key.new.shelf) (g.H.Counted.faults c.take_key.new.shelf) c.args.replica.now c.join_by-outcome.new.replica c.in_ok-key.key c.join_by-outcome.new.key c.join_by-outcome.result
     c.in_ok-key.ensures.takes c.join_by-outcome.ensures c.put_key.ensures.puts c.put_key.ensures.reads c.in_ok-key.ensures.later c.put_key.ensures.later c.put_key.ensures.used_faulted

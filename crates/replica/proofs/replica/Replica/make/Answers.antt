@@ -4,10 +4,10 @@ use Rattle.update_model.specs.Form.{AreRising}
 use Rattle.update_model.specs.Graph.{holds}
 use Rattle.update_codec.specs.Parts.{entry_of}
 use Rattle.std.specs.Prelude.{IfOk}
-use Rattle.replica.specs.Making.{AddsMade, AfterAllHeads, Makes}
+use Rattle.replica.specs.Making.{AddsMade, AfterAllHeads, Makes, SignsBody}
 use Rattle.replica.specs.Replicas.{ReplicaState}
 use Rattle.replica.proofs.HeadLists.{heads_held, rising}
-use Rattle.replica.proofs.Made.{makes}
+use Rattle.replica.proofs.Made.{makes, signs_any}
 use Rattle.replica.proofs.Outcomes.{if_ok_map}
 use Rattle.replica.proofs.replica.Replica.make.Goals as goal
 
@@ -29,3 +29,10 @@ returns-clause-made g c =
     (λ (id : UpdateId). Makes g.L.Relation.answer c.self.inside.history a.key.now.secret a.key.now.taken a.ops a.c.now id c.sign_and_add.new.history)
     (λ id adds. makes g.L.Relation.answer c.self.inside.history a.key.now.secret a.key.now.taken c.from_vec-preds.result a.ops a.c.now id c.sign_and_add.new.history
     (subst (AfterAllHeads c.self.inside.history) (sym c.from_vec-preds.ensures) c.in_ok-heads.ensures.planned.may_make.after) adds) c.sign_and_add.ensures.added)
+
+pub returns-clause-signs : goal.returns-clause-signs
+returns-clause-signs g c =
+    let a = c.args in
+    subst (λ (r : ReplicaState). SignsBody c.sign_and_add.result r.history a.key.now.secret a.ops) c.self.view_is
+    (signs_any c.self.inside.history a.key.now.secret a.ops c.sign_and_add.result
+    (c.from_vec-preds.result, subst (AfterAllHeads c.self.inside.history) (sym c.from_vec-preds.ensures) c.in_ok-heads.ensures.planned.may_make.after, c.sign_and_add.ensures.form))

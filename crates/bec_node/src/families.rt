@@ -1,0 +1,41 @@
+//! What the words of a command line ask for of the families of commands that a run alone does not have.
+
+ghost use Rattle.std.specs.Prelude.{IfOk, MatchOption};
+ghost use Rattle.bec_node.specs.Families.{FamilyText, IsFamilyCommand, family_seen};
+
+use command_words::{
+    AuditRequest, NetRequest, SealRequest, audit_request_in, net_request_in, seal_request_in,
+};
+use std::alloc::{AllocError, Global};
+
+/// A request of one of these families.
+#[derive(Drop)]
+pub(crate) enum FamilyRequest<'a> {
+    /// Over a net.
+    Net(NetRequest<'a>),
+    /// About seals.
+    Seals(SealRequest<'a>),
+    /// About keys that signed twice by one index.
+    Audits(AuditRequest<'a>),
+}
+
+/// What these words ask for of one of these families, or `None` where they ask for nothing of them. The one error is want of
+/// memory, after which nothing is known of the words.
+pub(crate) fn family_request_in<'a>(
+    alloc: Global,
+    words: &'a [String],
+) -> Result<Option<FamilyRequest<'a>>, AllocError>
+    ensures { IfOk result (λ found. MatchOption found ((request : FamilyText) → IsFamilyCommand request words.entry.now → ⊥)
+        (λ request. IsFamilyCommand (family_seen request) words.entry.now)) }
+{
+    if let Some(request) = net_request_in(alloc, words)? {
+        return Ok(Some(FamilyRequest::Net(request)));
+    }
+    if let Some(request) = seal_request_in(alloc, words)? {
+        return Ok(Some(FamilyRequest::Seals(request)));
+    }
+    match audit_request_in(alloc, words)? {
+        Some(request) => Ok(Some(FamilyRequest::Audits(request))),
+        None => Ok(None),
+    }
+}

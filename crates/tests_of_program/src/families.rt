@@ -1,0 +1,127 @@
+//! Commands over seals and audits of keys, over an empty shelf and a net without links.
+
+use crate::records::{authors, signed};
+use crate::runs::words;
+use bec_bytes::{MemSink, MemSource};
+use bec_disk::MemShelf;
+use bec_links::MemNet;
+use bec_node::run;
+use hss_chain::{public_bytes, push_key, seal_bytes};
+use lms_tree::Secret;
+use rand_pcg::Pcg32;
+use std::alloc::{AllocError, Global};
+use std::sync::Wait;
+use std::test::Fail;
+use std::thread::Threads;
+use update_model::signature_len;
+
+/// Whether the program answers these bytes with this status and this text.
+fn answers<T: Threads + Wait + Sync>(
+    rt: &T,
+    alloc: Global,
+    line: &str,
+    bytes: &[u8],
+    status: u8,
+    text: &str,
+) -> Result<bool, AllocError> {
+    let mut shelf = MemShelf::new(alloc);
+    let mut net = MemNet::new(alloc, Vec::new(alloc), Vec::new(alloc));
+    let mut random = Pcg32::new(42, 54);
+    let mut input = MemSource::new(Vec::from_slice(alloc, bytes)?, Vec::new(alloc));
+    let mut out = MemSink::new(alloc, Vec::new(alloc));
+    let words = words(alloc, line)?;
+    let got = run(
+        rt,
+        alloc,
+        &words,
+        &mut shelf,
+        &mut net,
+        &mut random,
+        &mut input,
+        &mut out,
+    );
+    Ok(got == status && out.bytes() == text.as_bytes())
+}
+
+/// Words, and what they are answered with where nothing is read.
+type Row<'a> = (&'a str, u8, &'a str);
+
+const ROWS: &[Row<'static>] = &[
+    ("audit A", 8, "! no store\n"),
+    ("audit", 2, "! words\n"),
+    ("audit A B", 2, "! words\n"),
+    ("confirm", 1, "! not doubled\n"),
+    ("confirm A", 2, "! words\n"),
+    ("unseal 00 00", 2, "! words\n"),
+    (
+        "unseal 000000000000000000000000000000000000000000000000000000000000000000000000000000000000000000000000000000000000000000000000 00",
+        1,
+        "! bad seal\n",
+    ),
+    ("heads A", 8, "! no store\n"),
+    ("sync A 127.0.0.1:7000", 8, "! no store\n"),
+];
+
+#[test]
+fn words_of_each_family(rt: HostRuntime) -> Result<(), Fail> {
+    let mut right = 0;
+    for (line, status, text) in ROWS {
+        if answers(&rt, rt.alloc(), line, b"", *status, text)? {
+            right += 1;
+        }
+    }
+    assert_eq!(rt; right, ROWS.len());
+    Ok(())
+}
+
+/// The last operation of an update that deletes the row of an update whose id has 32 times this byte.
+fn deletes(row: u8) -> [u8; 35] {
+    let mut operation = [row; 35];
+    operation[0] = 2;
+    operation[33] = 0;
+    operation[34] = 0;
+    operation
+}
+
+#[test]
+fn two_updates_under_one_index(rt: HostRuntime) -> Result<(), Fail> {
+    let alloc = rt.alloc();
+    let authors = authors(alloc)?;
+    let first = signed(alloc, &authors[0], &[0xdd; 32], &[], 1, &deletes(1))?;
+    let mut both = signed(alloc, &authors[0], &[0xdd; 32], &[], 1, &deletes(2))?;
+    both.extend_from_slice(&first)?;
+    let mut key = Vec::new(alloc);
+    push_key(&mut key, &authors[0].public())?;
+    let digits = hex::encode(alloc, &key)?;
+    let doubled = format!(in alloc; "doubled {} 0\n", digits.as_str())?;
+    assert!(rt; answers(&rt, alloc, "confirm", &both, 0, &doubled)?);
+    assert!(rt; answers(&rt, alloc, "confirm", &first, 1, "! not doubled\n")?);
+    Ok(())
+}
+
+/// The signature of a message by leaf 0 of a key.
+fn signature(alloc: Global, key: &Secret, msg: &[u8]) -> Result<Vec<u8>, AllocError> {
+    let mut bytes = vec![in alloc; 0u8; signature_len(&key.public()) as usize]?;
+    if key.leaf_count() > 0 {
+        key.sign_at(0, &[0; 32], msg, &mut bytes);
+    }
+    Ok(bytes)
+}
+
+#[test]
+fn a_seal_of_the_input(rt: HostRuntime) -> Result<(), Fail> {
+    let alloc = rt.alloc();
+    let [top, low] = authors(alloc)?;
+    let mut low_key = Vec::new(alloc);
+    push_key(&mut low_key, &low.public())?;
+    let top_sig = signature(alloc, &top, &low_key)?;
+    let low_sig = signature(alloc, &low, b"a bundle")?;
+    let seal = seal_bytes(alloc, &top_sig, &low.public(), &low_sig)?;
+    let key = hex::encode(alloc, &public_bytes(alloc, &top.public())?)?;
+    let digits = hex::encode(alloc, &seal)?;
+    let line = format!(in alloc; "unseal {} {}", key.as_str(), digits.as_str())?;
+    assert_eq!(rt; seal.len(), 2644);
+    assert!(rt; answers(&rt, alloc, &line, b"a bundle", 0, "good\n")?);
+    assert!(rt; answers(&rt, alloc, &line, b"a bungle", 1, "! bad seal\n")?);
+    Ok(())
+}

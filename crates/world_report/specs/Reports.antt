@@ -1,0 +1,60 @@
+-- The lines of a report. Each ends with an LF, the byte 10; a blank is 32.
+use Rattle.std.specs.Prelude.{ℕ, ◌+◌, List, [], ◌∷◌, ◌++◌, Option, Some, None, codes}
+use Rattle.std.specs.Fmt.{decimal}
+use Rattle.std.specs.List.{flat_map}
+use Rattle.world_report.specs.declared.shown.Counts.{Counts}
+use Rattle.world_report.specs.declared.shown.Missed.{Missed}
+use Rattle.world_report.specs.declared.shown.Missed.TheVariants.{NoSuch, Refused}
+use Rattle.world_report.specs.declared.shown.ShownEnd.{ShownEnd}
+use Rattle.world_report.specs.declared.shown.ShownEnd.TheVariants.{Open, Done, Peer, Full, Store, Cut}
+use Rattle.world_report.specs.declared.shown.ShownReplica.{ShownReplica}
+use Rattle.world_report.specs.declared.shown.ShownReplica.TheVariants.{Up, Down}
+use Rattle.world_report.specs.declared.shown.ShownSession.{ShownSession}
+
+-- words and a number
+abbrev pub numbered : List ℕ → ℕ → List ℕ
+numbered words number = words ++ decimal number
+
+abbrev pub missed_text : Missed → List ℕ
+missed_text (NoSuch line) = numbered (codes "line ") line ++ (codes " none" ++ (10 ∷ []))
+missed_text (Refused line cause) = numbered (codes "line ") line ++ (numbered (codes " refused ") cause ++ (10 ∷ []))
+
+-- how many rows a table has
+abbrev pub count_text : ℕ → List ℕ
+count_text count = numbered (codes " ") count
+
+-- what a replica holds
+abbrev pub counts_text : Counts → List ℕ
+counts_text counts =
+    numbered (codes " updates ") counts.updates ++ (numbered (codes " heads ") counts.heads
+    ++ (codes " rows" ++ (flat_map count_text counts.rows.items ++ (numbered (codes " void ") counts.voids ++ (10 ∷ [])))))
+
+-- what follows the number of a replica
+abbrev pub state_text : ShownReplica → List ℕ
+state_text (Up counts) = counts_text counts
+state_text Down = codes " down" ++ (10 ∷ [])
+
+abbrev pub replica_text : ℕ → ShownReplica → List ℕ
+replica_text number replica = codes "replica " ++ (decimal number ++ state_text replica)
+
+-- replicas that number from here
+abbrev pub replicas_text : ℕ → List ShownReplica → List ℕ
+replicas_text number [] = []
+replicas_text number (replica ∷ replicas) = replica_text number replica ++ replicas_text (number + 1) replicas
+
+-- how an end ended
+abbrev pub end_text : ShownEnd → List ℕ
+end_text Open = codes " open"
+end_text Done = codes " done"
+end_text (Peer fault) = numbered (codes " peer ") fault
+end_text Full = codes " full"
+end_text Store = codes " store"
+end_text Cut = codes " cut"
+
+-- the other end, where a correct replica has it
+abbrev pub second_text : Option ShownEnd → List ℕ
+second_text None = []
+second_text (Some end) = end_text end
+
+abbrev pub session_text : ShownSession → List ℕ
+session_text session = numbered (codes "session ") session.number ++ (end_text session.first ++ (second_text session.second ++ (10 ∷ [])))

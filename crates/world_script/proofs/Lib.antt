@@ -1,0 +1,6 @@
+mod Fronts
+mod Numbers
+mod Onward
+mod Parting
+mod Saying
+mod Unique
