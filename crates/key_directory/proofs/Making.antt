@@ -20,7 +20,7 @@ use Rattle.key_index.specs.declared.faults.CreateKeyKind.TheVariants.{KeyThere}
 use Rattle.key_directory.specs.Parts.{HandsOutAny, IsHanded, IsLeftAlone, LetsNewGo, MayMakeAny, seen_in, IsUntouched, KeepsAllBut, part_in, reading}
 use Rattle.key_directory.specs.Keys.{IsNewKeyCause, MakesKey}
 use Rattle.key_directory.proofs.Handing.{handed_since, put_untouched, untouched_by}
-use Rattle.key_directory.proofs.Places.{home_again, neither, stands-not-out}
+use Rattle.key_directory.proofs.Places.{StaysIn, each_of_two, home_again, neither, stands-not-out, stays_in}
 use Rattle.key_directory.proofs.Putting.{PutsAny, slot_of, told}
 
 pub handed_slot : (place : Slot) (old : PartState) (disk : DiskState) → IsHanded place old disk → disk.slot ≡ Some place
@@ -104,6 +104,9 @@ lets_first_go gated filled payload filling before after dir apart may = record {
   home = λ tells home. home_again gated filled dir after (alone_in (slot dir gated) (part_in before dir gated) (part_in after dir gated) (may.part tells) (home (slot dir gated)))
       (subst (λ (p : PartState). p ≢ out) (sym (may.others (slot dir filled) apart)) (home (slot dir filled)))
       (λ other away. subst (λ (p : PartState). p ≢ out) (sym (may.others other (neither (same_slot (slot dir gated) other) (same_slot (slot dir filled) other) away).0)) (home other));
+  places = λ tells place. each_of_two gated filled dir before after StaysIn (alone_in (slot dir gated) (part_in before dir gated) (part_in after dir gated) (may.part tells))
+      (stays_in (part_in before dir filled) (part_in after dir filled) (may.others (slot dir filled) apart)) (λ other. stays_in (before.parts other) (after.parts other))
+      (λ other away. may.others other (neither (same_slot (slot dir gated) other) (same_slot (slot dir filled) other) away).0) place;
 }
 
 -- Where the second was not.
@@ -124,6 +127,9 @@ lets_second_go gated filled payload filling before mid done after dir first disk
       (subst (λ (p : PartState). p ≢ out) (sym ((put tells).others (slot dir filled) apart))
       (alone_in (slot dir filled) (part_in mid dir filled) (part_in done dir filled) (may.part (told_mid tells)) (subst (λ (p : PartState). p ≢ out) (sym (hands.others (slot dir filled) apart)) (home (slot dir filled)))))
       (λ other away. subst (λ (p : PartState). p ≢ out) (sym (elsewhere tells other away)) (home other));
+  places = λ tells place. each_of_two gated filled dir before after StaysIn (λ was. stands-not-out (part_in after dir gated) disk (back tells))
+      (λ was is. alone_in (slot dir filled) (part_in mid dir filled) (part_in done dir filled) (may.part (told_mid tells)) (λ gone. was (sym (hands.others (slot dir filled) apart) ∙ gone))
+      (sym ((put tells).others (slot dir filled) apart) ∙ is)) (λ other. stays_in (before.parts other) (after.parts other)) (elsewhere tells) place;
 }
   where
     told_mid : IsTrue before.tells → IsTrue mid.tells
@@ -160,6 +166,8 @@ lets_both_new_go gated filled payload filling before mid taken between after dir
   others = λ tells other away. elsewhere tells other away;
   home = λ tells home. home_again gated filled dir after (stands-not-out (part_in after dir gated) first_new (back tells)) (stands-not-out (part_in after dir filled) second_new (back_filled tells))
       (λ other away. subst (λ (p : PartState). p ≢ out) (sym (elsewhere tells other away)) (home other));
+  places = λ tells place. each_of_two gated filled dir before after StaysIn (λ was. stands-not-out (part_in after dir gated) first_new (back tells))
+      (λ was. stands-not-out (part_in after dir filled) second_new (back_filled tells)) (λ other. stays_in (before.parts other) (after.parts other)) (elsewhere tells) place;
 }
   where
     told_mid : IsTrue before.tells → IsTrue mid.tells

@@ -11,7 +11,7 @@ use Rattle.bec_disk.specs.declared.part.Part.TheVariants.{Schema, Updates, Key, 
 use Rattle.bec_disk.specs.Disk.{DiskState}
 use Rattle.bec_disk.specs.Shelf.{PartState, ShelfState, absent, out, stands}
 use Rattle.bec_disk.specs.Slot.{Slot, number_of, same_slot, slot}
-use Rattle.key_directory.specs.Parts.{IsHome, KeepsAllBut}
+use Rattle.key_directory.specs.Parts.{IsHome, KeepsAllBut, part_in}
 
 part_with : ℕ → Part
 part_with zero = Schema
@@ -45,7 +45,7 @@ neither true y e = absurd (true≢false e)
 neither false true e = absurd (true≢false e)
 neither false false e = (refl, refl)
 
-neither_of : (x y : Bool) → x ≡ false → y ≡ false → x || (y || false) ≡ false
+pub neither_of : (x y : Bool) → x ≡ false → y ≡ false → x || (y || false) ≡ false
 neither_of true y e f = absurd (true≢false e)
 neither_of false true e f = absurd (true≢false f)
 neither_of false false e f = refl
@@ -69,6 +69,23 @@ place_again first second dir shelf one two place anyway = by (same_slot (slot di
     by true y e f = subst (λ (p : Slot). shelf.parts p ≢ out) (same_place (slot dir first) place e) one
     by false true e f = subst (λ (p : Slot). shelf.parts p ≢ out) (same_place (slot dir second) place f) two
     by false false e f = anyway (neither_of (same_slot (slot dir first) place) (same_slot (slot dir second) place) e f)
+
+-- What holds of two parts of a directory, and of each part that is as it was, holds of every part.
+pub each_of_two : (first second : Part) (dir : List ℕ) (before after : ShelfState) (P : PartState → PartState → Type 0) → P (part_in before dir first) (part_in after dir first) → P (part_in before dir second) (part_in after dir second)
+    → ((other : Slot) → after.parts other ≡ before.parts other → P (before.parts other) (after.parts other)) → KeepsAllBut (first ∷ second ∷ []) dir before after → (place : Slot) → P (before.parts place) (after.parts place)
+each_of_two first second dir before after P one two same keeps place = by (same_slot (slot dir first) place) (same_slot (slot dir second) place) refl refl
+  where
+    by : (x y : Bool) → same_slot (slot dir first) place ≡ x → same_slot (slot dir second) place ≡ y → P (before.parts place) (after.parts place)
+    by true y e f = subst (λ (p : Slot). P (before.parts p) (after.parts p)) (same_place (slot dir first) place e) one
+    by false true e f = subst (λ (p : Slot). P (before.parts p) (after.parts p)) (same_place (slot dir second) place f) two
+    by false false e f = same place (keeps place (neither_of (same_slot (slot dir first) place) (same_slot (slot dir second) place) e f))
+
+-- A part that is in its place stays there.
+abbrev pub StaysIn : PartState → PartState → Type 0
+StaysIn old new = old ≢ out → new ≢ out
+
+pub stays_in : (old new : PartState) → new ≡ old → StaysIn old new
+stays_in old new same in_place is = in_place (sym same ∙ is)
 
 -- Where two parts of a directory are in their places, and every other part is, no part is handed out.
 pub home_again : (first second : Part) (dir : List ℕ) (shelf : ShelfState) → shelf.parts (slot dir first) ≢ out → shelf.parts (slot dir second) ≢ out

@@ -86,3 +86,4 @@ pub record LetsNewGo (gated filled : Part) (payload filling : List ℕ) (before 
   pub there : IsTrue before.tells → gated_of (seen_in (part_in before dir gated)) ≢ Absent → IsUntouched (part_in before dir gated) (part_in after dir gated) × (part_in after dir filled ≡ part_in before dir filled)
   pub others : IsTrue before.tells → KeepsAllBut (gated ∷ filled ∷ []) dir before after
   pub home : IsTrue before.tells → IsHome before → IsHome after
+  pub places : IsTrue before.tells → KeepsPlaces before after
