@@ -67,6 +67,14 @@ const TEXTS: &[(&str, &str)] = &[
     ("DELETE @\n\nINSERT list \"Home\" $0", "3:20: later line"),
     ("DELETE @\n\nINSERT list \"Home\" $2", "3:20: later line"),
     ("DELETE @\n\nINSERT list \"Home\" $1", "2"),
+    (
+        "INSERT list \"Home\" $9223372036854775808",
+        "1:20: later line",
+    ),
+    (
+        "DELETE @\n\nINSERT list \"Home\" $65537",
+        "3:20: later line",
+    ),
     ("DELETE @\n\nINSERT list \"Home\" $01", "3:20: not a value"),
     ("INSERT list \"Ho~me\" 9", "1:16: not utf-8"),
     ("DELETE @\n~", "2:1: not utf-8"),

@@ -1,4 +1,5 @@
 mod Lines
+mod Numerals
 mod Tables
 mod Texts
 mod Unique

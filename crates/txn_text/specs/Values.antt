@@ -1,6 +1,7 @@
 -- What the words of a line write as values. The operation that the line is comes after so many others.
-use Rattle.std.specs.Prelude.{◌==◌, ℕ, pos, negsuc, ◌-◌, ◌&&◌, nat_lt, nat_le, ℤ, List, [], ◌∷◌, length, Option, Some, None, Result, Ok, Err, if◌then◌else◌}
+use Rattle.std.specs.Prelude.{◌==◌, ℕ, ◌-◌, Bool, ◌&&◌, ◌||◌, nat_lt, nat_le, List, [], ◌∷◌, length, Option, Some, None, Result, Ok, Err, if◌then◌else◌, bytes_eq, codes}
 use Rattle.std.specs.Str.{is_utf8}
+use Rattle.std.specs.Str.Parse.{digits_value}
 use Rattle.update_model.specs.declared.limits.TheConstants.{MAX_TEXT}
 use Rattle.update_model.specs.declared.value.Value.{Value}
 use Rattle.update_model.specs.declared.value.Value.TheVariants as value
@@ -9,7 +10,7 @@ use Rattle.text_words.specs.declared.literal.Literal.TheVariants as literal
 use Rattle.text_words.specs.declared.word.Word.{Word}
 use Rattle.text_words.specs.declared.word.Word.TheVariants as word
 use Rattle.text_words.specs.Hexadecimal.{row_of}
-use Rattle.text_words.specs.Integers.{int_of}
+use Rattle.text_words.specs.Integers.{is_positive_numeral}
 use Rattle.text_words.specs.Literals.{plain_literal}
 use Rattle.txn_text.specs.declared.fault.TextKind.{TextKind}
 use Rattle.txn_text.specs.declared.fault.TextKind.TheVariants.{NotAValue, TextTooLong, LaterLine, NotUtf8}
@@ -31,11 +32,13 @@ text_value bytes =
 abbrev pub own_row : ℕ → ℕ → Written
 own_row before k = if nat_lt 0 k && nat_le k before then Ok (value.Own (k - 1)) else Err LaterLine
 
--- what stands after `$`: a number, which no minus begins
-abbrev pub own_value : ℕ → Option ℤ → Written
-own_value before None = Err NotAValue
-own_value before (Some (pos k)) = own_row before k
-own_value before (Some (negsuc k)) = Err NotAValue
+-- a number of whatever size: `0`, or digits of which the first is not 0
+abbrev pub is_numeral : List ℕ → Bool
+is_numeral digits = bytes_eq digits (codes "0") || is_positive_numeral digits
+
+-- what stands after `$`: the number of an operation
+abbrev pub own_value : ℕ → List ℕ → Written
+own_value before digits = if is_numeral digits then own_row before (digits_value 10 digits) else Err NotAValue
 
 -- a value that is written without quotes
 abbrev pub literal_value : Option Literal → Written
@@ -57,7 +60,7 @@ unmarked_value bytes = row_or (row_of bytes) (literal_value (plain_literal bytes
 -- a word without quotes; `$` is the byte 36
 abbrev pub plain_value : ℕ → List ℕ → Written
 plain_value before [] = unmarked_value []
-plain_value before (byte ∷ bytes) = if byte == 36 then own_value before (int_of bytes) else unmarked_value (byte ∷ bytes)
+plain_value before (byte ∷ bytes) = if byte == 36 then own_value before bytes else unmarked_value (byte ∷ bytes)
 
 -- the value that a word writes in an insert
 abbrev pub value_in : ℕ → Word → Written

@@ -1,13 +1,18 @@
 //! What single words write as values.
 
-ghost use Rattle.std.specs.Prelude.{◌≡◌, ℕ, IfOk, IfSome, option_map};
+ghost use Rattle.std.specs.Prelude.{◌≡◌, ℕ, IfOk, IfSome, IsTrue, option_map};
+ghost use Rattle.std.specs.Char.{is_ascii_digit};
+ghost use Rattle.std.specs.List.{list_all};
+ghost use Rattle.std.specs.Str.Parse.{digits_value};
 ghost use Rattle.update_model.specs.Rows.{IsRowName, IsValue};
 ghost use Rattle.text_words.specs.Hexadecimal.{row_of};
-ghost use Rattle.txn_text.specs.Values.{value_for, value_in, row_in, plain_value, unmarked_value, literal_value, text_value, own_value, own_row};
+ghost use Rattle.txn_text.specs.Values.{value_for, value_in, row_in, plain_value, unmarked_value, literal_value, text_value, own_value, own_row, is_numeral};
+ghost use Rattle.text_words.specs.Integers.{is_positive_numeral};
 
 use crate::TextKind;
 use crate::verb::Verb;
-use text_words::{ByteString, Literal, Word, integer_of, literal_of, row_name_of};
+use std::str;
+use text_words::{ByteString, Literal, Word, literal_of, row_name_of};
 use update_model::{MAX_TEXT, RowName, TextValue, UpdateId, Value, check_value_text};
 
 /// What a word writes after these first words of a line, which comes after so many operations.
@@ -65,7 +70,7 @@ fn plain_value(before: u16, bytes: ByteString) -> Result<Value, TextKind>
     ensures form { IfOk result (λ value. IsValue before value) }
 {
     if let [b'$', digits @ ..] = bytes.as_slice() {
-        return own_value(before, integer_of(digits));
+        return own_value(before, digits);
     }
     unmarked_value(bytes)
 }
@@ -111,23 +116,61 @@ fn text_value(text: ByteString) -> Result<Value, TextKind>
 }
 
 /// What stands after `$`.
-fn own_value(before: u16, number: Option<i64>) -> Result<Value, TextKind>
-    ensures value { result ≡ own_value before number }
+fn own_value(before: u16, digits: &[u8]) -> Result<Value, TextKind>
+    ensures value { result ≡ own_value before digits.now }
     ensures form { IfOk result (λ value. IsValue before value) }
 {
-    match number.map(u64::try_from) {
-        Some(Ok(k)) => own_row(before, k),
-        _ => Err(TextKind::NotAValue),
+    if !is_numeral(digits) {
+        return Err(TextKind::NotAValue);
+    }
+    match str::from_utf8(digits) {
+        Ok(text) => numbered_row(before, text),
+        Err(_) => Err(TextKind::NotAValue),
     }
 }
 
+/// The row that the operation inserts whose number a text writes, of whatever size.
+fn numbered_row(before: u16, text: &str) -> Result<Value, TextKind>
+    requires numeral { IsTrue (is_numeral text.now) }
+    ensures value { result ≡ own_row before (digits_value 10 text.now) }
+    ensures form { IfOk result (λ value. IsValue before value) }
+{
+    match text.parse() {
+        Ok(k) => own_row(before, k),
+        Err(_) => Err(TextKind::LaterLine),
+    }
+}
+
+/// Whether digits are a number of whatever size.
+fn is_numeral(digits: &[u8]) -> bool
+    ensures { result ≡ is_numeral digits.now }
+{
+    digits == b"0".as_slice() || is_positive_numeral(digits)
+}
+
+/// Whether bytes are digits of which the first is not 0.
+fn is_positive_numeral(digits: &[u8]) -> bool
+    ensures { result ≡ is_positive_numeral digits.now }
+{
+    match digits {
+        [] | [b'0', ..] => false,
+        _ => are_digits(digits),
+    }
+}
+
+fn are_digits(bytes: &[u8]) -> bool
+    ensures { result ≡ list_all is_ascii_digit bytes.now }
+{
+    bytes.iter().all(|byte| byte.is_ascii_digit())
+}
+
 /// The row that the operation with this number inserts, counted from 1.
-fn own_row(before: u16, k: u64) -> Result<Value, TextKind>
+fn own_row(before: u16, k: u16) -> Result<Value, TextKind>
     ensures value { result ≡ own_row before k }
     ensures form { IfOk result (λ value. IsValue before value) }
 {
-    if 1 <= k && k <= u64::from(before) {
-        Ok(Value::Own((k - 1) as u16))
+    if 1 <= k && k <= before {
+        Ok(Value::Own(k - 1))
     } else {
         Err(TextKind::LaterLine)
     }
