@@ -60,6 +60,11 @@ pub record IsAnswered {S H R : Type 0} (Comes : Outside S H R → Outside S H R 
 abbrev pub from_seal : SealRefusal → Refusal
 from_seal seals.BadSeal = refusals.BadSeal
 from_seal seals.InputTooLong = refusals.InputTooLong
+from_seal seals.KeyThere = refusals.KeyThere
+from_seal seals.NoKey = refusals.NoKey
+from_seal seals.BadKey = refusals.BadKey
+from_seal (seals.KeySpent count) = refusals.KeySpent count
+from_seal seals.Store = refusals.StoreFault
 from_seal seals.Stream = refusals.Stream
 from_seal seals.Memory = refusals.Memory
 

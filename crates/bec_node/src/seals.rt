@@ -32,6 +32,11 @@ fn seal_refusal(why: SealRefusal) -> Refusal
     match why {
         SealRefusal::BadSeal => Refusal::BadSeal,
         SealRefusal::InputTooLong => Refusal::InputTooLong,
+        SealRefusal::KeyThere => Refusal::KeyThere,
+        SealRefusal::NoKey => Refusal::NoKey,
+        SealRefusal::BadKey => Refusal::BadKey,
+        SealRefusal::KeySpent(count) => Refusal::KeySpent(count),
+        SealRefusal::Store => Refusal::StoreFault,
         SealRefusal::Stream => Refusal::Stream,
         SealRefusal::Memory => Refusal::Memory,
     }

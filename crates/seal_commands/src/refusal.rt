@@ -1,4 +1,8 @@
+ghost use Rattle.std.specs.Prelude.{◌≡◌};
+ghost use Rattle.seal_commands.specs.Sealing.{refusal_of};
+
 use bec_bytes::ReadError;
+use hss_directory::HssFault;
 use std::alloc::AllocError;
 
 /// Why a command over seals is not done.
@@ -8,10 +12,34 @@ pub enum SealRefusal {
     BadSeal,
     /// The input has more bytes than may be sealed.
     InputTooLong,
+    /// The part Key of the directory is not absent.
+    KeyThere,
+    /// The part Key of the directory is absent.
+    NoKey,
+    /// The top key, or the lower key that is wanted, is damaged.
+    BadKey,
+    /// Every index of the top key is used, of which there are so many.
+    KeySpent(u32),
+    /// The shelf or a disk failed.
+    Store,
     /// The source failed.
     Stream,
     /// Memory ran out.
     Memory,
+}
+
+/// The refusal that a fault of a two-level key is, whose top key has so many indices.
+pub(crate) fn refusal_of(why: HssFault, count: u32) -> SealRefusal
+    ensures { result ≡ refusal_of why count }
+{
+    match why {
+        HssFault::Disk => SealRefusal::Store,
+        HssFault::KeyThere => SealRefusal::KeyThere,
+        HssFault::NoKey => SealRefusal::NoKey,
+        HssFault::BadKey => SealRefusal::BadKey,
+        HssFault::Spent => SealRefusal::KeySpent(count),
+        HssFault::Memory => SealRefusal::Memory,
+    }
 }
 
 impl From<AllocError> for SealRefusal {

@@ -1,0 +1,105 @@
+//! `hsskey` and `seal`.
+
+ghost use Rattle.std.specs.Prelude.{◌≡◌, ◌≤◌, ◌⊎◌, IsErrOf, IsTrue};
+ghost use Rattle.bec_bytes.specs.Causes.{Rose};
+ghost use Rattle.key_directory.specs.Parts.{IsHome};
+ghost use Rattle.hss_directory.specs.Calls.{HeldRose, KeepsHss};
+ghost use Rattle.hss_directory.specs.Places.{Holds};
+ghost use Rattle.hss_directory.specs.Values.{IsSound};
+ghost use Rattle.seal_commands.specs.Sealing.{HsskeyRun, SealRun, SealsInput, SealsMessage};
+
+use crate::reading::read_input;
+use crate::refusal::{SealRefusal, refusal_of};
+use crate::texts::hex_line;
+use bec_bytes::Source;
+use bec_disk::Shelf;
+use hss_directory::{Hss, create_hss, open_hss};
+use lm_ots::OtsType;
+use lms_tree::LmsType;
+use rand_core::Rng;
+use std::alloc::Global;
+
+/// Draws a two-level key whose levels are of these types for a directory that has none, and answers the line of its public key.
+pub fn hsskey_in<H: Shelf, R: Rng>(
+    alloc: Global,
+    shelf: &mut H,
+    dir: &str,
+    height: LmsType,
+    width: OtsType,
+    random: &mut R,
+) -> Result<Vec<u8>, SealRefusal>
+    requires { IsTrue (H.state shelf.old).tells → IsHome (H.state shelf.old) }
+    ensures comes { HsskeyRun height width (R.stream random.old) dir.now (H.state shelf.old) (H.state shelf.new) result }
+    ensures home { IsTrue (H.state shelf.old).tells → IsHome (H.state shelf.new) }
+    ensures failed { IsErrOf result SealRefusal.Store → Rose (H.faults shelf.old) (H.faults shelf.new) }
+{
+    let hss = match create_hss(alloc, shelf, dir, height, width, random) {
+        Ok(hss) => hss,
+        Err(why) => return Err(refusal_of(why, height.leaf_count())),
+    };
+    let public = hss.public();
+    hss.close(shelf);
+    Ok(hex_line(alloc, &public)?)
+}
+
+/// Seals the input by the two-level key of a directory, and answers the line of the seal. The input is read once the key is open.
+pub fn seal_in<H: Shelf, R: Rng, S: Source>(
+    alloc: Global,
+    shelf: &mut H,
+    dir: &str,
+    random: &mut R,
+    input: &mut S,
+) -> Result<Vec<u8>, SealRefusal>
+    requires { IsTrue (H.state shelf.old).tells → IsHome (H.state shelf.old) }
+    ensures comes { SealRun dir.now (H.state shelf.old) (H.state shelf.new) (R.stream random.old) (S.left input.old) (S.left input.new) (S.faults input.old) (S.faults input.new) result }
+    ensures home { IsTrue (H.state shelf.old).tells → IsHome (H.state shelf.new) }
+    ensures failed { IsErrOf result SealRefusal.Store → Rose (H.faults shelf.old) (H.faults shelf.new) }
+{
+    let mut hss = match open_hss(alloc, shelf, dir) {
+        Ok(hss) => hss,
+        Err(why) => return Err(refusal_of(why, 0)),
+    };
+    let sealed = seal_input(alloc, shelf, &mut hss, random, input);
+    hss.close(shelf);
+    sealed
+}
+
+/// Reads the input whole, and seals it by a key that is open.
+fn seal_input<H: Shelf, R: Rng, S: Source>(
+    alloc: Global,
+    shelf: &mut H,
+    hss: &mut Hss<H::D>,
+    random: &mut R,
+    input: &mut S,
+) -> Result<Vec<u8>, SealRefusal>
+    requires held { IsTrue (H.state shelf.old).tells → Holds (H.state shelf.old) hss.old }
+    requires sound { IsSound hss.old }
+    ensures seals { SealsInput hss.old (H.state shelf.old) (R.stream random.old) (S.left input.old) (S.left input.new) (S.faults input.old) (S.faults input.new) result hss.new (H.state shelf.new) }
+    ensures keeps { KeepsHss (H.state shelf.old) hss.old (H.state shelf.new) hss.new }
+    ensures later { H.faults shelf.old ≤ H.faults shelf.new }
+    ensures failed { IsErrOf result SealRefusal.Store → Rose (H.faults shelf.old) (H.faults shelf.new) ⊎ HeldRose hss.old hss.new }
+{
+    let msg = read_input(alloc, input)?;
+    seal_message(alloc, shelf, hss, random, msg.as_slice())
+}
+
+/// Seals a message by a key that is open, and answers the line of the seal.
+fn seal_message<H: Shelf, R: Rng>(
+    alloc: Global,
+    shelf: &mut H,
+    hss: &mut Hss<H::D>,
+    random: &mut R,
+    msg: &[u8],
+) -> Result<Vec<u8>, SealRefusal>
+    requires held { IsTrue (H.state shelf.old).tells → Holds (H.state shelf.old) hss.old }
+    requires sound { IsSound hss.old }
+    ensures seals { SealsMessage hss.old (H.state shelf.old) (R.stream random.old) msg.now result hss.new (H.state shelf.new) }
+    ensures keeps { KeepsHss (H.state shelf.old) hss.old (H.state shelf.new) hss.new }
+    ensures later { H.faults shelf.old ≤ H.faults shelf.new }
+    ensures failed { IsErrOf result SealRefusal.Store → Rose (H.faults shelf.old) (H.faults shelf.new) ⊎ HeldRose hss.old hss.new }
+{
+    match hss.sign(alloc, shelf, random, msg) {
+        Ok(seal) => Ok(hex_line(alloc, seal.as_slice())?),
+        Err(why) => Err(refusal_of(why, hss.top_count())),
+    }
+}
