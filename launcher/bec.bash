@@ -3,9 +3,9 @@
 _bec() {
     local word=${COMP_WORDS[COMP_CWORD]} command=${COMP_WORDS[1]} offered=''
     if [ "$COMP_CWORD" -eq 1 ]; then
-        offered="init keygen apply join set dump query heads export draw log show who diff status schema key csv page import clone merge sync serve check unseal audit confirm help --help --version"
+        offered="init keygen apply join set dump query heads export draw log show who diff status schema key csv page import clone merge sync serve check hsskey seal unseal audit confirm help --help --version"
     elif [ "$command" = help ]; then
-        offered="init keygen apply join set dump query heads export draw log show who diff status schema key csv page import clone merge sync serve check unseal audit confirm status"
+        offered="init keygen apply join set dump query heads export draw log show who diff status schema key csv page import clone merge sync serve check hsskey seal unseal audit confirm status"
     else
         case $command,${COMP_WORDS[COMP_CWORD - 1]} in
         keygen,--height) offered="5 10 15" ;;
@@ -22,6 +22,9 @@ _bec() {
         status,*) [[ $word == -* ]] && offered="--json" ;;
         serve,--sessions) offered="1 2 3 4 5 6 7 8" ;;
         serve,*) [[ $word == -* ]] && offered="--sessions" ;;
+        hsskey,--height) offered="5 10" ;;
+        hsskey,--width) offered="1 2 4 8" ;;
+        hsskey,*) [[ $word == -* ]] && offered="--height --width" ;;
         esac
     fi
     mapfile -t COMPREPLY < <(compgen -W "$offered" -- "$word")

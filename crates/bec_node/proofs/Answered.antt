@@ -1,17 +1,16 @@
 -- A command is answered once what it comes to was said.
-use Rattle.std.proofs.Common.{◌⊎◌, inl, inr, ℕ, List, Option, refl, Err}
+use Rattle.std.proofs.Common.{◌⊎◌, inl, inr, ℕ, List, Option}
 use Rattle.store_directory.specs.Stores.{StoreData}
 use Rattle.schema_verdict.specs.Written.{SinkState}
-use Rattle.outcomes.specs.declared.refusal.Refusal.TheVariants.{Words}
 use Rattle.outcomes.specs.Comes.{ReadsSource, ReadsStoreOnly}
 use Rattle.outcomes.specs.Only.{ShelfOnly, SourceOnly}
 use Rattle.outcomes.specs.Outcome.{Ends, Outcome}
-use Rattle.outcomes.specs.Outside.{IsUntouched, Outside}
+use Rattle.outcomes.specs.Outside.{Outside}
 use Rattle.outcomes.specs.StoreAnswers.{ReadsStore}
 use Rattle.outcomes.proofs.Only.{IsFaultStatus, IsSaidAs, ended_as, read_only, shelf_fault, source_fault, source_only}
 use Rattle.outcomes.proofs.Same.{IsOneAnswer}
 use Rattle.outcomes.proofs.StoreOnce.{IsOneOfParts}
-use Rattle.bec_node.specs.Families.{IsAnswered, IsNoCommandYet}
+use Rattle.bec_node.specs.Families.{IsAnswered}
 
 module _ {S H R : Type 0} (before after : Outside S H R) (sink sink_new : SinkState) (status : ℕ) where
   -- of a command over the source alone
@@ -34,7 +33,3 @@ module _ {S H R : Type 0} (before after : Outside S H R) (sink sink_new : SinkSt
       by : IsSaidAs outcome status ⊎ IsFaultStatus status → ShelfOnly (ReadsStore Answers) dir before.store status
       by (inl told) = read_only before after status Answers one dir outcome comes told
       by (inr fault) = shelf_fault (ReadsStore Answers) dir before.store status fault
-
-  -- and of what is no command yet
-  pub none_answered : IsUntouched before after → Ends sink.faults sink_new.faults sink.held sink_new.held (Err Words) status → IsAnswered IsNoCommandYet (λ given. Unit {0}) before after sink sink_new status
-  none_answered same said = record { outcome = Err Words; comes = record { untouched = same; refused = refl }; said = said; only = tt }

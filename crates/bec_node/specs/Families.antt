@@ -1,11 +1,17 @@
 -- The families of commands beside those of a run alone: over a net, over seals, and audits of keys.
-use Rattle.std.specs.Prelude.{◌≡◌, ℕ, ◌<◌, List, map, String, Err}
+use Rattle.std.specs.Prelude.{◌≡◌, ℕ, ◌<◌, List, map, IsErrOf, IsTrue, String, Ok, Err}
 use Rattle.std.specs.declared.alloc.Global.{Global}
 use Rattle.std.specs.String.{string_bytes}
+use Rattle.bec_bytes.specs.Causes.{Rose}
+use Rattle.bec_disk.specs.Shelf.{ShelfState}
 use Rattle.command_words.specs.AuditRequests.{AsksAudit, AuditText, audit, confirm}
 use Rattle.command_words.specs.NetRequests.{AsksNet, NetText, sync, serve}
 use Rattle.command_words.specs.SealRequests.{AsksSeal, SealText, hsskey, seal, unseal}
 use Rattle.command_words.specs.Seen.{audit_seen, net_seen, seal_seen}
+use Rattle.key_directory.specs.Parts.{IsHome}
+use Rattle.lm_ots.specs.declared.ots_type.OtsType.{OtsType}
+use Rattle.lms_tree.specs.declared.lms_type.LmsType.{LmsType}
+use Rattle.seal_commands.specs.Sealing.{HsskeyRun, SealRun}
 use Rattle.seal_commands.specs.declared.refusal.SealRefusal.{SealRefusal}
 use Rattle.seal_commands.specs.declared.refusal.SealRefusal.TheVariants as seals
 use Rattle.seal_commands.specs.Unsealing.{UnsealAnswer}
@@ -14,10 +20,11 @@ use Rattle.audit_commands.specs.Confirming.{ConfirmAnswer}
 use Rattle.outcomes.specs.Comes.{ReadsSource, ReadsStoreOnly}
 use Rattle.outcomes.specs.Only.{ShelfOnly, SourceOnly}
 use Rattle.outcomes.specs.Outcome.{Ends, Outcome}
-use Rattle.outcomes.specs.Outside.{IsUntouched, Outside}
+use Rattle.outcomes.specs.Outside.{Outside}
 use Rattle.outcomes.specs.StoreAnswers.{Printing, ReadsStore}
 use Rattle.outcomes.specs.declared.refusal.Refusal.{Refusal}
 use Rattle.outcomes.specs.declared.refusal.Refusal.TheVariants as refusals
+use Rattle.schema_verdict.specs.Verdict.{OutcomeOf}
 use Rattle.schema_verdict.specs.Written.{SinkState}
 use Rattle.bec_node.specs.declared.families.FamilyRequest.{FamilyRequest}
 use Rattle.bec_node.specs.declared.families.FamilyRequest.TheVariants.{Net, Seals, Audits}
@@ -68,18 +75,35 @@ from_seal seals.Store = refusals.StoreFault
 from_seal seals.Stream = refusals.Stream
 from_seal seals.Memory = refusals.Memory
 
--- It is no command yet.
-pub record IsNoCommandYet {S H R : Type 0} (before after : Outside S H R) (outcome : Outcome) : Type 0 where
-  pub untouched : IsUntouched before after
-  pub refused : outcome ≡ Err refusals.Words
+-- an outcome over seals, as the program tells it
+abbrev pub told_as : OutcomeOf SealRefusal → Outcome
+told_as (Ok text) = Ok text
+told_as (Err why) = Err (from_seal why)
+
+-- A command over a shelf came to this and is told so. No part of the shelf is handed out afterwards, and a store fault comes only where its count rose.
+pub record TellsSeals (Comes : OutcomeOf SealRefusal → Type 0) (before after : ShelfState) (old new : ℕ) (outcome : Outcome) : Type 0 where
+  pub own : OutcomeOf SealRefusal
+  pub told : outcome ≡ told_as own
+  pub comes : Comes own
+  pub home : IsTrue before.tells → IsHome after
+  pub failed : IsErrOf own seals.Store → Rose old new
+
+-- A two-level key is drawn for a directory, or not. The source is not used.
+pub record DrawsHss {S H R : Type 0} (height : LmsType) (width : OtsType) (dir : List ℕ) (before after : Outside S H R) (outcome : Outcome) : Type 0 where
+  pub draws : TellsSeals (HsskeyRun height width before.stream dir before.store after.store) before.store after.store before.shelf_faults after.shelf_faults outcome
+  pub source : after.source ≡ before.source
+
+-- The input is sealed by the two-level key of a directory, or not.
+abbrev pub SealsSource : {S H R : Type 0} → List ℕ → Outside S H R → Outside S H R → Outcome → Type 0
+SealsSource dir before after = TellsSeals (SealRun dir before.store after.store before.stream before.left after.left before.source_faults after.source_faults) before.store after.store before.shelf_faults after.shelf_faults
 
 -- What a request about seals comes to.
 abbrev pub SealComes : {S H R : Type 0} → SealText → Outside S H R → Outside S H R → Outcome → Type 0
-SealComes (hsskey dir height width) = IsNoCommandYet
-SealComes (seal dir) = IsNoCommandYet
+SealComes (hsskey dir height width) = DrawsHss height width dir
+SealComes (seal dir) = SealsSource dir
 SealComes (unseal key signature) = ReadsSource (UnsealAnswer from_seal key signature)
 
--- Each answer that it has to what stands outside comes with its status, unless the source or the sink failed or memory ran out.
+-- Each answer of `unseal` to what the source has comes with its status, unless the source or the sink failed or memory ran out.
 abbrev pub SealAnswersOnly : {S H R : Type 0} → SealText → Outside S H R → ℕ → Type 0
 SealAnswersOnly (hsskey dir height width) before = λ status. Unit {0}
 SealAnswersOnly (seal dir) before = λ status. Unit {0}

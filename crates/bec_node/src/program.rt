@@ -7,7 +7,7 @@ ghost use Rattle.bec_node.specs.Run.{DoesAsked, DoesOver, RunsOver};
 
 use crate::alone::run_alone;
 use crate::families::{FamilyRequest, family_request_in};
-use crate::seals::unsealed;
+use crate::seals::{drawn_hss, sealed, unsealed};
 use audit_commands::{audit_in, confirm_in, one_answer_of_audits};
 use bec_bytes::{Sink, Source};
 use bec_disk::Shelf;
@@ -87,8 +87,20 @@ where
             let outcome = unsealed(alloc, key, signature, input);
             finish(alloc, out, outcome)
         }
-        FamilyRequest::Seals(SealRequest::Hsskey { .. }) => finish(alloc, out, Err(Refusal::Words)),
-        FamilyRequest::Seals(SealRequest::Seal { .. }) => finish(alloc, out, Err(Refusal::Words)),
+        FamilyRequest::Seals(
+            SealRequest::Hsskey {
+                directory,
+                height,
+                width,
+            },
+        ) => {
+            let outcome = drawn_hss(alloc, shelf, directory, *height, *width, random);
+            finish(alloc, out, outcome)
+        }
+        FamilyRequest::Seals(SealRequest::Seal { directory }) => {
+            let outcome = sealed(alloc, shelf, directory, random, input);
+            finish(alloc, out, outcome)
+        }
         FamilyRequest::Audits(AuditRequest::Audit { directory }) => {
             let verifier = ManyThreads::new(rt);
             let outcome = audit_in(&verifier, alloc, shelf, directory);

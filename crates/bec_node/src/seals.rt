@@ -1,14 +1,57 @@
 //! The commands over seals.
 
-ghost use Rattle.std.specs.Prelude.{◌≡◌};
+ghost use Rattle.std.specs.Prelude.{◌≡◌, IsTrue};
+ghost use Rattle.key_directory.specs.Parts.{IsHome};
+ghost use Rattle.seal_commands.specs.Sealing.{HsskeyRun, SealRun};
 ghost use Rattle.seal_commands.specs.Unsealing.{UnsealAnswer};
 ghost use Rattle.outcomes.specs.Outcome.{ComesTo};
-ghost use Rattle.bec_node.specs.Families.{from_seal};
+ghost use Rattle.bec_node.specs.Families.{TellsSeals, from_seal};
 
 use bec_bytes::Source;
+use bec_disk::Shelf;
+use lm_ots::OtsType;
+use lms_tree::LmsType;
 use outcomes::Refusal;
-use seal_commands::{SealRefusal, unseal_in};
+use rand_core::Rng;
+use seal_commands::{SealRefusal, hsskey_in, seal_in, unseal_in};
 use std::alloc::Global;
+
+/// Draws a two-level key for a directory that has none.
+pub(crate) fn drawn_hss<H: Shelf, R: Rng>(
+    alloc: Global,
+    shelf: &mut H,
+    directory: &str,
+    height: LmsType,
+    width: OtsType,
+    random: &mut R,
+) -> Result<Vec<u8>, Refusal>
+    requires { IsTrue (H.state shelf.old).tells → IsHome (H.state shelf.old) }
+    ensures { TellsSeals (HsskeyRun height width (R.stream random.old) directory.now (H.state shelf.old) (H.state shelf.new))
+        (H.state shelf.old) (H.state shelf.new) (H.faults shelf.old) (H.faults shelf.new) result }
+{
+    match hsskey_in(alloc, shelf, directory, height, width, random) {
+        Ok(text) => Ok(text),
+        Err(why) => Err(seal_refusal(why)),
+    }
+}
+
+/// Seals the input by the two-level key of a directory.
+pub(crate) fn sealed<H: Shelf, R: Rng, S: Source>(
+    alloc: Global,
+    shelf: &mut H,
+    directory: &str,
+    random: &mut R,
+    input: &mut S,
+) -> Result<Vec<u8>, Refusal>
+    requires { IsTrue (H.state shelf.old).tells → IsHome (H.state shelf.old) }
+    ensures { TellsSeals (SealRun directory.now (H.state shelf.old) (H.state shelf.new) (R.stream random.old) (S.left input.old) (S.left input.new) (S.faults input.old) (S.faults input.new))
+        (H.state shelf.old) (H.state shelf.new) (H.faults shelf.old) (H.faults shelf.new) result }
+{
+    match seal_in(alloc, shelf, directory, random, input) {
+        Ok(text) => Ok(text),
+        Err(why) => Err(seal_refusal(why)),
+    }
+}
 
 /// What is said where the seal is one of the input by this key.
 pub(crate) fn unsealed<S: Source>(

@@ -1,6 +1,6 @@
 use Rattle.std.proofs.Common.{ℕ, List, refl, subst}
 use Rattle.command_words.specs.AuditRequests.{audit, confirm}
-use Rattle.command_words.specs.SealRequests.{unseal}
+use Rattle.command_words.specs.SealRequests.{hsskey, seal, unseal}
 use Rattle.command_words.specs.Seen.{net_seen}
 use Rattle.schema_verdict.specs.Written.{SinkState}
 use Rattle.seal_commands.specs.Unsealing.{UnsealAnswer}
@@ -11,7 +11,7 @@ use Rattle.outcomes.specs.Outside.{outside}
 use Rattle.outcomes.specs.StoreAnswers.{Printing}
 use Rattle.bec_node.specs.Families.{from_seal}
 use Rattle.bec_node.specs.Run.{of_keys, over_net, over_seals}
-use Rattle.bec_node.proofs.Answered.{none_answered, source_answered, store_answered}
+use Rattle.bec_node.proofs.Answered.{source_answered, store_answered}
 use Rattle.bec_node.proofs.Unsealing.{unsealed_once}
 use Rattle.bec_node.proofs.program.run_asked.Goals as goal
 
@@ -36,23 +36,15 @@ returns-in-Seals-Unseal g c =
 
 pub returns-in-Seals-Hsskey : goal.returns-in-Seals-Hsskey
 returns-in-Seals-Hsskey g c =
-    let seen = outside g.S.Source.left g.S.Counted.faults g.H.Shelf.state g.H.Counted.faults g.R.Rng.stream c.args.input.now c.args.shelf.now c.args.random.now in
-    let then = outside g.S.Source.left g.S.Counted.faults g.H.Shelf.state g.H.Counted.faults g.R.Rng.stream c.args.input.now c.args.shelf.now c.args.random.now in
-    let sink : SinkState = record { held = g.K.Sink.held c.args.out.now; faults = g.K.Counted.faults c.args.out.now } in
-    let sink_new : SinkState = record { held = g.K.Sink.held c.finish-in-Seals-Hsskey.new.out; faults = g.K.Counted.faults c.finish-in-Seals-Hsskey.new.out } in
     let which = rw c.in-Seals-Hsskey.is at c.in-Seals-Hsskey.field-0-is in
     rw (c.in-Seals-Hsskey.is, which)
-    (over_seals _ (none_answered seen then sink sink_new c.finish-in-Seals-Hsskey.result (record { source = refl; shelf = refl; random = refl }) c.finish-in-Seals-Hsskey.ensures) refl)
+    (over_seals (hsskey c.in-Seals-Hsskey.directory.now c.in-Seals-Hsskey.height c.in-Seals-Hsskey.width) (record { outcome = c.drawn_hss-outcome.result; comes = record { draws = c.drawn_hss-outcome.ensures; source = refl }; said = c.finish-in-Seals-Hsskey.ensures; only = tt }) refl)
 
 pub returns-in-Seals-Seal : goal.returns-in-Seals-Seal
 returns-in-Seals-Seal g c =
-    let seen = outside g.S.Source.left g.S.Counted.faults g.H.Shelf.state g.H.Counted.faults g.R.Rng.stream c.args.input.now c.args.shelf.now c.args.random.now in
-    let then = outside g.S.Source.left g.S.Counted.faults g.H.Shelf.state g.H.Counted.faults g.R.Rng.stream c.args.input.now c.args.shelf.now c.args.random.now in
-    let sink : SinkState = record { held = g.K.Sink.held c.args.out.now; faults = g.K.Counted.faults c.args.out.now } in
-    let sink_new : SinkState = record { held = g.K.Sink.held c.finish-in-Seals-Seal.new.out; faults = g.K.Counted.faults c.finish-in-Seals-Seal.new.out } in
     let which = rw c.in-Seals-Seal.is at c.in-Seals-Seal.field-0-is in
     rw (c.in-Seals-Seal.is, which)
-    (over_seals _ (none_answered seen then sink sink_new c.finish-in-Seals-Seal.result (record { source = refl; shelf = refl; random = refl }) c.finish-in-Seals-Seal.ensures) refl)
+    (over_seals (seal c.in-Seals-Seal.directory.now) (record { outcome = c.sealed-outcome.result; comes = c.sealed-outcome.ensures; said = c.finish-in-Seals-Seal.ensures; only = tt }) refl)
 
 pub returns-in-Audits-Audit : goal.returns-in-Audits-Audit
 returns-in-Audits-Audit g c =
