@@ -4,5 +4,6 @@ pub mod Held
 pub mod Keys
 pub mod Lowers
 pub mod Opens
+pub mod PeersLaws
 pub mod Places
 pub mod Sign

@@ -14,6 +14,7 @@
 mod current;
 mod fault;
 mod hss;
+mod laws;
 mod lower;
 mod making;
 mod opening;
@@ -22,3 +23,4 @@ mod signing;
 
 pub use fault::HssFault;
 pub use hss::{Hss, create_hss, open_hss};
+pub use laws::used_peers_stay;
