@@ -1,0 +1,9 @@
+pub mod Once
+pub mod Opening
+pub mod Reading
+pub mod Running
+pub mod Shelving
+pub mod Stopping
+pub mod Taking
+pub mod Turning
+pub mod Writing

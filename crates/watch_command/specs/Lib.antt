@@ -1,0 +1,6 @@
+pub mod Blocks
+pub mod Ending
+pub mod Records
+pub mod Runs
+pub mod Steps
+pub mod Watching
