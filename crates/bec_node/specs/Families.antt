@@ -1,4 +1,4 @@
--- The families of commands beside those of a run alone: over a net, over seals, and audits of keys.
+-- The families of commands beside those of a run alone: over a net, over seals, audits of keys, and views of queries.
 use Rattle.std.specs.Prelude.{◌≡◌, ℕ, ◌<◌, List, map, IsErrOf, IsTrue, String, Ok, Err}
 use Rattle.std.specs.declared.alloc.Global.{Global}
 use Rattle.std.specs.String.{string_bytes}
@@ -7,7 +7,8 @@ use Rattle.bec_disk.specs.Shelf.{ShelfState}
 use Rattle.command_words.specs.AuditRequests.{AsksAudit, AuditText, audit, confirm}
 use Rattle.command_words.specs.NetRequests.{AsksNet, NetText, sync, serve}
 use Rattle.command_words.specs.SealRequests.{AsksSeal, SealText, hsskey, seal, unseal}
-use Rattle.command_words.specs.Seen.{audit_seen, net_seen, seal_seen}
+use Rattle.command_words.specs.Seen.{audit_seen, net_seen, seal_seen, watch_seen}
+use Rattle.command_words.specs.WatchRequests.{AsksWatch, WatchText, watch}
 use Rattle.key_directory.specs.Parts.{IsHome}
 use Rattle.lm_ots.specs.declared.ots_type.OtsType.{OtsType}
 use Rattle.lms_tree.specs.declared.lms_type.LmsType.{LmsType}
@@ -26,26 +27,30 @@ use Rattle.outcomes.specs.declared.refusal.Refusal.{Refusal}
 use Rattle.outcomes.specs.declared.refusal.Refusal.TheVariants as refusals
 use Rattle.schema_verdict.specs.Verdict.{OutcomeOf}
 use Rattle.schema_verdict.specs.Written.{SinkState}
+use Rattle.watch_command.specs.Runs.{WatchesIn}
 use Rattle.bec_node.specs.declared.families.FamilyRequest.{FamilyRequest}
-use Rattle.bec_node.specs.declared.families.FamilyRequest.TheVariants.{Net, Seals, Audits}
+use Rattle.bec_node.specs.declared.families.FamilyRequest.TheVariants.{Net, Seals, Audits, Views}
 
 -- a request of one of these families
 pub data FamilyText : Type 0 where
   of_net : NetText → FamilyText
   of_seals : SealText → FamilyText
   of_audits : AuditText → FamilyText
+  of_views : WatchText → FamilyText
 
 -- what a contract sees of one
 abbrev pub family_seen : FamilyRequest → FamilyText
 family_seen (Net request) = of_net (net_seen request)
 family_seen (Seals request) = of_seals (seal_seen request)
 family_seen (Audits request) = of_audits (audit_seen request)
+family_seen (Views request) = of_views (watch_seen request)
 
 -- the words ask for this
 abbrev pub IsFamilyCommand : FamilyText → List (String Global) → Type 0
 IsFamilyCommand (of_net request) words = AsksNet (map string_bytes words) request
 IsFamilyCommand (of_seals request) words = AsksSeal (map string_bytes words) request
 IsFamilyCommand (of_audits request) words = AsksAudit (map string_bytes words) request
+IsFamilyCommand (of_views request) words = AsksWatch (map string_bytes words) request
 
 -- Where a request asks for sessions, it asks for one at least.
 abbrev pub AsksForSome : FamilyText → Type 0
@@ -53,6 +58,7 @@ AsksForSome (of_net (sync dir address)) = Unit {0}
 AsksForSome (of_net (serve dir address sessions)) = 0 < sessions
 AsksForSome (of_seals request) = Unit {0}
 AsksForSome (of_audits request) = Unit {0}
+AsksForSome (of_views request) = Unit {0}
 
 -- A command is done, or refused: what it comes to is said, and each answer that it has to what stands outside comes with its status.
 pub record IsAnswered {S H R : Type 0} (Comes : Outside S H R → Outside S H R → Outcome → Type 0) (Only : ℕ → Type 0) (before after : Outside S H R) (sink sink_new : SinkState) (status : ℕ) : Type 0 where
@@ -120,3 +126,15 @@ AuditComes confirm = ReadsSource ConfirmAnswer
 abbrev pub AuditAnswersOnly : {S H R : Type 0} → AuditText → Outside S H R → ℕ → Type 0
 AuditAnswersOnly (audit dir) before = ShelfOnly (ReadsStore (Printing ShowsDoubled)) dir before.store
 AuditAnswersOnly confirm before = SourceOnly ConfirmAnswer before.left
+
+-- ---- views of queries
+
+-- A query is watched over the store of a directory. The generator is not used.
+pub record WatchesQuery {S H R : Type 0} (dir text : List ℕ) (every : ℕ) (before after : Outside S H R) (sink sink_new : SinkState) (status : ℕ) : Type 0 where
+  pub watches : WatchesIn (after.source ≡ before.source) (record { text = text; every = every }) dir before.store after.store before.shelf_faults after.shelf_faults
+      (record { left = before.left; faults = before.source_faults; sink = sink }) (record { left = after.left; faults = after.source_faults; sink = sink_new }) status
+  pub random : after.random ≡ before.random
+
+-- What a request about views comes to, and what it writes.
+abbrev pub ViewComes : {S H R : Type 0} → WatchText → Outside S H R → Outside S H R → SinkState → SinkState → ℕ → Type 0
+ViewComes (watch dir text every) = WatchesQuery dir text every

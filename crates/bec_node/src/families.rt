@@ -4,7 +4,8 @@ ghost use Rattle.std.specs.Prelude.{IfOk, MatchOption};
 ghost use Rattle.bec_node.specs.Families.{FamilyText, IsFamilyCommand, family_seen};
 
 use command_words::{
-    AuditRequest, NetRequest, SealRequest, audit_request_in, net_request_in, seal_request_in,
+    AuditRequest, NetRequest, SealRequest, WatchRequest, audit_request_in, net_request_in,
+    seal_request_in, watch_request_in,
 };
 use std::alloc::{AllocError, Global};
 
@@ -17,6 +18,8 @@ pub(crate) enum FamilyRequest<'a> {
     Seals(SealRequest<'a>),
     /// About keys that signed twice by one index.
     Audits(AuditRequest<'a>),
+    /// About views of queries.
+    Views(WatchRequest<'a>),
 }
 
 /// What these words ask for of one of these families, or `None` where they ask for nothing of them. The one error is want of
@@ -34,8 +37,11 @@ pub(crate) fn family_request_in<'a>(
     if let Some(request) = seal_request_in(alloc, words)? {
         return Ok(Some(FamilyRequest::Seals(request)));
     }
-    match audit_request_in(alloc, words)? {
-        Some(request) => Ok(Some(FamilyRequest::Audits(request))),
+    if let Some(request) = audit_request_in(alloc, words)? {
+        return Ok(Some(FamilyRequest::Audits(request)));
+    }
+    match watch_request_in(alloc, words)? {
+        Some(request) => Ok(Some(FamilyRequest::Views(request))),
         None => Ok(None),
     }
 }

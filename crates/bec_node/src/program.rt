@@ -1,8 +1,8 @@
 ghost use Rattle.std.specs.Prelude.{IsTrue};
-ghost use Rattle.command_words.specs.Seen.{net_seen};
+ghost use Rattle.command_words.specs.Seen.{net_seen, seal_seen};
 ghost use Rattle.outcomes.specs.Outside.{outside};
 ghost use Rattle.key_directory.specs.Parts.{IsHome};
-ghost use Rattle.bec_node.specs.Families.{AsksForSome, family_seen, of_net};
+ghost use Rattle.bec_node.specs.Families.{AsksForSome, IsAnswered, SealAnswersOnly, SealComes, family_seen, of_net};
 ghost use Rattle.bec_node.specs.Run.{DoesAsked, DoesOver, RunsOver};
 
 use crate::alone::run_alone;
@@ -21,6 +21,7 @@ use record_check::ManyThreads;
 use std::alloc::Global;
 use std::sync::Wait;
 use std::thread::Threads;
+use watch_command::{Watch, watch_in};
 
 /// Does what the words of a command line ask for, over a shelf of directories, a net of links, a generator of random words, a source and a
 /// sink, and answers the exit status. No part of the shelf may be handed out, and none is afterwards; nor is a link of the net.
@@ -83,24 +84,7 @@ where
             let told = meet_others(rt, alloc, request, shelf, net);
             end(alloc, out, told)
         }
-        FamilyRequest::Seals(SealRequest::Unseal { key, signature }) => {
-            let outcome = unsealed(alloc, key, signature, input);
-            finish(alloc, out, outcome)
-        }
-        FamilyRequest::Seals(
-            SealRequest::Hsskey {
-                directory,
-                height,
-                width,
-            },
-        ) => {
-            let outcome = drawn_hss(alloc, shelf, directory, *height, *width, random);
-            finish(alloc, out, outcome)
-        }
-        FamilyRequest::Seals(SealRequest::Seal { directory }) => {
-            let outcome = sealed(alloc, shelf, directory, random, input);
-            finish(alloc, out, outcome)
-        }
+        FamilyRequest::Seals(request) => run_seals(alloc, request, shelf, random, input, out),
         FamilyRequest::Audits(AuditRequest::Audit { directory }) => {
             let verifier = ManyThreads::new(rt);
             let outcome = audit_in(&verifier, alloc, shelf, directory);
@@ -110,7 +94,49 @@ where
             let outcome = confirm_in(alloc, input);
             finish(alloc, out, outcome)
         }
+        FamilyRequest::Views(request) => {
+            let verifier = ManyThreads::new(rt);
+            let what = Watch {
+                text: request.text,
+                every: request.every,
+            };
+            watch_in(
+                &verifier,
+                alloc,
+                shelf,
+                request.directory,
+                &what,
+                input,
+                out,
+            )
+        }
     }
+}
+
+/// Does what a request about seals asks for.
+fn run_seals<H: Shelf, R: Rng, S: Source, K: Sink>(
+    alloc: Global,
+    request: &SealRequest,
+    shelf: &mut H,
+    random: &mut R,
+    input: &mut S,
+    out: &mut K,
+) -> u8
+    requires { IsTrue (H.state shelf.old).tells → IsHome (H.state shelf.old) }
+    ensures { IsAnswered (SealComes (seal_seen request.now)) (SealAnswersOnly (seal_seen request.now) (outside S.left S.faults H.state H.faults R.stream input.old shelf.old random.old))
+        (outside S.left S.faults H.state H.faults R.stream input.old shelf.old random.old) (outside S.left S.faults H.state H.faults R.stream input.new shelf.new random.new)
+        (record { held = K.held out.old; faults = K.faults out.old }) (record { held = K.held out.new; faults = K.faults out.new }) result }
+{
+    let outcome = match request {
+        SealRequest::Hsskey {
+            directory,
+            height,
+            width,
+        } => drawn_hss(alloc, shelf, directory, *height, *width, random),
+        SealRequest::Seal { directory } => sealed(alloc, shelf, directory, random, input),
+        SealRequest::Unseal { key, signature } => unsealed(alloc, key, signature, input),
+    };
+    finish(alloc, out, outcome)
 }
 
 /// What a request of a net comes to.
