@@ -8,12 +8,12 @@ use Rattle.query.specs.declared.fault.QueryKind.{QueryKind}
 use Rattle.live_view.specs.Named.{IsNamed}
 use Rattle.store_directory.specs.Stores.{StoreData}
 use Rattle.outcomes.specs.Comes.{readings}
-use Rattle.outcomes.specs.StoreAnswers.{HasStore, Readings, RefusesStore}
+use Rattle.outcomes.specs.StoreAnswers.{Readings}
 use Rattle.outcomes.specs.declared.refusal.Refusal.{Refusal}
 use Rattle.outcomes.specs.declared.refusal.Refusal.TheVariants.{Query}
 use Rattle.outcomes.proofs.StoreOnce.{StoreLaws, read_or_refused, refused_once}
 use Rattle.watch_command.specs.Runs.{IsOpeningFault, OpenAnswer, RefusesText, RefusesWatch, WatchAnswer, by_store, by_text, no_query, not_named, refused, watched, with_store, without_store}
-use Rattle.watch_command.specs.Watching.{Opens, CountView, WatchData}
+use Rattle.watch_command.specs.Watching.{WatchData}
 use Rattle.watch_command.specs.declared.stop.Stop.{Stop}
 use Rattle.watch_command.specs.declared.stop.Stop.TheVariants.{Refused}
 

@@ -1,12 +1,10 @@
 -- Watching a store that is work.
-use Rattle.std.proofs.Common.{◌≡◌, ◌⊎◌, inl, inr, ℕ, ◌≤◌, Bool, true, false, List, [], ◌++◌, IsTrue, refl, sym, ap, subst, ◌∙◌, append-nil, arith, Option, Some, None}
+use Rattle.std.proofs.Common.{◌≡◌, ◌⊎◌, inl, inr, ℕ, ◌≤◌, Bool, true, false, List, [], ◌++◌, refl, sym, subst, append-nil, arith, Option, Some, None}
 use Rattle.std.specs.Option.{is_none}
 use Rattle.std.specs.Io.KnownBytes.{Appends}
 use Rattle.std.proofs.KnownBytes.{Appends-nil}
-use Rattle.bec_bytes.specs.Moved.{IfTold}
 use Rattle.replica.specs.Holding.{IsWhole, KeepsOn, keeps_itself}
 use Rattle.replica.specs.Replicas.{ReplicaState}
-use Rattle.schema.specs.Data.{SchemaData}
 use Rattle.schema_verdict.specs.Written.{SinkState}
 use Rattle.store_directory.specs.Holding.{WorksOn}
 use Rattle.outcomes.specs.OpenStores.{WorksFrom, opened_store}

@@ -1,8 +1,8 @@
 -- Reading a record, and taking it.
-use Rattle.std.proofs.Common.{◌≡◌, ◌⊎◌, inl, inr, ℕ, ◌+◌, ◌<◌, List, [], ◌++◌, refl, sym, ap, subst, Option, Some, None}
+use Rattle.std.proofs.Common.{◌≡◌, inl, ℕ, ◌+◌, ◌<◌, List, [], refl, sym, subst, Option, Some, None}
 use Rattle.std.specs.Io.KnownBytes.{Consumes}
 use Rattle.std.proofs.KnownBytes.{Consumes-nil}
-use Rattle.bec_bytes.specs.Framed.{HoldsPiece, IsLeft, StandsFirst, framed}
+use Rattle.bec_bytes.specs.Framed.{StandsFirst, framed}
 use Rattle.bec_bytes.specs.Moved.{IfTold}
 use Rattle.bec_bytes.specs.declared.framed.Framed.{Framed}
 use Rattle.bec_bytes.specs.declared.framed.Framed.TheVariants.{Cut, TooLong}
@@ -10,13 +10,10 @@ use Rattle.bec_bytes.proofs.ReadFrames.{behind}
 use Rattle.update_model.specs.Rule.{RuleData}
 use Rattle.update_codec.specs.declared.codec_fault.CodecKind.TheVariants as kinds
 use Rattle.update_codec.specs.declared.limits.TheConstants.{UPDATE_LIMIT}
-use Rattle.update_check.specs.Causes.{IsCause}
 use Rattle.update_check.specs.Signed.{IsChecked}
-use Rattle.update_check.specs.declared.check_error.CheckFault.{CheckFault}
 use Rattle.update_check.specs.declared.check_error.CheckFault.TheVariants.{Codec}
 use Rattle.update_stream.specs.Steps.{Adds}
 use Rattle.update_stream.specs.Stream.{short, too_long}
-use Rattle.update_stream.specs.declared.record_fault.RecordFault.{RecordFault}
 use Rattle.update_stream.specs.declared.record_fault.RecordFault.TheVariants as faults
 use Rattle.update_stream.specs.declared.stream.TheConstants.{MAX_RECORDS}
 use Rattle.outcomes.specs.declared.refusal.Refusal.{Refusal}

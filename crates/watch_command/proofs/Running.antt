@@ -1,24 +1,21 @@
 -- Turns, one after another.
-use Rattle.std.proofs.Common.{◌≡◌, ◌⊎◌, inl, inr, ℕ, ◌+◌, ◌≤◌, ◌<◌, List, [], ◌∷◌, ◌++◌, length, refl, sym, ap, subst, ◌∙◌, append-nil, append_assoc, length-append, arith, Option, Some, None}
-use Rattle.std.specs.Prelude.{true, false}
+use Rattle.std.proofs.Common.{◌≡◌, ℕ, ◌+◌, List, [], ◌∷◌, ◌++◌, length, refl, sym, ap, subst, ◌∙◌, append-nil, append_assoc, length-append, arith, Option, Some}
 use Rattle.std.specs.Io.KnownBytes.{Appends, Consumes}
 use Rattle.std.proofs.KnownBytes.{Appends-nil, Appends-trans, Consumes-nil, Consumes-trans}
 use Rattle.bec_bytes.specs.Framed.{framed, stream_of}
-use Rattle.bec_bytes.specs.Moved.{IfTold}
 use Rattle.bec_bytes.proofs.Frames.{stream_of-nil, stream_of-push}
 use Rattle.bec_bytes.proofs.ReadFrames.{behind}
 use Rattle.std.proofs.lemmas.List.Concat.{flat_map-append}
 use Rattle.schema.specs.Data.{SchemaData}
 use Rattle.replica.specs.Holding.{IsWhole, keeps_itself, keeps_on}
 use Rattle.replica.specs.Replicas.{ReplicaState}
-use Rattle.update_stream.specs.declared.stream.TheConstants.{MAX_RECORDS}
 use Rattle.outcomes.specs.declared.refusal.Refusal.TheVariants as refusals
-use Rattle.watch_command.specs.Ending.{HasCause, Leaves, Streams, Writes}
+use Rattle.watch_command.specs.Ending.{HasCause, Leaves, Streams}
 use Rattle.watch_command.specs.Steps.{FollowsOpen, GoesOn, TakesTurn, moment}
 use Rattle.watch_command.specs.Watching.{CountView, Ends, Follows, Moment, Turn, Turns}
 use Rattle.watch_command.specs.declared.stop.Stop.{Stop}
-use Rattle.watch_command.specs.declared.stop.Stop.TheVariants.{Refused, Unwritten}
-use Rattle.watch_command.proofs.Writing.{rose_later, rose_sooner, writes_then}
+use Rattle.watch_command.specs.declared.stop.Stop.TheVariants.{Refused}
+use Rattle.watch_command.proofs.Writing.{rose_later, writes_then}
 
 stream_then : (front behind : List (List ℕ)) → stream_of (front ++ behind) ≡ stream_of front ++ stream_of behind
 unfolding stream_of

@@ -1,5 +1,5 @@
 -- Watching the store of a directory.
-use Rattle.std.proofs.Common.{◌≡◌, ◌≢◌, ◌⊎◌, inl, inr, ℕ, ◌≤◌, ◌<◌, List, [], ◌∷◌, ◌++◌, IsTrue, refl, sym, ap, subst, ◌∙◌, arith, Option, Some, None}
+use Rattle.std.proofs.Common.{◌≡◌, ◌≢◌, ◌⊎◌, inl, inr, ℕ, ◌≤◌, ◌<◌, List, [], ◌∷◌, IsTrue, refl, sym, subst, ◌∙◌, arith, Option, Some}
 use Rattle.std.specs.Option.{is_none}
 use Rattle.std.proofs.KnownBytes.{Appends-nil}
 use Rattle.row_check.specs.Checksum.{is_luhn}
@@ -22,7 +22,7 @@ use Rattle.outcomes.specs.Outcome.{from_store}
 use Rattle.outcomes.specs.StoreAnswers.{bad_store, no_store}
 use Rattle.outcomes.specs.declared.refusal.Refusal.{Refusal}
 use Rattle.outcomes.specs.declared.refusal.Refusal.TheVariants as refusals
-use Rattle.watch_command.specs.Ending.{HasCause, Says, Streams, Writes}
+use Rattle.watch_command.specs.Ending.{HasCause, Says, Streams}
 use Rattle.watch_command.specs.Runs.{IsOpeningFault, OpenAnswer, WatchAnswer, WatchesIn, WatchesOpen, WatchesShelf, lacks_memory, store_failed, with_store, without_store}
 use Rattle.watch_command.specs.Watching.{WatchData}
 use Rattle.watch_command.specs.declared.stop.Stop.{Stop}

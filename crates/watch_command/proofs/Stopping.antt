@@ -1,5 +1,5 @@
 -- Why no further record is taken.
-use Rattle.std.proofs.Common.{◌≡◌, ◌⊎◌, inl, inr, ℕ, ◌+◌, ◌≤◌, ◌<◌, List, [], ◌∷◌, ◌++◌, length, take, refl, sym, ap, subst, ◌∙◌, append-nil, arith, Option, Some, None, Ok, Err, IfErr}
+use Rattle.std.proofs.Common.{◌≡◌, inl, inr, ℕ, ◌+◌, ◌≤◌, ◌<◌, List, [], ◌∷◌, ◌++◌, length, refl, sym, ap, subst, ◌∙◌, append-nil, arith, Option, Some, None, Ok, Err, IfErr}
 use Rattle.std.specs.Prelude.{OnOk, Result}
 use Rattle.std.specs.Io.KnownBytes.{Appends, Consumes}
 use Rattle.std.proofs.KnownBytes.{Appends-nil, Consumes-nil}
@@ -9,13 +9,12 @@ use Rattle.bec_bytes.proofs.Frames.{stream_of-nil, stream_of-push}
 use Rattle.bec_bytes.proofs.ReadFrames.{told}
 use Rattle.schema.specs.Data.{SchemaData}
 use Rattle.schema_verdict.specs.Written.{SinkState}
-use Rattle.replica.specs.Holding.{IsWhole}
 use Rattle.replica.specs.Replicas.{ReplicaState}
 use Rattle.update_stream.specs.Steps.{Takes}
 use Rattle.update_stream.specs.declared.stream.TheConstants.{MAX_RECORDS}
 use Rattle.outcomes.specs.declared.refusal.Refusal.{Refusal}
 use Rattle.outcomes.specs.declared.refusal.Refusal.TheVariants.{Memory}
-use Rattle.watch_command.specs.Ending.{HasCause, Leaves, StopsAt, Streams, Writes, WritesFront, stop_of}
+use Rattle.watch_command.specs.Ending.{Leaves, StopsAt, Streams, WritesFront, stop_of}
 use Rattle.watch_command.specs.Steps.{FindsEnd, FollowsOpen, GoesOn, IsAtEnd, StopsClosing, moment}
 use Rattle.watch_command.specs.Watching.{Closes, CountView, Ends, Follows, HasMembers, Moment, Turn}
 use Rattle.watch_command.specs.declared.stop.Stop.{Stop}

@@ -1,19 +1,17 @@
 -- Taking an update into a store by itself.
-use Rattle.std.proofs.Common.{◌≡◌, ◌⊎◌, inl, inr, ℕ, zero, suc, arith, Bool, true, false, List, [], ◌∷◌, ◌++◌, map, refl, sym, ap, subst, ◌∙◌, append-nil, Option, Some, None, Ok, Err}
-use Rattle.std.specs.Prelude.{Contains, All, is_some}
+use Rattle.std.proofs.Common.{◌≡◌, inl, inr, ℕ, zero, suc, arith, true, false, List, [], ◌∷◌, ◌++◌, map, refl, sym, ap, subst, ◌∙◌, append-nil, Option, Some, None}
+use Rattle.std.specs.Prelude.{Contains, is_some}
 use Rattle.std.specs.List.{AllByRecursion}
 use Rattle.std.proofs.lemmas.Bool.{true≢false}
 use Rattle.std.proofs.lemmas.List.{map-append}
-use Rattle.bec_bytes.specs.Causes.{Rose}
-use Rattle.update_model.specs.Batch.{Adds as AddsOf, IsTooMuch, fits, not_held, store_limits}
+use Rattle.update_model.specs.Batch.{Adds as AddsOf, IsTooMuch, not_held, store_limits}
 use Rattle.update_model.specs.Entry.{Entry}
-use Rattle.update_model.specs.Graph.{Follows, IsNext, holds, is_within, lacking, position_of}
+use Rattle.update_model.specs.Graph.{IsNext, holds, is_within, lacking, position_of}
 use Rattle.update_model.specs.declared.update_id.UpdateId.{UpdateId}
 use Rattle.update_model.proofs.Closed.{IsNext-from_tests, position_of-held}
 use Rattle.update_codec.specs.Parts.{entry_of}
-use Rattle.update_check.specs.Holding.{Commits, IsAdded}
+use Rattle.update_check.specs.Holding.{IsAdded}
 use Rattle.update_check.specs.declared.holder.Committed.{Committed}
-use Rattle.update_check.specs.declared.holder.CommitFault.TheVariants as faults
 use Rattle.update_stream.specs.Steps.{Adds}
 use Rattle.update_stream.specs.Stream.{LacksPredecessor, PassesLimit}
 use Rattle.ready_batch.proofs.Holding.{holds_last, lacks_none}

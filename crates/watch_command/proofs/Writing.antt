@@ -1,11 +1,11 @@
 -- What is written, piece after piece.
-use Rattle.std.proofs.Common.{◌≡◌, ◌⊎◌, inl, inr, ℕ, ◌+◌, ◌≤◌, List, [], ◌++◌, length, take, refl, sym, ap, subst, ◌∙◌, append-nil, length-append, arith, Option, Some, None, Ok, Err}
+use Rattle.std.proofs.Common.{◌≡◌, inl, inr, ℕ, ◌+◌, ◌≤◌, List, [], ◌++◌, length, take, sym, subst, append-nil, length-append, arith, Option, Some, None, Err}
 use Rattle.std.specs.Io.KnownBytes.{Appends}
 use Rattle.std.proofs.KnownBytes.{Appends-trans}
 use lib.Seq.{take-append-add}
 use Rattle.bec_bytes.specs.Causes.{Rose}
 use Rattle.schema_verdict.specs.Written.{Puts, SinkState}
-use Rattle.schema_verdict.specs.declared.status.TheConstants.{OUT_OF_MEMORY, STREAM_FAULT}
+use Rattle.schema_verdict.specs.declared.status.TheConstants.{OUT_OF_MEMORY}
 use Rattle.outcomes.specs.Outcome.{Ends, Says as SaysOutcome, status_for, text_for}
 use Rattle.outcomes.specs.declared.refusal.Refusal.{Refusal}
 use Rattle.outcomes.specs.declared.refusal.Refusal.TheVariants.{Memory}

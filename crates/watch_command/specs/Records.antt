@@ -1,5 +1,5 @@
 -- The records of a stream that are taken into a store one by one, and the first that is not.
-use Rattle.std.specs.Prelude.{◌≡◌, ◌⊎◌, ℕ, ◌+◌, ◌<◌, List, [], length, drop, map, Option, None, Some}
+use Rattle.std.specs.Prelude.{◌≡◌, ◌⊎◌, ℕ, ◌<◌, List, [], length, drop, map, Option, None, Some}
 use Rattle.bec_bytes.specs.Causes.{Rose}
 use Rattle.bec_bytes.specs.Framed.{HoldsPiece, StaysWithin}
 use Rattle.bec_bytes.specs.Moved.{IfTold}

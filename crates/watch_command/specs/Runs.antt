@@ -1,5 +1,5 @@
 -- What `watch` comes to over a directory, what it prints, and what it leaves.
-use Rattle.std.specs.Prelude.{◌≡◌, ◌⊎◌, ℕ, ◌≤◌, Bool, List, [], ◌∷◌, ◌++◌, IsTrue, Option, Some}
+use Rattle.std.specs.Prelude.{◌≡◌, ◌⊎◌, ℕ, ◌≤◌, List, [], ◌∷◌, ◌++◌, IsTrue, Option, Some}
 use Rattle.std.specs.Option.{is_none}
 use Rattle.row_check.specs.Checksum.{is_luhn}
 use Rattle.bec_disk.specs.declared.part.Part.TheVariants.{Schema, Updates}

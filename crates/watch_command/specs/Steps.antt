@@ -1,5 +1,5 @@
 -- What the steps of a watch over an open store do.
-use Rattle.std.specs.Prelude.{◌≡◌, ℕ, ◌+◌, ◌≤◌, List, [], Bool, true, false, Option, None, Some}
+use Rattle.std.specs.Prelude.{◌≡◌, ℕ, ◌+◌, ◌≤◌, List, [], Option, None, Some}
 use Rattle.std.specs.Io.KnownBytes.{Appends, Consumes}
 use Rattle.bec_bytes.specs.Framed.{framed}
 use Rattle.bec_bytes.specs.Moved.{IfTold}

@@ -24,8 +24,8 @@ use row_check::{Luhn, Native};
 use std::alloc::{AllocError, Global};
 use update_stream::MAX_RECORDS;
 
-/// Takes the records of a stream into a store one by one, and tells what they change of a view, to the end of the stream or to a
-/// stop.
+/// Takes the records of a stream into a store one by one, and tells what they change of a view, to the end of the
+/// stream or to a stop.
 pub(crate) fn follow<D: Disk, S: Source, K: Sink>(
     alloc: Global,
     replica: &mut Replica<D, Luhn, Luhn>,

@@ -121,7 +121,8 @@ fn is_held<D: Disk>(replica: &Replica<D, Luhn, Luhn>, id: &UpdateId) -> bool
     Holder::position(replica, id).is_some()
 }
 
-/// Reads the next record of a stream and takes it into a store, behind so many others; or answers false, at the stream's end.
+/// Reads the next record of a stream and takes it into a store, behind so many others; or answers false, at the
+/// stream's end.
 pub(crate) fn take_next<D: Disk, S: Source>(
     alloc: Global,
     replica: &mut Replica<D, Luhn, Luhn>,

@@ -31,14 +31,15 @@ pub struct Watch<'a> {
     pub every: u64,
 }
 
-/// Watches the store of a directory while the records of a stream are taken into it one by one, and answers the exit status.
+/// Watches the store of a directory while the records of a stream are taken into it one by one, and answers the exit
+/// status.
 ///
-/// The store is opened, then the text is read as a query, which has to be named, and its answer is written as the first block. Then
-/// each record is read, checked and committed by itself; known ones are passed over. Behind it comes the block of the change, where
-/// it has as many lines as are wanted. At the end of the stream the block of what is left is written, unless there is none. What
-/// refuses a record, the store or the query ends it: its line stands behind the blocks so far, and the store keeps what was taken. A
-/// store that is refused, a text that is no query and a query that is not named are told exactly where they stand, unless memory
-/// ran out or the shelf failed, and then nothing is read.
+/// The store is opened, then the text is read as a query, which has to be named, and its answer is written as the first
+/// block. Then each record is read, checked and committed by itself; known ones are passed over. Behind it comes the
+/// block of the change, where it has as many lines as are wanted. At the end of the stream the block of what is left is
+/// written, unless there is none. What refuses a record, the store or the query ends it: its line stands behind the
+/// blocks so far, and the store keeps what was taken. A store that is refused, a text that is no query and a query that
+/// is not named are told exactly where they stand, unless memory ran out or the shelf failed, and then nothing is read.
 pub fn watch_in<V: Verifier, H: Shelf, S: Source, K: Sink>(
     verifier: &V,
     alloc: Global,

@@ -1,10 +1,9 @@
 use Rattle.std.proofs.Common.{◌≡◌, ℕ, arith, refl, subst, Some}
 use Rattle.std.proofs.lemmas.Result.{err_from_is_err_and}
 use Rattle.replica.specs.Holding.{keeps_itself}
-use Rattle.schema_verdict.specs.Written.{SinkState}
 use Rattle.update_stream.specs.declared.stream.TheConstants.{MAX_RECORDS}
 use Rattle.watch_command.specs.Ending.{Streams, stop_of, streams}
-use Rattle.watch_command.specs.Steps.{FindsEnd, FollowsOpen, GoesOn}
+use Rattle.watch_command.specs.Steps.{FindsEnd, GoesOn}
 use Rattle.watch_command.specs.declared.stop.Stop.TheVariants.{Refused}
 use Rattle.watch_command.proofs.Running.{IsAsFar, far_more, far_none, followed}
 use Rattle.watch_command.proofs.Stopping.{closes, stops}

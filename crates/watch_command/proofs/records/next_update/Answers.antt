@@ -1,4 +1,4 @@
-use Rattle.std.proofs.Common.{List, ℕ, Some, subst, sym}
+use Rattle.std.proofs.Common.{List, ℕ, subst, sym}
 use Rattle.bec_bytes.specs.Framed.{HoldsPiece, StandsFirst}
 use Rattle.bec_bytes.specs.Moved.{IfTold}
 use Rattle.bec_bytes.specs.declared.framed.Framed.{Framed}

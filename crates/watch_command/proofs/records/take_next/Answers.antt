@@ -1,4 +1,4 @@
-use Rattle.std.proofs.Common.{List, ℕ, ◌+◌, IfSome, Option, Some, subst}
+use Rattle.std.proofs.Common.{List, ℕ, ◌+◌, IfSome, Option, subst}
 use Rattle.std.proofs.lemmas.Result.{err_from_is_err_and}
 use Rattle.bec_bytes.specs.Moved.{IfTold}
 use Rattle.update_model.specs.Rule.{RuleData}

@@ -1,7 +1,7 @@
-use Rattle.std.proofs.Common.{◌≡◌, ◌∷◌, [], ◌∙◌, List, ℕ, Some, None, Ok, Err, Result, ap, find, map, not, refl, subst, sym, true, false}
+use Rattle.std.proofs.Common.{◌≡◌, ◌∷◌, [], ◌∙◌, List, ℕ, Some, None, Err, ap, find, map, not, refl, subst, sym, true, false}
 use Rattle.std.specs.Prelude.{is_some}
-use Rattle.update_model.specs.Batch.{IsTooMuch, store_limits}
-use Rattle.update_model.specs.Graph.{IsNext, holds, lacking, position_of}
+use Rattle.update_model.specs.Batch.{store_limits}
+use Rattle.update_model.specs.Graph.{holds, lacking, position_of}
 use Rattle.update_codec.specs.Parts.{entry_of}
 use Rattle.update_check.specs.Holding.{Commits, IsAdded}
 use Rattle.update_check.specs.declared.holder.CommitFault.{CommitFault}
