@@ -3,9 +3,9 @@
 _bec() {
     local word=${COMP_WORDS[COMP_CWORD]} command=${COMP_WORDS[1]} offered=''
     if [ "$COMP_CWORD" -eq 1 ]; then
-        offered="init keygen apply join set dump query heads export draw log show who diff status schema key csv page import clone merge sync serve check hsskey seal unseal audit confirm help --help --version"
+        offered="init keygen apply join set dump query watch heads export draw log show who diff status schema key csv page import clone merge sync serve check hsskey seal unseal audit confirm help --help --version"
     elif [ "$command" = help ]; then
-        offered="init keygen apply join set dump query heads export draw log show who diff status schema key csv page import clone merge sync serve check hsskey seal unseal audit confirm status"
+        offered="init keygen apply join set dump query watch heads export draw log show who diff status schema key csv page import clone merge sync serve check hsskey seal unseal audit confirm status"
     else
         case $command,${COMP_WORDS[COMP_CWORD - 1]} in
         keygen,--height) offered="5 10 15" ;;
@@ -13,6 +13,8 @@ _bec() {
         keygen,*) [[ $word == -* ]] && offered="--height --width" ;;
         dump,*) [[ $word == -* ]] && offered="--json" ;;
         query,*) [[ $word == -* ]] && offered="--json" ;;
+        watch,--every) offered="" ;;
+        watch,*) [[ $word == -* ]] && offered="--every --follow" ;;
         export,*) [[ $word == -* ]] && offered="--updates" ;;
         draw,*) [[ $word == -* ]] && offered="--dot" ;;
         log,*) [[ $word == -* ]] && offered="--rows --full --json" ;;

@@ -127,16 +127,24 @@ fn run_seals<H: Shelf, R: Rng, S: Source, K: Sink>(
         (outside S.left S.faults H.state H.faults R.stream input.old shelf.old random.old) (outside S.left S.faults H.state H.faults R.stream input.new shelf.new random.new)
         (record { held = K.held out.old; faults = K.faults out.old }) (record { held = K.held out.new; faults = K.faults out.new }) result }
 {
-    let outcome = match request {
+    match request {
         SealRequest::Hsskey {
             directory,
             height,
             width,
-        } => drawn_hss(alloc, shelf, directory, *height, *width, random),
-        SealRequest::Seal { directory } => sealed(alloc, shelf, directory, random, input),
-        SealRequest::Unseal { key, signature } => unsealed(alloc, key, signature, input),
-    };
-    finish(alloc, out, outcome)
+        } => {
+            let outcome = drawn_hss(alloc, shelf, directory, *height, *width, random);
+            finish(alloc, out, outcome)
+        }
+        SealRequest::Seal { directory } => {
+            let outcome = sealed(alloc, shelf, directory, random, input);
+            finish(alloc, out, outcome)
+        }
+        SealRequest::Unseal { key, signature } => {
+            let outcome = unsealed(alloc, key, signature, input);
+            finish(alloc, out, outcome)
+        }
+    }
 }
 
 /// What a request of a net comes to.

@@ -23,12 +23,12 @@ returns-in-Audits-Audit g c =
     let seen = outside g.S.Source.left g.S.Counted.faults g.H.Shelf.state g.H.Counted.faults g.R.Rng.stream c.args.input.now c.args.shelf.now c.args.random.now in
     let then = outside g.S.Source.left g.S.Counted.faults g.H.Shelf.state g.H.Counted.faults g.R.Rng.stream c.args.input.now c.audit_in-outcome.new.shelf c.args.random.now in
     let sink : SinkState = record { held = g.K.Sink.held c.args.out.now; faults = g.K.Counted.faults c.args.out.now } in
-    let sink_new : SinkState = record { held = g.K.Sink.held c.finish-in-Audits-Audit.new.out; faults = g.K.Counted.faults c.finish-in-Audits-Audit.new.out } in
+    let sink_new : SinkState = record { held = g.K.Sink.held c.finish.new.out; faults = g.K.Counted.faults c.finish.new.out } in
     let dir = c.in-Audits-Audit.directory.now in
     let which = rw c.in-Audits-Audit.is at c.in-Audits-Audit.field-0-is in
     rw (c.in-Audits-Audit.is, which)
-    (of_keys (audit dir) (store_answered seen then sink sink_new c.finish-in-Audits-Audit.result (Printing ShowsDoubled) c.one_answer_of_audits.ensures.audit dir c.audit_in-outcome.result
-    (record { runs = c.audit_in-outcome.ensures; source = refl; random = refl }) c.finish-in-Audits-Audit.ensures) refl)
+    (of_keys (audit dir) (store_answered seen then sink sink_new c.finish.result (Printing ShowsDoubled) c.one_answer_of_audits.ensures.audit dir c.audit_in-outcome.result
+    (record { runs = c.audit_in-outcome.ensures; source = refl; random = refl }) c.finish.ensures) refl)
 
 pub returns-in-Audits-Confirm : goal.returns-in-Audits-Confirm
 returns-in-Audits-Confirm g c =

@@ -10,19 +10,19 @@ use Rattle.bec_node.proofs.program.run_seals.Goals as goal
 
 pub returns-in-Hsskey : goal.returns-in-Hsskey
 returns-in-Hsskey g c =
-    rw c.in-Hsskey.is (record { outcome = c.drawn_hss.result; comes = record { draws = c.drawn_hss.ensures; source = refl }; said = c.finish.ensures; only = tt })
+    rw c.in-Hsskey.is (record { outcome = c.drawn_hss-outcome.result; comes = record { draws = c.drawn_hss-outcome.ensures; source = refl }; said = c.finish.ensures; only = tt })
 
 pub returns-in-Seal : goal.returns-in-Seal
-returns-in-Seal g c = rw c.in-Seal.is (record { outcome = c.sealed.result; comes = c.sealed.ensures; said = c.finish.ensures; only = tt })
+returns-in-Seal g c = rw c.in-Seal.is (record { outcome = c.sealed-outcome.result; comes = c.sealed-outcome.ensures; said = c.finish-in-Seal.ensures; only = tt })
 
 pub returns-in-Unseal : goal.returns-in-Unseal
 returns-in-Unseal g c =
     let seen = outside g.S.Source.left g.S.Counted.faults g.H.Shelf.state g.H.Counted.faults g.R.Rng.stream c.args.input.now c.args.shelf.now c.args.random.now in
-    let then = outside g.S.Source.left g.S.Counted.faults g.H.Shelf.state g.H.Counted.faults g.R.Rng.stream c.unsealed.new.input c.args.shelf.now c.args.random.now in
+    let then = outside g.S.Source.left g.S.Counted.faults g.H.Shelf.state g.H.Counted.faults g.R.Rng.stream c.unsealed-outcome.new.input c.args.shelf.now c.args.random.now in
     let sink : SinkState = record { held = g.K.Sink.held c.args.out.now; faults = g.K.Counted.faults c.args.out.now } in
-    let sink_new : SinkState = record { held = g.K.Sink.held c.finish.new.out; faults = g.K.Counted.faults c.finish.new.out } in
+    let sink_new : SinkState = record { held = g.K.Sink.held c.finish-in-Unseal.new.out; faults = g.K.Counted.faults c.finish-in-Unseal.new.out } in
     let key = c.in-Unseal.key in
     let sig = c.in-Unseal.signature.items in
-    let came = subst (λ (s : List ℕ). ComesTo (UnsealAnswer from_seal key s) seen.left then.left seen.source_faults then.source_faults c.unsealed.result) c.deref.ensures.value c.unsealed.ensures in
+    let came = subst (λ (s : List ℕ). ComesTo (UnsealAnswer from_seal key s) seen.left then.left seen.source_faults then.source_faults c.unsealed-outcome.result) c.deref.ensures.value c.unsealed-outcome.ensures in
     rw c.in-Unseal.is
-    (source_answered seen then sink sink_new c.finish.result (UnsealAnswer from_seal key sig) (unsealed_once key sig) c.unsealed.result (record { comes = came; shelf = refl; random = refl }) c.finish.ensures)
+    (source_answered seen then sink sink_new c.finish-in-Unseal.result (UnsealAnswer from_seal key sig) (unsealed_once key sig) c.unsealed-outcome.result (record { comes = came; shelf = refl; random = refl }) c.finish-in-Unseal.ensures)

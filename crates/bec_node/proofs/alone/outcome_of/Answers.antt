@@ -1,0 +1,13 @@
+use Rattle.std.proofs.Common.{refl}
+use Rattle.bec_node.proofs.alone.outcome_of.Goals as goal
+
+pub returns-in-Dump-Some-default : goal.returns-in-Dump-Some-default
+returns-in-Dump-Some-default g c =
+    let which = rw c.in-Dump-Some-default.is at c.in-Dump-Some-default.directory-is in
+    rw (c.in-Dump-Some-default.is, which) (record { runs = c.dump_in.ensures; source = refl; random = refl })
+
+pub returns-in-Export : goal.returns-in-Export
+returns-in-Export g c = rw c.in-Export.is (record { runs = c.export_in.ensures; source = refl; random = refl })
+
+pub returns-in-Query : goal.returns-in-Query
+returns-in-Query g c = rw c.in-Query.is (record { runs = c.query_in.ensures; source = refl; random = refl })
