@@ -1,7 +1,8 @@
 -- Each step keeps the rule of the turns.
-use Rattle.std.proofs.Common.{◌≡◌, ◌≢◌, ℕ, ◌+◌, ◌<◌, ◌≤◌, List, [], ◌∷◌, ◌++◌, Bool, true, false, length, get_or, set, cond, eqb, Option, Some, None, zero, suc, refl, sym, ap, ◌∙◌, subst, ⊎_elim, arith, zero-le, eq-eqb, ne_eqb}
+use Rattle.std.proofs.Common.{◌≡◌, ◌≢◌, ℕ, ◌+◌, ◌-◌, ◌<◌, ◌≤◌, List, [], ◌∷◌, ◌++◌, Bool, true, false, length, drop, get_or, set, cond, eqb, Option, Some, None, zero, suc, refl, sym, ap, ◌∙◌, subst, ⊎_elim, arith, zero-le, eq-eqb, ne_eqb}
 use Rattle.std.specs.Prelude.{All}
 use Rattle.std.specs.Option.{unwrap_or}
+use Rattle.std.proofs.lemmas.List.{length-drop, get_or-drop}
 use Rattle.std.proofs.lemmas.List.Elements.{All-append, All-weaker}
 use mathlib.Core.Logic.{dite}
 use mathlib.Core.List.{IsPrefix}
@@ -13,11 +14,11 @@ use lib.Seq.{set-get_or}
 use prog.Atomic.{either}
 use Rattle.atomic_table.specs.Table.{State, Me, step, Act, keeps, takes, gives, Valid, carried_after, stepped, rest, Allows, Splits, Joins, opening, Final, Seen}
 use Rattle.atomic_table.proofs.Lists.{at_set, at_snoc, set_again, exchanged}
-use Rattle.turn_lock.proofs.Prefixes.{prefix_self, prefix_nil, prefix_more, prefix_shorter}
+use Rattle.turn_lock.proofs.Prefixes.{prefix_self, prefix_nil, prefix_more, prefix_shorter, drop_front}
 use Rattle.turn_lock.specs.declared.view.View.{View}
 use Rattle.turn_lock.specs.declared.view.Stage.{Stage}
 use Rattle.turn_lock.specs.declared.view.Stage.TheVariants.{Idle, Waiting, Turn, Holding, Stored, Spent}
-use Rattle.turn_lock.specs.Turns.{MadeBelow, ActsUpTo, MadeBy, HasTicket, AtStage, Named, Knows, InPlace, IsInTurn, newcomer, spent, at_stage, drawing, holding, storing, joining, longer_by, meeting, drew, looked, took, stored, passed, met, in_hand}
+use Rattle.turn_lock.specs.Turns.{MadeBelow, ActsUpTo, MadeBy, HasTicket, AtStage, Named, NoneBehind, Knows, InPlace, IsInTurn, newcomer, spent, at_stage, drawing, holding, storing, joining, longer_by, meeting, drew, looked, took, stored, passed, met, in_hand}
 
 -- f, but j at t
 abbrev put : (ℕ → ℕ) → ℕ → ℕ → ℕ → ℕ
@@ -85,6 +86,39 @@ module _ {T E : Type 0} (list : T → List E) (maker : E → Option (ℕ × ℕ)
     each = seats (KnowsIn s r) s.views id w mine (λ j d _. r.each j d);
   }
 
+  -- behind a later beginning of the list there are no more entries
+  none_later : (seat : ℕ) (seen later log : List E) → length seen ≤ length later → NoneBehind maker seat seen log → NoneBehind maker seat later log
+  none_later seat seen later log le none k d inside act e =
+      let n : ℕ = length seen in let m : ℕ = length later in let i : ℕ = (m - n) + k in
+      let short : length (drop m log) ≡ length log - m = length-drop m log in let long : length (drop n log) ≡ length log - n = length-drop n log in
+      let within : i < length (drop n log) = omega arith in
+      let same : get_or (drop n log) i d ≡ get_or (drop m log) k d = get_or-drop n log i d ∙ ap (λ (j : ℕ). get_or log j d) (omega arith) ∙ sym (get_or-drop m log k d) in
+      none i d within act (ap maker same ∙ e)
+
+  -- behind the whole list there is none
+  none_whole : (seat : ℕ) (seen log : List E) → seen ≡ log → NoneBehind maker seat seen log
+  none_whole seat seen log whole k d inside act e =
+      let all : length seen ≡ length log = ap length whole in let short : length (drop (length seen) log) ≡ length log - length seen = length-drop (length seen) log in absurd (omega arith)
+
+  -- a number that is drawn now is in no entry
+  own_drew : (next : ℕ) (number : Option ℕ) (seen log : List E) → MadeBelow maker next log → ((seat : ℕ) → number ≡ Some seat → NoneBehind maker seat seen log)
+      → (seat : ℕ) → Some (unwrap_or number next) ≡ Some seat → NoneBehind maker seat seen log
+  own_drew next (Some n) seen log below own seat is k d inside act e = own seat is k d inside act e
+  own_drew next None seen log below own seat is k d inside act e =
+      let same : next ≡ seat = cc (is) in let n : ℕ = length seen in let short : length (drop n log) ≡ length log - n = length-drop n log in
+      let within : n + k < length log = omega arith in
+      let less : seat < next = below (n + k) d within seat act (ap maker (sym (get_or-drop n log k d)) ∙ e) in absurd (omega arith)
+
+  -- the entries of another seat's act are not of this seat
+  own_stored : (next served id j seat act acts : ℕ) (seen log new : List E) (taken : Bool) (owner bearer : ℕ → ℕ) (number : Option ℕ) → IsPrefix seen log → bearer seat ≡ id → j ≢ id → MadeBy maker seat act new
+      → Named maker next served log taken owner bearer j acts number → ((u : ℕ) → number ≡ Some u → NoneBehind maker u seen log) → (u : ℕ) → number ≡ Some u → NoneBehind maker u seen (log ++ new)
+  own_stored next served id j seat act acts seen log new taken owner bearer None front mine other made named own u is = absurd (cc (is))
+  own_stored next served id j seat act acts seen log new taken owner bearer (Some n) front mine other made named own u is =
+      let same : n ≡ u = cc (is) in let differs : u ≢ seat = λ e. other (sym named.0 ∙ ap bearer (same ∙ e) ∙ mine) in
+      subst (All (λ e. (a : ℕ) → maker e ≢ Some (u, a))) (sym (drop_front seen log new front))
+      (All-append (λ e. (a : ℕ) → maker e ≢ Some (u, a)) (drop (length seen) log) new (own u is)
+      (λ i d inside a e. let clash : u ≡ seat = ap (λ (o : Option (ℕ × ℕ)). (unwrap_or o (u, a)).0) (sym e ∙ made i d inside) in differs clash))
+
   -- a ticket was drawn by the seat id
   named_drew : (next served id j acts : ℕ) (log : List E) (taken : Bool) (owner bearer : ℕ → ℕ) (number : Option ℕ)
       → Named maker next served log taken owner bearer j acts number → Named maker (next + 1) served log taken (put owner next id) (put bearer next id) j acts number
@@ -143,6 +177,7 @@ module _ {T E : Type 0} (list : T → List E) (maker : E → Option (ℕ × ℕ)
                 seen = k.seen;
                 also = k.also;
                 named = named_mine next served id me.0.acts r.log r.taken owner bearer me.0.number r.makers k.named;
+                own = own_drew next me.0.number me.0.seen r.log r.makers k.own;
                 stage = (
                   stage_of s r id me.0 Idle at st,
                   (put_here owner next id, order, (let g : next < next + 1 = omega arith in g)),
@@ -153,6 +188,7 @@ module _ {T E : Type 0} (list : T → List E) (maker : E → Option (ℕ × ℕ)
                 seen = kd.seen;
                 also = kd.also;
                 named = named_drew next served id j d.acts r.log r.taken owner bearer d.number kd.named;
+                own = kd.own;
                 stage = stage_drew next served id j r.log r.taken owner bearer d d.stage kd.stage;
               });
         },
@@ -170,7 +206,7 @@ module _ {T E : Type 0} (list : T → List E) (maker : E → Option (ℕ × ℕ)
         at_stage Turn me.0,
         keeps,
         tt,
-        unmoved s r 1 id me.1 (at_stage Turn me.0) record { seen = k.seen; also = k.also; named = k.named; stage = (now.0, now.1, own, now.2 own) },
+        unmoved s r 1 id me.1 (at_stage Turn me.0) record { seen = k.seen; also = k.also; named = k.named; own = k.own; stage = (now.0, now.1, own, now.2 own) },
         ((λ _. (refl, (let g : acts ≤ y = omega arith in g))), λ miss. absurd (miss hit)),
       ))
       (λ miss. (me.0, keeps, tt, unmoved s r 1 id me.1 me.0 k, ((λ hit. absurd (miss hit)), λ _. refl)))
@@ -217,11 +253,18 @@ module _ {T E : Type 0} (list : T → List E) (maker : E → Option (ℕ × ℕ)
           place = ap (λ hs. set hs 0 maybe.none) homes;
           makers = r.makers;
           each = seats (Knows maker next served r.log true r.owner r.bearer) s.views id w
-              record { seen = subst (λ xs. IsPrefix xs r.log) (sym whole) (prefix_self r.log); also = k.also; named = k.named; stage = (now.0, own, is, refl, whole) }
+              record {
+                seen = subst (λ xs. IsPrefix xs r.log) (sym whole) (prefix_self r.log);
+                also = k.also;
+                named = k.named;
+                own = λ seat _. none_whole seat (list x) r.log whole;
+                stage = (now.0, own, is, refl, whole);
+              }
               (λ j d other a. let kd = r.each j d a in record {
                 seen = kd.seen;
                 also = kd.also;
                 named = kd.named;
+                own = kd.own;
                 stage = stage_taken next served id j t r.log r.owner r.bearer own.0 is other d d.stage
                     (subst (λ (b : Bool). AtStage maker next served r.log b r.owner r.bearer j d d.stage) free kd.stage);
               });
@@ -230,7 +273,8 @@ module _ {T E : Type 0} (list : T → List E) (maker : E → Option (ℕ × ℕ)
           x,
           refl,
           subst (IsPrefix me.0.seen) (sym whole) k.seen,
-          λ seat e. subst (ActsUpTo maker seat me.0.acts) (sym whole) (acts_known next served id me.0.acts r.log r.taken r.owner r.bearer me.0.number k.named seat e),
+          (λ seat e. subst (ActsUpTo maker seat me.0.acts) (sym whole) (acts_known next served id me.0.acts r.log r.taken r.owner r.bearer me.0.number k.named seat e)),
+          (λ seat e. subst (NoneBehind maker seat me.0.seen) (sym whole) (k.own seat e)),
         ),
       )
 
@@ -293,6 +337,7 @@ module _ {T E : Type 0} (list : T → List E) (maker : E → Option (ℕ × ℕ)
                 seen = subst (λ xs. IsPrefix xs (r.log ++ new)) (sym all) (prefix_self (r.log ++ new));
                 also = prefix_more me.0.also r.log new k.also;
                 named = subst (Named maker next served (r.log ++ new) true r.owner r.bearer id (acts + 1)) (sym numbered) (named.0, named.1, acts_mine seat act acts r.log new is made named.2);
+                own = λ u _. none_whole u (in_hand list me.1) (r.log ++ new) all;
                 stage = ((let g : acts + 1 ≤ served + 1 = omega arith in g), own, turn, refl, all);
               }
               (λ j d other a. let kd = r.each j d a in record {
@@ -300,6 +345,7 @@ module _ {T E : Type 0} (list : T → List E) (maker : E → Option (ℕ × ℕ)
                 also = prefix_more d.also r.log new kd.also;
                 named = named_stored next served id j seat act d.acts t r.log new r.owner r.bearer d.number named.0 other made
                     (subst (λ (b : Bool). Named maker next served r.log b r.owner r.bearer j d.acts d.number) taken kd.named);
+                own = own_stored next served id j seat act d.acts d.seen r.log new r.taken r.owner r.bearer d.number kd.seen named.0 other made kd.named kd.own;
                 stage = stage_stored next served id j t r.log new r.owner r.bearer own.0 turn other d d.stage
                     (subst (λ (b : Bool). AtStage maker next served r.log b r.owner r.bearer j d d.stage) taken kd.stage);
               });
@@ -346,11 +392,12 @@ module _ {T E : Type 0} (list : T → List E) (maker : E → Option (ℕ × ℕ)
           place = (x, ap (λ hs. set hs 0 (maybe.some (Some x))) out, has ∙ whole);
           makers = r.makers;
           each = seats (Knows maker next (served + 1) r.log false r.owner r.bearer) s.views id w
-              record { seen = k.seen; also = k.also; named = named_passed next served id acts r.log r.taken r.owner r.bearer v.number k.named; stage = now.0 }
+              record { seen = k.seen; also = k.also; named = named_passed next served id acts r.log r.taken r.owner r.bearer v.number k.named; own = k.own; stage = now.0 }
               (λ j d other a. let kd = r.each j d a in record {
                 seen = kd.seen;
                 also = kd.also;
                 named = named_passed next served j d.acts r.log r.taken r.owner r.bearer d.number kd.named;
+                own = kd.own;
                 stage = stage_passed next served id j t r.log r.owner r.bearer own.0 turn other d d.stage
                     (subst (λ (b : Bool). AtStage maker next served r.log b r.owner r.bearer j d d.stage) taken kd.stage);
               });
@@ -362,15 +409,16 @@ module _ {T E : Type 0} (list : T → List E) (maker : E → Option (ℕ × ℕ)
   pub compares : (n id : ℕ) (me : M) → me.0.stage ≡ Idle → Allows Rule n id me 2 (λ y. y) (met (step n 2 0 0 maybe.none) me)
   compares n id me st s r wide at _ =
       let k = r.each id me.0 at in let now = stage_of s r id me.0 Idle at st in
-      let known = λ (b : Bool) (p : IsPrefix (longer_by me.0.seen me.0.also b) r.log). unmoved s r 2 id me.1 (meeting me.0 b) record {
+      let known = λ (b : Bool) (p : IsPrefix (longer_by me.0.seen me.0.also b) r.log) (longer : length me.0.seen ≤ length (longer_by me.0.seen me.0.also b)). unmoved s r 2 id me.1 (meeting me.0 b) record {
         seen = p;
         also = prefix_nil r.log;
         named = k.named;
+        own = λ seat e. none_later seat me.0.seen (longer_by me.0.seen me.0.also b) r.log longer (k.own seat e);
         stage = subst (AtStage maker r.next r.served r.log r.taken r.owner r.bearer id (meeting me.0 b)) (sym st) now;
       } in
       dite (dec_le (length me.0.seen) (length me.0.also))
-      (λ le. (meeting me.0 true, keeps, tt, known true k.also, (true, refl, prefix_shorter me.0.seen me.0.also r.log k.seen k.also le, prefix_self me.0.also)))
-      (λ gt. (meeting me.0 false, keeps, tt, known false k.seen, (false, refl, prefix_self me.0.seen, prefix_shorter me.0.also me.0.seen r.log k.also k.seen (omega arith))))
+      (λ le. (meeting me.0 true, keeps, tt, known true k.also le, (true, refl, prefix_shorter me.0.seen me.0.also r.log k.seen k.also le, prefix_self me.0.also)))
+      (λ gt. (meeting me.0 false, keeps, tt, known false k.seen (omega arith), (false, refl, prefix_self me.0.seen, prefix_shorter me.0.also me.0.seen r.log k.also k.seen (omega arith))))
 
   pub splits : (id : ℕ) (v : V) → Splits Rule id v v (newcomer v.seen)
   splits id v s r at = record {
@@ -387,7 +435,7 @@ module _ {T E : Type 0} (list : T → List E) (maker : E → Option (ℕ × ℕ)
     makers = r.makers;
     each = λ j d e. ⊎_elim
         (λ (old : get_elem? (set s.views id v) j ≡ maybe.some d). seats (KnowsIn s r) s.views id v (r.each id v at) (λ i u _. r.each i u) j d old)
-        (λ (same : newcomer v.seen ≡ d). subst (KnowsIn s r j) same record { seen = (r.each id v at).seen; also = prefix_nil r.log; named = refl; stage = zero-le })
+        (λ (same : newcomer v.seen ≡ d). subst (KnowsIn s r j) same record { seen = (r.each id v at).seen; also = prefix_nil r.log; named = refl; own = λ seat e. absurd (cc (e)); stage = zero-le })
         (at_snoc (set s.views id v) (newcomer v.seen) d j e);
   }
 
@@ -409,11 +457,12 @@ module _ {T E : Type 0} (list : T → List E) (maker : E → Option (ℕ × ℕ)
         place = r.place;
         makers = r.makers;
         each = seats (KnowsIn s r) (set s.views id (joining v w)) other spent
-            record { seen = prefix_nil r.log; also = prefix_nil r.log; named = refl; stage = tt }
+            record { seen = prefix_nil r.log; also = prefix_nil r.log; named = refl; own = λ seat e. absurd (cc (e)); stage = tt }
             (λ j d _ a. seats (KnowsIn s r) s.views id (joining v w) record {
               seen = k.seen;
               also = (r.each other w them).seen;
               named = k.named;
+              own = k.own;
               stage = subst (AtStage maker r.next r.served r.log r.taken r.owner r.bearer id (joining v w)) (sym st) (stage_of s r id v Idle at st);
             } (λ i u _. r.each i u) j d a);
       }
@@ -437,7 +486,7 @@ module _ {T E : Type 0} (list : T → List E) (maker : E → Option (ℕ × ℕ)
     place = (x, refl, refl);
     makers = λ i d inside seat act e. absurd (cc (e, fresh i d inside));
     each = λ j d e. seats (Knows maker 0 0 (list x) false (λ t. t) (λ t. t)) (newcomer (list x) ∷ []) 0 (newcomer (list x))
-        record { seen = prefix_self (list x); also = prefix_nil (list x); named = refl; stage = zero-le }
+        record { seen = prefix_self (list x); also = prefix_nil (list x); named = refl; own = λ seat e. absurd (cc (e)); stage = zero-le }
         (λ i u other a. absurd (alone (newcomer (list x)) i u other a)) j d e;
   }
 

@@ -1,6 +1,6 @@
 -- The rule of the turns, and what each step tells its seat.
 -- Word 0 is the next ticket, word 1 the ticket that is served, and word 2 the number of entries. The slot has the value, unless the seat whose ticket is served has taken it.
-use Rattle.std.specs.Prelude.{◌≡◌, ◌≢◌, ℕ, ◌+◌, ◌<◌, ◌≤◌, ◌⊎◌, List, [], ◌∷◌, length, Bool, true, false, Option, Some, None, All, if◌then◌else◌}
+use Rattle.std.specs.Prelude.{◌≡◌, ◌≢◌, ℕ, ◌+◌, ◌<◌, ◌≤◌, ◌⊎◌, List, [], ◌∷◌, length, drop, Bool, true, false, Option, Some, None, All, if◌then◌else◌}
 use Rattle.std.specs.Option.{unwrap_or}
 use mathlib.Core.List.{IsPrefix}
 use mathlib.Core.Option as maybe
@@ -18,6 +18,10 @@ module _ {E : Type 0} (maker : E → Option (ℕ × ℕ)) where
   -- no entry of this seat has a later act
   abbrev pub ActsUpTo : ℕ → ℕ → List E → Type 0
   ActsUpTo seat acts log = All (λ e. (act : ℕ) → maker e ≡ Some (seat, act) → act ≤ acts) log
+
+  -- behind this beginning of the list, no entry is of this seat
+  abbrev pub NoneBehind : ℕ → List E → List E → Type 0
+  NoneBehind seat seen log = All (λ e. (act : ℕ) → maker e ≢ Some (seat, act)) (drop (length seen) log)
 
   -- each entry was added by this act of this seat
   abbrev pub MadeBy : ℕ → ℕ → List E → Type 0
@@ -45,6 +49,7 @@ module _ {E : Type 0} (maker : E → Option (ℕ × ℕ)) (next served : ℕ) (l
     pub seen : IsPrefix v.seen log
     pub also : IsPrefix v.also log
     pub named : Named v.acts v.number
+    pub own : (seat : ℕ) → v.number ≡ Some seat → NoneBehind maker seat v.seen log
     pub stage : AtStage v v.stage
 
 -- the value lies in the slot, and has the list, or the slot is taken
@@ -124,10 +129,10 @@ module _ {T E : Type 0} (list : T → List E) where
   in_hand [] = []
   in_hand (x ∷ xs) = list_of x.1
 
-  -- the value of the slot has a list that begins with what was seen, in which no entry is of a later act of this seat
+  -- the value of the slot has a list that begins with what was seen, in which no entry is of a later act of this seat, and behind it none is of this seat
   abbrev pub took : (E → Option (ℕ × ℕ)) → Step (Option T) → Sat (Option T) E → ℕ → Sat (Option T) E → Type 0
   took maker st m r m' = (x : T) × (m' ≡ (holding m.0 (list x), (0, Some x) ∷ m.1)) × IsPrefix m.0.seen (list x)
-      × ((seat : ℕ) → m.0.number ≡ Some seat → ActsUpTo maker seat m.0.acts (list x))
+      × ((seat : ℕ) → m.0.number ≡ Some seat → ActsUpTo maker seat m.0.acts (list x)) × ((seat : ℕ) → m.0.number ≡ Some seat → NoneBehind maker seat m.0.seen (list x))
 
   -- the seat has seen the list of the value that is to go back into the slot
   abbrev pub stored : Step (Option T) → Sat (Option T) E → ℕ → Sat (Option T) E → Type 0

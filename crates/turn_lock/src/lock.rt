@@ -1,5 +1,5 @@
 //! The lock.
-ghost use Rattle.std.specs.Prelude.{◌≡◌, ◌≢◌, ◌⊎◌, ℕ, ◌+◌, ◌<◌, ◌≤◌, ◌^◌, [], ◌∷◌, ◌++◌, List, Option, Some, None, IfOk, IfErr, All, length};
+ghost use Rattle.std.specs.Prelude.{◌≡◌, ◌≢◌, ◌⊎◌, ℕ, ◌+◌, ◌<◌, ◌≤◌, ◌^◌, [], ◌∷◌, ◌++◌, List, Option, Some, None, IfOk, IfErr, All, length, drop};
 ghost use mathlib.Core.List.{IsPrefix};
 ghost use Rattle.atomic_table.specs.Seated.{TableId};
 ghost use Rattle.turn_lock.specs.declared.view.Stage.TheVariants.{Idle, Waiting, Turn};
@@ -153,7 +153,7 @@ impl<T: Kept> TurnLock<T> {
         unreachable!()
     }
 
-    /// Waits until the ticket is served.
+    /// Waits until the ticket is served: at first awake, and asleep where that takes long.
     fn wait_for<R: Wait>(&self, rt: &R, chair: &mut Chair<T>, ticket: u64)
         requires lock { chair.old.table_id ≡ self.now }
         requires stage { (chair.old.me.0.stage ≡ Waiting) × (chair.old.me.0.ticket ≡ ticket) }
@@ -162,10 +162,15 @@ impl<T: Kept> TurnLock<T> {
     {
         let backoff = Backoff::new();
         for _ in rt.forever() {
-            if self.board.shared.load::<Look>(chair, SERVED) == ticket {
+            let served = self.board.shared.load::<Look>(chair, SERVED);
+            if served == ticket {
                 return;
             }
-            backoff.snooze();
+            if backoff.is_completed() {
+                self.board.shared.park(rt, SERVED, low_half(served));
+            } else {
+                backoff.snooze();
+            }
         }
         unreachable!()
     }
@@ -179,6 +184,7 @@ impl<T: Kept> TurnLock<T> {
         ensures number { (n : ℕ) → seat.number ≡ Some n → result.0.seat ≡ n }
         ensures act { result.0.act ≡ seat.acts + 1 }
         ensures unused { All (λ e. T.maker e ≢ Some (result.0.seat, result.0.act)) result.0.taken }
+        ensures alone { All (λ e. (act : ℕ) → T.maker e ≢ Some (result.0.seat, act)) (drop (length seat.seen) result.0.taken) }
     {
         let Seat {
             mut chair,
@@ -219,6 +225,9 @@ impl<T: Kept> TurnLock<T> {
         }
         shared.store::<Store<T>>(&mut chair, COUNT, count);
         shared.store::<Pass>(&mut chair, SERVED, ticket + 1);
+        if shared.peek(NEXT) > ticket + 1 {
+            shared.wake_all(SERVED);
+        }
         Seat {
             chair,
             number: Some(number),
@@ -244,4 +253,9 @@ impl<T: Kept> TurnLock<T> {
         closed.free();
         value.unwrap()
     }
+}
+
+/// The low 32 bits of a word, by which its sleepers see that it changed.
+fn low_half(word: u64) -> u32 {
+    (word & u64::from(u32::MAX)) as u32
 }
