@@ -3,7 +3,7 @@ use Rattle.std.proofs.Common.{◌≡◌, ◌≢◌, ℕ, ◌+◌, ◌-◌, ◌<�
 use Rattle.std.specs.Prelude.{All}
 use Rattle.std.specs.Option.{unwrap_or}
 use Rattle.std.proofs.lemmas.List.{length-drop, get_or-drop}
-use Rattle.std.proofs.lemmas.List.Elements.{All-append, All-weaker}
+use Rattle.std.proofs.lemmas.List.Elements.{All-append}
 use mathlib.Core.Logic.{dite}
 use mathlib.Core.List.{IsPrefix}
 use mathlib.Core.Option as maybe
@@ -13,12 +13,12 @@ use lib.ListN.{get_elem?}
 use lib.Seq.{set-get_or}
 use prog.Atomic.{either}
 use Rattle.atomic_table.specs.Table.{State, Me, step, Act, keeps, takes, gives, Valid, carried_after, stepped, rest, Allows, Splits, Joins, opening, Final, Seen}
-use Rattle.atomic_table.proofs.Lists.{at_set, at_snoc, set_again, exchanged}
+use Rattle.atomic_table.proofs.Lists.{at_longer, at_set, at_snoc, set_else, exchanged}
 use Rattle.turn_lock.proofs.Prefixes.{prefix_self, prefix_nil, prefix_more, prefix_shorter, drop_front}
 use Rattle.turn_lock.specs.declared.view.View.{View}
 use Rattle.turn_lock.specs.declared.view.Stage.{Stage}
 use Rattle.turn_lock.specs.declared.view.Stage.TheVariants.{Idle, Waiting, Turn, Holding, Stored, Spent}
-use Rattle.turn_lock.specs.Turns.{MadeBelow, ActsUpTo, MadeBy, HasTicket, AtStage, Named, NoneBehind, Knows, InPlace, IsInTurn, newcomer, spent, at_stage, drawing, holding, storing, joining, longer_by, meeting, drew, looked, took, stored, passed, met, in_hand}
+use Rattle.turn_lock.specs.Turns.{AreOwned, MadeBelow, ActsUpTo, MadeBy, AtStage, Named, NoneBehind, Knows, InPlace, IsInTurn, newcomer, spent, at_stage, drawing, holding, storing, has_drawn, joining, longer_by, meeting, drew, looked, took, stored, passed, met, in_hand}
 
 -- f, but j at t
 abbrev put : (ℕ → ℕ) → ℕ → ℕ → ℕ → ℕ
@@ -69,9 +69,42 @@ module _ {T E : Type 0} (list : T → List E) (maker : E → Option (ℕ × ℕ)
   seats K vs me w mine others j d e = ⊎_elim (λ (t : (j ≡ me) × (w ≡ d)). subst (λ (x : ℕ × V). K x.0 x.1) (λ i. (sym t.0 i, t.1 i)) mine)
       (λ (t : (j ≢ me) × (get_elem? vs j ≡ maybe.some d)). others j d t.0 t.1) (at_set vs me j w d e)
 
+  set_at : (vs : List V) (i : ℕ) (v w : V) → get_elem? vs i ≡ maybe.some v → get_elem? (set vs i w) i ≡ maybe.some w
+  set_at [] i v w at = absurd (some-ne-none v (sym at))
+  set_at (x ∷ xs) zero v w at = refl
+  set_at (x ∷ xs) (suc i) v w at = set_at xs i v w at
+
+  -- one seat's view is w, by which it has each ticket that it had
+  owned : (next served : ℕ) (owner : ℕ → ℕ) (vs : List V) (id : ℕ) (v w : V) → get_elem? vs id ≡ maybe.some v
+      → ((t : ℕ) → served ≤ t → t < next → has_drawn v.stage ≡ true → v.ticket ≡ t → (has_drawn w.stage ≡ true) × (w.ticket ≡ t)) → AreOwned next served owner vs → AreOwned next served owner (set vs id w)
+  owned next served owner vs id v w at same all t from to =
+      let h = all t from to in
+      dite (ℕ_discrete (owner t) id)
+      (λ mine.
+      let is : h.0 ≡ v = some-injective h.0 v (sym h.1 ∙ ap (get_elem? vs) mine ∙ at) in
+      let now = same t from to (subst (λ (u : V). has_drawn u.stage ≡ true) is h.2) (subst (λ (u : V). u.ticket ≡ t) is h.3) in
+      (w, ap (get_elem? (set vs id w)) mine ∙ set_at vs id v w at, now.0, now.1))
+      (λ other. (h.0, set_else vs id (owner t) w other ∙ h.1, h.2, h.3))
+
+  -- a seat that has no ticket
+  idle_owns : (v : V) → v.stage ≡ Idle → has_drawn v.stage ≡ true → ⊥
+  idle_owns v idle drawn = absurd (cc (sym (ap has_drawn idle) ∙ drawn))
+
+  -- the seat id draws the ticket `next`
+  owned_drew : (next served : ℕ) (owner : ℕ → ℕ) (vs : List V) (id : ℕ) (v w : V) → get_elem? vs id ≡ maybe.some v → v.stage ≡ Idle → has_drawn w.stage ≡ true → w.ticket ≡ next
+      → AreOwned next served owner vs → AreOwned (next + 1) served (put owner next id) (set vs id w)
+  owned_drew next served owner vs id v w at idle drawn is all t from to =
+      dite (ℕ_discrete t next)
+      (λ new. (w, ap (λ (u : ℕ). get_elem? (set vs id w) (put owner next id u)) new ∙ ap (get_elem? (set vs id w)) (put_here owner next id) ∙ set_at vs id v w at, drawn, is ∙ sym new))
+      (λ old.
+      let h = owned next served owner vs id v w at (λ _ _ _ d _. absurd (idle_owns v idle d)) all t from (omega arith) in
+      (h.0, ap (get_elem? (set vs id w)) (put_else owner next id t old) ∙ h.1, h.2, h.3))
+
   -- a step that changes no word, and takes no slot
-  unmoved : (s : St) (r : Rule s) (i id : ℕ) (cs : List (ℕ × Option T)) (w : V) → KnowsIn s r id w → Rule (stepped s i (get_or s.words i 0) id cs w keeps)
-  unmoved s r i id cs w mine = subst (λ (ws : List ℕ). Rule record { words = ws; homes = s.homes; views = set s.views id w }) (sym (set-get_or s.words i 0)) record {
+  unmoved : (s : St) (r : Rule s) (i id : ℕ) (cs : List (ℕ × Option T)) (v w : V) → get_elem? s.views id ≡ maybe.some v
+      → ((t : ℕ) → r.served ≤ t → t < r.next → has_drawn v.stage ≡ true → v.ticket ≡ t → (has_drawn w.stage ≡ true) × (w.ticket ≡ t)) → KnowsIn s r id w
+      → Rule (stepped s i (get_or s.words i 0) id cs w keeps)
+  unmoved s r i id cs v w at same mine = subst (λ (ws : List ℕ). Rule record { words = ws; homes = s.homes; views = set s.views id w }) (sym (set-get_or s.words i 0)) record {
     next = r.next;
     served = r.served;
     log = r.log;
@@ -83,6 +116,7 @@ module _ {T E : Type 0} (list : T → List E) (maker : E → Option (ℕ × ℕ)
     busy = r.busy;
     place = r.place;
     makers = r.makers;
+    owned = owned r.next r.served r.owner s.views id v w at same r.owned;
     each = seats (KnowsIn s r) s.views id w mine (λ j d _. r.each j d);
   }
 
@@ -172,6 +206,7 @@ module _ {T E : Type 0} (list : T → List E) (maker : E → Option (ℕ × ℕ)
           busy = λ e. let b : served < next = r.busy e in let g : served < next + 1 = omega arith in g;
           place = r.place;
           makers = λ i d inside seat act e. let m : seat < next = r.makers i d inside seat act e in let g : seat < next + 1 = omega arith in g;
+          owned = owned_drew next served owner s.views id me.0 w at st refl refl r.owned;
           each = seats (Knows maker (next + 1) served r.log r.taken (put owner next id) (put bearer next id)) s.views id w
               record {
                 seen = k.seen;
@@ -194,7 +229,7 @@ module _ {T E : Type 0} (list : T → List E) (maker : E → Option (ℕ × ℕ)
         },
         ((λ _. ap (λ (z : ℕ). (drawing me.0 z, me.1)) (sym (next_is s r))), λ miss. absurd (miss hit)),
       ))
-      (λ miss. (me.0, keeps, tt, unmoved s r 0 id me.1 me.0 k, ((λ hit. absurd (miss hit)), λ _. refl)))
+      (λ miss. (me.0, keeps, tt, unmoved s r 0 id me.1 me.0 me.0 at (λ _ _ _ d e. (d, e)) k, ((λ hit. absurd (miss hit)), λ _. refl)))
 
   -- a look at the ticket that is served
   pub looks : (n id : ℕ) (me : M) → me.0.stage ≡ Waiting → Allows Rule n id me 1 (λ y. y) (looked (step n 1 0 0 maybe.none) me)
@@ -206,10 +241,10 @@ module _ {T E : Type 0} (list : T → List E) (maker : E → Option (ℕ × ℕ)
         at_stage Turn me.0,
         keeps,
         tt,
-        unmoved s r 1 id me.1 (at_stage Turn me.0) record { seen = k.seen; also = k.also; named = k.named; own = k.own; stage = (now.0, now.1, own, now.2 own) },
+        unmoved s r 1 id me.1 me.0 (at_stage Turn me.0) at (λ _ _ _ d e. (refl, e)) record { seen = k.seen; also = k.also; named = k.named; own = k.own; stage = (now.0, now.1, own, now.2 own) },
         ((λ _. (refl, (let g : acts ≤ y = omega arith in g))), λ miss. absurd (miss hit)),
       ))
-      (λ miss. (me.0, keeps, tt, unmoved s r 1 id me.1 me.0 k, ((λ hit. absurd (miss hit)), λ _. refl)))
+      (λ miss. (me.0, keeps, tt, unmoved s r 1 id me.1 me.0 me.0 at (λ _ _ _ d e. (d, e)) k, ((λ hit. absurd (miss hit)), λ _. refl)))
 
   -- while the seat id has the ticket that is served, no other seat has it
   apart : (next served id j t u : ℕ) (owner : ℕ → ℕ) → owner t ≡ id → t ≡ served → j ≢ id → owner u ≡ j → u ≡ served → ⊥
@@ -252,6 +287,7 @@ module _ {T E : Type 0} (list : T → List E) (maker : E → Option (ℕ × ℕ)
           busy = λ _. let g : served < next = omega arith in g;
           place = ap (λ hs. set hs 0 maybe.none) homes;
           makers = r.makers;
+          owned = owned next served r.owner s.views id me.0 w at (λ _ _ _ d e. (refl, e)) r.owned;
           each = seats (Knows maker next served r.log true r.owner r.bearer) s.views id w
               record {
                 seen = subst (λ xs. IsPrefix xs r.log) (sym whole) (prefix_self r.log);
@@ -332,6 +368,7 @@ module _ {T E : Type 0} (list : T → List E) (maker : E → Option (ℕ × ℕ)
           place = subst (InPlace list r.log s.homes) taken r.place;
           makers = All-append (λ e. (i a : ℕ) → maker e ≡ Some (i, a) → i < next) r.log new r.makers
               (λ i d inside u a e. let same : u ≡ seat = ap (λ (o : Option (ℕ × ℕ)). (unwrap_or o (u, a)).0) (sym e ∙ made i d inside) in let b : seat < next = named.1 in let g : u < next = omega arith in g);
+          owned = owned next served r.owner s.views id me.0 w at (λ _ _ _ d e. (refl, e)) r.owned;
           each = seats (Knows maker next served (r.log ++ new) true r.owner r.bearer) s.views id w
               record {
                 seen = subst (λ xs. IsPrefix xs (r.log ++ new)) (sym all) (prefix_self (r.log ++ new));
@@ -369,6 +406,9 @@ module _ {T E : Type 0} (list : T → List E) (maker : E → Option (ℕ × ℕ)
   stage_passed next served id j t log owner bearer mine a other v Stored k = absurd (apart next served id j t v.ticket owner mine a other k.1.0 k.2)
   stage_passed next served id j t log owner bearer mine a other v Spent k = tt
 
+  later : (u served : ℕ) → served + 1 ≤ u → u ≡ served → ⊥
+  later u served from is = omega arith
+
   -- the slot goes back, with a value that has the list, and the next ticket is served
   pub passes : (n id : ℕ) (v : V) (x : T) (more : List (ℕ × Option T)) (new : ℕ) → v.stage ≡ Stored → list x ≡ v.seen → new ≡ v.ticket + 1
       → Allows Rule n id (v, (0, Some x) ∷ more) 1 (λ _. new) (λ _. passed (step n 1 new 0 maybe.none) (v, (0, Some x) ∷ more) new)
@@ -391,6 +431,7 @@ module _ {T E : Type 0} (list : T → List E) (maker : E → Option (ℕ × ℕ)
           busy = λ e. absurd (cc (e));
           place = (x, ap (λ hs. set hs 0 (maybe.some (Some x))) out, has ∙ whole);
           makers = r.makers;
+          owned = owned next (served + 1) r.owner s.views id v w at (λ u from _ _ e. absurd (later u served from (sym e ∙ turn))) (λ u from to. r.owned u (omega arith) to);
           each = seats (Knows maker next (served + 1) r.log false r.owner r.bearer) s.views id w
               record { seen = k.seen; also = k.also; named = named_passed next served id acts r.log r.taken r.owner r.bearer v.number k.named; own = k.own; stage = now.0 }
               (λ j d other a. let kd = r.each j d a in record {
@@ -409,7 +450,7 @@ module _ {T E : Type 0} (list : T → List E) (maker : E → Option (ℕ × ℕ)
   pub compares : (n id : ℕ) (me : M) → me.0.stage ≡ Idle → Allows Rule n id me 2 (λ y. y) (met (step n 2 0 0 maybe.none) me)
   compares n id me st s r wide at _ =
       let k = r.each id me.0 at in let now = stage_of s r id me.0 Idle at st in
-      let known = λ (b : Bool) (p : IsPrefix (longer_by me.0.seen me.0.also b) r.log) (longer : length me.0.seen ≤ length (longer_by me.0.seen me.0.also b)). unmoved s r 2 id me.1 (meeting me.0 b) record {
+      let known = λ (b : Bool) (p : IsPrefix (longer_by me.0.seen me.0.also b) r.log) (longer : length me.0.seen ≤ length (longer_by me.0.seen me.0.also b)). unmoved s r 2 id me.1 me.0 (meeting me.0 b) at (λ _ _ _ d e. (d, e)) record {
         seen = p;
         also = prefix_nil r.log;
         named = k.named;
@@ -433,14 +474,16 @@ module _ {T E : Type 0} (list : T → List E) (maker : E → Option (ℕ × ℕ)
     busy = r.busy;
     place = r.place;
     makers = r.makers;
+    owned = λ t from to. let h = owned r.next r.served r.owner s.views id v v at (λ _ _ _ d e. (d, e)) r.owned t from to in
+        (h.0, at_longer (set s.views id v) (newcomer v.seen ∷ []) (r.owner t) h.0 h.1, h.2, h.3);
     each = λ j d e. ⊎_elim
         (λ (old : get_elem? (set s.views id v) j ≡ maybe.some d). seats (KnowsIn s r) s.views id v (r.each id v at) (λ i u _. r.each i u) j d old)
         (λ (same : newcomer v.seen ≡ d). subst (KnowsIn s r j) same record { seen = (r.each id v at).seen; also = prefix_nil r.log; named = refl; own = λ seat e. absurd (cc (e)); stage = zero-le })
         (at_snoc (set s.views id v) (newcomer v.seen) d j e);
   }
 
-  pub joins : (id : ℕ) (v : V) (other : ℕ) (w : V) → v.stage ≡ Idle → Joins Rule id v other w (joining v w) spent
-  joins id v other w st s r at apart_is there =
+  pub joins : (id : ℕ) (v : V) (other : ℕ) (w : V) → v.stage ≡ Idle → w.stage ≡ Idle → Joins Rule id v other w (joining v w) spent
+  joins id v other w st rests s r at apart_is there =
       let k = r.each id v at in
       let them : get_elem? s.views other ≡ maybe.some w = ⊎_elim (λ (t : (other ≡ id) × (joining v w ≡ w)). absurd (apart_is t.0)) (λ (t : (other ≢ id) × (get_elem? s.views other ≡ maybe.some w)). t.1)
       (at_set s.views id other (joining v w) w there) in
@@ -456,6 +499,8 @@ module _ {T E : Type 0} (list : T → List E) (maker : E → Option (ℕ × ℕ)
         busy = r.busy;
         place = r.place;
         makers = r.makers;
+        owned = owned r.next r.served r.owner (set s.views id (joining v w)) other w spent there (λ _ _ _ d _. absurd (idle_owns w rests d))
+            (owned r.next r.served r.owner s.views id v (joining v w) at (λ _ _ _ d e. (d, e)) r.owned);
         each = seats (KnowsIn s r) (set s.views id (joining v w)) other spent
             record { seen = prefix_nil r.log; also = prefix_nil r.log; named = refl; own = λ seat e. absurd (cc (e)); stage = tt }
             (λ j d _ a. seats (KnowsIn s r) s.views id (joining v w) record {
@@ -485,6 +530,7 @@ module _ {T E : Type 0} (list : T → List E) (maker : E → Option (ℕ × ℕ)
     busy = λ e. absurd (cc (e));
     place = (x, refl, refl);
     makers = λ i d inside seat act e. absurd (cc (e, fresh i d inside));
+    owned = λ t from to. absurd (omega arith);
     each = λ j d e. seats (Knows maker 0 0 (list x) false (λ t. t) (λ t. t)) (newcomer (list x) ∷ []) 0 (newcomer (list x))
         record { seen = prefix_self (list x); also = prefix_nil (list x); named = refl; own = λ seat e. absurd (cc (e)); stage = zero-le }
         (λ i u other a. absurd (alone (newcomer (list x)) i u other a)) j d e;

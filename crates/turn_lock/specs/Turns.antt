@@ -1,6 +1,6 @@
 -- The rule of the turns, and what each step tells its seat.
 -- Word 0 is the next ticket, word 1 the ticket that is served, and word 2 the number of entries. The slot has the value, unless the seat whose ticket is served has taken it.
-use Rattle.std.specs.Prelude.{◌≡◌, ◌≢◌, ℕ, ◌+◌, ◌<◌, ◌≤◌, ◌⊎◌, List, [], ◌∷◌, length, drop, Bool, true, false, Option, Some, None, All, if◌then◌else◌}
+use Rattle.std.specs.Prelude.{◌≡◌, ◌≢◌, ℕ, ◌+◌, ◌<◌, ◌≤◌, List, [], ◌∷◌, length, drop, Bool, true, false, Option, Some, None, All}
 use Rattle.std.specs.Option.{unwrap_or}
 use mathlib.Core.List.{IsPrefix}
 use mathlib.Core.Option as maybe
@@ -27,7 +27,7 @@ module _ {E : Type 0} (maker : E → Option (ℕ × ℕ)) where
   abbrev pub MadeBy : ℕ → ℕ → List E → Type 0
   MadeBy seat act new = All (λ e. maker e ≡ Some (seat, act)) new
 
--- What the rule knows of the seat j. Each ticket from `served` up to `next` has one owner, and each number one bearer.
+-- What the rule knows of the seat j. A ticket from `served` up to `next` is of its owner alone, and a number of its bearer.
 module _ {E : Type 0} (maker : E → Option (ℕ × ℕ)) (next served : ℕ) (log : List E) (taken : Bool) (owner bearer : ℕ → ℕ) (j : ℕ) where
   abbrev pub HasTicket : View E → Type 0
   HasTicket v = (owner v.ticket ≡ j) × (served ≤ v.ticket) × (v.ticket < next)
@@ -52,6 +52,19 @@ module _ {E : Type 0} (maker : E → Option (ℕ × ℕ)) (next served : ℕ) (l
     pub own : (seat : ℕ) → v.number ≡ Some seat → NoneBehind maker seat v.seen log
     pub stage : AtStage v v.stage
 
+-- the seat has drawn a ticket, and has not passed its turn on yet
+abbrev pub has_drawn : Stage → Bool
+has_drawn Idle = false
+has_drawn Waiting = true
+has_drawn Turn = true
+has_drawn Holding = true
+has_drawn Stored = true
+has_drawn Spent = false
+
+-- each ticket that is out is with the seat that owns it
+abbrev pub AreOwned : {E : Type 0} → ℕ → ℕ → (ℕ → ℕ) → List (View E) → Type 0
+AreOwned {E} next served owner views = (t : ℕ) → served ≤ t → t < next → (v : View E) × (get_elem? views (owner t) ≡ maybe.some v) × (has_drawn v.stage ≡ true) × (v.ticket ≡ t)
+
 -- the value lies in the slot, and has the list, or the slot is taken
 abbrev pub InPlace : {T E : Type 0} → (T → List E) → List E → List (maybe.Option (Option T)) → Bool → Type 0
 InPlace {T} list log homes false = (x : T) × (homes ≡ maybe.some (Some x) ∷ []) × (list x ≡ log)
@@ -69,6 +82,7 @@ pub record IsInTurn {T E : Type 0} (list : T → List E) (maker : E → Option (
   pub busy : taken ≡ true → served < next
   pub place : InPlace list log s.homes taken
   pub makers : MadeBelow maker next log
+  pub owned : AreOwned next served owner s.views
   pub each : (j : ℕ) (v : View E) → get_elem? s.views j ≡ maybe.some v → Knows maker next served log taken owner bearer j v
 
 module _ {E : Type 0} where
