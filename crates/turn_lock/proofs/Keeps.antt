@@ -1,9 +1,9 @@
 -- Each step keeps the rule of the turns.
-use Rattle.std.proofs.Common.{◌≡◌, ◌≢◌, ℕ, ◌+◌, ◌-◌, ◌<◌, ◌≤◌, List, [], ◌∷◌, ◌++◌, Bool, true, false, length, drop, get_or, set, cond, eqb, Option, Some, None, zero, suc, refl, sym, ap, ◌∙◌, subst, ⊎_elim, arith, zero-le, eq-eqb, ne_eqb}
+use Rattle.std.proofs.Common.{◌≡◌, ◌≢◌, ℕ, ◌+◌, ◌-◌, ◌<◌, ◌≤◌, List, [], ◌∷◌, ◌++◌, Bool, true, false, length, drop, get_or, set, append_assoc, cond, eqb, Option, Some, None, zero, suc, refl, sym, ap, ◌∙◌, subst, ⊎_elim, arith, zero-le, eq-eqb, ne_eqb}
 use Rattle.std.specs.Prelude.{All}
 use Rattle.std.specs.Option.{unwrap_or}
 use Rattle.std.proofs.lemmas.List.{length-drop, get_or-drop}
-use Rattle.std.proofs.lemmas.List.Elements.{All-append}
+use Rattle.std.proofs.lemmas.List.Elements.{All-append, All-cons, All-head, All-nil, All-rest, All-weaker}
 use mathlib.Core.Logic.{dite}
 use mathlib.Core.List.{IsPrefix}
 use mathlib.Core.Option as maybe
@@ -15,6 +15,7 @@ use prog.Atomic.{either}
 use Rattle.atomic_table.specs.Table.{State, Me, step, Act, keeps, takes, gives, Valid, carried_after, stepped, rest, Allows, Splits, Joins, opening, Final, Seen}
 use Rattle.atomic_table.proofs.Lists.{at_longer, at_set, at_snoc, set_else, exchanged}
 use Rattle.turn_lock.proofs.Prefixes.{prefix_self, prefix_nil, prefix_more, prefix_shorter, drop_front}
+use Rattle.turn_lock.specs.Numbers.{AreApart, number_in}
 use Rattle.turn_lock.specs.declared.view.View.{View}
 use Rattle.turn_lock.specs.declared.view.Stage.{Stage}
 use Rattle.turn_lock.specs.declared.view.Stage.TheVariants.{Idle, Waiting, Turn, Holding, Stored, Spent}
@@ -29,6 +30,44 @@ put_here f t j = ap (λ b. cond b j (f t)) (eq-eqb t t refl)
 
 put_else : (f : ℕ → ℕ) (t j x : ℕ) → x ≢ t → put f t j x ≡ f x
 put_else f t j x ne = ap (λ b. cond b j (f x)) (ne_eqb x t ne)
+
+-- f, but with i for all that had j
+abbrev moved : (ℕ → ℕ) → ℕ → ℕ → ℕ → ℕ
+moved f j i x = cond (eqb (f x) j) i (f x)
+
+moved_here : (f : ℕ → ℕ) (j i x : ℕ) → f x ≡ j → moved f j i x ≡ i
+moved_here f j i x is = ap (λ b. cond b i (f x)) (eq-eqb (f x) j is)
+
+moved_else : (f : ℕ → ℕ) (j i x : ℕ) → f x ≢ j → moved f j i x ≡ f x
+moved_else f j i x ne = ap (λ b. cond b i (f x)) (ne_eqb (f x) j ne)
+
+-- the numbers of the seat j are below `next`
+abbrev AreOf : (ℕ → ℕ) → ℕ → ℕ → List ℕ → Type 0
+AreOf bearer next j ns = All (λ n. (bearer n ≡ j) × (n < next)) ns
+
+others_drew : (next id j : ℕ) (bearer : ℕ → ℕ) (ns : List ℕ) → AreOf bearer next j ns → AreOf (put bearer next id) (next + 1) j ns
+others_drew next id j bearer ns of = All-weaker (λ n. (bearer n ≡ j) × (n < next)) (λ n. (put bearer next id n ≡ j) × (n < next + 1))
+    (λ n h. let below : n < next = h.1 in (put_else bearer next id n (λ e. omega arith) ∙ h.0, (let g : n < next + 1 = omega arith in g))) ns of
+
+apart_drew : (next j : ℕ) (bearer : ℕ → ℕ) (number : Option ℕ) (ns : List ℕ) → AreOf bearer next j ns → AreApart (number_in number ++ ns) → AreApart (number_in (Some (unwrap_or number next)) ++ ns)
+apart_drew next j bearer (Some n) ns of apart = apart
+apart_drew next j bearer None ns of apart = (All-weaker (λ n. (bearer n ≡ j) × (n < next)) (λ m. m ≢ next) (λ m h e. let below : m < next = h.1 in absurd (omega arith)) ns of, apart)
+
+others_moved : (next other id j : ℕ) (bearer : ℕ → ℕ) (ns : List ℕ) → j ≢ other → AreOf bearer next j ns → AreOf (moved bearer other id) next j ns
+others_moved next other id j bearer ns differs of = All-weaker (λ n. (bearer n ≡ j) × (n < next)) (λ n. (moved bearer other id n ≡ j) × (n < next))
+    (λ n h. (moved_else bearer other id n (λ e. differs (sym h.0 ∙ e)) ∙ h.0, h.1)) ns of
+
+others_here : (next other id : ℕ) (bearer : ℕ → ℕ) (ns : List ℕ) → AreOf bearer next other ns → AreOf (moved bearer other id) next id ns
+others_here next other id bearer ns of = All-weaker (λ n. (bearer n ≡ other) × (n < next)) (λ n. (moved bearer other id n ≡ id) × (n < next)) (λ n h. (moved_here bearer other id n h.0, h.1)) ns of
+
+-- the numbers of two seats are different ones
+apart_append : (next i j : ℕ) (bearer : ℕ → ℕ) (xs ys : List ℕ) → i ≢ j → AreOf bearer next i xs → AreOf bearer next j ys → AreApart xs → AreApart ys → AreApart (xs ++ ys)
+apart_append next i j bearer [] ys differs of_xs of_ys apart_xs apart_ys = apart_ys
+apart_append next i j bearer (x ∷ xs) ys differs of_xs of_ys apart_xs apart_ys =
+    let first = All-head (λ n. (bearer n ≡ i) × (n < next)) x xs of_xs in (
+      All-append (λ m. m ≢ x) xs ys apart_xs.0 (All-weaker (λ n. (bearer n ≡ j) × (n < next)) (λ m. m ≢ x) (λ m h e. differs (sym first.0 ∙ ap bearer (sym e) ∙ h.0)) ys of_ys),
+      apart_append next i j bearer xs ys differs (All-rest (λ n. (bearer n ≡ i) × (n < next)) x xs (x ∷ xs) refl of_xs) of_ys apart_xs.1 apart_ys,
+    )
 
 not_true : (b : Bool) → ¬ (b ≡ true) → b ≡ false
 not_true true never = absurd (never refl)
@@ -213,6 +252,8 @@ module _ {T E : Type 0} (list : T → List E) (maker : E → Option (ℕ × ℕ)
                 also = k.also;
                 named = named_mine next served id me.0.acts r.log r.taken owner bearer me.0.number r.makers k.named;
                 own = own_drew next me.0.number me.0.seen r.log r.makers k.own;
+                others = others_drew next id id bearer me.0.others k.others;
+                apart = apart_drew next id bearer me.0.number me.0.others k.others k.apart;
                 stage = (
                   stage_of s r id me.0 Idle at st,
                   (put_here owner next id, order, (let g : next < next + 1 = omega arith in g)),
@@ -224,6 +265,8 @@ module _ {T E : Type 0} (list : T → List E) (maker : E → Option (ℕ × ℕ)
                 also = kd.also;
                 named = named_drew next served id j d.acts r.log r.taken owner bearer d.number kd.named;
                 own = kd.own;
+                others = others_drew next id j bearer d.others kd.others;
+                apart = kd.apart;
                 stage = stage_drew next served id j r.log r.taken owner bearer d d.stage kd.stage;
               });
         },
@@ -241,7 +284,7 @@ module _ {T E : Type 0} (list : T → List E) (maker : E → Option (ℕ × ℕ)
         at_stage Turn me.0,
         keeps,
         tt,
-        unmoved s r 1 id me.1 me.0 (at_stage Turn me.0) at (λ _ _ _ d e. (refl, e)) record { seen = k.seen; also = k.also; named = k.named; own = k.own; stage = (now.0, now.1, own, now.2 own) },
+        unmoved s r 1 id me.1 me.0 (at_stage Turn me.0) at (λ _ _ _ d e. (refl, e)) record { seen = k.seen; also = k.also; named = k.named; own = k.own; others = k.others; apart = k.apart; stage = (now.0, now.1, own, now.2 own) },
         ((λ _. (refl, (let g : acts ≤ y = omega arith in g))), λ miss. absurd (miss hit)),
       ))
       (λ miss. (me.0, keeps, tt, unmoved s r 1 id me.1 me.0 me.0 at (λ _ _ _ d e. (d, e)) k, ((λ hit. absurd (miss hit)), λ _. refl)))
@@ -294,6 +337,8 @@ module _ {T E : Type 0} (list : T → List E) (maker : E → Option (ℕ × ℕ)
                 also = k.also;
                 named = k.named;
                 own = λ seat _. none_whole seat (list x) r.log whole;
+                others = k.others;
+                apart = k.apart;
                 stage = (now.0, own, is, refl, whole);
               }
               (λ j d other a. let kd = r.each j d a in record {
@@ -301,6 +346,8 @@ module _ {T E : Type 0} (list : T → List E) (maker : E → Option (ℕ × ℕ)
                 also = kd.also;
                 named = kd.named;
                 own = kd.own;
+                others = kd.others;
+                apart = kd.apart;
                 stage = stage_taken next served id j t r.log r.owner r.bearer own.0 is other d d.stage
                     (subst (λ (b : Bool). AtStage maker next served r.log b r.owner r.bearer j d d.stage) free kd.stage);
               });
@@ -375,6 +422,8 @@ module _ {T E : Type 0} (list : T → List E) (maker : E → Option (ℕ × ℕ)
                 also = prefix_more me.0.also r.log new k.also;
                 named = subst (Named maker next served (r.log ++ new) true r.owner r.bearer id (acts + 1)) (sym numbered) (named.0, named.1, acts_mine seat act acts r.log new is made named.2);
                 own = λ u _. none_whole u (in_hand list me.1) (r.log ++ new) all;
+                others = k.others;
+                apart = k.apart;
                 stage = ((let g : acts + 1 ≤ served + 1 = omega arith in g), own, turn, refl, all);
               }
               (λ j d other a. let kd = r.each j d a in record {
@@ -383,6 +432,8 @@ module _ {T E : Type 0} (list : T → List E) (maker : E → Option (ℕ × ℕ)
                 named = named_stored next served id j seat act d.acts t r.log new r.owner r.bearer d.number named.0 other made
                     (subst (λ (b : Bool). Named maker next served r.log b r.owner r.bearer j d.acts d.number) taken kd.named);
                 own = own_stored next served id j seat act d.acts d.seen r.log new r.taken r.owner r.bearer d.number kd.seen named.0 other made kd.named kd.own;
+                others = kd.others;
+                apart = kd.apart;
                 stage = stage_stored next served id j t r.log new r.owner r.bearer own.0 turn other d d.stage
                     (subst (λ (b : Bool). AtStage maker next served r.log b r.owner r.bearer j d d.stage) taken kd.stage);
               });
@@ -433,12 +484,14 @@ module _ {T E : Type 0} (list : T → List E) (maker : E → Option (ℕ × ℕ)
           makers = r.makers;
           owned = owned next (served + 1) r.owner s.views id v w at (λ u from _ _ e. absurd (later u served from (sym e ∙ turn))) (λ u from to. r.owned u (omega arith) to);
           each = seats (Knows maker next (served + 1) r.log false r.owner r.bearer) s.views id w
-              record { seen = k.seen; also = k.also; named = named_passed next served id acts r.log r.taken r.owner r.bearer v.number k.named; own = k.own; stage = now.0 }
+              record { seen = k.seen; also = k.also; named = named_passed next served id acts r.log r.taken r.owner r.bearer v.number k.named; own = k.own; others = k.others; apart = k.apart; stage = now.0 }
               (λ j d other a. let kd = r.each j d a in record {
                 seen = kd.seen;
                 also = kd.also;
                 named = named_passed next served j d.acts r.log r.taken r.owner r.bearer d.number kd.named;
                 own = kd.own;
+                others = kd.others;
+                apart = kd.apart;
                 stage = stage_passed next served id j t r.log r.owner r.bearer own.0 turn other d d.stage
                     (subst (λ (b : Bool). AtStage maker next served r.log b r.owner r.bearer j d d.stage) taken kd.stage);
               });
@@ -455,11 +508,13 @@ module _ {T E : Type 0} (list : T → List E) (maker : E → Option (ℕ × ℕ)
         also = prefix_nil r.log;
         named = k.named;
         own = λ seat e. none_later seat me.0.seen (longer_by me.0.seen me.0.also b) r.log longer (k.own seat e);
+        others = k.others;
+        apart = k.apart;
         stage = subst (AtStage maker r.next r.served r.log r.taken r.owner r.bearer id (meeting me.0 b)) (sym st) now;
       } in
       dite (dec_le (length me.0.seen) (length me.0.also))
-      (λ le. (meeting me.0 true, keeps, tt, known true k.also le, (true, refl, prefix_shorter me.0.seen me.0.also r.log k.seen k.also le, prefix_self me.0.also)))
-      (λ gt. (meeting me.0 false, keeps, tt, known false k.seen (omega arith), (false, refl, prefix_self me.0.seen, prefix_shorter me.0.also me.0.seen r.log k.also k.seen (omega arith))))
+      (λ le. (meeting me.0 true, keeps, tt, known true k.also le, (true, refl, prefix_shorter me.0.seen me.0.also r.log k.seen k.also le, prefix_self me.0.also, k.apart)))
+      (λ gt. (meeting me.0 false, keeps, tt, known false k.seen (omega arith), (false, refl, prefix_self me.0.seen, prefix_shorter me.0.also me.0.seen r.log k.also k.seen (omega arith), k.apart)))
 
   pub splits : (id : ℕ) (v : V) → Splits Rule id v v (newcomer v.seen)
   splits id v s r at = record {
@@ -478,22 +533,60 @@ module _ {T E : Type 0} (list : T → List E) (maker : E → Option (ℕ × ℕ)
         (h.0, at_longer (set s.views id v) (newcomer v.seen ∷ []) (r.owner t) h.0 h.1, h.2, h.3);
     each = λ j d e. ⊎_elim
         (λ (old : get_elem? (set s.views id v) j ≡ maybe.some d). seats (KnowsIn s r) s.views id v (r.each id v at) (λ i u _. r.each i u) j d old)
-        (λ (same : newcomer v.seen ≡ d). subst (KnowsIn s r j) same record { seen = (r.each id v at).seen; also = prefix_nil r.log; named = refl; own = λ seat e. absurd (cc (e)); stage = zero-le })
+        (λ (same : newcomer v.seen ≡ d). subst (KnowsIn s r j) same record { seen = (r.each id v at).seen; also = prefix_nil r.log; named = refl; own = λ seat e. absurd (cc (e)); others = All-nil (λ n. (r.bearer n ≡ j) × (n < r.next)); apart = tt; stage = zero-le })
         (at_snoc (set s.views id v) (newcomer v.seen) d j e);
   }
+
+  named_moved : (next served other id j acts : ℕ) (log : List E) (taken : Bool) (owner bearer : ℕ → ℕ) (number : Option ℕ) → j ≢ other
+      → Named maker next served log taken owner bearer j acts number → Named maker next served log taken owner (moved bearer other id) j acts number
+  named_moved next served other id j acts log taken owner bearer None differs k = k
+  named_moved next served other id j acts log taken owner bearer (Some n) differs k = (moved_else bearer other id n (λ e. differs (sym k.0 ∙ e)) ∙ k.0, k.1, k.2)
+
+  stage_moved : (next served other id j : ℕ) (log : List E) (taken : Bool) (owner bearer : ℕ → ℕ) (v : V) (st : Stage)
+      → AtStage maker next served log taken owner bearer j v st → AtStage maker next served log taken owner (moved bearer other id) j v st
+  stage_moved next served other id j log taken owner bearer v Idle k = k
+  stage_moved next served other id j log taken owner bearer v Waiting k = k
+  stage_moved next served other id j log taken owner bearer v Turn k = k
+  stage_moved next served other id j log taken owner bearer v Holding k = k
+  stage_moved next served other id j log taken owner bearer v Stored k = k
+  stage_moved next served other id j log taken owner bearer v Spent k = tt
+
+  -- what the rule knows of a seat while another's numbers are moved to a third
+  knows_moved : (next served other id j : ℕ) (log : List E) (taken : Bool) (owner bearer : ℕ → ℕ) (v : V) → j ≢ other → Knows maker next served log taken owner bearer j v
+      → Knows maker next served log taken owner (moved bearer other id) j v
+  knows_moved next served other id j log taken owner bearer v differs k = record {
+    seen = k.seen;
+    also = k.also;
+    named = named_moved next served other id j v.acts log taken owner bearer v.number differs k.named;
+    own = k.own;
+    others = others_moved next other id j bearer v.others differs k.others;
+    apart = k.apart;
+    stage = stage_moved next served other id j log taken owner bearer v v.stage k.stage;
+  }
+
+  number_of : (next served j acts : ℕ) (log : List E) (taken : Bool) (owner bearer : ℕ → ℕ) (number : Option ℕ) → Named maker next served log taken owner bearer j acts number
+      → AreOf bearer next j (number_in number)
+  number_of next served j acts log taken owner bearer None k = All-nil (λ n. (bearer n ≡ j) × (n < next))
+  number_of next served j acts log taken owner bearer (Some n) k = All-cons (λ n. (bearer n ≡ j) × (n < next)) n [] (k.0, k.1) (All-nil (λ n. (bearer n ≡ j) × (n < next)))
 
   pub joins : (id : ℕ) (v : V) (other : ℕ) (w : V) → v.stage ≡ Idle → w.stage ≡ Idle → Joins Rule id v other w (joining v w) spent
   joins id v other w st rests s r at apart_is there =
       let k = r.each id v at in
       let them : get_elem? s.views other ≡ maybe.some w = ⊎_elim (λ (t : (other ≡ id) × (joining v w ≡ w)). absurd (apart_is t.0)) (λ (t : (other ≢ id) × (get_elem? s.views other ≡ maybe.some w)). t.1)
       (at_set s.views id other (joining v w) w there) in
+      let kw = r.each other w them in let differs : id ≢ other = λ e. apart_is (sym e) in let bearer = moved r.bearer other id in
+      let mine = number_of r.next r.served id v.acts r.log r.taken r.owner r.bearer v.number k.named in
+      let theirs = number_of r.next r.served other w.acts r.log r.taken r.owner r.bearer w.number kw.named in
+      let is_mine = λ (n : ℕ). (r.bearer n ≡ id) × (n < r.next) in let is_theirs = λ (n : ℕ). (r.bearer n ≡ other) × (n < r.next) in
+      let ws : List ℕ = number_in w.number ++ w.others in
+      let all_theirs = All-append is_theirs (number_in w.number) w.others theirs kw.others in
       record {
         next = r.next;
         served = r.served;
         log = r.log;
         taken = r.taken;
         owner = r.owner;
-        bearer = r.bearer;
+        bearer = bearer;
         words = r.words;
         order = r.order;
         busy = r.busy;
@@ -501,15 +594,18 @@ module _ {T E : Type 0} (list : T → List E) (maker : E → Option (ℕ × ℕ)
         makers = r.makers;
         owned = owned r.next r.served r.owner (set s.views id (joining v w)) other w spent there (λ _ _ _ d _. absurd (idle_owns w rests d))
             (owned r.next r.served r.owner s.views id v (joining v w) at (λ _ _ _ d e. (d, e)) r.owned);
-        each = seats (KnowsIn s r) (set s.views id (joining v w)) other spent
-            record { seen = prefix_nil r.log; also = prefix_nil r.log; named = refl; own = λ seat e. absurd (cc (e)); stage = tt }
-            (λ j d _ a. seats (KnowsIn s r) s.views id (joining v w) record {
+        each = seats (Knows maker r.next r.served r.log r.taken r.owner bearer) (set s.views id (joining v w)) other spent
+            record { seen = prefix_nil r.log; also = prefix_nil r.log; named = refl; own = λ seat e. absurd (cc (e)); others = All-nil (λ n. (bearer n ≡ other) × (n < r.next)); apart = tt; stage = tt }
+            (λ j d not_other a. seats (λ (i : ℕ) (u : V). i ≢ other → Knows maker r.next r.served r.log r.taken r.owner bearer i u) s.views id (joining v w) (λ _. record {
               seen = k.seen;
-              also = (r.each other w them).seen;
-              named = k.named;
+              also = kw.seen;
+              named = named_moved r.next r.served other id id v.acts r.log r.taken r.owner r.bearer v.number differs k.named;
               own = k.own;
-              stage = subst (AtStage maker r.next r.served r.log r.taken r.owner r.bearer id (joining v w)) (sym st) (stage_of s r id v Idle at st);
-            } (λ i u _. r.each i u) j d a);
+              others = All-append (λ n. (bearer n ≡ id) × (n < r.next)) v.others ws (others_moved r.next other id id r.bearer v.others differs k.others) (others_here r.next other id r.bearer ws all_theirs);
+              apart = subst AreApart (append_assoc (number_in v.number) v.others ws)
+                  (apart_append r.next id other r.bearer (number_in v.number ++ v.others) ws differs (All-append is_mine (number_in v.number) v.others mine k.others) all_theirs k.apart kw.apart);
+              stage = subst (AtStage maker r.next r.served r.log r.taken r.owner bearer id (joining v w)) (sym st) (stage_of s r id v Idle at st);
+            }) (λ i u _ here ne. knows_moved r.next r.served other id i r.log r.taken r.owner r.bearer u ne (r.each i u here)) j d a not_other);
       }
 
   alone : (v : V) (i : ℕ) (u : V) → i ≢ 0 → get_elem? (v ∷ []) i ≡ maybe.some u → ⊥
@@ -532,7 +628,7 @@ module _ {T E : Type 0} (list : T → List E) (maker : E → Option (ℕ × ℕ)
     makers = λ i d inside seat act e. absurd (cc (e, fresh i d inside));
     owned = λ t from to. absurd (omega arith);
     each = λ j d e. seats (Knows maker 0 0 (list x) false (λ t. t) (λ t. t)) (newcomer (list x) ∷ []) 0 (newcomer (list x))
-        record { seen = prefix_self (list x); also = prefix_nil (list x); named = refl; own = λ seat e. absurd (cc (e)); stage = zero-le }
+        record { seen = prefix_self (list x); also = prefix_nil (list x); named = refl; own = λ seat e. absurd (cc (e)); others = All-nil (λ n. (n ≡ 0) × (n < 0)); apart = tt; stage = zero-le }
         (λ i u other a. absurd (alone (newcomer (list x)) i u other a)) j d e;
   }
 

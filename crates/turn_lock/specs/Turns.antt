@@ -1,11 +1,12 @@
 -- The rule of the turns, and what each step tells its seat.
 -- Word 0 is the next ticket, word 1 the ticket that is served, and word 2 the number of entries. The slot has the value, unless the seat whose ticket is served has taken it.
-use Rattle.std.specs.Prelude.{◌≡◌, ◌≢◌, ℕ, ◌+◌, ◌<◌, ◌≤◌, List, [], ◌∷◌, length, drop, Bool, true, false, Option, Some, None, All}
+use Rattle.std.specs.Prelude.{◌≡◌, ◌≢◌, ℕ, ◌+◌, ◌<◌, ◌≤◌, List, [], ◌∷◌, ◌++◌, length, drop, Bool, true, false, Option, Some, None, All}
 use Rattle.std.specs.Option.{unwrap_or}
 use mathlib.Core.List.{IsPrefix}
 use mathlib.Core.Option as maybe
 use lib.ListN.{get_elem?}
 use Rattle.atomic_table.specs.Table.{State, Me, Step, rest}
+use Rattle.turn_lock.specs.Numbers.{AreApart, number_in}
 use Rattle.turn_lock.specs.declared.view.View.{View}
 use Rattle.turn_lock.specs.declared.view.Stage.{Stage}
 use Rattle.turn_lock.specs.declared.view.Stage.TheVariants.{Idle, Waiting, Turn, Holding, Stored, Spent}
@@ -50,6 +51,8 @@ module _ {E : Type 0} (maker : E → Option (ℕ × ℕ)) (next served : ℕ) (l
     pub also : IsPrefix v.also log
     pub named : Named v.acts v.number
     pub own : (seat : ℕ) → v.number ≡ Some seat → NoneBehind maker seat v.seen log
+    pub others : All (λ n. (bearer n ≡ j) × (n < next)) v.others
+    pub apart : AreApart (number_in v.number ++ v.others)
     pub stage : AtStage v v.stage
 
 -- the seat has drawn a ticket, and has not passed its turn on yet
@@ -87,34 +90,34 @@ pub record IsInTurn {T E : Type 0} (list : T → List E) (maker : E → Option (
 
 module _ {E : Type 0} where
   abbrev pub newcomer : List E → View E
-  newcomer log = record { stage = Idle; ticket = 0; number = None; acts = 0; seen = log; also = [] }
+  newcomer log = record { stage = Idle; ticket = 0; number = None; acts = 0; seen = log; also = []; others = [] }
 
   abbrev pub spent : View E
-  spent = record { stage = Spent; ticket = 0; number = None; acts = 0; seen = []; also = [] }
+  spent = record { stage = Spent; ticket = 0; number = None; acts = 0; seen = []; also = []; others = [] }
 
   abbrev pub at_stage : Stage → View E → View E
-  at_stage stage v = record { stage = stage; ticket = v.ticket; number = v.number; acts = v.acts; seen = v.seen; also = v.also }
+  at_stage stage v = record { stage = stage; ticket = v.ticket; number = v.number; acts = v.acts; seen = v.seen; also = v.also; others = v.others }
 
   -- the seat draws the ticket n, which is its number where it has none
   abbrev pub drawing : View E → ℕ → View E
-  drawing v n = record { stage = Waiting; ticket = n; number = Some (unwrap_or v.number n); acts = v.acts; seen = v.seen; also = v.also }
+  drawing v n = record { stage = Waiting; ticket = n; number = Some (unwrap_or v.number n); acts = v.acts; seen = v.seen; also = v.also; others = v.others }
 
   abbrev pub holding : View E → List E → View E
-  holding v log = record { stage = Holding; ticket = v.ticket; number = v.number; acts = v.acts; seen = log; also = v.also }
+  holding v log = record { stage = Holding; ticket = v.ticket; number = v.number; acts = v.acts; seen = log; also = v.also; others = v.others }
 
   abbrev pub storing : View E → List E → View E
-  storing v log = record { stage = Stored; ticket = v.ticket; number = v.number; acts = v.acts + 1; seen = log; also = v.also }
+  storing v log = record { stage = Stored; ticket = v.ticket; number = v.number; acts = v.acts + 1; seen = log; also = v.also; others = v.others }
 
-  -- the seat has seen what the other had seen
+  -- the seat has seen what the other had seen, and has its numbers
   abbrev pub joining : View E → View E → View E
-  joining v w = record { stage = v.stage; ticket = v.ticket; number = v.number; acts = v.acts; seen = v.seen; also = w.seen }
+  joining v w = record { stage = v.stage; ticket = v.ticket; number = v.number; acts = v.acts; seen = v.seen; also = w.seen; others = v.others ++ (number_in w.number ++ w.others) }
 
   abbrev pub longer_by : List E → List E → Bool → List E
   longer_by xs ys true = ys
   longer_by xs ys false = xs
 
   abbrev pub meeting : View E → Bool → View E
-  meeting v b = record { stage = v.stage; ticket = v.ticket; number = v.number; acts = v.acts; seen = longer_by v.seen v.also b; also = [] }
+  meeting v b = record { stage = v.stage; ticket = v.ticket; number = v.number; acts = v.acts; seen = longer_by v.seen v.also b; also = []; others = v.others }
 
 abbrev pub Sat : Type 0 → Type 0 → Type 0
 Sat S E = Me S (View E)
@@ -129,9 +132,10 @@ module _ {S E : Type 0} where
   abbrev pub passed : Step S → Sat S E → ℕ → Sat S E → Type 0
   passed st m r m' = m' ≡ (at_stage Idle m.0, rest m.1)
 
-  -- one of the two lists begins the other, and the longer one is kept
+  -- one of the two lists begins the other, and the longer one is kept; the seat's numbers are different ones
   abbrev pub met : Step S → Sat S E → ℕ → Sat S E → Type 0
   met st m r m' = (b : Bool) × (m' ≡ (meeting m.0 b, m.1)) × IsPrefix m.0.seen (longer_by m.0.seen m.0.also b) × IsPrefix m.0.also (longer_by m.0.seen m.0.also b)
+      × AreApart (number_in m.0.number ++ m.0.others)
 
 module _ {T E : Type 0} (list : T → List E) where
   abbrev list_of : Option T → List E
