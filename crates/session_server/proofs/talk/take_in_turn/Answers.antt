@@ -12,7 +12,7 @@ use Rattle.session_server.specs.declared.ending.Ending.{Ending}
 use Rattle.session_server.specs.Talks.{IsTalk}
 use Rattle.session_server.proofs.Passing.{act_still, still_then}
 use Rattle.session_server.proofs.Talking.{take_failed, take_said}
-use Rattle.session_server.proofs.talk.take.Goals as goal
+use Rattle.session_server.proofs.talk.take_in_turn.Goals as goal
 
 pub returns-in-Err-clause-talk : goal.returns-in-Err-clause-talk
 returns-in-Err-clause-talk g c rule role start old heard t =
@@ -45,5 +45,5 @@ returns-in-Ok-clause-talk g c rule role start old heard t =
       inl refl,
       subst (λ (e : Option Ending). IsTalk rule role start old c.say-pass.result.0 next false (g.K.Sink.held c.say-pass.new.link) (g.K.Counted.faults c.say-pass.new.link) (heard ++ frame_of c.args.frame ∷ []) e) (sym c.over.ensures.value)
           (take_said rule role start old c.args.talk.pass after c.say-pass.result.0 c.args.talk.session next c.args.talk.is_fresh (g.K.Sink.held c.args.link.now) (g.K.Sink.held c.say-pass.new.link) (g.K.Counted.faults c.args.link.now)
-          (g.K.Counted.faults c.say-pass.new.link) heard act.0 act.1 act.2 c.args.frame c.in-Ok.out t acted steps act.5 c.say-pass.ensures.still _ c.say-pass.result.1 c.say-pass.ensures.said c.say-pass.ensures.cause),
+          (g.K.Counted.faults c.say-pass.new.link) heard act.0 act.1 act.2 c.args.frame c.in-Ok.out t acted steps act.5 c.say-pass.ensures.still c.say-pass.ensures.quiet _ c.say-pass.result.1 c.say-pass.ensures.said c.say-pass.ensures.cause),
     )
