@@ -1,4 +1,4 @@
-use Rattle.std.proofs.Common.{[]}
+use Rattle.std.proofs.Common.{[], false}
 use Rattle.std.proofs.KnownBytes.{Appends-nil}
 use Rattle.link_frames.proofs.Sentences.{front_none}
 use Rattle.session_server.proofs.Gaining.{quiet_act}

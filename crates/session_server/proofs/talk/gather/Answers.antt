@@ -8,7 +8,7 @@ use Rattle.session_server.proofs.Talking.{belongs_somewhere, checked_under, gath
 use Rattle.session_server.proofs.talk.gather.Goals as goal
 
 pub gather_update-requires : goal.gather_update-requires
-gather_update-requires g c = belongs_somewhere c.args.talk.pass.seen c.args.talk.session c.requires.belongs
+gather_update-requires g c = record { belongs = belongs_somewhere c.args.talk.pass.seen c.args.talk.session c.requires.belongs }
 
 pub returns-in-Ok-clause-goes : goal.returns-in-Ok-clause-goes
 returns-in-Ok-clause-goes g c = record { still = still_self c.args.talk.pass; belongs = gathered_belongs c.args.talk.pass.seen c.args.talk.session c.gather_update.new.self c.args.update c.requires.belongs c.requires.under c.gather_update.ensures.stays }
