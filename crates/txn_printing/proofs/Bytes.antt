@@ -1,9 +1,9 @@
 -- Bytes that are printed.
-use Rattle.std.proofs.Common.{◌≡◌, ℕ, ◌+◌, ◌/◌, ◌%◌, ◌<◌, ◌==◌, nat_lt, Bool, true, false, ◌||◌, List, [], ◌∷◌, ◌++◌, cond, refl, arith}
+use Rattle.std.proofs.Common.{◌≡◌, ℕ, ◌+◌, ◌/◌, ◌%◌, ◌<◌, ◌==◌, nat_lt, Bool, true, false, ◌||◌, List, [], ◌∷◌, cond, refl, arith}
 use Rattle.std.specs.Char.{digit_char}
 use Rattle.std.specs.List.{AllByRecursion, flat_map}
 use Rattle.std.proofs.lemmas.Bool.Decides.{nat_tests}
-use Rattle.text_words.specs.Printing.{escaped, hex_escaped, quoted}
+use Rattle.text_words.specs.Printing.{escaped, quoted}
 use Rattle.txn_printing.proofs.Values.{Stands, all_join}
 
 -- no byte below a blank

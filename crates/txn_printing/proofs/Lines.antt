@@ -1,11 +1,11 @@
 -- The lines of a transaction, and what they are read as.
-use Rattle.std.proofs.Common.{◌≡◌, ◌≢◌, ℕ, zero, suc, ◌+◌, ◌/◌, ◌%◌, ◌^◌, ◌<◌, ◌≤◌, ◌==◌, nat_lt, Bool, true, false, ◌&&◌, ◌||◌, inr, List, [], ◌∷◌, ◌++◌, length, Option, Some, None, Result, Ok, Err, cond, refl, sym, ap, subst, ◌∙◌, append_assoc, append-nil, nat_le, arith}
-use Rattle.std.specs.Prelude.{bytes_eq, codes, map, option_and_then, option_map, decimal, slice_get, IsAscii}
+use Rattle.std.proofs.Common.{◌≡◌, ◌≢◌, ℕ, zero, suc, ◌+◌, ◌^◌, ◌<◌, ◌≤◌, ◌==◌, nat_lt, true, false, inr, List, [], ◌∷◌, ◌++◌, length, Option, Some, None, Result, Ok, Err, refl, sym, ap, subst, ◌∙◌, append_assoc, append-nil, nat_le, arith}
+use Rattle.std.specs.Prelude.{codes, map, option_and_then, option_map, decimal, slice_get, IsAscii}
 use Rattle.std.specs.Fmt.{signed_decimal}
-use Rattle.std.specs.Char.{digit_char, is_ascii_lowercase, is_ascii_digit}
-use Rattle.std.specs.List.{AllByRecursion, flat_map, list_all}
+use Rattle.std.specs.Char.{is_ascii_lowercase}
+use Rattle.std.specs.List.{AllByRecursion, list_all}
 use Rattle.std.specs.Str.{is_utf8}
-use Rattle.std.proofs.lemmas.Bool.{and_parts, or_cases, leb-true, eqb-true}
+use Rattle.std.proofs.lemmas.Bool.{and_parts}
 use Rattle.std.proofs.lemmas.Bool.Decides.{nat_tests}
 use Rattle.std.proofs.lemmas.Str.{IsUtf8-from_ascii, is_utf8-from_IsUtf8}
 use Rattle.update_model.specs.declared.op.Op.{Op}
@@ -16,7 +16,6 @@ use Rattle.update_model.specs.declared.value.Value.TheVariants as value
 use Rattle.update_model.specs.Rows.{AreOps, IsOp, IsRowName, IsValue}
 use Rattle.text_words.specs.Lines.{EndsInNoCr, lines_of}
 use Rattle.text_words.specs.Names.{is_a_name, is_name_byte, is_spelled_as_name}
-use Rattle.text_words.specs.Printing.{escaped, hex_escaped, quoted}
 use Rattle.text_words.specs.Words.{first_word, skip_blanks, words_of, words_within}
 use Rattle.text_words.specs.declared.style.Style.TheVariants.{Spaced}
 use Rattle.text_words.specs.declared.word.Word.{Word}
@@ -26,16 +25,16 @@ use Rattle.schema.specs.declared.table_def.TableDef.{TableDef}
 use Rattle.schema.specs.Data.{SchemaData}
 use Rattle.table_text.specs.declared.name_style.NameStyle.TheVariants.{Full}
 use Rattle.table_text.specs.Names.{name_text}
-use Rattle.table_text.specs.Operations.{operation_text, table_word}
+use Rattle.table_text.specs.Operations.{operation_text}
 use Rattle.table_text.specs.Values.{value_text, values_text}
-use Rattle.txn_text.specs.Operations.{IsBlank, IsOperation, WriteAll, beside, insert_into, keyword_in, next_value, operation_of, placed, value_at, value_by, verb_at, verb_by}
+use Rattle.txn_text.specs.Operations.{IsBlank, WriteAll, beside, insert_into, keyword_in, next_value, operation_of, placed, value_at, value_by, verb_at, verb_by}
 use Rattle.txn_text.specs.Outcome.{IsVerb}
 use Rattle.txn_text.specs.Transactions.{LineIs, LinesAre, Reads}
 use Rattle.txn_text.specs.Values.{Written, value_for, value_in}
-use Rattle.txn_printing.specs.Printing.{AreNamed, HasTable, IsNamed, IsPrintable, line_text, transaction_text}
+use Rattle.txn_printing.specs.Printing.{AreNamed, HasTable, IsNamed, IsPrintable, transaction_text}
 use Rattle.txn_printing.proofs.Bytes.{IsPrinted, quoted_printed, stands_printed}
 use Rattle.txn_printing.proofs.Words.{AreByRule, AreEach, BeginsWith, IsOneWord, behind_blanks, behind_first, first_of, none_of, words_read}
-use Rattle.txn_printing.proofs.Values.{AreAsPrinted, AreNamesAgain, AreReadAgain, IsWritten, Stands, all_join, decimal_stands, integer_stands, name_bare, name_stands, stands_bare, value_written}
+use Rattle.txn_printing.proofs.Values.{AreAsPrinted, AreNamesAgain, AreReadAgain, Stands, all_join, decimal_stands, integer_stands, name_bare, name_stands, stands_bare, value_written}
 
 -- what the laws of words, values and names say
 pub record Laws : Type 0 where
@@ -192,15 +191,17 @@ insert_is laws tables before number table vs few is there named columns (Some ve
     let written = values_written laws before (omega (arith, few)) vs is in
     let words = insert_words laws tables number table vs written.0 there named written.1 in
     let first = first_of Spaced line (word.Plain (codes "INSERT")) (word.Plain table.name ∷ written.0) words in
-    let second = first_of Spaced first.1.0 (word.Plain table.name) written.0 first.1.2 in
-    (said line first.0, record {
-      verb = verb;
-      rest = second.1.0;
-      values = vs;
-      first = insert_verb tables before table.name (skip_blanks line) first.1.0 second.1.0 verb few e first.1.1 second.1.1;
-      write = all_written verb before (value_in before) (insert_reads tables number table named verb e before) second.1.0 written.0 vs second.1.2 written.2;
-      whole = insert_whole tables number table vs there named columns verb e;
-    })
+    let second = first_of Spaced first.1.0 (word.Plain table.name) written.0 first.1.2 in (
+      said line first.0,
+      record {
+        verb = verb;
+        rest = second.1.0;
+        values = vs;
+        first = insert_verb tables before table.name (skip_blanks line) first.1.0 second.1.0 verb few e first.1.1 second.1.1;
+        write = all_written verb before (value_in before) (insert_reads tables number table named verb e before) second.1.0 written.0 vs second.1.2 written.2;
+        whole = insert_whole tables number table vs there named columns verb e;
+      },
+    )
 
 -- what is read where a delete is
 abbrev is_ok_read : {A B : Type 0} → Result A B → Type 0
@@ -224,15 +225,17 @@ delete_is laws tables before row few is =
     let line = operation_text tables Full (op.Delete row) in
     let words = delete_words laws tables row is in
     let first = first_of Spaced line (word.Plain (codes "DELETE")) (word.Plain (name_text Full row) ∷ []) words in
-    let read : value_for a_delete before (word.Plain (name_text Full row)) ≡ Ok (value.Row row) = rw (laws.names row is) refl in
-    (said line first.0, record {
-      verb = a_delete;
-      rest = first.1.0;
-      values = value.Row row ∷ [];
-      first = delete_verb tables before (skip_blanks line) first.1.0 few first.1.1;
-      write = all_written a_delete before (value_for a_delete before) (λ w. refl) first.1.0 (word.Plain (name_text Full row) ∷ []) (value.Row row ∷ []) first.1.2 (read, tt);
-      whole = refl;
-    })
+    let read : value_for a_delete before (word.Plain (name_text Full row)) ≡ Ok (value.Row row) = rw (laws.names row is) refl in (
+      said line first.0,
+      record {
+        verb = a_delete;
+        rest = first.1.0;
+        values = value.Row row ∷ [];
+        first = delete_verb tables before (skip_blanks line) first.1.0 few first.1.1;
+        write = all_written a_delete before (value_for a_delete before) (λ w. refl) first.1.0 (word.Plain (name_text Full row) ∷ []) (value.Row row ∷ []) first.1.2 (read, tt);
+        whole = refl;
+      },
+    )
 
 op_is : Laws → (tables : List TableDef) → AreNamed tables → (before : ℕ) → before < 64 → (o : Op) → IsOp before o → HasTable tables o → LineIs tables before (operation_text tables Full o) o
 op_is laws tables named before few (op.Insert number vs) is (table, there, columns) =
@@ -259,9 +262,28 @@ values_printed before few (v ∷ vs) all = (omega arith, all_join IsPrinted (val
 op_printed : (tables : List TableDef) → AreNamed tables → (before : ℕ) → before < 2 ^ 16 → (o : Op) → IsOp before o → HasTable tables o → AllByRecursion IsPrinted (operation_text tables Full o)
 op_printed tables named before few (op.Insert number vs) is (table, there, columns) =
     let name : AllByRecursion IsPrinted table.name = stands_printed table.name (namely_stands table.name (name_namely table.name (named number table there).spelled).1) in
-    rw there
-    (omega arith, (omega arith, (omega arith, (omega arith, (omega arith, (omega arith, (omega arith,
-    all_join IsPrinted table.name (values_text Full vs) name (values_printed before few vs is.3))))))))
+    rw there (
+      omega arith,
+      (
+        omega arith,
+        (
+          omega arith,
+          (
+            omega arith,
+            (
+              omega arith,
+              (
+                omega arith,
+                (
+                  omega arith,
+                  all_join IsPrinted table.name (values_text Full vs) name (values_printed before few vs is.3),
+                ),
+              ),
+            ),
+          ),
+        ),
+      ),
+    )
 op_printed tables named before few (op.Delete row) is has =
     (omega arith, (omega arith, (omega arith, (omega arith, (omega arith, (omega arith, (omega arith, stands_printed (name_text Full row) (name_stands row is))))))))
 

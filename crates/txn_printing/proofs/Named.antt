@@ -1,5 +1,5 @@
 -- Tables that are found by their names.
-use Rattle.std.proofs.Common.{◌≡◌, ℕ, ◌<◌, ◌==◌, Bool, true, false, ◌&&◌, List, length, Option, Some, None, cond, refl, sym, ap, ◌∙◌, arith}
+use Rattle.std.proofs.Common.{◌≡◌, ℕ, ◌==◌, Bool, true, false, List, Option, Some, None, cond, refl, sym, ap, subst, ◌∙◌, arith}
 use Rattle.std.specs.Prelude.{IsUtf8, bytes_eq, position, slice_get}
 use Rattle.std.specs.Option.{option_map_or}
 use Rattle.std.specs.Str.{is_utf8}
@@ -43,3 +43,20 @@ pub named_found : (tables : List TableDef) (number : ℕ) (table : TableDef) →
 named_found tables number table named =
     let same : (number == number) ≡ true = grind (arith, nat_tests) in
     rw (named.spelled, name_utf8 table.name named.spelled, named.first) same
+
+-- ---- a table that was looked up
+
+pub lost_table : (tables : List TableDef) (number : ℕ) (table : TableDef) (name : List ℕ) (found : Bool) → name ≡ table.name → found ≡ is_found tables number name → found ≡ false → IsNamed tables number table → ⊥
+lost_table tables number table name found same is lost named =
+    let yes : is_found tables number name ≡ true = ap (is_found tables number) same ∙ named_found tables number table named in
+    let both : true ≡ false = sym yes ∙ sym is ∙ lost in
+    cc
+
+pub kept_table : (tables : List TableDef) (number : ℕ) (table : TableDef) (name : List ℕ) (found : Bool) → name ≡ table.name → found ≡ is_found tables number name → found ≡ true → IsNamed tables number table
+kept_table tables number table name found same is kept = found_named tables number table (ap (is_found tables number) (sym same) ∙ sym is ∙ kept)
+
+pub last_table : (tables : List TableDef) (k number : ℕ) (table now : TableDef) → k ≡ number → slice_get tables k ≡ Some table → slice_get tables number ≡ Some now → IsNamed tables number now → IsNamed tables k table
+last_table tables k number table now same there here named =
+    let one : slice_get tables number ≡ Some table = subst (λ (n : ℕ). slice_get tables n ≡ Some table) same there in
+    let equal : now ≡ table = cc in
+    subst (λ (n : ℕ). IsNamed tables n table) (sym same) (subst (IsNamed tables number) equal named)

@@ -1,10 +1,10 @@
 -- Each value is read from the word that is printed of it.
-use Rattle.std.proofs.Common.{◌≡◌, ◌≢◌, ℕ, zero, suc, ◌+◌, ◌/◌, ◌%◌, ◌-◌, ◌^◌, ◌<◌, ◌≤◌, ◌==◌, nat_lt, nat_le, Bool, true, false, ◌&&◌, ◌||◌, not, inl, inr, List, [], ◌∷◌, ◌++◌, length, slice_index, Option, Some, None, Ok, cond, refl, sym, ap, subst, ◌∙◌, append-nil, length-append, arith, ℤ, pos, negsuc}
-use Rattle.std.specs.Prelude.{◌↔◌, bytes_eq, codes, decimal, FitsSigned, option_map, position}
+use Rattle.std.proofs.Common.{◌≡◌, ℕ, zero, suc, ◌+◌, ◌/◌, ◌%◌, ◌-◌, ◌^◌, ◌<◌, ◌==◌, nat_lt, nat_le, Bool, true, false, ◌&&◌, inl, inr, List, [], ◌∷◌, ◌++◌, length, slice_index, Option, Some, None, Ok, cond, refl, ap, subst, ◌∙◌, append-nil, length-append, arith, ℤ, pos, negsuc}
+use Rattle.std.specs.Prelude.{◌↔◌, bytes_eq, codes, decimal, FitsSigned, option_map}
 use Rattle.std.specs.Fmt.{signed_decimal}
 use Rattle.std.specs.Int.{w64}
-use Rattle.std.specs.List.{AllByRecursion, list_all, position_or_len}
-use Rattle.std.specs.Str.Parse.{AllDigits, digits_value}
+use Rattle.std.specs.List.{AllByRecursion, position_or_len}
+use Rattle.std.specs.Str.Parse.{AllDigits}
 use Rattle.std.proofs.lemmas.Bool.{and_parts, cases_lt, le-ltb, ltb-true}
 use Rattle.std.proofs.lemmas.Bool.Decides.{nat_tests}
 use Rattle.std.proofs.lemmas.Fmt.{digits_decimal, decimal_nonempty, digits_value-decimal}
@@ -34,7 +34,7 @@ use Rattle.update_model.specs.declared.value.Value.TheVariants as value
 use Rattle.table_text.specs.declared.name_style.NameStyle.TheVariants.{Full}
 use Rattle.table_text.specs.Names.{name_text}
 use Rattle.table_text.specs.Values.{value_text}
-use Rattle.txn_text.specs.Values.{Written, is_numeral, literal_value, own_row, row_or, text_value, value_in}
+use Rattle.txn_text.specs.Values.{is_numeral, own_row, text_value, value_in}
 use Rattle.txn_printing.proofs.Words.{AreByRule, IsOneWord}
 
 -- integers are read as they are printed
