@@ -62,8 +62,12 @@ dials_out net net_new (handed ran over) = over.out
 
 -- ---- seals
 
-as_seal : SealRefusal → OutcomeOf SealRefusal
+abbrev as_seal : SealRefusal → OutcomeOf SealRefusal
 as_seal why = Err why
+
+abbrev why_in : SealRefusal → OutcomeOf SealRefusal → SealRefusal
+why_in other (Ok text) = other
+why_in other (Err why) = why
 
 seal_store : (why : SealRefusal) → from_seal why ≡ refusals.StoreFault → why ≡ seals.Store
 seal_store seals.Store e = refl
@@ -75,10 +79,6 @@ seal_stream other e = absurd cc
 
 same_seal : (a b : SealRefusal) → as_seal a ≡ as_seal b → a ≡ b
 same_seal a b e = ap (why_in a) e
-  where
-    why_in : SealRefusal → OutcomeOf SealRefusal → SealRefusal
-    why_in other (Ok text) = other
-    why_in other (Err why) = why
 
 own_store : (own : OutcomeOf SealRefusal) → told_as own ≡ as_outcome refusals.StoreFault → own ≡ Err seals.Store
 own_store (Ok text) e = absurd cc
