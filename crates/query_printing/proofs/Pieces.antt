@@ -1,5 +1,5 @@
 -- A text of words on one line has these words.
-use Rattle.std.proofs.Common.{◌≡◌, ◌≢◌, ℕ, zero, suc, ◌+◌, ◌/◌, ◌%◌, ◌<◌, ◌==◌, nat_lt, Bool, true, false, ◌||◌, ◌&&◌, List, [], ◌∷◌, ◌++◌, length, Option, Some, None, Ok, cond, refl, sym, ap, subst, ◌∙◌, append-nil, arith, ℤ, IsTrue}
+use Rattle.std.proofs.Common.{◌≡◌, ◌≢◌, ℕ, zero, suc, nat_lt, true, false, List, [], ◌∷◌, ◌++◌, length, Option, Some, None, Ok, refl, sym, ap, subst, ◌∙◌, append-nil, arith}
 use Rattle.std.specs.Prelude.{codes, map}
 use Rattle.std.specs.List.{AllByRecursion, list_all}
 use Rattle.std.proofs.lemmas.Bool.{and_parts, ltb-true}
@@ -15,7 +15,7 @@ use Rattle.expression_text.specs.declared.token.Token.{Token}
 use Rattle.expression_text.specs.declared.token.Token.TheVariants as token
 use Rattle.schema.specs.Data.{SchemaData}
 use Rattle.schema_text.specs.Printing.{behind_blanks, sign_text, token_text}
-use Rattle.query.specs.Pieces.{next_token, pieces_of, pieces_of_line, pieces_of_lines, pieces_within, spot_at, token_by, with_first}
+use Rattle.query.specs.Pieces.{pieces_of, pieces_of_line, pieces_of_lines, pieces_within, spot_at, token_by, with_first}
 use Rattle.query.specs.Queries.{QueryData, Reads, Say}
 use Rattle.query_printing.specs.Printing.{IsPrintable, IsWordOfQuery, words_text}
 use Rattle.query_printing.proofs.Tokens.{AreWritten, token_read, tokens_written}

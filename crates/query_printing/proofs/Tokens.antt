@@ -1,23 +1,19 @@
 -- The words of a query are read from what is printed of them.
-use Rattle.std.proofs.Common.{◌≡◌, ℕ, ◌^◌, ◌<◌, ◌≤◌, ◌/◌, ◌%◌, ◌==◌, nat_lt, nat_le, suc, Bool, true, false, ◌||◌, ◌&&◌, List, [], ◌∷◌, ◌++◌, length, Option, Some, None, cond, refl, sym, ap, ◌∙◌, ℤ, pos, negsuc, arith, IsTrue}
-use Rattle.std.specs.Prelude.{◌↔◌, bytes_eq, codes, decimal, map, option_map, FitsSigned}
-use Rattle.std.specs.Char.{digit_char}
+use Rattle.std.proofs.Common.{◌≡◌, ℕ, Bool, true, false, List, [], ◌∷◌, length, Option, Some, None, cond, refl, sym, ap, ◌∙◌, ℤ}
+use Rattle.std.specs.Prelude.{bytes_eq, codes, map, option_map, FitsSigned}
 use Rattle.std.specs.Fmt.{signed_decimal}
 use Rattle.std.specs.Int.{w64}
-use Rattle.std.specs.List.{AllByRecursion, flat_map, list_all}
-use Rattle.std.specs.Str.{is_utf8}
-use Rattle.std.proofs.lemmas.Bool.{and_parts, le-leb, ltb-true}
+use Rattle.std.specs.List.{AllByRecursion}
+use Rattle.std.proofs.lemmas.Bool.{le-leb}
 use Rattle.std.proofs.lemmas.Slice.Eq.{bytes_eq-Decides}
 use Rattle.std.proofs.lemmas.Str.{is_utf8-from_IsUtf8}
-use Rattle.update_model.specs.Text.{IsText}
 use Rattle.row_check.specs.declared.cmp.Cmp.{Cmp}
 use Rattle.row_check.specs.declared.cmp.Cmp.TheVariants as cmp
 use Rattle.text_words.specs.Integers.{int_of}
-use Rattle.text_words.specs.Printing.{literal_text, quoted, IsLiteral}
+use Rattle.text_words.specs.Printing.{quoted}
 use Rattle.text_words.specs.Words.{first_word, words_of, words_within}
 use Rattle.text_words.specs.declared.literal.Literal.{Literal}
 use Rattle.text_words.specs.declared.literal.Literal.TheVariants as literal
-use Rattle.text_words.specs.declared.style.Style.{Style}
 use Rattle.text_words.specs.declared.style.Style.TheVariants.{Punctuated}
 use Rattle.text_words.specs.declared.word.Word.{Word}
 use Rattle.text_words.specs.declared.word.Word.TheVariants as word
@@ -26,7 +22,7 @@ use Rattle.expression_text.specs.Words.{plain_token, token_of}
 use Rattle.expression_text.specs.declared.token.Token.{Token}
 use Rattle.expression_text.specs.declared.token.Token.TheVariants as token
 use Rattle.schema_text.specs.Printing.{token_text}
-use Rattle.query.specs.Pieces.{is_text, unless_bad}
+use Rattle.query.specs.Pieces.{unless_bad}
 use Rattle.query_printing.specs.Printing.{IsWordOfQuery}
 use Rattle.txn_printing.proofs.Values.{AreReadAgain}
 use Rattle.txn_printing.proofs.Words.{AreEach, IsOneWord}
