@@ -120,19 +120,19 @@ same_refusal a b e = ap (refusal_in a) e
 -- Of refusals that are no fault, a fault comes only where its count rose.
 pub store_rose : {S H R : Type 0} (before after : Outside S H R) (Own : Refusal → Type 0) → (Own refusals.StoreFault → ⊥) → (outcome : Outcome) → EndsOf Own before after outcome
     → outcome ≡ Err refusals.StoreFault → Rose before.shelf_faults after.shelf_faults
-store_rose before after Own no (Ok text) ends e = absurd cc
-store_rose before after Own no (Err refusal) (inl own) e = absurd (no (subst Own (same_refusal refusal refusals.StoreFault e) own))
-store_rose before after Own no (Err refusal) (inr (inl source)) e = absurd (let other = same_refusal refusals.StoreFault refusals.Stream (sym e ∙ source.0) in cc)
-store_rose before after Own no (Err refusal) (inr (inr (inl memory))) e = absurd (let other = same_refusal refusals.StoreFault refusals.Memory (sym e ∙ memory) in cc)
-store_rose before after Own no (Err refusal) (inr (inr (inr failed))) e = failed.1
+store_rose before after Own never (Ok text) ends e = absurd cc
+store_rose before after Own never (Err refusal) (inl own) e = absurd (never (subst Own (same_refusal refusal refusals.StoreFault e) own))
+store_rose before after Own never (Err refusal) (inr (inl source)) e = absurd (let other = same_refusal refusals.StoreFault refusals.Stream (sym e ∙ source.0) in cc)
+store_rose before after Own never (Err refusal) (inr (inr (inl memory))) e = absurd (let other = same_refusal refusals.StoreFault refusals.Memory (sym e ∙ memory) in cc)
+store_rose before after Own never (Err refusal) (inr (inr (inr failed))) e = failed.1
 
 pub source_rose : {S H R : Type 0} (before after : Outside S H R) (Own : Refusal → Type 0) → (Own refusals.Stream → ⊥) → (outcome : Outcome) → EndsOf Own before after outcome
     → outcome ≡ Err refusals.Stream → Rose before.source_faults after.source_faults
-source_rose before after Own no (Ok text) ends e = absurd cc
-source_rose before after Own no (Err refusal) (inl own) e = absurd (no (subst Own (same_refusal refusal refusals.Stream e) own))
-source_rose before after Own no (Err refusal) (inr (inl source)) e = source.1
-source_rose before after Own no (Err refusal) (inr (inr (inl memory))) e = absurd (let other = same_refusal refusals.Stream refusals.Memory (sym e ∙ memory) in cc)
-source_rose before after Own no (Err refusal) (inr (inr (inr failed))) e = absurd (let other = same_refusal refusals.Stream refusals.StoreFault (sym e ∙ failed.0) in cc)
+source_rose before after Own never (Ok text) ends e = absurd cc
+source_rose before after Own never (Err refusal) (inl own) e = absurd (never (subst Own (same_refusal refusal refusals.Stream e) own))
+source_rose before after Own never (Err refusal) (inr (inl source)) e = source.1
+source_rose before after Own never (Err refusal) (inr (inr (inl memory))) e = absurd (let other = same_refusal refusals.Stream refusals.Memory (sym e ∙ memory) in cc)
+source_rose before after Own never (Err refusal) (inr (inr (inr failed))) e = absurd (let other = same_refusal refusals.Stream refusals.StoreFault (sym e ∙ failed.0) in cc)
 
 -- a fault of what a command comes to, or of the sink
 pub source_or_sink : {A B C : Type 0} → (A → B) → A ⊎ C → B ⊎ C

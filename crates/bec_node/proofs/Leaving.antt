@@ -133,7 +133,7 @@ abbrev IsOfUnsealing : Refusal → Type 0
 IsOfUnsealing refusal = (refusal ≡ refusals.BadSeal) ⊎ (refusal ≡ refusals.InputTooLong)
 
 unseal_own : (key sig : List ℕ) (before after : Option (List ℕ)) (refusal : Refusal) → UnsealAnswer from_seal key sig before after (Err refusal) → IsOfUnsealing refusal ⊎ (refusal ≡ refusals.Memory)
-unseal_own key sig before after refusal (good msg whole fits sealed prints) = absurd prints
+unseal_own key sig before after refusal (good msg whole fits by_key prints) = absurd prints
 unseal_own key sig before after refusal (bad msg whole fits none is) = inl (inl (same_refusal refusal refusals.BadSeal is))
 unseal_own key sig before after refusal (long_input long is) = inl (inr (same_refusal refusal refusals.InputTooLong is))
 
