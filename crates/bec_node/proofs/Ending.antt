@@ -1,12 +1,12 @@
 -- How a run ends.
-use Rattle.std.proofs.Common.{◌≡◌, inl, inr, ℕ, List, [], codes, refl, sym, subst, map, Option, Some, None, Ok, Err, String}
+use Rattle.std.proofs.Common.{◌≡◌, ◌⊎◌, inl, inr, ℕ, List, [], codes, refl, sym, subst, map, Option, Some, None, Ok, Err, String, IsTrue, arith}
 use Rattle.std.specs.declared.alloc.Global.{Global}
 use Rattle.std.specs.String.{string_bytes}
 use Rattle.std.specs.Io.KnownBytes.{Appends}
 use Rattle.lm_ots.specs.declared.ots_type.OtsType.{OtsType}
 use Rattle.lms_tree.specs.declared.lms_type.LmsType.{LmsType}
 use Rattle.command_words.specs.Requests.{Asks, RequestText, heads, check, dump, init, keygen, apply, join, export, query, merge, for_heads, for_check, for_dump, for_init, for_keygen, for_apply, for_join, for_export, for_query, for_merge}
-use Rattle.outcomes.specs.declared.refusal.Refusal.TheVariants.{Words, Memory}
+use Rattle.outcomes.specs.declared.refusal.Refusal.TheVariants.{Memory, StoreFault, Stream, Words}
 use Rattle.schema_verdict.specs.declared.status.TheConstants.{NO_COMMAND, OUT_OF_MEMORY}
 use Rattle.node_commands.specs.Bundle.{DumpAnswer}
 use Rattle.node_commands.specs.Heads.{HeadsAnswer}
@@ -14,6 +14,8 @@ use Rattle.node_commands.specs.Verdict.{CheckAnswer}
 use Rattle.outcomes.specs.Outcome.{Ends, MayLackMemory, Outcome, Says}
 use Rattle.schema_verdict.specs.Written.{Puts, SinkState}
 use Rattle.outcomes.specs.Outside.{IsUntouched, Outside}
+use Rattle.key_directory.specs.Parts.{IsHome}
+use Rattle.bec_node.specs.Own.{EndsAs, IsOwn}
 use Rattle.bec_node.specs.RunAlone.{AnswersOnly, Comes, IsCommand, IsNoCommand, named, none, Runs, unread, NamesApart}
 use Rattle.outcomes.specs.Comes.{ReadsSource, ReadsStoreOnly, IsSourceFault}
 use Rattle.store_directory.specs.Stores.{StoreData}
@@ -33,6 +35,9 @@ use Rattle.node_commands.proofs.MakersOnce.{OneOfMakers}
 use Rattle.node_commands.proofs.MergeOnce.{OneOfMerge}
 use Rattle.node_commands.proofs.PartsOnce.{OneOfParts}
 use Rattle.bec_node.proofs.Asking.{appends_none}
+use Rattle.bec_node.proofs.Ends.{ends_as}
+use Rattle.bec_node.proofs.Faults.{as_outcome, no_own_store, no_own_stream, said_store, said_stream, source_or_sink, source_rose, store_rose}
+use Rattle.bec_node.proofs.Home.{IsSeen, comes_home, same_home}
 use Rattle.bec_node.proofs.Only.{only_memory, only_said}
 use Rattle.outcomes.proofs.Only.{status_said}
 
@@ -108,32 +113,63 @@ names_apart words request (for_merge first second taken dir other differ) = diff
 
 -- ---- runs
 
+-- words that are none are no fault of the source
+put_stream : {P : Type 0} → (as_outcome Words ≡ as_outcome Stream) ⊎ P → P
+put_stream (inl is) = absurd cc
+put_stream (inr p) = p
+
 -- words ask for one thing
 abbrev pub OneRequest : Type 0
 OneRequest = (words : List (List ℕ)) (request other : RequestText) → Asks words request → Asks words other → request ≡ other
 
 module _ {S H R : Type 0} (words : List (String Global)) (before after : Outside S H R) (sink sink_new : SinkState) (status : ℕ) where
-  told : OneAnswer → OneOfParts → OneOfMakers → OneOfMerge → OneRequest → (request : RequestText) → IsCommand request words → (outcome : Outcome) → Comes request before after outcome
+  told : (IsTrue before.store.tells → IsHome before.store) → IsSeen before after → OneAnswer → OneOfParts → OneOfMakers → OneOfMerge → OneRequest → (request : RequestText) → IsCommand request words → (outcome : Outcome) → Comes request before after outcome
       → Says sink.faults sink_new.faults sink.held sink_new.held outcome status → Runs words before after sink sink_new status
-  told one parts makers merges unique request asks outcome comes said = record {
+  told home seen one parts makers merges unique request asks outcome comes said = record {
     outcome = outcome;
     asked = named request asks comes;
     said = said;
     only = λ other is. subst (λ (q : RequestText). AnswersOnly q before status) (unique (map string_bytes words) request other asks is)
         (only_said one parts makers merges before after status request outcome comes (status_said sink.faults sink_new.faults sink.held sink_new.held outcome status said));
+    ends = λ other is. subst (λ (q : RequestText). EndsAs q before after outcome) (unique (map string_bytes words) request other asks is) (ends_as before after request outcome comes);
+    store_fault = λ e. store_rose before after (IsOwn request) (no_own_store request) outcome (ends_as before after request outcome comes)
+        (said_store sink.faults sink_new.faults sink.held sink_new.held outcome status said e);
+    stream_fault = λ e. source_or_sink (source_rose before after (IsOwn request) (no_own_stream request) outcome (ends_as before after request outcome comes))
+        (said_stream sink.faults sink_new.faults sink.held sink_new.held outcome status said e);
+    home = comes_home before after home seen request outcome comes;
   }
 
   -- words that ask for something
-  pub runs : OneAnswer → OneOfParts → OneOfMakers → OneOfMerge → OneRequest → (request : RequestText) → IsCommand request words → (outcome : Outcome) → Comes request before after outcome
+  pub runs : (IsTrue before.store.tells → IsHome before.store) → IsSeen before after → OneAnswer → OneOfParts → OneOfMakers → OneOfMerge → OneRequest → (request : RequestText) → IsCommand request words → (outcome : Outcome) → Comes request before after outcome
       → Ends sink.faults sink_new.faults sink.held sink_new.held outcome status → Runs words before after sink sink_new status
-  runs one parts makers merges unique request asks outcome comes (inl said) = told one parts makers merges unique request asks outcome comes said
-  runs one parts makers merges unique request asks outcome comes (inr lacked) = told one parts makers merges unique request asks (Err Memory) (comes_lacking before after request outcome lacked.0 comes) lacked.1
+  runs home seen one parts makers merges unique request asks outcome comes (inl said) = told home seen one parts makers merges unique request asks outcome comes said
+  runs home seen one parts makers merges unique request asks outcome comes (inr lacked) = told home seen one parts makers merges unique request asks (Err Memory) (comes_lacking before after request outcome lacked.0 comes) lacked.1
 
   -- words that are none
-  pub runs_none : IsNoCommand words → IsUntouched before after → Puts sink.faults sink_new.faults sink.held sink_new.held NO_COMMAND (codes "! words\n") status
+  pub runs_none : (IsTrue before.store.tells → IsHome before.store) → IsSeen before after → IsNoCommand words → IsUntouched before after → Puts sink.faults sink_new.faults sink.held sink_new.held NO_COMMAND (codes "! words\n") status
       → Runs words before after sink sink_new status
-  runs_none no_request same put = record { outcome = Err Words; asked = none no_request same refl; said = put; only = λ request is. absurd (no_request request is) }
+  runs_none home seen no_request same put = record {
+    outcome = Err Words;
+    asked = none no_request same refl;
+    said = put;
+    only = λ request is. absurd (no_request request is);
+    ends = λ request is. absurd (no_request request is);
+    store_fault = λ e. absurd (let other : as_outcome Words ≡ as_outcome StoreFault = said_store sink.faults sink_new.faults sink.held sink_new.held (Err Words) status put e in cc);
+    stream_fault = λ e. inr (put_stream (said_stream sink.faults sink_new.faults sink.held sink_new.held (Err Words) status put e));
+    home = same_home before after home seen same.shelf;
+  }
 
   -- words that were not read
-  pub runs_unread : IsUntouched before after → sink_new ≡ sink → status ≡ OUT_OF_MEMORY → Runs words before after sink sink_new status
-  runs_unread same kept is = let held : Appends sink.held sink_new.held [] = subst (λ (s : SinkState). Appends sink.held s.held []) (sym kept) (appends_none sink.held) in record { outcome = Err Memory; asked = unread same refl; said = (is, held); only = λ request asks. only_memory request before status is }
+  pub runs_unread : (IsTrue before.store.tells → IsHome before.store) → IsSeen before after → IsUntouched before after → sink_new ≡ sink → status ≡ OUT_OF_MEMORY → Runs words before after sink sink_new status
+  runs_unread home seen same kept is =
+      let held : Appends sink.held sink_new.held [] = subst (λ (s : SinkState). Appends sink.held s.held []) (sym kept) (appends_none sink.held) in
+      record {
+        outcome = Err Memory;
+        asked = unread same refl;
+        said = (is, held);
+        only = λ request asks. only_memory request before status is;
+        ends = λ request asks. inr (inr (inl refl));
+        store_fault = λ e. absurd (omega (arith, e, is));
+        stream_fault = λ e. absurd (omega (arith, e, is));
+        home = same_home before after home seen same.shelf;
+      }

@@ -1,3 +1,4 @@
 pub mod Families
+pub mod Own
 pub mod Run
 pub mod RunAlone

@@ -1,14 +1,15 @@
 -- What a run of the program does, with what it does over a net.
-use Rattle.std.specs.Prelude.{◌≡◌, ℕ, List, [], String}
+use Rattle.std.specs.Prelude.{◌≡◌, ◌⊎◌, ℕ, List, [], String}
 use Rattle.std.specs.declared.alloc.Global.{Global}
 use Rattle.std.specs.Io.KnownBytes.{Appends}
+use Rattle.bec_bytes.specs.Causes.{Rose}
 use Rattle.bec_disk.specs.Shelf.{ShelfState}
 use Rattle.bec_links.specs.Nets.{NetState}
 use Rattle.command_words.specs.AuditRequests.{AuditText}
 use Rattle.command_words.specs.NetRequests.{NetText, sync, serve}
 use Rattle.command_words.specs.SealRequests.{SealText}
 use Rattle.command_words.specs.WatchRequests.{WatchText}
-use Rattle.schema_verdict.specs.declared.status.TheConstants.{OUT_OF_MEMORY}
+use Rattle.schema_verdict.specs.declared.status.TheConstants.{OUT_OF_MEMORY, STORE_FAULT, STREAM_FAULT}
 use Rattle.outcomes.specs.Outside.{IsUntouched, Outside}
 use Rattle.schema_verdict.specs.Written.{SinkState}
 use Rattle.bec_node.specs.Families.{AuditAnswersOnly, AuditComes, FamilyText, IsAnswered, IsFamilyCommand, SealAnswersOnly, SealComes, ViewComes, of_audits, of_net, of_seals, of_views}
@@ -52,3 +53,10 @@ pub data RunsOver {S H R N : Type 0} (words : List (String Global)) (before afte
   alone : ((request : FamilyText) → IsFamilyCommand request words → ⊥) → Runs words before after sink sink_new status → net_new ≡ net → RunsOver words before after net net_new sink sink_new status
   asked : (request : FamilyText) → IsFamilyCommand request words → DoesAsked before after net net_new sink sink_new status request → RunsOver words before after net net_new sink sink_new status
   unread : IsUntouched before after → net_new ≡ net → status ≡ OUT_OF_MEMORY → Appends sink.held sink_new.held [] → RunsOver words before after net net_new sink sink_new status
+
+-- What every run leaves, whatever it comes to and whether the shelf and the net tell what they have or not: no link of the net is handed out that was not before. A store fault is told only
+-- where the shelf counted one, and a stream fault only where the source, the net or the sink did.
+pub record Leaves {S H R N : Type 0} (before after : Outside S H R) (net net_new : NetSeen N) (sink sink_new : SinkState) (status : ℕ) : Type 0 where
+  pub links : net_new.state.out ≡ net.state.out
+  pub store_fault : status ≡ STORE_FAULT → Rose before.shelf_faults after.shelf_faults
+  pub stream_fault : status ≡ STREAM_FAULT → Rose before.source_faults after.source_faults ⊎ (Rose net.faults net_new.faults ⊎ Rose sink.faults sink_new.faults)

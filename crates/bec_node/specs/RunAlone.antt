@@ -1,8 +1,9 @@
 -- What a run of the program does.
-use Rattle.std.specs.Prelude.{◌≡◌, ℕ, List, map, IfSome, IsTrue, Err, String, slice_get, Some, None, ◌≢◌}
+use Rattle.std.specs.Prelude.{◌≡◌, ℕ, List, map, IfSome, IsTrue, Err, String, slice_get, Some, None, ◌≢◌, ◌⊎◌}
 use Rattle.std.specs.declared.alloc.Global.{Global}
 use Rattle.std.specs.declared.option.Option.{Option}
 use Rattle.std.specs.String.{string_bytes}
+use Rattle.bec_bytes.specs.Causes.{Rose}
 use Rattle.bec_disk.specs.Shelf.{ShelfState}
 use Rattle.command_words.specs.Requests.{Asks, RequestText, heads, check, dump, init, keygen, apply, join, export, query, merge}
 use Rattle.outcomes.specs.declared.refusal.Refusal.TheVariants.{Memory, Words}
@@ -13,13 +14,16 @@ use Rattle.node_commands.specs.Heads.{HeadsAnswer}
 use Rattle.node_commands.specs.Merging.{IsSureOfMerge, Merges}
 use Rattle.outcomes.specs.Outcome.{Outcome, Says}
 use Rattle.outcomes.specs.Outside.{IsUntouched, Outside}
+use Rattle.key_directory.specs.Parts.{IsHome}
 use Rattle.schema_verdict.specs.Written.{SinkState}
+use Rattle.schema_verdict.specs.declared.status.TheConstants.{STORE_FAULT, STREAM_FAULT}
 use Rattle.node_commands.specs.Signing.{Applies, IsSureOfApply, JoinAnswer, JoinsHeads, SignAnswer, StoreAnswer}
 use Rattle.node_commands.specs.Asking.{QueryAnswer}
 use Rattle.outcomes.specs.StoreAnswers.{Readings, Printing, ReadsStore}
 use Rattle.node_commands.specs.Shows.{ShowsHeads, ShowsRecords, ShowsTables}
 use Rattle.node_commands.specs.Verdict.{CheckAnswer}
 use Rattle.outcomes.specs.Only.{EachAs, SourceOnly, ShelfOnly}
+use Rattle.bec_node.specs.Own.{EndsAs}
 
 -- the words ask for this
 abbrev pub IsCommand : RequestText → List (String Global) → Type 0
@@ -77,12 +81,18 @@ AnswersOnly (export dir updates_only) before status = ShelfOnly (ReadsStore (Pri
 AnswersOnly (query dir text json) before status = ShelfOnly (ReadsStore (QueryAnswer text json)) dir before.store status
 AnswersOnly (merge first second) before status = IsTrue before.store.tells → EachAs (IsSureOfMerge (readings before.store first) (readings before.store second)) status
 
--- A run of the program: the words and what stands outside ask for an outcome, the sink is told it, and the status is its own.
+-- A run of the program: the words and what stands outside ask for an outcome, the sink is told it, and the status is its own. Whether the shelf tells what it has or not, what
+-- is asked for is done or refused for a reason of its own, or a fault came in its place; a store fault is told only where the shelf counted one, and a stream fault only
+-- where the source or the sink did. No part of the shelf is handed out afterwards.
 pub record Runs {S H R : Type 0} (words : List (String Global)) (before after : Outside S H R) (sink sink_new : SinkState) (status : ℕ) : Type 0 where
   pub outcome : Outcome
   pub asked : AsksFor words before after outcome
   pub said : Says sink.faults sink_new.faults sink.held sink_new.held outcome status
   pub only : (request : RequestText) → IsCommand request words → AnswersOnly request before status
+  pub ends : (request : RequestText) → IsCommand request words → EndsAs request before after outcome
+  pub store_fault : status ≡ STORE_FAULT → Rose before.shelf_faults after.shelf_faults
+  pub stream_fault : status ≡ STREAM_FAULT → Rose before.source_faults after.source_faults ⊎ Rose sink.faults sink_new.faults
+  pub home : IsTrue before.store.tells → IsHome after.store
 
 -- Where a request names two directories, it names them by two words.
 abbrev pub NamesApart : RequestText → Type 0

@@ -3,7 +3,7 @@ ghost use Rattle.command_words.specs.Seen.{net_seen, seal_seen};
 ghost use Rattle.outcomes.specs.Outside.{outside};
 ghost use Rattle.key_directory.specs.Parts.{IsHome};
 ghost use Rattle.bec_node.specs.Families.{AsksForSome, IsAnswered, SealAnswersOnly, SealComes, family_seen, of_net};
-ghost use Rattle.bec_node.specs.Run.{DoesAsked, DoesOver, RunsOver};
+ghost use Rattle.bec_node.specs.Run.{DoesAsked, DoesOver, Leaves, RunsOver};
 
 use crate::alone::run_alone;
 use crate::families::{FamilyRequest, family_request_in};
@@ -29,7 +29,7 @@ use watch_command::{Watch, watch_in};
 /// Words that ask for something of a family, as over a net or about seals, come to what that comes to; other words come to what [`run_alone`] says. What
 /// needs no net leaves it as it was. `sync` meets the node at an address, and `serve` meets those that dial; what they come to is told of the net's next
 /// links, of what the parts of the directory read as, and of the sessions that were held. Where the shelf or the net failed or memory ran out, that comes in
-/// its place. `sync` and `serve` wait for other nodes, and no other command waits.
+/// its place. A fault of the store is told only where the shelf counted one, and a fault of a stream only where the source, the net or the sink did. `sync` and `serve` wait for other nodes, and no other command waits.
 pub fn run<T: Threads + Wait + Sync, H: Shelf, N: Net, R: Rng, S: Source, K: Sink>(
     rt: &T,
     alloc: Global,
@@ -43,10 +43,15 @@ pub fn run<T: Threads + Wait + Sync, H: Shelf, N: Net, R: Rng, S: Source, K: Sin
 where
     H::D: Send,
     requires { IsTrue (H.state shelf.old).tells → IsHome (H.state shelf.old) }
-    ensures { RunsOver words.now
+    ensures runs { RunsOver words.now
         (outside S.left S.faults H.state H.faults R.stream input.old shelf.old random.old) (outside S.left S.faults H.state H.faults R.stream input.new shelf.new random.new)
         (record { net = net.old; state = N.state net.old; faults = N.faults net.old }) (record { net = net.new; state = N.state net.new; faults = N.faults net.new })
         (record { held = K.held out.old; faults = K.faults out.old }) (record { held = K.held out.new; faults = K.faults out.new }) result }
+    ensures leaves { Leaves
+        (outside S.left S.faults H.state H.faults R.stream input.old shelf.old random.old) (outside S.left S.faults H.state H.faults R.stream input.new shelf.new random.new)
+        (record { net = net.old; state = N.state net.old; faults = N.faults net.old }) (record { net = net.new; state = N.state net.new; faults = N.faults net.new })
+        (record { held = K.held out.old; faults = K.faults out.old }) (record { held = K.held out.new; faults = K.faults out.new }) result }
+    ensures home { IsTrue (H.state shelf.old).tells → IsHome (H.state shelf.new) }
 {
     let Ok(asked) = family_request_in(alloc, words) else {
         return OUT_OF_MEMORY;

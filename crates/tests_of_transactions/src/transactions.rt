@@ -4,6 +4,8 @@ use row_check::{Luhn, Native};
 use schema::Schema;
 use schema_text::{SchemaError, read_schema};
 use std::alloc::{AllocError, Global};
+use std::test::Fail;
+use txn_printing::{are_tables_named, print_txn};
 use txn_text::{TextError, read_txn};
 
 /// Lists, and tasks in them.
@@ -193,4 +195,25 @@ fn all_are_told(alloc: Global) -> Result<bool, SchemaError> {
 #[test]
 fn operations_and_faults(rt: HostRuntime) {
     assert!(rt; matches!(all_are_told(rt.alloc()), Ok(true)));
+}
+
+#[test]
+fn operations_are_printed_and_read_again(rt: HostRuntime) -> Result<(), Fail> {
+    let alloc = rt.alloc();
+    let schema = tasks(alloc)?;
+    assert!(rt; are_tables_named(&schema));
+    let text = spelled(
+        alloc,
+        " INSERT\tlist  \"Ho\\\"m\\x41\" 9 \n\nINSERT task \"Buy\" 3 NULL $1 NULL\r\nDELETE @",
+    )?;
+    let ops = read_txn(alloc, &schema, text.as_slice())?;
+    let printed = print_txn(alloc, &schema, ops.as_slice())?;
+    let wanted = spelled(
+        alloc,
+        "INSERT list \"Ho\\\"mA\" 9\nINSERT task \"Buy\" 3 NULL $1 NULL\nDELETE @\n",
+    )?;
+    assert!(rt; printed.as_slice() == wanted.as_slice());
+    let again = read_txn(alloc, &schema, printed.as_slice())?;
+    assert_eq!(rt; again.as_slice().len(), 3);
+    Ok(())
 }

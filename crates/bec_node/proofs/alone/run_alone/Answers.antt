@@ -1,4 +1,4 @@
-use Rattle.std.proofs.Common.{map, refl}
+use Rattle.std.proofs.Common.{ap, map, refl}
 use Rattle.std.specs.String.{string_bytes}
 use Rattle.command_words.specs.Seen.{request_seen}
 use Rattle.outcomes.specs.Outside.{outside}
@@ -13,7 +13,7 @@ pub returns-in_default : goal.returns-in_default
 returns-in_default g c =
     let seen = outside g.S.Source.left g.S.Counted.faults g.H.Shelf.state g.H.Counted.faults g.R.Rng.stream c.args.input.now c.args.shelf.now c.args.random.now in
     let sink : SinkState = record { held = g.K.Sink.held c.args.out.now; faults = g.K.Counted.faults c.args.out.now } in
-    runs_unread c.args.words.now seen seen sink sink 5 (record { source = refl; shelf = refl; random = refl }) refl refl
+    runs_unread c.args.words.now seen seen sink sink 5 c.requires (λ same. (refl, refl)) (record { source = refl; shelf = refl; random = refl }) refl refl
 
 pub returns-in_default-asked : goal.returns-in_default-asked
 returns-in_default-asked g c =
@@ -21,7 +21,7 @@ returns-in_default-asked g c =
     let sink : SinkState = record { held = g.K.Sink.held c.args.out.now; faults = g.K.Counted.faults c.args.out.now } in
     let sink_new : SinkState = record { held = g.K.Sink.held c.no_command.new.out; faults = g.K.Counted.faults c.no_command.new.out } in
     let no_request = rw c.in_default-asked.is at c.in-Ok.ensures in
-    runs_none c.args.words.now seen seen sink sink_new c.no_command.result no_request (record { source = refl; shelf = refl; random = refl }) c.no_command.ensures
+    runs_none c.args.words.now seen seen sink sink_new c.no_command.result c.requires (λ same. (refl, refl)) no_request (record { source = refl; shelf = refl; random = refl }) c.no_command.ensures
 
 pub returns : goal.returns
 returns g c =
@@ -36,7 +36,7 @@ returns g c =
     let parts : OneOfParts = record { heads = stored.heads; dump = stored.dump; export = stored.export; query = stored.query } in
     let made = c.one_answer_of_makers.ensures in
     let makers : OneOfMakers = record { init = made.init; keygen = made.keygen; apply = made.apply; join = made.join } in
-    runs c.args.words.now seen then sink sink_new c.finish.result one parts makers c.one_answer_of_merge.ensures c.one_request.ensures (request_seen c.in-Some.request) asks
+    runs c.args.words.now seen then sink sink_new c.finish.result c.requires (λ same. (ap g.H.Shelf.state same, ap g.H.Counted.faults same)) one parts makers c.one_answer_of_merge.ensures c.one_request.ensures (request_seen c.in-Some.request) asks
     c.outcome_of-outcome.result c.outcome_of-outcome.ensures c.finish.ensures
 
 pub outcome_of-outcome-requires-clause-apart : goal.outcome_of-outcome-requires-clause-apart

@@ -1,0 +1,5 @@
+pub mod Bytes
+mod Lines
+mod Named
+pub mod Values
+pub mod Words
