@@ -1,8 +1,6 @@
 -- What an act does to each directory.
-use Rattle.std.proofs.Common.{◌≡◌, ◌⊎◌, inl, inr, ℕ, List, [], ◌∷◌, ◌++◌, refl, sym, ◌∙◌, ap, subst, IsTrue, Bool, Option, Some, None, Result, Ok, Err}
-use Rattle.std.specs.Prelude.{◌≢◌, OnOk}
+use Rattle.std.proofs.Common.{◌≡◌, inl, inr, ℕ, List, refl, sym, ◌∙◌, ap, subst, IsTrue, Bool, Option, Some, None, Result, Ok, Err}
 use Rattle.bec_disk.specs.Disk.{DiskState}
-use Rattle.bec_disk.specs.Gated.{gated_of}
 use Rattle.bec_disk.specs.declared.part.Part.TheVariants.{Key, Used}
 use Rattle.bec_disk.specs.Shelf.{PartState, ShelfState, stands}
 use Rattle.bec_disk.specs.Slot.{slot}
@@ -15,11 +13,10 @@ use Rattle.key_index.specs.declared.reserve.Reserve.{Reserve}
 use Rattle.key_directory.specs.Keys.{LetsKeyGo, MakesKey, PutsKey, ReadsAsKey, TakesKey}
 use Rattle.key_directory.specs.Parts.{LetsNewGo, part_in, reading}
 use Rattle.hss_directory.specs.Values.{IsReadable}
-use Rattle.hss_directory.proofs.Places.{peers_not_key}
 use Rattle.seal_laws.specs.Acts.{Acts, IndexUse, fails, makes, makes_none, only_reads, puts_back, signs, takes, takes_none, touches_peers}
 use Rattle.seal_laws.specs.Histories.{AreApart, Has}
 use Rattle.seal_laws.specs.Worlds.{HoldsSame, NowHolds, World}
-use Rattle.seal_laws.proofs.Parts.{Goes, IsTaken, IsWell, StaysIn, goes_back, goes_made, goes_read, goes_same, goes_taken, goes_tried, goes_unmade, held_there, signed_stays}
+use Rattle.seal_laws.proofs.Parts.{Goes, IsWell, StaysIn, goes_back, goes_made, goes_read, goes_same, goes_taken, goes_tried, goes_unmade, held_there, signed_stays}
 use Rattle.seal_laws.proofs.Places.{at_each, keys_alone}
 
 abbrev pub GoesAt : World → World → List ℕ → Type 0

@@ -1,5 +1,5 @@
 -- The calls of a two-level key are runs of acts.
-use Rattle.std.proofs.Common.{◌≡◌, ◌⊎◌, inl, inr, ℕ, List, [], ◌∷◌, ◌++◌, refl, sym, ◌∙◌, ap, subst, append_assoc, append-nil, Option, Some, None, Ok, Err}
+use Rattle.std.proofs.Common.{◌≡◌, ◌⊎◌, inl, inr, ℕ, List, [], ◌∷◌, ◌++◌, refl, sym, ◌∙◌, ap, subst, append_assoc, append-nil, Option, Some, None}
 use Rattle.std.specs.Prelude.{◌≢◌, Bool, IfSome, IsTrue}
 use Rattle.rand_core.specs.Stream.{Stream}
 use Rattle.bec_disk.specs.declared.part.Part.TheVariants.{Key, Used}
@@ -20,13 +20,13 @@ use Rattle.key_index.specs.declared.reserve.Reserve.TheVariants as reserve
 use Rattle.key_directory.specs.Keys.{MakesKey, TakesKey}
 use Rattle.key_directory.specs.Parts.{LetsNewGo, part_in}
 use Rattle.hss_chain.specs.Keys.{key_bytes}
-use Rattle.hss_directory.specs.Calls.{CreatesHss, KeepsOrMakes, KeepsUnspent, OpensHss, PutsHss, PutsLower, Readies, RefusesToReady, RefusesToSign, SealsBy, SealsNone, Signs, hss_of, not_ready, not_sealed, unjoined, unsigned as seals_unsigned}
-use Rattle.hss_directory.specs.Lower.{LetsLowerGo, MakesLower, OpensNoLower, RefusesLower, TakesLower, Vouches, VouchesNot, made, no_memory, no_vouching, not_made, not_taken, opens_none, opens_spent, refuses_key, taken, top_spent, unsigned, unwritten}
+use Rattle.hss_directory.specs.Calls.{CreatesHss, KeepsOrMakes, KeepsUnspent, OpensHss, PutsHss, PutsLower, RefusesToSign, SealsNone, Signs, hss_of, not_ready, not_sealed, unjoined, unsigned as seals_unsigned}
+use Rattle.hss_directory.specs.Lower.{LetsLowerGo, MakesLower, OpensNoLower, RefusesLower, TakesLower, VouchesNot, made, no_memory, no_vouching, not_made, not_taken, opens_none, opens_spent, refuses_key, taken, top_spent, unsigned, unwritten}
 use Rattle.hss_directory.specs.Opening.{FindsLower, none_used as no_index_used, recorded, unrecorded}
 use Rattle.hss_directory.specs.Peers.{ReadsPeers, WritesPeers}
 use Rattle.hss_directory.specs.Places.{OnlyReads}
 use Rattle.hss_directory.specs.Signing.{SignsBy, SignsNone}
-use Rattle.hss_directory.specs.Values.{HasLeft, HssState, IsReadable, IsSound, IsSpent, LowerState, low_dir}
+use Rattle.hss_directory.specs.Values.{HssState, IsReadable, IsSound, IsSpent, LowerState, low_dir}
 use Rattle.hss_directory.specs.declared.fault.HssFault.{HssFault}
 use Rattle.hss_directory.specs.declared.fault.HssFault.TheVariants.{Disk, KeyThere, NoKey, BadKey, Spent, Memory}
 use Rattle.hss_directory.proofs.Places.{low-ne}

@@ -1,12 +1,11 @@
 -- What is done to the two parts of one directory's key.
-use Rattle.std.proofs.Common.{◌≡◌, ◌⊎◌, inl, inr, ℕ, List, [], ◌∷◌, ◌++◌, refl, sym, ◌∙◌, ap, subst, arith, IsTrue, Option, Some, None, Result, Ok, Err, length}
+use Rattle.std.proofs.Common.{◌≡◌, inl, inr, ℕ, List, [], ◌∷◌, ◌++◌, refl, sym, ◌∙◌, ap, subst, arith, IsTrue, Option, Some, None, Result, Ok, length}
 use Rattle.std.specs.Prelude.{◌≢◌, ◌+◌, ◌≤◌, ◌==◌, Bool, true, false, if◌then◌else◌, take, drop}
 use Rattle.std.proofs.lemmas.Bool.Decides.{nat_tests}
 use Rattle.std.proofs.lemmas.List.{append_cancel_right}
 use Rattle.byteorder.specs.Endian.{big_bytes, big_number}
-use Rattle.bec_disk.specs.Disk.{AllImages, DiskState, EveryImage, IsImage, IsSettled, LeavesSince, Moment, handed_out, made_part, moments}
+use Rattle.bec_disk.specs.Disk.{AllImages, DiskState, EveryImage, IsSettled, LeavesSince, Moment, handed_out, moments}
 use Rattle.bec_disk.specs.Gated.{gated_of, whole_of}
-use Rattle.bec_disk.specs.declared.gated.Gated.{Gated}
 use Rattle.bec_disk.specs.declared.gated.Gated.TheVariants.{Absent, Damaged, Whole}
 use Rattle.bec_disk.specs.Shelf.{PartState, absent, moments_of, out, stands}
 use Rattle.bec_disk.specs.Slot.{Slot}
@@ -23,7 +22,7 @@ use Rattle.key_index.specs.declared.reserve.Reserve.{Reserve}
 use Rattle.key_directory.specs.Parts.{IsHanded, IsUntouched, seen_in}
 use Rattle.hss_directory.specs.Values.{IsReadable}
 use Rattle.hss_directory.proofs.Lowers.{key_alone}
-use Rattle.seal_laws.specs.Acts.{IsPartLeft, MayBeLeft}
+use Rattle.seal_laws.specs.Acts.{MayBeLeft}
 use Rattle.seal_laws.specs.Worlds.{IsLeftWith, key_of, used_of}
 
 -- ---- keys that are there

@@ -1,8 +1,7 @@
 -- Over every list of calls an index that each crash leaves used stays so and signs nothing more.
 use Rattle.std.proofs.Common.{◌≡◌, ◌⊎◌, inl, inr, ℕ, List, [], ◌∷◌, ◌++◌, refl, sym, ◌∙◌, ap, subst, append_assoc, append-nil, IsTrue, Option, Some, None}
-use Rattle.bec_disk.specs.Disk.{EveryImage, LeavesSince}
+use Rattle.bec_disk.specs.Disk.{EveryImage}
 use Rattle.bec_disk.specs.declared.part.Part.TheVariants.{Key, Used}
-use Rattle.bec_disk.specs.Shelf.{moments_of}
 use Rattle.bec_disk.proofs.Images.{settled_image}
 use Rattle.key_index.specs.KeyState.{KeyState}
 use Rattle.key_index.specs.Lives.{IsThere}
@@ -40,12 +39,11 @@ moves_sound old new uses (cut was next after goes left) sound = closed_sound aft
 -- an index stays used
 left_stays : (old next after : World) (dir : List ℕ) (index : ℕ) → GoesAt old next dir → IsLeft old next after → IsWellAt old dir → StaysAt index old dir → StaysAt index after dir
 left_stays old next after dir index goes left well stays =
-    subst (λ (h : Option KeyState). StaysIn index h (part_in after.shelf dir Key) (part_in after.shelf dir Used)) (sym (left.none dir))
-    (
+    subst (λ (h : Option KeyState). StaysIn index h (part_in after.shelf dir Key) (part_in after.shelf dir Used)) (sym (left.none dir)) (
       left_fixed (key_part old dir) (key_part next dir) (part_in after.shelf dir Key) IsThere
-      (left_with_key index (old.held dir) (part_in old.shelf dir Key) (part_in old.shelf dir Used) stays) (goes.key_since index well stays) (left.key dir),
+          (left_with_key index (old.held dir) (part_in old.shelf dir Key) (part_in old.shelf dir Used) stays) (goes.key_since index well stays) (left.key dir),
       left_fixed (used_part old dir) (used_part next dir) (part_in after.shelf dir Used) (IsUsed index)
-      (left_with_used index (old.held dir) (part_in old.shelf dir Key) (part_in old.shelf dir Used) stays) (goes.used_since index well stays) (left.used dir),
+          (left_with_used index (old.held dir) (part_in old.shelf dir Key) (part_in old.shelf dir Used) stays) (goes.used_since index well stays) (left.used dir),
     )
 
 moves_stay : (old new : World) (uses : List IndexUse) (dir : List ℕ) (index : ℕ) → Moves old uses new → IsSoundWorld old → StaysAt index old dir → StaysAt index new dir

@@ -1,5 +1,5 @@
 -- What holds from a released seal on.
-use Rattle.std.proofs.Common.{◌≡◌, ℕ, List, refl, sym, ◌∙◌, ap, subst, IsTrue, Bool, Option, Some, None, Ok}
+use Rattle.std.proofs.Common.{◌≡◌, ℕ, List, sym, ◌∙◌, ap, subst, IsTrue, Bool, Option, Some}
 use Rattle.std.specs.Prelude.{◌≢◌}
 use Rattle.rand_core.specs.Stream.{Stream}
 use Rattle.bec_disk.specs.Disk.{EveryImage}

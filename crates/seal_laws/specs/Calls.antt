@@ -7,7 +7,7 @@ use Rattle.update_model.specs.declared.author_key.AuthorKey.{AuthorKey}
 use Rattle.lms_tree.specs.SecretKey.{public_key}
 use Rattle.key_index.specs.KeyState.{KeyState}
 use Rattle.hss_chain.specs.Keys.{key_bytes}
-use Rattle.hss_directory.specs.Calls.{KeepsOrMakes, Readies, RefusesToReady, RefusesToSign, SealsBy, SealsNone, Signs, not_ready, not_sealed, unjoined, unsigned as seals_unsigned}
+use Rattle.hss_directory.specs.Calls.{RefusesToSign, SealsNone, Signs, not_ready, not_sealed, unjoined, unsigned as seals_unsigned}
 use Rattle.hss_directory.specs.Lower.{RefusesLower, VouchesNot, no_memory, no_vouching, refuses_key, top_spent, unsigned, unwritten}
 use Rattle.hss_directory.specs.Values.{HssState, IsReadable, IsSpent, LowerState, low_dir}
 use Rattle.hss_directory.specs.declared.fault.HssFault.{HssFault}
