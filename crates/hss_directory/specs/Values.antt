@@ -1,7 +1,7 @@
 -- Two-level keys as their callers see them.
 use Rattle.std.specs.Prelude.{◌≡◌, ℕ, ◌++◌, List, Option, Some, IfSome, IsNone, IsSome, IsTrue, codes}
 use Rattle.std.specs.Fmt.{decimal}
-use Rattle.bec_disk.specs.Disk.{EveryImage}
+use Rattle.bec_disk.specs.Disk.{EveryImage, IsImage}
 use Rattle.lms_tree.specs.SecretKey.{public_key}
 use Rattle.lms_tree.specs.Signature.{Signed, leaf_number}
 use Rattle.key_index.specs.KeyState.{IsLast, KeyState}
@@ -53,3 +53,7 @@ IsSpent key = IsNone (least_unused key.taken)
 -- There is no current lower key, or it is spent.
 abbrev pub LacksLower : HssState → Type 0
 LacksLower hss = IfSome hss.lower (λ lower. IsSpent lower.key)
+
+-- What is read of the part Used is what a crash might leave of it.
+abbrev pub IsReadable : KeyState → Type 0
+IsReadable key = IsTrue key.parts.used.tells → IsImage key.parts.used.now key.parts.used.seen

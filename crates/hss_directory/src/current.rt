@@ -9,7 +9,7 @@ ghost use Rattle.hss_chain.specs.Keys.{key_bytes};
 ghost use Rattle.hss_chain.specs.Sealing.{SealedBy, public_bytes};
 ghost use Rattle.hss_directory.specs.Calls.{KeepsHss, KeepsUnspent, PutsLower, Readies, RefusesToReady, SealsBy, SealsNone, hss_of};
 ghost use Rattle.hss_directory.specs.Places.{Holds, HoldsKey};
-ghost use Rattle.hss_directory.specs.Values.{HasLeft, IsSound};
+ghost use Rattle.hss_directory.specs.Values.{HasLeft, IsReadable, IsSound, IsSpent};
 
 use crate::fault::HssFault;
 use crate::lower::Lower;
@@ -40,6 +40,7 @@ pub(crate) fn ready_lower<H: Shelf, R: Rng>(
     ensures has_left { IfOk result (λ ready. HasLeft ready.key) }
     ensures keeps { IfOk result (λ ready. KeepsHss (H.state shelf.old) (hss_of dir.now top.old lower) (H.state shelf.new) (hss_of dir.now top.new (Some ready))) }
     ensures keeps_none { IfErr result (λ _. KeepsHss (H.state shelf.old) (hss_of dir.now top.old lower) (H.state shelf.new) (hss_of dir.now top.new None)) }
+    ensures reads { IfSome lower (λ lower. IsSpent lower.key → IsReadable lower.key) }
     ensures later { H.faults shelf.old ≤ H.faults shelf.new }
     ensures failed { IsErrOf result HssFault.Disk → Rose (H.faults shelf.old) (H.faults shelf.new) ⊎ Rose top.old.parts.used_faults top.new.parts.used_faults }
 {
@@ -82,6 +83,7 @@ fn is_key(_key: AuthorKey)
 pub(crate) fn unspent<H: Shelf>(shelf: &mut H, lower: Option<Lower<H::D>>) -> Option<Lower<H::D>>
     requires { IsTrue (H.state shelf.old).tells → IfSome lower (λ lower. HoldsKey (H.state shelf.old) lower.dir lower.key) }
     ensures keeps { KeepsUnspent (H.state shelf.old) lower result (H.state shelf.new) }
+    ensures reads { IfSome lower (λ lower. IsSpent lower.key → IsReadable lower.key) }
     ensures later { H.faults shelf.old ≤ H.faults shelf.new }
 {
     let Some(lower) = lower else {
@@ -98,6 +100,7 @@ pub(crate) fn unspent<H: Shelf>(shelf: &mut H, lower: Option<Lower<H::D>>) -> Op
 pub(crate) fn put_lower<H: Shelf>(shelf: &mut H, lower: Option<Lower<H::D>>)
     requires { IsTrue (H.state shelf.old).tells → IfSome lower (λ lower. HoldsKey (H.state shelf.old) lower.dir lower.key) }
     ensures puts { PutsLower (H.state shelf.old) lower (H.state shelf.new) }
+    ensures reads { IfSome lower (λ lower. IsReadable lower.key) }
     ensures later { H.faults shelf.old ≤ H.faults shelf.new }
     ensures faulted { IfSome lower (λ lower. 0 < lower.key.parts.used_faults → Rose (H.faults shelf.old) (H.faults shelf.new)) }
 {

@@ -13,7 +13,7 @@ ghost use Rattle.key_directory.specs.Parts.{LetsNewGo, part_in, reading};
 ghost use Rattle.hss_chain.specs.Sealing.{SealedBy, public_bytes};
 ghost use Rattle.hss_directory.specs.Calls.{BeginsHss, CreatesHss, EndsHss, HeldRose, IsOpeningCause, KeepsHss, OpensHss, PutsHss, RefusesToSign, Signs};
 ghost use Rattle.hss_directory.specs.Places.{AreHome, Holds, OnlyReads};
-ghost use Rattle.hss_directory.specs.Values.{IsSound};
+ghost use Rattle.hss_directory.specs.Values.{IsReadable, IsSound, IsSpent};
 
 use crate::current::{put_in, put_lower, ready_lower, seal_by};
 use crate::fault::HssFault;
@@ -134,6 +134,7 @@ impl<D: Disk> Hss<D> {
         ensures refused { IfErr result (λ why. RefusesToSign (R.stream random.old) (H.state shelf.old) self.old msg.now why self.new (H.state shelf.new) (R.stream random.new)) }
         ensures sealed { IfOk result (λ seal. SealedBy (public_bytes (public_key self.old.top.secret)) msg.now seal.items) }
         ensures keeps { KeepsHss (H.state shelf.old) self.old (H.state shelf.new) self.new }
+        ensures reads { IfSome self.old.lower (λ lower. IsSpent lower.key → IsReadable lower.key) }
         ensures later { H.faults shelf.old ≤ H.faults shelf.new }
         ensures failed { IsErrOf result HssFault.Disk → Rose (H.faults shelf.old) (H.faults shelf.new) ⊎ HeldRose self.old self.new }
     {
@@ -150,6 +151,7 @@ impl<D: Disk> Hss<D> {
         requires sound { IsSound self }
         ensures puts { PutsHss (H.state shelf.old) self (H.state shelf.new) }
         ensures ends { EndsHss (H.state shelf.old) self.dir (H.state shelf.new) }
+        ensures reads { IsReadable self.top × IfSome self.lower (λ lower. IsReadable lower.key) }
         ensures later { H.faults shelf.old ≤ H.faults shelf.new }
         ensures top_faulted { 0 < self.top.parts.used_faults → Rose (H.faults shelf.old) (H.faults shelf.new) }
         ensures lower_faulted { IfSome self.lower (λ lower. 0 < lower.key.parts.used_faults → Rose (H.faults shelf.old) (H.faults shelf.new)) }

@@ -1,0 +1,7 @@
+mod Parts
+mod Places
+mod ActLaws
+mod RunLaws
+mod Turns
+mod CallLaws
+mod SealLaws

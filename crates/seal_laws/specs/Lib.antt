@@ -1,0 +1,4 @@
+pub mod Worlds
+pub mod Acts
+pub mod Histories
+pub mod Calls
