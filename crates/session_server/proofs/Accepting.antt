@@ -1,5 +1,5 @@
 -- How serving goes on, step by step.
-use Rattle.std.proofs.Common.{◌≡◌, ℕ, ◌+◌, ◌≤◌, ◌<◌, List, [], ◌∷◌, ◌++◌, length, map, Bool, true, false, Option, refl, sym, ap, ◌∙◌, subst, arith, append_assoc, length-append}
+use Rattle.std.proofs.Common.{◌≡◌, ◌⊎◌, inl, inr, ℕ, ◌+◌, ◌≤◌, ◌<◌, List, [], ◌∷◌, ◌++◌, length, map, Bool, true, false, Option, refl, sym, ap, ◌∙◌, subst, arith, append_assoc, length-append}
 use Rattle.std.specs.Prelude.{All, if◌then◌else◌}
 use Rattle.std.proofs.lemmas.List.{append-nil, length-map, map-append}
 use Rattle.std.proofs.lemmas.List.Elements.{All-append, All-cons, All-head, All-nil, All-rest, All-same, All-weaker}
@@ -8,12 +8,13 @@ use Rattle.bec_bytes.specs.Causes.{Rose, one_more}
 use Rattle.bec_links.specs.Nets.{NetState, IsFirst, taken_back, with_held}
 use Rattle.update_model.specs.Rule.{RuleData}
 use Rattle.peer_memory.specs.declared.peer.Peer.{Peer}
-use Rattle.turn_lock.specs.Seats.{Known}
+use Rattle.turn_lock.specs.Numbers.{AreApart, number_in}
+use Rattle.turn_lock.specs.Seats.{Known, numbers_of}
 use Rattle.shared_replica.specs.declared.entry.Entry.{Entry}
 use Rattle.session_server.specs.declared.served.Served.{Served}
 use Rattle.session_server.specs.declared.server.Tally.{Tally}
 use Rattle.session_server.specs.Accepting.{Given, GoesOn, IsDue, IsEnded, IsFresh, Standing, given_to}
-use Rattle.session_server.specs.Serving.{Begun, Ran, IsResponse, IsRun, IsTold, IsWithin, Leaves, begun_of, given_with, served_of, Serves}
+use Rattle.session_server.specs.Serving.{Begun, Ran, IsResponse, IsRun, IsTold, IsWithin, Leaves, begun_of, given_with, numbers_in, served_of, Serves}
 use Rattle.session_server.proofs.Passing.{prefix_then}
 
 -- ---- counts, links and what came back
@@ -29,6 +30,28 @@ leaves_then coming middle rest (x ∷ xs) ys p q = (p.0, p.1, leaves_then p.0 mi
 given_then : (given : Option (List (List ℕ))) (xs ys : List Ran) → given_with given (xs ++ ys) ≡ given_with (given_with given xs) ys
 given_then given [] ys = refl
 given_then given (x ∷ xs) ys = given_then (with_held given x.held') xs ys
+
+numbers_then : (xs ys : List Ran) → numbers_in (xs ++ ys) ≡ numbers_in xs ++ numbers_in ys
+numbers_then [] ys = refl
+numbers_then (x ∷ xs) ys = ap (λ l. numbers_of x.after ++ l) (numbers_then xs ys) ∙ sym (append_assoc (numbers_of x.after) (numbers_in xs) (numbers_in ys))
+
+apart_then : (b c : Known Entry) (ds es : List Ran) → c.number ≡ b.number → c.others ≡ b.others ++ numbers_in es → (ds ≡ []) ⊎ AreApart (numbers_of b) → (es ≡ []) ⊎ AreApart (numbers_of c)
+    → (ds ++ es ≡ []) ⊎ AreApart (numbers_of c)
+apart_then b c ds es number others p (inr apart) = inr apart
+apart_then b c ds es number others (inl none) (inl empty) = inl (λ i. none i ++ empty i)
+apart_then b c ds es number others (inr apart) (inl empty) =
+    let same : c.others ≡ b.others = others ∙ ap (λ (l : List Ran). b.others ++ numbers_in l) empty ∙ append-nil b.others in
+    inr (subst AreApart (λ i. number_in (sym number i) ++ sym same i) apart)
+
+apart_behind : (xs ys : List ℕ) → AreApart (xs ++ ys) → AreApart ys
+apart_behind [] ys apart = apart
+apart_behind (x ∷ xs) ys apart = apart_behind xs ys apart.1
+
+-- the seats with which the sessions ran have different numbers
+apart_all : (a c : Known Entry) (ds : List Ran) → c.others ≡ a.others ++ numbers_in ds → (ds ≡ []) ⊎ AreApart (numbers_of c) → AreApart (numbers_in ds)
+apart_all a c ds others (inl none) = subst (λ (l : List Ran). AreApart (numbers_in l)) (sym none) tt
+apart_all a c ds others (inr apart) = apart_behind (number_in c.number ++ a.others) (numbers_in ds)
+    (subst AreApart (ap (λ (l : List ℕ). number_in c.number ++ l) others ∙ sym (append_assoc (number_in c.number) a.others (numbers_in ds))) apart)
 
 -- where no call of the net failed in two parts of a course, none failed in the course
 steady_then : (was middle is : Bool) (a b c : ℕ) → (middle ≡ was → b ≡ a) → (is ≡ middle → c ≡ b) → (was ≡ true → middle ≡ true) → (middle ≡ true → is ≡ true) → is ≡ was → c ≡ a
@@ -78,6 +101,9 @@ module _ {rule : RuleData} {peers : List Peer} where
         ∙ ap (λ (l : List Served). a.tally.served.items ++ l) (sym (map-append served_of ds es));
     within = λ none. All-append (IsWithin c.pass) ds es
         (All-weaker (IsWithin b.pass) (IsWithin c.pass) (λ r h. prefix_then r.after.seen b.pass.seen c.pass.seen h q.seen) ds (p.within (q.memory none))) (q.within none);
+    others = λ none. q.others none ∙ ap (λ l. l ++ numbers_in es) (p.others (q.memory none)) ∙ append_assoc a.pass.others (numbers_in ds) (numbers_in es)
+        ∙ ap (λ l. a.pass.others ++ l) (sym (numbers_then ds es));
+    apart = λ none. apart_then b.pass c.pass ds es q.same_number (q.others none) (p.apart (q.memory none)) (q.apart none);
     few = let x = p.few in let y = q.few in let n = length-append ds es in omega (arith, x, y, n);
     steady = steady_then a.tally.net_failed b.tally.net_failed c.tally.net_failed a.net.failed b.net.failed c.net.failed p.steady q.steady p.stays q.stays;
     failed = failed_then a.tally.net_failed b.tally.net_failed c.tally.net_failed a.net.failed b.net.failed c.net.failed a.faults b.faults c.faults p.later q.later p.steady q.steady p.failed q.failed;
@@ -115,6 +141,8 @@ module _ {rule : RuleData} {peers : List Peer} where
     memory = p.memory;
     counted = p.counted;
     within = p.within;
+    others = p.others;
+    apart = p.apart;
     few = p.few;
     steady = p.steady;
     failed = p.failed;
@@ -145,6 +173,8 @@ module _ {rule : RuleData} {peers : List Peer} where
     memory = memory;
     counted = λ none. served ∙ sym (append-nil a.tally.served.items);
     within = λ none. All-nil (IsWithin b.pass);
+    others = λ none. ap (λ (k : Known Entry). k.others) pass ∙ sym (append-nil a.pass.others);
+    apart = λ none. inl refl;
     few = let n = ap length served in omega (arith, n);
     steady = steady;
     failed = failed;
@@ -172,6 +202,8 @@ module _ {rule : RuleData} {peers : List Peer} where
         memory = λ none. sym (ap (λ (t : Tally). t.memory) tally) ∙ none;
         counted = λ none. served ∙ sym (append-nil a.tally.served.items);
         within = λ none. All-nil (IsWithin b.pass);
+        others = λ none. ap (λ (k : Known Entry). k.others) pass ∙ sym (append-nil a.pass.others);
+        apart = λ none. inl refl;
         few = let n = ap length served in omega (arith, n);
         steady = λ same. failed;
         failed = λ was is. let e = ap (λ (t : Tally). t.net_failed) tally in absurd (cc (is, was, e));
@@ -182,8 +214,9 @@ module _ {rule : RuleData} {peers : List Peer} where
   pub goes_end : (a b : Standing) (r : Ran) → b.net ≡ taken_back a.net r.held' → 0 < a.net.out → a.faults ≤ b.faults → (0 < r.faults' → Rose a.faults b.faults) → a.running ≡ begun_of r ∷ b.running
       → (b.pass.lock ≡ a.pass.lock) × (b.pass.number ≡ a.pass.number) × (b.pass.acts ≡ a.pass.acts) → IsPrefix a.pass.seen b.pass.seen → r.before.lock ≡ a.pass.lock → IsRun rule peers r
       → (b.tally.memory ≡ false → (a.tally.memory ≡ false) × (b.tally.served.items ≡ a.tally.served.items ++ r.served ∷ []) × IsPrefix r.after.seen b.pass.seen)
-      → length b.tally.served.items ≤ length a.tally.served.items + 1 → b.tally.net_failed ≡ a.tally.net_failed → GoesOn rule peers a b [] (r ∷ [])
-  goes_end a b r net some faults told running pass seen same_lock run counted few failed = record {
+      → length b.tally.served.items ≤ length a.tally.served.items + 1 → b.tally.net_failed ≡ a.tally.net_failed
+      → (b.tally.memory ≡ false → (b.pass.others ≡ a.pass.others ++ numbers_of r.after) × AreApart (numbers_of b.pass)) → GoesOn rule peers a b [] (r ∷ [])
+  goes_end a b r net some faults told running pass seen same_lock run counted few failed numbers = record {
     same_lock = pass.0;
     same_number = pass.1;
     same_acts = pass.2;
@@ -199,6 +232,8 @@ module _ {rule : RuleData} {peers : List Peer} where
     memory = λ none. (counted none).0;
     counted = λ none. (counted none).1;
     within = λ none. All-cons (IsWithin b.pass) r [] (counted none).2 (All-nil (IsWithin b.pass));
+    others = λ none. (numbers none).0 ∙ ap (λ l. a.pass.others ++ l) (sym (append-nil (numbers_of r.after)));
+    apart = λ none. inr (numbers none).1;
     few = few;
     steady = λ same. ap (λ (n : NetState). n.failed) net;
     failed = λ was is. absurd (cc (is, was, failed));
@@ -253,6 +288,7 @@ module _ {rule : RuleData} {peers : List Peer} where
         later = p.later;
         told = p.told;
         within = p.within;
+        apart = λ none. apart_all a.pass c.pass ds (p.others none) (p.apart none);
         counted = counted;
         whole = λ none not. let w = whole none not in let l = ap length (counted none) in let m = length-map ds served_of in omega (arith, w, l, m, n);
         fewer = λ one. let f = p.failed was one in let w = fewer one in let l = p.few in let e = ap length empty in let s = ap length is in let r = f.0 in (omega (arith, w, l, e, s, n), omega (arith, r), f.1);

@@ -35,8 +35,9 @@ use Rattle.link_frames.proofs.Sentences.{front_whole}
 use Rattle.session_server.specs.declared.ending.Ending.{Ending}
 use Rattle.session_server.specs.declared.ending.Ending.TheVariants.{Done, Peer as BadPeer, Cut, Full, Broken, Store, Memory}
 use Rattle.session_server.specs.declared.served.Served.{Served}
-use Rattle.session_server.specs.Sessions.{Counts, HasCause, IsAllRead, IsPut, IsSession, IsToRemember, Runs}
+use Rattle.session_server.specs.Sessions.{Counts, HasAdded, HasCause, IsAllRead, IsPut, IsSession, IsToRemember, Runs}
 use Rattle.session_server.specs.Talks.{Begins, Concludes, HasCauseBy, IsPutBy, IsTalk, IsTalkWith, IsToKeep, ReadsTo, Start, is_cut, over_by}
+use Rattle.session_server.proofs.Gaining.{begun_added}
 use Rattle.session_server.proofs.Passing.{act_still, updates_prefix}
 use Rattle.std.proofs.KnownBytes.{Consumes-nil}
 use Rattle.link_frames.proofs.Pieces.{reads_nothing}
@@ -52,6 +53,10 @@ greeting_frames Responder s out g = ap frames_of g ∙ sym (ap (λ (o : OutData)
 not_ended : (role : Role) (database node : List ℕ) (old : List UpdateId) (list : List GraphEntry) → (opened role database node old list).ended ≡ None
 not_ended Initiator database node old list = refl
 not_ended Responder database node old list = refl
+
+none_gained : (role : Role) (database node : List ℕ) (old : List UpdateId) (list : List GraphEntry) → (opened role database node old list).gained ≡ 0
+none_gained Initiator database node old list = refl
+none_gained Responder database node old list = refl
 
 module _ (rule : RuleData) (role : Role) (pass after : Known Entry) (name : Option (List ℕ)) (old : List UpdateId) (k : Kept) (out : Out) (held held' : Option (List ℕ)) (faults faults' : ℕ) (b : Begins pass after role old k out)
     (ruled : IsRuledBy pass.seen rule) where
@@ -90,6 +95,8 @@ module _ (rule : RuleData) (role : Role) (pass after : Known Entry) (name : Opti
         later = later;
         is_fresh = refl;
         failed = λ e. absurd (cc (sym b.starts.failed ∙ e));
+        counts = λ other. subst (λ (n : ℕ). HasAdded pass after n) (sym (ap (λ (s : SessionData). s.gained) reached_is ∙ none_gained role rule.database ruled.opening.node old (map entry_of (updates_of b.point))))
+            (begun_added pass after b.point b.store false b.act);
       }
 
   -- the Hello was said or not
@@ -134,6 +141,13 @@ module _ (rule : RuleData) (role : Role) (peers : List Peer) (s : Start) (after 
         turns = c.turns ∙ sym (ap (λ (x : SessionData). x.turns) same);
         peer = c.peer ∙ ap (option_map node_of) (sym (ap (λ (x : SessionData). x.peer) same));
       }
+
+  added : served.ending ≢ Memory → HasAdded s.first after served.gained
+  added some = subst (λ (n : ℕ). HasAdded s.first after n) (sym (counted some).gained) (talk.counts (λ is. starved c.ends (cc (is))))
+    where
+      starved : (served.ending ≡ ending) ⊎ (served.ending ≡ Memory) → ending ≡ Memory → ⊥
+      starved (inl same) is = some (same ∙ is)
+      starved (inr same) is = some same
 
   remembered : (e : Ending) → served.ending ≡ e → IsToKeep e k served.heads → IsToRemember e talk.reached served.heads
   remembered Done is keep =
@@ -186,6 +200,7 @@ module _ (rule : RuleData) (role : Role) (peers : List Peer) (s : Start) (after 
     is_put = by_ending (λ e. IsPut e talk.said talk.put) talk.is_put (put_front ending talk.said talk.put talk.is_put);
     cause = by_ending (λ e. HasCause e talk.reached s.first after s.faults faults') talk.cause tt;
     counts = counted;
+    gained = added;
     remembers = remembered served.ending refl c.heads;
     held_all = all_held;
   }

@@ -1,5 +1,6 @@
 mod Accepting
 mod Crossing
 mod Finishing
+mod Gaining
 mod Passing
 mod Talking

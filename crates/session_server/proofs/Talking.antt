@@ -1,5 +1,5 @@
 -- A session over a link goes on, frame by frame.
-use Rattle.std.proofs.Common.{◌≡◌, ◌⊎◌, ◌≤◌, inl, inr, ℕ, Bool, true, false, List, [], ◌∷◌, ◌++◌, map, take, drop, length, Option, Some, None, Result, Ok, Err, refl, sym, ap, subst, ◌∙◌, append_assoc, append-nil, arith}
+use Rattle.std.proofs.Common.{◌≡◌, ◌≢◌, ◌⊎◌, ◌≤◌, inl, inr, ℕ, Bool, true, false, List, [], ◌∷◌, ◌++◌, map, take, drop, length, Option, Some, None, Result, Ok, Err, refl, sym, ap, subst, ◌∙◌, append_assoc, append-nil, arith}
 use Rattle.std.proofs.lemmas.List.{map-append, length-map}
 use lib.Seq.{take-append-le}
 use Rattle.std.specs.Prelude.{option_map}
@@ -8,6 +8,7 @@ use Rattle.std.proofs.KnownBytes.{Appends-trans, Consumes-nil, Consumes-trans}
 use mathlib.Core.List.{IsPrefix}
 use Rattle.bec_bytes.specs.Causes.{Rose}
 use Rattle.replica.specs.Replicas.{ReplicaState}
+use Rattle.update_check.specs.Signed.{IsChecked}
 use Rattle.update_codec.specs.Parts.{entry_of}
 use Rattle.update_model.specs.declared.update_id.UpdateId.{UpdateId}
 use Rattle.update_model.specs.Batch.{Limits, store_limits}
@@ -22,15 +23,17 @@ use Rattle.session_rules.specs.declared.role.Role.TheVariants.{Initiator, Respon
 use Rattle.session_rules.specs.declared.end.End.{End}
 use Rattle.session_rules.specs.declared.end.End.TheVariants as ends
 use Rattle.sync_session.specs.Kept.{BelongsTo, Kept, Stands, StepsBy, StepsTo, frame_of, out_of, seen, whole}
+use Rattle.sync_session.specs.Gathering.{BelongsSomewhere, GathersAnywhere, StaysWith}
 use Rattle.sync_session.specs.declared.checked_frame.CheckedFrame.{CheckedFrame}
+use Rattle.sync_session.specs.declared.checked_frame.CheckedFrame.TheVariants as items
 use Rattle.sync_session.specs.declared.out.Out.{Out}
 use Rattle.turn_lock.specs.Seats.{Known}
 use Rattle.shared_replica.specs.declared.entry.Entry.{Entry}
 use Rattle.shared_replica.specs.declared.entry.Opening.{Opening}
 use Rattle.shared_replica.specs.Acts.{IsAct}
 use Rattle.shared_replica.specs.Entries.{IsStoreOf, entries_by, opening_of, updates_of}
-use Rattle.shared_replica.specs.Sessions.{IsRuledBy, is_store, met_store}
-use Rattle.shared_replica.proofs.Going.{begun_after, ruled_longer}
+use Rattle.shared_replica.specs.Sessions.{BelongsIn, IsRuledBy, IsUnder, is_store, met_store}
+use Rattle.shared_replica.proofs.Going.{begun_after, ruled_longer, ruled_once}
 use Rattle.link_frames.specs.Course.{Comes, opens, hears}
 use Rattle.link_frames.specs.Hearing.{AllArrive, AreFrontOf, AreSaid, Hears, Reads, said_by}
 use Rattle.link_frames.specs.Listening.{HearsIn}
@@ -46,12 +49,13 @@ use Rattle.link_frames.proofs.Sentences.{front_behind, front_whole, said_append}
 use Rattle.link_frames.proofs.Having.{step_has}
 use Rattle.session_server.specs.declared.ending.Ending.{Ending}
 use Rattle.session_server.specs.declared.ending.Ending.TheVariants.{Done, Peer as BadPeer, Cut, Full, Broken, Store, Memory}
-use Rattle.session_server.specs.Sessions.{HasCause, IsAllRead, IsPut}
+use Rattle.session_server.specs.Sessions.{HasAdded, HasCause, IsAllRead, IsPut}
 use Rattle.peer_memory.specs.declared.peer.Peer.{Peer}
 use Rattle.peer_memory.specs.Peers.{heads_under}
 use Rattle.session_server.specs.Recalling.{heads_for, recalled}
-use Rattle.session_server.specs.Talks.{Begins, Goes, HasCauseBy, HeardFront, HeardOne, IsFresh, IsPutBy, IsStill, IsTalk, IsTalkWith, ReadsBy, ReadsTo, Start, TookOne, ending_of, first_node_of, is_cut, over_by}
-use Rattle.session_server.proofs.Passing.{act_still, prefix_then, still_then, updates_prefix}
+use Rattle.session_server.specs.Talks.{Begins, Goes, HasCauseBy, HeardFront, HeardOne, IsFresh, IsPutBy, IsQuiet, IsStill, IsTalk, IsTalkWith, ReadsBy, ReadsTo, Start, TookOne, ending_of, first_node_of, is_cut, over_by}
+use Rattle.session_server.proofs.Gaining.{again_added, quiet_added, same_gained, step_added}
+use Rattle.session_server.proofs.Passing.{act_still, prefix_self, prefix_then, still_then, updates_prefix}
 
 -- ---- the replica of a list
 
@@ -98,6 +102,7 @@ talk_stops rule role start old pass after k next fresh held faults heard t s or 
   later = t.later;
   is_fresh = t.is_fresh;
   failed = λ is. refl;
+  counts = λ other. absurd (other refl);
 }
   where
     stands_on : ((next ≡ k) ⊎ (next.failed ≡ true)) → next.failed ≡ false → (t.reached ≡ seen t.members next) × Stands rule next t.members
@@ -109,6 +114,14 @@ talk_stops rule role start old pass after k next fresh held faults heard t s or 
 fresh_said : (limits : Limits) (database node : List ℕ) (old : List UpdateId) (known : List (List ℕ)) (s : SessionData) (members : List (List ℕ)) (heard said : List FrameData) → Comes limits Responder database node old known s members heard said → heard ≡ [] → said ≡ []
 fresh_said limits database node old known s members heard said (opens s' m' h' d' out is greets none frames knows) empty = frames ∙ ap frames_of greets
 fresh_said limits database node old known t after all answers (hears s t' members before after' heard said all' answers' frame out comes begins step grew says) empty = absurd (no_more heard frame (sym grew ∙ empty))
+  where
+    no_more : (xs : List FrameData) (x : FrameData) → xs ++ x ∷ [] ≡ [] → ⊥
+    no_more [] x is = cc
+    no_more (y ∷ ys) x is = cc
+
+fresh_gained : (limits : Limits) (database node : List ℕ) (old : List UpdateId) (known : List (List ℕ)) (s : SessionData) (members : List (List ℕ)) (heard said : List FrameData) → Comes limits Responder database node old known s members heard said → heard ≡ [] → s.gained ≡ 0
+fresh_gained limits database node old known s members heard said (opens s' m' h' d' out is greets none frames knows) empty = ap (λ (x : SessionData). x.gained) is
+fresh_gained limits database node old known t after all answers (hears s t' members before after' heard said all' answers' frame out comes begins step grew says) empty = absurd (no_more heard frame (sym grew ∙ empty))
   where
     no_more : (xs : List FrameData) (x : FrameData) → xs ++ x ∷ [] ≡ [] → ⊥
     no_more [] x is = cc
@@ -152,6 +165,10 @@ talk_again rule start old again pass after k next fresh held faults heard out t 
       later = t.later;
       is_fresh = empty;
       failed = λ e. absurd (cc (sym b.starts.failed ∙ e));
+      counts = λ other.
+          let was = fresh_gained store_limits rule.database t.ruled.opening.node old (updates_of start.first.seen) t.reached t.members heard t.said t.course empty in
+          again_added start.first pass after b.point b.store false (seen (updates_of b.point) next).gained
+          (subst (λ (n : ℕ). HasAdded start.first pass n) (was ∙ sym (ap (λ (s : SessionData). s.gained) is)) (t.counts (λ none. cc (none)))) b.act;
     }
 
 -- ---- a step
@@ -198,7 +215,7 @@ later_rose a b c le rose = omega arith
 module _ (rule : RuleData) (role : Role) (start : Start) (old : List UpdateId) (pass after now : Known Entry) (k next : Kept) (fresh : Bool) (held held' : Option (List ℕ)) (faults faults' : ℕ) (heard : List FrameData)
     (P : List Entry) (store new : ReplicaState) (frame : CheckedFrame) (out : Out)
     (t : IsTalk rule role start old pass k fresh held faults heard None) (act : IsAct pass after P store new (met_store (Ok out))) (steps : StepsTo store_limits k (updates_of P) frame next out (updates_of after.seen))
-    (belongs : BelongsTo store_limits store.history.schema.rule next (updates_of after.seen)) (still : IsStill after now) where
+    (belongs : BelongsTo store_limits store.history.schema.rule next (updates_of after.seen)) (still : IsStill after now) (quiet : IsQuiet after now) where
   running : k.failed ≡ false
   running = by_failed k.failed refl
     where
@@ -244,6 +261,9 @@ module _ (rule : RuleData) (role : Role) (start : Start) (old : List UpdateId) (
           later = let a = t.later in omega arith;
           is_fresh = heard_some heard;
           failed = λ is. absurd (cc (sym is ∙ steps.1 ∙ running));
+          counts = λ other. quiet_added start.first after now (seen (updates_of after.seen) next).gained
+              (step_added store_limits start.first pass after P store new (is_store out.end) t.reached (seen (updates_of after.seen) next) (frame_of frame) (out_of (map entry_of (updates_of after.seen)) out)
+              (t.counts (λ none. cc (none))) act the_step) still quiet;
         }
       where
         heard_some : (xs : List FrameData) → IsFresh false (xs ++ frame_of frame ∷ [])
@@ -259,6 +279,80 @@ module _ (rule : RuleData) (role : Role) (start : Start) (old : List UpdateId) (
   take_said T (Err halts.Broken) says halt =
       talk_next _ says.0 says.1 (front_behind t.said _ t.put says.0 t.is_put says.2) (later_rose start.faults faults faults' t.later halt.halted) halt.later
   take_said T (Err halts.Memory) says halt = talk_next _ says.0 says.1 (front_behind t.said _ t.put says.0 t.is_put says.2) tt halt.later
+
+-- ---- an update that is gathered outside of a turn
+
+-- why a session ended so that no store had a part in
+own_cause : (first pass : Known Entry) (s : SessionData) (end : Option End) (start faults : ℕ) → end ≢ Some ends.Store → s.ended ≡ end → HasCauseBy (option_map ending_of end) s first pass start faults
+own_cause first pass s None start faults other is = is
+own_cause first pass s (Some ends.Done) start faults other is = is
+own_cause first pass s (Some (ends.Peer fault)) start faults other is = is
+own_cause first pass s (Some ends.Full) start faults other is = is
+own_cause first pass s (Some ends.Store) start faults other is = absurd (other refl)
+
+module _ (rule : RuleData) (role : Role) (start : Start) (old : List UpdateId) (pass : Known Entry) (k next : Kept) (fresh : Bool) (held : Option (List ℕ)) (faults : ℕ) (heard : List FrameData) (update : List ℕ) (out : Out)
+    (t : IsTalk rule role start old pass k fresh held faults heard None) (checked : IsChecked rule update) (gathers : GathersAnywhere k update next out) (stays : StaysWith update k next) where
+  alive : k.failed ≡ false
+  alive = by_failed k.failed refl
+    where
+      by_failed : (b : Bool) → k.failed ≡ b → k.failed ≡ false
+      by_failed false is = is
+      by_failed true is = absurd (cc (t.failed is))
+
+  over_members : List GraphEntry
+  over_members = map entry_of t.members
+
+  gathering : Steps store_limits t.reached (map entry_of t.members) (Item (entry_of update)) (seen t.members next) (out_of (map entry_of t.members) out) (map entry_of t.members)
+  gathering =
+      subst (λ (x : SessionData). Steps store_limits x (map entry_of t.members) (Item (entry_of update)) (seen t.members next) (out_of (map entry_of t.members) out) (map entry_of t.members)) (sym (t.stands alive).0)
+      (subst (λ (b : Bool). StepsBy b store_limits k t.members (items.Item update) next out t.members) alive (gathers.steps store_limits t.members).0)
+
+  pub gathered_talk : IsTalk rule role start old pass next false held faults (heard ++ Item (entry_of update) ∷ []) (option_map ending_of out.end)
+  gathered_talk = record {
+    same_lock = t.same_lock;
+    seen_more = t.seen_more;
+    numbered = t.numbered;
+    ruled = t.ruled;
+    reached = seen t.members next;
+    members = t.members;
+    said = t.said;
+    course = hears t.reached (seen t.members next) t.members (t.members) (t.members) heard t.said (heard ++ Item (entry_of update) ∷ []) t.said (Item (entry_of update)) (out_of (map entry_of t.members) out)
+        t.course (prefix_self t.members) gathering refl (sym (ap (λ (l : List FrameData). t.said ++ l) (gathers.silent (map entry_of t.members)) ∙ append-nil t.said));
+    within = t.within;
+    stands = λ is. (refl, stays.stands rule t.members checked (t.stands alive).1 is);
+    put = t.put;
+    grew = t.grew;
+    is_put = said_put out.end t.said t.put t.is_put;
+    cause = own_cause start.first pass (seen t.members next) out.end start.faults faults gathers.no_store
+        (step_has store_limits t.reached (map entry_of t.members) (seen t.members next) (out_of (map entry_of t.members) out) (map entry_of t.members) t.cause (Item (entry_of update)) gathering).ends;
+    later = t.later;
+    is_fresh = heard_some heard;
+    failed = λ is. absurd (cc (sym is ∙ (gathers.steps store_limits t.members).1 ∙ alive));
+    counts = λ other. subst (λ (n : ℕ). HasAdded start.first pass n)
+        (same_gained store_limits t.reached (seen t.members next) t.members (Item (entry_of update)) (out_of (map entry_of t.members) out) gathering) (t.counts (λ none. cc (none)));
+  }
+    where
+      heard_some : (xs : List FrameData) → IsFresh false (xs ++ Item (entry_of update) ∷ [])
+      heard_some [] = (Item (entry_of update), [], refl)
+      heard_some (x ∷ xs) = (x, xs ++ Item (entry_of update) ∷ [], refl)
+
+-- the update is under the rule of the session
+pub checked_under : (rule : RuleData) (list longer : List Entry) (update : List ℕ) → IsRuledBy list rule → IsPrefix list longer → IsUnder longer (items.Item update) → IsChecked rule update
+checked_under rule list longer update ruled begins under =
+    subst (λ (r : RuleData). IsChecked r update) (ruled_once longer under.rule rule under.ruled (ruled_longer list longer rule begins ruled)) under.under
+
+-- a session that belongs to a list belongs to one with the update
+pub gathered_belongs : (list : List Entry) (k next : Kept) (update : List ℕ) → BelongsIn list k → IsUnder list (items.Item update) → StaysWith update k next → BelongsIn list next
+gathered_belongs list k next update b under stays = record {
+  rule = b.rule;
+  ruled = b.ruled;
+  front = b.front;
+  begins = b.begins;
+  belongs = stays.belongs store_limits b.rule (updates_of b.front) (checked_under b.rule list list update b.ruled (prefix_self list) under) b.belongs;
+}
+
+pub belongs_somewhere : (list : List Entry) (k : Kept) → BelongsIn list k → BelongsSomewhere k
+belongs_somewhere list k b = (store_limits, b.rule, updates_of b.front, omega arith, b.belongs)
 
 -- ---- what is remembered of the peer
 
@@ -446,6 +540,7 @@ talk_moves rule role peers start pass k fresh held held' faults faults' heard (o
     later = let a = t.later in omega arith;
     is_fresh = t.is_fresh;
     failed = t.failed;
+    counts = t.counts;
   },
 )
 
@@ -474,6 +569,7 @@ talk_over rule role peers start pass k fresh held faults heard ending (old, is, 
     later = t.later;
     is_fresh = t.is_fresh;
     failed = λ e. absurd (cc (t.failed e));
+    counts = λ other. t.counts (λ none. cc (none));
   },
 )
 

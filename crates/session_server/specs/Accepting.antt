@@ -1,14 +1,15 @@
 -- How serving goes on, from one moment to a later one.
-use Rattle.std.specs.Prelude.{◌≡◌, ℕ, ◌+◌, ◌≤◌, Bool, true, false, All, List, [], ◌++◌, length, map, Option}
+use Rattle.std.specs.Prelude.{◌≡◌, ◌⊎◌, ℕ, ◌+◌, ◌≤◌, Bool, true, false, All, List, [], ◌++◌, length, map, Option}
 use mathlib.Core.List.{IsPrefix}
 use Rattle.bec_bytes.specs.Causes.{Rose, one_more}
 use Rattle.bec_links.specs.Nets.{NetState}
 use Rattle.update_model.specs.Rule.{RuleData}
 use Rattle.peer_memory.specs.declared.peer.Peer.{Peer}
-use Rattle.turn_lock.specs.Seats.{Known}
+use Rattle.turn_lock.specs.Numbers.{AreApart}
+use Rattle.turn_lock.specs.Seats.{Known, numbers_of}
 use Rattle.shared_replica.specs.declared.entry.Entry.{Entry}
 use Rattle.session_server.specs.declared.server.Tally.{Tally}
-use Rattle.session_server.specs.Serving.{Begun, Ran, IsRun, IsTold, IsWithin, Leaves, begun_of, given_with, served_of}
+use Rattle.session_server.specs.Serving.{Begun, Ran, IsRun, IsTold, IsWithin, Leaves, begun_of, given_with, numbers_in, served_of}
 
 -- What a session that runs was given: the rule, the peers that are remembered, and how it began.
 pub record Given : Type 0 where
@@ -65,6 +66,8 @@ pub record GoesOn (rule : RuleData) (peers : List Peer) (now next : Standing) (a
   pub memory : next.tally.memory ≡ false → now.tally.memory ≡ false
   pub counted : next.tally.memory ≡ false → next.tally.served.items ≡ now.tally.served.items ++ map served_of ended
   pub within : next.tally.memory ≡ false → All (IsWithin next.pass) ended
+  pub others : next.tally.memory ≡ false → next.pass.others ≡ now.pass.others ++ numbers_in ended
+  pub apart : next.tally.memory ≡ false → (ended ≡ []) ⊎ AreApart (numbers_of next.pass)
   pub few : length next.tally.served.items ≤ length now.tally.served.items + length ended
   pub steady : next.tally.net_failed ≡ now.tally.net_failed → next.net.failed ≡ now.net.failed
   pub failed : now.tally.net_failed ≡ false → next.tally.net_failed ≡ true → (next.net.failed ≡ one_more now.net.failed) × Rose now.faults next.faults

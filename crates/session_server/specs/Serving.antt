@@ -1,12 +1,13 @@
 -- What serving many links comes to.
-use Rattle.std.specs.Prelude.{◌≡◌, ℕ, ◌<◌, ◌≤◌, Bool, true, false, All, List, [], ◌∷◌, length, map, Option, None, if◌then◌else◌}
+use Rattle.std.specs.Prelude.{◌≡◌, ℕ, ◌<◌, ◌≤◌, Bool, true, false, All, List, [], ◌∷◌, ◌++◌, length, map, Option, None, if◌then◌else◌}
 use mathlib.Core.List.{IsPrefix}
 use Rattle.bec_bytes.specs.Causes.{Rose, one_more}
 use Rattle.bec_links.specs.Nets.{NetState, IsFirst, with_held}
 use Rattle.update_model.specs.Rule.{RuleData}
 use Rattle.session_rules.specs.declared.role.Role.TheVariants.{Responder}
 use Rattle.peer_memory.specs.declared.peer.Peer.{Peer}
-use Rattle.turn_lock.specs.Seats.{Known}
+use Rattle.turn_lock.specs.Numbers.{AreApart}
+use Rattle.turn_lock.specs.Seats.{Known, numbers_of}
 use Rattle.shared_replica.specs.declared.entry.Entry.{Entry}
 use Rattle.session_server.specs.declared.served.Served.{Served}
 use Rattle.session_server.specs.Sessions.{IsSession}
@@ -64,12 +65,17 @@ given_with given (r ∷ more) = given_with (with_held given r.held') more
 abbrev pub IsWithin : Known Entry → Ran → Type 0
 IsWithin pass r = IsPrefix r.after.seen pass.seen
 
+-- the numbers of the seats with which these sessions ran, and of those that these seats had met
+abbrev pub numbers_in : List Ran → List ℕ
+numbers_in [] = []
+numbers_in (r ∷ more) = numbers_of r.after ++ numbers_in more
+
 -- A link that counted a fault made the net count one.
 abbrev pub IsTold : ℕ → ℕ → Ran → Type 0
 IsTold faults now r = 0 < r.faults' → Rose faults now
 
 -- A net was served, with so many sessions asked for. The links that it handed out came back in the order in which it did, each after its session was run. The answer counts
--- each session in this order, and the last pass has seen what each has, unless memory ran out. Fewer sessions than were asked for are counted only where memory ran out or a
+-- each session in this order, the last pass has seen what each has, and no two sessions had one seat, unless memory ran out. Fewer sessions than were asked for are counted only where memory ran out or a
 -- call of the net failed, which is then one.
 pub record Serves (rule : RuleData) (peers : List Peer) (asked : ℕ) (first last : Known Entry) (net net' : NetState) (faults faults' : ℕ) (sessions : List Served) (net_failed memory : Bool) : Type 0 where
   pub same_lock : last.lock ≡ first.lock
@@ -85,6 +91,7 @@ pub record Serves (rule : RuleData) (peers : List Peer) (asked : ℕ) (first las
   pub later : faults ≤ faults'
   pub told : All (IsTold faults faults') ran
   pub within : memory ≡ false → All (IsWithin last) ran
+  pub apart : memory ≡ false → AreApart (numbers_in ran)
   pub counted : memory ≡ false → sessions ≡ map served_of ran
   pub whole : memory ≡ false → net_failed ≡ false → length sessions ≡ asked
   pub fewer : net_failed ≡ true → (length sessions < asked) × Rose net.failed net'.failed × Rose faults faults'

@@ -1,5 +1,5 @@
 -- What a session over a link comes to.
-use Rattle.std.specs.Prelude.{◌≡◌, ◌≢◌, ◌⊎◌, ℕ, true, List, [], ◌++◌, map, Option, None, Some, option_map}
+use Rattle.std.specs.Prelude.{◌≡◌, ◌≢◌, ◌⊎◌, ℕ, ◌+◌, true, List, [], ◌++◌, map, Option, None, Some, option_map}
 use Rattle.std.specs.List.{list_all}
 use mathlib.Core.List.{IsPrefix}
 use Rattle.bec_bytes.specs.Causes.{Rose}
@@ -19,7 +19,7 @@ use Rattle.sync_session.specs.Starts.{node_of}
 use Rattle.peer_memory.specs.declared.peer.Peer.{Peer}
 use Rattle.turn_lock.specs.Seats.{Known}
 use Rattle.shared_replica.specs.declared.entry.Entry.{Entry}
-use Rattle.shared_replica.specs.Entries.{entries_by, updates_of}
+use Rattle.shared_replica.specs.Entries.{added_by, entries_by, updates_of}
 use Rattle.shared_replica.specs.Sessions.{IsRuledBy}
 use Rattle.session_server.specs.declared.ending.Ending.{Ending}
 use Rattle.session_server.specs.declared.ending.Ending.TheVariants.{Done, Peer as BadPeer, Cut, Full, Broken, Store, Memory}
@@ -38,6 +38,12 @@ pub record HasMetFault (before after : Known Entry) : Type 0 where
   pub began : IsPrefix before.seen point
   pub ended : after.seen ≡ point ++ (entries_by seat act added true ++ rest)
   pub own : after.number ≡ Some seat
+
+-- Since then the seat of the pass, which has this number, added so many updates to the list.
+pub record HasAdded (before after : Known Entry) (count : ℕ) : Type 0 where
+  pub seat : ℕ
+  pub own : after.number ≡ Some seat
+  pub all : added_by seat after.seen ≡ added_by seat before.seen + count
 
 -- Why a session ended so: by the rules of sessions; because the link ended before; because a call of the link failed; or because a call of the disk failed.
 -- Want of memory needs no cause.
@@ -88,7 +94,7 @@ pub record Counts (s : SessionData) (served : Served) : Type 0 where
 
 -- A session ran over a link, as the end of this role, from a pass to a pass that has seen more: it came to a state by the rules of sessions. The frames that it
 -- heard are those that were read of the link. The lists over which it went are growing fronts of the updates that the pass has seen, and begin with those that it had seen before.
--- What it said was put on the link.
+-- What it said was put on the link. It counts as gained what its seat added to the list.
 pub record Runs (rule : RuleData) (role : Role) (peers : List Peer) (name : Option (List ℕ)) (before after : Known Entry) (left left' held held' : Option (List ℕ)) (faults faults' : ℕ) (served : Served) : Type 0 where
   pub same_lock : after.lock ≡ before.lock
   pub seen : IsPrefix before.seen after.seen
@@ -109,6 +115,7 @@ pub record Runs (rule : RuleData) (role : Role) (peers : List Peer) (name : Opti
   pub is_put : IsPut served.ending said put
   pub cause : HasCause served.ending reached before after faults faults'
   pub counts : served.ending ≢ Memory → Counts reached served
+  pub gained : served.ending ≢ Memory → HasAdded before after served.gained
   pub remembers : IsToRemember served.ending reached served.heads
   pub held_all : served.ending ≡ Done → list_all (holds (map entry_of (updates_of after.seen))) (heads_in reached.peer) ≡ true
 
@@ -118,6 +125,9 @@ pub record NeverBegins (before after : Known Entry) (left left' held held' : Opt
   pub seen : IsPrefix before.seen after.seen
   pub ending : served.ending ≡ Memory
   pub heads : served.heads ≡ []
+  pub gained : served.gained ≡ 0
+  pub turns : served.turns ≡ 0
+  pub peer : served.peer ≡ None
   pub unread : left' ≡ left
   pub unsaid : held' ≡ held
 

@@ -1,5 +1,5 @@
 -- A session over a link, while it runs and where it ends.
-use Rattle.std.specs.Prelude.{◌≡◌, ◌⊎◌, ℕ, ◌≤◌, Bool, true, false, List, [], ◌∷◌, ◌++◌, Option, None, Some, option_map, Result, Ok, Err}
+use Rattle.std.specs.Prelude.{◌≡◌, ◌≢◌, ◌⊎◌, ℕ, ◌≤◌, Bool, true, false, List, [], ◌∷◌, ◌++◌, Option, None, Some, option_map, Result, Ok, Err}
 use Rattle.std.specs.Io.KnownBytes.{Appends, Consumes}
 use mathlib.Core.List.{IsPrefix}
 use Rattle.update_model.specs.declared.update_id.UpdateId.{UpdateId}
@@ -20,7 +20,7 @@ use Rattle.shared_replica.specs.Acts.{IsAct}
 use Rattle.peer_memory.specs.declared.peer.Peer.{Peer}
 use Rattle.turn_lock.specs.Seats.{Known}
 use Rattle.shared_replica.specs.declared.entry.Entry.{Entry}
-use Rattle.shared_replica.specs.Entries.{updates_of}
+use Rattle.shared_replica.specs.Entries.{added_by, updates_of}
 use Rattle.shared_replica.specs.Sessions.{BelongsIn, IsRuledBy}
 use Rattle.session_server.specs.declared.ending.Ending.{Ending}
 use Rattle.session_server.specs.declared.ending.Ending.TheVariants.{Done, Peer as BadPeer, Cut, Full, Broken, Store, Memory}
@@ -30,7 +30,7 @@ use Rattle.link_frames.specs.declared.saying.Halt.TheVariants as halts
 use Rattle.link_frames.specs.Course.{Comes}
 use Rattle.session_server.specs.Recalling.{recalled}
 use Rattle.link_frames.specs.Hearing.{AllArrive, AreSaid, Hears, Reads}
-use Rattle.session_server.specs.Sessions.{HasCause, IsAllRead, IsPut}
+use Rattle.session_server.specs.Sessions.{HasAdded, HasCause, IsAllRead, IsPut}
 
 -- how a session over a link ended, by how the session of the rules did
 abbrev pub ending_of : End → Ending
@@ -78,6 +78,10 @@ pub record Start : Type 0 where
   pub held : Option (List ℕ)
   pub faults : ℕ
 
+-- Its seat added nothing meanwhile.
+abbrev pub IsQuiet : Known Entry → Known Entry → Type 0
+IsQuiet pass after = (seat : ℕ) → pass.number ≡ Some seat → added_by seat after.seen ≡ added_by seat pass.seen
+
 -- A session of this rule over a link, as the end of this role, which began with these remembered ids and has heard these frames.
 pub record IsTalk (rule : RuleData) (role : Role) (start : Start) (old : List UpdateId) (pass : Known Entry) (k : Kept) (fresh : Bool) (held : Option (List ℕ)) (faults : ℕ) (heard : List FrameData) (ending : Option Ending) : Type 0 where
   pub same_lock : pass.lock ≡ start.first.lock
@@ -97,6 +101,7 @@ pub record IsTalk (rule : RuleData) (role : Role) (start : Start) (old : List Up
   pub later : start.faults ≤ faults
   pub is_fresh : IsFresh fresh heard
   pub failed : k.failed ≡ true → ending ≡ Some Memory
+  pub counts : ending ≢ Some Memory → HasAdded start.first pass reached.gained
 
 -- The same, which began with what is remembered of its peer.
 abbrev pub IsTalkWith : RuleData → Role → List Peer → Start → Known Entry → Kept → Bool → Option (List ℕ) → ℕ → List FrameData → Option Ending → Type 0

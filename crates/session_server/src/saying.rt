@@ -7,7 +7,7 @@ ghost use Rattle.sync_session.specs.Kept.{out_of};
 ghost use Rattle.update_codec.specs.Parts.{entry_of};
 ghost use Rattle.shared_replica.specs.Entries.{updates_of};
 ghost use Rattle.link_frames.specs.Saying.{HasCause, Says};
-ghost use Rattle.session_server.specs.Talks.{IsStill};
+ghost use Rattle.session_server.specs.Talks.{IsQuiet, IsStill};
 
 use bec_disk::Disk;
 use bec_links::Link;
@@ -29,6 +29,7 @@ pub(crate) fn say<R: Wait, K: Link, D: Disk>(
     requires lock { pass.lock ≡ shared.now.lock }
     requires seen { All (λ p. p < length (updates_of pass.seen)) out.now.send }
     ensures still { IsStill pass result.0 }
+    ensures quiet { IsQuiet pass result.0 }
     ensures said { Says (K.held link.old) (K.held link.new) result.1 (frames_of (out_of (map entry_of (updates_of pass.seen)) out.now)) }
     ensures left { K.left link.new ≡ K.left link.old }
     ensures cause { HasCause (K.faults link.old) (K.faults link.new) result.1 }
@@ -56,6 +57,7 @@ fn say_updates<R: Wait, K: Link, D: Disk>(
     requires lock { pass.lock ≡ shared.now.lock }
     requires seen { All (λ p. p < length (updates_of pass.seen)) positions.now }
     ensures still { IsStill pass result.0 }
+    ensures quiet { IsQuiet pass result.0 }
     ensures said { Says (K.held link.old) (K.held link.new) result.1 (map Item (filter_map (slice_get (map entry_of (updates_of pass.seen))) positions.now)) }
     ensures left { K.left link.new ≡ K.left link.old }
     ensures cause { HasCause (K.faults link.old) (K.faults link.new) result.1 }
@@ -83,6 +85,7 @@ fn say_update<R: Wait, K: Link, D: Disk>(
     requires lock { pass.lock ≡ shared.now.lock }
     requires seen { position < length (updates_of pass.seen) }
     ensures still { IsStill pass result.0 }
+    ensures quiet { IsQuiet pass result.0 }
     ensures said { Says (K.held link.old) (K.held link.new) result.1 (map Item (filter_map (slice_get (map entry_of (updates_of pass.seen))) (position ∷ []))) }
     ensures left { K.left link.new ≡ K.left link.old }
     ensures cause { HasCause (K.faults link.old) (K.faults link.new) result.1 }

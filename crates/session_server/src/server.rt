@@ -6,6 +6,8 @@ ghost use Rattle.bec_bytes.specs.Causes.{Rose};
 ghost use Rattle.bec_links.specs.Nets.{taken_back};
 ghost use Rattle.update_model.specs.Rule.{RuleData};
 ghost use Rattle.peer_memory.specs.declared.peer.Peer.{Peer};
+ghost use Rattle.turn_lock.specs.Numbers.{AreApart};
+ghost use Rattle.turn_lock.specs.Seats.{numbers_of};
 ghost use Rattle.shared_replica.specs.Sessions.{IsRuledBy};
 ghost use Rattle.session_server.specs.Accepting.{Accepts, GoesOn, IsDue};
 ghost use Rattle.session_server.specs.Serving.{Ran, Serves};
@@ -242,6 +244,7 @@ fn settle<N: Net, D: Disk>(
     ensures failed { tally.new.net_failed ≡ tally.old.net_failed }
     ensures counted { tally.new.memory ≡ false → (tally.old.memory ≡ false) × (tally.new.served.items ≡ tally.old.served.items ++ ended.served ∷ []) × IsPrefix ended.pass.seen result.seen }
     ensures few { length tally.new.served.items ≤ length tally.old.served.items + 1 }
+    ensures numbers { tally.new.memory ≡ false → (result.others ≡ pass.others ++ numbers_of ended.pass) × AreApart (numbers_of result) }
 {
     let Ended {
         pass: theirs,

@@ -3,7 +3,9 @@
 ghost use Rattle.std.specs.Prelude.{◌≡◌, ◌≤◌, ◌<◌, ◌++◌, ◌∷◌, [], ℕ, None, Some, true, false, IfOk, IfErr, List, Option, length};
 ghost use Rattle.std.specs.List.Sorted.{IsStrictlySortedBy};
 ghost use Rattle.session_rules.specs.declared.limits.TheConstants.{MAX_NEEDS};
-ghost use Rattle.session_rules.specs.State.{FrameData};
+ghost use Rattle.session_rules.specs.State.{FrameData, Item as item};
+ghost use Rattle.sync_session.specs.declared.checked_frame.CheckedFrame.TheVariants.{Item as an_item};
+ghost use Rattle.update_codec.specs.Parts.{entry_of};
 ghost use Rattle.session_rules.specs.declared.role.Role.{Role as AnyRole};
 ghost use Rattle.sync_session.specs.Kept.{frame_of};
 ghost use Rattle.update_model.specs.Entry.{id_cmp};
@@ -29,6 +31,7 @@ use std::sync::Wait;
 use std::thread::Threads;
 use sync_frames::{Frame, Frames};
 use sync_session::{CheckedFrame, Out, Session};
+use update_check::Checked;
 use update_model::{DbRule, IdList, UpdateId};
 
 /// How many bytes are read at once at most.
@@ -125,6 +128,67 @@ fn first_node(role: Role, is_fresh: bool, frame: &CheckedFrame) -> Option<[u8; 3
 
 /// Takes a frame of the peer, and says what is to be said. It answers how the session ended, where it did.
 fn take<R: Wait, K: Link, D: Disk>(
+    rt: &R,
+    alloc: Global,
+    shared: &Shared<D>,
+    link: &mut K,
+    talk: Talk<D>,
+    frame: CheckedFrame,
+) -> (Talk<D>, Option<Ending>)
+    requires lock { talk.pass.lock ≡ shared.now.lock }
+    requires belongs { BelongsIn talk.pass.seen talk.session }
+    requires under { IsUnder talk.pass.seen frame }
+    ensures goes { Goes talk.pass result.0.pass result.0.session }
+    ensures uncut { is_cut result.1 ≡ false }
+    ensures left { K.left link.new ≡ K.left link.old }
+    ensures talk { (rule : RuleData) (role : AnyRole) (start : Start) (old : List Id) (heard : List FrameData) → IsTalk rule role start old talk.pass talk.session talk.is_fresh (K.held link.old) (K.faults link.old) heard None
+        → (all : List FrameData) × TookOne (frame_of frame) heard result.1 all result.0.session talk.is_fresh result.0.is_fresh (K.held link.old) (K.held link.new) (K.faults link.old) (K.faults link.new)
+        × IsTalk rule role start old result.0.pass result.0.session result.0.is_fresh (K.held link.new) (K.faults link.new) all result.1 }
+{
+    match frame {
+        CheckedFrame::Item(update) => gather(alloc, talk, update),
+        frame => take_in_turn(rt, alloc, shared, link, talk, frame),
+    }
+}
+
+/// Takes an update of the peer outside of any turn: it is gathered, and the replica has no part in that.
+fn gather<D: Disk>(alloc: Global, talk: Talk<D>, update: Checked) -> (Talk<D>, Option<Ending>)
+    requires belongs { BelongsIn talk.pass.seen talk.session }
+    requires under { IsUnder talk.pass.seen (an_item update) }
+    ensures goes { Goes talk.pass result.0.pass result.0.session }
+    ensures uncut { is_cut result.1 ≡ false }
+    ensures talk { (rule : RuleData) (role : AnyRole) (start : Start) (old : List Id) (held : Option (List ℕ)) (faults : ℕ) (heard : List FrameData)
+        → IsTalk rule role start old talk.pass talk.session talk.is_fresh held faults heard None
+        → (all : List FrameData) × TookOne (item (entry_of update)) heard result.1 all result.0.session talk.is_fresh result.0.is_fresh held held faults faults
+        × IsTalk rule role start old result.0.pass result.0.session result.0.is_fresh held faults all result.1 }
+{
+    let Talk {
+        pass,
+        mut session,
+        is_fresh,
+    } = talk;
+    match session.gather_update(alloc, update) {
+        Ok(out) => {
+            let talk = Talk {
+                pass,
+                session,
+                is_fresh: false,
+            };
+            (talk, over(Ok(()), out.end))
+        }
+        Err(_) => {
+            let talk = Talk {
+                pass,
+                session,
+                is_fresh,
+            };
+            (talk, Some(Ending::Memory))
+        }
+    }
+}
+
+/// Takes a frame of the peer in a turn of its own, and says what is to be said.
+fn take_in_turn<R: Wait, K: Link, D: Disk>(
     rt: &R,
     alloc: Global,
     shared: &Shared<D>,

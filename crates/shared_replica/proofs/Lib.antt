@@ -3,3 +3,4 @@ mod Growing
 pub mod Lists
 mod Stepping
 mod Turns
+pub mod Counting

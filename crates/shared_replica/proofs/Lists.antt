@@ -31,7 +31,7 @@ faults_more (Fault seat act ∷ es) fs = omega (arith, faults_more es fs)
 
 -- ---- the entries of one act
 
-updates_by : (seat act : ℕ) (us : List (List ℕ)) (fault : Bool) → updates_of (entries_by seat act us fault) ≡ us
+pub updates_by : (seat act : ℕ) (us : List (List ℕ)) (fault : Bool) → updates_of (entries_by seat act us fault) ≡ us
 updates_by seat act [] true = refl
 updates_by seat act [] false = refl
 updates_by seat act (u ∷ us) fault = ap (λ l. u ∷ l) (updates_by seat act us fault)

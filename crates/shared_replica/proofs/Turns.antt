@@ -1,5 +1,5 @@
 -- A turn, from its pass to the next.
-use Rattle.std.proofs.Common.{◌≡◌, ◌≢◌, ℕ, ◌+◌, ◌<◌, Bool, false, List, [], ◌++◌, Some, length, ap, sym, ◌∙◌, subst, arith, append-nil}
+use Rattle.std.proofs.Common.{◌≡◌, ◌≢◌, ℕ, ◌+◌, ◌<◌, Bool, false, List, [], ◌++◌, Some, length, drop, ap, sym, ◌∙◌, subst, arith, append-nil}
 use Rattle.std.specs.Prelude.{All}
 use mathlib.Core.List.{IsPrefix}
 use Rattle.shared_replica.specs.declared.entry.Entry.{Entry}
@@ -22,16 +22,19 @@ module _ (turn : Turning Entry) (old new : Story) (seat act : ℕ) (fault : Bool
   )
 
   pub acts : (before after : Known Entry) → turn.lock ≡ before.lock → IsPrefix before.seen turn.taken → ((n : ℕ) → before.number ≡ Some n → turn.seat ≡ n) → turn.act ≡ before.acts + 1
-      → All (λ e. maker_of e ≢ Some (turn.seat, turn.act)) turn.taken → after ≡ record { lock = turn.lock; seen = new.entries; number = Some turn.seat; acts = turn.act }
+      → All (λ e. maker_of e ≢ Some (turn.seat, turn.act)) turn.taken → All (λ e. (act : ℕ) → maker_of e ≢ Some (turn.seat, act)) (drop (length before.seen) turn.taken) → turn.others ≡ before.others
+      → after ≡ record { lock = turn.lock; seen = new.entries; number = Some turn.seat; acts = turn.act; others = turn.others }
       → IsAct before after old.entries old.store new.store fault
-  acts before after lock seen number counts unused given = record {
+  acts before after lock seen number counts unused alone others given = record {
     same_lock = ap (λ k. k.lock) given ∙ lock;
     began = subst (λ (l : List Entry). IsPrefix before.seen l) (sym value) seen;
     counted = ap (λ k. k.acts) given ∙ counts;
     named = λ n is. ap (λ k. k.number) given ∙ ap Some (number n is);
     seat = turn.seat;
     number = ap (λ k. k.number) given;
+    others = ap (λ k. k.others) given ∙ others;
     unused = subst (λ (z : List Entry × ℕ). All (λ e. maker_of e ≢ Some (turn.seat, z.1)) z.0) (λ i. (sym value i, sym (ap (λ k. k.acts) given) i)) unused;
+    alone = subst (λ (l : List Entry). All (λ e. (act : ℕ) → maker_of e ≢ Some (turn.seat, act)) (drop (length before.seen) l)) (sym value) alone;
     added = grows.added;
     members = grows.members;
     ended = ap (λ k. k.seen) given ∙ grows.entries ∙ (λ i. old.entries ++ entries_by (seat_is i) ((act_is ∙ sym (ap (λ k. k.acts) given)) i) grows.added fault);

@@ -1,5 +1,5 @@
 -- What an act does.
-use Rattle.std.specs.Prelude.{◌≡◌, ◌≢◌, ℕ, ◌+◌, Bool, true, false, List, ◌++◌, All, Some, Result, Ok, Err}
+use Rattle.std.specs.Prelude.{◌≡◌, ◌≢◌, ℕ, ◌+◌, Bool, true, false, List, ◌++◌, length, drop, All, Some, Result, Ok, Err}
 use mathlib.Core.List.{IsPrefix}
 use Rattle.shared_replica.specs.declared.entry.Entry.{Entry}
 use Rattle.shared_replica.specs.Entries.{Story, entries_by, maker_of, IsStoreOf}
@@ -32,8 +32,8 @@ pub record Grows (old new : Story) (seat act : ℕ) (fault : Bool) : Type 0 wher
   pub before : IsStoreOf old.entries old.store
   pub after : IsStoreOf new.entries new.store
 
--- An act had its turn where the list was P, which begins with what the pass had seen and has no entry of this act. The replica was as P says, and
--- is as the list says that has the act's own entries behind.
+-- An act had its turn where the list was P, which begins with what the pass had seen, has no entry of this act, and behind what the pass had seen none of this seat. The replica
+-- was as P says, and is as the list says that has the act's own entries behind.
 pub record IsAct (before after : Known Entry) (P : List Entry) (old new : ReplicaState) (fault : Bool) : Type 0 where
   pub same_lock : after.lock ≡ before.lock
   pub began : IsPrefix before.seen P
@@ -41,7 +41,9 @@ pub record IsAct (before after : Known Entry) (P : List Entry) (old new : Replic
   pub named : (n : ℕ) → before.number ≡ Some n → after.number ≡ Some n
   pub seat : ℕ
   pub number : after.number ≡ Some seat
+  pub others : after.others ≡ before.others
   pub unused : All (λ e. maker_of e ≢ Some (seat, after.acts)) P
+  pub alone : All (λ e. (act : ℕ) → maker_of e ≢ Some (seat, act)) (drop (length before.seen) P)
   pub added : List (List ℕ)
   pub members : new.history.members ≡ old.history.members ++ added
   pub ended : after.seen ≡ P ++ entries_by seat after.acts added fault

@@ -1,5 +1,5 @@
 -- The list of a shared replica, and what it says of the replica.
-use Rattle.std.specs.Prelude.{◌≡◌, ℕ, ◌+◌, ◌-◌, ◌^◌, ◌≤◌, Bool, true, false, List, [], ◌∷◌, ◌++◌, length, map, take, drop, min, Option, Some, None, option_map}
+use Rattle.std.specs.Prelude.{◌≡◌, ℕ, ◌+◌, ◌-◌, ◌^◌, ◌≤◌, ◌==◌, Bool, true, false, List, [], ◌∷◌, ◌++◌, length, map, take, drop, min, Option, Some, None, option_map}
 use Rattle.bec_disk.specs.Disk.{IsSameDisk}
 use Rattle.bec_disk.specs.Slot.{Slot}
 use Rattle.bec_disk.specs.declared.part.Part.{Part}
@@ -39,6 +39,18 @@ updates_of (Opened u ∷ es) = u ∷ updates_of es
 updates_of (Added u seat act ∷ es) = u ∷ updates_of es
 updates_of (Fault seat act ∷ es) = updates_of es
 
+abbrev pub one_if : Bool → ℕ
+one_if true = 1
+one_if false = 0
+
+-- how many updates a seat added
+abbrev pub added_by : ℕ → List Entry → ℕ
+added_by seat [] = 0
+added_by seat (First opening ∷ es) = added_by seat es
+added_by seat (Opened u ∷ es) = added_by seat es
+added_by seat (Added u maker act ∷ es) = one_if (maker == seat) + added_by seat es
+added_by seat (Fault maker act ∷ es) = added_by seat es
+
 -- the number of fault entries
 abbrev pub faults_of : List Entry → ℕ
 faults_of [] = 0
@@ -61,10 +73,6 @@ entries_by seat act (u ∷ us) fault = Added u seat act ∷ entries_by seat act 
 abbrev pub entries_of : List Run → List (List ℕ) → List Entry
 entries_of [] us = []
 entries_of (r ∷ rs) us = entries_by r.seat r.act (take r.count us) r.fault ++ entries_of rs (drop r.count us)
-
-abbrev pub one_if : Bool → ℕ
-one_if true = 1
-one_if false = 0
 
 -- how many updates acts added, and how many faults they met
 abbrev pub counted : List Run → ℕ

@@ -1,6 +1,8 @@
 //! The replica under the lock.
-ghost use Rattle.std.specs.Prelude.{◌≡◌, ◌⊎◌, ◌<◌, ◌+◌, ℕ, List, ◌∷◌, [], None, Some, IfOk, IfErr, length, map};
+ghost use Rattle.std.specs.Prelude.{◌≡◌, ◌⊎◌, ◌<◌, ◌+◌, ℕ, List, ◌∷◌, ◌++◌, [], None, Some, IfOk, IfErr, length, map};
 ghost use mathlib.Core.List.{IsPrefix};
+ghost use Rattle.turn_lock.specs.Numbers.{AreApart};
+ghost use Rattle.turn_lock.specs.Seats.{numbers_of};
 ghost use Rattle.shared_replica.specs.declared.entry.Entry.{Entry};
 ghost use Rattle.shared_replica.specs.declared.entry.Entry.TheVariants.{First, Opened};
 ghost use Rattle.shared_replica.specs.Entries.{IsStoreOf, opening_of};
@@ -37,7 +39,7 @@ impl<D: Disk> Shared<D> {
         alloc: Global,
         replica: Replica<D, Luhn, Luhn>,
     ) -> Result<(Shared<D>, Pass<D>), Back<Replica<D, Luhn, Luhn>>>
-        ensures ok { IfOk result (λ r. r.1 ≡ record { lock = r.0.lock; seen = First (opening_of replica) ∷ map Opened replica.history.members; number = None; acts = 0 }) }
+        ensures ok { IfOk result (λ r. r.1 ≡ record { lock = r.0.lock; seen = First (opening_of replica) ∷ map Opened replica.history.members; number = None; acts = 0; others = [] }) }
         ensures err { IfErr result (λ b. b.back ≡ replica) }
     {
         match TurnLock::new(alloc, Stored::new(alloc, replica)) {
@@ -52,7 +54,7 @@ impl<D: Disk> Shared<D> {
     /// Two passes that have seen as much. The first has the number and the acts of the one that was given.
     pub fn split(&self, pass: Pass<D>) -> Result<(Pass<D>, Pass<D>), Back<Pass<D>>>
         requires { pass.lock ≡ self.now.lock }
-        ensures ok { IfOk result (λ r. (r.0 ≡ pass) × (r.1 ≡ record { lock = pass.lock; seen = pass.seen; number = None; acts = 0 })) }
+        ensures ok { IfOk result (λ r. (r.0 ≡ pass) × (r.1 ≡ record { lock = pass.lock; seen = pass.seen; number = None; acts = 0; others = [] })) }
         ensures err { IfErr result (λ b. b.back ≡ pass) }
     {
         self.lock.split(pass)
@@ -63,6 +65,8 @@ impl<D: Disk> Shared<D> {
         requires locks { (a.lock ≡ self.now.lock) × (b.lock ≡ self.now.lock) }
         ensures seat { IfOk result (λ s. (s.lock ≡ a.lock) × (s.number ≡ a.number) × (s.acts ≡ a.acts)) }
         ensures seen { IfOk result (λ s. IsPrefix a.seen s.seen × IsPrefix b.seen s.seen × ((s.seen ≡ a.seen) ⊎ (s.seen ≡ b.seen))) }
+        ensures others { IfOk result (λ s. s.others ≡ a.others ++ numbers_of b) }
+        ensures apart { IfOk result (λ s. AreApart (numbers_of s)) }
         ensures err { IfErr result (λ e. (e.back.0 ≡ a) × (e.back.1 ≡ b)) }
     {
         self.lock.meet(a, b)

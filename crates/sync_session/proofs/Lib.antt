@@ -12,6 +12,7 @@ pub mod Turning
 pub mod Settling
 pub mod TurnTaking
 pub mod Stepping
+pub mod Anywhere
 pub mod Starting
 pub mod Growing
 pub mod Quiet

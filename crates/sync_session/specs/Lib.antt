@@ -3,6 +3,7 @@ pub mod Pending
 pub mod Wants
 pub mod Greeting
 pub mod Form
+pub mod Gathering
 pub mod Turns
 pub mod Starts
 pub mod Carrying

@@ -20,6 +20,7 @@
 mod answers;
 mod carrying;
 mod checked_frame;
+mod gathering;
 mod greeting;
 mod hello;
 mod ids;

@@ -66,7 +66,7 @@ impl Session {
     }
 
     /// Whether no frame is answered any more.
-    fn is_over(&self) -> bool
+    pub(crate) fn is_over(&self) -> bool
         ensures { result ≡ (self.now.failed || is_some self.now.state.ended) }
     {
         self.failed || self.ended.is_some()

@@ -1,5 +1,5 @@
 -- Beginnings of one list.
-use Rattle.std.proofs.Common.{◌≡◌, ℕ, ◌≤◌, List, [], ◌∷◌, ◌++◌, length, refl, ap, sym, ◌∙◌, arith, append_assoc}
+use Rattle.std.proofs.Common.{◌≡◌, ◌≤◌, List, [], ◌∷◌, ◌++◌, length, drop, refl, ap, sym, ◌∙◌, arith, append_assoc}
 use Rattle.std.proofs.lemmas.List.{append-nil}
 use mathlib.Core.List.{IsPrefix}
 
@@ -12,6 +12,12 @@ module _ {A : Type 0} where
 
   pub prefix_more : (xs ys new : List A) → IsPrefix xs ys → IsPrefix xs (ys ++ new)
   prefix_more xs ys new p = (p.0 ++ new, sym (append_assoc xs p.0 new) ∙ ap (λ w. w ++ new) p.1)
+
+  -- what is behind a beginning of a list that grew
+  pub drop_front : (xs ys new : List A) → IsPrefix xs ys → drop (length xs) (ys ++ new) ≡ drop (length xs) ys ++ new
+  drop_front [] ys new p = refl
+  drop_front (x ∷ xs) [] new p = absurd (cc (p.1))
+  drop_front (x ∷ xs) (y ∷ ys) new p = drop_front xs ys new (p.0, cc (p.1))
 
   -- of two beginnings of one list the shorter begins the longer
   pub prefix_shorter : (xs ys zs : List A) → IsPrefix xs zs → IsPrefix ys zs → length xs ≤ length ys → IsPrefix xs ys

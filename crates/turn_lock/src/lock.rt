@@ -1,8 +1,10 @@
 //! The lock.
-ghost use Rattle.std.specs.Prelude.{◌≡◌, ◌≢◌, ◌⊎◌, ℕ, ◌+◌, ◌<◌, ◌≤◌, ◌^◌, [], ◌∷◌, ◌++◌, List, Option, Some, None, IfOk, IfErr, All, length};
+ghost use Rattle.std.specs.Prelude.{◌≡◌, ◌≢◌, ◌⊎◌, ℕ, ◌+◌, ◌<◌, ◌≤◌, ◌^◌, ◌%◌, [], ◌∷◌, ◌++◌, List, Option, Some, None, IfOk, IfErr, All, length, drop};
 ghost use mathlib.Core.List.{IsPrefix};
 ghost use Rattle.atomic_table.specs.Seated.{TableId};
 ghost use Rattle.turn_lock.specs.declared.view.Stage.TheVariants.{Idle, Waiting, Turn};
+ghost use Rattle.turn_lock.specs.Numbers.{AreApart};
+ghost use Rattle.turn_lock.specs.Seats.{numbers_of};
 ghost use Rattle.turn_lock.specs.Turns.{MadeBy, drawing, at_stage};
 
 use crate::kept::Kept;
@@ -43,7 +45,7 @@ impl<T: Kept> TurnLock<T> {
     /// A lock of this value, and the first seat, which has seen the whole list.
     pub fn new(alloc: Global, value: T) -> Result<(TurnLock<T>, Seat<T>), Back<T>>
         requires { All (λ e. T.maker e ≡ None) (T.list value) }
-        ensures ok { IfOk result (λ r. r.1 ≡ record { lock = r.0; seen = T.list value; number = None; acts = 0 }) }
+        ensures ok { IfOk result (λ r. r.1 ≡ record { lock = r.0; seen = T.list value; number = None; acts = 0; others = [] }) }
         ensures err { IfErr result (λ b. b.back ≡ value) }
     {
         let mut slots = Vec::new(alloc);
@@ -78,7 +80,7 @@ impl<T: Kept> TurnLock<T> {
     /// Two seats that have seen as much. The first has the number and the acts of the one that was given.
     pub fn split(&self, seat: Seat<T>) -> Result<(Seat<T>, Seat<T>), Back<Seat<T>>>
         requires { seat.lock ≡ self.now }
-        ensures ok { IfOk result (λ r. (r.0 ≡ seat) × (r.1 ≡ record { lock = seat.lock; seen = seat.seen; number = None; acts = 0 })) }
+        ensures ok { IfOk result (λ r. (r.0 ≡ seat) × (r.1 ≡ record { lock = seat.lock; seen = seat.seen; number = None; acts = 0; others = [] })) }
         ensures err { IfErr result (λ b. b.back ≡ seat) }
     {
         let Seat {
@@ -101,11 +103,14 @@ impl<T: Kept> TurnLock<T> {
         ))
     }
 
-    /// One seat that has seen what both have seen, with the number and the acts of the first. What one has seen begins what the other has seen.
+    /// One seat that has seen what both have seen, with the number and the acts of the first. What one has seen begins what the other has seen. The numbers of all
+    /// seats that have met in it are different ones.
     pub fn meet(&self, a: Seat<T>, b: Seat<T>) -> Result<Seat<T>, Back<(Seat<T>, Seat<T>)>>
         requires locks { (a.lock ≡ self.now) × (b.lock ≡ self.now) }
         ensures seat { IfOk result (λ s. (s.lock ≡ a.lock) × (s.number ≡ a.number) × (s.acts ≡ a.acts)) }
         ensures seen { IfOk result (λ s. IsPrefix a.seen s.seen × IsPrefix b.seen s.seen × ((s.seen ≡ a.seen) ⊎ (s.seen ≡ b.seen))) }
+        ensures others { IfOk result (λ s. s.others ≡ a.others ++ numbers_of b) }
+        ensures apart { IfOk result (λ s. AreApart (numbers_of s)) }
         ensures err { IfErr result (λ e. (e.back.0 ≡ a) × (e.back.1 ≡ b)) }
     {
         let Seat {
@@ -153,7 +158,7 @@ impl<T: Kept> TurnLock<T> {
         unreachable!()
     }
 
-    /// Waits until the ticket is served.
+    /// Waits until the ticket is served: at first awake, and asleep where that takes long.
     fn wait_for<R: Wait>(&self, rt: &R, chair: &mut Chair<T>, ticket: u64)
         requires lock { chair.old.table_id ≡ self.now }
         requires stage { (chair.old.me.0.stage ≡ Waiting) × (chair.old.me.0.ticket ≡ ticket) }
@@ -162,10 +167,15 @@ impl<T: Kept> TurnLock<T> {
     {
         let backoff = Backoff::new();
         for _ in rt.forever() {
-            if self.board.shared.load::<Look>(chair, SERVED) == ticket {
+            let served = self.board.shared.load::<Look>(chair, SERVED);
+            if served == ticket {
                 return;
             }
-            backoff.snooze();
+            if backoff.is_completed() {
+                self.board.shared.park(rt, SERVED, low_half(served));
+            } else {
+                backoff.snooze();
+            }
         }
         unreachable!()
     }
@@ -178,7 +188,9 @@ impl<T: Kept> TurnLock<T> {
         ensures seen { IsPrefix seat.seen result.0.taken }
         ensures number { (n : ℕ) → seat.number ≡ Some n → result.0.seat ≡ n }
         ensures act { result.0.act ≡ seat.acts + 1 }
+        ensures others { result.0.others ≡ seat.others }
         ensures unused { All (λ e. T.maker e ≢ Some (result.0.seat, result.0.act)) result.0.taken }
+        ensures alone { All (λ e. (act : ℕ) → T.maker e ≢ Some (result.0.seat, act)) (drop (length seat.seen) result.0.taken) }
     {
         let Seat {
             mut chair,
@@ -203,7 +215,7 @@ impl<T: Kept> TurnLock<T> {
     pub fn give(&self, held: Held<T>, value: T) -> Seat<T>
         requires lock { held.lock ≡ self.now }
         requires added { (new : List T.Entry) × (T.list value ≡ held.taken ++ new) × MadeBy T.maker held.seat held.act new }
-        ensures { result ≡ record { lock = held.lock; seen = T.list value; number = Some held.seat; acts = held.act } }
+        ensures { result ≡ record { lock = held.lock; seen = T.list value; number = Some held.seat; acts = held.act; others = held.others } }
     {
         let Held {
             mut chair,
@@ -219,6 +231,9 @@ impl<T: Kept> TurnLock<T> {
         }
         shared.store::<Store<T>>(&mut chair, COUNT, count);
         shared.store::<Pass>(&mut chair, SERVED, ticket + 1);
+        if shared.peek(NEXT) > ticket + 1 {
+            shared.wake_all(SERVED);
+        }
         Seat {
             chair,
             number: Some(number),
@@ -244,4 +259,11 @@ impl<T: Kept> TurnLock<T> {
         closed.free();
         value.unwrap()
     }
+}
+
+/// The low 32 bits of a word, by which its sleepers see that it changed.
+fn low_half(word: u64) -> u32
+    ensures { result ≡ word % 2 ^ 32 }
+{
+    (word & u64::from(u32::MAX)) as u32
 }

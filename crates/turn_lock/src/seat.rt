@@ -22,6 +22,7 @@ impl<T: Kept> Model for Seat<T> {
       seen = s.chair.me.0.seen;
       number = s.number;
       acts = s.acts;
+      others = s.chair.me.0.others;
     } };
 
     ghost invariant = { λ s. IsResting s.chair.me s.number s.acts };
@@ -43,6 +44,7 @@ impl<T: Kept> Model for Held<T> {
       taken = h.chair.me.0.seen;
       seat = h.number;
       act = h.act;
+      others = h.chair.me.0.others;
     } };
 
     ghost invariant = { λ h. IsHolding h.chair.me h.number h.act h.ticket };

@@ -31,4 +31,6 @@ pub struct View<E> {
     pub seen: LinkedList<E>,
     /// Another one, from a seat that it has met, until it looks.
     pub also: LinkedList<E>,
+    /// The numbers of the seats that it has met, and of those that these had met.
+    pub others: LinkedList<u64>,
 }

@@ -1,6 +1,7 @@
-use Rattle.std.proofs.Common.{[]}
+use Rattle.std.proofs.Common.{[], false}
 use Rattle.std.proofs.KnownBytes.{Appends-nil}
 use Rattle.link_frames.proofs.Sentences.{front_none}
+use Rattle.session_server.proofs.Gaining.{quiet_act}
 use Rattle.session_server.proofs.Passing.{update_said}
 use Rattle.session_server.proofs.saying.say_update.Goals as goal
 
@@ -14,3 +15,9 @@ returns-in-Ok-clause-said g c =
 -- src/saying.rt:76:1
 pub returns-in-Err-clause-said : goal.returns-in-Err-clause-said
 returns-in-Err-clause-said g c = ([], Appends-nil (g.K.Sink.held c.args.link.now), front_none _)
+
+pub returns-in-Ok-clause-quiet : goal.returns-in-Ok-clause-quiet
+returns-in-Ok-clause-quiet g c = let act = c.fetch-pass.ensures in quiet_act c.args.pass c.fetch-pass.result.pass act.0 act.1 false act.2
+
+pub returns-in-Err-clause-quiet : goal.returns-in-Err-clause-quiet
+returns-in-Err-clause-quiet g c = let act = c.fetch-pass.ensures in quiet_act c.args.pass c.fetch-pass.result.pass act.0 act.1 false act.2

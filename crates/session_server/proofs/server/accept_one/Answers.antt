@@ -92,7 +92,7 @@ returns-in-Err-start-clause-accepts g c =
     let first = goes_link _ _ begun h.first h.given h.out h.failed e.cause.later (ap (λ l. map (λ h. h.promise.begun) l ++ begun ∷ []) c.reserve.ensures.items)
     same.0 (ap (λ (p : Known Entry). p.seen) same.1) e.clean refl in
     let last = goes_end _ _ r did.net some did.later did.faulted refl did.pass did.seen
-    (ap (λ (p : Known Entry). p.lock) same.1 ∙ sym (ap (λ (p : Known Entry). p.lock) same.0) ∙ sym goes.same_lock) c.in-Err-start.ensures.here did.counted did.few did.failed in
+    (ap (λ (p : Known Entry). p.lock) same.1 ∙ sym (ap (λ (p : Known Entry). p.lock) same.0) ∙ sym goes.same_lock) c.in-Err-start.ensures.here did.counted did.few did.failed did.numbers in
     record {
       accepted = begun ∷ [];
       ended = settled.0 ++ r ∷ [];
@@ -130,8 +130,8 @@ returns-in-Err-split-clause-accepts g c =
     let few : length c.settle_all-pass-in-Err-split.new.tally.served.items ≤ length c.settle_all-pass-in-Err-split.new.tally.served.items + 1 = omega arith in
     let first = goes_link _ _ begun h.first h.given h.out h.failed e.cause.later (ap (λ l. map (λ h. h.promise.begun) l ++ begun ∷ []) c.reserve.ensures.items)
     same (ap (λ (p : Known Entry). p.seen) same) e.clean refl in
-    let never = inr (record { same_lock = refl; seen = prefix_self pass.seen; ending = refl; heads = refl; unread = refl; unsaid = refl }) in
-    let last = goes_end _ _ r did.taken some did.later told refl (refl, refl, refl) (prefix_self _) (sym goes.same_lock) never (λ none. not_both true refl none) few refl in
+    let never = inr (record { same_lock = refl; seen = prefix_self pass.seen; ending = refl; heads = refl; gained = refl; turns = refl; peer = refl; unread = refl; unsaid = refl }) in
+    let last = goes_end _ _ r did.taken some did.later told refl (refl, refl, refl) (prefix_self _) (sym goes.same_lock) never (λ none. not_both true refl none) few refl (λ none. not_both true refl none) in
     record {
       accepted = begun ∷ [];
       ended = settled.0 ++ r ∷ [];

@@ -21,6 +21,7 @@ returns-in-Err g c =
       later = e.cause.later;
       told = All-nil (IsTold _ _);
       within = λ none. All-nil (IsWithin c.args.pass);
+      apart = λ none. tt;
       counted = λ none. empty;
       whole = λ none is. absurd (cc (is));
       fewer = λ is. ((let some = c.requires.some in omega (arith, some, none)), (let n = ap (λ (s : NetState). s.failed) e.tried in omega (arith, n)), e.cause.failed);

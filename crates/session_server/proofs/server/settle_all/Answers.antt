@@ -44,7 +44,7 @@ loop-child-preserved g c =
             was.1 ++ r ∷ [],
             goes_then _ _ _ [] [] was.1 (r ∷ []) (goes_to _ _ _ _ _ _ _ _ _ (ap (map (λ h. h.promise.begun)) items) was.2)
                 (goes_end _ _ r did.net (omega (arith, out, within, n)) did.later did.faulted refl did.pass did.seen (mine.same_lock ∙ sym inv.lock)
-                (run_due c.args.pass child.promise r mine c.join-ended.ensures) did.counted did.few did.failed),
+                (run_due c.args.pass child.promise r mine c.join-ended.ensures) did.counted did.few did.failed did.numbers),
           );
       failed = did.failed ∙ inv.failed;
     }

@@ -11,7 +11,7 @@ pub returns-clause-act : goal.returns-clause-act
 returns-clause-act g c = let t = c.take-held.ensures in let s = c.take-held.result.1 in (
   s.entries,
   s.store,
-  acts c.take-held.result.0 s s _ _ _ t.value refl refl (looks s _ _ c.len-answer.ensures.list) c.args.pass c.give.result t.lock t.seen t.number t.act t.unused c.give.ensures,
+  acts c.take-held.result.0 s s _ _ _ t.value refl refl (looks s _ _ c.len-answer.ensures.list) c.args.pass c.give.result t.lock t.seen t.number t.act t.unused t.alone t.others c.give.ensures,
 )
 
 pub returns-clause-value : goal.returns-clause-value

@@ -9,7 +9,7 @@ returns-clause-act g c = let t = c.take-held.ensures in (
   c.take-held.result.1.entries,
   c.take-held.result.1.store,
   c.make-answer.new.self.store,
-  acts c.take-held.result.0 c.take-held.result.1 c.make-answer.new.self _ _ _ t.value c.seat.ensures c.act.ensures c.make-answer.ensures.grows c.args.pass c.give.result t.lock t.seen t.number t.act t.unused c.give.ensures,
+  acts c.take-held.result.0 c.take-held.result.1 c.make-answer.new.self _ _ _ t.value c.seat.ensures c.act.ensures c.make-answer.ensures.grows c.args.pass c.give.result t.lock t.seen t.number t.act t.unused t.alone t.others c.give.ensures,
   c.make-answer.ensures.made,
   c.make-answer.ensures.refused,
   c.make-answer.ensures.same,

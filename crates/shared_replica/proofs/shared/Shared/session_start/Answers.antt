@@ -13,7 +13,7 @@ pub returns : goal.returns
 returns g c = let t = c.take-held.ensures in let s = c.take-held.result.1 in let e = c.session_start-answer.ensures in (
   s.entries,
   s.store,
-  acts c.take-held.result.0 s s _ _ _ t.value refl refl (looks s _ _ e.list) c.args.pass c.give.result t.lock t.seen t.number t.act t.unused c.give.ensures,
+  acts c.take-held.result.0 s s _ _ _ t.value refl refl (looks s _ _ e.list) c.args.pass c.give.result t.lock t.seen t.number t.act t.unused t.alone t.others c.give.ensures,
   e.starts,
   e.belongs,
 )

@@ -30,7 +30,7 @@ returns g c =
       s.entries,
       s.store,
       c.session_step-answer.new.self.store,
-      acts c.take-held.result.0 s c.session_step-answer.new.self _ _ _ t.value c.seat.ensures c.act.ensures e.grows c.args.pass c.give.result t.lock t.seen t.number t.act t.unused c.give.ensures,
+      acts c.take-held.result.0 s c.session_step-answer.new.self _ _ _ t.value c.seat.ensures c.act.ensures e.grows c.args.pass c.give.result t.lock t.seen t.number t.act t.unused t.alone t.others c.give.ensures,
       subst (λ (l : List Entry). IfOk answer (λ out. StepsTo store_limits c.args.session.now (updates_of s.entries) c.args.frame session out (updates_of l))) seen e.steps,
       subst (λ (l : List Entry). BelongsTo store_limits s.store.history.schema.rule session (updates_of l)) seen e.belongs,
       e.failed,
