@@ -18,9 +18,9 @@ _bec() {
         export,*) [[ $word == -* ]] && offered="--updates" ;;
         draw,*) [[ $word == -* ]] && offered="--dot" ;;
         log,*) [[ $word == -* ]] && offered="--rows --full --json" ;;
-        show,*) [[ $word == -* ]] && offered="--full" ;;
-        who,*) [[ $word == -* ]] && offered="--full" ;;
-        diff,*) [[ $word == -* ]] && offered="--full" ;;
+        show,*) [[ $word == -* ]] && offered="--full --json" ;;
+        who,*) [[ $word == -* ]] && offered="--full --json" ;;
+        diff,*) [[ $word == -* ]] && offered="--full --json" ;;
         status,*) [[ $word == -* ]] && offered="--json" ;;
         serve,--sessions) offered="1 2 3 4 5 6 7 8" ;;
         serve,*) [[ $word == -* ]] && offered="--sessions" ;;
