@@ -13,12 +13,12 @@ use std::alloc::{AllocError, Global};
 use std::test::Fail;
 
 /// After how many calls a disk stops, at most. No command here makes so many on one disk.
-const CALLS: u64 = 16;
+const CALLS: u32 = 16;
 /// What a crash leaves: what was synced last, what is read, or a mixture of both.
-const CHOICES: u64 = 3;
+const CHOICES: u32 = 3;
 
 /// Whether a command may have ended so whose disk stops after so many calls.
-fn is_stopped(calls: u64, answer: &Answer) -> bool {
+fn is_stopped(calls: u32, answer: &Answer) -> bool {
     match answer {
         Ok(_) => calls > 0,
         Err(SealRefusal::Store) => calls < CALLS - 1,
@@ -40,13 +40,13 @@ fn draw_survives(
     alloc: Global,
     key: &[u8],
     part: Part,
-    calls: u64,
-    choice: u64,
+    calls: u32,
+    choice: u32,
 ) -> Result<bool, AllocError> {
     let mut shelf = MemShelf::new(alloc);
-    arm(alloc, &mut shelf, ("A", part), calls as u32)?;
+    arm(alloc, &mut shelf, ("A", part), calls)?;
     let first = draw(alloc, &mut shelf, OtsType::W2);
-    let mut left = left_of(&shelf, choice)?;
+    let mut left = left_of(&shelf, u64::from(choice))?;
     let again = draw(alloc, &mut left, OtsType::W2);
     let sealed = seal(alloc, &mut left, 1, b"one");
     Ok(is_stopped(calls, &first) && is_drawn_again(&first, &again) && is_good(key, b"one", &sealed))
@@ -58,15 +58,15 @@ fn seal_survives(
     base: &MemShelf,
     key: &[u8],
     place: Place,
-    calls: u64,
-    choice: u64,
+    calls: u32,
+    choice: u32,
 ) -> Result<bool, AllocError>
     requires { IsHome (shelf_of base.now) }
 {
     let mut shelf = left_of(base, 1)?;
-    arm(alloc, &mut shelf, place, calls as u32)?;
+    arm(alloc, &mut shelf, place, calls)?;
     let first = seal(alloc, &mut shelf, 1, b"one");
-    let mut left = left_of(&shelf, choice)?;
+    let mut left = left_of(&shelf, u64::from(choice))?;
     let second = seal(alloc, &mut left, 2, b"two");
     Ok(is_stopped(calls, &first) && follows(key, &first, &second))
 }

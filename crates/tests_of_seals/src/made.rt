@@ -147,7 +147,7 @@ fn sealed_as(alloc: Global, row: &Row) -> Result<Sealed, AllocError> {
 
 /// A public key and a signature of these levels, from the top one down, each of which signs the key of the next one.
 fn chained(alloc: Global, levels: &[Level]) -> Result<Sealed, AllocError> {
-    let count = levels.len() as u32;
+    let count = u32::try_from(levels.len()).unwrap_or(0);
     let mut key = Vec::from_slice(alloc, &count.to_be_bytes())?;
     let mut seal = Vec::from_slice(alloc, &count.saturating_sub(1).to_be_bytes())?;
     for (number, level) in levels.iter().enumerate() {
