@@ -14,5 +14,5 @@ put-requires c = record { home = home_missing (shelf_of c.args.shelf.now) (shelf
 pub returns : goal.returns
 returns c = record {
   home = home_armed c.args.shelf.now c.find.new.self c.put_back.new.self (slot c.args.place.0.now c.args.place.1) c.in-Ok.found c.in-Some.disk c.arm.new.self c.in-Ok.ensures.finds c.in-Some.is
-  (ap (λ (d : MemDiskState). d.slot) c.arm.ensures) c.put_back.ensures.puts c.requires.home;
+      (ap (λ (d : MemDiskState). d.slot) c.arm.ensures) c.put_back.ensures.puts c.requires.home;
 }
