@@ -30,6 +30,9 @@ fn refusal(answer: &Answer) -> &'static str {
     }
 }
 
+/// A part that is neither absent nor whole: its gate is open, and it has a byte more than its length says.
+const DAMAGED: &[u8] = b"\x01\0\0\0\0\0";
+
 /// A part of a directory with other bytes in it, and what is refused then.
 struct Row<'a> {
     /// How many seals were made before.
@@ -60,7 +63,7 @@ const ROWS: &[Row<'static>] = &[
     Row {
         seals: 0,
         place: ("A", Part::Key),
-        bytes: b"\x01\0",
+        bytes: DAMAGED,
         draw: "key there",
         seal: "bad key",
     },
@@ -88,7 +91,7 @@ const ROWS: &[Row<'static>] = &[
     Row {
         seals: 1,
         place: ("A.0", Part::Peers),
-        bytes: b"\x01\0",
+        bytes: DAMAGED,
         draw: "key there",
         seal: "bad key",
     },
@@ -116,14 +119,14 @@ const ROWS: &[Row<'static>] = &[
     Row {
         seals: 0,
         place: ("A.0", Part::Key),
-        bytes: b"\x01\0",
+        bytes: DAMAGED,
         draw: "key there",
         seal: "bad key",
     },
     Row {
         seals: 1,
         place: ("A.1", Part::Key),
-        bytes: b"\x01\0",
+        bytes: DAMAGED,
         draw: "key there",
         seal: "none",
     },
