@@ -1,0 +1,5 @@
+pub mod Codes
+pub mod Standing
+pub mod Events
+pub mod Taking
+pub mod Begun
