@@ -1,12 +1,11 @@
 -- An update to a session, whatever list its holder has.
-use Rattle.std.proofs.Common.{◌≡◌, ◌≢◌, ◌≤◌, ℕ, Bool, true, false, ◌||◌, is_some, List, [], ◌++◌, map, Option, Some, None, refl, sym, ap, ◌∙◌}
+use Rattle.std.proofs.Common.{◌≡◌, ℕ, Bool, true, false, ◌||◌, is_some, List, [], ◌++◌, map, Option, Some, None, ap}
 use Rattle.update_check.specs.Signed.{IsChecked}
 use Rattle.update_codec.specs.Parts.{entry_of}
 use Rattle.update_model.specs.Batch.{Limits}
 use Rattle.update_model.specs.Entry.{Entry}
 use Rattle.update_model.specs.Graph.{is_within}
 use Rattle.update_model.specs.Rule.{RuleData}
-use Rattle.update_model.specs.declared.limits.TheConstants.{MAX_MEMBERS}
 use Rattle.session_rules.specs.declared.peer_fault.PeerFault.{PeerFault}
 use Rattle.session_rules.specs.Pair.{frames_of}
 use Rattle.session_rules.specs.State as state
@@ -14,7 +13,7 @@ use Rattle.session_rules.specs.State.{OutData, SessionData}
 use Rattle.session_rules.specs.Steps.{Gathers, Takes, Unless, gathers, item_fault, silent}
 use Rattle.session_rules.proofs.Courses.{continues_few}
 use Rattle.sync_session.specs.Gathering.{BelongsSomewhere, GathersAnywhere, StaysWith}
-use Rattle.sync_session.specs.Kept.{BelongsTo, IsRunning, Kept, Stands, out_of, seen, whole}
+use Rattle.sync_session.specs.Kept.{IsRunning, Kept, Stands, out_of, seen, whole}
 use Rattle.sync_session.specs.declared.checked_frame.CheckedFrame.TheVariants.{Item}
 use Rattle.sync_session.specs.declared.out.Out.{Out}
 use Rattle.sync_session.proofs.Quiet.{plain_not_store, silent_not_store}

@@ -8,10 +8,11 @@ use std::alloc::{AllocError, Global};
 use update_check::Checked;
 
 impl Session {
-    /// Takes an update that the peer sent, as [`Session::step`] takes its frame. It is only gathered, so no holder is needed: what it does is the same
-    /// over every list that the session belongs to.
+    /// Takes an update that the peer sent, as [`Session::step`] takes its frame. It is only gathered, so no holder is
+    /// needed: what it does is the same over every list that the session belongs to.
     ///
-    /// A session that has ended, or whose memory ran out in an earlier call, answers nothing. Where memory runs out the session is over.
+    /// A session that has ended, or whose memory ran out in an earlier call, answers nothing. Where memory runs out the
+    /// session is over.
     pub fn gather_update(&mut self, alloc: Global, update: Checked) -> Result<Out, AllocError>
         requires belongs { BelongsSomewhere self.old }
         ensures gathers { IfOk result (λ out. GathersAnywhere self.old update self.new out) }

@@ -103,8 +103,8 @@ impl<T: Kept> TurnLock<T> {
         ))
     }
 
-    /// One seat that has seen what both have seen, with the number and the acts of the first. What one has seen begins what the other has seen. The numbers of all
-    /// seats that have met in it are different ones.
+    /// One seat that has seen what both have seen, with the number and the acts of the first. What one has seen begins
+    /// what the other has seen. The numbers of all seats that have met in it are different ones.
     pub fn meet(&self, a: Seat<T>, b: Seat<T>) -> Result<Seat<T>, Back<(Seat<T>, Seat<T>)>>
         requires locks { (a.lock ≡ self.now) × (b.lock ≡ self.now) }
         ensures seat { IfOk result (λ s. (s.lock ≡ a.lock) × (s.number ≡ a.number) × (s.acts ≡ a.acts)) }

@@ -9,6 +9,6 @@ returns-in-Item-clause-talk g c rule role start old heard t =
     let h = c.gather.ensures.talk rule role start old (g.K.Sink.held c.args.link.now) (g.K.Counted.faults c.args.link.now) heard t in (
       h.0,
       subst (λ (f : CheckedFrame). TookOne (frame_of f) heard c.gather.result.1 h.0 c.gather.result.0.session c.args.talk.is_fresh c.gather.result.0.is_fresh (g.K.Sink.held c.args.link.now) (g.K.Sink.held c.args.link.now)
-      (g.K.Counted.faults c.args.link.now) (g.K.Counted.faults c.args.link.now)) (sym c.in-Item.is) h.1,
+          (g.K.Counted.faults c.args.link.now) (g.K.Counted.faults c.args.link.now)) (sym c.in-Item.is) h.1,
       h.2,
     )
