@@ -29,7 +29,8 @@ use watch_command::{Watch, watch_in};
 /// Words that ask for something of a family, as over a net or about seals, come to what that comes to; other words come to what [`run_alone`] says. What
 /// needs no net leaves it as it was. `sync` meets the node at an address, and `serve` meets those that dial; what they come to is told of the net's next
 /// links, of what the parts of the directory read as, and of the sessions that were held. Where the shelf or the net failed or memory ran out, that comes in
-/// its place. A fault of the store is told only where the shelf counted one, and a fault of a stream only where the source, the net or the sink did. `sync` and `serve` wait for other nodes, and no other command waits.
+/// its place. A fault of the store is told only where the shelf counted one, and a fault of a stream only where the source, the net or the sink did.
+/// `sync` and `serve` wait for other nodes, and no other command waits.
 pub fn run<T: Threads + Wait + Sync, H: Shelf, N: Net, R: Rng, S: Source, K: Sink>(
     rt: &T,
     alloc: Global,

@@ -1,5 +1,5 @@
 -- What a Carry does to what the code of a world shows.
-use Rattle.std.proofs.Common.{◌≡◌, inl, inr, ℕ, ◌<◌, Bool, true, false, ◌&&◌, List, [], ◌∷◌, ◌++◌, length, map, set, All, Option, Some, None, refl, sym, ap, ap₂, subst, ◌∙◌, length-set}
+use Rattle.std.proofs.Common.{◌≡◌, inl, inr, ℕ, ◌<◌, Bool, true, false, ◌&&◌, List, ◌∷◌, ◌++◌, length, map, set, All, Option, Some, refl, sym, ap, ap₂, subst, ◌∙◌, length-set}
 use Rattle.std.specs.Prelude.{not, option_map, slice_get, slice_set, if◌then◌else◌}
 use Rattle.std.specs.VecDeque.{deque_items}
 use Rattle.std.proofs.lemmas.List.Elements.{All-tail}
@@ -7,7 +7,6 @@ use Rattle.row_check.specs.Checksum.{is_luhn}
 use Rattle.schema.specs.Data.{SchemaData}
 use Rattle.session_rules.specs.Pair.{frames_of}
 use Rattle.session_rules.specs.State.{FrameData, OutData, SessionData}
-use Rattle.session_rules.specs.declared.end.End.{End}
 use Rattle.sync_session.specs.Kept.{IsFrameUnder, frame_of, out_of, seen}
 use Rattle.sync_session.specs.declared.checked_frame.CheckedFrame.{CheckedFrame}
 use Rattle.update_codec.specs.Parts.{entry_of}
@@ -16,7 +15,7 @@ use Rattle.update_model.specs.Rule.{RuleData}
 use Rattle.replica.specs.Replicas.{ReplicaState}
 use Rattle.byzantine_world.specs.Codes.{Shows, end_over, is_over_code, list_at, list_of, talk_over}
 use Rattle.byzantine_world.specs.Events.{IsStep, cut_where}
-use Rattle.byzantine_world.specs.Standing.{AreBothSound, IsSideSound, IsStanding, IsTalkSound}
+use Rattle.byzantine_world.specs.Standing.{AreBothSound, IsSideSound, IsStanding}
 use Rattle.byzantine_world.specs.Taking.{HasNothing, ReadsFrame, View, cut_code_if, view_from}
 use Rattle.byzantine_world.specs.declared.talk.Both.{Both}
 use Rattle.byzantine_world.specs.declared.talk.Side.{Side}
@@ -26,7 +25,7 @@ use Rattle.byzantine_world.proofs.Cutting.{none_steps, over_shown, session_shown
 use Rattle.byzantine_world.proofs.Keeping.{side_cut}
 use Rattle.byzantine_world.proofs.Showing.{Grow, cut_side_shown, side_same, side_sound}
 use Rattle.byzantine_world.proofs.Talking.{grows, list_now, talk_shows, talk_stands}
-use Rattle.world_rules.specs.Happens.{CarriesIn, HappensTo, RemembersOf, TakesOne, can_carry, ending, finds, has_frame, is_broken_off, is_done, is_store, met_in}
+use Rattle.world_rules.specs.Happens.{CarriesIn, HappensTo, RemembersOf, TakesOne, can_carry, ending, has_frame, is_broken_off, is_done, is_store, met_in}
 use Rattle.world_rules.specs.declared.event.Event.TheVariants as events
 use Rattle.world_rules.specs.declared.event.Stepped.TheVariants as stepped
 use Rattle.world_rules.specs.Lists.{Extends}

@@ -1,12 +1,11 @@
 -- What a Feed does to what the code of a world shows.
-use Rattle.std.proofs.Common.{◌≡◌, ◌⊎◌, inl, inr, ℕ, suc, ◌+◌, ◌-◌, ◌^◌, ◌<◌, ◌≤◌, Bool, true, false, ◌&&◌, ◌||◌, List, [], ◌∷◌, ◌++◌, length, map, set, All, Option, Some, None, Result, Ok, Err, refl, sym, ap, ap₂, subst, ◌∙◌, arith, append-nil, append_assoc, length-set}
+use Rattle.std.proofs.Common.{◌≡◌, inl, inr, ℕ, ◌+◌, ◌-◌, ◌^◌, ◌<◌, Bool, true, false, ◌||◌, List, [], ◌∷◌, ◌++◌, length, map, set, All, Option, Some, None, Result, Ok, Err, refl, sym, ap, ap₂, subst, ◌∙◌, arith, append-nil, append_assoc, length-set}
 use Rattle.std.specs.Prelude.{IfOk, OnOk, is_some, min, not, option_map, slice_get, slice_set}
 use Rattle.std.proofs.lemmas.List.{map-append}
 use Rattle.std.proofs.lemmas.List.Elements.{All-head, All-tail}
 use Rattle.row_check.specs.Checksum.{is_luhn}
 use Rattle.link_frames.specs.Hearing.{AllArrive}
-use Rattle.replica.specs.Holding.{KeepsOn, keeps_itself, keeps_on}
-use Rattle.replica.specs.Replicas.{ReplicaState}
+use Rattle.replica.specs.Holding.{keeps_itself, keeps_on}
 use Rattle.schema.specs.Data.{SchemaData}
 use Rattle.session_rules.specs.State.{FrameData, NoFrame, OutData, SessionData}
 use Rattle.session_rules.specs.Steps.{Steps, StepsBy}
@@ -25,7 +24,7 @@ use Rattle.update_model.specs.Entry.{Entry}
 use Rattle.update_model.specs.Rule.{RuleData}
 use Rattle.byzantine_world.specs.Codes.{Shows, end_over, is_over_code, list_at, list_of, talk_over}
 use Rattle.byzantine_world.specs.Events.{IsStep, cut_where}
-use Rattle.byzantine_world.specs.Standing.{IsLiarSound, IsSideSound, IsStanding, IsTalkSound}
+use Rattle.byzantine_world.specs.Standing.{IsLiarSound, IsSideSound, IsStanding}
 use Rattle.byzantine_world.specs.Taking.{HearsLiar, TakesFrame, TakesFrames, liar_in}
 use Rattle.byzantine_world.specs.declared.talk.Liar.{Liar}
 use Rattle.byzantine_world.specs.declared.talk.Side.{Side}
@@ -33,11 +32,10 @@ use Rattle.byzantine_world.specs.declared.talk.Talk.{Talk}
 use Rattle.byzantine_world.specs.declared.talk.Talk.TheVariants as talks
 use Rattle.byzantine_world.proofs.Cutting.{none_steps, over_shown, session_shown}
 use Rattle.byzantine_world.proofs.Talking.{list_now, talk_shows, talk_stands}
-use Rattle.world_rules.specs.Happens.{FeedsIn, HappensTo, HearsFrames, TakesAll, TakesOne, all_met, can_feed, ending, finds, is_store, none, one_more}
+use Rattle.world_rules.specs.Happens.{FeedsIn, HappensTo, TakesAll, all_met, can_feed, ending, is_store, none, one_more}
 use Rattle.world_rules.specs.declared.event.Event.TheVariants as events
 use Rattle.world_rules.specs.declared.event.Stepped.TheVariants as stepped
 use Rattle.world_rules.specs.Lists.{Extends}
-use Rattle.world_rules.specs.Meetings.{EndData}
 use Rattle.world_rules.specs.Worlds as worlds
 use Rattle.world_rules.specs.Worlds.{SessionOf, SiteData, WorldData, flat, held_by, is_over, session_at, site_at}
 use Rattle.world_rules.proofs.Moving.{sunk_if}

@@ -1,17 +1,15 @@
 -- What an event of one session leaves.
-use Rattle.std.proofs.Common.{◌≡◌, inl, inr, ℕ, zero, suc, ◌<◌, Bool, true, false, List, [], ◌∷◌, length, map, set, get_or, All, Option, Some, None, refl, sym, ap, ap₂, subst, ◌∙◌}
+use Rattle.std.proofs.Common.{◌≡◌, ℕ, zero, suc, ◌<◌, Bool, true, false, List, [], ◌∷◌, length, map, set, get_or, All, Option, Some, None, refl, sym, ap, subst, ◌∙◌}
 use Rattle.std.specs.Prelude.{if◌then◌else◌, not, option_map, slice_get}
-use Rattle.std.proofs.lemmas.Bool.{cases_eq}
 use Rattle.std.proofs.lemmas.List.{map-set}
 use Rattle.std.proofs.lemmas.Option.{get_or_from_slice_get, slice_get-get_or}
 use Rattle.row_check.specs.Checksum.{is_luhn}
 use Rattle.schema.specs.Data.{SchemaData}
-use Rattle.session_rules.proofs.Words.{is_either}
 use Rattle.session_rules.specs.declared.end.End.{End}
 use Rattle.update_check.specs.Members.{AreMembers}
 use Rattle.update_model.specs.Rule.{RuleData}
 use Rattle.sync_session.specs.Kept.{IsFrameUnder}
-use Rattle.byzantine_world.specs.Codes.{Shows, cut_talk, is_over_code, is_over_talk, list_at, list_of, talk_over}
+use Rattle.byzantine_world.specs.Codes.{cut_talk, is_over_code, is_over_talk, list_of, talk_over}
 use Rattle.byzantine_world.specs.Events.{Cuts, CutsBy, IsStep, cut_where}
 use Rattle.byzantine_world.specs.Standing.{AreBothSound, IsLiarSound, IsSideSound, IsStanding, IsTalkSound}
 use Rattle.byzantine_world.specs.Taking.{CanHear, CanRead, HasNothing, HearsLiar, Reads, ReadsFrame, View, both_in, hearer_in, liar_in, reader_in, view_from}
@@ -21,8 +19,8 @@ use Rattle.byzantine_world.specs.declared.talk.Both.{Both}
 use Rattle.byzantine_world.specs.declared.talk.Liar.{Liar}
 use Rattle.byzantine_world.specs.declared.talk.Talk.{Talk}
 use Rattle.byzantine_world.specs.declared.talk.Talk.TheVariants as talks
-use Rattle.byzantine_world.proofs.Carried.{IsViewSound, both_sound, carry_stands, carry_steps, none_read, two_over, two_seen, view_over, view_sound}
-use Rattle.byzantine_world.proofs.Cutting.{can_cut_shown, cut_steps, none_steps, over_shown, session_shown}
+use Rattle.byzantine_world.proofs.Carried.{IsViewSound, both_sound, carry_stands, carry_steps, none_read, two_seen, view_over, view_sound}
+use Rattle.byzantine_world.proofs.Cutting.{can_cut_shown, cut_steps, none_steps, session_shown}
 use Rattle.byzantine_world.proofs.Fed.{feed_stands, feed_steps, none_heard}
 use Rattle.byzantine_world.proofs.Keeping.{talk_cut}
 use Rattle.byzantine_world.proofs.Started.{all_at}

@@ -1,14 +1,14 @@
 -- What the code of a world keeps when one replica goes on.
-use Rattle.std.proofs.Common.{◌≡◌, inl, inr, ℕ, ◌<◌, Bool, true, false, ◌||◌, List, length, map, get_or, set, All, Option, Some, None, refl, sym, ap, subst, ◌∙◌, length-set}
+use Rattle.std.proofs.Common.{◌≡◌, inl, inr, ℕ, Bool, true, false, ◌||◌, List, length, get_or, set, All, Option, Some, None, refl, sym, ap, subst, ◌∙◌, length-set}
 use Rattle.std.specs.Prelude.{is_some, not, slice_get, if◌then◌else◌}
 use Rattle.std.proofs.lemmas.List.{length-map}
 use Rattle.std.proofs.lemmas.List.Elements.{All-map}
 use Rattle.schema.specs.Data.{SchemaData}
 use Rattle.session_rules.specs.declared.end.End.{End}
 use Rattle.update_model.specs.Rule.{RuleData}
-use Rattle.byzantine_world.specs.Codes.{cut_code, cut_talk, is_over_code, list_at, takes_part_in}
+use Rattle.byzantine_world.specs.Codes.{cut_code, cut_talk, list_at, takes_part_in}
 use Rattle.byzantine_world.specs.Events.{cut_code_with, cut_where}
-use Rattle.byzantine_world.specs.Standing.{AreBothSound, IsLiarSound, IsSideSound, IsStanding, IsTalkSound}
+use Rattle.byzantine_world.specs.Standing.{IsSideSound, IsStanding, IsTalkSound}
 use Rattle.byzantine_world.specs.declared.talk.Side.{Side}
 use Rattle.byzantine_world.specs.declared.talk.Talk.{Talk}
 use Rattle.byzantine_world.specs.declared.talk.Talk.TheVariants as talks

@@ -1,6 +1,6 @@
 -- What a Make leaves.
-use Rattle.std.proofs.Common.{◌≡◌, ℕ, Bool, true, false, List, [], set, Option, Some, None, Result, Ok, Err, refl, sym, ap, subst, ◌∙◌}
-use Rattle.std.specs.Prelude.{IfOk, OnOk, not, slice_get}
+use Rattle.std.proofs.Common.{◌≡◌, ℕ, Bool, true, false, List, [], set, Option, Some, None, Result, Ok, Err, refl, sym, subst, ◌∙◌}
+use Rattle.std.specs.Prelude.{IfOk, OnOk, slice_get}
 use Rattle.row_check.specs.Checksum.{is_luhn}
 use Rattle.key_index.specs.KeyState.{KeyState}
 use Rattle.replica.specs.Replicas.{ReplicaState}

@@ -1,10 +1,8 @@
 -- What a Restart does to what the code of a world shows.
 use Rattle.std.proofs.Common.{◌≡◌, ℕ, ◌+◌, Bool, true, false, List, [], ◌++◌, length, map, set, All, Option, Some, None, refl, sym, ap, subst, ◌∙◌}
-use Rattle.std.specs.Prelude.{is_some, option_map, slice_get, slice_set}
+use Rattle.std.specs.Prelude.{is_some, slice_get, slice_set}
 use Rattle.std.proofs.lemmas.List.{length-map}
 use Rattle.row_check.specs.Checksum.{is_luhn}
-use Rattle.update_model.specs.declared.update_id.UpdateId.{UpdateId}
-use Rattle.byzantine_world.specs.Codes.{Shows, talk_over}
 use Rattle.byzantine_world.specs.Events.{IsStep, cut_code_with}
 use Rattle.byzantine_world.specs.Standing.{IsStanding, IsTalkSound}
 use Rattle.byzantine_world.specs.declared.talk.Talk.{Talk}
@@ -12,10 +10,10 @@ use Rattle.byzantine_world.proofs.Acts.{all_sound, grow_one, talks_cut, talks_sa
 use Rattle.byzantine_world.proofs.Cutting.{none_steps}
 use Rattle.byzantine_world.proofs.Keeping.{all_cut, many_cut, one_each}
 use Rattle.byzantine_world.proofs.Showing.{Grow}
-use Rattle.world_rules.specs.Happens.{HappensTo, Restarts, RestartsIn, finds, met_by}
+use Rattle.world_rules.specs.Happens.{HappensTo, Restarts, met_by}
 use Rattle.world_rules.specs.declared.event.Event.TheVariants as events
 use Rattle.world_rules.specs.declared.event.Stepped.TheVariants as stepped
-use Rattle.world_rules.specs.Worlds.{SessionOf, SiteData, WorldData, cut_with, held_by, site_at}
+use Rattle.world_rules.specs.Worlds.{SiteData, WorldData, cut_with, held_by, site_at}
 use Rattle.world_rules.proofs.Schemas.{SchemaLaws}
 use Rattle.world_rules.proofs.Sites.{SiteMoves, restart_moves}
 

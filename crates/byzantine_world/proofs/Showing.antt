@@ -1,14 +1,13 @@
 -- What a world shows of its sessions while the lists of its replicas grow.
-use Rattle.std.proofs.Common.{◌≡◌, inl, inr, ℕ, ◌<◌, Bool, true, false, List, [], ◌∷◌, length, map, set, All, Option, Some, None, refl, sym, ap, ap₂, subst, ◌∙◌}
-use Rattle.std.specs.Prelude.{option_map, slice_get, if◌then◌else◌}
-use Rattle.std.proofs.lemmas.Bool.{cases_eq}
+use Rattle.std.proofs.Common.{◌≡◌, ℕ, ◌<◌, Bool, true, false, List, length, map, Option, Some, None, refl, sym, ap, ap₂, subst, ◌∙◌}
+use Rattle.std.specs.Prelude.{option_map, if◌then◌else◌}
 use Rattle.std.specs.VecDeque.{deque_items}
-use Rattle.sync_session.specs.Kept.{frame_of, seen}
+use Rattle.sync_session.specs.Kept.{frame_of}
 use Rattle.session_rules.specs.State.{SessionData}
 use Rattle.update_model.specs.Rule.{RuleData}
-use Rattle.byzantine_world.specs.Codes.{cut_code, cut_talk, end_over, list_at, list_of, takes_part_in, talk_over}
+use Rattle.byzantine_world.specs.Codes.{cut_code, cut_talk, end_over, list_at, takes_part_in, talk_over}
 use Rattle.byzantine_world.specs.Events.{cut_code_with}
-use Rattle.byzantine_world.specs.Standing.{AreBothSound, IsLiarSound, IsSideSound, IsTalkSound}
+use Rattle.byzantine_world.specs.Standing.{IsSideSound, IsTalkSound}
 use Rattle.byzantine_world.specs.declared.talk.Side.{Side}
 use Rattle.byzantine_world.specs.declared.talk.Talk.{Talk}
 use Rattle.byzantine_world.specs.declared.talk.Talk.TheVariants as talks

@@ -1,22 +1,21 @@
 -- How a world begins.
-use Rattle.std.proofs.Common.{◌≡◌, ◌⊎◌, inl, inr, ℕ, ◌<◌, ◌≤◌, Bool, false, List, [], ◌∷◌, ◌++◌, length, map, get_or, All, Option, Some, None, refl, sym, ap, ap₂, subst, ◌∙◌, arith}
+use Rattle.std.proofs.Common.{◌≡◌, ◌⊎◌, inl, inr, ℕ, ◌≤◌, false, List, [], ◌∷◌, ◌++◌, length, map, All, Option, Some, None, refl, sym, ap, ap₂, subst, ◌∙◌, arith}
 use Rattle.std.specs.Prelude.{option_map, slice_get}
 use Rattle.std.proofs.lemmas.List.{length-map}
 use Rattle.std.proofs.lemmas.List.Elements.{All-append, All-cons, All-nil}
 use Rattle.std.proofs.lemmas.Option.{get_or_from_slice_get, slice_get-map, slice_get_within}
 use Rattle.row_check.specs.Checksum.{is_luhn}
-use Rattle.confluence_test.specs.Taking.{RefusesSchema, TakesSchema}
+use Rattle.confluence_test.specs.Taking.{RefusesSchema}
 use Rattle.confluence_test.specs.declared.refusal.SchemaRefusal.{SchemaRefusal}
 use Rattle.confluence_test.specs.declared.refusal.SchemaRefusal.TheVariants as refusals
 use Rattle.schema.specs.Data.{SchemaData}
 use Rattle.schema_text.specs.Schemas.{Declares}
 use Rattle.byzantine_world.specs.Begun.{AreNone, IsBegun, IsNewOf, IsWorldCause, refusal_fault, world_fault_of}
-use Rattle.byzantine_world.specs.Codes.{Shows, WorldCode, talk_over}
+use Rattle.byzantine_world.specs.Codes.{WorldCode, talk_over}
 use Rattle.byzantine_world.specs.Standing.{IsStanding, IsTalkSound}
 use Rattle.byzantine_world.specs.declared.talk.Talk.{Talk}
-use Rattle.byzantine_world.specs.declared.world_fault.WorldFault.{WorldFault}
 use Rattle.world_rules.specs.Happens.{IsNew, IsNewSite, begins}
-use Rattle.world_rules.specs.Worlds.{SessionOf, SiteData, WorldData, flat, session_at}
+use Rattle.world_rules.specs.Worlds.{SiteData, WorldData, flat}
 use Rattle.world_rules.proofs.Schemas.{SchemaLaws}
 use Rattle.world_site.specs.Creating.{IsSiteCause}
 use Rattle.world_site.specs.declared.fault.SiteFault.{SiteFault}

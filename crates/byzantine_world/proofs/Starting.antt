@@ -1,5 +1,5 @@
 -- What a Start does to what the code of a world shows.
-use Rattle.std.proofs.Common.{◌≡◌, ℕ, ◌+◌, ◌<◌, ◌≤◌, Bool, true, false, ◌&&◌, ◌==◌, List, [], ◌∷◌, length, map, set, All, Option, Some, None, refl, sym, ap, ap₂, subst, ◌∙◌, arith, length-set}
+use Rattle.std.proofs.Common.{◌≡◌, ℕ, ◌+◌, ◌≤◌, Bool, true, false, ◌&&◌, ◌==◌, List, [], ◌∷◌, length, map, set, All, Option, Some, None, refl, sym, ap, ap₂, subst, ◌∙◌, arith, length-set}
 use Rattle.std.specs.Prelude.{is_none, nat_lt, not, option_map, slice_get, slice_set}
 use Rattle.std.specs.VecDeque.{deque_items}
 use Rattle.std.proofs.lemmas.Bool.Decides.{nat_tests}
@@ -12,30 +12,27 @@ use Rattle.session_rules.specs.Course.{opened}
 use Rattle.session_rules.specs.State.{HelloData, SessionData}
 use Rattle.session_rules.specs.State as rules
 use Rattle.session_rules.specs.Steps.{IsHello}
-use Rattle.session_rules.specs.declared.end.End.{End}
 use Rattle.session_rules.specs.declared.role.Role.{Role}
 use Rattle.session_rules.specs.declared.role.Role.TheVariants.{Initiator, Responder}
 use Rattle.sync_frames.specs.Fed.{FedData}
 use Rattle.sync_frames.specs.Payload as payload
 use Rattle.sync_frames.specs.Stream.{IsBroken}
-use Rattle.sync_session.specs.Kept.{BelongsTo, IsFrameUnder, Kept, frame_of, hello_of, out_of, seen}
+use Rattle.sync_session.specs.Kept.{BelongsTo, IsFrameUnder, Kept, frame_of, hello_of, seen}
 use Rattle.sync_session.specs.Starts.{StartsAs}
-use Rattle.sync_session.specs.declared.checked_frame.CheckedFrame.{CheckedFrame}
 use Rattle.sync_session.specs.declared.out.Out.{Out}
 use Rattle.update_codec.specs.Parts.{entry_of}
 use Rattle.update_model.specs.declared.update_id.UpdateId.{UpdateId}
 use Rattle.update_model.specs.Batch.{store_limits}
 use Rattle.update_model.specs.Rule.{RuleData}
-use Rattle.byzantine_world.specs.Codes.{Shows, end_over, is_free_in, is_over_code, list_at, list_of, side_of, talk_over}
+use Rattle.byzantine_world.specs.Codes.{Shows, end_over, is_free_in, list_at, list_of, side_of, talk_over}
 use Rattle.byzantine_world.specs.Events.{IsStep, way_of}
 use Rattle.byzantine_world.specs.Standing.{AreBothSound, IsLiarSound, IsSideSound, IsStanding, IsTalkSound}
 use Rattle.byzantine_world.specs.declared.talk.Both.{Both}
-use Rattle.byzantine_world.specs.declared.talk.Liar.{Liar}
 use Rattle.byzantine_world.specs.declared.talk.Side.{Side}
 use Rattle.byzantine_world.specs.declared.talk.Talk.{Talk}
 use Rattle.byzantine_world.specs.declared.talk.Talk.TheVariants as talks
 use Rattle.byzantine_world.proofs.Cutting.{none_steps, session_shown}
-use Rattle.world_rules.specs.Happens.{HappensTo, Starts, StartsIn, began, can_start, finds, is_free, recalled}
+use Rattle.world_rules.specs.Happens.{HappensTo, Starts, began, can_start, is_free, recalled}
 use Rattle.world_rules.specs.declared.event.Event.TheVariants as events
 use Rattle.world_rules.specs.declared.event.Stepped.TheVariants as stepped
 use Rattle.world_rules.specs.Meetings.{EndData}

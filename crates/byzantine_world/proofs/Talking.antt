@@ -1,10 +1,10 @@
 -- What is shown when a replica goes on by one of its sessions.
-use Rattle.std.proofs.Common.{◌≡◌, ℕ, ◌<◌, Bool, true, false, List, length, map, set, All, Option, Some, None, refl, sym, ap, ap₂, subst, ◌∙◌, length-set}
+use Rattle.std.proofs.Common.{◌≡◌, ℕ, Bool, true, false, List, length, map, set, All, Option, Some, sym, ap, subst, ◌∙◌, length-set}
 use Rattle.std.specs.Prelude.{option_map, slice_get}
 use Rattle.std.proofs.lemmas.List.{map-set}
 use Rattle.std.proofs.lemmas.List.Elements.{All-set}
 use Rattle.byzantine_world.specs.Codes.{Shows, list_at, list_of, talk_over}
-use Rattle.byzantine_world.specs.Events.{cut_code_with, cut_where}
+use Rattle.byzantine_world.specs.Events.{cut_where}
 use Rattle.byzantine_world.specs.Standing.{IsStanding, IsTalkSound}
 use Rattle.byzantine_world.specs.declared.talk.Talk.{Talk}
 use Rattle.byzantine_world.proofs.Acts.{all_sound, grow_one, talks_cut, talks_same}

@@ -1,9 +1,7 @@
 -- What the code of a world has, and the world that it shows.
-use Rattle.std.specs.Prelude.{◌≡◌, ℕ, ◌==◌, ◌&&◌, ◌||◌, Bool, false, not, List, [], is_some, is_none, length, nat_lt, if◌then◌else◌, map, Option, Some, None, option_map, slice_get}
+use Rattle.std.specs.Prelude.{◌≡◌, ℕ, ◌==◌, ◌&&◌, ◌||◌, Bool, false, not, List, [], is_some, is_none, length, nat_lt, map, Option, Some, None, option_map, slice_get}
 use Rattle.std.specs.VecDeque.{deque_items}
 use Rattle.sync_session.specs.Kept.{Kept, frame_of, seen}
-use Rattle.byzantine_world.specs.declared.talk.Both.{Both}
-use Rattle.byzantine_world.specs.declared.talk.Liar.{Liar}
 use Rattle.byzantine_world.specs.declared.talk.Side.{Side}
 use Rattle.byzantine_world.specs.declared.talk.Talk.{Talk}
 use Rattle.byzantine_world.specs.declared.talk.Talk.TheVariants as talks

@@ -1,5 +1,5 @@
 -- What the code of a world keeps true.
-use Rattle.std.specs.Prelude.{◌≡◌, ◌<◌, ℕ, Bool, false, List, All, length, Option, Some, None, slice_get}
+use Rattle.std.specs.Prelude.{◌≡◌, ◌<◌, ℕ, false, List, All, length, Option, Some, None, slice_get}
 use Rattle.std.specs.VecDeque.{deque_items}
 use Rattle.row_check.specs.Checksum.{is_luhn}
 use Rattle.schema.specs.Data.{SchemaData}

@@ -1,4 +1,4 @@
-use Rattle.std.proofs.Common.{◌≡◌, All, ap, subst, sym, ◌∙◌}
+use Rattle.std.proofs.Common.{All, ap, subst, sym, ◌∙◌}
 use Rattle.std.specs.VecDeque.{deque_items}
 use Rattle.sync_session.specs.Kept.{IsFrameUnder}
 use Rattle.byzantine_world.proofs.Taking.{pushed_under}

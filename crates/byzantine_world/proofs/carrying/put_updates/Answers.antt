@@ -1,4 +1,4 @@
-use Rattle.std.proofs.Common.{◌≡◌, ◌≤◌, List, All, length, map, get_or, ap, subst, sym, ◌∙◌}
+use Rattle.std.proofs.Common.{◌≤◌, List, All, length, map, get_or, ap, subst, sym, ◌∙◌}
 use Rattle.std.specs.VecDeque.{deque_items}
 use Rattle.replica.specs.Replicas.{ReplicaState}
 use Rattle.sync_session.specs.Kept.{IsFrameUnder, frame_of}

@@ -1,4 +1,4 @@
-use Rattle.std.proofs.Common.{◌≡◌, true, false, refl, sym, ap, set, ◌∙◌}
+use Rattle.std.proofs.Common.{true, false, refl, sym, ap, set, ◌∙◌}
 use Rattle.byzantine_world.proofs.Goes.{frame_left, nothing_left, read_required}
 use Rattle.byzantine_world.proofs.state.State.carry.Goals as goal
 use Rattle.world_rules.specs.Worlds.{SiteData}

@@ -1,4 +1,4 @@
-use Rattle.std.proofs.Common.{◌≡◌, true, false, refl, sym, ap, set, ◌∙◌}
+use Rattle.std.proofs.Common.{true, false, refl, sym, ap, set, ◌∙◌}
 use Rattle.byzantine_world.proofs.Goes.{hear_required, heard_left}
 use Rattle.byzantine_world.proofs.state.State.feed.Goals as goal
 use Rattle.world_rules.specs.Worlds.{SiteData}

@@ -1,10 +1,9 @@
-use Rattle.std.proofs.Common.{◌≡◌, ◌<◌, Some, List, Option, length, map, set, sym, ap, ap₂, subst, ◌∙◌, arith}
+use Rattle.std.proofs.Common.{◌≡◌, ◌<◌, Some, List, length, set, sym, ap, subst, ◌∙◌, arith}
 use Rattle.std.proofs.lemmas.Option.{slice_get-get_or}
 use Rattle.std.specs.Prelude.{insert, slice_get}
 use Rattle.row_check.specs.Checksum.{is_luhn}
-use Rattle.byzantine_world.specs.Events.{IsStep, cut_code_with}
+use Rattle.byzantine_world.specs.Events.{IsStep}
 use Rattle.byzantine_world.specs.Standing.{IsStanding}
-use Rattle.byzantine_world.specs.declared.talk.Talk.{Talk}
 use Rattle.byzantine_world.proofs.Replaced.{insert_removed}
 use Rattle.byzantine_world.proofs.Restarting.{restart_stands, restart_steps}
 use Rattle.byzantine_world.proofs.state.State.restart.Goals as goal
