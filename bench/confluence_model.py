@@ -1,6 +1,7 @@
 #!/usr/bin/env python3
-"""An outside model of `bec check` for schemas that are read: whether each invariant survives merging, and where one does
-not, the history that shows it. It is written from the rules in docs/CONFLUENCE.md alone: bench/confluence_model.py < SCHEMA
+"""An outside model of `bec check` for schemas that are read, but for what KEEP LEAST rules out: whether each invariant survives
+merging, and where one does not, the history that shows it; or the first line that KEEP LEAST rules out. It is written from the rules
+in docs/CONFLUENCE.md and docs/SCHEMAS.md alone: bench/confluence_model.py < SCHEMA
 """
 import re
 import sys
@@ -9,7 +10,7 @@ import sys
 class Table:
     def __init__(self, name, deletable):
         self.name, self.deletable = name, deletable
-        self.columns, self.uniques, self.at_most, self.sample = [], [], None, []
+        self.columns, self.uniques, self.at_most, self.keeps, self.sample = [], [], None, 0, []
 
 
 def split(line):
@@ -30,6 +31,8 @@ def parse(text):
         elif kind == "REF":
             target = next(i for i, t in enumerate(tables) if t.name == words[2])
             tables[-1].columns.append((words[1], target, words[3], words[-1] == "NULL", number))
+        elif kind == "UNIQUE" and words[2:] == ["KEEP", "LEAST"]:
+            tables[-1].keeps += 1
         elif kind == "UNIQUE":
             tables[-1].uniques.append(number)
         elif kind == "ATMOST":
@@ -40,9 +43,9 @@ def parse(text):
 
 
 def permanent(tables, number):
-    """Not DELETABLE, and each other table that it refers to by CASCADE is permanent."""
+    """Neither DELETABLE nor with KEEP LEAST, and each other table that it refers to by CASCADE is permanent."""
     table = tables[number]
-    return not table.deletable and all(
+    return not table.deletable and not table.keeps and all(
         permanent(tables, target) for (_, target, action, _, _) in table.columns if action == "CASCADE" and target != number
     )
 
@@ -108,7 +111,43 @@ def example(tables, number, kind, place=None, count=None):
     return history.rows, base
 
 
+def fault_of(tables, table, words):
+    """What KEEP LEAST rules out at the line with these words, the table having these lines so far, that one included."""
+    kind, keeps = words[0], words[2:] == ["KEEP", "LEAST"]
+    if kind == "UNIQUE" and (len(table.uniques) + table.keeps > 1 if keeps else table.keeps):
+        return "limit"
+    if kind == "ATMOST" and table.keeps or kind == "UNIQUE" and keeps and table.at_most:
+        return "limit"
+    if kind not in ("REF", "UNIQUE"):
+        return None
+    own = len(tables) - 1
+
+    def is_steady(number):
+        one = tables[number]
+        return not one.keeps and all(is_steady(target) for (_, target, action, _, _) in one.columns if action == "CASCADE" and target != number)
+    references = [(target, action) for (_, target, action, _, _) in table.columns if target is not None]
+    if any(action == "RESTRICT" and not is_steady(target) for target, action in references):
+        return "target"
+    return "target" if table.keeps and (own, "CASCADE") in references else None
+
+
+def ruled_out(text):
+    """The first line that KEEP LEAST rules out, with the kind of fault."""
+    lines = text.split("\n")
+    for number, line in enumerate(lines, 1):
+        words = split(line)
+        if words and words[0] in ("REF", "UNIQUE", "ATMOST"):
+            tables = parse("\n".join(lines[:number]))
+            fault = fault_of(tables, tables[-1], words)
+            if fault:
+                return f"! schema line {number}: {fault}\n"
+    return None
+
+
 def verdict(text):
+    fault = ruled_out(text)
+    if fault:
+        return fault
     tables = parse(text)
     for number, table in enumerate(tables):
         found = None

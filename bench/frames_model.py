@@ -55,7 +55,7 @@ def says(kind, payload):
             raise Bad
         return f"turn {have} {len(needs)}"
     version = fields.take(1)[0]
-    if version != 1:
+    if version != 2:
         return f"version {version}"
     database, node = fields.take(32), fields.take(32)
     heads, old = fields.ids("I", HEADS), fields.ids("H", FEW)

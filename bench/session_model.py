@@ -55,7 +55,7 @@ class Store:
 
     def __init__(self, database, node, spellings, is_good=None):
         self.database, self.node, self.updates = database, node, {}
-        self.is_good = is_good or (lambda spelling: spelling[:33] == b"\1" + database)
+        self.is_good = is_good or (lambda spelling: spelling[:1] in (b"\1", b"\2") and spelling[1:33] == database)
         for spelling in spellings:
             self.updates[id_of(spelling)] = spelling
 
@@ -101,7 +101,7 @@ def burst(updates, old, bits):
 
 
 def hello_frame(database, node, heads, old, bits):
-    return frame(HELLO, b"\1" + database + node + counted("I", heads) + counted("H", old) + struct.pack(">I", len(bits)) + bits)
+    return frame(HELLO, b"\2" + database + node + counted("I", heads) + counted("H", old) + struct.pack(">I", len(bits)) + bits)
 
 
 def turn_frame(have, needs=()):
@@ -111,7 +111,7 @@ def turn_frame(have, needs=()):
 def hello_of(payload):
     """What a Hello says: database, heads, remembered ids and filter, or none where it is of another version."""
     fields = Fields(payload)
-    if fields.take(1) != b"\1":
+    if fields.take(1) != b"\2":
         return None
     database, _ = fields.take(32), fields.take(32)
     heads, old = fields.ids("I", HEADS), fields.ids("H", FEW)

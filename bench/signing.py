@@ -136,10 +136,11 @@ def delete(row):
     return b"\x02" + row.id + struct.pack(">H", row.index)
 
 
-def update(database, author, preds, operations):
-    """Version 1: database, author, predecessors in rising order, spelled operations, and the author's signature."""
-    message = b"\x01" + database + author.key + struct.pack(">H", len(preds)) + b"".join(sorted(preds))
+def update(database, author, preds, operations, note=None):
+    """Database, author, predecessors in rising order, spelled operations, the note of version 2, and the author's signature."""
+    message = bytes([1 if note is None else 2]) + database + author.key + struct.pack(">H", len(preds)) + b"".join(sorted(preds))
     message += struct.pack(">H", len(operations)) + b"".join(operations)
+    message += b"" if note is None else struct.pack(">H", len(note)) + note
     signature = author.sign(message)
     return message + struct.pack(">I", len(signature)) + signature
 

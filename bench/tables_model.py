@@ -5,12 +5,15 @@ It reads a bundle and prints each table with its visible rows, and the void upda
 judged on the set of its ancestors and on nothing else, and whether a row is visible is asked by recursion, for each set
 anew. Sets of updates are the bits of integers, bit k for the k-th update to arrive.
 
-- A row is visible in a set when a valid update there inserted it, none there deletes it, and each row that it names by
-  CASCADE is visible there.
-- An update is valid when none of the reasons 1 to 8 applies to any of its operations, on the set of its ancestors.
+- A row is a candidate in a set when a valid update there inserted it, none there deletes it, and each row that it names by
+  CASCADE is visible there. A candidate is visible unless its table has a KEEP LEAST, and another candidate of the table has
+  its value in that column and a lesser name.
+- An update is valid when none of the reasons 1 to 8 applies to any of its operations, on the set of its ancestors, and no
+  row that it inserts has a value in a KEEP LEAST column that an earlier one of the update has, or a visible one that the
+  update does not delete.
 
 It takes the bundle to be in form and signed, and the schema to be one that `bec check` calls confluent: it looks for no
-fault in them, and knows no UNIQUE and no ATMOST lines.
+fault in them, and knows no ATMOST lines, and no UNIQUE without KEEP LEAST.
 """
 import hashlib
 import json
@@ -23,7 +26,7 @@ from typing import Callable, NamedTuple
 from signing import Own, Row
 
 sys.setrecursionlimit(1_000_000)  # a chain of references is followed by recursion
-NO_TABLE, SHAPE, CHECK, REFERENCE, MATCH, NOT_THERE, OWNER, CHILD = range(1, 9)  # why an update is void
+NO_TABLE, SHAPE, CHECK, REFERENCE, MATCH, NOT_THERE, OWNER, CHILD, TAKEN = range(1, 10)  # why an update is void
 
 COMPARISONS = {"=": operator.eq, "!=": operator.ne, "<": operator.lt, "<=": operator.le, ">": operator.gt,
                ">=": operator.ge}
@@ -61,6 +64,7 @@ class Table(NamedTuple):
     columns: list[Column]
     checks: list[Callable]
     matches: list[Match]
+    kept: list[int]  # the column of which the least row of each value is shown, if any
 
     def column_named(self, name):
         return next(number for number, column in enumerate(self.columns) if column.name == name)
@@ -173,7 +177,7 @@ def tables_of(text):
         words = WORDS.findall(line)
         match words[:1]:
             case ["TABLE"]:
-                tables.append(Table(words[1], "DELETABLE" in words[2:], "OWNED" in words[2:], [], [], []))
+                tables.append(Table(words[1], "DELETABLE" in words[2:], "OWNED" in words[2:], [], [], [], []))
             case ["COLUMN" | "REF"]:
                 tables[-1].columns.append(column_of(words, tables))
             case ["MATCH"]:
@@ -181,6 +185,8 @@ def tables_of(text):
                 table, reference = tables[-1], tables[-1].column_named(name)
                 target = tables[table.columns[reference].target]
                 table.matches.append(Match(table.column_named(words[1]), words[2], reference, target.column_named(other)))
+            case ["UNIQUE"] if words[2:] == ["KEEP", "LEAST"]:
+                tables[-1].kept.append(tables[-1].column_named(words[1]))
             case ["UNIQUE" | "ATMOST"]:
                 sys.exit(f"this model knows no {words[0]} lines")
             case [word] if re.match(r"CHECK(\(|$)", word):
@@ -298,6 +304,7 @@ class State:
         self.rows = {}  # the rows that valid updates inserted
         self.deleters = {}  # the valid updates that delete each row
         self.children = {}  # the rows that name each row by RESTRICT
+        self.groups = {}  # the rows of each value of a column of which the least row is kept, by table and value
 
     def past_of(self, preds):
         """The set of these updates and all their ancestors."""
@@ -330,17 +337,28 @@ class State:
         self.rows[name] = Entry(place, author, operation.table, values)
         for column in self.tables[operation.table].references("RESTRICT"):
             self.children.setdefault(values[column], []).append(name)
+        for column in self.tables[operation.table].kept:
+            self.groups.setdefault((operation.table, values[column]), []).append(name)
 
     def visible_in(self, members):
         """Which rows are visible in a set of updates, as a function of their names."""
         known = {}
 
+        def is_candidate(name):
+            if not self.stands_in(members, name):
+                return False
+            for parent in self.parents(name):
+                if not is_visible(parent):
+                    return False
+            return True
+
         def is_visible(name):
             if name not in known:
-                known[name] = self.stands_in(members, name)
-                for parent in self.parents(name) if known[name] else []:
-                    if not is_visible(parent):
+                known[name] = is_candidate(name)
+                for other in self.lesser(name) if known[name] else []:
+                    if is_candidate(other):
                         known[name] = False
+                        break
             return known[name]
         return is_visible
 
@@ -356,13 +374,30 @@ class State:
         values = [row.values[column] for column in self.tables[row.table].references("CASCADE")]
         return [value for value in values if value is not None]
 
+    def lesser(self, name):
+        """The rows of lesser names with a row's value in the column of which its table keeps the least row, if any."""
+        row = self.rows[name]
+        return [other for column in self.tables[row.table].kept for other in self.groups[row.table, row.values[column]] if other < name]
+
     def verdict(self, update, is_visible):
-        """The first reason that applies to an operation of an update, with its number, and None where there is none."""
+        """The first reason that applies to an operation of an update, or at the end, with its number, and None where there is none."""
         for number in range(len(update.operations)):
             reason = self.reason(update, number, is_visible)
             if reason:
                 return reason, number
-        return None
+        return (TAKEN, len(update.operations)) if self.is_taken(update.operations, is_visible) else None
+
+    def is_taken(self, operations, is_visible):
+        """Whether one of these inserts gives a value that an earlier one has, or a visible row that none of these deletes."""
+        deleted = {operation.row for operation in operations if isinstance(operation, Delete)}
+        given = set()
+        for operation in operations:
+            for column in self.tables[operation.table].kept if isinstance(operation, Insert) else []:
+                group = operation.table, operation.values[column]
+                if group in given or any(is_visible(name) and name not in deleted for name in self.groups.get(group, [])):
+                    return True
+                given.add(group)
+        return False
 
     def reason(self, update, number, is_visible):
         """The first reason that applies to one operation, and None where there is none."""

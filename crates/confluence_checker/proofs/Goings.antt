@@ -1,10 +1,14 @@
 -- Going through the invariants of a schema.
-use Rattle.std.proofs.Common.{◌≡◌, ℕ, ◌+◌, ◌<◌, List, [], ◌∷◌, ◌++◌, length, drop, get_or, refl, sym, ap, ◌∙◌, Some, slice_get}
+use Rattle.std.proofs.Common.{◌≡◌, ℕ, ◌+◌, ◌<◌, Bool, true, false, cond, List, [], ◌∷◌, ◌++◌, length, drop, get_or, refl, sym, ap, ◌∙◌, Option, Some, slice_get}
 use Rattle.table_model.specs.declared.invariant.Invariant.{Invariant}
-use Rattle.table_model.specs.Invariants.{Declared, claim_holds, each_from}
+use Rattle.schema.specs.declared.rules.UniqueRule.{UniqueRule}
+use Rattle.table_model.specs.declared.invariant.InvariantKind.{InvariantKind}
+use Rattle.table_model.specs.declared.invariant.InvariantKind.TheVariants as kind
+use Rattle.table_model.specs.Invariants.{Claim, Declared, Unique, UniqueKept, claim_holds, declared_at, each_from, unique_declared}
+use Rattle.table_model.specs.Verdicts.{keeps_least, unique_holds}
 use Rattle.table_model.specs.Visible.{Rules, TableRow}
 use Rattle.confluence_checker.specs.declared.found.Found.{Found}
-use Rattle.confluence_checker.specs.Forms.{found_among, is_same, seen}
+use Rattle.confluence_checker.specs.Forms.{found_among, is_same, seen, unique_kind}
 use Rattle.confluence_checker.proofs.Lists.{drop_next}
 use Rattle.confluence_checker.proofs.Bounds.{left_at}
 
@@ -40,3 +44,14 @@ found_table rules rows which A B C D E before a b c d e ha hb hc hd he =
     let abc : c ≡ found_among rules rows which (A ++ B ++ C) before = hc ∙ ap (found_among rules rows which C) ab ∙ sym (found_append rules rows which (A ++ B) C before) in
     let abcd : d ≡ found_among rules rows which (A ++ B ++ C ++ D) before = hd ∙ ap (found_among rules rows which D) abc ∙ sym (found_append rules rows which (A ++ B ++ C) D before) in
     he ∙ ap (found_among rules rows which E) abcd ∙ sym (found_append rules rows which (A ++ B ++ C ++ D) E before)
+
+-- a UNIQUE, by its kind
+pub found_unique : (rules : Rules) (rows : List TableRow) (which : Invariant) (kept : Option ℕ) (number place : ℕ) (rule : UniqueRule) (found : Found)
+    → seen found (is_same (record { kind = unique_kind kept rule.column; table = number; place = place; line = rule.line }) which) (unique_holds rows number rule.column)
+    ≡ found_among rules rows which (unique_declared kept number place rule) found
+found_unique rules rows which kept number place rule found =
+    let at : InvariantKind → Claim → List Declared = λ k claim. declared_at k number place rule.line claim in
+    let step : (b : Bool) → seen found (is_same (record { kind = cond b kind.UniqueKept kind.Unique; table = number; place = place; line = rule.line }) which) (unique_holds rows number rule.column)
+    ≡ found_among rules rows which (cond b (at kind.UniqueKept (UniqueKept number rule.column)) (at kind.Unique (Unique number rule.column))) found =
+    elim [ true ↦ refl | false ↦ refl ] in
+    step (keeps_least kept rule.column)

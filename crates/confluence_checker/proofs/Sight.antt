@@ -1,6 +1,6 @@
 -- Which names are seen, level by level.
 use Rattle.std.proofs.Common.{◌≡◌, ℕ, ◌+◌, Bool, true, false, not, ◌&&◌, ◌||◌, cond, List, [], ◌∷◌, map, filter, refl, sym, ap, ◌∙◌, add-one}
-use Rattle.std.specs.List.{list_any, list_all}
+use Rattle.std.specs.List.{list_any}
 use Rattle.std.proofs.lemmas.Bool.{and_parts}
 use Rattle.update_model.specs.declared.row_name.RowName.{RowName}
 use Rattle.update_model.specs.declared.value.Value.{Value}
@@ -10,7 +10,7 @@ use Rattle.schema.specs.declared.column.ColumnKind.{ColumnKind}
 use Rattle.schema.specs.declared.table_def.TableDef.{TableDef}
 use Rattle.schema.specs.Columns.{target_of}
 use Rattle.schema.specs.Data.{Meaning}
-use Rattle.table_model.specs.Visible.{TableRow, Effects, same_row, shows, cascade_refs, is_nulled, visible_to, visible_rows, shown, shown_rows, shown_value, shown_values, table_of, rules_with, bare_rules}
+use Rattle.table_model.specs.Visible.{TableRow, Effects, is_candidate, is_least, same_row, shows, is_nulled, visible_to, visible_rows, shown, shown_rows, shown_value, shown_values, table_of, rules_with, bare_rules}
 use Rattle.table_model.proofs.Order.{any_weaker}
 use Rattle.table_model.proofs.Standing.{row_from_same}
 use Rattle.confluence_checker.specs.Forms.{is_among}
@@ -57,9 +57,8 @@ names_shown : (tables : List TableDef) (did : Effects) (seen : RowName → Bool)
 names_shown tables did seen name =
     names_passing (shows (bare_rules tables) did seen) name did.inserted
     ∙ and_follows (shows (bare_rules tables) did seen name) (list_any (λ row. same_row row.name name) did.inserted)
-    (λ h. any_weaker (λ row. same_row row.name name && list_all (λ r. seen r.name) (cascade_refs (bare_rules tables) row)) (λ row. same_row row.name name)
-    (λ row two. (and_parts (same_row row.name name) _ two).0) did.inserted
-    (and_parts (list_any (λ row. same_row row.name name && list_all (λ r. seen r.name) (cascade_refs (bare_rules tables) row)) did.inserted) _ h).0)
+    (any_weaker (λ row. same_row row.name name && (is_candidate (bare_rules tables) did seen row && is_least (bare_rules tables) did seen row)) (λ row. same_row row.name name)
+    (λ row two. (and_parts (same_row row.name name) _ two).0) did.inserted)
 
 -- one level deeper
 pub sees_deeper : (tables : List TableDef) (did : Effects) (depth : ℕ) (seen names : List RowName) → SeesTo tables did depth seen

@@ -21,7 +21,7 @@ pub at_most_first : (tables : List TableDef) (table : TableDef) → slice_get ta
 at_most_first [] table at some ask = absurd cc
 at_most_first (t ∷ tables) table at some ask =
     let same : t ≡ table = cc in
-    let A = each_from (unique_declared 0) 0 table.uniques in
+    let A = each_from (unique_declared table.kept 0) 0 table.uniques in
     let C = each_from (reference_declared 0) 0 table.columns in
     let D = each_from (check_declared 0) 0 table.checks in
     let E = each_from (match_declared 0) 0 table.matches in

@@ -7,6 +7,7 @@ use Rattle.table_model.specs.declared.invariant.Invariant.{Invariant}
 use Rattle.schema.specs.declared.table_def.TableDef.{TableDef}
 use Rattle.schema.specs.Columns.{target_of}
 use Rattle.table_model.specs.Invariants.{Declared, each_from, unique_declared, at_most_declared, refers_declared, reference_declared, check_declared, match_declared, table_declared, invariants_of}
+use Rattle.table_model.specs.Verdicts.{keeps_least}
 use Rattle.table_model.specs.Visible.{Rules}
 use Rattle.confluence_checker.specs.Forms.{is_same, kind_number}
 
@@ -97,17 +98,25 @@ refers_apart : (table place line : ℕ) (o : Option (ℕ × Action)) → Apart (
 refers_apart table place line None = tt
 refers_apart table place line (Some t) = (tt, tt)
 
+kept_each : (P : Declared → Type 0) (b : Bool) (d e : Declared) → P d → P e → AllByRecursion P (cond b (d ∷ []) (e ∷ []))
+kept_each P true d e p q = (p, tt)
+kept_each P false d e p q = (q, tt)
+
+kept_apart : (b : Bool) (d e : Declared) → Apart (cond b (d ∷ []) (e ∷ []))
+kept_apart true d e = (tt, tt)
+kept_apart false d e = (tt, tt)
+
 table_all : (number : ℕ) (table : TableDef) → AllByRecursion (λ d. d.which.table ≡ number) (table_declared number table)
 table_all number table =
     let P : Declared → Type 0 = λ d. d.which.table ≡ number in
-    let A = each_from (unique_declared number) 0 table.uniques in
+    let A = each_from (unique_declared table.kept number) 0 table.uniques in
     let B = at_most_declared number table in
     let C = each_from (reference_declared number) 0 table.columns in
     let D = each_from (check_declared number) 0 table.checks in
     let E = each_from (match_declared number) 0 table.matches in
     each_append P (A ++ B ++ C ++ D) E
     (each_append P (A ++ B ++ C) D
-    (each_append P (A ++ B) C (each_append P A B (each_of P (unique_declared number) (λ k x. (refl, tt)) 0 table.uniques) (most_each P (table.at_most == 0) _ refl))
+    (each_append P (A ++ B) C (each_append P A B (each_of P (unique_declared table.kept number) (λ k x. kept_each P (keeps_least table.kept x.column) _ _ refl refl) 0 table.uniques) (most_each P (table.at_most == 0) _ refl))
     (each_of P (reference_declared number) (λ k c. refers_each P number k c.line (λ t. (refl, tt)) (target_of c.kind)) 0 table.columns))
     (each_of P (check_declared number) (λ k x. (refl, tt)) 0 table.checks))
     (each_of P (match_declared number) (λ k x. (refl, tt)) 0 table.matches)
@@ -118,25 +127,25 @@ table_apart number table =
     let K : ℕ → Declared → Type 0 = λ n d. kind_number d.which.kind ≡ n in
     let L : ℕ → Declared → Type 0 = λ n d. kind_number d.which.kind < n in
     let cross : (n : ℕ) (d e : Declared) → L n d → K n e → Differ d e = λ n d e p q. kinds_differ d e (omega arith) in
-    let A = each_from (unique_declared number) 0 table.uniques in
+    let A = each_from (unique_declared table.kept number) 0 table.uniques in
     let B = at_most_declared number table in
     let C = each_from (reference_declared number) 0 table.columns in
     let D = each_from (check_declared number) 0 table.checks in
     let E = each_from (match_declared number) 0 table.matches in
-    let a : AllByRecursion (K 0) A = each_of (K 0) (unique_declared number) (λ k x. (refl, tt)) 0 table.uniques in
-    let b : AllByRecursion (K 1) B = most_each (K 1) (table.at_most == 0) _ refl in
-    let c : AllByRecursion (K 2) C = each_of (K 2) (reference_declared number) (λ k x. refers_each (K 2) number k x.line (λ t. (refl, tt)) (target_of x.kind)) 0 table.columns in
-    let d : AllByRecursion (K 3) D = each_of (K 3) (check_declared number) (λ k x. (refl, tt)) 0 table.checks in
-    let e : AllByRecursion (K 4) E = each_of (K 4) (match_declared number) (λ k x. (refl, tt)) 0 table.matches in
-    let a1 : AllByRecursion (L 1) A = each_weaker (K 0) (L 1) (λ x h. omega arith) A a in
-    let ab : AllByRecursion (L 2) (A ++ B) = each_append (L 2) A B (each_weaker (L 1) (L 2) (λ x h. omega arith) A a1) (each_weaker (K 1) (L 2) (λ x h. omega arith) B b) in
-    let abc : AllByRecursion (L 3) (A ++ B ++ C) = each_append (L 3) (A ++ B) C (each_weaker (L 2) (L 3) (λ x h. omega arith) (A ++ B) ab) (each_weaker (K 2) (L 3) (λ x h. omega arith) C c) in
-    let abcd : AllByRecursion (L 4) (A ++ B ++ C ++ D) = each_append (L 4) (A ++ B ++ C) D (each_weaker (L 3) (L 4) (λ x h. omega arith) (A ++ B ++ C) abc) (each_weaker (K 3) (L 4) (λ x h. omega arith) D d) in
-    apart_append (L 4) (K 4) (cross 4) (A ++ B ++ C ++ D) E abcd e
-    (apart_append (L 3) (K 3) (cross 3) (A ++ B ++ C) D abc d
-    (apart_append (L 2) (K 2) (cross 2) (A ++ B) C ab c
-    (apart_append (L 1) (K 1) (cross 1) A B a1 b
-    (apart_each key places_differ (unique_declared number) (λ k x. (refl, tt)) (λ k x. (tt, tt)) 0 table.uniques) (most_apart (table.at_most == 0) _))
+    let b : AllByRecursion (K 2) B = most_each (K 2) (table.at_most == 0) _ refl in
+    let c : AllByRecursion (K 3) C = each_of (K 3) (reference_declared number) (λ k x. refers_each (K 3) number k x.line (λ t. (refl, tt)) (target_of x.kind)) 0 table.columns in
+    let d : AllByRecursion (K 4) D = each_of (K 4) (check_declared number) (λ k x. (refl, tt)) 0 table.checks in
+    let e : AllByRecursion (K 5) E = each_of (K 5) (match_declared number) (λ k x. (refl, tt)) 0 table.matches in
+    let a : AllByRecursion (L 2) A = each_of (L 2) (unique_declared table.kept number) (λ k x. kept_each (L 2) (keeps_least table.kept x.column) _ _ (omega arith) (omega arith)) 0 table.uniques in
+    let ab : AllByRecursion (L 3) (A ++ B) = each_append (L 3) A B (each_weaker (L 2) (L 3) (λ x h. omega arith) A a) (each_weaker (K 2) (L 3) (λ x h. omega arith) B b) in
+    let abc : AllByRecursion (L 4) (A ++ B ++ C) = each_append (L 4) (A ++ B) C (each_weaker (L 3) (L 4) (λ x h. omega arith) (A ++ B) ab) (each_weaker (K 3) (L 4) (λ x h. omega arith) C c) in
+    let abcd : AllByRecursion (L 5) (A ++ B ++ C ++ D) = each_append (L 5) (A ++ B ++ C) D (each_weaker (L 4) (L 5) (λ x h. omega arith) (A ++ B ++ C) abc) (each_weaker (K 4) (L 5) (λ x h. omega arith) D d) in
+    apart_append (L 5) (K 5) (cross 5) (A ++ B ++ C ++ D) E abcd e
+    (apart_append (L 4) (K 4) (cross 4) (A ++ B ++ C) D abc d
+    (apart_append (L 3) (K 3) (cross 3) (A ++ B) C ab c
+    (apart_append (L 2) (K 2) (cross 2) A B a b
+    (apart_each key places_differ (unique_declared table.kept number) (λ k x. kept_each (λ z. z.which.place ≡ k) (keeps_least table.kept x.column) _ _ refl refl)
+    (λ k x. kept_apart (keeps_least table.kept x.column) _ _) 0 table.uniques) (most_apart (table.at_most == 0) _))
     (apart_each key places_differ (reference_declared number) (λ k x. refers_each (λ z. z.which.place ≡ k) number k x.line (λ t. (refl, tt)) (target_of x.kind)) (λ k x. refers_apart number k x.line (target_of x.kind)) 0 table.columns))
     (apart_each key places_differ (check_declared number) (λ k x. (refl, tt)) (λ k x. (tt, tt)) 0 table.checks))
     (apart_each key places_differ (match_declared number) (λ k x. (refl, tt)) (λ k x. (tt, tt)) 0 table.matches)

@@ -12,7 +12,7 @@ use Rattle.table_model.specs.declared.invariant.InvariantKind.{InvariantKind}
 use Rattle.table_model.specs.declared.invariant.InvariantKind.TheVariants as kind
 use Rattle.schema.specs.declared.table_def.TableDef.{TableDef}
 use Rattle.table_model.specs.Invariants.{Claim, Declared, claim_holds, invariants_of, satisfies, shown_in}
-use Rattle.table_model.specs.Verdicts.{Judged, insert_reason, delete_reason, row_inserted}
+use Rattle.table_model.specs.Verdicts.{Judged, keeps_least, insert_reason, delete_reason, row_inserted}
 use Rattle.schema.specs.Columns.{all_fit}
 use Rattle.table_model.specs.Visible.{Rules, TableRow, Effects, bare_rules, same_row, table_of}
 use Rattle.confluence_checker.specs.declared.found.Found.{Found}
@@ -55,10 +55,15 @@ pub record IsInvariantOf (rules : Rules) (which : Invariant) : Type 0 where
 -- kinds of invariants by number
 abbrev pub kind_number : InvariantKind → ℕ
 kind_number kind.Unique = 0
-kind_number kind.AtMost = 1
-kind_number kind.Reference = 2
-kind_number kind.Check = 3
-kind_number kind.Match = 4
+kind_number kind.UniqueKept = 1
+kind_number kind.AtMost = 2
+kind_number kind.Reference = 3
+kind_number kind.Check = 4
+kind_number kind.Match = 5
+
+-- the kind of a UNIQUE of a column
+abbrev pub unique_kind : Option ℕ → ℕ → InvariantKind
+unique_kind kept column = if keeps_least kept column then kind.UniqueKept else kind.Unique
 
 -- whether two names of invariants are one
 abbrev pub is_same : Invariant → Invariant → Bool

@@ -1,11 +1,11 @@
 //! Whether a `UNIQUE` and an `ATMOST` hold of rows.
 
-ghost use Rattle.std.specs.Prelude.{◌≡◌, ◌&&◌, count_by};
+ghost use Rattle.std.specs.Prelude.{◌≡◌, ◌&&◌, ◌||◌, count_by};
 ghost use Rattle.std.specs.List.{list_all};
 ghost use Rattle.row_check.specs.declared.cmp.Cmp.TheVariants as cmp;
 ghost use Rattle.row_check.specs.Comparisons.{compares};
 ghost use Rattle.row_check.specs.Meaning.{value_at};
-ghost use Rattle.table_model.specs.Verdicts.{at_most_holds, in_table, limits_hold, unique_holds};
+ghost use Rattle.table_model.specs.Verdicts.{at_most_holds, in_table, keeps_least, limits_hold, unique_holds};
 
 use crate::inserted_row::InsertedRow;
 use crate::values::compare_at;
@@ -51,24 +51,34 @@ fn row_count(rows: &[InsertedRow], table: u8) -> usize
     rows.iter().filter(|row| row.table == table).count()
 }
 
-/// Whether each `UNIQUE` of a table holds.
-fn uniques_hold(rows: &[InsertedRow], table: u8, uniques: &[UniqueRule]) -> bool
-    ensures { result ≡ list_all (λ rule. unique_holds rows.now table rule.column) uniques.now }
+/// Whether a `UNIQUE` of a column is the one with `KEEP LEAST`, if any.
+pub(crate) fn keeps_least(kept: Option<u8>, column: u8) -> bool
+    ensures { result ≡ keeps_least kept column }
 {
-    uniques
-        .iter()
-        .all(|rule| unique_holds(rows, table, rule.column))
+    match kept {
+        None => false,
+        Some(kept) => kept == column,
+    }
 }
 
-/// Whether every `UNIQUE` and the `ATMOST` of a table holds.
-fn limits_of(rows: &[InsertedRow], number: u8, table: &TableDef) -> bool
-    ensures { result ≡ (list_all (λ rule. unique_holds rows.now number rule.column) table.now.uniques && at_most_holds rows.now number table.now.at_most) }
+/// Whether each `UNIQUE` of a table holds, but for the one with `KEEP LEAST`, if any.
+fn uniques_hold(rows: &[InsertedRow], table: u8, kept: Option<u8>, uniques: &[UniqueRule]) -> bool
+    ensures { result ≡ list_all (λ rule. keeps_least kept rule.column || unique_holds rows.now table rule.column) uniques.now }
 {
-    uniques_hold(rows, number, table.uniques.as_slice())
+    uniques.iter().all(|rule| {
+        keeps_least(kept, rule.column) || unique_holds(rows, table, rule.column)
+    })
+}
+
+/// Whether every `UNIQUE` without `KEEP LEAST` and the `ATMOST` of a table holds.
+fn limits_of(rows: &[InsertedRow], number: u8, table: &TableDef) -> bool
+    ensures { result ≡ (list_all (λ rule. keeps_least table.now.kept rule.column || unique_holds rows.now number rule.column) table.now.uniques && at_most_holds rows.now number table.now.at_most) }
+{
+    uniques_hold(rows, number, table.kept, table.uniques.as_slice())
         && at_most_holds(rows, number, table.at_most)
 }
 
-/// Whether every `UNIQUE` and `ATMOST` of a schema holds.
+/// Whether every `UNIQUE` without `KEEP LEAST` and every `ATMOST` of a schema holds.
 pub(crate) fn limits_hold(schema: &Schema, rows: &[InsertedRow]) -> bool
     ensures { result ≡ limits_hold rows.now 0 schema.now.tables }
 {

@@ -3,15 +3,15 @@
 ghost use Rattle.std.specs.Prelude.{◌≡◌, IfOk};
 ghost use Rattle.std.specs.List.{AllByRecursion};
 ghost use Rattle.schema.specs.Columns.{target_of};
-ghost use Rattle.table_model.specs.Invariants.{at_most_declared, check_declared, each_from, invariants_of, match_declared, reference_declared, refers_declared, table_declared, unique_declared};
+ghost use Rattle.table_model.specs.Invariants.{at_most_declared, check_declared, each_from, invariants_of, match_declared, reference_declared, table_declared, unique_declared};
 ghost use Rattle.schema.specs.Sound.{IsSoundCheck};
 ghost use Rattle.table_model.specs.Visible.{Rules, table_of, rules_with, bare_rules};
-ghost use Rattle.confluence_checker.specs.Forms.{AllFit, found_among, is_same, kind_number, start};
+ghost use Rattle.confluence_checker.specs.Forms.{AllFit, found_among, is_same, kind_number, start, unique_kind};
 
 use crate::claims::{check_holds, matches_hold, refers_holds};
 use crate::found::Found;
 use crate::inserted_row::InsertedRow;
-use crate::limits::{at_most_holds, unique_holds};
+use crate::limits::{at_most_holds, keeps_least, unique_holds};
 use crate::values::target_of;
 use row_check::{Checks, Native, Relation};
 use schema::{CheckRule, Column, MatchRule, Schema, TableDef, UniqueRule};
@@ -24,10 +24,11 @@ fn kind_number(kind: InvariantKind) -> u8
 {
     match kind {
         InvariantKind::Unique => 0,
-        InvariantKind::AtMost => 1,
-        InvariantKind::Reference => 2,
-        InvariantKind::Check => 3,
-        InvariantKind::Match => 4,
+        InvariantKind::UniqueKept => 1,
+        InvariantKind::AtMost => 2,
+        InvariantKind::Reference => 3,
+        InvariantKind::Check => 4,
+        InvariantKind::Match => 5,
     }
 }
 
@@ -41,19 +42,32 @@ fn is_at(which: &Invariant, kind: InvariantKind, table: u8, place: usize, line: 
         && line == which.line
 }
 
+/// The kind of a `UNIQUE` of a column.
+fn unique_kind(kept: Option<u8>, column: u8) -> InvariantKind
+    ensures { result ≡ unique_kind kept column }
+{
+    if keeps_least(kept, column) {
+        InvariantKind::UniqueKept
+    } else {
+        InvariantKind::Unique
+    }
+}
+
 /// Goes through the `UNIQUE` lines of a table.
 fn among_uniques(
     rows: &[InsertedRow],
     which: &Invariant,
     number: u8,
+    kept: Option<u8>,
     uniques: &[UniqueRule],
     before: Found,
 ) -> Found
-    ensures { (rules : Rules) → result ≡ found_among rules rows.now which.now (each_from (unique_declared number) 0 uniques.now) before }
+    ensures { (rules : Rules) → result ≡ found_among rules rows.now which.now (each_from (unique_declared kept number) 0 uniques.now) before }
 {
     let mut found = before;
     for (place, rule) in uniques.iter().enumerate() {
-        let wanted = is_at(which, InvariantKind::Unique, number, place, rule.line);
+        let kind = unique_kind(kept, rule.column);
+        let wanted = is_at(which, kind, number, place, rule.line);
         found = found.seen(wanted, unique_holds(rows, number, rule.column));
     }
     found
@@ -211,7 +225,8 @@ fn in_table<L: Relation, C: Checks<L>>(
     requires sound { AllByRecursion (IsSoundCheck table.now.columns) table.now.checks }
     ensures { IfOk result (λ found. found ≡ found_among (rules_with L.answer schema.now.tables) rows.now which.now (table_declared number table.now) before) }
 {
-    let uniques = among_uniques(rows, which, number, table.uniques.as_slice(), before);
+    let lines = table.uniques.as_slice();
+    let uniques = among_uniques(rows, which, number, table.kept, lines, before);
     let most = among_at_most(rows, which, number, table, uniques);
     let columns = among_references(rows, which, number, table.columns.as_slice(), most);
     let checks = among_checks(alloc, schema, native, rows, which, number, table, columns)?;

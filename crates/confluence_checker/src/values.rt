@@ -4,7 +4,7 @@ ghost use Rattle.std.specs.Prelude.{◌≡◌};
 ghost use Rattle.row_check.specs.Comparisons.{compares};
 ghost use Rattle.row_check.specs.Meaning.{value_at};
 ghost use Rattle.schema.specs.Columns.{target_of};
-ghost use Rattle.table_model.specs.Visible.{table_of, bare_rules};
+ghost use Rattle.table_model.specs.Visible.{kept_of, table_of, bare_rules};
 
 use row_check::{Cmp, compare};
 use schema::{Action, CheckRule, Column, ColumnKind, MatchRule, Schema};
@@ -69,6 +69,17 @@ pub(crate) fn matches_of(schema: &Schema, number: u8) -> &[MatchRule]
         schema.table(number).matches.as_slice()
     } else {
         &[]
+    }
+}
+
+/// The column of which it keeps the least row of each value, if any.
+pub(crate) fn kept_of(schema: &Schema, number: u8) -> Option<u8>
+    ensures { result ≡ kept_of (bare_rules schema.now.tables) number }
+{
+    if number < schema.tables() {
+        schema.table(number).kept
+    } else {
+        None
     }
 }
 

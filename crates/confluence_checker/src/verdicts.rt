@@ -1,15 +1,16 @@
 //! The verdict on a node.
 
-ghost use Rattle.std.specs.Prelude.{◌≡◌, ◌<◌, ◌^◌, IfOk, List, []};
+ghost use Rattle.std.specs.Prelude.{◌≡◌, ◌<◌, ◌^◌, IfOk, []};
 ghost use Rattle.update_model.specs.Node.{NodeData};
 ghost use Rattle.schema.specs.Data.{Meaning};
-ghost use Rattle.table_model.specs.Verdicts.{delete_reason, verdict_after, verdict_on};
-ghost use Rattle.table_model.specs.Visible.{TableRow, rules_with, bare_rules};
+ghost use Rattle.table_model.specs.Verdicts.{are_new, delete_reason, left_of, verdict_after, verdict_on};
+ghost use Rattle.table_model.specs.Visible.{rules_with, bare_rules};
 ghost use Rattle.confluence_checker.specs.Forms.{reason_against};
 
 use crate::effects::{do_op, op_count, row_inserted};
 use crate::inserted_row::InsertedRow;
 use crate::limits::limits_hold;
+use crate::newness::{are_new, left_of};
 use crate::reasons::{delete_reason, insert_reason};
 use crate::row_effects::RowEffects;
 use crate::visibility::visible_rows;
@@ -32,8 +33,8 @@ fn reason_against_deletion(
     delete_reason(schema, rows, did.deleted(), &node.author, name)
 }
 
-/// Why an operation with this number may not be done, where these rows are visible on the ancestors and earlier operations
-/// did this.
+/// Why an operation with this number may not be done, where these rows are visible on the ancestors and earlier
+/// operations did this.
 fn reason_against<L: Relation, C: Checks<L>>(
     alloc: Global,
     schema: &Schema,
@@ -56,20 +57,36 @@ fn reason_against<L: Relation, C: Checks<L>>(
     }
 }
 
+/// Whether the rows that an update inserts are new beside each other and the rows that are visible on its ancestors,
+/// but for those that it deletes.
+fn is_new(
+    alloc: Global,
+    schema: &Schema,
+    rows: &[InsertedRow],
+    did: &RowEffects,
+) -> Result<bool, AllocError>
+    ensures { IfOk result (λ answer. answer ≡ are_new (bare_rules schema.now.tables) (left_of rows.now did.now.deleted) did.now.inserted) }
+{
+    let left = left_of(alloc, rows, did.deleted())?;
+    Ok(are_new(schema, left.as_slice(), did.inserted()))
+}
+
 /// The verdict at the end of an update's operations.
 fn verdict_at_end(
     alloc: Global,
     schema: &Schema,
     past: &RowEffects,
+    rows: &[InsertedRow],
     did: RowEffects,
     number: usize,
 ) -> Result<Verdict, AllocError>
     requires { number < 2 ^ 16 }
-    ensures { IfOk result (λ verdict. (ask : Meaning) (node : NodeData) (rows : List TableRow) → verdict ≡ verdict_after (rules_with ask schema.now.tables) past.now rows node number did []) }
+    ensures { IfOk result (λ verdict. (ask : Meaning) (node : NodeData) → verdict ≡ verdict_after (rules_with ask schema.now.tables) past.now rows.now node number did []) }
 {
+    let new = is_new(alloc, schema, rows, &did)?;
     let both = did.joined(past.copy(alloc)?)?;
-    let rows = visible_rows(alloc, schema, &both)?;
-    Ok(if limits_hold(schema, rows.as_slice()) {
+    let after = visible_rows(alloc, schema, &both)?;
+    Ok(if limits_hold(schema, after.as_slice()) && new {
         Verdict::Valid
     } else {
         Verdict::Void {
@@ -112,6 +129,6 @@ pub(crate) fn verdict_on<L: Relation, C: Checks<L>>(
         }
         did = do_op(alloc, node, number, did, op)?;
     }
-    let verdict = verdict_at_end(alloc, schema, past, did, count)?;
+    let verdict = verdict_at_end(alloc, schema, past, rows.as_slice(), did, count)?;
     Ok(verdict)
 }

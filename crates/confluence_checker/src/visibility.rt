@@ -1,42 +1,19 @@
 //! Which rows are visible, and what they show.
 
-ghost use Rattle.std.specs.Prelude.{◌≡◌, IfOk, OnOk, map, filter, ◌++◌, ◌&&◌};
-ghost use Rattle.std.specs.List.{list_all, list_any};
+ghost use Rattle.std.specs.Prelude.{◌≡◌, IfOk, OnOk, map, filter, ◌++◌};
 ghost use Rattle.schema.specs.Data.{Meaning};
-ghost use Rattle.table_model.specs.Visible.{cascade_refs, same_row, shown_rows, shows, visible_rows, rules_with, bare_rules};
+ghost use Rattle.table_model.specs.Visible.{shown_rows, shows, visible_rows, rules_with, bare_rules};
 ghost use Rattle.confluence_checker.specs.Forms.{is_among};
 ghost use Rattle.confluence_checker.specs.Seeing.{SeesAll, is_hidden, shown_by, shown_values_by, shown_row_by};
 
-use crate::ids::{is_among, same_row};
+use crate::ids::is_among;
 use crate::inserted_row::InsertedRow;
-use crate::references::cascades_seen;
+use crate::least::shows;
 use crate::row_effects::RowEffects;
 use crate::values::{columns_of, target_of};
 use schema::{Action, Column, ColumnKind, Schema};
 use std::alloc::{AllocError, Global};
 use update_model::{RowName, Value, ValueList};
-
-/// Whether a row is visible, where these are seen: it was inserted, it is not deleted, and each row that it names by
-/// `CASCADE` is seen.
-pub(crate) fn shows(schema: &Schema, did: &RowEffects, seen: &[RowName], name: &RowName) -> bool
-    ensures { result ≡ shows (bare_rules schema.now.tables) did.now (is_among seen.now) name.now }
-{
-    is_inserted(schema, did.inserted(), seen, name) && !did.is_deleted(name)
-}
-
-/// Whether each row that a row names by `CASCADE` is seen.
-fn needs_are_seen(schema: &Schema, row: &InsertedRow, seen: &[RowName]) -> bool
-    ensures { result ≡ list_all (λ r. is_among seen.now r.name) (cascade_refs (bare_rules schema.now.tables) row.now) }
-{
-    cascades_seen(columns_of(schema, row.table), row.values.as_slice(), seen)
-}
-
-/// Whether a row was inserted, each row that it names by `CASCADE` being seen.
-fn is_inserted(schema: &Schema, rows: &[InsertedRow], seen: &[RowName], name: &RowName) -> bool
-    ensures { result ≡ list_any (λ row. same_row row.name name.now && list_all (λ r. is_among seen.now r.name) (cascade_refs (bare_rules schema.now.tables) row)) rows.now }
-{
-    rows.iter().any(|row| { same_row(&row.name, name) && needs_are_seen(schema, row, seen) })
-}
 
 /// The names of the rows that are visible where these are seen.
 fn shown_names(

@@ -1,12 +1,13 @@
 -- Accepted invariants hold in every closed list.
-use Rattle.std.proofs.Common.{◌≡◌, ℕ, ◌==◌, zero, suc, Bool, true, false, cond, not, ◌&&◌, ◌||◌, List, [], ◌∷◌, ◌++◌, length, map, filter, refl, sym, ap, ap₂, ◌∙◌, subst, Option, Some, None, slice_get, inl, inr}
+use Rattle.std.proofs.Common.{◌≡◌, ℕ, ◌+◌, ◌≤◌, nat_le, count_by, is_none, arith, ◌==◌, zero, suc, Bool, true, false, cond, not, ◌&&◌, ◌||◌, List, [], ◌∷◌, ◌++◌, length, map, filter, refl, sym, ap, ap₂, ◌∙◌, subst, Option, Some, None, slice_get, inl, inr}
 use Rattle.std.specs.Prelude.{IsTrue, MatchOption}
 use Rattle.std.specs.List.{list_any, list_all, AllByRecursion}
-use Rattle.std.proofs.lemmas.Bool.{and_parts, or_cases, or_right, or_left, and_from, false_from_ne_true, both_ways, eqb-true, not-true, not_from_false}
+use Rattle.std.proofs.lemmas.Bool.{and_parts, or_cases, or_right, or_left, and_from, false_from_ne_true, both_ways, eqb-true, not-true, not_from_false, or_parts, eq-eqb, le-leb}
 use Rattle.update_model.specs.declared.row_name.RowName.{RowName}
 use Rattle.update_model.specs.declared.value.Value.{Value}
 use Rattle.update_model.specs.declared.value.Value.TheVariants as value
 use Rattle.update_model.specs.Node.{NodeData}
+use Rattle.row_check.specs.declared.cmp.Cmp.TheVariants as cmp
 use Rattle.row_check.specs.Comparisons.{compares}
 use Rattle.row_check.specs.Meaning.{value_at}
 use Rattle.row_check.specs.Trees.{Tree, holds_tree}
@@ -18,15 +19,24 @@ use Rattle.schema.specs.declared.column.ColumnKind.TheVariants as kind
 use Rattle.schema.specs.Checks.{CheckData}
 use Rattle.schema.specs.declared.rules.MatchRule.{MatchRule}
 use Rattle.schema.specs.declared.rules.UniqueRule.{UniqueRule}
-use Rattle.schema.specs.Columns.{target_of, reference_at, is_restrict, are_comparable}
-use Rattle.schema.specs.Sound.{IsSoundCheck}
+use Rattle.schema.specs.Columns.{is_reference, target_of, reference_at, is_restrict, are_comparable}
+use Rattle.schema.specs.Sound.{IsSoundCheck, IsSoundUnique}
 use Rattle.table_model.specs.Nodes.{IsClosed}
-use Rattle.table_model.specs.Visible.{Rules, TableRow, Effects, RowRef, same_row, table_of, ref_to, ref_in, refs_in, refs, is_cascade, cascade_refs, visible_to, is_visible, is_deleted, shown_value, shown_values, shown, shown_rows}
+use Rattle.table_model.specs.Visible.{Rules, TableRow, Effects, RowRef, same_row, table_of, ref_to, ref_in, refs_in, refs, is_cascade, cascade_refs, name_cmp, kept_of, is_candidate, goes_before, is_least_in, is_visible, is_deleted, shown_value, shown_values, shown, shown_rows}
 use Rattle.table_model.specs.Verdicts.{stands_among, matches_among, in_table, effects_in, effects, judge_next, judged, verdict_on}
-use Rattle.table_model.specs.Invariants.{Claim, Unique, AtMost, Refers, Check, Match, names_shown, claim_holds, shown_in}
-use Rattle.confluence_laws.specs.Confluence.{cascade_target, cascade_targets, permanent_to, is_permanent, accepts}
+use Rattle.table_model.specs.Invariants.{Claim, Unique, UniqueKept, AtMost, Refers, Check, Match, names_shown, claim_holds, shown_in}
+use Rattle.confluence_laws.specs.Confluence.{permanent_to, is_permanent, accepts}
 use Rattle.table_model.proofs.Founded.{IsFounded, Founded, erasable, IsWellFounded, founded_closed}
-use Rattle.table_model.proofs.Standing.{row_from_same, same_row-refl, Stands, each-map, each_stands, any_each, all_both, all_filtered, deeper, targets_visible}
+use Rattle.table_model.proofs.EqualValues.{equal_both, plain_least}
+use Rattle.table_model.proofs.KeptTables.{keeps_soundly}
+use Rattle.table_model.proofs.Alike.{weight, one_if, count-weight}
+use Rattle.table_model.proofs.Standing.{row_from_same, Stands, each-map, each_stands, any_each, all_both, all_filtered}
+use Rattle.table_model.proofs.Settled.{IsOne, are_resting, each_both, visible_parts, visible_from, targets_visible}
+use Rattle.table_model.proofs.Resting.{all_true, ones_from, resting, targets_refs}
+use Rattle.table_model.proofs.Rising.{name_cmp_total, same_name}
+use Rattle.std.specs.declared.cmp.Ordering.{Ordering}
+use Rattle.std.specs.declared.cmp.Ordering.TheVariants.{Less, Equal, Greater}
+use Rattle.std.specs.Ordering.{is_eq, is_lt, ordering_reverse}
 use Rattle.confluence_laws.proofs.Plain.{is_plain, compared_left, compared_right, plain_shown, same_holds}
 use Rattle.schema.specs.Numbers.{table_number}
 use Rattle.schema.proofs.Soundness.{ComparesPlain, IsSound, each_at, kind_of_target}
@@ -104,6 +114,47 @@ shown_at rules g (column ∷ columns) [] c target act e = refl
 shown_at rules g (column ∷ columns) (x ∷ values) zero target act e = ap (λ (k : ColumnKind). shown_value rules g k x) (kind_of_target column.kind target act e)
 shown_at rules g (column ∷ columns) (x ∷ values) (suc c) target act e = shown_at rules g columns values c target act e
 
+-- of two names that are not one, one is less
+by_names : (a b : RowName) → same_row a b ≡ false → (is_lt (name_cmp a b) ≡ true → ⊥) → (is_lt (name_cmp b a) ≡ true → ⊥) → ⊥
+by_names a b apart f h =
+    let step : (o : Ordering) → name_cmp a b ≡ o → ⊥ = elim [
+      | Less ↦ λ e. f (ap is_lt e)
+      | Equal ↦ λ e. both_ways _ apart (sym (same_name a b) ∙ ap is_eq e)
+      | Greater ↦ λ e. h (ap is_lt (name_cmp_total.antisymm b a ∙ ap ordering_reverse e))
+    ] in
+    step (name_cmp a b) refl
+
+none_each : {X : Type 0} (p : X → Bool) (xs : List X) → list_any p xs ≡ false → AllByRecursion (λ x. p x ≡ false) xs
+none_each p [] h = tt
+none_each p (x ∷ xs) h = let parts = or_parts (p x) (list_any p xs) h in (parts.0, none_each p xs parts.1)
+
+none_weighs : (P : TableRow → Type 0) (p : TableRow → Bool) (rules : Rules) (g : Effects) → ((x : TableRow) → P x → is_visible rules g x.name ≡ true → p (shown rules g x) ≡ true → ⊥)
+    → (rows : List TableRow) → AllByRecursion P rows → weight (λ b. one_if (p b)) (map (shown rules g) (filter (λ row. is_visible rules g row.name) rows)) ≡ 0
+none_weighs P p rules g never [] s = refl
+none_weighs P p rules g never (x ∷ rows) s =
+    let rest = none_weighs P p rules g never rows s.1 in
+    let inner : (c : Bool) → p (shown rules g x) ≡ c → is_visible rules g x.name ≡ true → one_if c + weight (λ b. one_if (p b)) (map (shown rules g) (filter (λ row. is_visible rules g row.name) rows)) ≡ 0 = elim [
+      | true ↦ λ e v. absurd (never x s.0 v e)
+      | false ↦ λ e v. let r = rest in omega arith
+    ] in
+    let step : (b : Bool) → is_visible rules g x.name ≡ b → weight (λ b. one_if (p b)) (map (shown rules g) (cond b (x ∷ filter (λ row. is_visible rules g row.name) rows) (filter (λ row. is_visible rules g row.name) rows))) ≡ 0 = elim [
+      | true ↦ λ v. inner (p (shown rules g x)) refl v
+      | false ↦ λ v. rest
+    ] in
+    step (is_visible rules g x.name) refl
+
+plain_column : (columns : List Column) (number : ℕ) → MatchOption (slice_get columns number) ⊥ (λ column. IsTrue (not (is_reference column.kind) && not column.null)) → is_plain columns number ≡ true
+plain_column [] number h = absurd h
+plain_column (c ∷ columns) zero h = (and_parts (not (is_reference c.kind)) _ h).0
+plain_column (c ∷ columns) (suc number) h = plain_column columns number h
+
+-- the column of which a table keeps the least row has values of its own
+pub kept_plain : (columns : List Column) (uniques : List UniqueRule) (column : ℕ) → (rule : UniqueRule) × (uniques ≡ rule ∷ []) × (rule.column ≡ column) → AllByRecursion (IsSoundUnique columns) uniques
+    → is_plain columns column ≡ true
+kept_plain columns uniques column u sound =
+    let first : IsSoundUnique columns u.0 = (subst (AllByRecursion (IsSoundUnique columns)) u.1 sound).0 in
+    subst (λ (n : ℕ). is_plain columns n ≡ true) u.2 (plain_column columns u.0.column first)
+
 module _ (rules : Rules) (sound : IsSound rules.tables) (g : Effects) (f : IsWellFounded rules g) where
   pub check_holds : (t place : ℕ) (rule : CheckData) → slice_get (table_of rules t).checks place ≡ Some rule → claim_holds rules (shown_rows rules g) (Check t rule.tree) ≡ true
   check_holds t place rule at =
@@ -117,6 +168,15 @@ module _ (rules : Rules) (sound : IsSound rules.tables) (g : Effects) (f : IsWel
 
   each : AllByRecursion (Stands rules g.inserted) g.inserted
   each = each_stands rules g.inserted f.founded
+
+  ones : AllByRecursion (IsOne g.inserted) g.inserted
+  ones = ones_from rules g.inserted f.founded
+
+  rest : are_resting rules g.inserted ≡ true
+  rest = resting rules sound g.inserted f.founded
+
+  one : (e : TableRow) → Stands rules g.inserted e → IsOne g.inserted e
+  one e s = record { here = s.here; only = s.only }
 
   -- a row with this name in the target table, where the name is visible, is shown
   pub named_shown : (target : ℕ) (name : RowName) → list_any (λ row. same_row row.name name && (row.table == target)) g.inserted ≡ true → is_visible rules g name ≡ true
@@ -157,7 +217,7 @@ module _ (rules : Rules) (sound : IsSound rules.tables) (g : Effects) (f : IsWel
       → is_visible rules g e.name ≡ true → is_visible rules g name ≡ true
   cascade_visible e s c target name at v seen =
       ref_at (λ r. not (is_cascade r.action) || is_visible rules g r.name) (table_of rules e.table).columns e.values c target action.Cascade name at v
-      (all_kept (λ r. is_cascade r.action) (λ r. is_visible rules g r.name) (refs rules e) (targets_visible rules g f e s seen))
+      (all_kept (λ r. is_cascade r.action) (λ r. is_visible rules g r.name) (refs rules e) (targets_visible rules g ones rest e (one e s) seen))
 
   pub cascade_holds : (t c target : ℕ) → reference_at (table_of rules t).columns c ≡ Some (target, action.Cascade) → claim_holds rules (shown_rows rules g) (Refers t c target action.Cascade) ≡ true
   cascade_holds t c target at =
@@ -173,32 +233,6 @@ module _ (rules : Rules) (sound : IsSound rules.tables) (g : Effects) (f : IsWel
       elim [ true ↦ λ seen. named_shown target name (named_stands e s c target action.SetNull name here k) seen | false ↦ λ seen. refl ] in
       step (is_visible rules g name) refl)
 
-  targets_to : (q : ℕ → Bool) (rest : List RowRef) (name : RowName) (o : Option (ℕ × Action)) → list_all q (cascade_target o) ≡ true → list_all (λ r. q r.target) (filter (λ r. is_cascade r.action) rest) ≡ true
-      → list_all (λ r. q r.target) (filter (λ r. is_cascade r.action) (ref_to name o ++ rest)) ≡ true
-  targets_to q rest name None a b = b
-  targets_to q rest name (Some target) a b =
-      let step : (c : Bool) → list_all q (cond c (target.0 ∷ []) []) ≡ true
-      → list_all (λ r. q r.target) (cond c (record { target = target.0; action = target.1; name = name } ∷ filter (λ r. is_cascade r.action) rest) (filter (λ r. is_cascade r.action) rest)) ≡ true =
-      elim [ true ↦ λ e. and_from _ _ (and_parts _ _ e).0 b | false ↦ λ e. b ] in
-      step (is_cascade target.1) a
-
-  targets_first : (q : ℕ → Bool) (rest : List RowRef) (k : ColumnKind) (x : Value) → list_all q (cascade_target (target_of k)) ≡ true → list_all (λ r. q r.target) (filter (λ r. is_cascade r.action) rest) ≡ true
-      → list_all (λ r. q r.target) (filter (λ r. is_cascade r.action) (ref_in k x ++ rest)) ≡ true
-  targets_first q rest k (value.Row name) a b = targets_to q rest name (target_of k) a b
-  targets_first q rest k value.Null a b = b
-  targets_first q rest k (value.Int n) a b = b
-  targets_first q rest k (value.Text bytes) a b = b
-  targets_first q rest k (value.Flag flag) a b = b
-  targets_first q rest k (value.Own index) a b = b
-
-  -- the targets that a row names by CASCADE are those of its table's columns
-  targets_refs : (q : ℕ → Bool) (columns : List Column) (values : List Value) → list_all q (cascade_targets columns) ≡ true → list_all (λ r. q r.target) (filter (λ r. is_cascade r.action) (refs_in columns values)) ≡ true
-  targets_refs q [] values h = refl
-  targets_refs q (c ∷ columns) [] h = refl
-  targets_refs q (c ∷ columns) (v ∷ values) h =
-      let rest = targets_refs q columns values (all_right q (cascade_target (target_of c.kind)) (cascade_targets columns) h) in
-      targets_first q (refs_in columns values) c.kind v (all_left q (cascade_target (target_of c.kind)) (cascade_targets columns) h) rest
-
   at_name : (p : RowName → Bool) (names : List RowName) (name : RowName) → list_all p names ≡ true → list_any (same_row name) names ≡ true → p name ≡ true
   at_name p [] name h e = absurd (cc)
   at_name p (x ∷ names) name h e =
@@ -210,42 +244,41 @@ module _ (rules : Rules) (sound : IsSound rules.tables) (g : Effects) (f : IsWel
 
   -- rows of permanent tables stay
   permanent_each : (rows : List TableRow) → Founded rules rows → AllByRecursion (Stands rules g.inserted) rows
-      → AllByRecursion (λ e. (depth : ℕ) → permanent_to rules depth e.table ≡ true → visible_to rules g (length rows) e.name ≡ true) rows
-  unfolding visible_to permanent_to
+      → AllByRecursion (λ e. (depth : ℕ) → permanent_to rules depth e.table ≡ true → is_visible rules g e.name ≡ true) rows
+  unfolding permanent_to
   permanent_each [] fs s = tt
   permanent_each (e ∷ older) fs s =
       let it : IsFounded rules older e = fs.0 in
       let st : Stands rules g.inserted e = s.0 in
       let before = permanent_each older fs.1 s.1 in
-      let kept : (depth : ℕ) → permanent_to rules (suc depth) e.table ≡ true → is_deleted g e.name ≡ false =
-      λ depth h. false_from_ne_true _ (λ gone. both_ways _
-      (not-true _ (and_parts (not (table_of rules e.table).deletable) _ h).0)
-      (st.only (λ row. (table_of rules row.table).deletable) (at_name (erasable rules g.inserted) g.deleted e.name f.erased gone))) in
-      let goes : (depth : ℕ) → permanent_to rules (suc depth) e.table ≡ true → list_all (λ r. visible_to rules g (length older) r.name) (cascade_refs rules e) ≡ true =
-      λ depth h.
-      all_both (stands_among older) (λ r. (r.target == e.table) || permanent_to rules depth r.target) (λ r. visible_to rules g (length older) r.name)
-      (λ r there perm. any_each (λ x. (d : ℕ) → permanent_to rules d x.table ≡ true → visible_to rules g (length older) x.name ≡ true) (λ x. same_row x.name r.name && (x.table == r.target)) _
-      (λ x px hx.
-      let two = and_parts (same_row x.name r.name) _ hx in
-      let table : x.table ≡ r.target = eqb-true x.table r.target two.1 in
-      let seen : visible_to rules g (length older) x.name ≡ true =
-      elim (or_cases (r.target == e.table) _ perm) [
-        | inl own ↦ px (suc depth) (subst (λ (n : ℕ). permanent_to rules (suc depth) n ≡ true) (sym (table ∙ eqb-true r.target e.table own)) h)
-        | inr far ↦ px depth (subst (λ (n : ℕ). permanent_to rules depth n ≡ true) (sym table) far)
-      ] in
-      subst (λ (n : RowName). visible_to rules g (length older) n ≡ true) {x = x.name} (row_from_same x.name r.name two.0) seen)
-      older before there)
-      (cascade_refs rules e)
-      (all_filtered (λ r. is_cascade r.action) (stands_among older) (refs rules e) it.referred)
-      (targets_refs (λ n. (n == e.table) || permanent_to rules depth n) (table_of rules e.table).columns e.values (and_parts (not (table_of rules e.table).deletable) _ h).1) in
-      let first : (depth : ℕ) → permanent_to rules depth e.table ≡ true → visible_to rules g (suc (length older)) e.name ≡ true =
+      let first : (depth : ℕ) → permanent_to rules depth e.table ≡ true → is_visible rules g e.name ≡ true =
       elim [
         | zero ↦ λ h. absurd (cc)
-        | suc depth ↦ λ h. and_from _ _
-            (st.here (λ row. same_row row.name e.name && list_all (λ r. visible_to rules g (length older) r.name) (cascade_refs rules row)) (and_from _ _ (same_row-refl e.name) (goes depth h)))
-            (not_from_false _ (kept depth h))
+        | suc depth ↦ λ h.
+            let parts = and_parts (not (table_of rules e.table).deletable && is_none (kept_of rules e.table)) _ h in
+            let two = and_parts (not (table_of rules e.table).deletable) _ parts.0 in
+            let stays : is_deleted g e.name ≡ false = false_from_ne_true _ (λ gone. both_ways _
+            (not-true _ two.0)
+            (st.only (λ row. (table_of rules row.table).deletable) (at_name (erasable rules g.inserted) g.deleted e.name f.erased gone))) in
+            let goes : list_all (λ r. is_visible rules g r.name) (cascade_refs rules e) ≡ true =
+            all_both (stands_among older) (λ r. (r.target == e.table) || permanent_to rules depth r.target) (λ r. is_visible rules g r.name)
+            (λ r there perm. any_each (λ x. (d : ℕ) → permanent_to rules d x.table ≡ true → is_visible rules g x.name ≡ true) (λ x. same_row x.name r.name && (x.table == r.target)) _
+            (λ x px hx.
+            let pair = and_parts (same_row x.name r.name) _ hx in
+            let table : x.table ≡ r.target = eqb-true x.table r.target pair.1 in
+            let seen : is_visible rules g x.name ≡ true =
+            elim (or_cases (r.target == e.table) _ perm) [
+              | inl own ↦ px (suc depth) (subst (λ (n : ℕ). permanent_to rules (suc depth) n ≡ true) (sym (table ∙ eqb-true r.target e.table own)) h)
+              | inr far ↦ px depth (subst (λ (n : ℕ). permanent_to rules depth n ≡ true) (sym table) far)
+            ] in
+            subst (λ (n : RowName). is_visible rules g n ≡ true) {x = x.name} (row_from_same x.name r.name pair.0) seen)
+            older before there)
+            (cascade_refs rules e)
+            (all_filtered (λ r. is_cascade r.action) (stands_among older) (refs rules e) it.referred)
+            (targets_refs (λ n. (n == e.table) || permanent_to rules depth n) (table_of rules e.table).columns e.values parts.1) in
+            visible_from rules g ones rest e (one e st) (and_from _ _ goes (not_from_false _ stays)) (plain_least rules g (is_visible rules g) e two.1)
       ] in
-      (first, each-map _ _ (λ x p d h. deeper rules g (length older) x.name (p d h)) older before)
+      (first, before)
 
   permanent_visible : (target : ℕ) (name : RowName) → is_permanent rules target ≡ true → list_any (λ row. same_row row.name name && (row.table == target)) g.inserted ≡ true → is_visible rules g name ≡ true
   unfolding permanent_to
@@ -356,9 +389,66 @@ module _ (rules : Rules) (sound : IsSound rules.tables) (g : Effects) (f : IsWel
       let there = named_stands e s c target action.Restrict name here k in
       named_shown target name there (permanent_visible target name perm there))
 
+  -- of two visible rows of a table that keeps the least, with equal values, neither goes before the other
+  apart : (t column : ℕ) → kept_of rules t ≡ Some column → (a b : TableRow) → IsOne g.inserted a → IsOne g.inserted b → a.table ≡ t → b.table ≡ t
+      → compares cmp.Eq (value_at a.values column) (value_at b.values column) ≡ true → is_visible rules g a.name ≡ true → is_visible rules g b.name ≡ true
+      → is_lt (name_cmp b.name a.name) ≡ true → ⊥
+  apart t column is a b one_a one_b at_a at_b equal va vb less =
+      let seen = is_visible rules g in
+      let ca = visible_parts rules g ones rest a one_a va in
+      let cb = visible_parts rules g ones rest b one_b vb in
+      let least : is_least_in rules g seen a (Some column) ≡ true =
+      subst (λ (o : Option ℕ). is_least_in rules g seen a o ≡ true) (ap (kept_of rules) at_a ∙ is) ca.1 in
+      let goes : (goes_before column a b && is_candidate rules g seen b) ≡ true =
+      and_from _ _ (and_from _ _ (and_from _ _ (eq-eqb b.table a.table (at_b ∙ sym at_a)) equal) less) cb.0 in
+      both_ways _ (not-true _ least) (one_b.here (λ other. goes_before column a other && is_candidate rules g seen other) goes)
+
+  -- at most one visible row of such a table has a value
+  kept_once : (t column : ℕ) (v : Value) → kept_of rules t ≡ Some column → is_plain (table_of rules t).columns column ≡ true → (rows : List TableRow) → Founded rules rows → AllByRecursion (IsOne g.inserted) rows
+      → weight (λ b. one_if (in_table t b && compares cmp.Eq v (value_at b.values column))) (map (shown rules g) (filter (λ row. is_visible rules g row.name) rows)) ≤ 1
+  kept_once t column v is plain [] fs s = omega arith
+  kept_once t column v is plain (e ∷ older) fs s =
+      let w = λ (b : TableRow). one_if (in_table t b && compares cmp.Eq v (value_at b.values column)) in
+      let others = map (shown rules g) (filter (λ row. is_visible rules g row.name) older) in
+      let before : weight w others ≤ 1 = kept_once t column v is plain older fs.1 s.1 in
+      let same_value : (x : TableRow) → x.table ≡ t → value_at (shown rules g x).values column ≡ value_at x.values column = λ x at.
+      plain_shown rules g (table_of rules x.table).columns x.values column (subst (λ (n : ℕ). is_plain (table_of rules n).columns column ≡ true) (sym at) plain) in
+      let alone : is_visible rules g e.name ≡ true → (in_table t (shown rules g e) && compares cmp.Eq v (value_at (shown rules g e).values column)) ≡ true → weight w others ≡ 0 = λ ve he.
+      let two = and_parts (e.table == t) _ he in
+      let at_e = eqb-true e.table t two.0 in
+      let eq_e : compares cmp.Eq v (value_at e.values column) ≡ true = ap (compares cmp.Eq v) (sym (same_value e at_e)) ∙ two.1 in
+      none_weighs (λ x. (same_row x.name e.name ≡ false) × IsOne g.inserted x) (λ b. in_table t b && compares cmp.Eq v (value_at b.values column)) rules g
+      (λ x px vx hx.
+      let three = and_parts (x.table == t) _ hx in
+      let at_x = eqb-true x.table t three.0 in
+      let eq_x : compares cmp.Eq v (value_at x.values column) ≡ true = ap (compares cmp.Eq v) (sym (same_value x at_x)) ∙ three.1 in
+      by_names x.name e.name px.0
+      (apart t column is e x s.0 px.1 at_e at_x (equal_both v (value_at e.values column) (value_at x.values column) eq_e eq_x) ve vx)
+      (apart t column is x e px.1 s.0 at_x at_e (equal_both v (value_at x.values column) (value_at e.values column) eq_x eq_e) vx ve))
+      older (each_both (λ x. same_row x.name e.name ≡ false) (IsOne g.inserted) _ (λ x p q. (p, q)) older (none_each (λ x. same_row x.name e.name) older fs.0.new) s.1) in
+      let inner : (c : Bool) → (in_table t (shown rules g e) && compares cmp.Eq v (value_at (shown rules g e).values column)) ≡ c → is_visible rules g e.name ≡ true → one_if c + weight w others ≤ 1 = elim [
+        | true ↦ λ h ve. let z = alone ve h in omega arith
+        | false ↦ λ h ve. omega arith
+      ] in
+      let step : (b : Bool) → is_visible rules g e.name ≡ b → weight w (map (shown rules g) (cond b (e ∷ filter (λ row. is_visible rules g row.name) older) (filter (λ row. is_visible rules g row.name) older))) ≤ 1 = elim [
+        | true ↦ λ ve. inner (in_table t (shown rules g e) && compares cmp.Eq v (value_at (shown rules g e).values column)) refl ve
+        | false ↦ λ ve. before
+      ] in
+      step (is_visible rules g e.name) refl
+
+  pub unique_kept_holds : (t column : ℕ) → kept_of rules t ≡ Some column → claim_holds rules (shown_rows rules g) (UniqueKept t column) ≡ true
+  unique_kept_holds t column is =
+      let plain = kept_plain (table_of rules t).columns (table_of rules t).uniques column (keeps_soundly rules sound t column is).unique (sound t).uniques in
+      all_true (λ (a : TableRow). not (in_table t a) || nat_le (count_by (λ b. in_table t b && compares cmp.Eq (value_at a.values column) (value_at b.values column)) (shown_rows rules g)) 1)
+      (λ a. or_right (not (in_table t a)) _ (le-leb _ 1
+      (let few = kept_once t column (value_at a.values column) is plain g.inserted f.founded ones in
+      let same = count-weight (λ (b : TableRow). in_table t b && compares cmp.Eq (value_at a.values column) (value_at b.values column)) (shown_rows rules g) in omega arith)))
+      (shown_rows rules g)
+
 -- the schema has an invariant that says this
 abbrev pub IsDeclared : Rules → Claim → Type 0
 IsDeclared rules (Unique t c) = (place : ℕ) × (rule : UniqueRule) × (slice_get (table_of rules t).uniques place ≡ Some rule) × (rule.column ≡ c)
+IsDeclared rules (UniqueKept t c) = kept_of rules t ≡ Some c
 IsDeclared rules (AtMost t k) = ((table_of rules t).at_most ≡ k) × (k ≡ 0 → ⊥)
 IsDeclared rules (Refers t c target act) = reference_at (table_of rules t).columns c ≡ Some (target, act)
 IsDeclared rules (Check t x) = (place : ℕ) × (rule : CheckData) × (slice_get (table_of rules t).checks place ≡ Some rule) × (rule.tree ≡ x)
@@ -369,6 +459,7 @@ pub accepted_stands : (rules : Rules) → IsSound rules.tables → (nodes : List
     → claim_holds rules (shown_in rules nodes) claim ≡ true
 unfolding verdict_on effects judge_next judged
 accepted_stands rules sound nodes c (Unique t col) d h = absurd (cc)
+accepted_stands rules sound nodes c (UniqueKept t col) d h = unique_kept_holds rules sound (effects_in rules nodes) (founded_closed rules nodes c) t col d
 accepted_stands rules sound nodes c (AtMost t k) d h = absurd (cc)
 accepted_stands rules sound nodes c (Refers t col target action.Restrict) d h = restrict_holds rules sound (effects_in rules nodes) (founded_closed rules nodes c) t col target d h
 accepted_stands rules sound nodes c (Refers t col target action.Cascade) d h = cascade_holds rules sound (effects_in rules nodes) (founded_closed rules nodes c) t col target d

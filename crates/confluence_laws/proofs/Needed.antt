@@ -1,7 +1,7 @@
 -- Needed rows pass their tests.
 use Rattle.std.proofs.Common.{◌≡◌, ℕ, ◌+◌, ◌==◌, ◌<◌, ◌≤◌, zero, suc, Bool, true, false, cond, not, ◌&&◌, ◌||◌, List, [], ◌∷◌, ◌++◌, length, map, refl, sym, ap, ap₂, ◌∙◌, subst, Option, Some, None, is_some, arith, nat_le, nat_lt, count_by, slice_get}
 use Rattle.std.specs.List.{list_any, list_all, AllByRecursion}
-use Rattle.std.proofs.lemmas.Bool.{and_parts, and_from, or_left, or_right, eq-eqb, ne_eqb, ltb-true, leb-false, lt-leb, eqb-true, le-leb}
+use Rattle.std.proofs.lemmas.Bool.{and_parts, and_from, both_ways, false_from_ne_true, not_from_false, or_left, or_right, eq-eqb, ne_eqb, ltb-true, leb-false, lt-leb, eqb-true, le-leb}
 use Rattle.update_model.specs.declared.row_name.RowName.{RowName}
 use Rattle.update_model.specs.declared.update_id.UpdateId.{UpdateId}
 use Rattle.update_model.specs.declared.value.Value.{Value}
@@ -20,8 +20,9 @@ use Rattle.schema.specs.declared.rules.UniqueRule.{UniqueRule}
 use Rattle.schema.specs.declared.table_def.TableDef.{TableDef}
 use Rattle.schema.specs.Columns.{is_reference, target_of, is_restrict, fits_kind, fits, all_fit}
 use Rattle.schema.specs.Sound.{IsSoundCheck}
-use Rattle.table_model.specs.Visible.{Rules, TableRow, RowRef, same_row, table_of, ref_to, ref_in, refs_in}
-use Rattle.table_model.specs.Verdicts.{named, stands_among, matches_among, matches_hold, first_reason, in_table, unique_holds, at_most_holds, limits_hold}
+use Rattle.table_model.proofs.Order.{any_weaker}
+use Rattle.table_model.specs.Visible.{Rules, TableRow, RowRef, kept_of, same_row, table_of, ref_to, ref_in, refs_in}
+use Rattle.table_model.specs.Verdicts.{named, stands_among, matches_among, matches_hold, first_reason, in_table, keeps_least, is_new_in, unique_holds, at_most_holds, limits_hold}
 use Rattle.confluence_laws.specs.Examples.{Item, numbered, row_numbered, has_table, name_in, fill, filled, item_of, needed_by, needed_tables, for_each, need, base_of}
 use Rattle.table_model.proofs.Alike.{weight, one_if, count-weight}
 use Rattle.table_model.proofs.Standing.{same_row-refl}
@@ -163,10 +164,40 @@ pub uniques_hold : (rows : List TableRow) (t : ℕ) → weight (λ x. one_if (in
 uniques_hold rows t o [] = refl
 uniques_hold rows t o (c ∷ cs) = and_from _ _ (once_unique rows t o c.column rows) (uniques_hold rows t o cs)
 
+-- a UNIQUE that holds holds, with KEEP LEAST or without
+pub or_uniques : (o : Option ℕ) (rows : List TableRow) (t : ℕ) (cs : List UniqueRule) → list_all (λ rule. unique_holds rows t rule.column) cs ≡ true
+    → list_all (λ rule. keeps_least o rule.column || unique_holds rows t rule.column) cs ≡ true
+or_uniques o rows t [] h = refl
+or_uniques o rows t (c ∷ cs) h = let parts = and_parts (unique_holds rows t c.column) _ h in and_from _ _ (or_right (keeps_least o c.column) _ parts.0) (or_uniques o rows t cs parts.1)
+
+none_weighed : (p : TableRow → Bool) (rows : List TableRow) → weight (λ x. one_if (p x)) rows ≡ 0 → list_any p rows ≡ false
+none_weighed p [] h = refl
+none_weighed p (r ∷ rows) h =
+    let step : (b : Bool) → one_if b + weight (λ x. one_if (p x)) rows ≡ 0 → (b || list_any p rows) ≡ false = elim [
+      | true ↦ λ e. absurd (omega arith)
+      | false ↦ λ e. none_weighed p rows (omega arith)
+    ] in
+    step (p r) h
+
+pub alone_new : (o : Option ℕ) (row : TableRow) (rows : List TableRow) → list_any (in_table row.table) rows ≡ false → is_new_in o rows row ≡ true
+alone_new None row rows h = refl
+alone_new (Some column) row rows h =
+    not_from_false _ (false_from_ne_true _ (λ e. both_ways _ h (any_weaker (λ other. in_table row.table other && compares cmp.Eq (value_at row.values column) (value_at other.values column)) (in_table row.table)
+    (λ other k. (and_parts (in_table row.table other) _ k).0) rows e)))
+
 -- then no limit is broken
 pub once_limits : (rows : List TableRow) → AtMostOnce rows → (t : ℕ) (tables : List TableDef) → limits_hold rows t tables ≡ true
 once_limits rows o t [] = refl
-once_limits rows o t (table ∷ tables) = and_from _ _ (and_from _ _ (uniques_hold rows t (o t) table.uniques) (once_at_most rows t (o t) table.at_most)) (once_limits rows o (t + 1) tables)
+once_limits rows o t (table ∷ tables) =
+    and_from _ _ (and_from _ _ (or_uniques table.kept rows t table.uniques (uniques_hold rows t (o t) table.uniques)) (once_at_most rows t (o t) table.at_most)) (once_limits rows o (t + 1) tables)
+
+-- a row that is alone in its table has a new value
+pub once_new : (rules : Rules) (row : TableRow) (rows : List TableRow) → AtMostOnce (row ∷ rows) → is_new_in (kept_of rules row.table) rows row ≡ true
+once_new rules row rows o =
+    let one : one_if (row.table == row.table) ≡ 1 = ap one_if (eq-eqb row.table row.table refl) in
+    let bound = o row.table in
+    let alone : list_any (in_table row.table) rows ≡ false = none_weighed (in_table row.table) rows (omega arith) in
+    alone_new (kept_of rules row.table) row rows alone
 
 -- A MATCH compares plain columns, along a reference that is null in needed rows, or to a known table whose sample passes.
 pub record IsMatched (rules : Rules) (t : ℕ) (m : MatchRule) : Type 0 where
@@ -309,6 +340,7 @@ module _ (rules : Rules) (samples : AreSampled rules) where
       record {
         inserted = λ i. first_reason ((1, known i) ∷ (2, not (fit i)) ∷ (3, not (checked i)) ∷ (4, not (referred i)) ∷ (5, not (matched i)) ∷ []);
         limits = once_limits (row_of id (item_of rules items t) ∷ rows_of items) once 0 rules.tables;
+        fresh = once_new rules (row_of id (item_of rules items t)) (rows_of items) once;
       }
 
   pub made_passes : (items : List Item) → Made items → AllPass rules items

@@ -5,7 +5,7 @@ use Rattle.update_model.specs.declared.op.Op.TheVariants.{Delete}
 use Rattle.update_model.specs.Node.{NodeData}
 use Rattle.schema.specs.declared.action.Action.TheVariants as action
 use Rattle.table_model.specs.Visible.{Rules}
-use Rattle.table_model.specs.Invariants.{Claim, Unique, AtMost, Refers, Check, Match, Declared, invariants_of, claims_of}
+use Rattle.table_model.specs.Invariants.{Claim, Unique, UniqueKept, AtMost, Refers, Check, Match, Declared, invariants_of, claims_of}
 use Rattle.confluence_laws.specs.Confluence.{accepts, are_accepted, breaks, confirms}
 use Rattle.confluence_laws.specs.Examples.{row_numbered, one_after, after, chain, item_naming, path_from, path_items, shared_of, restrict_example, example_of}
 use Rattle.schema.proofs.Soundness.{IsSound}
@@ -29,6 +29,7 @@ module _ (rules : Rules) (sound : IsSound rules.tables) (samples : AreSampled ru
 
   by_claim : (claim : Claim) → d.claim ≡ claim → accepts rules claim ≡ false → confirms rules (claims_of earlier) claim (example_of rules claim) ≡ true
   by_claim (Unique table column) is h = unique_confirms rules sound samples earlier later d e a table column is
+  by_claim (UniqueKept table column) is h = absurd (cc)
   by_claim (AtMost table count) is h = at_most_confirms rules sound samples earlier later d e a table count is
   by_claim (Refers table column target action.Restrict) is h = restrict_confirms table column target is h
   by_claim (Refers table column target action.Cascade) is h = absurd (cc)

@@ -1,7 +1,7 @@
 -- The counterexample that is given for a RESTRICT confirms.
-use Rattle.std.proofs.Common.{◌≡◌, ℕ, ◌+◌, ◌-◌, ◌==◌, ◌<◌, ◌≤◌, zero, suc, Bool, true, false, cond, not, ◌&&◌, ◌||◌, List, [], ◌∷◌, ◌++◌, length, map, filter, reverse, refl, sym, ap, ◌∙◌, subst, Option, Some, None, arith, nat_le, nat_lt, if◌then◌else◌}
+use Rattle.std.proofs.Common.{◌≡◌, ℕ, ◌+◌, ◌==◌, ◌<◌, ◌≤◌, zero, suc, Bool, true, false, cond, not, ◌&&◌, ◌||◌, List, [], ◌∷◌, ◌++◌, length, map, filter, reverse, refl, sym, ap, ◌∙◌, subst, is_none, Option, Some, None, arith, nat_le, nat_lt, if◌then◌else◌}
 use Rattle.std.specs.List.{list_any, list_all, flat_map, AllByRecursion}
-use Rattle.std.proofs.lemmas.Bool.{and_parts, and_from, and_left, and_right, or_left, or_right, or_from, both_ways, eqb-true, eq-eqb, false_from_ne_true, leb-false, lt-leb, ltb-true, lt-ltb, not_from_false, not_from_true, not-true}
+use Rattle.std.proofs.lemmas.Bool.{and_parts, and_from, and_left, and_right, or_left, or_right, or_from, both_ways, eqb-true, eq-eqb, ne_eqb, false_from_ne_true, leb-false, lt-leb, ltb-true, lt-ltb, not_from_false, not_from_true, not-true}
 use Rattle.std.proofs.lemmas.List.Sorted.{IsPermutation-reverse, IsPermutation-sym}
 use Rattle.update_model.specs.declared.op.Op.TheVariants.{Delete}
 use Rattle.update_model.specs.declared.row_name.RowName.{RowName}
@@ -18,18 +18,23 @@ use Rattle.table_model.specs.declared.verdict.Verdict.TheVariants as verdict
 use Rattle.schema.specs.Columns.{target_of, reference_at, is_restrict}
 use Rattle.schema.specs.Sound.{IsSoundKind, IsSoundColumn}
 use Rattle.table_model.specs.Nodes.{holds, IsClosed}
-use Rattle.table_model.specs.Visible.{Rules, TableRow, Effects, same_row, table_of, refs, is_cascade, visible_to, is_visible, is_deleted, visible_rows, shown, shown_rows, shown_value}
-use Rattle.table_model.specs.Verdicts.{in_table, is_valid, effects, effects_of, Judged, ancestor_of, judge_next, judged, joined, delete_reason, first_reason, limits_hold, verdict_on, same_author}
+use Rattle.table_model.specs.Visible.{Rules, TableRow, Effects, kept_of, same_row, table_of, refs, is_cascade, is_visible, is_deleted, visible_rows, shown, shown_rows, shown_value}
+use Rattle.table_model.specs.Verdicts.{in_table, is_valid, effects, effects_of, Judged, ancestor_of, judge_next, judged, joined, delete_reason, first_reason, is_new_in, limits_hold, verdict_on, same_author}
 use Rattle.table_model.specs.Invariants.{Claim, Refers, names_shown, claim_holds, shown_in}
 use Rattle.confluence_laws.specs.Confluence.{is_permanent, accepts, breaks}
 use Rattle.confluence_laws.specs.Examples.{Item, Step, numbered, row_numbered, one_author, last_of, one_after, after, chain, has_table, name_in, fill, is_skipped, needed_but, item_naming, need, path_from, path_items, shared_of}
 use Rattle.table_model.proofs.Order.{any_weaker, ancestors_held, unaffected}
 use Rattle.table_model.proofs.Founded.{Sub-filter, all_weaker, all-append, IsWellFounded, founded_closed}
-use Rattle.table_model.proofs.Standing.{Stands, each-map, each_stands, any_each, row_from_same, same_row-refl, visible_is}
+use Rattle.table_model.proofs.Standing.{Stands, each-map, each_stands, any_each, row_from_same, same_row-refl}
+use Rattle.table_model.proofs.KeptTables.{holds_steady}
+use Rattle.table_model.proofs.Settled.{IsOne, are_resting, visible_from}
+use Rattle.table_model.proofs.Resting.{ones_from, resting}
+use Rattle.confluence_laws.proofs.Vanishing.{plain_steps, steady_plain}
+use Rattle.confluence_laws.proofs.Needed.{alone_new}
 use Rattle.schema.proofs.Soundness.{IsSound, each_at, kind_of_target, target_below}
 use Rattle.confluence_laws.proofs.Accepted.{IsDeclared, named_shown, refers_holds, named_stands, shown_at}
 use Rattle.confluence_laws.proofs.SameTables.{permuted_on}
-use Rattle.confluence_laws.proofs.Plans.{row_of, rows_of, AllPass, apart, ids_below, last_held, chain_closed, all_before, filter_all, stay_each, each_visible, all_visible, chain_effects}
+use Rattle.confluence_laws.proofs.Plans.{row_of, rows_of, AllPass, apart, ids_below, last_held, chain_closed, all_before, filter_all, IsFree, free_each, free_least, items_new, stay_each, each_visible, all_visible, chain_effects}
 use Rattle.confluence_laws.proofs.Sides.{test_from_closed, all_accepted}
 use Rattle.confluence_laws.proofs.Needed.{AreSampled, Made, Grows, all_parts, all_made, need_made, made_passes, table_counted, name_stands}
 use Rattle.confluence_laws.proofs.FirstRefused.{IsReady}
@@ -139,7 +144,10 @@ module _ (rules : Rules) (sound : IsSound rules.tables) (samples : AreSampled ru
   target_known = lt-leb (length rules.tables) target (let l = leb-false (length rules.tables) table ready.0 in let b = below in omega arith)
 
   leads : Leads rules target steps
-  leads = path_leads rules sound (suc target) target (omega arith) target_known refused
+  leads = path_leads rules sound (suc target) target (omega arith) target_known refused (suc target) (holds_steady rules sound table column target ready.1)
+
+  plain : AllByRecursion (λ (s : Step). is_none (kept_of rules s.table) ≡ true) steps
+  plain = plain_steps rules (suc target) target (holds_steady rules sound table column target ready.1) steps leads
 
   lower_all : list_all (λ u. nat_lt u table) all_needs ≡ true
   lower_all =
@@ -174,7 +182,7 @@ module _ (rules : Rules) (sound : IsSound rules.tables) (samples : AreSampled ru
   own_needs = (all_parts (has_table shared) (flat_map needs_of (reverse steps)) (needed_but (Some column) 0 (table_of rules table).columns) grown.1).1
 
   path : PathPasses rules sound samples shared made table ready.0 ready.2 fresh shared_pass target items
-  path = path_passes rules sound samples shared made table ready.0 ready.2 fresh shared_pass target steps leads below needs
+  path = path_passes rules sound samples shared made table ready.0 ready.2 fresh shared_pass target steps leads below needs plain
 
   abbrev to_target : ℕ × Action
   to_target = (target, action.Restrict)
@@ -182,10 +190,30 @@ module _ (rules : Rules) (sound : IsSound rules.tables) (samples : AreSampled ru
   naming : IsNaming to_target (Some column) 0 (table_of rules table).columns
   naming = let z : 0 + column ≡ column = omega arith in subst (λ (k : ℕ). IsNaming to_target (Some k) 0 (table_of rules table).columns) z (naming_some to_target 0 column (table_of rules table).columns ready.1)
 
+  -- where the table keeps the least row, the path's tables are lower, and no row of it stands in the base
+  none_above : target < table → (ss : List Step) → AllByRecursion (λ (s : Step). s.table ≤ target) ss → list_any (in_table table) (rows_of (path_items rules shared ss)) ≡ false
+  none_above less [] low = fresh table (omega arith)
+  none_above less (s ∷ ss) low = or_from _ _ (ne_eqb s.table table (λ same. let l = low.0 in omega arith)) (none_above less ss low.1)
+
+  own_new : is_new_in (kept_of rules table) (rows_of items) (row_of (suc (length items)) naming_row) ≡ true
+  own_new =
+      let steady = holds_steady rules sound table column target ready.1 in
+      let b = below in
+      let step : (o : Option ℕ) → kept_of rules table ≡ o → is_new_in o (rows_of items) (row_of (suc (length items)) naming_row) ≡ true = elim [
+        | None ↦ λ is. refl
+        | Some kept ↦ λ is.
+            let apart : target ≡ table → ⊥ = λ same. both_ways _ (ap is_none is) (subst (λ (n : ℕ). is_none (kept_of rules n) ≡ true) same (steady_plain rules (suc target) target steady)) in
+            alone_new (Some kept) (row_of (suc (length items)) naming_row) (rows_of items) (none_above (strictly_below target table b apart) steps (leads_low rules target target steps leads (omega arith)))
+      ] in
+      step (kept_of rules table) refl
+    where
+      strictly_below : (a b : ℕ) → a ≤ b → (a ≡ b → ⊥) → a < b
+      strictly_below a b l apart = omega arith
+
   with_row : PathPasses rules sound samples shared made table ready.0 ready.2 fresh shared_pass table (naming_row ∷ items)
   with_row =
       path_more rules sound samples shared made table ready.0 ready.2 fresh shared_pass items path.pass path.low path.sub (let l = path.longer in omega arith) table (omega arith) (Some column) to_target naming own_needs
-      (λ number e. path.there) (λ number e loose. absurd (cc))
+      (λ number e. path.there) (λ number e loose. absurd (cc)) own_new
 
   -- ---- the sides
 
@@ -206,7 +234,7 @@ module _ (rules : Rules) (sound : IsSound rules.tables) (samples : AreSampled ru
 
   did : effects (judged rules (chain items)) ≡ record { inserted = rows_of items; deleted = [] }
   unfolding verdict_on effects judge_next judged
-  did = chain_effects rules items path.pass
+  did = chain_effects rules sound items path.pass
 
   end_there : (t : ℕ) (ss : List Step) → Leads rules t ss → list_any (λ row. same_row row.name (row_numbered last) && (table_of rules row.table).deletable) (rows_of (path_items rules shared ss)) ≡ true
   end_there t [] leads = absurd leads
@@ -238,20 +266,20 @@ module _ (rules : Rules) (sound : IsSound rules.tables) (samples : AreSampled ru
       let founded : IsWellFounded rules old = subst (IsWellFounded rules) did (founded_closed rules (chain items) (chain_closed items)) in
       let past : effects (filter (λ j. ancestor_of js right j.node.id) js) ≡ old =
       ap effects (filter_all (λ j. ancestor_of js right j.node.id) js (all_before rules items (suc (suc (length items))) naming_row)) ∙ did in
-      let before : visible_rows rules old ≡ rows_of items = all_visible rules old founded refl in
+      let before : visible_rows rules old ≡ rows_of items = all_visible rules sound old founded refl (items_new rules items path.pass) in
       let limits : limits_hold (visible_rows rules without) 0 rules.tables ≡ true =
       bare_limits rules table ready.2 (visible_rows rules without)
       (λ u above. false_from_ne_true _ (λ e. both_ways _ (path.low u above) ((Sub-filter (λ row. is_visible rules without row.name) (rows_of items)).more (in_table u) e))) in
       ap (λ (g : Effects). verdict_on rules g right) past
       ∙ (λ i. elim (delete_reason rules (before i) [] one_author (row_numbered last)) [
         | Some reason ↦ verdict.Void reason 0
-        | None ↦ if limits_hold (visible_rows rules without) 0 rules.tables then verdict.Valid else verdict.Void 9 (0 + 1)
+        | None ↦ if limits_hold (visible_rows rules without) 0 rules.tables && true then verdict.Valid else verdict.Void 9 (0 + 1)
       ])
       ∙ (λ i. elim (may_go i) [
         | Some reason ↦ verdict.Void reason 0
-        | None ↦ if limits_hold (visible_rows rules without) 0 rules.tables then verdict.Valid else verdict.Void 9 (0 + 1)
+        | None ↦ if limits_hold (visible_rows rules without) 0 rules.tables && true then verdict.Valid else verdict.Void 9 (0 + 1)
       ])
-      ∙ (λ i. if limits i then verdict.Valid else verdict.Void 9 (0 + 1))
+      ∙ (λ i. if limits i && true then verdict.Valid else verdict.Void 9 (0 + 1))
 
   right_did : effects (judged rules (right ∷ chain items)) ≡ without
   unfolding verdict_on effects judge_next judged
@@ -259,7 +287,7 @@ module _ (rules : Rules) (sound : IsSound rules.tables) (samples : AreSampled ru
 
   left_did : effects (judged rules (left ∷ chain items)) ≡ record { inserted = rows_of (naming_row ∷ items); deleted = [] }
   unfolding verdict_on effects judge_next judged
-  left_did = chain_effects rules (naming_row ∷ items) with_row.pass
+  left_did = chain_effects rules sound (naming_row ∷ items) with_row.pass
 
   abbrev merged : Effects
   merged = record { inserted = rows_of (naming_row ∷ items); deleted = row_numbered last ∷ [] }
@@ -289,7 +317,7 @@ module _ (rules : Rules) (sound : IsSound rules.tables) (samples : AreSampled ru
       named_shown rules sound g f target name there
       (any_each (λ row. is_visible rules g row.name ≡ true) (λ row. same_row row.name name && (row.table == target)) _
       (λ x px hx. subst (λ (n : RowName). is_visible rules g n ≡ true) (row_from_same x.name name (and_parts (same_row x.name name) _ hx).0) px)
-      g.inserted (each_visible rules g f refl) there))
+      g.inserted (each_visible rules sound g f refl (items_new rules (naming_row ∷ items) with_row.pass)) there))
 
   -- rows of the table that stand in the base name nothing
   abbrev names_some : TableRow → Bool
@@ -373,22 +401,22 @@ module _ (rules : Rules) (sound : IsSound rules.tables) (samples : AreSampled ru
   not_end [] h = tt
   not_end (e ∷ rows) h = (or_from _ _ h.0 refl, not_end rows h.1)
 
-  shared_visible : AllByRecursion (λ row. is_visible rules merged row.name ≡ true) (rows_of shared)
-  unfolding visible_to
-  shared_visible =
-      let stands = (each_stands rules merged.inserted merged_founded.founded).1 in
-      let deep = stay_each rules merged (rows_of shared)
-      (shared_founded rules sound samples shared made table ready.0 ready.2 fresh shared_pass steps merged_founded.founded.1)
-      (shared_part rules sound samples shared made table ready.0 ready.2 fresh shared_pass (Stands rules merged.inserted) steps stands)
-      (not_end (rows_of shared) (names_below shared last (omega arith))) in
-      each-map _ _ (λ e p. subst (λ (n : ℕ). visible_to rules merged n e.name ≡ true) depth_is (p (suc (length (rows_of items)) - length (rows_of shared)))) (rows_of shared) deep
-    where
-      rows_length : (is : List Item) → length (rows_of is) ≡ length is
-      rows_length [] = refl
-      rows_length (i ∷ is) = ap suc (rows_length is)
+  merged_ones : AllByRecursion (IsOne merged.inserted) merged.inserted
+  merged_ones = ones_from rules merged.inserted merged_founded.founded
 
-      depth_is : (suc (length (rows_of items)) - length (rows_of shared)) + length (rows_of shared) ≡ length merged.inserted
-      depth_is = let a = rows_length items in let b = rows_length shared in let l = path.longer in let z : length merged.inserted ≡ suc (length (rows_of items)) = refl in omega arith
+  merged_rest : are_resting rules merged.inserted ≡ true
+  merged_rest = resting rules sound merged.inserted merged_founded.founded
+
+  merged_free : AllByRecursion (IsFree rules merged.inserted) merged.inserted
+  merged_free = free_each rules merged.inserted (items_new rules (naming_row ∷ items) with_row.pass)
+
+  shared_visible : AllByRecursion (λ row. is_visible rules merged row.name ≡ true) (rows_of shared)
+  shared_visible =
+      stay_each rules merged merged_ones merged_rest (rows_of shared)
+      (shared_founded rules sound samples shared made table ready.0 ready.2 fresh shared_pass steps merged_founded.founded.1)
+      (shared_part rules sound samples shared made table ready.0 ready.2 fresh shared_pass (Stands rules merged.inserted) steps (each_stands rules merged.inserted merged_founded.founded).1)
+      (not_end (rows_of shared) (names_below shared last (omega arith)))
+      (shared_part rules sound samples shared made table ready.0 ready.2 fresh shared_pass (IsFree rules merged.inserted) steps merged_free.1)
 
   row_visible : is_visible rules merged (row_numbered (suc (length items))) ≡ true
   row_visible =
@@ -404,8 +432,8 @@ module _ (rules : Rules) (sound : IsSound rules.tables) (samples : AreSampled ru
       (rows_of shared) shared_visible (name_stands shared u has)))
       (suc (length items)) in
       let kept : is_deleted merged name ≡ false = or_from _ _ (and_left _ (0 == 0) (apart (suc (length items)) last (λ e. let l = path.longer in omega arith))) refl in
-      visible_is rules merged merged_founded name
-      ∙ and_from _ _ (or_left _ _ (and_from _ _ (same_row-refl name) (filter_kept (λ r. is_cascade r.action) (λ r. seen r.name) (refs rules row) tested))) (not_from_false _ kept)
+      visible_from rules merged merged_ones merged_rest row merged_ones.0
+      (and_from _ _ (filter_kept (λ r. is_cascade r.action) (λ r. seen r.name) (refs rules row) tested) (not_from_false _ kept)) (free_least rules merged seen row merged_free.0)
 
   both_fail : claim_holds rules (shown_in rules (right ∷ left ∷ chain items)) claim ≡ false
   unfolding verdict_on effects judge_next judged

@@ -7,7 +7,7 @@ use Rattle.row_check.specs.Meaning.{value_at}
 use Rattle.row_check.specs.Trees.{holds_tree}
 use Rattle.table_model.specs.Visible.{Rules, TableRow, same_row}
 use Rattle.table_model.specs.Verdicts.{in_table, matches_among}
-use Rattle.table_model.specs.Invariants.{Claim, Unique, AtMost, Refers, Check, Match, names_shown, claim_holds}
+use Rattle.table_model.specs.Invariants.{Claim, Unique, UniqueKept, AtMost, Refers, Check, Match, names_shown, claim_holds}
 use Rattle.table_model.proofs.Alike.{Alike, same_any, same_all, same_count}
 use Rattle.table_model.proofs.SameEffects.{same_unique, same_match}
 use Rattle.std.specs.Prelude.{List}
@@ -22,6 +22,7 @@ same_named a target (value.Own index) = refl
 
 pub same_claim : (rules : Rules) {b c : List TableRow} → Alike b c → (claim : Claim) → claim_holds rules b claim ≡ claim_holds rules c claim
 same_claim rules a (Unique t col) = same_unique rules a t col
+same_claim rules a (UniqueKept t col) = same_unique rules a t col
 same_claim rules a (AtMost t k) = λ i. (k == 0) || nat_le (same_count (in_table t) a i) k
 same_claim rules {b} {c} a (Refers t col target act) =
     (λ i. list_all (λ row. not (in_table t row) || same_named a target (value_at row.values col) i) b)

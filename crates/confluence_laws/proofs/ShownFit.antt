@@ -1,20 +1,18 @@
 -- Shown rows fit their columns.
-use Rattle.std.proofs.Common.{◌≡◌, ℕ, ◌+◌, ◌==◌, Bool, true, false, cond, not, ◌&&◌, ◌||◌, List, [], ◌∷◌, length, suc, arith, refl, subst, Option, Some, None}
+use Rattle.std.proofs.Common.{◌≡◌, ℕ, Bool, true, false, cond, not, ◌&&◌, ◌||◌, List, [], ◌∷◌, refl, subst, Option, Some, None}
 use Rattle.std.specs.List.{list_all, AllByRecursion}
-use Rattle.std.proofs.lemmas.Bool.{and_parts, and_from, or_left, both_ways, eqb-true, not-true}
+use Rattle.std.proofs.lemmas.Bool.{and_parts, and_from, both_ways, not-true}
 use Rattle.update_model.specs.declared.value.Value.{Value}
 use Rattle.update_model.specs.declared.value.Value.TheVariants as value
 use Rattle.update_model.specs.Node.{NodeData}
 use Rattle.schema.specs.declared.action.Action.{Action}
 use Rattle.schema.specs.declared.column.Column.{Column}
 use Rattle.schema.specs.declared.column.ColumnKind.{ColumnKind}
-use Rattle.schema.specs.declared.rules.UniqueRule.{UniqueRule}
-use Rattle.schema.specs.declared.table_def.TableDef.{TableDef}
 use Rattle.schema.specs.Columns.{target_of, is_set_null, fits, all_fit}
 use Rattle.schema.specs.Sound.{IsSoundKind, IsSoundColumn}
 use Rattle.table_model.specs.Nodes.{IsClosed}
-use Rattle.table_model.specs.Visible.{Rules, TableRow, Effects, table_of, is_visible, is_nulled, shown_value, shown_values}
-use Rattle.table_model.specs.Verdicts.{effects_in, unique_holds, limits_hold, is_unlimited, effects, judge_next, judged, verdict_on}
+use Rattle.table_model.specs.Visible.{Rules, Effects, table_of, is_visible, is_nulled, shown_value, shown_values}
+use Rattle.table_model.specs.Verdicts.{effects_in, effects, judge_next, judged, verdict_on}
 use Rattle.table_model.specs.Invariants.{shown_in}
 use Rattle.table_model.proofs.Founded.{IsWellFounded, founded_closed}
 use Rattle.table_model.proofs.Standing.{each_stands}

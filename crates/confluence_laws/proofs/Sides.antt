@@ -1,5 +1,5 @@
 -- Two inserts of one row side by side break a UNIQUE.
-use Rattle.std.proofs.Common.{◌≡◌, ℕ, ◌+◌, ◌<◌, ◌≤◌, zero, suc, Bool, true, false, cond, not, ◌&&◌, ◌||◌, List, [], ◌∷◌, ◌++◌, length, map, refl, sym, ap, ap₂, ◌∙◌, subst, arith, nat_le, count_by}
+use Rattle.std.proofs.Common.{◌≡◌, ℕ, ◌+◌, ◌<◌, ◌≤◌, zero, suc, Bool, true, false, cond, not, ◌&&◌, ◌||◌, List, [], ◌∷◌, ◌++◌, length, map, refl, sym, ap, ap₂, ◌∙◌, subst, arith, append-nil, is_none, Option, Some, None, nat_le, count_by}
 use Rattle.std.specs.List.{list_any, list_all, AllByRecursion}
 use Rattle.std.proofs.lemmas.Bool.{and_parts, and_from, and_left, or_from, or_right, or_parts, eq-eqb, both_ways, false_from_ne_true, not_from_false, not_from_true, le-leb, lt-leb}
 use Rattle.update_model.specs.declared.value.Value.{Value}
@@ -10,8 +10,8 @@ use Rattle.row_check.specs.Comparisons.{compares}
 use Rattle.row_check.specs.Meaning.{value_at}
 use Rattle.table_model.specs.declared.verdict.Verdict.TheVariants as verdict
 use Rattle.table_model.specs.Nodes.{holds, IsNext, IsClosed}
-use Rattle.table_model.specs.Visible.{Rules, TableRow, Effects, table_of, shown, shown_rows}
-use Rattle.table_model.specs.Verdicts.{is_valid, effects, effects_of, Judged, judge_next, judged, joined, in_table, unique_holds, verdict_on}
+use Rattle.table_model.specs.Visible.{Rules, TableRow, Effects, kept_of, table_of, shown, shown_rows}
+use Rattle.table_model.specs.Verdicts.{is_valid, effects, effects_of, Judged, judge_next, judged, joined, in_table, is_new_in, are_new, unique_holds, verdict_on}
 use Rattle.table_model.specs.Invariants.{Claim, Unique, claim_holds, shown_in, satisfies}
 use Rattle.confluence_laws.specs.Confluence.{accepts, is_closed, breaks}
 use Rattle.confluence_laws.specs.Examples.{Item, numbered, last_of, after, chain}
@@ -21,7 +21,7 @@ use Rattle.table_model.proofs.Founded.{all_weaker, IsWellFounded, founded_closed
 use Rattle.confluence_laws.proofs.Plain.{is_plain, plain_shown}
 use Rattle.schema.proofs.Soundness.{IsSound}
 use Rattle.confluence_laws.proofs.Accepted.{IsDeclared, accepted_stands}
-use Rattle.confluence_laws.proofs.Plans.{row_of, rows_of, Passes, AllPass, apart, ids_below, last_held, chain_closed, all_visible, passes_valid, chain_effects}
+use Rattle.confluence_laws.proofs.Plans.{row_of, rows_of, Passes, AllPass, apart, ids_below, last_held, chain_closed, all_visible, items_new, passes_valid, chain_effects}
 
 pub test_from_closed : (nodes : List NodeData) → IsClosed nodes → is_closed nodes ≡ true
 test_from_closed [] c = refl
@@ -76,18 +76,32 @@ pair_breaks t c a b rest ta tb own other =
     let much : nat_le (count_by p (a ∷ b ∷ rest)) 1 ≡ false = ap (λ n. nat_le n 1) count ∙ lt-leb (1 + (1 + weight (λ x. one_if (p x)) rest)) 1 (omega arith) in
     and_left _ _ (or_from _ _ (not_from_true _ (eq-eqb a.table t ta)) much)
 
+-- where a table keeps no least row, each value is new
+pub none_new : (o : Option ℕ) (rows : List TableRow) (row : TableRow) → is_none o ≡ true → is_new_in o rows row ≡ true
+none_new None rows row h = refl
+none_new (Some column) rows row h = absurd cc
+
 -- an update after a chain does what it says
-module _ (rules : Rules) (items : List Item) (all : AllPass rules items) (x : Item) where
+module _ (rules : Rules) (sound : IsSound rules.tables) (items : List Item) (all : AllPass rules items) (x : Item) where
   pub one_more : (id : ℕ) → length items < id → Passes rules id x (rows_of items)
       → effects (judged rules (after (length items) id x ∷ chain items)) ≡ record { inserted = row_of id x ∷ rows_of items; deleted = [] }
   unfolding verdict_on effects judge_next judged
   one_more id new p =
-      let did = chain_effects rules items all in
-      let valid = passes_valid rules items id x new did p in
+      let did = chain_effects rules sound items all in
+      let valid = passes_valid rules sound items id x new did (items_new rules items all) p in
       λ i. cond (is_valid (valid i)) (joined (effects_of (after (length items) id x)) (did i)) (did i)
 
   pub one_closed : (id : ℕ) → length items < id → IsClosed (after (length items) id x ∷ chain items)
   one_closed id new = (record { new = ids_below items id new; preds = last_held items }, chain_closed items)
+
+  -- all values are new
+  pub one_new : (id : ℕ) → Passes rules id x (rows_of items) → are_new rules [] (row_of id x ∷ rows_of items) ≡ true
+  one_new id p =
+      and_from _ _ (subst (λ (l : List TableRow). is_new_in (kept_of rules x.table) l (row_of id x) ≡ true) (sym (append-nil (rows_of items))) p.fresh) (items_new rules items all)
+
+  pub pair_new : is_none (kept_of rules x.table) ≡ true → Passes rules (suc (length items)) x (rows_of items)
+      → are_new rules [] (row_of (suc (suc (length items))) x ∷ row_of (suc (length items)) x ∷ rows_of items) ≡ true
+  pair_new free p = and_from _ _ (none_new (kept_of rules x.table) ((row_of (suc (length items)) x ∷ rows_of items) ++ []) (row_of (suc (suc (length items))) x) free) (one_new (suc (length items)) p)
 
   not_named : (n : ℕ) → has (last_of n) (numbered (suc n)) ≡ false
   not_named zero = refl
@@ -119,11 +133,11 @@ module _ (rules : Rules) (items : List Item) (all : AllPass rules items) (x : It
       let apart : judge_next rules (judge_next rules js left ∷ js) right ≡ judge_next rules js right =
       unaffected rules (judge_next rules js left) js right (not_named (length items)) absent in
       let valid : (judge_next rules (judge_next rules js left ∷ js) right).verdict ≡ verdict.Valid =
-      ap (λ (j : Judged). j.verdict) apart ∙ passes_valid rules items (suc (suc (length items))) x (omega arith) (chain_effects rules items all) q in
+      ap (λ (j : Judged). j.verdict) apart ∙ passes_valid rules sound items (suc (suc (length items))) x (omega arith) (chain_effects rules sound items all) (items_new rules items all) q in
       let before = one_more (suc (length items)) (omega arith) p in
       λ i. cond (is_valid (valid i)) (joined (effects_of right) (before i)) (before i)
 
-  module _ (sound : IsSound rules.tables) (t c : ℕ) (v : Value) (in_t : x.table ≡ t) (plain : is_plain (table_of rules x.table).columns c ≡ true)
+  module _ (open_table : is_none (kept_of rules x.table) ≡ true) (t c : ℕ) (v : Value) (in_t : x.table ≡ t) (plain : is_plain (table_of rules x.table).columns c ≡ true)
       (value : (id : ℕ) → value_at (row_of id x).values c ≡ v) (self_equal : compares cmp.Eq v v ≡ true) (others : list_any (in_table t) (rows_of items) ≡ false) where
     side_holds : (id : ℕ) → length items < id → Passes rules id x (rows_of items) → claim_holds rules (shown_in rules (after (length items) id x ∷ chain items)) (Unique t c) ≡ true
     side_holds id new p =
@@ -131,7 +145,7 @@ module _ (rules : Rules) (items : List Item) (all : AllPass rules items) (x : It
         let did = one_more id new p in
         let founded : IsWellFounded rules g = subst (IsWellFounded rules) did (founded_closed rules (after (length items) id x ∷ chain items) (one_closed id new)) in
         ap (λ (e : Effects). unique_holds (shown_rows rules e) t c) did
-        ∙ ap (λ (l : List TableRow). unique_holds (map (shown rules g) l) t c) (all_visible rules g founded refl)
+        ∙ ap (λ (l : List TableRow). unique_holds (map (shown rules g) l) t c) (all_visible rules sound g founded refl (one_new id p))
         ∙ alone t c (shown rules g (row_of id x)) (map (shown rules g) (rows_of items)) (any_shown_table rules g t (rows_of items) ∙ others)
 
     pair_fails : Passes rules (suc (length items)) x (rows_of items) → Passes rules (suc (suc (length items))) x (rows_of items) → claim_holds rules (shown_in rules pair) (Unique t c) ≡ false
@@ -143,7 +157,7 @@ module _ (rules : Rules) (items : List Item) (all : AllPass rules items) (x : It
         let founded : IsWellFounded rules g = subst (IsWellFounded rules) did (founded_closed rules pair pair_closed) in
         let shows : (id : ℕ) → value_at (shown rules g (row_of id x)).values c ≡ v = λ id. plain_shown rules g (table_of rules x.table).columns (row_of id x).values c plain ∙ value id in
         ap (λ (e : Effects). unique_holds (shown_rows rules e) t c) did
-        ∙ ap (λ (l : List TableRow). unique_holds (map (shown rules g) l) t c) (all_visible rules g founded refl)
+        ∙ ap (λ (l : List TableRow). unique_holds (map (shown rules g) l) t c) (all_visible rules sound g founded refl (pair_new open_table p))
         ∙ pair_breaks t c (shown rules g a) (shown rules g b) (map (shown rules g) (rows_of items)) in_t in_t
         (ap₂ (compares cmp.Eq) (shows (suc (suc (length items)))) (shows (suc (suc (length items)))) ∙ self_equal)
         (ap₂ (compares cmp.Eq) (shows (suc (suc (length items)))) (shows (suc (length items))) ∙ self_equal)

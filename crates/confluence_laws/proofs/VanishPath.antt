@@ -1,7 +1,7 @@
 -- The rows of the path pass their tests, and go with the one at its end.
-use Rattle.std.proofs.Common.{◌≡◌, ℕ, ◌+◌, ◌==◌, ◌<◌, ◌≤◌, suc, Bool, true, false, cond, not, ◌&&◌, List, [], ◌∷◌, ◌++◌, length, map, refl, sym, ap, ◌∙◌, subst, Option, Some, None, arith, nat_le, unwrap_or}
+use Rattle.std.proofs.Common.{◌≡◌, ℕ, ◌+◌, ◌==◌, ◌<◌, ◌≤◌, suc, Bool, true, false, cond, not, ◌&&◌, List, [], ◌∷◌, ◌++◌, length, map, refl, sym, ap, ◌∙◌, subst, ◌||◌, is_none, Option, Some, None, arith, nat_le, unwrap_or}
 use Rattle.std.specs.List.{list_any, list_all, AllByRecursion}
-use Rattle.std.proofs.lemmas.Bool.{and_parts, and_from, and_left, and_right, or_left, or_right, or_from, both_ways, eq-eqb, ne_eqb, false_from_ne_true, leb-false, leb-true, not_from_false, not_from_true, not-true, lt-leb}
+use Rattle.std.proofs.lemmas.Bool.{and_parts, and_from, and_left, and_right, or_left, or_right, or_from, both_ways, eq-eqb, eqb-true, ne_eqb, false_from_ne_true, leb-false, leb-true, not_from_false, not-true, lt-leb}
 use Rattle.update_model.specs.declared.row_name.RowName.{RowName}
 use Rattle.update_model.specs.declared.value.Value.{Value}
 use Rattle.update_model.specs.declared.value.Value.TheVariants as value
@@ -14,17 +14,20 @@ use Rattle.schema.specs.declared.table_def.TableDef.{TableDef}
 use Rattle.schema.specs.declared.rules.UniqueRule.{UniqueRule}
 use Rattle.schema.specs.Columns.{target_of, reference_at, is_restrict}
 use Rattle.schema.specs.Numbers.{no_table}
-use Rattle.table_model.specs.Visible.{Rules, TableRow, RowRef, Effects, same_row, table_of, refs, refs_in, is_visible, is_deleted}
-use Rattle.table_model.specs.Verdicts.{in_table, named, limits_hold, unique_holds, at_most_holds}
+use Rattle.table_model.specs.Visible.{Rules, TableRow, RowRef, Effects, kept_of, same_row, table_of, refs, refs_in, is_visible, is_deleted}
+use Rattle.table_model.specs.Verdicts.{in_table, named, limits_hold, keeps_least, is_new_in, unique_holds, at_most_holds}
 use Rattle.confluence_laws.specs.Examples.{Item, Step, numbered, row_numbered, has_table, name_in, fill, filled, item_of, is_skipped, needed_by, needed_tables, needed_but, filled_but, item_naming, path_items}
 use Rattle.table_model.proofs.Alike.{weight, one_if}
-use Rattle.table_model.proofs.Founded.{Sub, IsWellFounded, Founded}
-use Rattle.table_model.proofs.Standing.{Stands, same_row-refl, visible_is}
+use Rattle.table_model.proofs.Founded.{Sub, IsWellFounded, Founded, all_weaker}
+use Rattle.table_model.proofs.Settled.{gone_hidden}
+use Rattle.table_model.proofs.Resting.{ones_from, resting}
+use Rattle.confluence_laws.proofs.Sides.{none_new}
+use Rattle.table_model.proofs.Standing.{Stands, same_row-refl}
 use Rattle.schema.proofs.Soundness.{IsSound}
 use Rattle.confluence_laws.proofs.Accepted.{cascade_visible}
 use Rattle.confluence_laws.proofs.Plans.{row_of, rows_of, AllPass, apart}
 use Rattle.confluence_laws.proofs.Sides.{none_counted}
-use Rattle.confluence_laws.proofs.Needed.{AreSampled, Made, uniques_hold, once_at_most}
+use Rattle.confluence_laws.proofs.Needed.{AreSampled, Made, uniques_hold, or_uniques, once_at_most}
 use Rattle.confluence_laws.proofs.AtMostRefused.{limits_each}
 use Rattle.confluence_laws.proofs.FirstRefused.{IsBare}
 use Rattle.confluence_laws.proofs.Sampled.{column_at}
@@ -37,19 +40,20 @@ bare_limits rules top bare rows low =
     limits_each rows 0 rules.tables (λ u table at.
     let it : table_of rules u ≡ table = ap (λ (o : Option TableDef). unwrap_or o no_table) at in
     let z : u ≡ 0 + u = omega arith in
-    let step : (b : Bool) → nat_le u top ≡ b → (list_all (λ rule. unique_holds rows u rule.column) table.uniques ≡ true) × (at_most_holds rows u table.at_most ≡ true) =
+    let step : (b : Bool) → nat_le u top ≡ b → (list_all (λ rule. keeps_least table.kept rule.column || unique_holds rows u rule.column) table.uniques ≡ true) × (at_most_holds rows u table.at_most ≡ true) =
     elim [
       | true ↦ λ e.
-          let here = bare u (leb-true u top e) in (
-            ap (λ (rs : List UniqueRule). list_all (λ rule. unique_holds rows u rule.column) rs) (ap (λ (t : TableDef). t.uniques) (sym it) ∙ here.0),
-            ap (at_most_holds rows u) (ap (λ (t : TableDef). t.at_most) (sym it) ∙ here.1),
+          let here = and_parts (list_all (λ rule. keeps_least (kept_of rules u) rule.column) (table_of rules u).uniques) _ (bare u (leb-true u top e)) in (
+            ap (λ (t : TableDef). list_all (λ rule. keeps_least t.kept rule.column || unique_holds rows u rule.column) t.uniques) (sym it)
+                ∙ all_weaker (λ (rule : UniqueRule). keeps_least (kept_of rules u) rule.column) (λ rule. keeps_least (kept_of rules u) rule.column || unique_holds rows u rule.column) (λ rule k. or_left _ _ k) (table_of rules u).uniques here.0,
+            ap (at_most_holds rows u) (ap (λ (t : TableDef). t.at_most) (sym it) ∙ eqb-true (table_of rules u).at_most 0 here.1),
           )
       | false ↦ λ e.
           let none = none_counted (in_table u) rows (low u (leb-false u top e)) in
           let few : weight (λ x. one_if (in_table u x)) rows ≤ 1 = omega arith in
-          (uniques_hold rows u few table.uniques, once_at_most rows u few table.at_most)
+          (or_uniques table.kept rows u table.uniques (uniques_hold rows u few table.uniques), once_at_most rows u few table.at_most)
     ] in
-    subst (λ (m : ℕ). (list_all (λ rule. unique_holds rows m rule.column) table.uniques ≡ true) × (at_most_holds rows m table.at_most ≡ true)) z (step (nat_le u top) refl))
+    subst (λ (m : ℕ). (list_all (λ rule. keeps_least table.kept rule.column || unique_holds rows m rule.column) table.uniques ≡ true) × (at_most_holds rows m table.at_most ≡ true)) z (step (nat_le u top) refl))
 
 -- a needed row is one that names nothing else
 pub filled_plain_but : (items : List Item) (name : RowName) (number : ℕ) (cs : List Column) (vs : List Value) → filled_but items None name number cs vs ≡ filled items cs vs
@@ -123,8 +127,9 @@ module _ (rules : Rules) (sound : IsSound rules.tables) (samples : AreSampled ru
         → (t : ℕ) → t ≤ top → (skip : Option ℕ) (r : ℕ × Action) → IsNaming r skip 0 (table_of rules t).columns → list_all (has_table shared) (needed_but skip 0 (table_of rules t).columns) ≡ true
         → ((number : ℕ) → is_skipped skip number ≡ true → IsThere rules (rows_of older) (row_numbered (length older)) r.0)
         → ((number : ℕ) → is_skipped skip number ≡ true → not (is_restrict r.1) ≡ true → (r.0 == t) ≡ false)
+        → is_new_in (kept_of rules t) (rows_of older) (row_of (suc (length older)) (item_naming rules shared t skip (length older))) ≡ true
         → PathPasses t (item_naming rules shared t skip (length older) ∷ older)
-    path_more older pass low sub longer t l skip r naming needs there far =
+    path_more older pass low sub longer t l skip r naming needs there far new =
         let x = item_naming rules shared t skip (length older) in
         let id = suc (length older) in
         let cs = (table_of rules t).columns in
@@ -135,6 +140,7 @@ module _ (rules : Rules) (sound : IsSound rules.tables) (samples : AreSampled ru
             record {
               inserted = naming_inserts rules samples shared made t known skip (length older) r naming needs (rows_of older) sub there far id;
               limits = bare_limits rules top bare (row_of id x ∷ rows_of older) lower;
+              fresh = new;
             },
             pass,
           );
@@ -154,9 +160,9 @@ module _ (rules : Rules) (sound : IsSound rules.tables) (samples : AreSampled ru
         let r : ℕ × Action = (u, action.Cascade) in
         let z : 0 + c ≡ c = omega arith in subst (λ (k : ℕ). IsNaming r (Some k) 0 (table_of rules s).columns) z (naming_some r 0 c (table_of rules s).columns at)
 
-    pub path_passes : (t : ℕ) (steps : List Step) → Leads rules t steps → t ≤ top → AllByRecursion HasNeeds steps → PathPasses t (path_items rules shared steps)
-    path_passes t [] leads l needs = absurd leads
-    path_passes t (s ∷ steps) leads l needs =
+    pub path_passes : (t : ℕ) (steps : List Step) → Leads rules t steps → t ≤ top → AllByRecursion HasNeeds steps → AllByRecursion (λ s. is_none (kept_of rules s.table) ≡ true) steps → PathPasses t (path_items rules shared steps)
+    path_passes t [] leads l needs plain = absurd leads
+    path_passes t (s ∷ steps) leads l needs plain =
         let low_table : s.table ≤ top = subst (λ (n : ℕ). n ≤ top) (sym leads.0) l in
         let step : (o : Option ℕ) → s.column ≡ o → LeadsBy rules s.table (λ u. Leads rules u steps) steps o → PathPasses s.table (path_items rules shared (s ∷ steps)) =
         elim [
@@ -165,17 +171,19 @@ module _ (rules : Rules) (sound : IsSound rules.tables) (samples : AreSampled ru
               subst (λ (l : List Step). PathPasses s.table (path_items rules shared (s ∷ l))) (sym on.0)
               (subst (λ (o : Option ℕ). PathPasses s.table (item_naming rules shared s.table o (length shared) ∷ shared)) (sym e)
               (path_more shared shared_pass (λ u above. fresh u (omega arith)) (record { more = λ p h. h }) (omega arith) s.table low_table None none (naming_none none 0 (table_of rules s.table).columns)
-              (subst (λ (o : Option ℕ). list_all (has_table shared) (needed_but o 0 (table_of rules s.table).columns) ≡ true) e needs.0) (λ number k. absurd (cc)) (λ number k. absurd (cc))))
+              (subst (λ (o : Option ℕ). list_all (has_table shared) (needed_but o 0 (table_of rules s.table).columns) ≡ true) e needs.0) (λ number k. absurd (cc)) (λ number k. absurd (cc))
+              (none_new (kept_of rules s.table) (rows_of shared) (row_of (suc (length shared)) (item_naming rules shared s.table None (length shared))) plain.0)))
           | Some c ↦ λ e on.
               let u = on.0 in
               let less : u < s.table = on.1 in
               let r : ℕ × Action = (u, action.Cascade) in
-              let rest = path_passes u steps on.3 (omega arith) needs.1 in
+              let rest = path_passes u steps on.3 (omega arith) needs.1 plain.1 in
               let older = path_items rules shared steps in
               subst (λ (o : Option ℕ). PathPasses s.table (item_naming rules shared s.table o (length older) ∷ older)) (sym e)
               (path_more older rest.pass rest.low rest.sub (let m = rest.longer in omega arith) s.table low_table (Some c) r (naming_by s.table c u on.2)
               (subst (λ (o : Option ℕ). list_all (has_table shared) (needed_but o 0 (table_of rules s.table).columns) ≡ true) e needs.0)
-              (λ number k. rest.there) (λ number k loose. ne_eqb u s.table (λ same. omega arith)))
+              (λ number k. rest.there) (λ number k loose. ne_eqb u s.table (λ same. omega arith))
+              (none_new (kept_of rules s.table) (rows_of older) (row_of (suc (length older)) (item_naming rules shared s.table (Some c) (length older))) plain.0))
         ] in
         subst (λ (n : ℕ). PathPasses n (path_items rules shared (s ∷ steps))) leads.0 (step s.column refl leads.1)
 
@@ -242,7 +250,7 @@ module _ (rules : Rules) (sound : IsSound rules.tables) (samples : AreSampled ru
           | None ↦ λ e on.
               let is_end : suc (length older) ≡ end = ap (λ (l : List Step). suc (length (path_items rules shared l))) on.0 in
               ap (λ (n : ℕ). is_visible rules g (row_numbered n)) is_end
-              ∙ visible_is rules g f (row_numbered end) ∙ and_right _ (not (is_deleted g (row_numbered end))) (not_from_true _ gone)
+              ∙ gone_hidden rules g (ones_from rules g.inserted f.founded) (resting rules sound g.inserted f.founded) (row_numbered end) gone
           | Some c ↦ λ e on.
               let u = on.0 in
               let less : u < s.table = on.1 in

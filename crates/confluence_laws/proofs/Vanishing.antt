@@ -1,15 +1,16 @@
 -- From a table that is not permanent a path leads to one whose rows can be deleted.
-use Rattle.std.proofs.Common.{◌≡◌, ℕ, ◌+◌, ◌==◌, ◌<◌, ◌≤◌, zero, suc, Bool, true, false, cond, not, ◌&&◌, ◌||◌, List, [], ◌∷◌, length, refl, ap, ap₂, ◌∙◌, subst, Option, Some, None, arith, nat_le}
+use Rattle.std.proofs.Common.{◌≡◌, ℕ, ◌+◌, ◌==◌, ◌<◌, ◌≤◌, zero, suc, Bool, true, false, cond, not, ◌&&◌, ◌||◌, List, [], ◌∷◌, ◌++◌, length, refl, sym, is_none, ap, ap₂, ◌∙◌, subst, Option, Some, None, arith, nat_le}
 use Rattle.std.specs.List.{list_all, AllByRecursion}
-use Rattle.std.proofs.lemmas.Bool.{and_from, both_ways, eq-eqb, leb-false, lt-leb, or_parts, not_from_false}
+use Rattle.std.proofs.lemmas.Bool.{and_from, and_parts, ne_eqb, both_ways, eq-eqb, leb-false, lt-leb, or_parts, not_from_false}
 use Rattle.schema.specs.declared.action.Action.{Action}
 use Rattle.schema.specs.declared.action.Action.TheVariants as action
 use Rattle.schema.specs.declared.column.Column.{Column}
 use Rattle.schema.specs.declared.column.ColumnKind.{ColumnKind}
 use Rattle.schema.specs.Columns.{target_of, reference_at}
 use Rattle.schema.specs.Sound.{IsSoundKind, IsSoundColumn}
-use Rattle.table_model.specs.Visible.{Rules, table_of, is_cascade}
-use Rattle.confluence_laws.specs.Confluence.{cascade_target, cascade_targets, permanent_to, is_permanent}
+use Rattle.table_model.proofs.KeptTables.{steady_to}
+use Rattle.table_model.specs.Visible.{Rules, cascade_target, cascade_targets, kept_of, table_of, is_cascade}
+use Rattle.confluence_laws.specs.Confluence.{permanent_to, is_permanent}
 use Rattle.confluence_laws.specs.Examples.{Step, step_by, next_step, path_by, path_from}
 use Rattle.schema.proofs.Soundness.{IsSound, kind_of_target, target_below}
 use Rattle.table_model.proofs.Founded.{all-append}
@@ -103,6 +104,47 @@ module _ (rules : Rules) (t : ℕ) where
       let r = step (target_of c.kind) e in
       all-append test (cascade_target (target_of c.kind)) (cascade_targets cs) r.0 (next_none cs (number + 1) r.1)
 
+-- ---- tables whose rows are hidden for no lesser one
+
+all_behind : {X : Type 0} (q : X → Bool) (xs ys : List X) → list_all q (xs ++ ys) ≡ true → list_all q ys ≡ true
+all_behind q [] ys h = h
+all_behind q (x ∷ xs) ys h = all_behind q xs ys (and_parts (q x) _ h).1
+
+led_at : (q : ℕ → Bool) (cs : List Column) (place u : ℕ) → reference_at cs place ≡ Some (u, action.Cascade) → list_all q (cascade_targets cs) ≡ true → q u ≡ true
+led_at q [] place u e h = absurd cc
+led_at q (c ∷ cs) zero u e h =
+    let one : ℕ × Action = (u, action.Cascade) in
+    let to : target_of c.kind ≡ Some one = e in
+    (and_parts (q u) _ (subst (λ (o : Option (ℕ × Action)). list_all q (cascade_target o ++ cascade_targets cs) ≡ true) to h)).0
+led_at q (c ∷ cs) (suc place) u e h = led_at q cs place u e (all_behind q (cascade_target (target_of c.kind)) (cascade_targets cs) h)
+
+pub steady_plain : (rules : Rules) (sd t : ℕ) → steady_to rules sd t ≡ true → is_none (kept_of rules t) ≡ true
+unfolding steady_to
+steady_plain rules zero t st = absurd cc
+steady_plain rules (suc sd) t st = (and_parts (is_none (kept_of rules t)) _ st).0
+
+steady_next : (rules : Rules) (sd t : ℕ) → steady_to rules sd t ≡ true → (place u : ℕ) → reference_at (table_of rules t).columns place ≡ Some (u, action.Cascade) → (u == t) ≡ false → (d : ℕ) × (steady_to rules d u ≡ true)
+unfolding steady_to
+steady_next rules zero t st place u e apart = absurd cc
+steady_next rules (suc sd) t st place u e apart =
+    let parts = and_parts (is_none (kept_of rules t)) _ st in
+    let either = led_at (λ v. (v == t) || steady_to rules sd v) (table_of rules t).columns place u e parts.1 in
+    (sd, ap (λ (b : Bool). b || steady_to rules sd u) (sym apart) ∙ either)
+
+-- the tables of a path from one are such tables
+pub plain_steps : (rules : Rules) (sd t : ℕ) → steady_to rules sd t ≡ true → (steps : List Step) → Leads rules t steps → AllByRecursion (λ s. is_none (kept_of rules s.table) ≡ true) steps
+plain_steps rules sd t st [] leads = absurd leads
+plain_steps rules sd t st (s ∷ steps) leads =
+    let here : steady_to rules sd s.table ≡ true = subst (λ (n : ℕ). steady_to rules sd n ≡ true) (sym leads.0) st in
+    let step : (o : Option ℕ) → LeadsBy rules s.table (λ u. Leads rules u steps) steps o → AllByRecursion (λ s. is_none (kept_of rules s.table) ≡ true) steps = elim [
+      | None ↦ λ on. subst (AllByRecursion (λ (x : Step). is_none (kept_of rules x.table) ≡ true)) (sym on.0) tt
+      | Some c ↦ λ on.
+          let less : on.0 < s.table = on.1 in
+          let next = steady_next rules sd s.table here c on.0 on.2 (ne_eqb on.0 s.table (λ same. omega arith)) in
+          plain_steps rules next.0 on.0 next.1 steps on.3
+    ] in
+    (steady_plain rules sd s.table here, step s.column leads.1)
+
 module _ (rules : Rules) (sound : IsSound rules.tables) where
   strictly : (a b : ℕ) → a ≤ b → (a == b) ≡ false → a < b
   strictly a b l e = let apart : a ≡ b → ⊥ = λ same. both_ways _ e (eq-eqb a b same) in below a b l apart
@@ -116,7 +158,7 @@ module _ (rules : Rules) (sound : IsSound rules.tables) where
   permanent_same zero u l = absurd (omega arith)
   permanent_same (suc depth) u l =
       let targets = cascade_targets (table_of rules u).columns in
-      ap (λ b. not (table_of rules u).deletable && b)
+      ap (λ b. (not (table_of rules u).deletable && is_none (kept_of rules u)) && b)
       (all_agree (λ v. (v == u) || permanent_to rules depth v) (λ v. (v == u) || permanent_to rules (suc depth) v) targets
       (each_weaker (λ v. v ≤ u) (λ v. ((v == u) || permanent_to rules depth v) ≡ ((v == u) || permanent_to rules (suc depth) v))
       (λ v low.
@@ -126,11 +168,11 @@ module _ (rules : Rules) (sound : IsSound rules.tables) where
       targets (targets_low u (table_of rules u).columns (sound u).columns)))
 
   -- a table whose CASCADE targets are permanent is permanent where its rows cannot be deleted
-  permanent_from : (t : ℕ) (deep : ℕ) → deep ≡ length rules.tables → t < deep → (table_of rules t).deletable ≡ false
+  permanent_from : (t : ℕ) (deep : ℕ) → deep ≡ length rules.tables → t < deep → (table_of rules t).deletable ≡ false → is_none (kept_of rules t) ≡ true
       → list_all (λ u. (u == t) || is_permanent rules u) (cascade_targets (table_of rules t).columns) ≡ true → permanent_to rules deep t ≡ true
   unfolding permanent_to
-  permanent_from t zero e l d h = absurd (omega arith)
-  permanent_from t (suc depth) e l d h =
+  permanent_from t zero e l d plain h = absurd (omega arith)
+  permanent_from t (suc depth) e l d plain h =
       let targets = cascade_targets (table_of rules t).columns in
       let agree = all_agree (λ u. (u == t) || permanent_to rules depth u) (λ u. (u == t) || is_permanent rules u) targets
       (each_weaker (λ v. v ≤ t) (λ v. ((v == t) || permanent_to rules depth v) ≡ ((v == t) || is_permanent rules v))
@@ -142,11 +184,11 @@ module _ (rules : Rules) (sound : IsSound rules.tables) where
       ] in
       step (v == t) refl)
       targets (targets_low t (table_of rules t).columns (sound t).columns)) in
-      and_from _ _ (not_from_false _ d) (agree ∙ h)
+      and_from _ _ (and_from _ _ (not_from_false _ d) plain) (agree ∙ h)
 
-  pub path_leads : (depth t : ℕ) → t < depth → nat_le (length rules.tables) t ≡ false → is_permanent rules t ≡ false → Leads rules t (path_from rules depth t)
-  path_leads zero t l known v = absurd (omega arith)
-  path_leads (suc depth) t l known v =
+  pub path_leads : (depth t : ℕ) → t < depth → nat_le (length rules.tables) t ≡ false → is_permanent rules t ≡ false → (sd : ℕ) → steady_to rules sd t ≡ true → Leads rules t (path_from rules depth t)
+  path_leads zero t l known v sd st = absurd (omega arith)
+  path_leads (suc depth) t l known v sd st =
       let cs = (table_of rules t).columns in
       let bound = leb-false (length rules.tables) t known in
       let choice : (b : Bool) → (table_of rules t).deletable ≡ b
@@ -156,14 +198,15 @@ module _ (rules : Rules) (sound : IsSound rules.tables) where
         | false ↦ λ e.
             let step : (o : Option (ℕ × ℕ)) → next_step rules t 0 cs ≡ o → Leads rules t (path_by t (path_from rules depth) o) =
             elim [
-              | None ↦ λ g. absurd (both_ways _ v (permanent_from t (length rules.tables) refl bound e (next_none rules t cs 0 g)))
+              | None ↦ λ g. absurd (both_ways _ v (permanent_from t (length rules.tables) refl bound e (steady_plain rules sd t st) (next_none rules t cs 0 g)))
               | Some s ↦ λ g.
                   let r = next_found rules t cs 0 s g in
                   let z : 0 + r.place ≡ r.place = omega arith in
                   let low : s.1 ≤ t = target_below t cs (sound t).columns r.place s.1 action.Cascade r.at in
+                  let next = steady_next rules sd t st r.place s.1 r.at r.other in
                   let less : s.1 < t = strictly s.1 t low r.other in
                   let known_next : nat_le (length rules.tables) s.1 ≡ false = lt-leb (length rules.tables) s.1 (omega arith) in
-                  (refl, (s.1, less, ap (reference_at cs) (r.is ∙ z) ∙ r.at, path_leads depth s.1 (omega arith) known_next r.vanishes))
+                  (refl, (s.1, less, ap (reference_at cs) (r.is ∙ z) ∙ r.at, path_leads depth s.1 (omega arith) known_next r.vanishes next.0 next.1))
             ] in
             step (next_step rules t 0 cs) refl
       ] in

@@ -1,15 +1,13 @@
 -- Invariants that survive merging, the rule by which they are accepted, and counterexamples.
-use Rattle.std.specs.Prelude.{ℕ, zero, suc, ◌==◌, Bool, true, false, not, ◌&&◌, ◌||◌, List, [], ◌∷◌, ◌++◌, length, reverse, Option, Some, None, IsTrue, if◌then◌else◌}
+use Rattle.std.specs.Prelude.{ℕ, zero, suc, ◌==◌, Bool, true, false, not, ◌&&◌, ◌||◌, List, [], ◌∷◌, ◌++◌, length, reverse, IsTrue, is_none}
 use Rattle.std.specs.List.{list_all}
 use Rattle.update_model.specs.Node.{NodeData}
 use Rattle.schema.specs.declared.action.Action.{Action}
 use Rattle.schema.specs.declared.action.Action.TheVariants as action
-use Rattle.schema.specs.declared.column.Column.{Column}
 use Rattle.table_model.specs.declared.counterexample.Counterexample.{Counterexample}
-use Rattle.schema.specs.Columns.{target_of}
 use Rattle.table_model.specs.Nodes.{holds, IsClosed, Agree, union}
-use Rattle.table_model.specs.Visible.{Rules, table_of, is_cascade}
-use Rattle.table_model.specs.Invariants.{Claim, Declared, Unique, AtMost, Refers, Check, Match, claim_holds, shown_in, satisfies}
+use Rattle.table_model.specs.Visible.{Rules, cascade_targets, kept_of, table_of}
+use Rattle.table_model.specs.Invariants.{Claim, Declared, Unique, UniqueKept, AtMost, Refers, Check, Match, claim_holds, shown_in, satisfies}
 
 -- Whenever two closed lists that agree satisfy the earlier invariants and this one, their union satisfies this one.
 abbrev pub IsConfluent : Rules → List Claim → Claim → Type 0
@@ -18,21 +16,12 @@ IsConfluent rules earlier claim =
     → IsTrue (satisfies rules xs (earlier ++ claim ∷ [])) → IsTrue (satisfies rules ys (earlier ++ claim ∷ []))
     → IsTrue (claim_holds rules (shown_in rules (union xs ys)) claim)
 
--- the table that a column refers to by CASCADE, if any
-abbrev pub cascade_target : Option (ℕ × Action) → List ℕ
-cascade_target None = []
-cascade_target (Some target) = if is_cascade target.1 then target.0 ∷ [] else []
-
-abbrev pub cascade_targets : List Column → List ℕ
-cascade_targets [] = []
-cascade_targets (column ∷ columns) = cascade_target (target_of column.kind) ++ cascade_targets columns
-
--- A table is permanent where it is not DELETABLE and each other table that it refers to by CASCADE is permanent. Here
--- references are followed this deep.
+-- A table is permanent where it is not DELETABLE, keeps no least row, and each other table that it refers to by CASCADE is
+-- permanent. Here references are followed this deep.
 unfoldable pub permanent_to : Rules → ℕ → ℕ → Bool
 permanent_to rules zero table = false
 permanent_to rules (suc depth) table =
-    not (table_of rules table).deletable
+    not (table_of rules table).deletable && is_none (kept_of rules table)
     && list_all (λ target. (target == table) || permanent_to rules depth target) (cascade_targets (table_of rules table).columns)
 
 -- whether a table is permanent. No chain of tables is longer than they are many
@@ -45,10 +34,11 @@ accepts_reference rules target action.Restrict = is_permanent rules target
 accepts_reference rules target action.Cascade = true
 accepts_reference rules target action.SetNull = true
 
--- The rule: CHECK, MATCH, CASCADE and SETNULL are accepted, RESTRICT where the target table is permanent, and UNIQUE and
--- ATMOST never.
+-- The rule: CHECK, MATCH, CASCADE, SETNULL and UNIQUE with KEEP LEAST are accepted, RESTRICT where the target table is permanent,
+-- and UNIQUE without KEEP LEAST and ATMOST never.
 abbrev pub accepts : Rules → Claim → Bool
 accepts rules (Unique table column) = false
+accepts rules (UniqueKept table column) = true
 accepts rules (AtMost table count) = false
 accepts rules (Refers table column target act) = accepts_reference rules target act
 accepts rules (Check table tree) = true

@@ -14,7 +14,7 @@ use Rattle.schema.specs.declared.column.Column.{Column}
 use Rattle.table_model.specs.declared.counterexample.Counterexample.{Counterexample}
 use Rattle.schema.specs.Columns.{target_of}
 use Rattle.table_model.specs.Visible.{Rules, table_of, is_cascade}
-use Rattle.table_model.specs.Invariants.{Claim, Unique, AtMost, Refers, Check, Match}
+use Rattle.table_model.specs.Invariants.{Claim, Unique, UniqueKept, AtMost, Refers, Check, Match}
 use Rattle.confluence_laws.specs.Confluence.{is_permanent}
 
 -- a row to be inserted
@@ -202,6 +202,7 @@ restrict_example rules table column target =
 -- the counterexample of an invariant that is refused
 abbrev pub example_of : Rules → Claim → Counterexample
 example_of rules (Unique table column) = unique_example rules table
+example_of rules (UniqueKept table column) = record { base = []; left = []; right = [] }
 example_of rules (AtMost table count) = at_most_example rules table count
 example_of rules (Refers table column target act) = restrict_example rules table column target
 example_of rules (Check table tree) = record { base = []; left = []; right = [] }

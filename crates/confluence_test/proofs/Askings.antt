@@ -1,5 +1,5 @@
 -- Nothing that the test computes depends on what native checks mean.
-use Rattle.std.proofs.Common.{◌≡◌, ℕ, ◌+◌, ◌-◌, ◌==◌, zero, suc, Bool, true, false, cond, not, ◌&&◌, ◌||◌, List, [], ◌∷◌, ◌++◌, length, reverse, refl, sym, ap, ◌∙◌, subst, Option, Some, None}
+use Rattle.std.proofs.Common.{◌≡◌, ℕ, ◌+◌, ◌-◌, ◌==◌, zero, suc, Bool, true, false, cond, not, ◌&&◌, ◌||◌, List, [], ◌∷◌, ◌++◌, length, reverse, refl, sym, ap, ◌∙◌, subst, Option, Some, None, is_none}
 use Rattle.std.specs.Prelude.{IsTrue}
 use Rattle.std.specs.List.{list_all, flat_map}
 use Rattle.std.proofs.Math.Path.{fun_ext}
@@ -10,9 +10,9 @@ use Rattle.schema.specs.declared.column.Column.{Column}
 use Rattle.table_model.specs.declared.counterexample.Counterexample.{Counterexample}
 use Rattle.schema.specs.declared.table_def.TableDef.{TableDef}
 use Rattle.schema.specs.Columns.{target_of}
-use Rattle.table_model.specs.Visible.{Rules, table_of, is_cascade, bare_rules, rules_with}
-use Rattle.table_model.specs.Invariants.{Claim, Unique, AtMost, Refers, Check, Match, Declared, invariants_of}
-use Rattle.confluence_laws.specs.Confluence.{cascade_targets, permanent_to, is_permanent, accepts, are_accepted}
+use Rattle.table_model.specs.Visible.{Rules, cascade_targets, table_of, is_cascade, bare_rules, rules_with}
+use Rattle.table_model.specs.Invariants.{Claim, Unique, UniqueKept, AtMost, Refers, Check, Match, Declared, invariants_of}
+use Rattle.confluence_laws.specs.Confluence.{permanent_to, is_permanent, accepts, are_accepted}
 use Rattle.confluence_laws.specs.Examples.{Item, Step, has_table, item_of, needed_tables, needed_but, for_each, need, base_of, twice_after, copies, step_by, next_step, path_by, path_from, path_items, item_naming, shared_of, restrict_example, example_of}
 use Rattle.confluence_test.specs.Findings.{first_refused}
 use Rattle.confluence_test.proofs.Restricts.{sides_of, after_path}
@@ -29,13 +29,14 @@ module _ (tables : List TableDef) (ask : ℕ → List Value → Bool) where
   unfolding permanent_to
   same_to zero = refl
   same_to (suc depth) =
-      fun_ext λ t. ap (λ (f : ℕ → Bool). not (table_of alone t).deletable && list_all (λ target. (target == t) || f target) (cascade_targets (table_of alone t).columns)) (same_to depth)
+      fun_ext λ t. ap (λ (f : ℕ → Bool). not (table_of alone t).deletable && is_none (table_of alone t).kept && list_all (λ target. (target == t) || f target) (cascade_targets (table_of alone t).columns)) (same_to depth)
 
   same_permanent : (t : ℕ) → is_permanent asked t ≡ is_permanent alone t
   same_permanent t = ap (λ (f : ℕ → Bool). f t) (same_to (length tables))
 
   same_accepts : (claim : Claim) → accepts asked claim ≡ accepts alone claim
   same_accepts (Unique table column) = refl
+  same_accepts (UniqueKept table column) = refl
   same_accepts (AtMost table count) = refl
   same_accepts (Refers table column target action.Restrict) = same_permanent target
   same_accepts (Refers table column target action.Cascade) = refl
@@ -95,6 +96,7 @@ module _ (tables : List TableDef) (ask : ℕ → List Value → Bool) where
 
   same_example : (claim : Claim) → example_of asked claim ≡ example_of alone claim
   same_example (Unique table column) = ap (λ (l : List Item). twice_after l (item_of alone l table)) (same_base table)
+  same_example (UniqueKept table column) = refl
   same_example (AtMost table count) = ap (λ (l : List Item). twice_after (copies (count - 1) (item_of alone l table) l) (item_of alone l table)) (same_base table)
   same_example (Refers table column target act) = same_restrict table column target
   same_example (Check table tree) = refl

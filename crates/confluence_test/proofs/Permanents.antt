@@ -1,5 +1,5 @@
 -- Which tables are permanent, table by table.
-use Rattle.std.proofs.Common.{◌≡◌, ℕ, ◌+◌, ◌==◌, ◌<◌, ◌≤◌, zero, suc, Bool, true, false, cond, not, ◌&&◌, ◌||◌, List, [], ◌∷◌, ◌++◌, length, refl, sym, ap, ◌∙◌, arith, Option, Some, None, IfSome, length-append, ◌⊎◌, inl, inr}
+use Rattle.std.proofs.Common.{◌≡◌, ℕ, ◌+◌, ◌==◌, ◌<◌, ◌≤◌, zero, suc, Bool, true, false, cond, not, ◌&&◌, ◌||◌, List, [], ◌∷◌, ◌++◌, length, refl, sym, ap, ◌∙◌, arith, Option, Some, None, is_none, IfSome, length-append, ◌⊎◌, inl, inr}
 use Rattle.std.proofs.Math.Nat.{eq-or-lt_of_le}
 use Rattle.std.specs.List.{list_all, AllByRecursion}
 use Rattle.std.proofs.lemmas.Bool.{eqb-false}
@@ -8,8 +8,8 @@ use Rattle.schema.specs.declared.column.Column.{Column}
 use Rattle.schema.specs.declared.table_def.TableDef.{TableDef}
 use Rattle.schema.specs.Columns.{target_of}
 use Rattle.schema.specs.Sound.{IsSoundColumn, AreTables}
-use Rattle.table_model.specs.Visible.{table_of, is_cascade, bare_rules}
-use Rattle.confluence_laws.specs.Confluence.{cascade_target, cascade_targets, permanent_to, is_permanent}
+use Rattle.table_model.specs.Visible.{table_of, is_cascade, bare_rules, cascade_target, cascade_targets}
+use Rattle.confluence_laws.specs.Confluence.{permanent_to, is_permanent}
 use Rattle.confluence_test.specs.Plans.{permanent_at, keeps, all_keep, is_permanent_by}
 use Rattle.confluence_test.proofs.Sounds.{sound_columns, low_target}
 
@@ -58,7 +58,7 @@ unfolding permanent_to
 stable tables sound t zero e h k = absurd (omega arith)
 stable tables sound t (suc d) zero h k = absurd (omega arith)
 stable tables sound t (suc d) (suc e) h k =
-    ap (λ (b : Bool). not (table_of (bare_rules tables) t).deletable && b)
+    ap (λ (b : Bool). not (table_of (bare_rules tables) t).deletable && is_none (table_of (bare_rules tables) t).kept && b)
     (same_targets t (permanent_to (bare_rules tables) d) (permanent_to (bare_rules tables) e) (λ u low. stable tables sound u d e (omega arith) (omega arith)) (table_of (bare_rules tables) t).columns (sound_columns tables sound t))
 
 -- what is known of earlier tables tells of this one
@@ -68,7 +68,7 @@ is_by : (tables : List TableDef) → AreTables [] tables → (permanence : List 
 unfolding permanent_to
 is_by tables sound permanence number zero is known says = absurd (omega arith)
 is_by tables sound permanence number (suc depth) is known says =
-    ap (λ (b : Bool). not (table_of (bare_rules tables) number).deletable && b)
+    ap (λ (b : Bool). not (table_of (bare_rules tables) number).deletable && is_none (table_of (bare_rules tables) number).kept && b)
     (keeps_all permanence number (table_of (bare_rules tables) number).columns
     ∙ same_targets number (permanent_at permanence) (permanent_to (bare_rules tables) depth) (λ u low. says u low ∙ stable tables sound u (suc depth) depth (omega arith) (omega arith))
     (table_of (bare_rules tables) number).columns (sound_columns tables sound number))

@@ -1,7 +1,8 @@
 -- Looking for the first invariant that is refused.
-use Rattle.std.proofs.Common.{◌≡◌, ℕ, ◌+◌, ◌==◌, ◌<◌, ◌≤◌, suc, Bool, true, false, cond, not, List, [], ◌∷◌, ◌++◌, length, drop, get_or, refl, sym, ap, ◌∙◌, subst, arith, add-one, drop-cons, Option, Some, None, unwrap_or, slice_get, IfSome}
+use Rattle.std.proofs.Common.{◌≡◌, ℕ, ◌+◌, ◌==◌, ◌<◌, ◌≤◌, suc, Bool, true, false, cond, not, List, [], ◌∷◌, ◌++◌, length, drop, get_or, refl, sym, ap, ◌∙◌, subst, arith, add-one, drop-cons, Option, Some, None, is_none, unwrap_or, slice_get, IfSome}
 use Rattle.std.specs.Option.{option_or, option_map}
 use Rattle.std.specs.List.{AllByRecursion}
+use Rattle.std.proofs.lemmas.Bool.{eq-eqb}
 use Rattle.std.proofs.lemmas.List.Folds.{find-append}
 use Rattle.std.proofs.lemmas.Option.{slice_get-get_or}
 use Rattle.schema.specs.declared.action.Action.{Action}
@@ -11,14 +12,16 @@ use Rattle.table_model.specs.declared.invariant.InvariantKind.TheVariants as kin
 use Rattle.schema.specs.declared.rules.UniqueRule.{UniqueRule}
 use Rattle.schema.specs.declared.table_def.TableDef.{TableDef}
 use Rattle.schema.specs.Columns.{target_of}
+use Rattle.schema.specs.Least.{IsKeptAlone}
 use Rattle.schema.specs.Sound.{IsSoundColumn, AreTables}
 use Rattle.schema.specs.Numbers.{no_table}
+use Rattle.table_model.specs.Verdicts.{keeps_least}
 use Rattle.table_model.specs.Visible.{Rules, table_of, bare_rules}
-use Rattle.table_model.specs.Invariants.{Refers, Declared, each_from, unique_declared, at_most_declared, refers_declared, reference_declared, check_declared, match_declared, table_declared}
+use Rattle.table_model.specs.Invariants.{Unique, UniqueKept, Refers, Declared, declared_at, each_from, unique_declared, at_most_declared, refers_declared, reference_declared, check_declared, match_declared, table_declared}
 use Rattle.confluence_laws.specs.Confluence.{accepts}
 use Rattle.confluence_test.specs.declared.finding.Finding.{Finding}
 use Rattle.confluence_test.specs.Plans.{permanent_at, SaysPermanent}
-use Rattle.confluence_test.specs.Findings.{declared_of, is_refused, first_refused, accepts_to, accepts_by, refused_by, dangling}
+use Rattle.confluence_test.specs.Findings.{declared_of, is_refused, first_refused, accepts_to, accepts_by, refused_by, unique_refused, dangling}
 use Rattle.confluence_test.proofs.Listing.{drop_next, each_append}
 use Rattle.confluence_test.proofs.Sounds.{sound_columns, low_target}
 
@@ -84,9 +87,16 @@ none_refused : {X : Type 0} (permanence : List Bool) (declares : ℕ → X → L
 none_refused permanence declares one k [] = refl
 none_refused permanence declares one k (x ∷ xs) = one k x (each_from declares (k + 1) xs) ∙ none_refused permanence declares one (k + 1) xs
 
-uniques_first : (permanence : List Bool) (number : ℕ) (uniques : List UniqueRule) → refused_by permanence (each_from (unique_declared number) 0 uniques) ≡ slice_get (each_from (unique_declared number) 0 uniques) 0
-uniques_first permanence number [] = refl
-uniques_first permanence number (rule ∷ rules) = refl
+uniques_first : (permanence : List Bool) (number most : ℕ) (kept : Option ℕ) (uniques : List UniqueRule) → IsKeptAlone uniques most kept
+    → refused_by permanence (each_from (unique_declared kept number) 0 uniques) ≡ cond (is_none kept) (slice_get (each_from (unique_declared None number) 0 uniques) 0) None
+uniques_first permanence number most None [] alone = refl
+uniques_first permanence number most None (rule ∷ rules) alone = refl
+uniques_first permanence number most (Some column) uniques alone =
+    let rule = alone.0 in
+    let least = declared_at kind.UniqueKept number 0 rule.line (UniqueKept number rule.column) in
+    let other = declared_at kind.Unique number 0 rule.line (Unique number rule.column) in
+    ap (λ (us : List UniqueRule). refused_by permanence (each_from (unique_declared (Some column) number) 0 us)) alone.1
+    ∙ ap (λ (b : Bool). refused_by permanence (cond b least other ++ [])) (eq-eqb column rule.column (sym alone.2))
 
 at_most_first : (permanence : List Bool) (number : ℕ) (table : TableDef) → refused_by permanence (at_most_declared number table) ≡ slice_get (at_most_declared number table) 0
 at_most_first permanence number table =
@@ -103,12 +113,12 @@ or_none : (a : Option Declared) → option_or a None ≡ a
 or_none None = refl
 or_none (Some x) = refl
 
-pub table_first : (permanence : List Bool) (number : ℕ) (table : TableDef) (u a r : Option Finding)
-    → option_map declared_of u ≡ slice_get (each_from (unique_declared number) 0 table.uniques) 0 → option_map declared_of a ≡ slice_get (at_most_declared number table) 0
+pub table_first : (permanence : List Bool) (number : ℕ) (table : TableDef) → IsKeptAlone table.uniques table.at_most table.kept → (u a r : Option Finding)
+    → option_map declared_of u ≡ unique_refused number table → option_map declared_of a ≡ slice_get (at_most_declared number table) 0
     → option_map declared_of r ≡ refused_by permanence (references_from number 0 table.columns) → option_map declared_of (option_or (option_or u a) r) ≡ refused_by permanence (table_declared number table)
-table_first permanence number table u a r first most references =
+table_first permanence number table alone u a r first most references =
     let test = λ (d : Declared). not (accepts_by permanence d.claim) in
-    let A = each_from (unique_declared number) 0 table.uniques in
+    let A = each_from (unique_declared table.kept number) 0 table.uniques in
     let B = at_most_declared number table in
     let C = references_from number 0 table.columns in
     let D = each_from (check_declared number) 0 table.checks in
@@ -122,7 +132,7 @@ table_first permanence number table u a r first most references =
     let all : refused_by permanence (table_declared number table) ≡ option_or (option_or (refused_by permanence A) (refused_by permanence B)) (refused_by permanence C) =
     find-append test (A ++ B ++ C ++ D) E ∙ ap (option_or (refused_by permanence (A ++ B ++ C ++ D))) e ∙ or_none (refused_by permanence (A ++ B ++ C ++ D)) ∙ abcd ∙ abc in
     map_or (option_or u a) r ∙ ap (λ (o : Option Declared). option_or o (option_map declared_of r)) (map_or u a)
-    ∙ ap (λ (o : Option Declared). option_or (option_or o (option_map declared_of a)) (option_map declared_of r)) (first ∙ sym (uniques_first permanence number table.uniques))
+    ∙ ap (λ (o : Option Declared). option_or (option_or o (option_map declared_of a)) (option_map declared_of r)) (first ∙ sym (uniques_first permanence number table.at_most table.kept table.uniques alone))
     ∙ ap (λ (o : Option Declared). option_or (option_or (refused_by permanence A) o) (option_map declared_of r)) (most ∙ sym (at_most_first permanence number table))
     ∙ ap (option_or (option_or (refused_by permanence A) (refused_by permanence B))) references ∙ sym all
 
@@ -163,16 +173,17 @@ pub same_refused : (rules : Rules) (permanence : List Bool) → SaysPermanent ru
     → first_refused rules (table_declared number table) ≡ refused_by permanence (table_declared number table)
 same_refused rules permanence says number known table sound =
     let P = Agrees rules permanence in
-    let A = each_from (unique_declared number) 0 table.uniques in
+    let A = each_from (unique_declared table.kept number) 0 table.uniques in
     let B = at_most_declared number table in
     let C = references_from number 0 table.columns in
     let D = each_from (check_declared number) 0 table.checks in
     let E = each_from (match_declared number) 0 table.matches in
+    let either : (b : Bool) (d e : Declared) → P d → P e → AllByRecursion P (cond b (d ∷ []) (e ∷ [])) = elim [ true ↦ λ d e p q. (p, tt) | false ↦ λ d e p q. (q, tt) ] in
     let most : (b : Bool) (d : Declared) → P d → AllByRecursion P (cond b [] (d ∷ [])) = elim [ true ↦ λ d p. tt | false ↦ λ d p. (p, tt) ] in
     same_first rules permanence (table_declared number table)
     (each_append P (A ++ B ++ C ++ D) E
     (each_append P (A ++ B ++ C) D
-    (each_append P (A ++ B) C (each_append P A B (each_all P (unique_declared number) (λ k x. (refl, tt)) 0 table.uniques) (most (table.at_most == 0) _ refl))
+    (each_append P (A ++ B) C (each_append P A B (each_all P (unique_declared table.kept number) (λ k x. either (keeps_least table.kept x.column) _ _ refl refl) 0 table.uniques) (most (table.at_most == 0) _ refl))
     (references_agree rules permanence says number known 0 table.columns sound))
     (each_all P (check_declared number) (λ k x. (refl, tt)) 0 table.checks))
     (each_all P (match_declared number) (λ k x. (refl, tt)) 0 table.matches))

@@ -8,6 +8,7 @@ use Rattle.schema.specs.declared.column.ColumnKind.TheVariants as kind
 use Rattle.schema.specs.declared.table_def.TableDef.{TableDef}
 use Rattle.schema.specs.Columns.{target_of}
 use Rattle.confluence_laws.specs.Examples.{needed_by, needed_but, is_skipped}
+use Rattle.schema.specs.Least.{IsKeptAlone}
 use Rattle.schema.specs.Sound.{IsSoundKind, IsSoundColumn, AreTables}
 use Rattle.schema.specs.Numbers.{no_table}
 use Rattle.table_model.specs.Visible.{table_of, bare_rules}
@@ -18,6 +19,7 @@ pub record IsSoundAt (number : ℕ) (table : TableDef) : Type 0 where
   pub columns : AllByRecursion (IsSoundColumn number) table.columns
   pub few_columns : length table.columns ≤ 16
   pub few_rows : table.at_most ≤ 64
+  pub kept : IsKeptAlone table.uniques table.at_most table.kept
 
 sound_from : (before tables : List TableDef) → AreTables before tables → (i : ℕ) (table : TableDef) → slice_get tables i ≡ Some table → IsSoundAt (length before + i) table
 sound_from before [] h i table at = absurd (cc)
@@ -25,7 +27,7 @@ sound_from before (t ∷ tables) h zero table at =
     let same : t ≡ table = cc in
     let n : length before ≡ length before + 0 = omega arith in
     subst (λ (m : ℕ). IsSoundAt m table) n
-    (subst (λ (x : TableDef). IsSoundAt (length before) x) same (record { columns = h.0.sound.columns; few_columns = h.0.sound.few_columns; few_rows = h.0.sound.at_most }))
+    (subst (λ (x : TableDef). IsSoundAt (length before) x) same (record { columns = h.0.sound.columns; few_columns = h.0.sound.few_columns; few_rows = h.0.sound.at_most; kept = h.0.sound.kept }))
 sound_from before (t ∷ tables) h (suc i) table at =
     let n : length (before ++ t ∷ []) + i ≡ length before + suc i = (let e = length-append before (t ∷ []) in omega arith) in
     subst (λ (m : ℕ). IsSoundAt m table) n (sound_from (before ++ t ∷ []) tables h.1 i table at)

@@ -1,9 +1,10 @@
 -- Invariants that are refused, as the scan of a schema finds them.
-use Rattle.std.specs.Prelude.{◌≡◌, ℕ, ◌<◌, ◌≤◌, Bool, true, false, not, List, find, Option, None, Some, if◌then◌else◌}
+use Rattle.std.specs.Prelude.{◌≡◌, ℕ, ◌<◌, ◌≤◌, Bool, true, false, not, List, find, slice_get, Option, None, Some, is_none, if◌then◌else◌}
 use Rattle.schema.specs.declared.action.Action.{Action}
 use Rattle.schema.specs.declared.action.Action.TheVariants as action
+use Rattle.schema.specs.declared.table_def.TableDef.{TableDef}
 use Rattle.table_model.specs.Visible.{Rules}
-use Rattle.table_model.specs.Invariants.{Claim, Unique, AtMost, Refers, Check, Match, Declared}
+use Rattle.table_model.specs.Invariants.{Claim, Unique, UniqueKept, AtMost, Refers, Check, Match, Declared, each_from, unique_declared}
 use Rattle.confluence_laws.specs.Confluence.{accepts}
 use Rattle.confluence_test.specs.Plans.{permanent_at}
 use Rattle.confluence_test.specs.declared.finding.Finding.{Finding}
@@ -36,6 +37,7 @@ accepts_to permanence target action.SetNull = true
 -- whether it accepts an invariant, by what a list says of tables
 abbrev pub accepts_by : List Bool → Claim → Bool
 accepts_by permanence (Unique table column) = false
+accepts_by permanence (UniqueKept table column) = true
 accepts_by permanence (AtMost table count) = false
 accepts_by permanence (Refers table column target act) = accepts_to permanence target act
 accepts_by permanence (Check table tree) = true
@@ -44,6 +46,10 @@ accepts_by permanence (Match table rule) = true
 -- the first one that it refuses, by what a list says of tables
 abbrev pub refused_by : List Bool → List Declared → Option Declared
 refused_by permanence declared = find (λ d. not (accepts_by permanence d.claim)) declared
+
+-- the first UNIQUE of a table, which is refused, unless the table keeps the least row
+abbrev pub unique_refused : ℕ → TableDef → Option Declared
+unique_refused number table = if is_none table.kept then slice_get (each_from (unique_declared None number) 0 table.uniques) 0 else None
 
 -- the table that a column refers to, where that is by RESTRICT and the table is not permanent by what a list says
 abbrev pub dangling : List Bool → Option (ℕ × Action) → Option ℕ

@@ -1,5 +1,5 @@
 -- What the building of counterexamples keeps.
-use Rattle.std.specs.Prelude.{◌≡◌, ℕ, ◌<◌, ◌+◌, ◌==◌, Bool, true, false, not, ◌&&◌, ◌||◌, List, [], ◌∷◌, length, unwrap_or, slice_get, Option, None, Some, if◌then◌else◌}
+use Rattle.std.specs.Prelude.{◌≡◌, ℕ, ◌<◌, ◌+◌, ◌==◌, Bool, true, false, not, ◌&&◌, ◌||◌, List, [], ◌∷◌, length, unwrap_or, slice_get, Option, None, Some, is_none, if◌then◌else◌}
 use Rattle.std.specs.List.{list_all, AllByRecursion}
 use Rattle.schema.specs.declared.action.Action.{Action}
 use Rattle.schema.specs.declared.table_def.TableDef.{TableDef}
@@ -30,7 +30,7 @@ all_keep permanence table columns = list_all (λ column. keeps permanence table 
 -- whether a table is permanent, by what a list says of the others
 abbrev pub is_permanent_by : List Bool → ℕ → TableDef → Bool
 is_permanent_by permanence number table =
-    not table.deletable && all_keep permanence number table.columns
+    not table.deletable && is_none table.kept && all_keep permanence number table.columns
 
 -- A list says of each table whether it is permanent.
 abbrev pub SaysPermanent : Rules → List Bool → Type 0

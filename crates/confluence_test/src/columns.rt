@@ -4,6 +4,7 @@ ghost use Rattle.std.specs.Prelude.{◌≡◌, ◌<◌, ◌≤◌, [], length};
 ghost use Rattle.std.specs.List.{AllByRecursion};
 ghost use Rattle.schema.specs.Columns.{target_of};
 ghost use Rattle.confluence_laws.specs.Examples.{is_skipped};
+ghost use Rattle.schema.specs.Least.{IsKeptAlone};
 ghost use Rattle.schema.specs.Sound.{AreTables, IsSoundColumn};
 ghost use Rattle.table_model.specs.Visible.{table_of, bare_rules};
 ghost use Rattle.confluence_test.specs.Plans.{needed_at, all_of};
@@ -17,6 +18,7 @@ pub(crate) fn table_of(schema: &Schema, number: u8) -> &TableDef
     ensures columns { AllByRecursion (IsSoundColumn number) result.now.columns }
     ensures few_columns { length result.now.columns ≤ 16 }
     ensures few_rows { result.now.at_most ≤ 64 }
+    ensures kept { IsKeptAlone result.now.uniques result.now.at_most result.now.kept }
     ensures few_tables { length schema.now.tables ≤ 16 }
     ensures sound { AreTables [] schema.now.tables }
 {

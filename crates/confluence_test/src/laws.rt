@@ -41,7 +41,7 @@ pub fn declared_refusal_is_confirmed()
     refused_is_confirmed();
 }
 
-/// Where every invariant is accepted, no table has a `UNIQUE` or an `ATMOST`.
+/// Where every invariant is accepted, no table has a `UNIQUE` without `KEEP LEAST` or an `ATMOST`.
 pub fn accepted_is_unlimited()
     ensures { (rules : Rules) → IsTrue (are_accepted rules (invariants_of rules)) → IsTrue (list_all is_unlimited rules.tables) }
 {}

@@ -9,8 +9,8 @@ use crate::columns::{table_of, target_of};
 use schema::{Action, Column, Schema, TableDef};
 use std::alloc::{AllocError, Global};
 
-/// Of each table whether it is permanent: it is not `DELETABLE`, and each other table that it refers to by `CASCADE` is
-/// permanent.
+/// Of each table whether it is permanent: it is not `DELETABLE`, keeps no least row, and each other table that it
+/// refers to by `CASCADE` is permanent.
 pub(crate) fn permanent_tables(alloc: Global, schema: &Schema) -> Result<Vec<bool>, AllocError>
     ensures { IfOk result (λ permanence. SaysPermanent (bare_rules schema.now.tables) permanence.items) }
 {
@@ -27,7 +27,9 @@ pub(crate) fn permanent_tables(alloc: Global, schema: &Schema) -> Result<Vec<boo
 fn is_permanent_by(permanence: &[bool], number: u8, table: &TableDef) -> bool
     ensures { result ≡ is_permanent_by permanence.now number table.now }
 {
-    !table.deletable && all_keep(permanence, number, table.columns.as_slice())
+    !table.deletable
+        && table.kept.is_none()
+        && all_keep(permanence, number, table.columns.as_slice())
 }
 
 /// Whether each reference of a table keeps it permanent.

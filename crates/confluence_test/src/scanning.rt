@@ -3,16 +3,17 @@
 ghost use Rattle.std.specs.Prelude.{◌≡◌, ◌<◌, ◌≤◌, length, option_map, slice_get, IfSome};
 ghost use Rattle.std.specs.List.{AllByRecursion};
 ghost use Rattle.schema.specs.Columns.{target_of};
-ghost use Rattle.table_model.specs.Invariants.{invariants_of, each_from, unique_declared, at_most_declared, reference_declared, table_declared};
+ghost use Rattle.table_model.specs.Invariants.{invariants_of, each_from, at_most_declared, reference_declared, table_declared};
+ghost use Rattle.schema.specs.Least.{IsKeptAlone};
 ghost use Rattle.schema.specs.Sound.{IsSoundColumn};
-ghost use Rattle.confluence_test.specs.Findings.{declared_of, first_refused, refused_by, dangling, IsFlawOf, IsFlaw};
+ghost use Rattle.confluence_test.specs.Findings.{declared_of, first_refused, refused_by, unique_refused, dangling, IsFlawOf, IsFlaw};
 ghost use Rattle.confluence_test.specs.Plans.{SaysPermanent};
 ghost use Rattle.table_model.specs.Visible.{bare_rules};
 
 use crate::columns::{table_of, target_of};
 use crate::finding::{Finding, Flaw};
 use crate::permanence::permanent_at;
-use schema::{Action, Column, Schema, TableDef, UniqueRule};
+use schema::{Action, Column, Schema, TableDef};
 use table_model::{Invariant, InvariantKind};
 
 /// The first invariant of a schema that is refused.
@@ -34,21 +35,26 @@ fn refused_in(permanence: &[bool], number: u8, table: &TableDef) -> Option<Findi
     requires columns { AllByRecursion (IsSoundColumn number) table.now.columns }
     requires few_columns { length table.now.columns ≤ 16 }
     requires few_rows { table.now.at_most ≤ 64 }
+    requires kept { IsKeptAlone table.now.uniques table.now.at_most table.now.kept }
     ensures first { option_map declared_of result ≡ refused_by permanence.now (table_declared number table.now) }
     ensures flaw { IfSome result (λ finding. IsFlawOf number finding.flaw) }
 {
-    let unique = refused_unique(number, table.uniques.as_slice());
+    let unique = refused_unique(number, table);
     let at_most = refused_at_most(number, table);
     let reference = refused_reference(permanence, number, table.columns.as_slice());
     unique.or(at_most).or(reference)
 }
 
-/// The first `UNIQUE` of a table, which is refused.
-fn refused_unique(number: u8, uniques: &[UniqueRule]) -> Option<Finding>
-    ensures first { option_map declared_of result ≡ slice_get (each_from (unique_declared number) 0 uniques.now) 0 }
+/// The first `UNIQUE` of a table, which is refused, unless the table keeps the least row: then it has no other
+/// `UNIQUE`.
+fn refused_unique(number: u8, table: &TableDef) -> Option<Finding>
+    ensures first { option_map declared_of result ≡ unique_refused number table.now }
     ensures flaw { IfSome result (λ finding. IsFlawOf number finding.flaw) }
 {
-    let rule = uniques.first()?;
+    if table.kept.is_some() {
+        return None;
+    }
+    let rule = table.uniques.as_slice().first()?;
     Some(Finding {
         which: Invariant {
             kind: InvariantKind::Unique,

@@ -14,10 +14,11 @@ use std::alloc::{AllocError, Global};
 
 /// Whether every invariant of a schema survives merging, before any data exists.
 ///
-/// A `CHECK`, a `MATCH`, a `CASCADE` and a `SETNULL` always do, a `RESTRICT` where no row of the table that it refers to
-/// can vanish, a `UNIQUE` and an `ATMOST` never. Of the invariants in order (by table; in a table the `UNIQUE` lines,
-/// `ATMOST`, the references by column, the `CHECK` and the `MATCH` lines) the first that does not is refused, with a
-/// counterexample. What native checks mean changes nothing in the answer.
+/// A `CHECK`, a `MATCH`, a `CASCADE`, a `SETNULL` and a `UNIQUE` with `KEEP LEAST` always do, a `RESTRICT` where no
+/// row of the table that it refers to can vanish, a `UNIQUE` without `KEEP LEAST` and an `ATMOST` never. Of the
+/// invariants in order (by table; in a table the `UNIQUE` lines, `ATMOST`, the references by column, the `CHECK` and
+/// the `MATCH` lines) the first that does not is refused, with a counterexample. What native checks mean changes
+/// nothing in the answer.
 ///
 /// It gives up where memory runs out.
 pub fn test(alloc: Global, schema: &Schema) -> Result<Tested, AllocError>

@@ -79,4 +79,4 @@ reason_words reason =
     else if reason == NOT_DELETABLE then codes "void: a row cannot be deleted"
     else if reason == NOT_OWNER then codes "void: it deletes another author's row"
     else if reason == RESTRICTED then codes "void: a row names the deleted one"
-    else codes "void: a UNIQUE or ATMOST is broken"
+    else codes "void: another row has this value"

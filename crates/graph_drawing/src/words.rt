@@ -221,6 +221,6 @@ pub(crate) fn reason_words(reason: u8) -> &'static [u8]
         NOT_DELETABLE => b"void: a row cannot be deleted",
         NOT_OWNER => b"void: it deletes another author's row",
         RESTRICTED => b"void: a row names the deleted one",
-        _ => b"void: a UNIQUE or ATMOST is broken",
+        _ => b"void: another row has this value",
     }
 }

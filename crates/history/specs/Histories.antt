@@ -18,7 +18,7 @@ pub record HistoryData : Type 0 where
 abbrev pub nodes_of : List (List ℕ) → List NodeData
 nodes_of members = reverse (map node_of members)
 
--- No table of the schema has a UNIQUE or an ATMOST. The updates are a closed list under its rule and within the limits.
+-- No table of the schema has an ATMOST or a UNIQUE without KEEP LEAST. The updates are a closed list under its rule and within the limits.
 pub record IsHistory (history : HistoryData) : Type 0 where
   pub unlimited : IsTrue (list_all is_unlimited history.schema.tables)
   pub members : AreMembers history.schema.rule history.members

@@ -30,8 +30,8 @@ use tuple_state::Tables;
 use update_check::Checked;
 use update_model::{Node, UpdateId};
 
-/// A closed list of updates under a schema without `UNIQUE` and `ATMOST`, and what is kept of it: heads, ancestors and
-/// tables. It is in memory alone. A contract sees the schema and the updates in the order of arrival.
+/// A closed list of updates under a schema without `ATMOST` and whose `UNIQUE` lines are with `KEEP LEAST`, and what is kept
+/// of it: heads, ancestors and tables. It is in memory alone. A contract sees the schema and the updates in the order of arrival.
 #[derive(Drop)]
 pub struct History<L: Relation, C: Checks<L>> {
     schema: Schema,
@@ -56,8 +56,8 @@ impl<L: Relation, C: Checks<L>> Model for History<L, C> {
 }
 
 impl<L: Relation, C: Checks<L>> History<L, C> {
-    /// The history of a graph under a schema without `UNIQUE` and `ATMOST`, as [`validity::is_unlimited`] tells: each of its
-    /// updates is judged once. Where memory runs out, the native checks come back.
+    /// The history of a graph under a schema without `ATMOST` and whose `UNIQUE` lines are with `KEEP LEAST`, as
+    /// [`validity::is_unlimited`] tells: each of its updates is judged once. Where memory runs out, the native checks come back.
     pub fn over(
         alloc: Global,
         schema: Schema,

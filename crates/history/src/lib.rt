@@ -1,5 +1,5 @@
-//! Histories: closed lists of updates under a schema without `UNIQUE` and `ATMOST`, as every schema is whose invariants
-//! survive merging.
+//! Histories: closed lists of updates under a schema without `ATMOST` and whose `UNIQUE` lines are with `KEEP LEAST`, as every
+//! schema is whose invariants survive merging.
 //!
 //! A [`History`] takes an update only after its predecessors, and judges each once, on its ancestors. It keeps the heads, the
 //! ancestors and the tables as updates arrive, and it goes back to its first updates without memory, as a commit that is

@@ -7,7 +7,6 @@ use Rattle.std.proofs.lemmas.List.Elements.{All-push}
 use Rattle.std.proofs.lemmas.List.Sums.{sum_by_push}
 use Rattle.std.proofs.lemmas.Bool.Decides.{nat_tests}
 use Rattle.update_model.specs.declared.limits.TheConstants.{MAX_BYTES, MAX_MEMBERS}
-use Rattle.update_model.specs.declared.op.Op.{Op}
 use Rattle.update_model.specs.declared.update_id.UpdateId.{UpdateId}
 use Rattle.update_model.specs.Entry.{Entry}
 use Rattle.update_model.specs.Form.{UpdateData, signature_length}
@@ -20,7 +19,8 @@ use Rattle.update_check.specs.Members.{AreMembers}
 use Rattle.update_check.specs.Signed.{IsChecked}
 use Rattle.lms_tree.specs.SecretKey.{SecretData, public_key}
 use Rattle.history.specs.Histories.{HistoryData}
-use Rattle.replica.specs.Making.{HasLength, IsMadeBy, body_by, update_by}
+use Rattle.replica.specs.declared.contents.Contents.{Contents}
+use Rattle.replica.specs.Making.{HasLength, IsMadeWith, body_with, update_by}
 
 -- how long a spelling is
 pub spelled_length : (bytes : List ℕ) (update : UpdateData) → Spells bytes update → length bytes ≡ signed_length update.body
@@ -41,13 +41,13 @@ within_push graph e one_more bytes =
     ∙ within (length graph) (byte_count graph) (length e.bytes) one_more bytes
 
 -- an update that was made may stand last
-pub members_push : (history : HistoryData) (secret : SecretData) (taken : List Bool) (preds : List UpdateId) (ops : List Op) (c bytes : List ℕ)
+pub members_push : (history : HistoryData) (secret : SecretData) (taken : List Bool) (preds : List UpdateId) (says : Contents) (c bytes : List ℕ)
     → AreMembers history.schema.rule history.members → All (λ id. holds (map entry_of history.members) id ≡ true) preds
-    → IsMadeBy history secret taken preds ops c bytes → IsChecked history.schema.rule bytes → HasLength history secret preds ops
+    → IsMadeWith history secret taken preds says c bytes → IsChecked history.schema.rule bytes → HasLength history secret preds says
     → holds (map entry_of history.members) (id_of bytes) ≡ false → AreMembers history.schema.rule (history.members ++ bytes ∷ [])
-members_push history secret taken preds ops c bytes members held made checked fits new =
+members_push history secret taken preds says c bytes members held made checked fits new =
     let graph = map entry_of history.members in
-    let update = update_by secret made.index c (body_by history (public_key secret) preds ops) in
+    let update = update_by secret made.index c (body_with history (public_key secret) preds says) in
     let pushed : map entry_of (history.members ++ bytes ∷ []) ≡ graph ++ entry_of bytes ∷ [] = map-append entry_of history.members (bytes ∷ []) in
     let low : length graph < MAX_MEMBERS = subst (λ (n : ℕ). n < MAX_MEMBERS) (sym (length-map history.members entry_of)) fits.room.one_more in
     let few : byte_count graph + length bytes ≤ MAX_BYTES = subst (λ (n : ℕ). byte_count graph + n ≤ MAX_BYTES) (sym (spelled_length bytes update made.spells)) fits.room.bytes in

@@ -2,7 +2,6 @@
 use Rattle.std.proofs.Common.{◌≡◌, ℕ, ◌≤◌, Bool, List, ◌++◌, length, subst, ap, ◌∙◌}
 use Rattle.std.specs.Int.{w32, to_be_bytes}
 use Rattle.update_model.specs.declared.author_key.AuthorKey.{AuthorKey}
-use Rattle.update_model.specs.declared.op.Op.{Op}
 use Rattle.update_model.specs.declared.update_id.UpdateId.{UpdateId}
 use Rattle.update_model.specs.Block.{IsBlock}
 use Rattle.update_model.specs.Form.{BodyData, IsBody, signature_length}
@@ -10,16 +9,17 @@ use Rattle.update_codec.specs.declared.limits.TheConstants.{UPDATE_LIMIT}
 use Rattle.update_codec.specs.Spelling.{message, signed_length}
 use Rattle.lms_tree.specs.SecretKey.{SecretData, public_key}
 use Rattle.history.specs.Histories.{HistoryData}
-use Rattle.replica.specs.Making.{AreSignedBy, HasLength, HasRoom, IsMadeBy, IsNewCause, IsSignCause, body_by}
+use Rattle.replica.specs.Making.{AreSignedBy, HasLength, HasRoom, IsMadeWith, IsNewCause, IsSignCause, body_with}
+use Rattle.replica.specs.declared.contents.Contents.{Contents}
 use Rattle.replica.specs.declared.make_fault.MakeFault.{MakeFault}
 use Rattle.replica.specs.declared.make_fault.MakeFault.TheVariants.{NotListed, TooManyHeads, Invalid, TooLong, Full, Spent, Taken, DiskFault, Memory}
 
 -- bytes of a signed message are those of an update that is made
-pub made_by : (history : HistoryData) (secret : SecretData) (taken : List Bool) (preds : List UpdateId) (ops : List Op) (c bytes : List ℕ)
-    → IsBody (body_by history (public_key secret) preds ops) → AreSignedBy secret taken c (message (body_by history (public_key secret) preds ops)) bytes → length bytes ≤ UPDATE_LIMIT
-    → IsMadeBy history secret taken preds ops c bytes
-made_by history secret taken preds ops c bytes body signed short =
-    let text = message (body_by history (public_key secret) preds ops) in
+pub made_by : (history : HistoryData) (secret : SecretData) (taken : List Bool) (preds : List UpdateId) (says : Contents) (c bytes : List ℕ)
+    → IsBody (body_with history (public_key secret) preds says) → AreSignedBy secret taken c (message (body_with history (public_key secret) preds says)) bytes → length bytes ≤ UPDATE_LIMIT
+    → IsMadeWith history secret taken preds says c bytes
+made_by history secret taken preds says c bytes body signed short =
+    let text = message (body_with history (public_key secret) preds says) in
     record {
       index = signed.signed.index;
       least = signed.signed.least;
@@ -31,29 +31,29 @@ made_by history secret taken preds ops c bytes body signed short =
     }
 
 -- a body of these parts is what the key signs
-pub body_is : (history : HistoryData) (secret : SecretData) (preds : List UpdateId) (ops : List Op) (database : List ℕ) (author : AuthorKey) → database ≡ history.schema.rule.database → author ≡ public_key secret
-    → (body : BodyData) → body ≡ record { database = database; author = author; preds = preds; ops = ops } → body ≡ body_by history (public_key secret) preds ops
-body_is history secret preds ops database author d a body is =
+pub body_is : (history : HistoryData) (secret : SecretData) (preds : List UpdateId) (says : Contents) (database : List ℕ) (author : AuthorKey) → database ≡ history.schema.rule.database → author ≡ public_key secret
+    → (body : BodyData) → body ≡ record { database = database; author = author; preds = preds; ops = says.ops; note = says.note } → body ≡ body_with history (public_key secret) preds says
+body_is history secret preds says database author d a body is =
     is
-    ∙ ap (λ (l : List ℕ). let b : BodyData = record { database = l; author = author; preds = preds; ops = ops } in b) d
-    ∙ ap (λ (k : AuthorKey). let b : BodyData = record { database = history.schema.rule.database; author = k; preds = preds; ops = ops } in b) a
+    ∙ ap (λ (l : List ℕ). let b : BodyData = record { database = l; author = author; preds = preds; ops = says.ops; note = says.note } in b) d
+    ∙ ap (λ (k : AuthorKey). let b : BodyData = record { database = history.schema.rule.database; author = k; preds = preds; ops = says.ops; note = says.note } in b) a
 
-pub has_length : (history : HistoryData) (secret : SecretData) (preds : List UpdateId) (ops : List Op) (body : BodyData) → body ≡ body_by history (public_key secret) preds ops
-    → signed_length body ≤ UPDATE_LIMIT → HasRoom history (signed_length body) → HasLength history secret preds ops
-has_length history secret preds ops body is short room = record {
+pub has_length : (history : HistoryData) (secret : SecretData) (preds : List UpdateId) (says : Contents) (body : BodyData) → body ≡ body_with history (public_key secret) preds says
+    → signed_length body ≤ UPDATE_LIMIT → HasRoom history (signed_length body) → HasLength history secret preds says
+has_length history secret preds says body is short room = record {
   short = subst (λ (b : BodyData). signed_length b ≤ UPDATE_LIMIT) is short;
   room = subst (λ (b : BodyData). HasRoom history (signed_length b)) is room;
 }
 
 -- why they are no new update
-pub new_cause : (history : HistoryData) (secret : SecretData) (taken : List Bool) (preds : List UpdateId) (ops : List Op) (c bytes : List ℕ) (why : MakeFault)
-    → HasLength history secret preds ops → IsMadeBy history secret taken preds ops c bytes → IsNewCause history bytes why → IsSignCause history secret taken preds ops c why
-new_cause history secret taken preds ops c bytes NotListed len made h = absurd h
-new_cause history secret taken preds ops c bytes (TooManyHeads n) len made h = absurd h
-new_cause history secret taken preds ops c bytes (Invalid reason operation) len made h = absurd h
-new_cause history secret taken preds ops c bytes (TooLong n) len made h = absurd h
-new_cause history secret taken preds ops c bytes Full len made h = absurd h
-new_cause history secret taken preds ops c bytes Spent len made h = absurd h
-new_cause history secret taken preds ops c bytes (Taken id) len made h = (len, (bytes, made, h.0, h.1))
-new_cause history secret taken preds ops c bytes (DiskFault side) len made h = absurd h
-new_cause history secret taken preds ops c bytes Memory len made h = tt
+pub new_cause : (history : HistoryData) (secret : SecretData) (taken : List Bool) (preds : List UpdateId) (says : Contents) (c bytes : List ℕ) (why : MakeFault)
+    → HasLength history secret preds says → IsMadeWith history secret taken preds says c bytes → IsNewCause history bytes why → IsSignCause history secret taken preds says c why
+new_cause history secret taken preds says c bytes NotListed len made h = absurd h
+new_cause history secret taken preds says c bytes (TooManyHeads n) len made h = absurd h
+new_cause history secret taken preds says c bytes (Invalid reason operation) len made h = absurd h
+new_cause history secret taken preds says c bytes (TooLong n) len made h = absurd h
+new_cause history secret taken preds says c bytes Full len made h = absurd h
+new_cause history secret taken preds says c bytes Spent len made h = absurd h
+new_cause history secret taken preds says c bytes (Taken id) len made h = (len, (bytes, made, h.0, h.1))
+new_cause history secret taken preds says c bytes (DiskFault side) len made h = absurd h
+new_cause history secret taken preds says c bytes Memory len made h = tt

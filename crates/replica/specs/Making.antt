@@ -1,9 +1,9 @@
 -- What a replica makes of operations, and why it makes nothing.
-use Rattle.std.specs.Prelude.{◌≡◌, ℕ, ◌+◌, ◌<◌, ◌≤◌, Bool, true, false, IsTrue, List, [], ◌∷◌, ◌++◌, length, map, take, Option, Some, None, Result, Ok, Err}
+use Rattle.std.specs.Prelude.{◌≡◌, ℕ, ◌+◌, ◌<◌, ◌≤◌, Bool, true, false, IsTrue, List, [], ◌∷◌, ◌++◌, length, map, take, Option, Some, None, Result, Ok, Err, nat_le, if◌then◌else◌}
 use Rattle.std.specs.Int.{w32, to_be_bytes}
 use Rattle.std.specs.List.{list_any}
 use Rattle.update_model.specs.declared.author_key.AuthorKey.{AuthorKey}
-use Rattle.update_model.specs.declared.limits.TheConstants.{MAX_BYTES, MAX_MEMBERS, MAX_PREDS}
+use Rattle.update_model.specs.declared.limits.TheConstants.{MAX_BYTES, MAX_MEMBERS, MAX_PLAIN_OPS, MAX_PREDS}
 use Rattle.update_model.specs.declared.op.Op.{Op}
 use Rattle.update_model.specs.declared.op.Op.TheVariants.{Insert, Delete}
 use Rattle.update_model.specs.declared.update_id.UpdateId.{UpdateId}
@@ -26,6 +26,7 @@ use Rattle.table_model.specs.declared.verdict.Verdict.{Verdict}
 use Rattle.table_model.specs.declared.verdict.Verdict.TheVariants.{Valid, Void}
 use Rattle.history.specs.Histories.{HistoryData, verdict_after}
 use Rattle.key_index.specs.Used.{least_unused}
+use Rattle.replica.specs.declared.contents.Contents.{Contents}
 use Rattle.replica.specs.declared.make_fault.MakeFault.{MakeFault}
 use Rattle.replica.specs.declared.make_fault.Side.TheVariants.{Key, Log}
 use Rattle.replica.specs.declared.make_fault.MakeFault.TheVariants.{NotListed, TooManyHeads, Invalid, TooLong, Full, Spent, Taken, DiskFault, Memory}
@@ -57,9 +58,21 @@ pub record IsDraft (history : HistoryData) (author : AuthorKey) (preds : List Up
 abbrev pub IsJudged : Meaning → HistoryData → AuthorKey → List UpdateId → List Op → Verdict → Type 0
 IsJudged ask history author preds ops verdict = (draft : NodeData) × IsDraft history author preds ops draft × (verdict_after ask history draft ≡ verdict)
 
+-- what an update of operations says that are given no note: more than 64 have an empty one
+abbrev pub plain : List Op → Contents
+plain ops = record { ops = ops; note = if nat_le (length ops) MAX_PLAIN_OPS then None else Some [] }
+
+-- what an update says that has this note
+abbrev pub noted : List Op → List ℕ → Contents
+noted ops note = record { ops = ops; note = Some note }
+
 -- the body that an author signs
+abbrev pub body_with : HistoryData → AuthorKey → List UpdateId → Contents → BodyData
+body_with history author preds says = record { database = history.schema.rule.database; author = author; preds = preds; ops = says.ops; note = says.note }
+
+-- the body that an author signs of operations that are given no note
 abbrev pub body_by : HistoryData → AuthorKey → List UpdateId → List Op → BodyData
-body_by history author preds ops = record { database = history.schema.rule.database; author = author; preds = preds; ops = ops }
+body_by history author preds ops = body_with history author preds (plain ops)
 
 -- the update that a key makes of a body at an index, with C
 abbrev pub update_by : SecretData → ℕ → List ℕ → BodyData → UpdateData
@@ -70,11 +83,15 @@ pub record HasRoom (history : HistoryData) (len : ℕ) : Type 0 where
   pub one_more : length history.members < MAX_MEMBERS
   pub bytes : byte_count (map entry_of history.members) + len ≤ MAX_BYTES
 
--- The bytes are those of the update that this key makes of operations after these predecessors, at its least index that is not used.
-pub record IsMadeBy (history : HistoryData) (secret : SecretData) (taken : List Bool) (preds : List UpdateId) (ops : List Op) (c bytes : List ℕ) : Type 0 where
+-- The bytes are those of the update that this key makes, which says this after these predecessors, at its least index that is not used.
+pub record IsMadeWith (history : HistoryData) (secret : SecretData) (taken : List Bool) (preds : List UpdateId) (says : Contents) (c bytes : List ℕ) : Type 0 where
   pub index : ℕ
   pub least : least_unused taken ≡ Some index
-  pub spells : Spells bytes (update_by secret index c (body_by history (public_key secret) preds ops))
+  pub spells : Spells bytes (update_by secret index c (body_with history (public_key secret) preds says))
+
+-- The same of operations that are given no note.
+abbrev pub IsMadeBy : HistoryData → SecretData → List Bool → List UpdateId → List Op → List ℕ → List ℕ → Type 0
+IsMadeBy history secret taken preds ops c bytes = IsMadeWith history secret taken preds (plain ops) c bytes
 
 -- The signature is what a key makes of a message with C, at its least index that is not used.
 pub record IsSignedBy (secret : SecretData) (taken : List Bool) (c message signature : List ℕ) : Type 0 where
@@ -112,23 +129,23 @@ pub record MaySign (ask : Meaning) (history : HistoryData) (secret : SecretData)
   pub valid : IsJudged ask history (public_key secret) preds ops Valid
 
 -- Its length is within the limit, and it has room.
-pub record HasLength (history : HistoryData) (secret : SecretData) (preds : List UpdateId) (ops : List Op) : Type 0 where
-  pub short : signed_length (body_by history (public_key secret) preds ops) ≤ UPDATE_LIMIT
-  pub room : HasRoom history (signed_length (body_by history (public_key secret) preds ops))
+pub record HasLength (history : HistoryData) (secret : SecretData) (preds : List UpdateId) (says : Contents) : Type 0 where
+  pub short : signed_length (body_with history (public_key secret) preds says) ≤ UPDATE_LIMIT
+  pub room : HasRoom history (signed_length (body_with history (public_key secret) preds says))
 
--- Why an update of these operations after these predecessors was not signed: its length, its room, the key's indices, or its id, in this order.
-abbrev pub IsSignCause : HistoryData → SecretData → List Bool → List UpdateId → List Op → List ℕ → MakeFault → Type 0
-IsSignCause history secret taken preds ops c NotListed = ⊥
-IsSignCause history secret taken preds ops c (TooManyHeads n) = ⊥
-IsSignCause history secret taken preds ops c (Invalid reason operation) = ⊥
-IsSignCause history secret taken preds ops c (TooLong len) = (signed_length (body_by history (public_key secret) preds ops) ≡ len) × (UPDATE_LIMIT < len)
-IsSignCause history secret taken preds ops c Full =
-    (signed_length (body_by history (public_key secret) preds ops) ≤ UPDATE_LIMIT) × ¬ (HasRoom history (signed_length (body_by history (public_key secret) preds ops)))
-IsSignCause history secret taken preds ops c Spent = HasLength history secret preds ops × (least_unused taken ≡ None)
-IsSignCause history secret taken preds ops c (Taken id) =
-    HasLength history secret preds ops × ((bytes : List ℕ) × IsMadeBy history secret taken preds ops c bytes × (id_of bytes ≡ id) × (holds (map entry_of history.members) id ≡ true))
-IsSignCause history secret taken preds ops c (DiskFault side) = side ≡ Key
-IsSignCause history secret taken preds ops c Memory = Unit {0}
+-- Why an update that says this after these predecessors was not signed: its length, its room, the key's indices, or its id, in this order.
+abbrev pub IsSignCause : HistoryData → SecretData → List Bool → List UpdateId → Contents → List ℕ → MakeFault → Type 0
+IsSignCause history secret taken preds says c NotListed = ⊥
+IsSignCause history secret taken preds says c (TooManyHeads n) = ⊥
+IsSignCause history secret taken preds says c (Invalid reason operation) = ⊥
+IsSignCause history secret taken preds says c (TooLong len) = (signed_length (body_with history (public_key secret) preds says) ≡ len) × (UPDATE_LIMIT < len)
+IsSignCause history secret taken preds says c Full =
+    (signed_length (body_with history (public_key secret) preds says) ≤ UPDATE_LIMIT) × ¬ (HasRoom history (signed_length (body_with history (public_key secret) preds says)))
+IsSignCause history secret taken preds says c Spent = HasLength history secret preds says × (least_unused taken ≡ None)
+IsSignCause history secret taken preds says c (Taken id) =
+    HasLength history secret preds says × ((bytes : List ℕ) × IsMadeWith history secret taken preds says c bytes × (id_of bytes ≡ id) × (holds (map entry_of history.members) id ≡ true))
+IsSignCause history secret taken preds says c (DiskFault side) = side ≡ Key
+IsSignCause history secret taken preds says c Memory = Unit {0}
 
 -- Why there is no message of a body.
 abbrev pub IsMessageCause : BodyData → MakeFault → Type 0
@@ -180,47 +197,58 @@ IsAddCause Memory = Unit {0}
 
 -- Why nothing was made. Each cause stands where none before it does, in this order; a fault of a disk and want of memory have theirs in
 -- counts and in nothing.
-abbrev pub IsMakeCause : Meaning → HistoryData → SecretData → List Bool → List Op → List ℕ → MakeFault → Type 0
-IsMakeCause ask history secret taken ops c NotListed = ¬ (IsListed history.schema.rule.authors (public_key secret))
-IsMakeCause ask history secret taken ops c (TooManyHeads n) =
+abbrev pub IsMakeCauseWith : Meaning → HistoryData → SecretData → List Bool → Contents → List ℕ → MakeFault → Type 0
+IsMakeCauseWith ask history secret taken says c NotListed = ¬ (IsListed history.schema.rule.authors (public_key secret))
+IsMakeCauseWith ask history secret taken says c (TooManyHeads n) =
     IsListed history.schema.rule.authors (public_key secret) × ((heads : List UpdateId) × AfterAllHeads history heads × (length heads ≡ n) × (MAX_PREDS < n))
-IsMakeCause ask history secret taken ops c (Invalid reason operation) =
-    (preds : List UpdateId) × MayMake history secret preds × IsJudged ask history (public_key secret) preds ops (Void reason operation)
-IsMakeCause ask history secret taken ops c (TooLong len) =
-    (preds : List UpdateId) × MaySign ask history secret preds ops × (signed_length (body_by history (public_key secret) preds ops) ≡ len) × (UPDATE_LIMIT < len)
-IsMakeCause ask history secret taken ops c Full =
-    (preds : List UpdateId) × MaySign ask history secret preds ops × (signed_length (body_by history (public_key secret) preds ops) ≤ UPDATE_LIMIT)
-    × ¬ (HasRoom history (signed_length (body_by history (public_key secret) preds ops)))
-IsMakeCause ask history secret taken ops c Spent =
-    (preds : List UpdateId) × MaySign ask history secret preds ops × HasLength history secret preds ops × (least_unused taken ≡ None)
-IsMakeCause ask history secret taken ops c (Taken id) =
-    (preds : List UpdateId) × MaySign ask history secret preds ops × HasLength history secret preds ops
-    × ((bytes : List ℕ) × IsMadeBy history secret taken preds ops c bytes × (id_of bytes ≡ id) × (holds (map entry_of history.members) id ≡ true))
-IsMakeCause ask history secret taken ops c (DiskFault side) = Unit {0}
-IsMakeCause ask history secret taken ops c Memory = Unit {0}
+IsMakeCauseWith ask history secret taken says c (Invalid reason operation) =
+    (preds : List UpdateId) × MayMake history secret preds × IsJudged ask history (public_key secret) preds says.ops (Void reason operation)
+IsMakeCauseWith ask history secret taken says c (TooLong len) =
+    (preds : List UpdateId) × MaySign ask history secret preds says.ops × (signed_length (body_with history (public_key secret) preds says) ≡ len) × (UPDATE_LIMIT < len)
+IsMakeCauseWith ask history secret taken says c Full =
+    (preds : List UpdateId) × MaySign ask history secret preds says.ops × (signed_length (body_with history (public_key secret) preds says) ≤ UPDATE_LIMIT)
+    × ¬ (HasRoom history (signed_length (body_with history (public_key secret) preds says)))
+IsMakeCauseWith ask history secret taken says c Spent =
+    (preds : List UpdateId) × MaySign ask history secret preds says.ops × HasLength history secret preds says × (least_unused taken ≡ None)
+IsMakeCauseWith ask history secret taken says c (Taken id) =
+    (preds : List UpdateId) × MaySign ask history secret preds says.ops × HasLength history secret preds says
+    × ((bytes : List ℕ) × IsMadeWith history secret taken preds says c bytes × (id_of bytes ≡ id) × (holds (map entry_of history.members) id ≡ true))
+IsMakeCauseWith ask history secret taken says c (DiskFault side) = Unit {0}
+IsMakeCauseWith ask history secret taken says c Memory = Unit {0}
 
--- The body of these operations after all heads, by this key, has its form.
+-- The same of operations that are given no note.
+abbrev pub IsMakeCause : Meaning → HistoryData → SecretData → List Bool → List Op → List ℕ → MakeFault → Type 0
+IsMakeCause ask history secret taken ops c why = IsMakeCauseWith ask history secret taken (plain ops) c why
+
+-- The body that says this after all heads, by this key, has its form.
+abbrev pub HasBodyWith : HistoryData → SecretData → Contents → Type 0
+HasBodyWith history secret says = (preds : List UpdateId) × AfterAllHeads history preds × IsBody (body_with history (public_key secret) preds says)
+
+-- Where one message was signed, it was that of the body that says this after all heads.
+abbrev pub SignsBodyWith : Result UpdateId MakeFault → HistoryData → SecretData → Contents → Type 0
+SignsBodyWith (Ok id) history secret says = HasBodyWith history secret says
+SignsBodyWith (Err NotListed) history secret says = Unit {0}
+SignsBodyWith (Err (TooManyHeads n)) history secret says = Unit {0}
+SignsBodyWith (Err (Invalid reason operation)) history secret says = Unit {0}
+SignsBodyWith (Err (TooLong len)) history secret says = Unit {0}
+SignsBodyWith (Err Full) history secret says = Unit {0}
+SignsBodyWith (Err Spent) history secret says = Unit {0}
+SignsBodyWith (Err (Taken id)) history secret says = HasBodyWith history secret says
+SignsBodyWith (Err (DiskFault Key)) history secret says = Unit {0}
+SignsBodyWith (Err (DiskFault Log)) history secret says = HasBodyWith history secret says
+SignsBodyWith (Err Memory) history secret says = Unit {0}
+
+-- The same of operations that are given no note.
 abbrev pub HasBody : HistoryData → SecretData → List Op → Type 0
-HasBody history secret ops = (preds : List UpdateId) × AfterAllHeads history preds × IsBody (body_by history (public_key secret) preds ops)
+HasBody history secret ops = HasBodyWith history secret (plain ops)
 
--- Where one message was signed, it was that of the body of these operations after all heads.
 abbrev pub SignsBody : Result UpdateId MakeFault → HistoryData → SecretData → List Op → Type 0
-SignsBody (Ok id) history secret ops = HasBody history secret ops
-SignsBody (Err NotListed) history secret ops = Unit {0}
-SignsBody (Err (TooManyHeads n)) history secret ops = Unit {0}
-SignsBody (Err (Invalid reason operation)) history secret ops = Unit {0}
-SignsBody (Err (TooLong len)) history secret ops = Unit {0}
-SignsBody (Err Full) history secret ops = Unit {0}
-SignsBody (Err Spent) history secret ops = Unit {0}
-SignsBody (Err (Taken id)) history secret ops = HasBody history secret ops
-SignsBody (Err (DiskFault Key)) history secret ops = Unit {0}
-SignsBody (Err (DiskFault Log)) history secret ops = HasBody history secret ops
-SignsBody (Err Memory) history secret ops = Unit {0}
+SignsBody result history secret ops = SignsBodyWith result history secret (plain ops)
 
--- An update of operations after these predecessors was made by the key, and stands last. It is valid where it had to be.
-pub record AddsMade (ask : Meaning) (has_to_be_valid : Bool) (old : HistoryData) (secret : SecretData) (taken : List Bool) (preds : List UpdateId) (ops : List Op) (c : List ℕ) (id : UpdateId) (new : HistoryData) : Type 0 where
+-- An update that says this after these predecessors was made by the key, and stands last. It is valid where it had to be.
+pub record AddsMade (ask : Meaning) (has_to_be_valid : Bool) (old : HistoryData) (secret : SecretData) (taken : List Bool) (preds : List UpdateId) (says : Contents) (c : List ℕ) (id : UpdateId) (new : HistoryData) : Type 0 where
   pub bytes : List ℕ
-  pub made : IsMadeBy old secret taken preds ops c bytes
+  pub made : IsMadeWith old secret taken preds says c bytes
   pub members : AreMembers old.schema.rule (old.members ++ bytes ∷ [])
   pub valid : IsTrue has_to_be_valid → verdict_after ask old (node_of bytes) ≡ Valid
   pub id_is : id ≡ id_of bytes
@@ -240,16 +268,20 @@ IsPlanCause ask history secret ops (Taken id) = ⊥
 IsPlanCause ask history secret ops (DiskFault side) = ⊥
 IsPlanCause ask history secret ops Memory = Unit {0}
 
--- An update was made and stands last: of these operations, by the key, after all heads, and valid.
-pub record Makes (ask : Meaning) (old : HistoryData) (secret : SecretData) (taken : List Bool) (ops : List Op) (c : List ℕ) (id : UpdateId) (new : HistoryData) : Type 0 where
+-- An update was made and stands last: it says this, by the key, after all heads, and is valid.
+pub record MakesWith (ask : Meaning) (old : HistoryData) (secret : SecretData) (taken : List Bool) (says : Contents) (c : List ℕ) (id : UpdateId) (new : HistoryData) : Type 0 where
   pub preds : List UpdateId
   pub bytes : List ℕ
   pub after : AfterAllHeads old preds
-  pub made : IsMadeBy old secret taken preds ops c bytes
+  pub made : IsMadeWith old secret taken preds says c bytes
   pub members : AreMembers old.schema.rule (old.members ++ bytes ∷ [])
   pub valid : verdict_after ask old (node_of bytes) ≡ Valid
   pub id_is : id ≡ id_of bytes
   pub last : new ≡ record { schema = old.schema; members = old.members ++ bytes ∷ [] }
+
+-- The same of operations that are given no note.
+abbrev pub Makes : Meaning → HistoryData → SecretData → List Bool → List Op → List ℕ → UpdateId → HistoryData → Type 0
+Makes ask old secret taken ops c id new = MakesWith ask old secret taken (plain ops) c id new
 
 -- Fewer than two heads.
 abbrev pub HasNoneToJoin : HistoryData → Type 0

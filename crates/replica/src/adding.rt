@@ -4,7 +4,7 @@ ghost use Rattle.std.specs.Prelude.{◌≡◌, ◌≤◌, ◌++◌, ◌∷◌, �
 ghost use Rattle.bec_bytes.specs.Causes.{Rose};
 ghost use Rattle.bec_bytes.specs.Framed.{stream_of};
 ghost use Rattle.bec_disk.specs.Disk.{EveryImage, LeavesOnly};
-ghost use Rattle.update_model.specs.Form.{AreRising, IsBody};
+ghost use Rattle.update_model.specs.Form.{AreRising, IsBody, IsNote, most_ops};
 ghost use Rattle.update_model.specs.Graph.{holds};
 ghost use Rattle.update_model.specs.Rows.{AreOps};
 ghost use Rattle.update_model.specs.Rule.{IsListed};
@@ -17,12 +17,13 @@ ghost use Rattle.update_log.specs.Log.{IsClean, IsLogOf};
 ghost use Rattle.update_log.specs.Logset.{BeginsWith};
 ghost use Rattle.key_index.specs.Used.{IsUsed};
 ghost use Rattle.lms_tree.specs.SecretKey.{public_key};
-ghost use Rattle.replica.specs.Making.{AddsMade, IsAddCause, IsSignCause, body_by};
+ghost use Rattle.replica.specs.Making.{AddsMade, IsAddCause, IsSignCause, body_with};
 ghost use Rattle.replica.specs.Signing.{KeyAfter};
 ghost use Rattle.replica.specs.declared.make_fault.Side.TheVariants.{Key as KeySide, Log as LogSide};
 ghost use Rattle.replica.specs.declared.make_fault.MakeFault.TheVariants.{DiskFault as DiskFailed};
 
 use crate::commit::write_tail;
+use crate::contents::Contents;
 use crate::make_fault::{MakeFault, Side};
 use crate::signing::sign_update;
 use bec_disk::Disk;
@@ -33,9 +34,9 @@ use std::alloc::Global;
 use table_model::Verdict;
 use update_check::{Checked, CommitFault};
 use update_log::Log;
-use update_model::{IdList, MAX_OPS, MAX_PREDS, Member, OpList, UpdateId};
+use update_model::{IdList, MAX_PREDS, Member, UpdateId};
 
-/// Signs an update of these operations after these predecessors, adds it behind all others, in memory and on the disk, and answers its id. After an
+/// Signs an update that says this after these predecessors, adds it behind all others, in memory and on the disk, and answers its id. After an
 /// error the updates are as they were.
 pub fn sign_and_add<D: Disk, L: Relation, C: Checks<L>>(
     alloc: Global,
@@ -44,22 +45,23 @@ pub fn sign_and_add<D: Disk, L: Relation, C: Checks<L>>(
     key: &mut KeyStore<D>,
     c: &[u8; 32],
     preds: IdList,
-    ops: OpList,
+    says: Contents,
     has_to_be_valid: bool,
 ) -> Result<UpdateId, MakeFault>
-    requires few { length ops ≤ MAX_OPS }
-    requires form { AreOps 0 ops }
+    requires few { length says.ops ≤ most_ops says.note }
+    requires form { AreOps 0 says.ops }
+    requires note { IsNote says.note }
     requires few_preds { length preds ≤ MAX_PREDS }
     requires rising { AreRising None preds }
     requires held { All (λ id. holds (map entry_of history.old.members) id ≡ true) preds }
     requires listed { IsListed history.old.schema.rule.authors (public_key key.old.secret) }
     requires members { AreMembers history.old.schema.rule history.old.members }
     requires log { IsLogOf history.old.members log.old }
-    ensures added { IfOk result (λ id. AddsMade L.answer has_to_be_valid history.old key.old.secret key.old.taken preds ops c.now id history.new) }
+    ensures added { IfOk result (λ id. AddsMade L.answer has_to_be_valid history.old key.old.secret key.old.taken preds says c.now id history.new) }
     ensures same { OnErr result (history.new ≡ history.old) }
     ensures schema { history.new.schema ≡ history.old.schema }
-    ensures refused { IfErr result (λ why. IsSignCause history.old key.old.secret key.old.taken preds ops c.now why ⊎ IsAddCause why) }
-    ensures form { IsBody (body_by history.old (public_key key.old.secret) preds ops) }
+    ensures refused { IfErr result (λ why. IsSignCause history.old key.old.secret key.old.taken preds says c.now why ⊎ IsAddCause why) }
+    ensures form { IsBody (body_with history.old (public_key key.old.secret) preds says) }
     ensures log { IsLogOf history.new.members log.new }
     ensures clean { IsTrue log.old.disk.tells → OnOk result (IsClean log.new.end log.new.disk) }
     ensures key { KeyAfter key.old result key.new }
@@ -71,7 +73,7 @@ pub fn sign_and_add<D: Disk, L: Relation, C: Checks<L>>(
     ensures log_failed { result ≡ Err (DiskFailed LogSide) → Rose log.old.faults log.new.faults }
 {
     log.is_unsure(); // what is acknowledged stands in front
-    let update = sign_update(alloc, history, key, c, preds, ops)?;
+    let update = sign_update(alloc, history, key, c, preds, says)?;
     let id = update.id();
     add_last(alloc, history, log, update, has_to_be_valid)?;
     Ok(id)

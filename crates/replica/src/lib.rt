@@ -17,6 +17,7 @@
 
 mod adding;
 mod commit;
+mod contents;
 mod create_fault;
 mod creating;
 mod drafting;
@@ -30,6 +31,7 @@ mod planning;
 mod replica;
 mod signing;
 
+pub use contents::Contents;
 pub use create_fault::{CreateFault, CreateKind};
 pub use creating::create;
 pub use laws::{one_early_refusal, one_join, one_make};

@@ -1,24 +1,26 @@
 //! Making updates by a key.
 
-ghost use Rattle.std.specs.Prelude.{◌≡◌, ◌≤◌, ℕ, Err, IsTrue, IfOk, IfErr, IfNone, IfSome, OnErr, OnOk, List, length, map, take};
+ghost use Rattle.std.specs.Prelude.{◌≡◌, ◌≤◌, ℕ, Some, Err, IsTrue, IfOk, IfErr, IfNone, IfSome, OnErr, OnOk, List, length, map, take};
 ghost use Rattle.bec_bytes.specs.Causes.{Rose};
 ghost use Rattle.bec_bytes.specs.Framed.{stream_of};
 ghost use Rattle.bec_disk.specs.Disk.{EveryImage, LeavesOnly};
-ghost use Rattle.update_model.specs.declared.limits.TheConstants.{MAX_OPS, MAX_PREDS};
+ghost use Rattle.update_model.specs.declared.limits.TheConstants.{MAX_NOTE, MAX_OPS, MAX_PREDS};
 ghost use Rattle.update_model.specs.declared.update_id.UpdateId.{UpdateId as Id};
+ghost use Rattle.update_model.specs.Form.{IsNote, most_ops};
 ghost use Rattle.update_model.specs.Graph.{AreHeads};
 ghost use Rattle.update_codec.specs.Parts.{entry_of};
 ghost use Rattle.update_model.specs.Rows.{AreOps};
 ghost use Rattle.key_index.specs.Used.{IsUsed};
 ghost use Rattle.update_log.specs.Log.{IsClean};
 ghost use Rattle.update_log.specs.Logset.{BeginsWith};
-ghost use Rattle.replica.specs.Making.{IsJoinCause, IsMakeCause, JoinsTo, Makes, SignsBody};
+ghost use Rattle.replica.specs.Making.{IsJoinCause, IsMakeCause, IsMakeCauseWith, JoinsTo, Makes, MakesWith, SignsBody, SignsBodyWith, noted, plain};
 ghost use Rattle.replica.specs.Replicas.{IsSameStore};
 ghost use Rattle.replica.specs.Signing.{KeyAfter, KeyAfterJoin};
 ghost use Rattle.replica.specs.declared.make_fault.Side.TheVariants.{Key as KeySide, Log as LogSide};
 ghost use Rattle.replica.specs.declared.make_fault.MakeFault.TheVariants.{DiskFault as DiskFailed};
 
 use crate::adding::sign_and_add;
+use crate::contents::Contents;
 use crate::make_fault::{MakeFault, Side};
 use crate::planning::plan;
 use crate::replica::Replica;
@@ -27,16 +29,15 @@ use history::History;
 use key_index::KeyStore;
 use row_check::{Checks, Relation};
 use std::alloc::{AllocError, Global};
-use update_model::{IdList, MAX_PREDS, OpList, UpdateId};
+use update_model::{IdList, MAX_PLAIN_OPS, MAX_PREDS, OpList, TextValue, UpdateId};
 
 impl<D: Disk, L: Relation, C: Checks<L>> Replica<D, L, C> {
     /// Makes an update of these operations by a key, after all heads, adds it behind all others, and answers its id. It is valid, and it is on
     /// the disk. `c` are the 32 random bytes that the signed message is digested behind.
     ///
-    /// There are at most 64 operations, of which `update_model::check_ops` is true. After a refusal the updates are as they were. Where the id is
-    /// taken, or the log's disk failed, an index of the key was used for one signature, which is given up; where the key's disk failed, the index
-    /// that was tried is used and no signature was made.
-    #[tactic(auto, using(crate::proofs::Declaring::still_taken))]
+    /// There are at most 256 operations, of which `update_model::check_ops` is true; where there are more than 64, the update has an empty note.
+    /// After a refusal the updates are as they were. Where the id is taken, or the log's disk failed, an index of the key was used for one
+    /// signature, which is given up; where the key's disk failed, the index that was tried is used and no signature was made.
     pub fn make(
         &mut self,
         alloc: Global,
@@ -62,8 +63,71 @@ impl<D: Disk, L: Relation, C: Checks<L>> Replica<D, L, C> {
         ensures key_failed { result ≡ Err (DiskFailed KeySide) → Rose key.old.parts.used_faults key.new.parts.used_faults }
         ensures log_failed { result ≡ Err (DiskFailed LogSide) → Rose self.old.log.faults self.new.log.faults }
     {
+        self.make_of(alloc, plain_of(alloc, ops), key, c)
+    }
+
+    /// Makes an update of these operations that has this note, of at most 256 bytes. It is [`Replica::make`] otherwise.
+    pub fn make_noted(
+        &mut self,
+        alloc: Global,
+        ops: OpList,
+        note: TextValue,
+        key: &mut KeyStore<D>,
+        c: &[u8; 32],
+    ) -> Result<UpdateId, MakeFault>
+        requires few { length ops ≤ MAX_OPS }
+        requires form { AreOps 0 ops }
+        requires short { length note ≤ MAX_NOTE }
+        ensures made { IfOk result (λ id. MakesWith L.answer self.old.history key.old.secret key.old.taken (noted ops note) c.now id self.new.history) }
+        ensures same { OnErr result (self.new.history ≡ self.old.history) }
+        ensures store { IsSameStore self.old self.new }
+        ensures refused { IfErr result (λ why. IsMakeCauseWith L.answer self.old.history key.old.secret key.old.taken (noted ops note) c.now why) }
+        ensures clean { IsTrue self.old.log.disk.tells → OnOk result (IsClean self.new.log.end self.new.log.disk) }
+        ensures key { KeyAfter key.old result key.new }
+        ensures signs { SignsBodyWith result self.old.history key.old.secret (noted ops note) }
+
+        // A crash at any moment of it leaves what was held in front, and each index used that was used.
+        ensures any_moment { LeavesOnly self.old.log.disk self.new.log.disk (BeginsWith (stream_of self.old.history.members)) }
+        ensures used { (index : ℕ) → (IsTrue key.old.parts.used.tells → EveryImage key.old.parts.used.now (IsUsed index)) → LeavesOnly key.old.parts.used key.new.parts.used (IsUsed index) }
+        ensures later { self.old.log.faults ≤ self.new.log.faults }
+        ensures key_later { key.old.parts.used_faults ≤ key.new.parts.used_faults }
+        ensures key_failed { result ≡ Err (DiskFailed KeySide) → Rose key.old.parts.used_faults key.new.parts.used_faults }
+        ensures log_failed { result ≡ Err (DiskFailed LogSide) → Rose self.old.log.faults self.new.log.faults }
+    {
+        let note = note_of(note);
+        self.make_of(alloc, Contents { ops, note }, key, c)
+    }
+
+    /// Makes an update that says this.
+    #[tactic(auto, using(crate::proofs::Declaring::still_taken))]
+    fn make_of(
+        &mut self,
+        alloc: Global,
+        says: Contents,
+        key: &mut KeyStore<D>,
+        c: &[u8; 32],
+    ) -> Result<UpdateId, MakeFault>
+        requires few { length says.ops ≤ most_ops says.note }
+        requires form { AreOps 0 says.ops }
+        requires note { IsNote says.note }
+        ensures made { IfOk result (λ id. MakesWith L.answer self.old.history key.old.secret key.old.taken says c.now id self.new.history) }
+        ensures same { OnErr result (self.new.history ≡ self.old.history) }
+        ensures store { IsSameStore self.old self.new }
+        ensures refused { IfErr result (λ why. IsMakeCauseWith L.answer self.old.history key.old.secret key.old.taken says c.now why) }
+        ensures clean { IsTrue self.old.log.disk.tells → OnOk result (IsClean self.new.log.end self.new.log.disk) }
+        ensures key { KeyAfter key.old result key.new }
+        ensures signs { SignsBodyWith result self.old.history key.old.secret says }
+
+        // A crash at any moment of it leaves what was held in front, and each index used that was used.
+        ensures any_moment { LeavesOnly self.old.log.disk self.new.log.disk (BeginsWith (stream_of self.old.history.members)) }
+        ensures used { (index : ℕ) → (IsTrue key.old.parts.used.tells → EveryImage key.old.parts.used.now (IsUsed index)) → LeavesOnly key.old.parts.used key.new.parts.used (IsUsed index) }
+        ensures later { self.old.log.faults ≤ self.new.log.faults }
+        ensures key_later { key.old.parts.used_faults ≤ key.new.parts.used_faults }
+        ensures key_failed { result ≡ Err (DiskFailed KeySide) → Rose key.old.parts.used_faults key.new.parts.used_faults }
+        ensures log_failed { result ≡ Err (DiskFailed LogSide) → Rose self.old.log.faults self.new.log.faults }
+    {
         self.log.is_unsure(); // what is acknowledged stands in front
-        let heads = plan(alloc, &self.history, key, &ops)?;
+        let heads = plan(alloc, &self.history, key, &says.ops)?;
         self.history.len(); // what is held is in order
         let preds = IdList::from_vec(heads);
         sign_and_add(
@@ -73,7 +137,7 @@ impl<D: Disk, L: Relation, C: Checks<L>> Replica<D, L, C> {
             key,
             c,
             preds,
-            ops,
+            says,
             true,
         )
     }
@@ -114,7 +178,8 @@ impl<D: Disk, L: Relation, C: Checks<L>> Replica<D, L, C> {
         }
         let preds = least_heads(alloc, &self.history)?;
         self.history.len(); // what is held is in order
-        let none = OpList::from_vec(Vec::new(alloc));
+        let ops = OpList::from_vec(Vec::new(alloc));
+        let none = Contents { ops, note: None };
         let id = sign_and_add(
             alloc,
             &mut self.history,
@@ -127,6 +192,33 @@ impl<D: Disk, L: Relation, C: Checks<L>> Replica<D, L, C> {
         )?;
         Ok(Some(id))
     }
+}
+
+/// What an update of these operations says, which are given no note.
+fn plain_of(alloc: Global, ops: OpList) -> Contents
+    requires { length ops ≤ MAX_OPS }
+    ensures value { result ≡ plain ops }
+    ensures few { length result.ops ≤ most_ops result.note }
+    ensures note { IsNote result.note }
+{
+    if ops.as_slice().len() <= usize::from(MAX_PLAIN_OPS) {
+        return Contents { ops, note: None };
+    }
+    let note = TextValue::from_vec(Vec::new(alloc));
+    Contents {
+        ops,
+        note: Some(note),
+    }
+}
+
+/// A text as a note.
+fn note_of(text: TextValue) -> Option<TextValue>
+    requires { length text ≤ MAX_NOTE }
+    ensures value { result ≡ Some text }
+    ensures note { IsNote result }
+{
+    text.as_slice(); // it is UTF-8
+    Some(text)
 }
 
 /// The least heads, as many as an update may name.

@@ -6,7 +6,7 @@ ghost use Rattle.std.specs.List.{AllByRecursion};
 ghost use Rattle.bec_bytes.specs.Causes.{Rose};
 ghost use Rattle.bec_disk.specs.Disk.{EveryImage, LeavesOnly};
 ghost use Rattle.update_model.specs.Block.{IsBlock, IsId};
-ghost use Rattle.update_model.specs.Form.{AreRising, IsBody, IsKnownKey, signature_length};
+ghost use Rattle.update_model.specs.Form.{AreRising, IsBody, IsKnownKey, IsNote, most_ops, signature_length};
 ghost use Rattle.update_model.specs.Graph.{holds};
 ghost use Rattle.update_model.specs.Rows.{AreOps};
 ghost use Rattle.update_model.specs.Rule.{IsListed};
@@ -15,11 +15,12 @@ ghost use Rattle.update_codec.specs.Spelling.{message, signed_length};
 ghost use Rattle.update_check.specs.Signed.{IsChecked};
 ghost use Rattle.key_index.specs.Used.{IsUsed};
 ghost use Rattle.lms_tree.specs.SecretKey.{public_key};
-ghost use Rattle.replica.specs.Making.{AreSignedBy, HasLength, HasRoom, IsBytesCause, IsMadeBy, IsMessageCause, IsNewCause, IsSignCause, IsSignedBy, body_by};
+ghost use Rattle.replica.specs.Making.{AreSignedBy, HasLength, HasRoom, IsBytesCause, IsMadeWith, IsMessageCause, IsNewCause, IsSignCause, IsSignedBy, body_with};
 ghost use Rattle.replica.specs.Signing.{KeyAfter};
 ghost use Rattle.replica.specs.declared.make_fault.Side.TheVariants.{Key as KeySide};
 ghost use Rattle.replica.specs.declared.make_fault.MakeFault.TheVariants.{DiskFault as DiskFailed};
 
+use crate::contents::Contents;
 use crate::make_fault::{MakeFault, Side};
 use bec_disk::Disk;
 use history::History;
@@ -29,36 +30,36 @@ use std::alloc::{AllocError, Global};
 use update_check::{Checked, check};
 use update_codec::{EncodeError, UPDATE_LIMIT, encode_body};
 use update_model::{
-    AuthorKey, Body, IdList, MAX_BYTES, MAX_MEMBERS, MAX_OPS, MAX_PREDS, Member, OpList, UpdateId,
-    signature_len,
+    AuthorKey, Body, IdList, MAX_BYTES, MAX_MEMBERS, MAX_PREDS, Member, UpdateId, signature_len,
 };
 
-/// Signs an update of these operations after these predecessors, and answers it where its id is not held. It is not added.
+/// Signs an update that says this after these predecessors, and answers it where its id is not held. It is not added.
 pub fn sign_update<D: Disk, L: Relation, C: Checks<L>>(
     alloc: Global,
     history: &History<L, C>,
     key: &mut KeyStore<D>,
     c: &[u8; 32],
     preds: IdList,
-    ops: OpList,
+    says: Contents,
 ) -> Result<Checked, MakeFault>
-    requires few { length ops ≤ MAX_OPS }
-    requires form { AreOps 0 ops }
+    requires few { length says.ops ≤ most_ops says.note }
+    requires form { AreOps 0 says.ops }
+    requires note { IsNote says.note }
     requires few_preds { length preds ≤ MAX_PREDS }
     requires rising { AreRising None preds }
     requires listed { IsListed history.now.schema.rule.authors (public_key key.old.secret) }
-    ensures made { IfOk result (λ update. IsMadeBy history.now key.old.secret key.old.taken preds ops c.now update) }
+    ensures made { IfOk result (λ update. IsMadeWith history.now key.old.secret key.old.taken preds says c.now update) }
     ensures checked { IfOk result (λ update. IsChecked history.now.schema.rule update) }
-    ensures form { IsBody (body_by history.now (public_key key.old.secret) preds ops) }
-    ensures length { OnOk result (HasLength history.now key.old.secret preds ops) }
+    ensures form { IsBody (body_with history.now (public_key key.old.secret) preds says) }
+    ensures length { OnOk result (HasLength history.now key.old.secret preds says) }
     ensures new { IfOk result (λ update. holds (map entry_of history.now.members) (id_of update) ≡ false) }
-    ensures refused { IfErr result (λ why. IsSignCause history.now key.old.secret key.old.taken preds ops c.now why) }
+    ensures refused { IfErr result (λ why. IsSignCause history.now key.old.secret key.old.taken preds says c.now why) }
     ensures key { KeyAfter key.old result key.new }
     ensures used { (index : ℕ) → (IsTrue key.old.parts.used.tells → EveryImage key.old.parts.used.now (IsUsed index)) → LeavesOnly key.old.parts.used key.new.parts.used (IsUsed index) }
     ensures later { key.old.parts.used_faults ≤ key.new.parts.used_faults }
     ensures failed { result ≡ Err (DiskFailed KeySide) → Rose key.old.parts.used_faults key.new.parts.used_faults }
 {
-    let body = body_of(history.schema().rule().database, key.public(), preds, ops);
+    let body = body_of(history.schema().rule().database, key.public(), preds, says);
     let message = message_of(alloc, &body)?;
     let size = signature_len(&body.author) as usize;
     if !has_room(history, message.len() + 4 + size) {
@@ -69,20 +70,23 @@ pub fn sign_update<D: Disk, L: Relation, C: Checks<L>>(
 }
 
 /// The body that an author signs.
-fn body_of(database: [u8; 32], author: AuthorKey, preds: IdList, ops: OpList) -> Body
+fn body_of(database: [u8; 32], author: AuthorKey, preds: IdList, says: Contents) -> Body
     requires known { IsKnownKey author }
-    requires few { length ops ≤ MAX_OPS }
-    requires form { AreOps 0 ops }
+    requires few { length says.ops ≤ most_ops says.note }
+    requires form { AreOps 0 says.ops }
+    requires note { IsNote says.note }
     requires few_preds { length preds ≤ MAX_PREDS }
     requires rising { AreRising None preds }
-    ensures { result ≡ record { database = database; author = author; preds = preds; ops = ops } }
+    ensures { result ≡ record { database = database; author = author; preds = preds; ops = says.ops; note = says.note } }
 {
     are_ids(preds.as_slice());
+    let Contents { ops, note } = says;
     Body {
         database,
         author,
         preds,
         ops,
+        note,
     }
 }
 

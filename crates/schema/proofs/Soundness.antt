@@ -1,17 +1,20 @@
 -- What the tables of a schema keep, by their numbers.
-use Rattle.std.proofs.Common.{◌≡◌, ℕ, ◌+◌, ◌≤◌, zero, suc, not, List, [], ◌∷◌, ◌++◌, length, refl, ap, subst, arith, append_assoc, length-append, Option, Some, None, unwrap_or, slice_get}
+use Rattle.std.proofs.Common.{◌≡◌, ℕ, ◌+◌, ◌≤◌, zero, suc, ◌==◌, ◌||◌, not, List, [], ◌∷◌, ◌++◌, length, refl, ap, subst, arith, append_assoc, length-append, Option, Some, None, is_none, unwrap_or, slice_get}
 use Rattle.std.specs.Prelude.{IsTrue, MatchOption}
 use Rattle.std.specs.List.{AllByRecursion}
 use Rattle.schema.specs.declared.action.Action.{Action}
+use Rattle.schema.specs.declared.action.Action.TheVariants as action
 use Rattle.schema.specs.declared.column.Column.{Column}
 use Rattle.schema.specs.declared.column.ColumnKind.{ColumnKind}
 use Rattle.schema.specs.declared.column.ColumnKind.TheVariants as kind
 use Rattle.schema.specs.declared.rules.MatchRule.{MatchRule}
 use Rattle.schema.specs.declared.table_def.TableDef.{TableDef}
 use Rattle.schema.specs.Columns.{target_of, reference_at, is_restrict, are_comparable}
+use Rattle.schema.specs.Least.{IsKeptAlone, is_steady, leaves_itself, targets_of}
 use Rattle.schema.specs.Rows.{fits_sample}
 use Rattle.schema.specs.Sound.{IsSoundKind, IsSoundColumn, columns_or, IsSoundMatch, IsSoundCheck, IsSoundUnique, IsTable, AreTables}
 use Rattle.schema.specs.Numbers.{no_table, table_number}
+use Rattle.schema.proofs.SteadyTables.{held_in, led_in, plain_in}
 
 -- A MATCH compares two plain columns of one kind, along a reference that is not RESTRICT.
 abbrev pub ComparesPlain : List TableDef → TableDef → MatchRule → Type 0
@@ -23,6 +26,11 @@ pub record IsSoundAt (tables : List TableDef) (number : ℕ) (table : TableDef) 
   pub checks : AllByRecursion (IsSoundCheck table.columns) table.checks
   pub matches : AllByRecursion (ComparesPlain tables table) table.matches
   pub uniques : AllByRecursion (IsSoundUnique table.columns) table.uniques
+  pub kept : IsKeptAlone table.uniques table.at_most table.kept
+  pub leaves : IsTrue (leaves_itself number table.kept (targets_of table.columns))
+  pub held : (place target : ℕ) → reference_at table.columns place ≡ Some (target, action.Restrict) → IsTrue (is_steady tables target)
+  pub plain : IsTrue (is_steady tables number) → IsTrue (is_none table.kept)
+  pub led : IsTrue (is_steady tables number) → (place target : ℕ) → reference_at table.columns place ≡ Some (target, action.Cascade) → IsTrue ((target == number) || is_steady tables target)
   pub sample : IsTrue (fits_sample table.columns table.sample)
 
 abbrev pub IsSound : List TableDef → Type 0
@@ -73,12 +81,23 @@ match_in before table rest number n sound (rule ∷ rules) h =
     (step (reference_at columns rule.reference) refl h.0, match_in before table rest number n sound rules h.1)
 
 sound_each : (before tables : List TableDef) → AreTables before tables → (place : ℕ) → IsSoundAt (before ++ tables) (length before + place) (table_number tables place)
-sound_each before [] h place = record { columns = tt; checks = tt; matches = tt; uniques = tt; sample = refl }
+sound_each before [] h place = record { columns = tt; checks = tt; matches = tt; uniques = tt; kept = tt; leaves = refl; held = λ p t e. absurd cc; plain = λ h. refl; led = λ h p t e. absurd cc; sample = refl }
 sound_each before (table ∷ tables) h zero =
     let is : IsTable before table = h.0 in
     let n : length before ≡ length before + 0 = omega arith in
     subst (λ (number : ℕ). IsSoundAt (before ++ table ∷ tables) number table) n
-    (record { columns = is.sound.columns; checks = is.sound.checks; matches = match_in before table tables (length before) refl is.sound.columns table.matches is.sound.matches; uniques = is.sound.uniques; sample = is.sample })
+    (record {
+      columns = is.sound.columns;
+      checks = is.sound.checks;
+      matches = match_in before table tables (length before) refl is.sound.columns table.matches is.sound.matches;
+      uniques = is.sound.uniques;
+      kept = is.sound.kept;
+      leaves = is.sound.leaves;
+      held = λ place target e. held_in before table tables is.sound.steady place target (target_below (length before) table.columns is.sound.columns place target action.Restrict e) e;
+      plain = plain_in before table tables;
+      led = λ h place target e. led_in before table tables h place target (target_below (length before) table.columns is.sound.columns place target action.Cascade e) e;
+      sample = is.sample;
+    })
 sound_each before (table ∷ tables) h (suc place) =
     let rest = sound_each (before ++ table ∷ []) tables h.1 place in
     let n : length (before ++ table ∷ []) + place ≡ length before + suc place = (let e = length-append before (table ∷ []) in omega arith) in

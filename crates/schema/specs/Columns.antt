@@ -68,6 +68,11 @@ are_comparable None right = false
 are_comparable (Some left) None = false
 are_comparable (Some left) (Some right) = is_comparable (kind_seen left.kind) (kind_seen right.kind)
 
+abbrev pub is_cascade : Action → Bool
+is_cascade action.Restrict = false
+is_cascade action.Cascade = true
+is_cascade action.SetNull = false
+
 abbrev pub is_set_null : Action → Bool
 is_set_null action.Restrict = false
 is_set_null action.Cascade = false

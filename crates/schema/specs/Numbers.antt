@@ -1,5 +1,5 @@
 -- Tables by their numbers.
-use Rattle.std.specs.Prelude.{ℕ, false, List, [], unwrap_or, slice_get}
+use Rattle.std.specs.Prelude.{ℕ, false, List, [], None, unwrap_or, slice_get}
 use Rattle.schema.specs.declared.table_def.TableDef.{TableDef}
 
 -- a table of nothing
@@ -10,6 +10,7 @@ no_table = record {
   checks = [];
   matches = [];
   uniques = [];
+  kept = None;
   at_most = 0;
   at_most_line = 0;
   deletable = false;

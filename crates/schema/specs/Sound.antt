@@ -13,6 +13,7 @@ use Rattle.schema.specs.declared.table_def.TableDef.{TableDef}
 use Rattle.schema.specs.Checks.{CheckData}
 use Rattle.schema.specs.Columns.{is_reference, kinds_of, reference_at, is_restrict, is_set_null, are_comparable}
 use Rattle.schema.specs.Data.{SchemaData}
+use Rattle.schema.specs.Least.{IsKeptAlone, holds_steady, leaves_itself, steady_tables, targets_of}
 use Rattle.schema.specs.Rows.{fits_sample}
 
 -- In the table with this number: bounds rise, lengths are at most those of a text in a row, a reference is to an earlier table or to its own
@@ -55,6 +56,9 @@ pub record IsSoundTable (before : List TableDef) (table : TableDef) : Type 0 whe
   pub matches : AllByRecursion (IsSoundMatch before table.columns) table.matches
   pub uniques : AllByRecursion (IsSoundUnique table.columns) table.uniques
   pub at_most : table.at_most ≤ 64
+  pub kept : IsKeptAlone table.uniques table.at_most table.kept
+  pub steady : IsTrue (holds_steady (steady_tables before) table.kept (targets_of table.columns))
+  pub leaves : IsTrue (leaves_itself (length before) table.kept (targets_of table.columns))
 
 -- A whole table: it has a column, and a sample that fits.
 pub record IsTable (before : List TableDef) (table : TableDef) : Type 0 where

@@ -14,6 +14,9 @@ pub struct TableDef {
     pub matches: MatchList,
     /// The `UNIQUE` lines.
     pub uniques: UniqueList,
+    /// The column of the `UNIQUE` line with `KEEP LEAST`, where there is one: of the rows that could be shown with one
+    /// value in it, the one with the least name is.
+    pub kept: Option<u8>,
     /// At most how many rows the table has, or 0 where there is no such limit.
     pub at_most: u8,
     /// The line that says so, from 1, or 0 where there is none.

@@ -23,7 +23,7 @@ use Rattle.schema_text.specs.declared.form.PlainKind.{PlainKind}
 use Rattle.schema_text.specs.declared.form.PlainKind.TheVariants as plain
 use Rattle.schema_text.specs.declared.keyword.Keyword.TheVariants as keyword
 use Rattle.schema_text.specs.Forms.{action_in, form_at, null_at_end, sign_in}
-use Rattle.schema_text.specs.Printing.{HasBounds, IsBare, IsOneWord, action_text, form_text, kind_texts, null_texts, rights_texts, sign_text}
+use Rattle.schema_text.specs.Printing.{keeps_texts, HasBounds, IsBare, IsOneWord, action_text, form_text, kind_texts, null_texts, rights_texts, sign_text}
 use Rattle.schema_text.proofs.LinesAgain.{AreByRule, AreEach, line_read}
 
 -- values are read from what is printed of them
@@ -88,8 +88,11 @@ null_read false = refl
 pub database_again : AreByRule → (name : List ℕ) → IsBare Spaced name → IsReadAgain (form.Database name)
 database_again rule name bare = line_read rule keyword.Database (name ∷ []) (word.Plain name ∷ []) (form.Database name) (bare, tt) refl
 
-pub unique_again : AreByRule → (column : List ℕ) → IsBare Spaced column → IsReadAgain (form.Unique column)
-unique_again rule column bare = line_read rule keyword.Unique (column ∷ []) (word.Plain column ∷ []) (form.Unique column) (bare, tt) refl
+pub unique_again : AreByRule → (column : List ℕ) (keeps : Bool) → IsBare Spaced column → IsReadAgain (form.Unique column keeps)
+unfolding words_within first_word
+unique_again rule column true bare =
+    line_read rule keyword.Unique (column ∷ keeps_texts true) (word.Plain column ∷ bare_words (keeps_texts true)) (form.Unique column true) (bare, (refl, (refl, tt))) refl
+unique_again rule column false bare = line_read rule keyword.Unique (column ∷ []) (word.Plain column ∷ []) (form.Unique column false) (bare, tt) refl
 
 pub table_again : AreByRule → (name : List ℕ) (deletable owned : Bool) → IsBare Spaced name → ((deletable ≡ false) → owned ≡ false) → IsReadAgain (form.Table name deletable owned)
 unfolding words_within first_word

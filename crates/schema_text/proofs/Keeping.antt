@@ -1,8 +1,8 @@
 -- Good lines keep a draft sound.
 use Rattle.std.proofs.Common.{◌≡◌, ℕ, zero, suc, ◌+◌, ◌<◌, ◌≤◌, ltb, Bool, true, false, not, ◌&&◌, ◌||◌, cond, List, [], ◌∷◌, ◌++◌, length, refl, sym, ◌∙◌, ap, subst, arith, inl, inr, append_assoc, append-nil, length-append, ℤ, pos, negsuc, ◌≤ℤ◌}
-use Rattle.std.specs.Prelude.{Option, Some, None, IsSome, MatchOption, slice_get, unwrap_or, bytes_eq, position, option_and_then, nat_abs}
-use Rattle.std.specs.List.{AllByRecursion, position_or_len}
-use Rattle.std.proofs.lemmas.Bool.{and_parts, lt-ltb, ltb-true}
+use Rattle.std.specs.Prelude.{Option, Some, None, is_none, ◌==◌, IsSome, MatchOption, slice_get, unwrap_or, bytes_eq, position, option_and_then, nat_abs}
+use Rattle.std.specs.List.{AllByRecursion, list_all, position_or_len}
+use Rattle.std.proofs.lemmas.Bool.{and_parts, eqb-true, lt-ltb, ltb-true}
 use Rattle.std.proofs.lemmas.Int.{ints}
 use Rattle.std.proofs.lemmas.List.Folds.{find_at}
 use Rattle.std.proofs.lemmas.List.Quantifiers.{position-Some}
@@ -18,6 +18,8 @@ use Rattle.schema_text.specs.declared.form.PlainKind.{PlainKind}
 use Rattle.schema_text.specs.declared.form.PlainKind.TheVariants as plain
 use Rattle.schema.specs.declared.table_def.TableDef.{TableDef}
 use Rattle.schema.specs.Columns.{is_reference, kinds_of, names_of, number_named, column_named, target_of, reference_at, reference_named, is_restrict, are_comparable}
+use Rattle.schema.specs.declared.rules.UniqueRule.{UniqueRule}
+use Rattle.schema.specs.Least.{IsKeptAlone, holds_steady, is_held_steady, is_led_steady, is_steady_behind, leaves_itself, steady_tables, targets_of}
 use Rattle.schema.specs.Numbers.{no_table}
 use Rattle.schema_text.specs.Drafts.{start, table_at, table_named, first_some, kind_declared, with_column, with_rules, is_columns, is_in_table, is_turn}
 use Rattle.schema_text.specs.Faults.{AreBounds, IsTypedMatch, IsTypedUnique, MayMatch, HasGoodTarget}
@@ -141,8 +143,41 @@ target_sound d table act null good =
     elim [ None ↦ λ e g. absurd g | Some n ↦ λ e g. (table_low d table n e, g.0, g.1) ] in
     step (table_named d table) refl good
 
-column_kept : (d : Draft) (column : Column) → IsDraft d → is_columns d.phase ≡ true → length d.table.columns < 16 → IsSoundColumn (length d.tables) column → IsDraft (with_column d column)
-column_kept d column s turn few sound = record {
+no_elements : {X : Type 0} (xs : List X) → (length xs == 0) ≡ true → xs ≡ []
+no_elements [] h = refl
+no_elements (x ∷ xs) h = absurd (let e = eqb-true (length (x ∷ xs)) 0 h in let n : length (x ∷ xs) ≡ suc (length xs) = refl in omega arith)
+
+is_none_None : (o : Option ℕ) → is_none o ≡ true → o ≡ None
+is_none_None None h = refl
+is_none_None (Some n) h = absurd cc
+
+targets_push : (columns : List Column) (column : Column) → targets_of (columns ++ column ∷ []) ≡ targets_of columns ++ target_of column.kind ∷ []
+targets_push [] column = refl
+targets_push (c ∷ columns) column = ap (λ (ts : List (Option (ℕ × Action))). target_of c.kind ∷ ts) (targets_push columns column)
+
+plain_no_target : (k : PlainKind) → target_of (kind_declared k) ≡ None
+plain_no_target (plain.Int lo hi) = refl
+plain_no_target (plain.Text lo hi) = refl
+plain_no_target plain.Flag = refl
+
+-- a column of values is no reference
+all_none : (p : Option (ℕ × Action) → Bool) → p None ≡ true → (ts : List (Option (ℕ × Action))) → list_all p (ts ++ None ∷ []) ≡ list_all p ts
+all_none p h [] = ap (λ (b : Bool). b && true) h
+all_none p h (t ∷ ts) = ap (λ (b : Bool). p t && b) (all_none p h ts)
+
+plain_steady : (known : List Bool) (kept : Option ℕ) (columns : List Column) (column : Column) → target_of column.kind ≡ None
+    → holds_steady known kept (targets_of columns) ≡ true → holds_steady known kept (targets_of (columns ++ column ∷ [])) ≡ true
+plain_steady known kept columns column none h =
+    let ts = targets_of columns in
+    let is : targets_of (columns ++ column ∷ []) ≡ ts ++ None ∷ [] = targets_push columns column ∙ ap (λ (t : Option (ℕ × Action)). ts ++ t ∷ []) none in
+    let own : is_steady_behind known kept (ts ++ None ∷ []) ≡ is_steady_behind known kept ts = ap (λ (b : Bool). is_none kept && b) (all_none (is_led_steady known) refl ts) in
+    ap (holds_steady known kept) is
+    ∙ ap (λ (b : Bool). list_all (is_held_steady (known ++ b ∷ [])) (ts ++ None ∷ [])) own
+    ∙ all_none (is_held_steady (known ++ is_steady_behind known kept ts ∷ [])) refl ts ∙ h
+
+column_kept : (d : Draft) (column : Column) → IsDraft d → is_columns d.phase ≡ true → length d.table.columns < 16 → IsSoundColumn (length d.tables) column
+    → holds_steady (steady_tables d.tables) d.table.kept (targets_of (d.table.columns ++ column ∷ [])) ≡ true → IsDraft (with_column d column)
+column_kept d column s turn few sound steady = record {
   few_tables = s.few_tables;
   tables = s.tables;
   some_tables = s.some_tables;
@@ -150,6 +185,7 @@ column_kept d column s turn few sound = record {
   no_checks = s.no_checks;
   no_matches = s.no_matches;
   no_uniques = s.no_uniques;
+  no_kept = s.no_kept;
   table = record {
     few_columns = one_more d.table.columns column 16 few;
     columns = all_push (IsSoundColumn (length d.tables)) d.table.columns column s.table.columns sound;
@@ -159,6 +195,9 @@ column_kept d column s turn few sound = record {
     matches = subst (AllByRecursion (IsSoundMatch d.tables (d.table.columns ++ column ∷ []))) (sym (s.no_matches turn)) tt;
     uniques = subst (AllByRecursion (IsSoundUnique (d.table.columns ++ column ∷ []))) (sym (s.no_uniques turn)) tt;
     at_most = s.table.at_most;
+    kept = s.table.kept;
+    steady = steady;
+    leaves = subst (λ (o : Option ℕ). leaves_itself (length d.tables) o (targets_of (d.table.columns ++ column ∷ [])) ≡ true) (sym (s.no_kept turn)) refl;
   };
 }
 
@@ -171,6 +210,7 @@ rules_kept d table s turn sound = record {
   no_checks = λ e. absurd cc;
   no_matches = λ e. absurd cc;
   no_uniques = λ e. absurd cc;
+  no_kept = λ e. absurd cc;
   table = sound;
 }
 
@@ -184,6 +224,9 @@ empty_sound before name deletable owned = record {
   matches = tt;
   uniques = tt;
   at_most = omega arith;
+  kept = tt;
+  steady = refl;
+  leaves = refl;
 }
 
 pub start_sound : IsDraft start
@@ -195,6 +238,7 @@ start_sound = record {
   no_checks = λ e. absurd cc;
   no_matches = λ e. absurd cc;
   no_uniques = λ e. absurd cc;
+  no_kept = λ e. absurd cc;
   table = empty_sound [] [] false false;
 }
 
@@ -210,6 +254,7 @@ kept one r n d (form.Database name) next s t g h = subst IsDraft (sym h) (record
   no_checks = λ e. absurd cc;
   no_matches = λ e. absurd cc;
   no_uniques = λ e. absurd cc;
+  no_kept = λ e. absurd cc;
   table = s.table;
 })
 kept one r n d (form.Author key) next s t g h = subst IsDraft (sym h) (record {
@@ -220,6 +265,7 @@ kept one r n d (form.Author key) next s t g h = subst IsDraft (sym h) (record {
   no_checks = s.no_checks;
   no_matches = s.no_matches;
   no_uniques = s.no_uniques;
+  no_kept = s.no_kept;
   table = s.table;
 })
 kept one r n d (form.Table name deletable owned) next s t g h = subst IsDraft (sym h) (record {
@@ -230,12 +276,16 @@ kept one r n d (form.Table name deletable owned) next s t g h = subst IsDraft (s
   no_checks = λ e. refl;
   no_matches = λ e. refl;
   no_uniques = λ e. refl;
+  no_kept = λ e. refl;
   table = empty_sound d.tables name deletable owned;
 })
 kept one r n d (form.Column name k null) next s t g h =
-    subst IsDraft (sym h) (column_kept d (record { name = name; kind = kind_declared k; null = null; line = n }) s t g.limits.0 (kind_sound (length d.tables) null k g.types))
+    subst IsDraft (sym h) (column_kept d (record { name = name; kind = kind_declared k; null = null; line = n }) s t g.limits.0 (kind_sound (length d.tables) null k g.types)
+    (plain_steady (steady_tables d.tables) d.table.kept d.table.columns (record { name = name; kind = kind_declared k; null = null; line = n }) (plain_no_target k) s.table.steady))
 kept one r n d (form.Ref name table act null) next s t g h =
-    subst IsDraft (sym h) (column_kept d (record { name = name; kind = kind.Reference (unwrap_or (table_named d table) 0) act; null = null; line = n }) s t g.limits.0 (target_sound d table act null g.target))
+    subst IsDraft (sym h) (column_kept d (record { name = name; kind = kind.Reference (unwrap_or (table_named d table) 0) act; null = null; line = n }) s t g.limits.0 (target_sound d table act null g.target.0)
+    (subst (λ (ts : List (Option (ℕ × Action))). holds_steady (steady_tables d.tables) d.table.kept ts ≡ true)
+    (sym (targets_push d.table.columns (record { name = name; kind = kind.Reference (unwrap_or (table_named d table) 0) act; null = null; line = n }))) g.target.1))
 kept one r n d (form.Check tokens) next s t g h =
     let same = one (column_in (names_of d.table.columns)) tokens g.types.0 h.0 g.types.1 h.1 in
     let kinds : HasKinds (kinds_of d.table.columns) h.0 = subst (HasKinds (kinds_of d.table.columns)) same g.types.2 in
@@ -248,6 +298,9 @@ kept one r n d (form.Check tokens) next s t g h =
       matches = s.table.matches;
       uniques = s.table.uniques;
       at_most = s.table.at_most;
+      kept = s.table.kept;
+      steady = s.table.steady;
+      leaves = s.table.leaves;
     }))
 kept one r n d (form.Match column cmp reference target) next s t g h =
     subst IsDraft (sym h) (rules_kept d (record d.table { matches = d.table.matches ++ match_rule n d column cmp reference target ∷ [] }) s (in_table d t).0 (record {
@@ -259,8 +312,29 @@ kept one r n d (form.Match column cmp reference target) next s t g h =
       matches = all_push (IsSoundMatch d.tables d.table.columns) d.table.matches (match_rule n d column cmp reference target) s.table.matches (match_sound n d column reference target cmp g.names.1 g.types g.matchable);
       uniques = s.table.uniques;
       at_most = s.table.at_most;
+      kept = s.table.kept;
+      steady = s.table.steady;
+      leaves = s.table.leaves;
     }))
-kept one r n d (form.Unique column) next s t g h =
+kept one r n d (form.Unique column true) next s t g h =
+    let number = number_of d.table.columns column in
+    let two = and_parts (length d.table.uniques == 0) (d.table.at_most == 0) g.limits.2 in
+    let bare = no_elements d.table.uniques two.0 in
+    subst IsDraft (sym h) (rules_kept d (record d.table { uniques = d.table.uniques ++ record { column = number; line = n } ∷ []; kept = Some number }) s (in_table d t).0 (record {
+      few_columns = s.table.few_columns;
+      columns = s.table.columns;
+      few_checks = s.table.few_checks;
+      checks = s.table.checks;
+      few_matches = s.table.few_matches;
+      matches = s.table.matches;
+      uniques = all_push (IsSoundUnique d.table.columns) d.table.uniques (record { column = number; line = n }) s.table.uniques (unique_sound n d.table.columns column g.types);
+      at_most = s.table.at_most;
+      kept = (record { column = number; line = n }, ap (λ (us : List UniqueRule). us ++ record { column = number; line = n } ∷ []) bare, refl, eqb-true d.table.at_most 0 two.1);
+      steady = g.target.0;
+      leaves = g.target.1;
+    }))
+kept one r n d (form.Unique column false) next s t g h =
+    let none = is_none_None d.table.kept g.limits.2 in
     subst IsDraft (sym h) (rules_kept d (record d.table { uniques = d.table.uniques ++ record { column = number_of d.table.columns column; line = n } ∷ [] }) s (in_table d t).0 (record {
       few_columns = s.table.few_columns;
       columns = s.table.columns;
@@ -270,6 +344,9 @@ kept one r n d (form.Unique column) next s t g h =
       matches = s.table.matches;
       uniques = all_push (IsSoundUnique d.table.columns) d.table.uniques (record { column = number_of d.table.columns column; line = n }) s.table.uniques (unique_sound n d.table.columns column g.types);
       at_most = s.table.at_most;
+      kept = subst (IsKeptAlone (d.table.uniques ++ record { column = number_of d.table.columns column; line = n } ∷ []) d.table.at_most) (sym none) tt;
+      steady = s.table.steady;
+      leaves = s.table.leaves;
     }))
 kept one r n d (form.AtMost count) next s t g h =
     subst IsDraft (sym h) (rules_kept d (record d.table { at_most = nat_abs count; at_most_line = n }) s (in_table d t).0 (record {
@@ -281,6 +358,9 @@ kept one r n d (form.AtMost count) next s t g h =
       matches = s.table.matches;
       uniques = s.table.uniques;
       at_most = small_count count g.limits.0 g.limits.1;
+      kept = subst (IsKeptAlone d.table.uniques (nat_abs count)) (sym g.limits.3) tt;
+      steady = s.table.steady;
+      leaves = s.table.leaves;
     }))
 kept one r n d (form.Sample values) next s t g h =
     let turn = in_table d t in
@@ -299,6 +379,9 @@ kept one r n d (form.Sample values) next s t g h =
           matches = s.table.matches;
           uniques = s.table.uniques;
           at_most = s.table.at_most;
+          kept = s.table.kept;
+          steady = s.table.steady;
+          leaves = s.table.leaves;
         };
       });
       some_tables = λ e. omega (arith, length-append d.tables (whole ∷ []));
@@ -306,6 +389,7 @@ kept one r n d (form.Sample values) next s t g h =
       no_checks = λ e. absurd cc;
       no_matches = λ e. absurd cc;
       no_uniques = λ e. absurd cc;
+      no_kept = λ e. absurd cc;
       table = empty_sound (d.tables ++ whole ∷ []) [] false false;
     })
 

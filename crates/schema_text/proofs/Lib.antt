@@ -10,4 +10,5 @@ mod NameTexts
 mod Needs
 mod SampleRows
 mod SamplesAgain
+mod Steadiness
 mod Unique

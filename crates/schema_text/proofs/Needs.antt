@@ -40,6 +40,6 @@ can_add r d (form.Column name k null) s w g = (g.names.0, g.types)
 can_add r d (form.Ref name table act null) s w g = g.names.0
 can_add r d (form.Check tokens) s w g = can_build d (form.Check tokens) s w g.limits g.names
 can_add r d (form.Match column cmp reference target) s w g = tt
-can_add r d (form.Unique column) s w g = tt
+can_add r d (form.Unique column keeps) s w g = tt
 can_add r d (form.AtMost count) s w g = (g.limits.0, g.limits.1)
 can_add r d (form.Sample values) s w g = row_values d (form.Sample values) w g.limits

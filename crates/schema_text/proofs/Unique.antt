@@ -42,7 +42,7 @@ one_after one n d (form.Check tokens) a b h k =
     let same = one (column_in (names_of d.table.columns)) tokens h.0 k.0 h.1 k.1 in
     h.2 ∙ ap (λ (t : Tree). with_check n d t) same ∙ sym k.2
 one_after one n d (form.Match column cmp reference target) a b h k = h ∙ sym k
-one_after one n d (form.Unique column) a b h k = h ∙ sym k
+one_after one n d (form.Unique column keeps) a b h k = h ∙ sym k
 one_after one n d (form.AtMost count) a b h k = h ∙ sym k
 one_after one n d (form.Sample values) a b h k = h ∙ sym k
 

@@ -69,7 +69,7 @@ is_turn draft (form.Column name kind null) = is_columns draft.phase
 is_turn draft (form.Ref name table act null) = is_columns draft.phase
 is_turn draft (form.Check tokens) = has_columns draft
 is_turn draft (form.Match column cmp reference target) = has_columns draft
-is_turn draft (form.Unique column) = has_columns draft
+is_turn draft (form.Unique column keeps) = has_columns draft
 is_turn draft (form.AtMost count) = has_columns draft
 is_turn draft (form.Sample values) = has_columns draft
 

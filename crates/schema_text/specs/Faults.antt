@@ -1,6 +1,6 @@
 -- What each kind of fault asks of a line, by its form. A line is judged by these in turn: its form and turn, limits,
 -- names, targets, kinds, the references of a MATCH, and the sample.
-use Rattle.std.specs.Prelude.{◌≡◌, ℕ, pos, ◌<◌, ◌≤◌, ◌≤ℤ◌, Bool, false, not, ◌&&◌, ◌||◌, ◌==◌, nat_lt, List, length, All, Contains, Option, Some, None, IsTrue, IsSome, MatchOption, bytes_eq}
+use Rattle.std.specs.Prelude.{◌≡◌, ℕ, pos, ◌<◌, ◌≤◌, ◌≤ℤ◌, Bool, false, not, ◌&&◌, ◌||◌, ◌==◌, nat_lt, List, length, All, Contains, [], ◌∷◌, ◌++◌, is_none, unwrap_or, true, Option, Some, None, IsTrue, IsSome, MatchOption, bytes_eq}
 use Rattle.std.specs.List.{list_any, list_all}
 use Rattle.update_model.specs.declared.limits.TheConstants.{MAX_TEXT}
 use Rattle.update_model.specs.declared.value.Value.{Value}
@@ -30,6 +30,7 @@ use Rattle.schema.specs.declared.limits.TheConstants.{MAX_CHECKS, MAX_COLUMNS, M
 use Rattle.schema.specs.declared.rules.MatchRule.{MatchRule}
 use Rattle.schema.specs.Checks.{checks_hold}
 use Rattle.schema.specs.Columns.{is_reference, kinds_of, names_of, number_named, column_named, reference_at, reference_named, is_restrict, is_set_null, are_comparable}
+use Rattle.schema.specs.Least.{holds_steady, leaves_itself, steady_tables, targets_of}
 use Rattle.schema_text.specs.Drafts.{table_at, table_named}
 use Rattle.schema_text.specs.Written.{sample_row, plain_count}
 use Rattle.schema.specs.Rows.{fits_sample}
@@ -58,6 +59,12 @@ abbrev pub is_unique : TableDef → Option ℕ → Bool
 is_unique table None = false
 is_unique table (Some column) = list_any (λ rule. rule.column == column) table.uniques
 
+-- whether a table may have one more UNIQUE: one with KEEP LEAST where it has neither a UNIQUE nor an ATMOST, another
+-- one where it has none with KEEP LEAST
+abbrev pub may_be_unique : TableDef → Bool → Bool
+may_be_unique table true = (length table.uniques == 0) && (table.at_most == 0)
+may_be_unique table false = is_none table.kept
+
 -- There is room for a column, whose name is not too long.
 abbrev pub MayHaveMore : List Column → List ℕ → Type 0
 MayHaveMore columns name = (length columns < MAX_COLUMNS) × IsShort name
@@ -71,8 +78,9 @@ IsWithinLimits draft (form.Column name kind null) = MayHaveMore draft.table.colu
 IsWithinLimits draft (form.Ref name table act null) = MayHaveMore draft.table.columns name
 IsWithinLimits draft (form.Check tokens) = (length draft.table.checks < MAX_CHECKS) × AreFewAndShort tokens
 IsWithinLimits draft (form.Match column cmp reference target) = (length draft.table.matches < MAX_MATCHES) × IsShort column × IsShort reference × IsShort target
-IsWithinLimits draft (form.Unique column) = IsShort column × (is_unique draft.table (number_named draft.table.columns column) ≡ false)
-IsWithinLimits draft (form.AtMost count) = (pos 1 ≤ℤ count) × (count ≤ℤ MAX_ROWS) × (draft.table.at_most ≡ 0)
+IsWithinLimits draft (form.Unique column keeps) =
+    IsShort column × (is_unique draft.table (number_named draft.table.columns column) ≡ false) × IsTrue (may_be_unique draft.table keeps)
+IsWithinLimits draft (form.AtMost count) = (pos 1 ≤ℤ count) × (count ≤ℤ MAX_ROWS) × (draft.table.at_most ≡ 0) × (draft.table.kept ≡ None)
 IsWithinLimits draft (form.Sample values) = All HasShortValue values
 
 -- A name that no table has.
@@ -101,7 +109,7 @@ IsNamed draft (form.Ref name table act null) = IsNewColumn draft.table.columns n
 IsNamed draft (form.Check tokens) = All (IsKnown (names_of draft.table.columns)) tokens
 IsNamed draft (form.Match column cmp reference target) =
     IsColumn draft.table.columns column × IsColumn draft.table.columns reference × HasTargetColumn draft reference target
-IsNamed draft (form.Unique column) = IsColumn draft.table.columns column
+IsNamed draft (form.Unique column keeps) = IsColumn draft.table.columns column
 IsNamed draft (form.AtMost count) = Unit {0}
 IsNamed draft (form.Sample values) = Unit {0}
 
@@ -110,9 +118,26 @@ abbrev pub HasGoodTarget : Draft → List ℕ → Action → Bool → Type 0
 HasGoodTarget draft table act null =
     MatchOption (table_named draft table) ⊥ (λ number. IsTrue (null || nat_lt number (length draft.tables)) × IsTrue (null || not (is_set_null act)))
 
--- A reference is to such a table.
+-- what the columns of the table that has begun refer to, with one more reference
+abbrev pub targets_with : Draft → List ℕ → Action → List (Option (ℕ × Action))
+targets_with draft table act = targets_of draft.table.columns ++ Some (unwrap_or (table_named draft table) 0, act) ∷ []
+
+-- A reference is to such a table, and with it no RESTRICT reference is to a table whose rows may be hidden for a
+-- lesser one.
+abbrev pub IsReference : Draft → List ℕ → Action → Bool → Type 0
+IsReference draft table act null =
+    HasGoodTarget draft table act null × IsTrue (holds_steady (steady_tables draft.tables) draft.table.kept (targets_with draft table act))
+
+-- The table that has begun holds on to no row of its own by RESTRICT, and does not refer to itself by CASCADE.
+abbrev pub MayKeep : Draft → Type 0
+MayKeep draft = IsTrue (holds_steady (steady_tables draft.tables) (Some 0) (targets_of draft.table.columns))
+    × IsTrue (leaves_itself (length draft.tables) (Some 0) (targets_of draft.table.columns))
+
+-- No line brings in a RESTRICT reference to rows that may be hidden for a lesser one, or a table that keeps the least
+-- row and refers to itself by CASCADE.
 abbrev pub HasTarget : Draft → Form → Type 0
-HasTarget draft (form.Ref name table act null) = HasGoodTarget draft table act null
+HasTarget draft (form.Ref name table act null) = IsReference draft table act null
+HasTarget draft (form.Unique column true) = MayKeep draft
 HasTarget draft other = Unit {0}
 
 -- Bounds that rise, and for lengths are from 0 to the longest of a text in a row.
@@ -144,7 +169,7 @@ IsTyped draft (form.Author key) = IsKnownKey key
 IsTyped draft (form.Column name kind null) = AreBounds kind
 IsTyped draft (form.Check tokens) = IsTypedCheck draft.table.columns tokens
 IsTyped draft (form.Match column cmp reference target) = IsTypedMatch draft column reference target
-IsTyped draft (form.Unique column) = IsTypedUnique draft.table.columns column
+IsTyped draft (form.Unique column keeps) = IsTypedUnique draft.table.columns column
 IsTyped draft other = Unit {0}
 
 -- A reference is not RESTRICT.
@@ -156,7 +181,8 @@ abbrev pub IsMatchable : Draft → Form → Type 0
 IsMatchable draft (form.Match column cmp reference target) = MayMatch draft reference
 IsMatchable draft other = Unit {0}
 
--- a comparison of a row's value with the sample of the table that a reference names, which is not asked of a table itself
+-- a comparison of a row's value with the sample of the table that a reference names, which is not asked of a table
+-- itself
 abbrev pub matches_target : Draft → List Value → MatchRule → Option (ℕ × Action) → Bool
 matches_target draft row rule None = false
 matches_target draft row rule (Some target) =

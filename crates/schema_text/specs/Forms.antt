@@ -149,10 +149,16 @@ match_form (column ∷ sign ∷ path ∷ []) =
     option_and_then (λ c. option_map (λ p. form.Match (spelled column) c p.0 p.1) (path_in (spelled path))) (sign_in sign)
 match_form (column ∷ sign ∷ path ∷ w ∷ ws) = None
 
+-- nothing, or KEEP LEAST
+abbrev pub keeps_in : List Word → Option Bool
+keeps_in [] = Some false
+keeps_in (w ∷ []) = None
+keeps_in (w ∷ v ∷ []) = if is_word (codes "KEEP") w && is_word (codes "LEAST") v then Some true else None
+keeps_in (w ∷ v ∷ u ∷ ws) = None
+
 abbrev pub unique_form : List Word → Option Form
 unique_form [] = None
-unique_form (column ∷ []) = Some (form.Unique (spelled column))
-unique_form (column ∷ w ∷ ws) = None
+unique_form (column ∷ end) = option_map (λ keeps. form.Unique (spelled column) keeps) (keeps_in end)
 
 abbrev pub at_most_form : List Word → Option Form
 at_most_form [] = None

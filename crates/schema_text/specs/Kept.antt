@@ -1,5 +1,5 @@
 -- What the lines so far keep, and what a line has to be for a draft to take it.
-use Rattle.std.specs.Prelude.{◌≡◌, pos, ◌<◌, ◌≤◌, ◌≤ℤ◌, [], length, IsTrue, All}
+use Rattle.std.specs.Prelude.{◌≡◌, pos, ◌<◌, ◌≤◌, ◌≤ℤ◌, [], None, length, IsTrue, All}
 use Rattle.update_model.specs.Text.{IsText}
 use Rattle.text_words.specs.declared.literal.Literal.TheVariants as literal
 use Rattle.text_words.specs.Names.{is_a_name}
@@ -28,6 +28,7 @@ pub record IsDraft (draft : Draft) : Type 0 where
   pub no_checks : IsTrue (is_columns draft.phase) → draft.table.checks ≡ []
   pub no_matches : IsTrue (is_columns draft.phase) → draft.table.matches ≡ []
   pub no_uniques : IsTrue (is_columns draft.phase) → draft.table.uniques ≡ []
+  pub no_kept : IsTrue (is_columns draft.phase) → draft.table.kept ≡ None
 
 -- What an expression needs to be built over the columns of a table.
 abbrev pub CanBuild : Draft → Form → Type 0
@@ -54,6 +55,6 @@ CanAdd draft (form.Column name kind null) = IsTrue (is_a_name name) × AreBounds
 CanAdd draft (form.Ref name table act null) = IsTrue (is_a_name name)
 CanAdd draft (form.Check tokens) = CanBuild draft (form.Check tokens)
 CanAdd draft (form.Match column cmp reference target) = Unit {0}
-CanAdd draft (form.Unique column) = Unit {0}
+CanAdd draft (form.Unique column keeps) = Unit {0}
 CanAdd draft (form.AtMost count) = (pos 1 ≤ℤ count) × (count ≤ℤ MAX_ROWS)
 CanAdd draft (form.Sample values) = All IsRowValue values

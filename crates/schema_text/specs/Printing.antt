@@ -96,6 +96,11 @@ token_text token.Close = codes ")"
 token_text token.Comma = codes ","
 token_text token.Bad = []
 
+-- nothing, or KEEP LEAST
+abbrev pub keeps_texts : Bool → List (List ℕ)
+keeps_texts false = []
+keeps_texts true = codes "KEEP" ∷ codes "LEAST" ∷ []
+
 -- ---- lines
 
 -- a form as a line
@@ -107,7 +112,7 @@ form_text (form.Column name kind null) = codes "COLUMN" ++ behind_blanks (name �
 form_text (form.Ref name table act null) = codes "REF" ++ behind_blanks (name ∷ table ∷ action_text act ∷ null_texts null)
 form_text (form.Check tokens) = codes "CHECK" ++ behind_blanks (map token_text tokens)
 form_text (form.Match column sign reference target) = codes "MATCH" ++ behind_blanks (column ∷ sign_text sign ∷ (reference ++ 46 ∷ target) ∷ [])
-form_text (form.Unique column) = codes "UNIQUE" ++ behind_blanks (column ∷ [])
+form_text (form.Unique column keeps) = codes "UNIQUE" ++ behind_blanks (column ∷ keeps_texts keeps)
 form_text (form.AtMost count) = codes "ATMOST" ++ behind_blanks (signed_decimal count ∷ [])
 form_text (form.Sample values) = codes "SAMPLE" ++ behind_blanks (map sample_text values)
 
@@ -160,6 +165,6 @@ HasLine (form.Column name kind null) = IsBare Spaced name × HasBounds kind
 HasLine (form.Ref name table act null) = IsBare Spaced name × IsBare Spaced table
 HasLine (form.Check tokens) = AllByRecursion IsTokenOfText tokens
 HasLine (form.Match column sign reference target) = IsBare Spaced column × IsBare Spaced (reference ++ 46 ∷ target) × HasNoDot reference
-HasLine (form.Unique column) = IsBare Spaced column
+HasLine (form.Unique column keeps) = IsBare Spaced column
 HasLine (form.AtMost count) = FitsSigned w64 count
 HasLine (form.Sample values) = AllByRecursion IsValueOfText values

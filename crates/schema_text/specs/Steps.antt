@@ -1,5 +1,5 @@
 -- What a line of each form adds to a draft.
-use Rattle.std.specs.Prelude.{◌≡◌, ℕ, nat_abs, Bool, List, [], ◌∷◌, ◌++◌, Option, Some, None, unwrap_or}
+use Rattle.std.specs.Prelude.{◌≡◌, ℕ, nat_abs, Bool, true, false, List, [], ◌∷◌, ◌++◌, Option, Some, None, unwrap_or}
 use Rattle.row_check.specs.declared.cmp.Cmp.{Cmp}
 use Rattle.expression_text.specs.declared.token.Token.{Token}
 use Rattle.row_check.specs.Trees.{Tree}
@@ -48,8 +48,16 @@ abbrev pub with_match : ℕ → Draft → List ℕ → Cmp → List ℕ → List
 with_match line draft column cmp reference target =
     with_rules draft (record draft.table { matches = draft.table.matches ++ match_rule line draft column cmp reference target ∷ [] })
 
-abbrev pub with_unique : ℕ → Draft → List ℕ → Draft
-with_unique line draft column = with_rules draft (record draft.table { uniques = draft.table.uniques ++ record { column = number_of draft.table.columns column; line = line } ∷ [] })
+-- the column of a UNIQUE with KEEP LEAST, where a line is one, and else what there was before
+abbrev pub kept_after : Option ℕ → Bool → ℕ → Option ℕ
+kept_after before true column = Some column
+kept_after before false column = before
+
+abbrev pub with_unique : ℕ → Draft → List ℕ → Bool → Draft
+with_unique line draft column keeps = with_rules draft (record draft.table {
+  uniques = draft.table.uniques ++ record { column = number_of draft.table.columns column; line = line } ∷ [];
+  kept = kept_after draft.table.kept keeps (number_of draft.table.columns column);
+})
 
 -- the table that has begun ends with this sample
 abbrev pub with_sample : Draft → List SampleValue → Draft
@@ -77,6 +85,6 @@ IsAfter line draft (form.Ref name table act null) next =
     next ≡ with_column draft (record { name = name; kind = kind.Reference (unwrap_or (table_named draft table) 0) act; null = null; line = line })
 IsAfter line draft (form.Check tokens) next = IsCheckAdded line draft tokens next
 IsAfter line draft (form.Match column cmp reference target) next = next ≡ with_match line draft column cmp reference target
-IsAfter line draft (form.Unique column) next = next ≡ with_unique line draft column
+IsAfter line draft (form.Unique column keeps) next = next ≡ with_unique line draft column keeps
 IsAfter line draft (form.AtMost count) next = next ≡ with_rules draft (record draft.table { at_most = nat_abs count; at_most_line = line })
 IsAfter line draft (form.Sample values) next = next ≡ with_sample draft values

@@ -8,7 +8,7 @@ ghost use Rattle.text_words.specs.Names.{is_a_name};
 ghost use Rattle.schema_text.specs.Drafts.{kind_declared, with_column};
 ghost use Rattle.schema_text.specs.Faults.{AreBounds};
 ghost use Rattle.schema_text.specs.Kept.{IsDraft, CanAdd, IsRowValue};
-ghost use Rattle.schema_text.specs.Steps.{IsAfter, IsCheckAdded, number_of, target_number, match_rule, with_match, with_unique, with_sample, with_table};
+ghost use Rattle.schema_text.specs.Steps.{IsAfter, IsCheckAdded, kept_after, number_of, target_number, match_rule, with_match, with_unique, with_sample, with_table};
 
 use crate::MAX_TOKENS;
 use crate::draft::{Draft, Phase, no_table};
@@ -68,7 +68,7 @@ impl Draft {
                 reference.as_slice(),
                 target_column.as_slice(),
             ),
-            Form::Unique { column } => self.add_unique(line, column.as_slice()),
+            Form::Unique { column, keeps } => self.add_unique(line, column.as_slice(), *keeps),
             Form::AtMost { count } => {
                 self.phase = Phase::Rules;
                 self.table.at_most = count.unsigned_abs() as u8;
@@ -180,12 +180,13 @@ impl Draft {
         }
     }
 
-    fn add_unique(&mut self, line: u32, column: &[u8]) -> Result<(), AllocError>
+    fn add_unique(&mut self, line: u32, column: &[u8], keeps: bool) -> Result<(), AllocError>
         requires { length self.old.table.columns ≤ MAX_COLUMNS }
-        ensures { OnOk result (self.new ≡ with_unique line self.old column.now) }
+        ensures { OnOk result (self.new ≡ with_unique line self.old column.now keeps) }
     {
         let column = number_of(self.table.columns.as_slice(), column);
         self.phase = Phase::Rules;
+        self.table.kept = kept_after(self.table.kept, keeps, column);
         self.table.uniques.push(UniqueRule { column, line })
     }
 
@@ -200,6 +201,13 @@ impl Draft {
         self.phase = Phase::Between;
         self.tables.push(table)
     }
+}
+
+/// The column of the `UNIQUE` with `KEEP LEAST` after one more line.
+fn kept_after(before: Option<u8>, keeps: bool, column: u8) -> Option<u8>
+    ensures { result ≡ kept_after before keeps column }
+{
+    if keeps { Some(column) } else { before }
 }
 
 /// A name as a text.

@@ -93,6 +93,7 @@ pub(crate) fn no_table(alloc: Global) -> TableDef
         checks: CheckList::from_vec(Vec::new(alloc)),
         matches: MatchList::from_vec(Vec::new(alloc)),
         uniques: UniqueList::from_vec(Vec::new(alloc)),
+        kept: None,
         at_most: 0,
         at_most_line: 0,
         deletable: false,

@@ -45,9 +45,10 @@ pub(crate) enum Form {
         reference: ByteString,
         target_column: ByteString,
     },
-    /// `UNIQUE column`
+    /// `UNIQUE column [KEEP LEAST]`
     Unique {
         column: ByteString,
+        keeps: bool,
     },
     /// `ATMOST k`
     AtMost {

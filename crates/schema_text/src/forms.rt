@@ -1,7 +1,7 @@
 //! The forms of lines.
 
 ghost use Rattle.std.specs.Prelude.{◌≡◌, ◌↔◌, ℕ, All, IsTrue, IfOk, IsUtf8, option_map};
-ghost use Rattle.schema_text.specs.Forms.{HasUtf8, HasUtf8Text, IsWhole, IsForm, author_form, author_in, kind_in, at_most_form, after_check, check_form, column_form, database_form, form_at, form_with, match_form, plain_form, ref_form, sample_form, table_form, unique_form};
+ghost use Rattle.schema_text.specs.Forms.{HasUtf8, HasUtf8Text, IsWhole, IsForm, author_form, author_in, keeps_in, kind_in, at_most_form, after_check, check_form, column_form, database_form, form_at, form_with, match_form, plain_form, ref_form, sample_form, table_form, unique_form};
 
 use crate::form::{Form, PlainKind, SampleValue};
 use crate::keyword::Keyword;
@@ -273,11 +273,28 @@ fn match_form(alloc: Global, words: &[Word]) -> Result<Option<Form>, AllocError>
 fn unique_form(alloc: Global, words: &[Word]) -> Result<Option<Form>, AllocError>
     ensures { IfOk result (λ found. found ≡ unique_form words.now) }
 {
+    let [column, end @ ..] = words else {
+        return Ok(None);
+    };
+    let Some(keeps) = keeps_in(end) else {
+        return Ok(None);
+    };
+    Ok(Some(Form::Unique {
+        column: spelled(alloc, column)?,
+        keeps,
+    }))
+}
+
+/// Whether a `UNIQUE` keeps the least row, by what stands at its end: nothing, or `KEEP LEAST`.
+fn keeps_in(words: &[Word]) -> Option<bool>
+    ensures { result ≡ keeps_in words.now }
+{
     match words {
-        [column] => Ok(Some(Form::Unique {
-            column: spelled(alloc, column)?,
-        })),
-        _ => Ok(None),
+        [] => Some(false),
+        [first, second] => {
+            (is_word(b"KEEP", first) && is_word(b"LEAST", second)).then_some(true)
+        }
+        _ => None,
     }
 }
 

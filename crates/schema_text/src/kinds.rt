@@ -5,12 +5,14 @@ ghost use Rattle.update_model.specs.Form.{IsKnownKey};
 ghost use Rattle.expression_text.specs.Columns.{IsKnown, HasRowText};
 ghost use Rattle.expression_text.specs.Grammar.{IsExpression};
 ghost use Rattle.schema.specs.Columns.{is_set_null, is_restrict, is_reference, is_comparable, are_comparable, kind_seen, kinds_of, names_of};
-ghost use Rattle.schema_text.specs.Faults.{HasTarget, HasGoodTarget, IsTyped, AreBounds, IsTypedCheck, IsTypedMatch, IsTypedUnique, IsMatchable, MayMatch};
+ghost use Rattle.schema_text.specs.Faults.{HasTarget, HasGoodTarget, IsReference, MayKeep, targets_with, IsTyped, AreBounds, IsTypedCheck, IsTypedMatch, IsTypedUnique, IsMatchable, MayMatch};
 ghost use Rattle.schema_text.specs.Kept.{CanBuild};
+ghost use Rattle.schema.specs.Least.{holds_steady, steady_tables};
 
 use crate::MAX_TOKENS;
 use crate::draft::Draft;
 use crate::form::{Form, PlainKind};
+use crate::least::{holds_steady, leaves_itself, steady_tables, targets_of};
 use crate::lookups::{column_named, columns_at, reference_named, table_named};
 use crate::names::expression_of;
 use expression_text::{Token, has_kinds, one_expression};
@@ -19,9 +21,11 @@ use schema::{Action, Column, ColumnKind, MAX_COLUMNS};
 use std::alloc::{AllocError, Global};
 use update_model::{AuthorKey, MAX_TEXT};
 
-/// Whether a reference is to an earlier table, or to its own with NULL, and SETNULL has NULL.
-pub(crate) fn has_target(draft: &Draft, form: &Form) -> bool
-    ensures { IsTrue result ↔ HasTarget draft.now form.now }
+/// Whether a reference is to an earlier table, or to its own with NULL, SETNULL has NULL, and no line brings in a
+/// `RESTRICT` reference to rows that may be hidden for a lesser one, or a table that keeps the least row and refers to
+/// itself by `CASCADE`.
+pub(crate) fn has_target(alloc: Global, draft: &Draft, form: &Form) -> Result<bool, AllocError>
+    ensures { IfOk result (λ answer. IsTrue answer ↔ HasTarget draft.now form.now) }
 {
     match form {
         Form::Ref {
@@ -29,9 +33,69 @@ pub(crate) fn has_target(draft: &Draft, form: &Form) -> bool
             action,
             null,
             ..
-        } => has_good_target(draft, table.as_slice(), *action, *null),
-        _ => true,
+        } => is_good_reference(alloc, draft, table.as_slice(), *action, *null),
+        Form::Unique { keeps: true, .. } => may_keep(alloc, draft),
+        _ => Ok(true),
     }
+}
+
+/// What the columns of the table that has begun refer to, with one more reference.
+fn targets_with(
+    alloc: Global,
+    draft: &Draft,
+    table: &[u8],
+    action: Action,
+) -> Result<Vec<Option<(usize, Action)>>, AllocError>
+    ensures { IfOk result (λ targets. targets.items ≡ targets_with draft.now table.now action) }
+{
+    let mut targets = targets_of(alloc, draft.table.columns.as_slice())?;
+    targets.push(Some((table_named(draft, table).unwrap_or(0), action)))?;
+    Ok(targets)
+}
+
+/// Whether with one more reference no `RESTRICT` reference is to a table whose rows may be hidden for a lesser one.
+fn holds_steady_with(
+    alloc: Global,
+    draft: &Draft,
+    table: &[u8],
+    action: Action,
+) -> Result<bool, AllocError>
+    ensures { IfOk result (λ answer. answer ≡ holds_steady (steady_tables draft.now.tables) draft.now.table.kept (targets_with draft.now table.now action)) }
+{
+    let known = steady_tables(alloc, draft.tables.as_slice())?;
+    let targets = targets_with(alloc, draft, table, action)?;
+    holds_steady(known, draft.table.kept, targets.as_slice())
+}
+
+/// Whether a reference is to such a table, and with it no `RESTRICT` reference is to a table whose rows may be hidden
+/// for a lesser one.
+fn is_good_reference(
+    alloc: Global,
+    draft: &Draft,
+    table: &[u8],
+    action: Action,
+    null: bool,
+) -> Result<bool, AllocError>
+    ensures { IfOk result (λ answer. IsTrue answer ↔ IsReference draft.now table.now action null) }
+{
+    if !has_good_target(draft, table, action, null) {
+        return Ok(false);
+    }
+    holds_steady_with(alloc, draft, table, action)
+}
+
+/// Whether the table that has begun holds on to no row of its own by `RESTRICT`, and does not refer to itself by
+/// `CASCADE`.
+fn may_keep(alloc: Global, draft: &Draft) -> Result<bool, AllocError>
+    ensures { IfOk result (λ answer. IsTrue answer ↔ MayKeep draft.now) }
+{
+    let known = steady_tables(alloc, draft.tables.as_slice())?;
+    let targets = targets_of(alloc, draft.table.columns.as_slice())?;
+    let number = draft.tables.as_slice().len();
+    Ok(
+        holds_steady(known, Some(0), targets.as_slice())?
+            && leaves_itself(number, Some(0), targets.as_slice()),
+    )
 }
 
 fn has_good_target(draft: &Draft, table: &[u8], action: Action, null: bool) -> bool
@@ -78,7 +142,7 @@ pub(crate) fn is_typed(alloc: Global, draft: &Draft, form: &Form) -> Result<bool
             reference.as_slice(),
             target_column.as_slice(),
         ),
-        Form::Unique { column } => is_typed_unique(columns, column.as_slice()),
+        Form::Unique { column, .. } => is_typed_unique(columns, column.as_slice()),
         Form::Database { .. } => true,
         Form::Table { .. } => true,
         Form::Ref { .. } => true,

@@ -28,6 +28,7 @@ mod forms;
 mod keyword;
 mod kinds;
 mod laws;
+mod least;
 mod limits;
 mod lookups;
 mod names;

@@ -1,6 +1,6 @@
 ghost use Rattle.std.specs.Prelude.{◌≡◌, ◌==◌, ◌↔◌, IsTrue, All};
 ghost use Rattle.std.specs.List.{list_any};
-ghost use Rattle.schema_text.specs.Faults.{IsWithinLimits, IsShort, MayHaveMore, AreFewAndShort, HasShortName, HasShortValue, is_unique, is_overlong};
+ghost use Rattle.schema_text.specs.Faults.{IsWithinLimits, IsShort, MayHaveMore, AreFewAndShort, HasShortName, HasShortValue, is_unique, is_overlong, may_be_unique};
 
 use crate::draft::Draft;
 use crate::form::{Form, SampleValue};
@@ -52,14 +52,17 @@ pub(crate) fn is_within_limits(draft: &Draft, form: &Form) -> bool
                 && is_short(reference.as_slice())
                 && is_short(target_column.as_slice())
         }
-        Form::Unique { column } => {
+        Form::Unique { column, keeps } => {
             is_short(column.as_slice())
                 && !is_unique(
                     table,
                     number_named(table.columns.as_slice(), column.as_slice()),
                 )
+                && may_be_unique(table, *keeps)
         }
-        Form::AtMost { count } => 1 <= *count && *count <= MAX_ROWS && table.at_most == 0,
+        Form::AtMost { count } => {
+            1 <= *count && *count <= MAX_ROWS && table.at_most == 0 && table.kept.is_none()
+        }
         Form::Sample { values } => are_short_values(values.as_slice()),
     }
 }
@@ -112,6 +115,18 @@ fn is_short_value(value: &SampleValue) -> bool
     match value {
         SampleValue::Literal(Literal::Text(text)) => text.as_slice().len() <= usize::from(MAX_TEXT),
         _ => true,
+    }
+}
+
+/// Whether a table may have one more `UNIQUE`: one with `KEEP LEAST` where it has neither a `UNIQUE` nor an `ATMOST`,
+/// another one where it has none with `KEEP LEAST`.
+fn may_be_unique(table: &TableDef, keeps: bool) -> bool
+    ensures { result ≡ may_be_unique table.now keeps }
+{
+    if keeps {
+        table.uniques.as_slice().is_empty() && table.at_most == 0
+    } else {
+        table.kept.is_none()
     }
 }
 

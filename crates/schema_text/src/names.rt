@@ -37,7 +37,7 @@ pub(crate) fn is_named(alloc: Global, draft: &Draft, form: &Form) -> Result<bool
                 && is_column(columns, reference.as_slice())
                 && has_target_column(draft, reference.as_slice(), target_column.as_slice())
         }
-        Form::Unique { column } => is_column(columns, column.as_slice()),
+        Form::Unique { column, .. } => is_column(columns, column.as_slice()),
         Form::Author { .. } => true,
         Form::AtMost { .. } => true,
         Form::Sample { .. } => true,

@@ -208,7 +208,7 @@ fn judge<L: Relation, C: Checks<L>>(
     if !is_named(alloc, draft, form)? {
         return Ok(Some(SchemaKind::Name));
     }
-    if !has_target(draft, form) {
+    if !has_target(alloc, draft, form)? {
         return Ok(Some(SchemaKind::Target));
     }
     if !is_typed(alloc, draft, form)? {

@@ -130,7 +130,7 @@ all_taken : (bytes text rest : List ℕ) → Takes bytes text rest → rest ≡ 
 all_taken bytes text rest t none = t.parts ∙ ap (λ (r : List ℕ). text ++ r) none ∙ append-nil text
 
 -- what was read as a Hello is the spelling of one
-pub hello_takes : (bytes : List ℕ) (hello : HelloData) → AreBytes bytes → hello_in bytes ≡ Some hello → (let payload : List ℕ = 1 ∷ bytes in payload ≡ hello_payload hello) × IsHello hello × HasBlocks hello
+pub hello_takes : (bytes : List ℕ) (hello : HelloData) → AreBytes bytes → hello_in bytes ≡ Some hello → (let payload : List ℕ = 2 ∷ bytes in payload ≡ hello_payload hello) × IsHello hello × HasBlocks hello
 unfolding hello_in
 hello_takes bytes hello fits e =
     let a = bind_some (block_at 32 bytes) _ hello e in
@@ -145,7 +145,7 @@ hello_takes bytes hello fits e =
     let td = counted_takes w16 u16_takes 4096 c.0.1 d.0 tc.takes.rest_fits d.1 in
     let tf = filter_takes d.0.1 f.0 td.takes.rest_fits f.1 in
     rw (← some_is _ hello ended.1) (
-      ap (λ (t : List ℕ). 1 ∷ t) (all_taken bytes _ f.0.1 (Takes-then ta.0 (Takes-then tb.0 (Takes-then tc.takes (Takes-then td.takes tf.0)))) (none_left f.0.1 ended.0)),
+      ap (λ (t : List ℕ). 2 ∷ t) (all_taken bytes _ f.0.1 (Takes-then ta.0 (Takes-then tb.0 (Takes-then tc.takes (Takes-then td.takes tf.0)))) (none_left f.0.1 ended.0)),
       record { few_heads = tc.few; heads = tc.sorted; few_old = td.few; old = td.sorted; small = tf.1 },
       record { database = ta.1; node = tb.1; heads = tc.are; old = td.are },
     )

@@ -25,15 +25,15 @@ three_kinds kind len h = elim (or_cases (((kind == 1) || (kind == 3)) && nat_le 
 greeting_says : (payload : List ℕ) (frame : Frame) → AreBytes payload → greeting_in payload ≡ Some frame → Says (raw_of 1 payload) frame
 unfolding greeting_in
 greeting_says [] frame fits e = absurd cc
-greeting_says (version ∷ rest) frame fits e = elim (cases_Bool (eqb version 1)) [
+greeting_says (version ∷ rest) frame fits e = elim (cases_Bool (eqb version 2)) [
   | inl one ↦
-      let is : (hello_in rest >>= λ hello. Some (frames.Hello hello)) ≡ Some frame = sym (cond-true (eqb version 1) _ _ one) ∙ e in
+      let is : (hello_in rest >>= λ hello. Some (frames.Hello hello)) ≡ Some frame = sym (cond-true (eqb version 2) _ _ one) ∙ e in
       let a = bind_some (hello_in rest) _ frame is in
       let t = hello_takes rest a.0 (λ i. fits (suc i)) a.1 in
-      rw (← some_is _ frame a.2) (refl, ap (λ v. v ∷ rest) (eqb-true version 1 one) ∙ t.0, t.1, t.2)
+      rw (← some_is _ frame a.2) (refl, ap (λ v. v ∷ rest) (eqb-true version 2 one) ∙ t.0, t.1, t.2)
   | inr other ↦
-      let is : (let x : Option Frame = Some (frames.OtherVersion version) in x) ≡ Some frame = sym (cond-false (eqb version 1) _ _ other) ∙ e in
-      rw (← some_is _ frame is) (refl, eqb-false version 1 other, (rest, refl))
+      let is : (let x : Option Frame = Some (frames.OtherVersion version) in x) ≡ Some frame = sym (cond-false (eqb version 2) _ _ other) ∙ e in
+      rw (← some_is _ frame is) (refl, eqb-false version 2 other, (rest, refl))
 ]
 
 -- What is read in a payload of one of the three kinds is what it says.
@@ -57,7 +57,7 @@ unfolding frame_in greeting_in
 frame_again raw (frames.Hello hello) (kind, payload, is, blocks) =
     ap (λ (k : ℕ). frame_in k raw.payload) kind ∙ ap (λ (p : List ℕ). frame_in 1 p) payload ∙ then_is (hello_in (behind_version hello)) _ hello _ (hello_again hello is blocks) refl
 frame_again raw (frames.OtherVersion version) (kind, other, behind) =
-    ap (λ (k : ℕ). frame_in k raw.payload) kind ∙ ap (λ (p : List ℕ). frame_in 1 p) behind.1 ∙ cond-false (eqb version 1) _ _ (ne_eqb version 1 other)
+    ap (λ (k : ℕ). frame_in k raw.payload) kind ∙ ap (λ (p : List ℕ). frame_in 1 p) behind.1 ∙ cond-false (eqb version 2) _ _ (ne_eqb version 2 other)
 frame_again raw (frames.Item bytes) (kind, payload) = ap (λ (k : ℕ). frame_in k raw.payload) kind ∙ ap (λ (p : List ℕ). frame_in 2 p) payload
 frame_again raw (frames.Turn turn) (kind, payload, is, are) =
     ap (λ (k : ℕ). frame_in k raw.payload) kind ∙ ap (λ (p : List ℕ). frame_in 3 p) payload ∙ then_is (turn_in (turn_payload turn)) _ turn _ (turn_again turn is are) refl

@@ -49,7 +49,7 @@ hello_flat : (front : List ℕ) (v d n hc h oc o fc f : List ℕ)
 hello_flat front v d n hc h oc o fc f = simp append_assoc
 
 pub hello_written : (hello : HelloData) (len : ℕ) (bytes : List ℕ) → IsHello hello → HasBlocks hello → len ≡ 75 + 32 * length hello.heads + 32 * length hello.old + length hello.filter
-    → bytes ≡ (((((((((1 ∷ to_be_bytes w32 len) ++ 1 ∷ []) ++ hello.database) ++ hello.node) ++ to_be_bytes w32 (length hello.heads)) ++ spelled_ids hello.heads)
+    → bytes ≡ (((((((((1 ∷ to_be_bytes w32 len) ++ 2 ∷ []) ++ hello.database) ++ hello.node) ++ to_be_bytes w32 (length hello.heads)) ++ spelled_ids hello.heads)
     ++ to_be_bytes w16 (length hello.old)) ++ spelled_ids hello.old) ++ to_be_bytes w32 (length hello.filter)) ++ hello.filter
     → Spells (frames.Hello hello) bytes
 hello_written hello len bytes is blocks size written =
@@ -57,7 +57,7 @@ hello_written hello len bytes is blocks size written =
     record {
       raw = raw_of 1 (hello_payload hello);
       whole =
-          written ∙ hello_flat (1 ∷ to_be_bytes w32 len) (1 ∷ []) hello.database hello.node (to_be_bytes w32 (length hello.heads)) (spelled_ids hello.heads)
+          written ∙ hello_flat (1 ∷ to_be_bytes w32 len) (2 ∷ []) hello.database hello.node (to_be_bytes w32 (length hello.heads)) (spelled_ids hello.heads)
           (to_be_bytes w16 (length hello.old)) (spelled_ids hello.old) (to_be_bytes w32 (length hello.filter)) hello.filter
           ∙ ap (λ n. (1 ∷ to_be_bytes w32 n) ++ hello_payload hello) long;
       head = head_one (length (hello_payload hello)) (let a = is.few_heads in let b = is.few_old in let d = is.small in omega arith);

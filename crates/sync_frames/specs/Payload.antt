@@ -56,10 +56,10 @@ spelled_ids ids = flat_map (λ id. id.0) ids
 abbrev pub counted : Width → List UpdateId → List ℕ
 counted w ids = to_be_bytes w (length ids) ++ spelled_ids ids
 
--- the payload of a Hello: the version, which is 1, the database, the node, the counted heads, the counted old heads, and
+-- the payload of a Hello: the version, which is 2, the database, the node, the counted heads, the counted old heads, and
 -- the filter behind its length
 abbrev pub hello_payload : HelloData → List ℕ
-hello_payload hello = 1 ∷ (hello.database ++ (hello.node ++ (counted w32 hello.heads ++ (counted w16 hello.old
+hello_payload hello = 2 ∷ (hello.database ++ (hello.node ++ (counted w32 hello.heads ++ (counted w16 hello.old
     ++ (to_be_bytes w32 (length hello.filter) ++ hello.filter)))))
 
 -- a truth value in a byte

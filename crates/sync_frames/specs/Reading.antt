@@ -111,7 +111,7 @@ turn_in bytes = do
 -- the payload of a Hello, which tells the version first
 unfoldable pub greeting_in : List ℕ → Option Frame
 greeting_in [] = None
-greeting_in (version ∷ rest) = if version == 1 then (hello_in rest >>= λ hello. Some (frames.Hello hello)) else Some (frames.OtherVersion version)
+greeting_in (version ∷ rest) = if version == 2 then (hello_in rest >>= λ hello. Some (frames.Hello hello)) else Some (frames.OtherVersion version)
 
 -- what a payload of this kind says
 unfoldable pub frame_in : ℕ → List ℕ → Option Frame

@@ -23,7 +23,7 @@ is_head kind len = ((kind == 1) || (kind == 3)) && nat_le len PAYLOAD_LIMIT || (
 -- What a frame says. A Hello of another version is told by its version alone, whatever follows.
 abbrev pub Says : RawFrame → Frame → Type 0
 Says raw (frames.Hello hello) = (raw.kind ≡ 1) × (raw.payload ≡ hello_payload hello) × IsHello hello × HasBlocks hello
-Says raw (frames.OtherVersion version) = (raw.kind ≡ 1) × (version ≢ 1) × ((rest : List ℕ) × (raw.payload ≡ version ∷ rest))
+Says raw (frames.OtherVersion version) = (raw.kind ≡ 1) × (version ≢ 2) × ((rest : List ℕ) × (raw.payload ≡ version ∷ rest))
 Says raw (frames.Item bytes) = (raw.kind ≡ 2) × (raw.payload ≡ bytes)
 Says raw (frames.Turn turn) = (raw.kind ≡ 3) × (raw.payload ≡ turn_payload turn) × IsTurn turn × AreIds turn.needs
 

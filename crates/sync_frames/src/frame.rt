@@ -6,7 +6,7 @@ use update_model::ByteList;
 pub enum Frame {
     /// How the other end greets this one.
     Hello(Hello),
-    /// A Hello of another version than 1, which this is.
+    /// A Hello of another version than 2, which this is.
     OtherVersion(u8),
     /// The bytes of an update, which nothing here judges.
     Item(ByteList),

@@ -138,7 +138,7 @@ fn greeting_of(alloc: Global, payload: &[u8]) -> Result<Frame, ReadError>
 {
     match payload {
         [] => Err(ReadError::NoForm),
-        [1, rest @ ..] => Ok(Frame::Hello(hello_of(alloc, rest)?)),
+        [2, rest @ ..] => Ok(Frame::Hello(hello_of(alloc, rest)?)),
         [version, ..] => Ok(Frame::OtherVersion(*version)),
     }
 }

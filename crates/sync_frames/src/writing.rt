@@ -21,7 +21,7 @@ pub fn write_hello(alloc: Global, hello: &Hello) -> Result<Vec<u8>, AllocError>
     let filter = hello.filter.as_slice();
     let len = 75 + 32 * heads.len() + 32 * old.len() + filter.len();
     let mut out = begun(alloc, 1, len as u32)?;
-    out.push(1)?;
+    out.push(2)?;
     out.extend_from_slice(&hello.database)?;
     out.extend_from_slice(&hello.node)?;
     put_u32(&mut out, heads.len() as u32)?;

@@ -11,6 +11,8 @@ use Rattle.session_rules.specs.Pair.{grown}
 use Rattle.session_rules.specs.State.{SessionData}
 use Rattle.sync_session.specs.Kept.{Kept, BelongsTo, Stands, seen, whole}
 use Rattle.sync_session.proofs.TurnTaking.{front_stays}
+use Rattle.sync_session.proofs.Wanting.{sought_grown}
+use Rattle.session_rules.specs.Steps.{heads_in}
 
 -- an end whose list grows has been through one thing more
 continues_grown : (limits : Limits) (s : SessionData) (list more : List Entry) → Continues limits s list → length (list ++ more) ≤ MAX_MEMBERS → Continues limits s (list ++ more)
@@ -30,6 +32,7 @@ stands_grown rule k members more s = record {
   below = let low = s.below in omega (arith, length-append members more);
   heads = λ id. rw (front_stays members more (members ++ more) k.below refl s.below) (s.heads id);
   under = s.under;
+  seeks = λ going. rw map-append (sought_grown (heads_in k.state.peer) (map entry_of members) (map entry_of more) k.pending k.state.asked k.sought (s.seeks going));
 }
 
 -- a session belongs to the longer list

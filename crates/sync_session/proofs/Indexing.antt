@@ -5,7 +5,7 @@ use Rattle.update_model.specs.declared.limits.TheConstants.{MAX_BYTES}
 use Rattle.std.proofs.lemmas.List.{map-append, take_more, take-append-drop}
 use Rattle.std.proofs.lemmas.List.Folds.{list_any-append}
 use Rattle.std.proofs.lemmas.List.Sums.{sum_by-append}
-use Rattle.std.specs.BTreeSet.{BTreeSet, keys}
+use Rattle.std.specs.BTreeMap.{BTreeMap, keys}
 use Rattle.update_codec.specs.Parts.{entry_of, id_of}
 use Rattle.update_model.specs.declared.update_id.UpdateId.{UpdateId}
 use Rattle.update_model.specs.Entry.{Entry, same_id}
@@ -20,7 +20,7 @@ one_more false true w = refl
 one_more false false w = refl
 
 -- the set has one more id
-pub put : (before after : BTreeSet UpdateId) (gathered waiting : List (List ℕ)) (u : List ℕ) (q : UpdateId)
+pub put : (before after : BTreeMap UpdateId ℕ) (gathered waiting : List (List ℕ)) (u : List ℕ) (q : UpdateId)
     → has (keys after) q ≡ cond (same_id (id_of u) q) true (has (keys before) q)
     → has (keys before) q ≡ (holds (map entry_of gathered) q || holds (map entry_of waiting) q)
     → has (keys after) q ≡ (holds (map entry_of (gathered ++ u ∷ [])) q || holds (map entry_of waiting) q)
@@ -36,7 +36,7 @@ byte_more es u = ap byte_count (map-append entry_of es (u ∷ [])) ∙ sum_by-ap
     ∙ omega arith
 
 -- with one update more
-pub indexed_more : (waiting gathered : List (List ℕ)) (ids ids' : BTreeSet UpdateId) (bytes : ℕ) (u : List ℕ) → IsIndexed waiting gathered ids bytes
+pub indexed_more : (waiting gathered : List (List ℕ)) (ids ids' : BTreeMap UpdateId ℕ) (bytes : ℕ) (u : List ℕ) → IsIndexed waiting gathered ids bytes
     → ((q : UpdateId) → has (keys ids') q ≡ cond (same_id (id_of u) q) true (has (keys ids) q))
     → is_within (map entry_of waiting ++ (map entry_of gathered ++ entry_of u ∷ [])) ≡ true → IsIndexed waiting (gathered ++ u ∷ []) ids' (bytes + length u)
 indexed_more waiting gathered ids ids' bytes u i new fits = record {
@@ -51,7 +51,7 @@ indexed_more waiting gathered ids ids' bytes u i new fits = record {
 }
 
 -- the same updates and the same keys
-pub indexed_same : (waiting gathered gathered' : List (List ℕ)) (ids ids' : BTreeSet UpdateId) (bytes : ℕ) → IsIndexed waiting gathered ids bytes
+pub indexed_same : (waiting gathered gathered' : List (List ℕ)) (ids ids' : BTreeMap UpdateId ℕ) (bytes : ℕ) → IsIndexed waiting gathered ids bytes
     → gathered' ≡ gathered → keys ids' ≡ keys ids → IsIndexed waiting gathered' ids' bytes
 indexed_same waiting gathered gathered' ids ids' bytes i same keys_same = record {
   indexed = λ q. ap (λ ks. has ks q) keys_same ∙ i.indexed q ∙ ap (λ (g : List (List ℕ)). holds (map entry_of g) q || holds (map entry_of waiting) q) (sym same);
@@ -64,7 +64,7 @@ pub front_more : (es : List (List ℕ)) (i : ℕ) (u : List ℕ) → u ≡ get_o
 front_more es i u is low = take_more es i u low ∙ ap (λ x. take i es ++ x ∷ []) (sym is)
 
 -- how many bytes they have
-pub bytes_fit : (waiting gathered : List (List ℕ)) (ids : BTreeSet UpdateId) (bytes : ℕ) → IsIndexed waiting gathered ids bytes → bytes ≤ MAX_BYTES
+pub bytes_fit : (waiting gathered : List (List ℕ)) (ids : BTreeMap UpdateId ℕ) (bytes : ℕ) → IsIndexed waiting gathered ids bytes → bytes ≤ MAX_BYTES
 bytes_fit waiting gathered ids bytes i =
     let few = leb-true (byte_count (map entry_of waiting ++ map entry_of gathered)) MAX_BYTES (and_both _ _ i.within).1 in
     let was = i.counted in
@@ -79,7 +79,7 @@ front_bytes es i =
     omega arith
 
 -- one more of the updates that are gone through
-pub put_front : (before after : BTreeSet UpdateId) (es : List (List ℕ)) (i : ℕ) (u : List ℕ) (q : UpdateId) → u ≡ get_or es i u → i < length es
+pub put_front : (before after : BTreeMap UpdateId ℕ) (es : List (List ℕ)) (i : ℕ) (u : List ℕ) (q : UpdateId) → u ≡ get_or es i u → i < length es
     → has (keys after) q ≡ cond (same_id (id_of u) q) true (has (keys before) q) → has (keys before) q ≡ holds (map entry_of (take i es)) q
     → has (keys after) q ≡ holds (map entry_of (take (i + 1) es)) q
 put_front before after es i u q is low new old =

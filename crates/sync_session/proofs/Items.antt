@@ -45,11 +45,11 @@ item_again limits start list k k' e out none within there counts says =
     item_goes limits start list k k' e out true none (rw there within) (ap (whole start) counts ∙ ap (λ (b : Bool). record (counted (whole start k)) { items = k.state.items + 1; reading = after_item k.state.reading; gathered = if b then map entry_of k.pending.gathered else map entry_of k.pending.gathered ++ e ∷ [] }) (sym there), says list, refl)
 
 -- a new one, for which there is room or not
-pub item_new : (limits : Limits) (start list : List Entry) (k k' : Kept) (u : List ℕ) (out : Out) → item_fault (whole start k) (entry_of u) ≡ None → has_room_for k.pending u ≡ true
+pub item_new : (limits : Limits) (start list : List Entry) (k k' : Kept) (sought : List UpdateId) (u : List ℕ) (out : Out) → item_fault (whole start k) (entry_of u) ≡ None → has_room_for k.pending u ≡ true
     → (in_burst k.state.reading && (holds (map entry_of k.pending.gathered) (entry_of u).id || holds (map entry_of k.pending.waiting) (entry_of u).id)) ≡ false
-    → k' ≡ with_item k (record { waiting = k.pending.waiting; gathered = k.pending.gathered ++ u ∷ [] }) → ((list : List Entry) → out_of list out ≡ silent)
+    → k' ≡ record (with_item k (record { waiting = k.pending.waiting; gathered = k.pending.gathered ++ u ∷ [] })) { sought = sought } → ((list : List Entry) → out_of list out ≡ silent)
     → Takes limits (whole start k) list (Item (entry_of u)) (whole start k') (out_of list out) list
-item_new limits start list k k' u out none room fresh counts says =
+item_new limits start list k k' sought u out none room fresh counts says =
     item_goes limits start list k k' (entry_of u) out true none (rw fresh room) (
       ap (whole start) counts
           ∙ ap (λ (g : List Entry). record (counted (whole start k)) { items = k.state.items + 1; reading = after_item k.state.reading; gathered = g }) (map-append entry_of k.pending.gathered (u ∷ []))

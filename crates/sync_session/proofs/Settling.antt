@@ -1,5 +1,5 @@
 -- A Turn, by the rules.
-use Rattle.std.proofs.Common.{◌≡◌, ℕ, ◌+◌, Bool, true, false, ◌&&◌, if◌then◌else◌, List, map, take, slice_get, filter_map, Option, Some, None, option_map, refl, sym, ap, subst, ◌∙◌}
+use Rattle.std.proofs.Common.{◌≡◌, ℕ, ◌+◌, Bool, true, false, ◌&&◌, if◌then◌else◌, List, [], map, take, slice_get, filter_map, Option, Some, None, option_map, refl, sym, ap, subst, ◌∙◌}
 use Rattle.update_codec.specs.Parts.{entry_of}
 use Rattle.update_model.specs.declared.update_id.UpdateId.{UpdateId}
 use Rattle.update_model.specs.Entry.{Entry}
@@ -7,9 +7,10 @@ use Rattle.session_rules.specs.declared.end.End.{End}
 use Rattle.session_rules.specs.declared.end.End.TheVariants.{Done, Peer}
 use Rattle.session_rules.specs.declared.peer_fault.PeerFault.{PeerFault}
 use Rattle.session_rules.specs.State.{TurnData, Answers}
-use Rattle.session_rules.specs.Steps.{closing, is_first, Joins, IsSent, IsTurn, Judges, Replies}
+use Rattle.session_rules.specs.Steps.{closing, heads_in, is_first, Joins, IsSent, IsTurn, Judges, Replies}
 use Rattle.sync_session.specs.declared.out.Out.{Out}
-use Rattle.sync_session.specs.Kept.{Kept, late_fault_at, out_of, turn_of, whole, with_commit, with_end}
+use Rattle.sync_session.specs.Kept.{Kept, late_fault_at, out_of, turn_of, whole, with_commit, with_end, IsSeeking, LeavesSought}
+use Rattle.sync_session.proofs.Wanting.{sought_asked}
 use Rattle.sync_session.specs.Turns.{Awaits, RepliesTo, SettlesTo, Stays}
 
 -- the next turn is sent
@@ -50,7 +51,7 @@ settled list n w turn own k next gives first fault t is_first_turn is judged sta
 
 -- what holds of the end once its commit is kept
 pub record Settles (list : List Entry) (n : ℕ) (w : List (List ℕ)) (turn own : TurnData) (k kk : Kept) (first : Bool) (fault : Option PeerFault) : Type 0 where
-  pub kept : kk ≡ with_commit n w turn.have k
+  pub kept : kk ≡ record (with_commit n w turn.have k) { sought = kk.sought }
   pub is_turn : (start : List Entry) → IsTurn (whole start kk) list (map entry_of kk.pending.waiting) own
   pub first_is : first ≡ is_first k.state.role k.state.reading
   pub fault_is : fault ≡ late_fault_at first (take kk.below list) kk.state.peer_asked turn own
@@ -62,7 +63,7 @@ by_judging list n w turn own k kk next gives first fault s judged stays =
     (subst (λ (x : Kept). (start : List Entry) → IsTurn (whole start x) list (map entry_of x.pending.waiting) own) s.kept s.is_turn) s.first_is
     (subst (λ (x : Kept). fault ≡ late_fault_at first (take x.below list) x.state.peer_asked turn own) s.kept s.fault_is)
     (subst (λ (x : Kept). Judges fault (whole (take k.below list) k) (whole (take k.below list) x) turn own (whole (take k.below list) next) (out_of list gives)) s.kept judged)
-    (subst (λ (x : Kept). Stays x next) s.kept stays)
+    (let same = subst (λ (x : Kept). Stays x next) s.kept stays in record { below = same.below; heads = same.heads; pending = same.pending; failed = same.failed })
 
 stays_end : (ending : End) (kk next : Kept) → next ≡ with_end ending kk → Stays kk next
 stays_end ending kk next is = rw is (record { below = refl; heads = refl; pending = refl; failed = refl })
@@ -94,3 +95,16 @@ settled_reply list n w turn own k kk next gives first both s both_is not_both r 
 -- the same sets
 pub joins_at : (a b ids named both : List UpdateId) → Joins a ids both → a ≡ b → ids ≡ named → Joins b named both
 joins_at a b ids named both j same_set same_ids = subst (λ (x : List UpdateId). Joins x named both) same_set (subst (λ (x : List UpdateId). Joins a x both) same_ids j)
+
+-- ---- what is sought
+
+-- a session that has ended seeks nothing
+pub seeking_ended : (ending : End) (k next : Kept) (list : List Entry) → next ≡ with_end ending k → IsSeeking list next
+seeking_ended ending k next list is = subst (IsSeeking list) (sym is) (λ going. absurd cc)
+
+-- once its Turn is sent, an end seeks what it did not ask for
+pub seeking_replied : (list : List Entry) (turn own : TurnData) (k mid next : Kept) (ending : Option End) → k.pending.gathered ≡ [] → LeavesSought list own k k.sought → Awaits turn own k mid
+    → next ≡ record mid { state = record mid.state { ended = ending } } → IsSeeking list next
+seeking_replied list turn own k mid next ending settled left a n =
+    subst (IsSeeking list) (sym (n ∙ ap (λ (x : Kept). record x { state = record x.state { ended = ending } }) a.state))
+    (λ going. sought_asked (heads_in k.state.peer) list k.pending k.state.asked own.needs a.asked k.sought settled left a.joins.exact)

@@ -56,7 +56,7 @@ pub responder_belongs : (limits : Limits) (rule : RuleData) (role : Role) (datab
 responder_belongs limits rule role database node old members k held responds is =
     subst (λ (x : Kept). BelongsTo limits rule x members) (sym (is ∙ ap (λ (r : Role). before_hello r database node old) responds))
     (belongs_first limits rule Responder database node old members (before_hello Responder database node old) held refl
-    (record { below = omega arith; heads = λ id. refl; under = nothing_under rule }))
+    (record { below = omega arith; heads = λ id. refl; under = nothing_under rule; seeks = λ going id free named. absurd cc }))
 
 -- a responder before any frame
 pub fresh_opened : (k : Kept) (members : List (List ℕ)) → IsFresh Responder k → seen members k ≡ opened Responder k.state.database k.state.node k.state.old (map entry_of members)
@@ -102,7 +102,7 @@ module _ (role : Role) (database node : List ℕ) (old : List UpdateId) (members
   initiator_belongs limits rule held =
       subst (λ (x : Kept). BelongsTo limits rule x members) (sym (is ∙ ap (λ (r : Role). with_own r database node old (length members) own.heads) begins))
       (belongs_first limits rule Initiator database node old members (with_own Initiator database node old (length members) own.heads) held (own_seen database node old members (length members) own.heads refl)
-      (record { below = omega arith; heads = λ id. rw all_there (hello.heads.exact id); under = nothing_under rule }))
+      (record { below = omega arith; heads = λ id. rw all_there (hello.heads.exact id); under = nothing_under rule; seeks = λ going id free named. absurd cc }))
 
 -- ---- what is remembered
 

@@ -21,12 +21,13 @@ use Rattle.update_model.specs.declared.limits.TheConstants.{MAX_BYTES, MAX_MEMBE
 use Rattle.session_rules.specs.declared.end.End.TheVariants.{Store}
 use Rattle.session_rules.specs.Commit.{Added, DiskFault}
 use Rattle.session_rules.specs.State.{TurnData, OutData, SessionData}
-use Rattle.session_rules.specs.Steps.{closing, turn_fault, late_fault, IsTurn, Judges, Unless, Takes}
+use Rattle.session_rules.specs.Steps.{closing, heads_in, turn_fault, late_fault, IsTurn, Judges, Unless, Takes}
 use Rattle.session_rules.specs.Steps as rules
 use Rattle.sync_session.specs.declared.out.Out.{Out}
 use Rattle.sync_frames.specs.Payload as payload
-use Rattle.sync_session.specs.Kept.{Kept, Stands, emptied, out_of, seen, turn_fault_at, turn_of, whole, with_commit, with_refusal}
+use Rattle.sync_session.specs.Kept.{IsSeeking, Kept, Seeks, Stands, emptied, out_of, seen, turn_fault_at, turn_of, whole, with_commit, with_refusal}
 use Rattle.sync_session.specs.Turns.{SettlesTo, TakesTurn}
+use Rattle.sync_session.proofs.Wanting.{sought_committed}
 
 -- the first part of a list stays as the list grows
 pub front_stays : (before added after : List (List ℕ)) (n : ℕ) → after ≡ before ++ added → n ≤ length before → take n (map entry_of after) ≡ take n (map entry_of before)
@@ -141,8 +142,8 @@ waits_under rule held batch waiting rest all =
 
 -- what a session stands on after a Turn
 turn_stands : (limits : Limits) (rule : RuleData) (k next : Kept) (before batch after : List (List ℕ)) (committed : Answer) (turn : TurnData) (out : Out) → batch ≡ k.pending.waiting ++ k.pending.gathered
-    → IsAdded limits before batch committed after → Stands rule k before → SettlesTo (map entry_of after) (length committed.added) committed.waiting turn (emptied k) next out → Stands rule next after
-turn_stands limits rule k next before batch after committed turn out batch_is a s settles =
+    → IsAdded limits before batch committed after → Stands rule k before → SettlesTo (map entry_of after) (length committed.added) committed.waiting turn (emptied k) next out → IsSeeking (map entry_of after) next → Stands rule next after
+turn_stands limits rule k next before batch after committed turn out batch_is a s settles seeks =
     let grows = ap length a.behind in
     let longer = length-append before a.added in
     let low = s.below in
@@ -152,6 +153,7 @@ turn_stands limits rule k next before batch after committed turn out batch_is a 
       below = omega (arith, length-append before a.added);
       heads = λ id. rw (front, settles.stays.heads) (s.heads id);
       under = rw (settles.stays.pending, append-nil) (waits_under rule (map entry_of before ++ map entry_of a.added) batch committed.waiting a.adds.rest (subst (All (IsChecked rule)) (sym batch_is) s.under));
+      seeks = seeks;
     }
 
 -- the same of what a call answers, where it was handed the emptied session
@@ -166,8 +168,17 @@ answers_turn limits k v next before batch after committed t turn (Err e) same_st
 
 pub answers_stands : (limits : Limits) (rule : RuleData) (k v next : Kept) (before batch after : List (List ℕ)) (committed : Answer) (t : TurnData) (r : Result Out AllocError) → v ≡ emptied k
     → batch ≡ k.pending.waiting ++ k.pending.gathered → IsAdded limits before batch committed after → Stands rule k before
-    → IfOk r (λ out. SettlesTo (map entry_of after) (length committed.added) committed.waiting t v next out) → OnOk r (Stands rule next after)
-answers_stands limits rule k v next before batch after committed t (Ok out) same_state batch_is a stands s =
+    → IfOk r (λ out. SettlesTo (map entry_of after) (length committed.added) committed.waiting t v next out) → OnOk r (IsSeeking (map entry_of after) next) → OnOk r (Stands rule next after)
+answers_stands limits rule k v next before batch after committed t (Ok out) same_state batch_is a stands s seeks =
     turn_stands limits rule k next before batch after committed t out batch_is a stands
-    (subst (λ (x : Kept). SettlesTo (map entry_of after) (length committed.added) committed.waiting t x next out) same_state s)
-answers_stands limits rule k v next before batch after committed t (Err e) same_state batch_is a stands s = tt
+    (subst (λ (x : Kept). SettlesTo (map entry_of after) (length committed.added) committed.waiting t x next out) same_state s) seeks
+answers_stands limits rule k v next before batch after committed t (Err e) same_state batch_is a stands s seeks = tt
+
+-- what a session seeks once a commit has added what could be added
+pub seeks_committed : (limits : Limits) (k v : Kept) (before batch after : List (List ℕ)) (committed : Answer) → v ≡ emptied k → batch ≡ k.pending.waiting ++ k.pending.gathered
+    → IsAdded limits before batch committed after → Seeks (map entry_of before) k → Seeks (map entry_of after) (with_commit 0 committed.waiting true v)
+seeks_committed limits k v before batch after committed same batch_is a seeks =
+    subst (λ (x : Kept). Seeks (map entry_of after) (with_commit 0 committed.waiting true x)) (sym same)
+    (subst (λ (es : List Entry). Seeks es (with_commit 0 committed.waiting true (emptied k))) (sym (ap (map entry_of) a.behind ∙ map-append entry_of before a.added))
+    (sought_committed (heads_in k.state.peer) (map entry_of before) (map entry_of a.added) k.pending committed.waiting k.state.asked k.sought seeks
+    (a.adds.rest ∙ ap (not_held (map entry_of before ++ map entry_of a.added)) (ap (map entry_of) batch_is ∙ map-append entry_of k.pending.waiting k.pending.gathered))))

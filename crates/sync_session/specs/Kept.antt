@@ -22,9 +22,10 @@ use Rattle.session_rules.specs.declared.peer_fault.PeerFault.{PeerFault}
 use Rattle.session_rules.specs.declared.peer_fault.PeerFault.TheVariants.{OutOfTurn, Stalled, TakenBack, WrongDatabase}
 use Rattle.session_rules.specs.State.{Reading as ReadingData, HelloData, TurnData, FrameData, SessionData, OutData}
 use Rattle.session_rules.specs.State as state
-use Rattle.session_rules.specs.Steps.{begun, is_wanted, AreNeeds, IsHello, after_item, again_fault, counted, due_fault, first_of, is_empty, silent, takes_hello, takes_turn, unknown_fault, Steps}
+use Rattle.session_rules.specs.Steps.{begun, heads_in, is_wanted, AreNeeds, IsHello, after_item, again_fault, counted, due_fault, first_of, is_empty, silent, takes_hello, takes_turn, unknown_fault, Steps}
 use Rattle.sync_frames.specs.Payload as payload
 use Rattle.sync_session.specs.Pending.{PendingData, nothing}
+use Rattle.sync_session.specs.Wants.{AreSought, SeeksToo, StaySought}
 use Rattle.sync_session.specs.declared.checked_frame.CheckedFrame.{CheckedFrame}
 use Rattle.sync_session.specs.declared.checked_frame.CheckedFrame.TheVariants as frames
 use Rattle.sync_session.specs.declared.out.Out.{Out}
@@ -79,13 +80,14 @@ out_of list out = record { hello = option_map hello_of out.hello; send = filter_
 -- ---- the state of a session
 
 -- The state but for the start set, which is the first `below` members of its holder's list, and for what was gathered and what
--- waits, which is pending; the heads of the own Hello; and whether memory ran out in an earlier call, after which a session is
--- over.
+-- waits, which is pending; the heads of the own Hello; the ids among which is each one that is to be asked for; and whether
+-- memory ran out in an earlier call, after which a session is over.
 pub record Kept : Type 0 where
   pub state : SessionData
   pub below : ℕ
   pub pending : PendingData
   pub heads : List UpdateId
+  pub sought : List UpdateId
   pub failed : Bool
 
 -- the state with its start set, with what was gathered and with what waits
@@ -127,12 +129,25 @@ pub record IsRunning (k : Kept) : Type 0 where
   pub running : k.state.ended ≡ None
   pub turns : k.state.turns < MAX_TURNS
 
--- The session stands over this list: the first `below` members are its start set, of which it keeps the heads, and what it has
--- gathered and what waits is under the rule.
+-- The session seeks each id that it is to ask for over this list.
+abbrev pub Seeks : List Entry → Kept → Type 0
+Seeks list k = AreSought (heads_in k.state.peer) list k.pending k.state.asked k.sought
+
+-- So does one that has not ended.
+abbrev pub IsSeeking : List Entry → Kept → Type 0
+IsSeeking list k = k.state.ended ≡ None → Seeks list k
+
+-- What the session wanted is sought still, unless this Turn asks for it.
+abbrev pub LeavesSought : List Entry → TurnData → Kept → List UpdateId → Type 0
+LeavesSought list own k sought = StaySought (is_wanted (heads_in k.state.peer) list (map entry_of k.pending.waiting) k.state.asked) own.needs sought
+
+-- The session stands over this list: the first `below` members are its start set, of which it keeps the heads; what it has
+-- gathered and what waits is under the rule; and it seeks what it is to ask for.
 pub record Stands (rule : RuleData) (k : Kept) (members : List (List ℕ)) : Type 0 where
   pub below : k.below ≤ length members
   pub heads : (id : UpdateId) → has k.heads id ≡ (holds (take k.below (map entry_of members)) id && not (names (take k.below (map entry_of members)) id))
   pub under : All (IsChecked rule) (updates_in k)
+  pub seeks : IsSeeking (map entry_of members) k
 
 -- The session stands over this list, and is what the rules have made of it.
 pub record Belongs (limits : Limits) (rule : RuleData) (k : Kept) (members : List (List ℕ)) : Type 0 where
@@ -143,20 +158,21 @@ pub record Belongs (limits : Limits) (rule : RuleData) (k : Kept) (members : Lis
 abbrev pub BelongsTo : Limits → RuleData → Kept → List (List ℕ) → Type 0
 BelongsTo limits rule k members = k.failed ≡ false → Belongs limits rule k members
 
--- the Hello of the peer came
-abbrev pub with_hello : payload.HelloData → Kept → Kept
-with_hello hello k = record k { state = record (counted k.state) { peer = Some (hello_of hello); reading = state.Burst } }
+-- the Hello of the peer came, and these ids are sought
+abbrev pub with_hello : payload.HelloData → List UpdateId → Kept → Kept
+with_hello hello sought k = record k { state = record (counted k.state) { peer = Some (hello_of hello); reading = state.Burst }; sought = sought }
 
 -- the peer's Hello is kept
 abbrev pub with_peer : payload.HelloData → Kept → Kept
 with_peer hello k = record k { state = record k.state { peer = Some (hello_of hello) } }
 
--- the own Hello was made over so many members, and the burst and the first Turn are sent
-abbrev pub with_greeting : payload.HelloData → List UpdateId → ℕ → Bool → Kept → Kept
-with_greeting hello heads below have k = record k {
+-- the own Hello was made over so many members, the burst and the first Turn are sent, and these ids are sought
+abbrev pub with_greeting : payload.HelloData → List UpdateId → ℕ → List UpdateId → Bool → Kept → Kept
+with_greeting hello heads below sought have k = record k {
   state = record k.state { peer = Some (hello_of hello); reading = state.Burst; turns = k.state.turns + 2; sent_have = have };
   below = below;
   heads = heads;
+  sought = sought;
 }
 
 -- The responder has sent its own Hello, with the burst and the first Turn for this one.
@@ -165,7 +181,8 @@ pub record GreetsOver (list : List Entry) (hello : payload.HelloData) (k next : 
   pub is_hello : IsHello (begun Responder k.state.database k.state.node k.state.old list) (hello_of own)
   pub send : List Entry
   pub is_burst : IsBurst list hello.old (is_member hello.filter) send
-  pub state : next ≡ with_greeting hello own.heads next.below (list_all (holds list) hello.heads) k
+  pub state : next ≡ with_greeting hello own.heads next.below next.sought (list_all (holds list) hello.heads) k
+  pub sought : SeeksToo k.sought hello.heads next.sought
   pub out : out_of list gives ≡ record { hello = Some (hello_of own); send = send; turn = Some (record { have = list_all (holds list) hello.heads; needs = [] }); end = None }
 
 -- a commit added so many, and these wait

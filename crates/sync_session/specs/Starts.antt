@@ -13,7 +13,7 @@ use Rattle.sync_session.specs.declared.out.Out.{Out}
 
 -- a session before its own Hello
 abbrev pub before_hello : Role → List ℕ → List ℕ → List UpdateId → Kept
-before_hello role database node old = record { state = begun role database node old []; below = 0; pending = nothing; heads = []; failed = false }
+before_hello role database node old = record { state = begun role database node old []; below = 0; pending = nothing; heads = []; sought = []; failed = false }
 
 -- a session of this role before its own Hello
 abbrev pub IsFresh : Role → Kept → Type 0

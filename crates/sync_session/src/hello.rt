@@ -8,10 +8,12 @@ ghost use Rattle.update_codec.specs.Parts.{entry_of};
 ghost use Rattle.update_model.specs.Batch.{Limits};
 ghost use Rattle.update_model.specs.Entry.{Entry};
 ghost use Rattle.sync_session.specs.Kept.{hello_fault_at, hello_of, out_of, reading_of, seen, with_hello, with_peer, GreetsOver, IsRunning, Stands};
+ghost use Rattle.sync_session.specs.Wants.{SeeksToo};
 
 use crate::greeting::burst;
 use crate::lookup::has_all;
 use crate::reading::{Reading, fresh, takes_hello};
+use crate::sought::seek;
 use crate::{Out, Session};
 use session_rules::{End, PeerFault, Role};
 use std::alloc::{AllocError, Global};
@@ -40,22 +42,24 @@ impl Session {
             return Ok(self.end(alloc, End::Peer(fault)));
         }
         match self.role {
-            Role::Initiator => Ok(self.hear(alloc, hello)),
+            Role::Initiator => self.hear(alloc, hello),
             Role::Responder => self.greet(alloc, holder, hello),
         }
     }
 
     /// The initiator takes the responder's Hello.
-    fn hear(&mut self, alloc: Global, hello: Hello) -> Out
+    fn hear(&mut self, alloc: Global, hello: Hello) -> Result<Out, AllocError>
         requires { IsRunning self.old }
-        ensures state { self.new ≡ with_hello hello self.old }
-        ensures out { (list : List Entry) → out_of list result ≡ silent }
+        ensures state { OnOk result (self.new ≡ with_hello hello self.new.sought self.old) }
+        ensures sought { OnOk result (SeeksToo self.old.sought hello.heads self.new.sought) }
+        ensures out { IfOk result (λ out. (list : List Entry) → out_of list out ≡ silent) }
     {
+        seek(&mut self.sought, hello.heads.as_slice(), None)?;
         self.peer = Some(hello);
         self.reading = Reading::Burst;
         self.turns += fresh(self.began);
         self.began = true;
-        Out::silent(alloc)
+        Ok(Out::silent(alloc))
     }
 
     /// The responder takes the initiator's Hello, and sends its own, its burst and its first Turn.
@@ -92,6 +96,7 @@ impl Session {
         let send = burst(alloc, holder, holder.len(), hello)?;
         let own = self.say_hello(alloc, holder)?;
         let have = has_all(holder, hello.heads.as_slice());
+        seek(&mut self.sought, hello.heads.as_slice(), None)?;
         self.reading = Reading::Burst;
         self.turns += 2;
         self.sent_have = have;

@@ -33,6 +33,7 @@ mod pending;
 mod reading;
 mod session;
 mod settle;
+mod sought;
 mod start;
 mod step;
 mod turn;

@@ -1,10 +1,11 @@
-//! What a session asks its holder, by the holder's list and the first part of it that is the start set.
+//! What a session asks its holder, by the holder's list and the first part of it that is the start set; and whether an id
+//! is among others.
 
 ghost use Rattle.std.specs.Prelude.{◌≡◌, ◌<◌, ◌≤◌, All, map, take, length, not, find, filter_map, slice_get, IfOk};
 ghost use Rattle.std.specs.List.{list_all};
 ghost use Rattle.session_rules.specs.Steps.{answers};
 ghost use Rattle.update_codec.specs.Parts.{entry_of};
-ghost use Rattle.update_model.specs.Graph.{holds, position_of};
+ghost use Rattle.update_model.specs.Graph.{has, holds, position_of};
 
 use std::alloc::{AllocError, Global};
 use update_check::Holder;
@@ -62,4 +63,16 @@ pub(crate) fn positions_of<H: Holder>(
         }
     }
     Ok(positions)
+}
+
+/// Whether an id is among these.
+pub(crate) fn is_among(ids: &[UpdateId], id: &UpdateId) -> bool
+    ensures { result ≡ has ids.now id.now }
+{
+    for one in ids {
+        if one == id {
+            return true;
+        }
+    }
+    false
 }

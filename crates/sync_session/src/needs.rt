@@ -1,78 +1,52 @@
 //! What an end asks for.
 
-ghost use Rattle.std.specs.Prelude.{◌≡◌, ◌||◌, ◌&&◌, not, map, find, [], IfOk, OnOk};
+ghost use Rattle.std.specs.Prelude.{◌≡◌, ◌||◌, true, map, find, [], IfOk};
+ghost use Rattle.std.specs.BTreeMap.{keys as keys_in};
 ghost use Rattle.std.specs.BTreeSet.{keys};
-ghost use Rattle.std.specs.List.Sorted.{IsStrictlySortedBy};
 ghost use Rattle.session_rules.specs.declared.limits.TheConstants.{MAX_NEEDS};
 ghost use Rattle.session_rules.specs.Steps.{is_wanted, AreLeast};
 ghost use Rattle.update_codec.specs.Parts.{entry_of};
-ghost use Rattle.update_model.specs.declared.update_id.UpdateId.{UpdateId as Id};
-ghost use Rattle.update_model.specs.Entry.{id_cmp};
-ghost use Rattle.update_model.specs.Graph.{has, holds, names};
-ghost use Rattle.sync_session.specs.Wants.{is_open, Wants};
+ghost use Rattle.update_model.specs.Graph.{has, names};
+ghost use Rattle.sync_session.specs.Wants.{is_open, AreSought, StaySought};
 
-use crate::ids::least;
+use crate::lookup::is_among;
 use crate::pending::Pending;
+use crate::sought::Sought;
+use session_rules::MAX_NEEDS;
 use std::alloc::{AllocError, Global};
 use std::collections::BTreeSet;
 use update_check::Holder;
-use update_model::{Member, UpdateId};
+use update_model::UpdateId;
 
 /// The least ids, as many as a turn asks for, that are heads of the peer's Hello or predecessors of what waits, are neither
 /// held nor wait, and were not asked for before.
+///
+/// They are taken out of what is sought, and with them whatever stands below them there: that is held, waits, was asked
+/// for or is named no longer, all for good. So no id is looked at twice.
 pub(crate) fn needs<H: Holder>(
     alloc: Global,
     holder: &H,
     heads: &[UpdateId],
     pending: &Pending,
     asked: &BTreeSet<UpdateId>,
+    sought: &mut Sought,
 ) -> Result<Vec<UpdateId>, AllocError>
-    requires { pending.now.gathered ≡ [] }
-    ensures { IfOk result (λ ids. AreLeast (is_wanted heads.now (map entry_of (H.members holder.now)) (map entry_of pending.now.waiting) (keys asked.now)) MAX_NEEDS ids.items) }
+    requires settled { pending.now.gathered ≡ [] }
+    requires sought { AreSought heads.now (map entry_of (H.members holder.now)) pending.now (keys asked.now) (keys_in sought.old) }
+    ensures least { IfOk result (λ ids. AreLeast (is_wanted heads.now (map entry_of (H.members holder.now)) (map entry_of pending.now.waiting) (keys asked.now)) MAX_NEEDS ids.items) }
+    ensures left { IfOk result (λ ids. StaySought (is_wanted heads.now (map entry_of (H.members holder.now)) (map entry_of pending.now.waiting) (keys asked.now)) ids.items (keys_in sought.new)) }
 {
-    let mut wanted = BTreeSet::new(alloc);
-    want(&mut wanted, holder, heads, pending, asked)?;
-    want_for(&mut wanted, holder, pending, asked)?;
-    least(alloc, &wanted)
-}
-
-/// Takes in what is wanted for the updates that wait.
-fn want_for<H: Holder>(
-    wanted: &mut BTreeSet<UpdateId>,
-    holder: &H,
-    pending: &Pending,
-    asked: &BTreeSet<UpdateId>,
-) -> Result<(), AllocError>
-    requires empty { pending.now.gathered ≡ [] }
-    requires rising { IsStrictlySortedBy id_cmp (keys wanted.old) }
-    ensures { OnOk result (Wants (keys wanted.old) (names (map entry_of pending.now.waiting))
-        (is_open (map entry_of (H.members holder.now)) (map entry_of pending.now.waiting) (keys asked.now)) (keys wanted.new)) }
-{
-    for update in pending.waiting() {
-        want(wanted, holder, update.preds(), pending, asked)?;
-    }
-    Ok(())
-}
-
-/// Takes in those of these ids that are neither held nor wait and were not asked for.
-fn want<H: Holder>(
-    wanted: &mut BTreeSet<UpdateId>,
-    holder: &H,
-    ids: &[UpdateId],
-    pending: &Pending,
-    asked: &BTreeSet<UpdateId>,
-) -> Result<(), AllocError>
-    requires empty { pending.now.gathered ≡ [] }
-    requires rising { IsStrictlySortedBy id_cmp (keys wanted.old) }
-    ensures { OnOk result (Wants (keys wanted.old) (has ids.now)
-        (is_open (map entry_of (H.members holder.now)) (map entry_of pending.now.waiting) (keys asked.now)) (keys wanted.new)) }
-{
-    for id in ids {
-        if is_open(holder, id, pending, asked) {
-            wanted.insert(*id)?;
+    sought.len(); // its ids rise
+    let mut ids = Vec::new(alloc);
+    'least: while ids.len() < MAX_NEEDS as usize {
+        let Some((id, namer)) = sought.pop_first() else {
+            return Ok(ids);
+        };
+        if is_open(holder, &id, pending, asked) && is_named(heads, pending, &id, namer) {
+            ids.push(id)?;
         }
     }
-    Ok(())
+    Ok(ids)
 }
 
 /// Whether an id is neither held nor waits and was not asked for.
@@ -92,6 +66,32 @@ fn is_open<H: Holder>(
         return false;
     }
     !asked.contains(id)
+}
+
+/// Whether an id is a head, or a predecessor of what waits. The one that named it is looked at first: it still does, unless
+/// two updates share an id.
+fn is_named(heads: &[UpdateId], pending: &Pending, id: &UpdateId, namer: Option<UpdateId>) -> bool
+    ensures { result ≡ (has heads.now id.now || names (map entry_of pending.now.waiting) id.now) }
+{
+    if is_named_still(heads, pending, id, namer) {
+        return true;
+    }
+    is_among(heads, id) || pending.names(id)
+}
+
+/// Whether an id is named by the one that named it.
+fn is_named_still(
+    heads: &[UpdateId],
+    pending: &Pending,
+    id: &UpdateId,
+    namer: Option<UpdateId>,
+) -> bool
+    ensures { result ≡ true → (has heads.now id.now || names (map entry_of pending.now.waiting) id.now) ≡ true }
+{
+    match namer {
+        None => heads.binary_search(id).is_ok(),
+        Some(namer) => pending.is_named_by(&namer, id),
+    }
 }
 
 /// The first of these ids that is in the set.

@@ -4,17 +4,19 @@ ghost use Rattle.session_rules.specs.State.{Item as item, BadItem as bad_item};
 ghost use Rattle.session_rules.specs.Steps.{closing, in_burst, Takes};
 ghost use Rattle.session_rules.specs.declared.limits.TheConstants.{MAX_ITEMS};
 ghost use Rattle.update_check.specs.Signed.{IsChecked};
-ghost use Rattle.update_codec.specs.Parts.{entry_of};
+ghost use Rattle.update_codec.specs.Parts.{entry_of, preds_of};
 ghost use Rattle.update_model.specs.Batch.{Limits};
 ghost use Rattle.update_model.specs.Entry.{Entry};
 ghost use Rattle.update_model.specs.Graph.{holds, is_within};
 ghost use Rattle.update_model.specs.Rule.{RuleData};
 ghost use Rattle.sync_session.specs.Kept.{whole, out_of, number_of, with_end, with_item, IsRunning, Stands};
 ghost use Rattle.sync_session.specs.Pending.{entries_in, has_room_for};
+ghost use Rattle.sync_session.specs.Wants.{SeeksToo};
 
 use crate::Out;
 use crate::pending::Pending;
 use crate::reading::{Reading, advance, fresh, is_burst, item_fault, takes_item};
+use crate::sought::{Sought, seek};
 use session_rules::{End, PeerFault, Role};
 use std::alloc::{AllocError, Global};
 use std::collections::BTreeSet;
@@ -39,6 +41,7 @@ pub struct Session {
     pub(crate) pending: Pending,
     pub(crate) asked: BTreeSet<UpdateId>,
     pub(crate) peer_asked: BTreeSet<UpdateId>,
+    pub(crate) sought: Sought,
     pub(crate) sent_have: bool,
     pub(crate) got_have: bool,
     pub(crate) turns: u32,
@@ -49,6 +52,7 @@ pub struct Session {
 
 impl Model for Session {
     ghost use Rattle.std.specs.Prelude.{[], option_map};
+    ghost use Rattle.std.specs.BTreeMap.{keys as keys_in};
     ghost use Rattle.std.specs.BTreeSet.{keys};
     ghost use Rattle.sync_session.specs.Kept.{Kept, hello_of, reading_of};
     ghost use Rattle.sync_session.specs.Form.{IsInForm};
@@ -79,6 +83,7 @@ impl Model for Session {
       below = s.below;
       pending = s.pending;
       heads = s.heads;
+      sought = keys_in s.sought;
       failed = s.failed;
     } };
 
@@ -112,8 +117,10 @@ impl Session {
         requires running { IsRunning self.old }
         requires few { self.old.state.items < MAX_ITEMS }
         requires room { has_room_for self.old.pending update ≡ true }
-        ensures { OnOk result (self.new ≡ with_item self.old (record { waiting = self.old.pending.waiting; gathered = self.old.pending.gathered ++ update ∷ [] })) }
+        ensures state { OnOk result (self.new ≡ record (with_item self.old (record { waiting = self.old.pending.waiting; gathered = self.old.pending.gathered ++ update ∷ [] })) { sought = self.new.sought }) }
+        ensures sought { OnOk result (SeeksToo self.old.sought (preds_of update) self.new.sought) }
     {
+        seek(&mut self.sought, update.preds(), Some(update.id()))?;
         self.pending.gather(update)?;
         advance(&mut self.reading);
         self.turns += fresh(self.began);

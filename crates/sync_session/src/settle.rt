@@ -7,7 +7,7 @@ ghost use Rattle.session_rules.specs.declared.limits.TheConstants.{MAX_TURNS};
 ghost use Rattle.update_check.specs.Holding.{IsHeld};
 ghost use Rattle.update_codec.specs.Parts.{entry_of};
 ghost use Rattle.update_model.specs.Graph.{is_within, IsClosed};
-ghost use Rattle.sync_session.specs.Kept.{turn_of, updates_in, GrowsBy, IsRunning, Stands};
+ghost use Rattle.sync_session.specs.Kept.{turn_of, updates_in, with_commit, GrowsBy, IsRunning, IsSeeking, LeavesSought, Seeks, Stands};
 ghost use Rattle.sync_session.specs.Turns.{Awaits, RepliesTo, SettlesTo, TakesTurn, IsOrdered};
 
 use crate::ids::join;
@@ -73,6 +73,8 @@ impl Session {
         requires fits { self.old.state.gained + length committed.added < 2 ^ 32 }
         requires below { self.old.below ≤ length (H.members holder.now) }
         requires rising { IsOrdered self.old }
+        requires seeks { Seeks (map entry_of (H.members holder.now)) (with_commit 0 committed.waiting true self.old) }
+        ensures seeks { OnOk result (IsSeeking (map entry_of (H.members holder.now)) self.new) }
         ensures settles { IfOk result (λ out. SettlesTo (map entry_of (H.members holder.now)) (length committed.added) committed.waiting (turn_of turn.now) self.old self.new out) }
         ensures within { IfOk result (λ out. All (λ p. p < length (H.members holder.now)) out.send) }
     {
@@ -103,6 +105,9 @@ impl Session {
         requires closed { IsClosed (map entry_of (H.members holder.now)) }
         requires below { self.old.below ≤ length (H.members holder.now) }
         requires rising { IsOrdered self.old }
+        requires left { LeavesSought (map entry_of (H.members holder.now)) (turn_of own) self.old self.old.sought }
+        requires settled { self.old.pending.gathered ≡ [] }
+        ensures seeks { OnOk result (IsSeeking (map entry_of (H.members holder.now)) self.new) }
         ensures replies { IfOk result (λ out. RepliesTo (map entry_of (H.members holder.now)) first (turn_of turn.now) (turn_of own) self.old self.new out) }
         ensures within { IfOk result (λ out. All (λ p. p < length (H.members holder.now)) out.send) }
     {

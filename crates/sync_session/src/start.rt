@@ -15,7 +15,7 @@ use crate::reading::Reading;
 use crate::{Out, Session};
 use session_rules::Role;
 use std::alloc::{AllocError, Global};
-use std::collections::BTreeSet;
+use std::collections::{BTreeMap, BTreeSet};
 use sync_frames::Hello;
 use update_check::Holder;
 use update_model::{IdList, PositionList};
@@ -115,6 +115,7 @@ impl Session {
             pending: Pending::new(alloc),
             asked: BTreeSet::new(alloc),
             peer_asked: BTreeSet::new(alloc),
+            sought: BTreeMap::new(alloc),
             sent_have: false,
             got_have: false,
             turns: 0,

@@ -1,19 +1,22 @@
 //! What a session does with the peer's Turn.
 
 ghost use Rattle.std.specs.Prelude.{◌≡◌, [], ◌+◌, ◌<◌, ◌≤◌, ◌^◌, true, All, IfOk, OnOk, List, length, map, take, slice_get, filter_map, not, ◌&&◌, ◌||◌};
+ghost use Rattle.std.specs.BTreeMap.{keys as keys_in};
 ghost use Rattle.std.specs.BTreeSet.{keys};
-ghost use Rattle.session_rules.specs.Steps.{closing, is_empty, IsSent, IsTurn};
+ghost use Rattle.session_rules.specs.Steps.{closing, is_empty, is_wanted, IsSent, IsTurn};
 ghost use Rattle.session_rules.specs.declared.limits.TheConstants.{MAX_TURNS};
 ghost use Rattle.update_codec.specs.Parts.{entry_of};
 ghost use Rattle.update_model.specs.Entry.{Entry};
 ghost use Rattle.update_model.specs.Graph.{is_within, IsClosed};
-ghost use Rattle.sync_session.specs.Kept.{late_fault_at, out_of, seen, turn_of, whole, with_commit, with_refusal, IsRunning, TurnsFor};
+ghost use Rattle.sync_session.specs.Kept.{late_fault_at, out_of, seen, turn_of, whole, with_commit, with_refusal, IsRunning, LeavesSought, Seeks, TurnsFor};
+ghost use Rattle.sync_session.specs.Wants.{AreSought, StaySought};
 
 use crate::greeting::burst;
 use crate::lookup::{first_unknown, has_all, positions_of};
 use crate::needs::{first_again, needs};
 use crate::pending::{Pending, waiting_after};
 use crate::reading::fresh;
+use crate::sought::Sought;
 use crate::{Out, Session};
 use session_rules::{End, PeerFault};
 use std::alloc::{AllocError, Global};
@@ -56,10 +59,17 @@ impl Session {
         self.end(alloc, end)
     }
 
-    /// The Turn to send now.
-    pub(crate) fn own_turn<H: Holder>(&self, alloc: Global, holder: &H) -> Result<Turn, AllocError>
-        requires { self.now.pending.gathered ≡ [] }
-        ensures { IfOk result (λ own. (start : List Entry) → IsTurn (whole start self.now) (map entry_of (H.members holder.now)) (map entry_of self.now.pending.waiting) (turn_of own)) }
+    /// The Turn to send now. What it asks for is no longer sought.
+    pub(crate) fn own_turn<H: Holder>(
+        &mut self,
+        alloc: Global,
+        holder: &H,
+    ) -> Result<Turn, AllocError>
+        requires settled { self.old.pending.gathered ≡ [] }
+        requires seeks { Seeks (map entry_of (H.members holder.now)) self.old }
+        ensures turn { IfOk result (λ own. (start : List Entry) → IsTurn (whole start self.old) (map entry_of (H.members holder.now)) (map entry_of self.old.pending.waiting) (turn_of own)) }
+        ensures left { IfOk result (λ own. LeavesSought (map entry_of (H.members holder.now)) (turn_of own) self.old self.new.sought) }
+        ensures state { OnOk result (self.new ≡ record self.old { sought = self.new.sought }) }
     {
         match &self.peer {
             None => Ok(Turn::all_held(alloc)),
@@ -69,6 +79,7 @@ impl Session {
                 peer.heads.as_slice(),
                 &self.pending,
                 &self.asked,
+                &mut self.sought,
             ),
         }
     }
@@ -103,14 +114,17 @@ fn turn_for<H: Holder>(
     heads: &[UpdateId],
     pending: &Pending,
     asked: &BTreeSet<UpdateId>,
+    sought: &mut Sought,
 ) -> Result<Turn, AllocError>
-    requires { pending.now.gathered ≡ [] }
-    ensures { IfOk result (λ own. TurnsFor heads.now (map entry_of (H.members holder.now)) (map entry_of pending.now.waiting) (keys asked.now) (turn_of own)) }
+    requires settled { pending.now.gathered ≡ [] }
+    requires sought { AreSought heads.now (map entry_of (H.members holder.now)) pending.now (keys asked.now) (keys_in sought.old) }
+    ensures turn { IfOk result (λ own. TurnsFor heads.now (map entry_of (H.members holder.now)) (map entry_of pending.now.waiting) (keys asked.now) (turn_of own)) }
+    ensures left { IfOk result (λ own. StaySought (is_wanted heads.now (map entry_of (H.members holder.now)) (map entry_of pending.now.waiting) (keys asked.now)) own.needs (keys_in sought.new)) }
 {
     if has_all(holder, heads) {
         return Ok(Turn::all_held(alloc));
     }
-    let ids = needs(alloc, holder, heads, pending, asked)?;
+    let ids = needs(alloc, holder, heads, pending, asked, sought)?;
     Ok(Turn::asking(IdList::from_vec(ids)))
 }
 

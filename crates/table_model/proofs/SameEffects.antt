@@ -1,5 +1,5 @@
 -- What is computed of a set does not depend on the order of its list.
-use Rattle.std.proofs.Common.{◌≡◌, ℕ, ◌+◌, ◌==◌, zero, suc, true, false, cond, not, ◌&&◌, ◌||◌, List, [], ◌∷◌, length, map, filter, refl, sym, ap, ap₂, ◌∙◌, arith, nat_le, count_by, Some, None, if◌then◌else◌}
+use Rattle.std.proofs.Common.{◌≡◌, ℕ, ◌+◌, ◌==◌, zero, suc, true, false, cond, not, ◌&&◌, ◌||◌, List, [], ◌∷◌, length, map, filter, refl, sym, ap, ap₂, ◌∙◌, arith, nat_le, count_by, Option, Bool, Some, None, if◌then◌else◌}
 use Rattle.std.specs.List.{list_any, list_all}
 use Rattle.update_model.specs.declared.author_key.AuthorKey.{AuthorKey}
 use Rattle.update_model.specs.declared.op.Op.{Op}
@@ -19,8 +19,8 @@ use Rattle.schema.specs.declared.rules.MatchRule.{MatchRule}
 use Rattle.schema.specs.declared.table_def.TableDef.{TableDef}
 use Rattle.table_model.specs.declared.verdict.Verdict.TheVariants as verdict
 use Rattle.schema.specs.Columns.{target_of, is_restrict, all_fit}
-use Rattle.table_model.specs.Visible.{Rules, TableRow, same_row, table_of, Effects, refs, cascade_refs, visible_to, is_visible, visible_rows, is_nulled, shown, shown_rows, shown_value, shown_values}
-use Rattle.table_model.specs.Verdicts.{is_valid, verdict_after, verdict_on, insert_reason, delete_reason, matches_among, limits_hold, unique_holds, in_table, joined, nothing, effects_of, effects, Judged, ancestor_of, judge_next, row_inserted, first_reason, same_author, judged}
+use Rattle.table_model.specs.Visible.{Rules, TableRow, same_row, table_of, Effects, refs, cascade_refs, kept_of, is_candidate, goes_before, is_least_in, is_least, visible_to, is_visible, visible_rows, is_nulled, shown, shown_rows, shown_value, shown_values}
+use Rattle.table_model.specs.Verdicts.{is_valid, verdict_after, verdict_on, insert_reason, delete_reason, matches_among, limits_hold, keeps_least, is_new_in, are_new, unique_holds, in_table, joined, nothing, effects_of, effects, Judged, ancestor_of, judge_next, row_inserted, first_reason, same_author, judged}
 use Rattle.schema.specs.Checks.{checks_hold}
 use Rattle.table_model.proofs.Alike.{weight, weight-append, Alike, Alike-refl, Alike-append, Alike-filter, Alike-map, Alike-same, Alike-trans, same_any, same_all, same_count, same_length, filter-each}
 
@@ -29,14 +29,22 @@ pub record AlikeEffects (g h : Effects) : Type 0 where
   pub deleted : Alike g.deleted h.deleted
 
 module _ (rules : Rules) where
+  same_candidate : {g h : Effects} → AlikeEffects g h → (s t : RowName → Bool) → ((name : RowName) → s name ≡ t name) → (row : TableRow) → is_candidate rules g s row ≡ is_candidate rules h t row
+  same_candidate a s t e row = λ i. list_all (λ r. e r.name i) (cascade_refs rules row) && not (same_any (same_row row.name) a.deleted i)
+
+  same_least : {g h : Effects} → AlikeEffects g h → (s t : RowName → Bool) → ((name : RowName) → s name ≡ t name) → (row : TableRow) (o : Option ℕ) → is_least_in rules g s row o ≡ is_least_in rules h t row o
+  same_least a s t e row None = refl
+  same_least {g} {h} a s t e row (Some column) =
+      (λ i. not (list_any (λ other. goes_before column row other && same_candidate a s t e other i) g.inserted))
+      ∙ ap not (same_any (λ other. goes_before column row other && is_candidate rules h t other) a.inserted)
+
   pub same_visible_to : {g h : Effects} → AlikeEffects g h → (depth : ℕ) (name : RowName) → visible_to rules g depth name ≡ visible_to rules h depth name
   unfolding visible_to
   same_visible_to a zero name = refl
   same_visible_to {g} {h} a (suc depth) name =
-      ap₂ (λ x y. x && not y)
-      ((λ i. list_any (λ row. same_row row.name name && list_all (λ r. same_visible_to a depth r.name i) (cascade_refs rules row)) g.inserted)
-      ∙ same_any (λ row. same_row row.name name && list_all (λ r. visible_to rules h depth r.name) (cascade_refs rules row)) a.inserted)
-      (same_any (same_row name) a.deleted)
+      (λ i. list_any (λ row. same_row row.name name && (same_candidate a (visible_to rules g depth) (visible_to rules h depth) (same_visible_to a depth) row i
+      && same_least a (visible_to rules g depth) (visible_to rules h depth) (same_visible_to a depth) row (kept_of rules row.table) i)) g.inserted)
+      ∙ same_any (λ row. same_row row.name name && (is_candidate rules h (visible_to rules h depth) row && is_least rules h (visible_to rules h depth) row)) a.inserted
 
   pub same_visible : {g h : Effects} → AlikeEffects g h → (name : RowName) → is_visible rules g name ≡ is_visible rules h name
   unfolding visible_to
@@ -98,16 +106,26 @@ module _ (rules : Rules) where
   same_limits : {b c : List TableRow} → Alike b c → (t : ℕ) (tables : List TableDef) → limits_hold b t tables ≡ limits_hold c t tables
   same_limits a t [] = refl
   same_limits a t (table ∷ tables) = λ i.
-      list_all (λ rule. same_unique a t rule.column i) table.uniques
+      list_all (λ rule. keeps_least table.kept rule.column || same_unique a t rule.column i) table.uniques
       && ((table.at_most == 0) || nat_le (same_count (in_table t) a i) table.at_most)
       && same_limits a (t + 1) tables i
+
+  same_new_in : {b c : List TableRow} → Alike b c → (o : Option ℕ) (row : TableRow) → is_new_in o b row ≡ is_new_in o c row
+  same_new_in a None row = refl
+  same_new_in a (Some column) row = ap not (same_any (λ other. in_table row.table other && compares cmp.Eq (value_at row.values column) (value_at other.values column)) a)
+
+  same_new : {b c : List TableRow} → Alike b c → (rows : List TableRow) → are_new rules b rows ≡ are_new rules c rows
+  same_new a [] = refl
+  same_new a (row ∷ older) = λ i. same_new_in (Alike-append (Alike-refl older) a) (kept_of rules row.table) row i && same_new a older i
 
   joined-alike : (did : Effects) {g h : Effects} → AlikeEffects g h → AlikeEffects (joined did g) (joined did h)
   joined-alike did a = record { inserted = Alike-append (Alike-refl did.inserted) a.inserted; deleted = Alike-append (Alike-refl did.deleted) a.deleted }
 
   same_verdict : {g h : Effects} {b c : List TableRow} → AlikeEffects g h → Alike b c → (node : NodeData) (k : ℕ) (did : Effects) (ops : List Op)
       → verdict_after rules g b node k did ops ≡ verdict_after rules h c node k did ops
-  same_verdict a r node k did [] = ap (λ x. if x then verdict.Valid else verdict.Void 9 k) (same_limits (same_rows (joined-alike did a)) 0 rules.tables)
+  same_verdict a r node k did [] =
+      ap₂ (λ x y. if x && y then verdict.Valid else verdict.Void 9 k) (same_limits (same_rows (joined-alike did a)) 0 rules.tables)
+      (same_new (Alike-filter (λ row. not (list_any (same_row row.name) did.deleted)) r) did.inserted)
   same_verdict a r node k did (Insert t values ∷ ops) = λ i.
       elim (same_insert_reason (Alike-append (Alike-refl did.inserted) r) (row_inserted node k t values) i) [
         | Some reason ↦ verdict.Void reason k

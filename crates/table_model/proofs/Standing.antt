@@ -1,17 +1,17 @@
 -- What is known of a row of a closed list, and which rows are visible.
-use Rattle.std.proofs.Common.{◌≡◌, ℕ, ◌==◌, zero, suc, Bool, true, false, cond, not, ◌&&◌, List, [], ◌∷◌, length, filter, refl, sym, ◌∙◌, subst, inl, inr}
+use Rattle.std.proofs.Common.{◌≡◌, ◌==◌, Bool, true, false, cond, ◌&&◌, List, [], ◌∷◌, filter, refl, sym, subst, inl, inr}
 use Rattle.std.specs.List.{list_any, list_all, AllByRecursion}
 use Rattle.std.proofs.lemmas.Bool.{and_parts, or_cases, or_right, or_left, and_from, both_ways, eqb-true, eq-eqb}
 use Rattle.update_model.specs.declared.row_name.RowName.{RowName}
 use Rattle.update_model.specs.Entry.{same_id}
 use Rattle.update_model.proofs.Ids.{id_from_same, same_id-refl}
 use Rattle.row_check.specs.Meaning.{value_at}
-use Rattle.table_model.specs.Visible.{Rules, TableRow, Effects, same_row, table_of, refs, is_cascade, cascade_refs, shows, visible_to, is_visible, is_deleted}
+use Rattle.table_model.specs.Visible.{Rules, TableRow, same_row, table_of, refs}
 use Rattle.table_model.specs.Verdicts.{stands_among, matches_among, matches_hold}
 use Rattle.schema.specs.Checks.{checks_hold}
 use Rattle.schema.specs.Columns.{all_fit}
 use Rattle.table_model.proofs.Order.{any_weaker}
-use Rattle.table_model.proofs.Founded.{match_more, all_weaker, IsFounded, Founded, IsWellFounded}
+use Rattle.table_model.proofs.Founded.{match_more, all_weaker, IsFounded, Founded}
 
 pub row_from_same : (a b : RowName) → same_row a b ≡ true → a ≡ b
 row_from_same a b h =
@@ -85,70 +85,8 @@ all_filtered p q (x ∷ xs) h =
     let parts = and_parts (q x) _ h in
     elim (p x) as (λ b. list_all q (cond b (x ∷ filter p xs) (filter p xs)) ≡ true) [ true ↦ and_from _ _ parts.0 (all_filtered p q xs parts.1) | false ↦ all_filtered p q xs parts.1 ]
 
-bool_same : (a b : Bool) → (a ≡ true → b ≡ true) → (b ≡ true → a ≡ true) → a ≡ b
+pub bool_same : (a b : Bool) → (a ≡ true → b ≡ true) → (b ≡ true → a ≡ true) → a ≡ b
 bool_same true true f h = refl
 bool_same true false f h = sym (f refl)
 bool_same false true f h = h refl
 bool_same false false f h = refl
-
-module _ (rules : Rules) (g : Effects) where
-  pub deeper : (depth : ℕ) (name : RowName) → visible_to rules g depth name ≡ true → visible_to rules g (suc depth) name ≡ true
-  unfolding visible_to
-  deeper zero name h = absurd (cc)
-  deeper (suc depth) name h =
-      let parts = and_parts _ (not (is_deleted g name)) h in
-      and_from _ _
-      (any_weaker (λ row. same_row row.name name && list_all (λ r. visible_to rules g depth r.name) (cascade_refs rules row))
-      (λ row. same_row row.name name && list_all (λ r. visible_to rules g (suc depth) r.name) (cascade_refs rules row))
-      (λ row k. let both = and_parts (same_row row.name name) _ k in
-      and_from _ _ both.0 (all_weaker (λ r. visible_to rules g depth r.name) (λ r. visible_to rules g (suc depth) r.name) (λ r l. deeper depth r.name l) (cascade_refs rules row) both.1))
-      g.inserted parts.0)
-      parts.1
-
-module _ (rules : Rules) (g : Effects) (f : IsWellFounded rules g) where
-  -- what is visible at any depth is visible at that of the rows up to it
-  deep_each : (rows : List TableRow) → Founded rules rows → AllByRecursion (Stands rules g.inserted) rows
-      → AllByRecursion (λ e. (depth : ℕ) → visible_to rules g depth e.name ≡ true → visible_to rules g (length rows) e.name ≡ true) rows
-  unfolding visible_to
-  deep_each [] fs s = tt
-  deep_each (e ∷ older) fs s =
-      let it : IsFounded rules older e = fs.0 in
-      let st : Stands rules g.inserted e = s.0 in
-      let before = deep_each older fs.1 s.1 in
-      let first : (depth : ℕ) → visible_to rules g depth e.name ≡ true → visible_to rules g (suc (length older)) e.name ≡ true =
-      elim [
-        | zero ↦ λ h. absurd (cc)
-        | suc depth ↦ λ h.
-            let parts = and_parts _ (not (is_deleted g e.name)) h in
-            let targets = st.only (λ row. list_all (λ r. visible_to rules g depth r.name) (cascade_refs rules row)) parts.0 in
-            and_from _ _
-            (st.here (λ row. same_row row.name e.name && list_all (λ r. visible_to rules g (length older) r.name) (cascade_refs rules row))
-            (and_from _ _ (same_row-refl e.name)
-            (all_both (stands_among older) (λ r. visible_to rules g depth r.name) (λ r. visible_to rules g (length older) r.name)
-            (λ r there seen. any_each (λ x. (d : ℕ) → visible_to rules g d x.name ≡ true → visible_to rules g (length older) x.name ≡ true) (λ x. same_row x.name r.name && (x.table == r.target)) _
-            (λ x px hx.
-            let same : x.name ≡ r.name = row_from_same x.name r.name (and_parts (same_row x.name r.name) _ hx).0 in
-            subst (λ (n : RowName). visible_to rules g (length older) n ≡ true) same (px depth (subst (λ (n : RowName). visible_to rules g depth n ≡ true) (sym same) seen)))
-            older before there)
-            (cascade_refs rules e) (all_filtered (λ r. is_cascade r.action) (stands_among older) (refs rules e) it.referred) targets)))
-            parts.1
-      ] in
-      (first, each-map _ _ (λ x p d h. deeper rules g (length older) x.name (p d h)) older before)
-
-  -- a row is visible exactly where a valid member inserted it, none deletes it, and each CASCADE target of it is visible
-  pub visible_is : (name : RowName) → is_visible rules g name
-      ≡ shows rules g (is_visible rules g) name
-  unfolding visible_to
-  visible_is name =
-      bool_same (is_visible rules g name) (visible_to rules g (suc (length g.inserted)) name)
-      (deeper rules g (length g.inserted) name)
-      (λ h. any_each (λ x. (d : ℕ) → visible_to rules g d x.name ≡ true → is_visible rules g x.name ≡ true) (λ row. same_row row.name name && list_all (λ r. is_visible rules g r.name) (cascade_refs rules row)) _
-      (λ x px hx.
-      let same : x.name ≡ name = row_from_same x.name name (and_parts (same_row x.name name) _ hx).0 in
-      subst (λ (n : RowName). is_visible rules g n ≡ true) same (px (suc (length g.inserted)) (subst (λ (n : RowName). visible_to rules g (suc (length g.inserted)) n ≡ true) (sym same) h)))
-      g.inserted (deep_each g.inserted f.founded (each_stands rules g.inserted f.founded)) (and_parts _ (not (is_deleted g name)) h).0)
-
-  -- a visible row's CASCADE targets are visible
-  pub targets_visible : (e : TableRow) → Stands rules g.inserted e → is_visible rules g e.name ≡ true → list_all (λ r. is_visible rules g r.name) (cascade_refs rules e) ≡ true
-  targets_visible e s h =
-      s.only (λ row. list_all (λ r. is_visible rules g r.name) (cascade_refs rules row)) (and_parts _ (not (is_deleted g e.name)) (sym (visible_is e.name) ∙ h)).0

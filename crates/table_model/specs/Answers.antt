@@ -1,6 +1,6 @@
 -- What the rows that are visible answer, where one asks for a row by its name, for those that hold on to it, or for a number
 -- of rows.
-use Rattle.std.specs.Prelude.{◌≡◌, ℕ, Bool, true, ◌&&◌, List, Contains, Option, count_by, find, option_map}
+use Rattle.std.specs.Prelude.{◌≡◌, ℕ, ◌≤◌, Bool, true, ◌&&◌, List, Contains, Option, count_by, find, option_map}
 use Rattle.std.specs.List.{list_any}
 use Rattle.update_model.specs.declared.row_entry.RowEntry.{RowEntry}
 use Rattle.update_model.specs.declared.row_name.RowName.{RowName}
@@ -32,6 +32,7 @@ equal_in rows table column value = count_by (λ row. in_table table row && compa
 -- a row names this one by RESTRICT, how many rows of a table have a value in a column, and how many rows it has.
 pub record AreAnswers (rules : Rules) (past : Effects) (row_at : RowName → Option RowEntry) (child_of : RowName → Bool) (equal_to : ℕ → ℕ → Value → ℕ) (rows_of : ℕ → ℕ) : Type 0 where
   pub once : (a b : TableRow) → Contains (visible_rows rules past) a → Contains (visible_rows rules past) b → same_row a.name b.name ≡ true → a ≡ b
+  pub single : (name : RowName) → count_by (λ row. same_row row.name name) (visible_rows rules past) ≤ 1
   pub row : (name : RowName) → row_at name ≡ entry_in (visible_rows rules past) name
   pub child : (name : RowName) → child_of name ≡ has_child_in rules (visible_rows rules past) name
   pub equal : (table column : ℕ) (value : Value) → equal_to table column value ≡ equal_in (visible_rows rules past) table column value

@@ -17,12 +17,14 @@ use Rattle.schema.specs.declared.table_def.TableDef.{TableDef}
 use Rattle.schema.specs.Checks.{CheckData}
 use Rattle.schema.specs.Columns.{target_of}
 use Rattle.table_model.specs.Visible.{Rules, TableRow, same_row, shown_rows}
-use Rattle.table_model.specs.Verdicts.{effects_in, in_table, unique_holds, at_most_holds, matches_among}
+use Rattle.table_model.specs.Verdicts.{effects_in, in_table, keeps_least, unique_holds, at_most_holds, matches_among}
 
 -- what an invariant says
 pub data Claim : Type 0 where
   -- no two rows of the table are equal in the column
   Unique : (table column : ℕ) → Claim
+  -- the same, where of candidates with equal values the one with the least name is visible
+  UniqueKept : (table column : ℕ) → Claim
   -- the table has at most so many rows
   AtMost : (table count : ℕ) → Claim
   -- where the table's column is not null, it names a row of the target
@@ -45,8 +47,10 @@ each_from declares number (x ∷ xs) = declares number x ++ each_from declares (
 abbrev pub declared_at : InvariantKind → ℕ → ℕ → ℕ → Claim → List Declared
 declared_at kind table place line claim = record { which = record { kind = kind; table = table; place = place; line = line }; claim = claim } ∷ []
 
-abbrev pub unique_declared : ℕ → ℕ → UniqueRule → List Declared
-unique_declared table place rule = declared_at kind.Unique table place rule.line (Unique table rule.column)
+abbrev pub unique_declared : Option ℕ → ℕ → ℕ → UniqueRule → List Declared
+unique_declared kept table place rule =
+    if keeps_least kept rule.column then declared_at kind.UniqueKept table place rule.line (UniqueKept table rule.column)
+    else declared_at kind.Unique table place rule.line (Unique table rule.column)
 
 abbrev pub at_most_declared : ℕ → TableDef → List Declared
 at_most_declared number table =
@@ -68,7 +72,7 @@ match_declared table place rule = declared_at kind.Match table place rule.line (
 -- The invariants of a table: the UNIQUE lines, ATMOST, the references, and the CHECK and MATCH lines.
 abbrev pub table_declared : ℕ → TableDef → List Declared
 table_declared number table =
-    each_from (unique_declared number) 0 table.uniques
+    each_from (unique_declared table.kept number) 0 table.uniques
     ++ at_most_declared number table
     ++ each_from (reference_declared number) 0 table.columns
     ++ each_from (check_declared number) 0 table.checks
@@ -94,6 +98,7 @@ each_row rows table test = list_all (λ row. not (in_table table row) || test ro
 -- whether what an invariant says is true of shown rows
 abbrev pub claim_holds : Rules → List TableRow → Claim → Bool
 claim_holds rules rows (Unique table column) = unique_holds rows table column
+claim_holds rules rows (UniqueKept table column) = unique_holds rows table column
 claim_holds rules rows (AtMost table count) = at_most_holds rows table count
 claim_holds rules rows (Refers table column target act) = each_row rows table (λ row. names_shown rows target (value_at row.values column))
 claim_holds rules rows (Check table tree) = each_row rows table (λ row. holds_tree rules.ask row.values tree)

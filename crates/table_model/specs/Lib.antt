@@ -1,4 +1,5 @@
 pub mod Answers
+pub mod Counts
 pub mod Invariants
 pub mod Nodes
 pub mod Tables

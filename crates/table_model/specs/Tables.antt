@@ -1,10 +1,8 @@
 -- The tables of a set of updates, and its updates that do nothing.
 use Rattle.std.specs.Prelude.{◌≡◌, ℕ, List, [], ◌∷◌, ◌++◌, length, map, filter, Some, slice_get}
-use Rattle.std.specs.declared.cmp.Ordering.{Ordering}
 use Rattle.std.specs.List.{IsDistinct}
-use Rattle.std.specs.Ordering.{eq_by_cmp, nat_cmp, ordering_then}
+use Rattle.std.specs.Ordering.{eq_by_cmp}
 use Rattle.std.specs.List.Sorted.{IsStrictlySortedBy, IsPermutation}
-use Rattle.update_model.specs.declared.row_name.RowName.{RowName}
 use Rattle.update_model.specs.declared.update_id.UpdateId.{UpdateId}
 use Rattle.update_model.specs.Entry.{id_cmp}
 use Rattle.update_model.specs.Node.{NodeData}
@@ -12,13 +10,10 @@ use Rattle.table_model.specs.declared.shown_row.ShownRow.{ShownRow}
 use Rattle.table_model.specs.declared.verdict.Verdict.{Verdict}
 use Rattle.table_model.specs.declared.verdict.Verdict.TheVariants as verdict
 use Rattle.table_model.specs.declared.void_line.VoidLine.{VoidLine}
+pub use Rattle.table_model.specs.Visible.{name_cmp}
 use Rattle.table_model.specs.Visible.{Rules, TableRow}
 use Rattle.table_model.specs.Verdicts.{Judged, judged, in_table}
 use Rattle.table_model.specs.Invariants.{shown_in}
-
--- names order by the bytes of the id, then by the number
-abbrev pub name_cmp : RowName → RowName → Ordering
-name_cmp a b = ordering_then (id_cmp a.update b.update) (nat_cmp a.index b.index)
 
 -- No two rows have one name.
 abbrev pub HasDistinctNames : List ShownRow → Type 0

@@ -20,7 +20,7 @@ use Rattle.table_model.specs.declared.verdict.Verdict.{Verdict}
 use Rattle.table_model.specs.declared.verdict.Verdict.TheVariants as verdict
 use Rattle.schema.specs.Checks.{checks_hold}
 use Rattle.schema.specs.Columns.{all_fit, is_restrict}
-use Rattle.table_model.specs.Visible.{Rules, TableRow, RowRef, refs, Effects, visible_rows, same_row, table_of}
+use Rattle.table_model.specs.Visible.{Rules, TableRow, RowRef, refs, Effects, visible_rows, same_row, table_of, kept_of}
 
 -- whether the row that a reference names stands among these, in the table that the reference is to
 abbrev pub stands_among : List TableRow → RowRef → Bool
@@ -104,22 +104,44 @@ unique_holds rows table column =
 abbrev pub at_most_holds : List TableRow → ℕ → ℕ → Bool
 at_most_holds rows table count = (count == 0) || nat_le (count_by (in_table table) rows) count
 
--- whether every UNIQUE and AT MOST of these tables, which number from here, holds of the rows
+-- whether a UNIQUE of a column is one with KEEP LEAST
+abbrev pub keeps_least : Option ℕ → ℕ → Bool
+keeps_least None column = false
+keeps_least (Some kept) column = kept == column
+
+-- whether every UNIQUE without KEEP LEAST and every AT MOST of these tables, which number from here, holds of the rows
 abbrev pub limits_hold : List TableRow → ℕ → List TableDef → Bool
 limits_hold rows number [] = true
 limits_hold rows number (table ∷ tables) =
-    list_all (λ rule. unique_holds rows number rule.column) table.uniques && at_most_holds rows number table.at_most && limits_hold rows (number + 1) tables
+    list_all (λ rule. keeps_least table.kept rule.column || unique_holds rows number rule.column) table.uniques
+    && at_most_holds rows number table.at_most && limits_hold rows (number + 1) tables
 
--- whether a table has neither UNIQUE nor ATMOST
+-- whether no row beside one, of its table, has its value in the column of which the table keeps the least row, if any
+abbrev pub is_new_in : Option ℕ → List TableRow → TableRow → Bool
+is_new_in None beside row = true
+is_new_in (Some column) beside row =
+    not (list_any (λ other. in_table row.table other && compares cmp.Eq (value_at row.values column) (value_at other.values column)) beside)
+
+-- whether this is so of each of these rows, newest first, beside those behind it and these
+abbrev pub are_new : Rules → List TableRow → List TableRow → Bool
+are_new rules beside [] = true
+are_new rules beside (row ∷ older) = is_new_in (kept_of rules row.table) (older ++ beside) row && are_new rules beside older
+
+-- those of these rows whose names are not among those that were deleted
+abbrev pub left_of : List TableRow → List RowName → List TableRow
+left_of rows deleted = filter (λ row. not (list_any (same_row row.name) deleted)) rows
+
+-- whether a table has neither an ATMOST nor a UNIQUE without KEEP LEAST
 abbrev pub is_unlimited : TableDef → Bool
-is_unlimited table = (length table.uniques == 0) && (table.at_most == 0)
+is_unlimited table = list_all (λ rule. keeps_least table.kept rule.column) table.uniques && (table.at_most == 0)
 
 -- The first reason that applies, operation by operation from this number on, after what the ancestors did, of which these
--- rows are visible, and what earlier operations did. At the end a UNIQUE or an AT MOST may be broken in the tables of the
--- ancestors and the update together.
+-- rows are visible, and what earlier operations did. At the end a UNIQUE without KEEP LEAST or an AT MOST may be broken in
+-- the tables of the ancestors and the update together, or a row may have a value that a KEEP LEAST gives to another one.
 abbrev pub verdict_after : Rules → Effects → List TableRow → NodeData → ℕ → Effects → List Op → Verdict
 verdict_after rules past rows node number did [] =
-    if limits_hold (visible_rows rules (joined did past)) 0 rules.tables then verdict.Valid else verdict.Void LIMIT_BROKEN number
+    if limits_hold (visible_rows rules (joined did past)) 0 rules.tables && are_new rules (left_of rows did.deleted) did.inserted
+    then verdict.Valid else verdict.Void LIMIT_BROKEN number
 verdict_after rules past rows node number did (op.Insert table values ∷ ops) =
     elim (insert_reason rules (did.inserted ++ rows) (row_inserted node number table values)) [
       | Some reason ↦ verdict.Void reason number

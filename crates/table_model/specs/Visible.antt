@@ -1,16 +1,21 @@
 -- Which rows are visible after a set of updates, and what they show.
-use Rattle.std.specs.Prelude.{ℕ, zero, suc, ◌==◌, Bool, true, false, not, ◌&&◌, List, [], ◌∷◌, ◌++◌, length, map, filter, Option, Some, None, if◌then◌else◌}
+use Rattle.std.specs.Prelude.{ℕ, zero, suc, ◌==◌, Bool, true, false, not, ◌&&◌, List, [], ◌∷◌, ◌++◌, length, map, filter, Option, Some, None, IsTrue, if◌then◌else◌}
+use Rattle.std.specs.declared.cmp.Ordering.{Ordering}
+use Rattle.std.specs.Ordering.{is_lt, nat_cmp, ordering_then}
 use Rattle.std.specs.List.{list_any, list_all}
 use Rattle.update_model.specs.declared.author_key.AuthorKey.{AuthorKey}
 use Rattle.update_model.specs.declared.row_name.RowName.{RowName}
 use Rattle.update_model.specs.declared.value.Value.{Value}
 use Rattle.update_model.specs.declared.value.Value.TheVariants as value
-use Rattle.update_model.specs.Entry.{same_id}
+use Rattle.update_model.specs.Entry.{id_cmp, same_id}
+use Rattle.row_check.specs.declared.cmp.Cmp.TheVariants as cmp
+use Rattle.row_check.specs.Comparisons.{compares}
+use Rattle.row_check.specs.Meaning.{value_at}
 use Rattle.schema.specs.declared.action.Action.{Action}
-use Rattle.schema.specs.declared.action.Action.TheVariants as action
 use Rattle.schema.specs.declared.column.Column.{Column}
 use Rattle.schema.specs.declared.column.ColumnKind.{ColumnKind}
 use Rattle.schema.specs.declared.table_def.TableDef.{TableDef}
+pub use Rattle.schema.specs.Columns.{is_cascade}
 use Rattle.schema.specs.Columns.{target_of, is_set_null}
 use Rattle.schema.specs.Numbers.{table_number}
 
@@ -30,6 +35,10 @@ bare_rules tables = rules_with (λ number values. false) tables
 -- the table with this number
 abbrev pub table_of : Rules → ℕ → TableDef
 table_of rules number = table_number rules.tables number
+
+-- the column of which a table keeps the least row of each value, if any
+abbrev pub kept_of : Rules → ℕ → Option ℕ
+kept_of rules number = (table_of rules number).kept
 
 -- a row that an update inserted. References to rows of the same update are names of rows like all others
 pub record TableRow : Type 0 where
@@ -67,35 +76,64 @@ refs_in (column ∷ columns) (value ∷ values) = ref_in column.kind value ++ re
 abbrev pub refs : Rules → TableRow → List RowRef
 refs rules row = refs_in (table_of rules row.table).columns row.values
 
-abbrev pub is_cascade : Action → Bool
-is_cascade action.Restrict = false
-is_cascade action.Cascade = true
-is_cascade action.SetNull = false
-
 -- those by CASCADE
 abbrev pub cascade_refs : Rules → TableRow → List RowRef
 cascade_refs rules row = filter (λ r. is_cascade r.action) (refs rules row)
+
+-- the table that a column refers to by CASCADE, if any
+abbrev pub cascade_target : Option (ℕ × Action) → List ℕ
+cascade_target None = []
+cascade_target (Some target) = if is_cascade target.1 then target.0 ∷ [] else []
+
+abbrev pub cascade_targets : List Column → List ℕ
+cascade_targets [] = []
+cascade_targets (column ∷ columns) = cascade_target (target_of column.kind) ++ cascade_targets columns
 
 -- what the valid members of a set did: which rows they inserted, and which names they deleted
 pub record Effects : Type 0 where
   pub inserted : List TableRow
   pub deleted : List RowName
 
+-- What was done in the first is among what was done in the second.
+pub record DoesLess (first second : Effects) : Type 0 where
+  pub inserted : (p : TableRow → Bool) → IsTrue (list_any p first.inserted) → IsTrue (list_any p second.inserted)
+  pub deleted : (p : RowName → Bool) → IsTrue (list_any p first.deleted) → IsTrue (list_any p second.deleted)
+
 abbrev pub is_deleted : Effects → RowName → Bool
 is_deleted did name = list_any (same_row name) did.deleted
 
--- A row is visible where a valid member inserted it, none deletes it, and each row that it names by CASCADE is seen.
+-- names order by the bytes of the id, then by the number
+abbrev pub name_cmp : RowName → RowName → Ordering
+name_cmp a b = ordering_then (id_cmp a.update b.update) (nat_cmp a.index b.index)
+
+-- A row that a valid member inserted is a candidate where none deletes it, and each row that it names by CASCADE is seen.
+abbrev pub is_candidate : Rules → Effects → (RowName → Bool) → TableRow → Bool
+is_candidate rules did seen row = list_all (λ r. seen r.name) (cascade_refs rules row) && not (is_deleted did row.name)
+
+-- whether another row of a row's table has an equal value in a column, and a lesser name
+abbrev pub goes_before : ℕ → TableRow → TableRow → Bool
+goes_before column row other =
+    (other.table == row.table) && compares cmp.Eq (value_at row.values column) (value_at other.values column) && is_lt (name_cmp other.name row.name)
+
+-- whether no candidate goes before a row in the column of which its table keeps the least row of each value, if any
+abbrev pub is_least_in : Rules → Effects → (RowName → Bool) → TableRow → Option ℕ → Bool
+is_least_in rules did seen row None = true
+is_least_in rules did seen row (Some column) = not (list_any (λ other. goes_before column row other && is_candidate rules did seen other) did.inserted)
+
+abbrev pub is_least : Rules → Effects → (RowName → Bool) → TableRow → Bool
+is_least rules did seen row = is_least_in rules did seen row (kept_of rules row.table)
+
+-- A row is visible where it is a candidate, and no other one goes before it.
 abbrev pub shows : Rules → Effects → (RowName → Bool) → RowName → Bool
-shows rules did seen name =
-    list_any (λ row. same_row row.name name && list_all (λ r. seen r.name) (cascade_refs rules row)) did.inserted
-    && not (is_deleted did name)
+shows rules did seen name = list_any (λ row. same_row row.name name && (is_candidate rules did seen row && is_least rules did seen row)) did.inserted
 
 -- the same, where references are followed this deep
 unfoldable pub visible_to : Rules → Effects → ℕ → RowName → Bool
 visible_to rules did zero name = false
 visible_to rules did (suc depth) name = shows rules did (visible_to rules did depth) name
 
--- whether a row is visible. No chain of references is longer than the rows are many
+-- Whether a row is visible. It rests on rows of earlier tables, and on earlier rows of its own table where that keeps no least
+-- row: so nothing is followed further than the rows are many.
 abbrev pub is_visible : Rules → Effects → RowName → Bool
 is_visible rules did name = visible_to rules did (length did.inserted) name
 

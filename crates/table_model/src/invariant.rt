@@ -3,6 +3,9 @@
 pub enum InvariantKind {
     /// A `UNIQUE` line: no two rows of the table are equal in the column.
     Unique,
+    /// A `UNIQUE` line with `KEEP LEAST`: the same, since of the rows that could be shown with one value only the one
+    /// with the least name is.
+    UniqueKept,
     /// The `ATMOST` line: the table has at most so many rows.
     AtMost,
     /// A `REF` line: each reference that is not null names a row of the other table.

@@ -28,7 +28,7 @@ fn letter(frame: &Frame) -> char {
 
 /// What is written of the Hello of a node that holds nothing.
 const HELLO: &[&[u8]] = &[
-    &[0x01, 0x00, 0x00, 0x00, 0x4b, 0x01],
+    &[0x01, 0x00, 0x00, 0x00, 0x4b, 0x02],
     &[0xd1; 32],
     &[0x4e; 32],
     &[0; 10],
@@ -64,7 +64,7 @@ fn read_piece(
     Ok(())
 }
 
-/// Whether two pieces are read as a Hello, one of version 7, an Item, and both Turns.
+/// Whether two pieces are read as a Hello, one of version 1, an Item, and both Turns.
 fn is_read(alloc: Global, one: &[u8], other: &[u8]) -> Result<bool, FeedError> {
     let mut frames = Frames::new(alloc);
     let mut read = String::new(alloc);
@@ -76,7 +76,7 @@ fn is_read(alloc: Global, one: &[u8], other: &[u8]) -> Result<bool, FeedError> {
 /// Whether these frames are read, cut into two pieces at every place.
 fn reads_each_cut(alloc: Global) -> Result<bool, FeedError> {
     let mut stream = write_hello(alloc, &hello(alloc))?;
-    stream.extend_from_slice(&[1, 0, 0, 0, 2, 7, 9, 2, 0, 0, 0, 1, 5])?;
+    stream.extend_from_slice(&[1, 0, 0, 0, 2, 1, 9, 2, 0, 0, 0, 1, 5])?;
     stream.extend_from_slice(&[3, 0, 0, 0, 3, 0, 0, 0, 3, 0, 0, 0, 3, 1, 0, 0])?;
     for cut in 0..stream.len() {
         if !is_read(alloc, &stream[..cut], &stream[cut..])? {

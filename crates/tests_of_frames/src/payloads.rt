@@ -74,7 +74,7 @@ fn a_turn_is_exactly_of_its_form(rt: HostRuntime) {
 /// What a Hello begins with: its version, and bytes for the database and the node.
 fn hello_front() -> [u8; 65] {
     let mut front = [0xd1; 65];
-    front[0] = 1;
+    front[0] = 2;
     front
 }
 

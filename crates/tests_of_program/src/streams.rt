@@ -77,9 +77,14 @@ const CASES: [(&[Step], u8, &str); 24] = [
         "! update 2: other database\n",
     ),
     (
-        &[FIRST, Step::Put(4, &[2])],
+        &[FIRST, Step::Put(4, &[3])],
         1,
         "! update 1: version at 0\n",
+    ),
+    (
+        &[FIRST, Step::Put(4, &[2])],
+        1,
+        "! update 1: signature length at 95\n",
     ),
     (
         &[FIRST, Step::Put(40, &[8])],

@@ -115,20 +115,20 @@ fn spelled(alloc: Global, text: &str) -> Result<Vec<u8>, AllocError> {
 
 /// What stands before a piece that is repeated, how often it is, what stands behind it, and what the text is.
 const LONG: &[(&str, &str, usize, &str, &str)] = &[
-    ("", "INSERT list \"Home\" 9\n", 64, "", "64"),
+    ("", "INSERT list \"Home\" 9\n", 256, "", "256"),
     (
         "",
         "INSERT list \"Home\" 9\n",
-        65,
+        257,
         "",
-        "65:1: too many operations",
+        "257:1: too many operations",
     ),
     (
         "",
         "\nINSERT list \"Home\" 9\n",
-        64,
+        256,
         "  DELETE x",
-        "129:3: too many operations",
+        "513:3: too many operations",
     ),
     ("INSERT list \"", "a", 1024, "\" 9", "1"),
     (

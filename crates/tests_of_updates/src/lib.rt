@@ -11,3 +11,5 @@ mod host;
 mod signed;
 #[cfg(test)]
 mod streams;
+#[cfg(test)]
+mod versions;

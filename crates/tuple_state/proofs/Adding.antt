@@ -1,4 +1,5 @@
 -- The links from rows to those that name them.
+use Rattle.tuple_state.specs.declared.shape.Shape.{Shape}
 use Rattle.std.proofs.Common.{◌≡◌, ℕ, suc, ◌+◌, ◌<◌, ◌≤◌, ◌==◌, Bool, true, false, cond, ◌&&◌, List, [], ◌∷◌, ◌++◌, length, get_or, map, reverse, take, append_assoc, refl, sym, ap, ◌∙◌, subst, length-append, Option, Some, None, nat_lt, arith}
 use Rattle.std.specs.Prelude.{count_by, filter, is_some, slice_get}
 use Rattle.std.specs.List.{list_all}
@@ -22,7 +23,7 @@ use Rattle.tuple_state.specs.Causes.{AreRising, Raised, absent_times, is_absent,
 use Rattle.tuple_state.specs.Kept.{are_layered, deletes_at, pairs_of, place_of}
 use Rattle.tuple_state.specs.Links.{are_inside, is_of}
 use Rattle.tuple_state.specs.Parents.{columns_at, name_at, name_by_cascade, name_in, names_in}
-use Rattle.tuple_state.specs.State.{dropped_at, row_of, rules_over_columns}
+use Rattle.tuple_state.specs.State.{dropped_at, row_of, rules_over}
 use Rattle.tuple_state.proofs.Deleting.{pair_parts}
 use Rattle.tuple_state.proofs.Marks.{columns_there}
 use Rattle.tuple_state.proofs.Meaning.{all_before, is_before}
@@ -51,10 +52,10 @@ all_names_in place (column ∷ columns) (v ∷ values) =
     ∙ map-append (λ (r : RowRef). dropped_at place r.name) (filter (λ (r : RowRef). is_cascade r.action) (ref_in column.kind v)) (filter (λ (r : RowRef). is_cascade r.action) (refs_in columns values))
     ∙ (λ i. one_name_in place column.kind v i ++ all_names_in place columns values i)
 
-pub names_are : (columns : List (List Column)) (place : ℕ) (it : Inserted) → map (λ r. dropped_at place r.name) (cascade_refs (rules_over_columns columns) (row_of it)) ≡ names_in place (columns_at columns it.entry.table) it.entry.values
-names_are columns place it =
-    ap (λ (l : List Column). map (λ (r : RowRef). dropped_at place r.name) (filter (λ (r : RowRef). is_cascade r.action) (refs_in l it.entry.values))) (columns_there columns it.entry.table)
-    ∙ all_names_in place (columns_at columns it.entry.table) it.entry.values
+pub names_are : (shapes : List Shape) (place : ℕ) (it : Inserted) → map (λ r. dropped_at place r.name) (cascade_refs (rules_over shapes) (row_of it)) ≡ names_in place (columns_at shapes it.entry.table) it.entry.values
+names_are shapes place it =
+    ap (λ (l : List Column). map (λ (r : RowRef). dropped_at place r.name) (filter (λ (r : RowRef). is_cascade r.action) (refs_in l it.entry.values))) (columns_there shapes it.entry.table)
+    ∙ all_names_in place (columns_at shapes it.entry.table) it.entry.values
 
 pub parents-append : (rules : Rules) (place : ℕ) (xs ys : List Inserted) → parents_from rules place (xs ++ ys) ≡ parents_from rules place xs ++ parents_from rules (place + length xs) ys
 unfolding parents_from
@@ -65,15 +66,15 @@ parents-append rules place (x ∷ xs) ys =
     ∙ sym (append_assoc (map (λ r. dropped_at place r.name) (cascade_refs rules (row_of x))) (parents_from rules (place + 1) xs) (parents_from rules (place + length (x ∷ xs)) ys))
 
 -- the names of one more row
-pub parents_step : (columns : List (List Column)) (first : ℕ) (rows : List Inserted) (n : ℕ) (it : Inserted) (names : List Dropped) (list : List Column) → n < length rows → it ≡ get_or rows n it
-    → names ≡ parents_from (rules_over_columns columns) first (take n rows) → columns_at columns it.entry.table ≡ list
-    → names ++ names_in (first + n) list it.entry.values ≡ parents_from (rules_over_columns columns) first (take (n + 1) rows)
+pub parents_step : (shapes : List Shape) (first : ℕ) (rows : List Inserted) (n : ℕ) (it : Inserted) (names : List Dropped) (list : List Column) → n < length rows → it ≡ get_or rows n it
+    → names ≡ parents_from (rules_over shapes) first (take n rows) → columns_at shapes it.entry.table ≡ list
+    → names ++ names_in (first + n) list it.entry.values ≡ parents_from (rules_over shapes) first (take (n + 1) rows)
 unfolding parents_from
-parents_step columns first rows n it names list below is so at =
-    let rules = rules_over_columns columns in
+parents_step shapes first rows n it names list below is so at =
+    let rules = rules_over shapes in
     let len : length (take n rows) ≡ n = length-take-le n rows (omega (arith, below)) in
     let last : take (n + 1) rows ≡ take n rows ++ it ∷ [] = take_more rows n it below ∙ ap (λ (x : Inserted). take n rows ++ x ∷ []) (sym is) in
-    (λ i. so i ++ (ap (λ (l : List Column). names_in (first + n) l it.entry.values) (sym at) ∙ sym (names_are columns (first + n) it) ∙ sym (append-nil (map (λ r. dropped_at (first + n) r.name) (cascade_refs rules (row_of it))))) i)
+    (λ i. so i ++ (ap (λ (l : List Column). names_in (first + n) l it.entry.values) (sym at) ∙ sym (names_are shapes (first + n) it) ∙ sym (append-nil (map (λ r. dropped_at (first + n) r.name) (cascade_refs rules (row_of it))))) i)
     ∙ ap (λ m. parents_from rules first (take n rows) ++ parents_from rules (first + m) (it ∷ [])) (sym len)
     ∙ sym (ap (parents_from rules first) last ∙ parents-append rules first (take n rows) (it ∷ []))
 
@@ -127,18 +128,18 @@ row_rises place low high p (r ∷ rs) rest least below before more =
     let parts = and_parts (is_before p (place r.name)) _ before in
     (record { least = least; below = below; before = parts.0 }, row_rises place p high p rs rest (omega arith) below parts.1 more)
 
-module _ (columns : List (List Column)) (rows : List Inserted) (layered : are_layered (rules_over_columns columns) (reverse (map row_of rows)) ≡ true) where
+module _ (shapes : List Shape) (rows : List Inserted) (layered : are_layered (rules_over shapes) (reverse (map row_of rows)) ≡ true) where
   pub rows_rise : (low high p : ℕ) (after : List Inserted) → ((m : ℕ) (it : Inserted) → slice_get after m ≡ Some it → slice_get rows (p + m) ≡ Some it) → p + length after ≤ high → low ≤ p
-      → NamesRise (place_of rows) low high (parents_from (rules_over_columns columns) p after)
+      → NamesRise (place_of rows) low high (parents_from (rules_over shapes) p after)
   unfolding parents_from
   rows_rise low high p [] at few least = tt
   rows_rise low high p (it ∷ after) at few least =
       let there : slice_get rows p ≡ Some it = ap (slice_get rows) (let e : p ≡ p + 0 = omega arith in e) ∙ at 0 it refl in
-      row_rises (place_of rows) low high p (cascade_refs (rules_over_columns columns) (row_of it)) (parents_from (rules_over_columns columns) (p + 1) after) least (omega (arith, few)) (all_before columns rows layered p it there)
+      row_rises (place_of rows) low high p (cascade_refs (rules_over shapes) (row_of it)) (parents_from (rules_over shapes) (p + 1) after) least (omega (arith, few)) (all_before shapes rows layered p it there)
       (λ m under. rows_rise m high (p + 1) after (λ k x h. ap (slice_get rows) (let e : p + 1 + k ≡ p + suc k = omega arith in e) ∙ at (suc k) x h) (omega (arith, few)) (omega (arith, under)))
 
   -- the names of all rows
-  pub all_rise : NamesRise (place_of rows) 0 (length rows) (parents_from (rules_over_columns columns) 0 rows)
+  pub all_rise : NamesRise (place_of rows) 0 (length rows) (parents_from (rules_over shapes) 0 rows)
   all_rise = rows_rise 0 (length rows) 0 rows (λ m it h. ap (slice_get rows) (let e : 0 + m ≡ m = omega arith in e) ∙ h) (omega arith) (omega arith)
 
 slice_get_behind : {X : Type 0} (xs ys : List X) (m : ℕ) (y : X) → slice_get ys m ≡ Some y → slice_get (xs ++ ys) (length xs + m) ≡ Some y
@@ -146,10 +147,10 @@ slice_get_behind [] ys m y h = ap (slice_get ys) (let e : 0 + m ≡ m = omega ar
 slice_get_behind (x ∷ xs) ys m y h = ap (slice_get (x ∷ xs ++ ys)) (let e : length (x ∷ xs) + m ≡ suc (length xs + m) = omega arith in e) ∙ slice_get_behind xs ys m y h
 
 -- those of the rows that come last
-pub news_rise : (columns : List (List Column)) (rows news : List Inserted) → are_layered (rules_over_columns columns) (reverse (map row_of (rows ++ news))) ≡ true
-    → NamesRise (place_of (rows ++ news)) (length rows) (length (rows ++ news)) (parents_from (rules_over_columns columns) (length rows) news)
-news_rise columns rows news layered =
-    rows_rise columns (rows ++ news) layered (length rows) (length (rows ++ news)) (length rows) news (λ m it h. slice_get_behind rows news m it h) (let l = length-append rows news in omega (arith, l)) (omega arith)
+pub news_rise : (shapes : List Shape) (rows news : List Inserted) → are_layered (rules_over shapes) (reverse (map row_of (rows ++ news))) ≡ true
+    → NamesRise (place_of (rows ++ news)) (length rows) (length (rows ++ news)) (parents_from (rules_over shapes) (length rows) news)
+news_rise shapes rows news layered =
+    rows_rise shapes (rows ++ news) layered (length rows) (length (rows ++ news)) (length rows) news (λ m it h. slice_get_behind rows news m it h) (let l = length-append rows news in omega (arith, l)) (omega arith)
 
 -- ---- what rises
 

@@ -5,6 +5,7 @@ use Rattle.std.proofs.lemmas.Bool.{both_ways}
 use Rattle.std.proofs.lemmas.List.{take_all}
 use Rattle.std.proofs.lemmas.List.Sums.{count_by_more_no, count_by_more_yes, sum_by-cons, sum_by_push}
 use Rattle.table_model.specs.Visible.{TableRow, is_deleted, is_visible}
+use Rattle.table_model.proofs.Settled.{are_resting}
 use Rattle.tuple_state.specs.declared.inserted.Inserted.{Inserted}
 use Rattle.tuple_state.specs.Kept.{are_layered}
 use Rattle.tuple_state.specs.Past.{done_then, visible_then}
@@ -63,7 +64,8 @@ module _ (state : State) (past : ℕ → Bool) (t : TableRow → Bool) where
       (λ (answer : Bool). (it : Inserted) → slice_get state.inserted place ≡ Some it → answer ≡ (is_visible (rules_of_state state) (done_then state past) it.name && t (row_of it)))
       r (λ answer f it at. f it at ∙ sym (ap (λ x. is_visible (rules_of_state state) (done_then state past) it.name && x) (sym (is it at) ∙ holds) ∙ and_true _))
 
-  module _ (all : are_layered (rules_of_state state) (done_in state).inserted ≡ true) (some : are_layered (rules_of_state state) (done_then state past).inserted ≡ true) where
+  module _ (all : are_layered (rules_of_state state) (done_in state).inserted ≡ true) (some : are_layered (rules_of_state state) (done_then state past).inserted ≡ true)
+      (rest : are_resting (rules_of_state state) (done_then state past).inserted ≡ true) where
     -- what is visible is of the past
     seen_at : (place : ℕ) (it : Inserted) (b : Bool) → slice_get state.inserted place ≡ Some it → b ≡ (is_visible (rules_of_state state) (done_then state past) it.name && t (row_of it)) → seen_on it ≡ b
     seen_at place it b at is =
@@ -72,7 +74,7 @@ module _ (state : State) (past : ℕ → Bool) (t : TableRow → Bool) where
         elim [
           | true ↦ λ v e f. refl
           | false ↦ elim [
-            | true ↦ λ e f. absurd (both_ways _ (hidden_row state.columns state.inserted past g.deleted all some place it at (ap (λ x. x && not (is_deleted g it.name)) e)) f)
+            | true ↦ λ e f. absurd (both_ways _ (hidden_row state.shapes state.inserted past g.deleted all some rest place it at (ap (λ x. x && not (is_deleted g it.name)) e)) f)
             | false ↦ λ e f. refl
           ]
         ] in

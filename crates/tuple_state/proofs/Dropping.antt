@@ -1,4 +1,5 @@
 -- What deletes a name after an update's ancestors.
+use Rattle.tuple_state.specs.declared.shape.Shape.{Shape}
 use Rattle.std.proofs.Common.{◌≡◌, ℕ, zero, suc, ◌+◌, ◌<◌, ◌≤◌, ◌==◌, nat_lt, Bool, true, false, cond, ◌&&◌, ◌||◌, List, [], ◌∷◌, ◌++◌, length, get_or, take, map, refl, sym, ap, ap₂, ◌∙◌, Some, arith}
 use Rattle.std.specs.Prelude.{slice_get, unwrap_or, filter, bytes_eq}
 use Rattle.std.specs.List.{list_all, list_any}
@@ -9,11 +10,10 @@ use Rattle.tuple_state.proofs.Growth.{same_row-symm}
 use Rattle.std.proofs.lemmas.List.{take_more, take_all}
 use Rattle.std.proofs.lemmas.List.Folds.{list_all-append, list_any-append}
 use Rattle.update_model.specs.declared.row_name.RowName.{RowName}
-use Rattle.schema.specs.declared.column.Column.{Column}
 use Rattle.table_model.specs.Visible.{is_deleted, same_row}
 use Rattle.tuple_state.specs.declared.dropped.Dropped.{Dropped}
 use Rattle.tuple_state.specs.declared.inserted.Inserted.{Inserted}
-use Rattle.tuple_state.specs.Parents.{columns_at}
+use Rattle.tuple_state.specs.Parents.{columns_at, columns_in}
 use Rattle.tuple_state.specs.Past.{done_then}
 use Rattle.tuple_state.specs.State.{State}
 use Rattle.table_model.proofs.Members.{any_mapped, any_reversed}
@@ -63,6 +63,6 @@ popped_below keys before k n popped h =
 pub same_found : (rows : List Inserted) (k : ℕ) (row it : Inserted) → row ≡ get_or rows k row → slice_get rows k ≡ Some it → row ≡ it
 same_found rows k row it is at = is ∙ get_or_from rows k row it at
 
-pub columns_found : (columns lent : List (List Column)) (n number : ℕ) (list : List Column) → lent ≡ columns → n ≡ number → n < length lent → list ≡ get_or lent n list → columns_at columns number ≡ list
-columns_found columns lent n number list same is below found =
-    ap₂ (λ (l : List (List Column)) m. columns_at l m) (sym same) (sym is) ∙ ap (λ o. unwrap_or o []) (slice_get_from lent n list below found)
+pub columns_found : (shapes lent : List Shape) (n number : ℕ) (shape : Shape) → lent ≡ shapes → n ≡ number → n < length lent → shape ≡ get_or lent n shape → columns_at shapes number ≡ shape.columns
+columns_found shapes lent n number shape same is below found =
+    ap₂ (λ (l : List Shape) m. columns_at l m) (sym same) (sym is) ∙ ap columns_in (slice_get_from lent n shape below found)

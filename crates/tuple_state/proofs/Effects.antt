@@ -3,7 +3,6 @@ use Rattle.std.proofs.Common.{◌≡◌, ℕ, cond, List, [], ◌∷◌, ◌++�
 use Rattle.std.proofs.lemmas.List.{map-append, reverse-append, reverse-reverse}
 use Rattle.update_model.specs.declared.row_name.RowName.{RowName}
 use Rattle.update_model.specs.Node.{NodeData}
-use Rattle.schema.specs.declared.table_def.TableDef.{TableDef}
 use Rattle.table_model.specs.declared.verdict.Verdict.{Verdict}
 use Rattle.table_model.specs.declared.verdict.Verdict.TheVariants as verdict
 use Rattle.table_model.specs.Tables.{void_line, void_lines}
@@ -13,7 +12,7 @@ use Rattle.tuple_state.specs.declared.inserted.Inserted.{Inserted}
 use Rattle.tuple_state.specs.declared.dropped.Dropped.{Dropped}
 use Rattle.tuple_state.specs.declared.voided.Voided.{Voided}
 use Rattle.table_model.specs.declared.void_line.VoidLine.{VoidLine}
-use Rattle.tuple_state.specs.State.{after, done_in, dropped_at, inserted_at, row_of, state_of, voided_at}
+use Rattle.tuple_state.specs.State.{after, done_in, dropped_at, inserted_at, row_of, shape_of, state_of, voided_at}
 
 rows_back : (position : ℕ) (rows : List TableRow) → map row_of (map (inserted_at position) rows) ≡ rows
 rows_back position [] = refl
@@ -81,13 +80,13 @@ count_is rules (node ∷ older) =
     elim [ verdict.Valid ↦ omega (arith, rest) | verdict.Void reason operation ↦ omega (arith, rest) ] in
     step (judge_next rules (judged rules older) node).verdict
 
--- the columns stay
-pub columns_are : (rules : Rules) (nodes : List NodeData) → (state_of rules nodes).columns ≡ map (λ (table : TableDef). table.columns) rules.tables
+-- the shapes stay
+pub shapes_are : (rules : Rules) (nodes : List NodeData) → (state_of rules nodes).shapes ≡ map shape_of rules.tables
 unfolding state_of
-columns_are rules [] = refl
-columns_are rules (node ∷ older) =
+shapes_are rules [] = refl
+shapes_are rules (node ∷ older) =
     let state = state_of rules older in
-    let rest = columns_are rules older in
-    let step : (v : Verdict) → (after state node v).columns ≡ map (λ (table : TableDef). table.columns) rules.tables =
+    let rest = shapes_are rules older in
+    let step : (v : Verdict) → (after state node v).shapes ≡ map shape_of rules.tables =
     elim [ verdict.Valid ↦ rest | verdict.Void reason operation ↦ rest ] in
     step (judge_next rules (judged rules older) node).verdict

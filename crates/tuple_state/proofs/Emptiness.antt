@@ -1,19 +1,24 @@
 -- Tables before any update.
+use Rattle.tuple_state.specs.declared.shape.Shape.{Shape}
 use Rattle.std.proofs.Common.{◌≡◌, ℕ, List, [], length, refl, ap, arith}
 use Rattle.std.specs.Prelude.{count_by}
 use Rattle.std.specs.BTreeMap.{BTreeMap, is_at}
 use Rattle.std.specs.Map.{lookup}
 use Rattle.update_model.specs.declared.row_name.RowName.{RowName}
-use Rattle.schema.specs.declared.column.Column.{Column}
 use Rattle.table_model.specs.Tables.{name_cmp}
 use Rattle.tuple_state.specs.Causes.{absent_times, ends_from, parents_from}
+use Rattle.table_model.specs.Visible.{Rules}
+use Rattle.tuple_state.specs.State.{IsStateOf}
+use Rattle.tuple_state.proofs.Grouping.{grouped_none}
 use Rattle.tuple_state.specs.Kept.{IsKept, are_layered, pairs_of}
 use Rattle.tuple_state.specs.Links.{Linked, is_of}
 
-pub kept_new : (columns : List (List Column)) (places : BTreeMap RowName ℕ) (children deleters : Linked) → places.entries ≡ [] → children ≡ record { size = 0; links = [] } → deleters ≡ record { size = 0; links = [] }
-    → IsKept (record { columns = columns; count = 0; inserted = []; dropped = []; voids = [] }) places [] children deleters []
+pub kept_new : (rules : Rules) (shapes : List Shape) (places : BTreeMap RowName ℕ) (children deleters : Linked) → places.entries ≡ [] → children ≡ record { size = 0; links = [] } → deleters ≡ record { size = 0; links = [] }
+    → IsStateOf rules [] (record { shapes = shapes; count = 0; inserted = []; dropped = []; voids = [] })
+    → IsKept (record { shapes = shapes; count = 0; inserted = []; dropped = []; voids = [] }) places [] children deleters [] [] []
 unfolding are_layered ends_from parents_from
-kept_new columns places children deleters none childless empty = record {
+kept_new rules shapes places children deleters none childless empty held = record {
+  held = record { rules = rules; nodes = []; is = held };
   few = omega arith;
   bounded = λ len. omega arith;
   dated = refl;
@@ -24,6 +29,9 @@ kept_new columns places children deleters none childless empty = record {
       let a = ap (λ (d : Linked). count_by (is_of k) d.links) empty in
       let b = ap (λ (d : Linked). absent_times d.links [] k) childless in
       omega (arith, a, b);
+  grouped = grouped_none shapes [];
+  sized = λ keeps. refl;
+  spare = refl;
   homes = ap (λ (d : Linked). d.size) childless;
   named = ap (λ (d : Linked). pairs_of d.links) childless;
   ended = refl;

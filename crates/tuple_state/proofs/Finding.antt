@@ -5,6 +5,7 @@ use Rattle.std.specs.List.{list_any, AllByRecursion}
 use Rattle.std.proofs.lemmas.Bool.{both_ways, and_from}
 use Rattle.update_model.specs.declared.row_name.RowName.{RowName}
 use Rattle.table_model.specs.Visible.{TableRow, is_deleted, is_visible, same_row}
+use Rattle.table_model.proofs.Settled.{are_resting}
 use Rattle.table_model.proofs.Standing.{row_from_same, same_row-refl, each-map}
 use Rattle.table_model.specs.Answers.{entry_of_row}
 use Rattle.tuple_state.specs.declared.inserted.Inserted.{Inserted}
@@ -61,15 +62,15 @@ module _ (state : State) (past : ℕ → Bool) where
       ∙ fewer_any (λ (it : Inserted). same_row it.name name) (λ (it : Inserted). past it.position) state.inserted (sym (named_reversed state.inserted name) ∙ unnamed_from_none state.inserted name none))
       (length (done_then state past).inserted))
 
-  pub row_shown : are_layered (rules_of_state state) (done_in state).inserted ≡ true → are_layered (rules_of_state state) (done_then state past).inserted ≡ true → (place : ℕ) (it : Inserted) (name : RowName)
+  pub row_shown : are_layered (rules_of_state state) (done_in state).inserted ≡ true → are_layered (rules_of_state state) (done_then state past).inserted ≡ true → are_resting (rules_of_state state) (done_then state past).inserted ≡ true → (place : ℕ) (it : Inserted) (name : RowName)
       → slice_get state.inserted place ≡ Some it → it.name ≡ name → is_visible (rules_of_state state) (done_then state past) it.name ≡ true → Some it.entry ≡ row_then state past name
-  row_shown all some place it name at named seen =
+  row_shown all some rest place it name at named seen =
       let g = done_then state past in
       let v : TableRow → Bool = λ row. is_visible (rules_of_state state) g row.name in
       let t : TableRow → Bool = λ row. same_row row.name name in
       let there : past it.position ≡ true =
       (let step : (b : Bool) → past it.position ≡ b → b ≡ true =
-      elim [ true ↦ λ e. refl | false ↦ λ e. absurd (both_ways _ (hidden_row state.columns state.inserted past g.deleted all some place it at (ap (λ b. b && not (is_deleted g it.name)) e)) seen) ] in
+      elim [ true ↦ λ e. refl | false ↦ λ e. absurd (both_ways _ (hidden_row state.shapes state.inserted past g.deleted all some rest place it at (ap (λ b. b && not (is_deleted g it.name)) e)) seen) ] in
       step (past it.position) refl) in
       let inside : (P : TableRow → Type 0) → AllByRecursion P g.inserted → P (row_of it) =
       λ P h. filtered_at P (λ (x : Inserted). past x.position) state.inserted place it (each_back P (map row_of (filter (λ (x : Inserted). past x.position) state.inserted)) h) at there in

@@ -1,26 +1,23 @@
 -- Rows that name by CASCADE only rows before them: which of them are visible.
-use Rattle.std.proofs.Common.{◌≡◌, ℕ, zero, suc, ◌==◌, Bool, true, false, not, ◌&&◌, List, [], ◌∷◌, length, map, refl, sym, ap, ◌∙◌, subst, inl, inr}
-use Rattle.std.specs.Prelude.{filter, slice_get, unwrap_or}
+use Rattle.std.proofs.Common.{◌≡◌, ℕ, zero, suc, ◌==◌, Bool, true, false, not, ◌&&◌, ◌||◌, nat_lt, List, [], ◌∷◌, length, map, refl, sym, ap, ◌∙◌, subst, inl, inr, Option, None, Some, is_none}
+use Rattle.std.specs.Prelude.{filter, is_some, slice_get, unwrap_or}
 use Rattle.std.specs.List.{list_any, list_all, AllByRecursion}
-use Rattle.std.proofs.lemmas.Bool.{and_parts, or_cases, or_right, or_left, and_from, both_ways, not_from_false, and_left, false_from_ne_true}
+use Rattle.std.proofs.lemmas.Bool.{and_parts, or_cases, or_parts, or_right, or_left, and_from, both_ways, not_from_false}
 use Rattle.update_model.specs.declared.row_name.RowName.{RowName}
-use Rattle.update_model.specs.declared.value.Value.{Value}
 use Rattle.schema.specs.declared.column.Column.{Column}
 use Rattle.schema.specs.declared.table_def.TableDef.{TableDef}
 use Rattle.schema.specs.Columns.{is_restrict}
 use Rattle.schema.specs.Numbers.{no_table}
-use Rattle.table_model.specs.Visible.{Rules, TableRow, RowRef, Effects, same_row, table_of, refs, refs_in, is_cascade, cascade_refs, shows, visible_to, is_visible, is_deleted, visible_rows}
+use Rattle.table_model.specs.Visible.{Rules, TableRow, RowRef, Effects, same_row, table_of, kept_of, refs, refs_in, is_cascade, cascade_refs, is_candidate, goes_before, is_least_in, is_least, shows, visible_to, is_visible, is_deleted, visible_rows}
 use Rattle.table_model.specs.Verdicts.{stands_among}
 use Rattle.table_model.proofs.Order.{any_weaker}
 use Rattle.table_model.proofs.Founded.{all_weaker, IsFounded, Founded}
-use Rattle.table_model.proofs.Standing.{row_from_same, same_row-refl, each-map, any_each, all_both, all_filtered, deeper}
-use Rattle.tuple_state.specs.Kept.{are_layered, is_named}
-
-bool_same : (a b : Bool) → (a ≡ true → b ≡ true) → (b ≡ true → a ≡ true) → a ≡ b
-bool_same true true f h = refl
-bool_same true false f h = sym (f refl)
-bool_same false true f h = h refl
-bool_same false false f h = refl
+use Rattle.table_model.proofs.EqualValues.{plain_least}
+use Rattle.table_model.proofs.Settled.{IsOne, are_resting, shows_none, shows_one, visible_is}
+use Rattle.table_model.proofs.Standing.{row_from_same, same_row-refl, each-map, all_filtered}
+use Rattle.tuple_state.specs.declared.shape.Shape.{Shape}
+use Rattle.tuple_state.specs.State.{keep_any, rules_over, shape_of, table_with}
+use Rattle.tuple_state.specs.Kept.{are_grounded, are_layered, is_named}
 
 false_from_not : (b : Bool) → not b ≡ true → b ≡ false
 false_from_not true h = sym h
@@ -53,9 +50,8 @@ layered_founded rules (row ∷ older) f =
     (layered_founded rules older f.1)
 
 -- a row of layered rows: it is there, and no other has its name
-pub record Stands (rows : List TableRow) (row : TableRow) : Type 0 where
-  pub here : (p : TableRow → Bool) → p row ≡ true → list_any p rows ≡ true
-  pub only : (p : TableRow → Bool) → list_any (λ e. same_row e.name row.name && p e) rows ≡ true → p row ≡ true
+abbrev pub Stands : List TableRow → TableRow → Type 0
+Stands rows row = IsOne rows row
 
 pub each_stands : (rules : Rules) (rows : List TableRow) → are_layered rules rows ≡ true → AllByRecursion (Stands rows) rows
 each_stands rules [] f = tt
@@ -81,69 +77,34 @@ each_stands rules (row ∷ older) f =
     )
 
 module _ (rules : Rules) (g : Effects) where
-  -- what is visible at any depth is visible at that of the rows up to it
-  deep_each : (rows : List TableRow) → are_layered rules rows ≡ true → AllByRecursion (Stands g.inserted) rows
-      → AllByRecursion (λ e. (depth : ℕ) → visible_to rules g depth e.name ≡ true → visible_to rules g (length rows) e.name ≡ true) rows
-  unfolding visible_to
-  deep_each [] fs s = tt
-  deep_each (e ∷ older) fs s =
-      let it = layer_parts rules older e fs in
-      let st : Stands g.inserted e = s.0 in
-      let before = deep_each older it.rest s.1 in
-      let first : (depth : ℕ) → visible_to rules g depth e.name ≡ true → visible_to rules g (suc (length older)) e.name ≡ true =
-      elim [
-        | zero ↦ λ h. absurd (cc)
-        | suc depth ↦ λ h.
-            let parts = and_parts _ (not (is_deleted g e.name)) h in
-            let targets = st.only (λ row. list_all (λ r. visible_to rules g depth r.name) (cascade_refs rules row)) parts.0 in
-            and_from _ _
-            (st.here (λ row. same_row row.name e.name && list_all (λ r. visible_to rules g (length older) r.name) (cascade_refs rules row))
-            (and_from _ _ (same_row-refl e.name)
-            (all_both (λ r. is_named older r.name) (λ r. visible_to rules g depth r.name) (λ r. visible_to rules g (length older) r.name)
-            (λ r there seen. any_each (λ x. (d : ℕ) → visible_to rules g d x.name ≡ true → visible_to rules g (length older) x.name ≡ true) (λ x. same_row x.name r.name) _
-            (λ x px hx.
-            let same : x.name ≡ r.name = row_from_same x.name r.name hx in
-            subst (λ (n : RowName). visible_to rules g (length older) n ≡ true) same (px depth (subst (λ (n : RowName). visible_to rules g depth n ≡ true) (sym same) seen)))
-            older before there)
-            (cascade_refs rules e) it.refers targets)))
-            parts.1
-      ] in
-      (first, each-map _ _ (λ x p d h. deeper rules g (length older) x.name (p d h)) older before)
-
-  -- A layered row is visible exactly where it was inserted, none deletes it, and each row that it names by CASCADE is visible.
-  pub visible_is : are_layered rules g.inserted ≡ true → (name : RowName) → is_visible rules g name ≡ shows rules g (is_visible rules g) name
-  unfolding visible_to
-  visible_is f name =
-      bool_same (is_visible rules g name) (visible_to rules g (suc (length g.inserted)) name)
-      (deeper rules g (length g.inserted) name)
-      (λ h. any_each (λ x. (d : ℕ) → visible_to rules g d x.name ≡ true → is_visible rules g x.name ≡ true) (λ row. same_row row.name name && list_all (λ r. is_visible rules g r.name) (cascade_refs rules row)) _
-      (λ x px hx.
-      let same : x.name ≡ name = row_from_same x.name name (and_parts (same_row x.name name) _ hx).0 in
-      subst (λ (n : RowName). is_visible rules g n ≡ true) same (px (suc (length g.inserted)) (subst (λ (n : RowName). visible_to rules g (suc (length g.inserted)) n ≡ true) (sym same) h)))
-      g.inserted (deep_each g.inserted f (each_stands rules g.inserted f)) (and_parts _ (not (is_deleted g name)) h).0)
-
   -- a row that nobody inserted is not visible
   pub unnamed_hidden : (name : RowName) → is_named g.inserted name ≡ false → (depth : ℕ) → visible_to rules g depth name ≡ false
   unfolding visible_to
   unnamed_hidden name none zero = refl
-  unnamed_hidden name none (suc depth) =
-      and_left _ _ (false_from_ne_true _ (λ h. both_ways _ none (any_weaker (λ row. same_row row.name name && list_all (λ r. visible_to rules g depth r.name) (cascade_refs rules row)) (λ row. same_row row.name name) (λ row k. (and_parts _ _ k).0) g.inserted h)))
+  unnamed_hidden name none (suc depth) = shows_none rules g (visible_to rules g depth) name none
 
   -- whether a row that is there is visible
-  pub row_visible : are_layered rules g.inserted ≡ true → (row : TableRow) → Stands g.inserted row
+  pub row_visible : are_layered rules g.inserted ≡ true → are_resting rules g.inserted ≡ true → (row : TableRow) → Stands g.inserted row
+      → is_visible rules g row.name ≡ (is_candidate rules g (is_visible rules g) row && is_least rules g (is_visible rules g) row)
+  row_visible f r row s = visible_is rules g (each_stands rules g.inserted f) r row.name ∙ shows_one rules g (is_visible rules g) row s
+
+  -- the same in a table that keeps no least row
+  pub plain_visible : are_layered rules g.inserted ≡ true → are_resting rules g.inserted ≡ true → (row : TableRow) → Stands g.inserted row → is_none (kept_of rules row.table) ≡ true
       → is_visible rules g row.name ≡ (list_all (λ r. is_visible rules g r.name) (cascade_refs rules row) && not (is_deleted g row.name))
-  row_visible f row s =
-      let own : list_any (λ e. same_row e.name row.name && list_all (λ r. is_visible rules g r.name) (cascade_refs rules e)) g.inserted ≡ list_all (λ r. is_visible rules g r.name) (cascade_refs rules row) =
-      bool_same _ _ (s.only (λ e. list_all (λ r. is_visible rules g r.name) (cascade_refs rules e)))
-      (λ h. s.here (λ e. same_row e.name row.name && list_all (λ r. is_visible rules g r.name) (cascade_refs rules e)) (and_from _ _ (same_row-refl row.name) h)) in
-      visible_is f row.name ∙ ap (λ b. b && not (is_deleted g row.name)) own
+  plain_visible f r row s plain =
+      row_visible f r row s ∙ ap (λ b. is_candidate rules g (is_visible rules g) row && b) (plain_least rules g (is_visible rules g) row plain) ∙ and_true _
+    where
+      and_true : (b : Bool) → (b && true) ≡ b
+      and_true true = refl
+      and_true false = refl
 
--- ---- rules with the same columns
+-- ---- rules with tables of the same shapes
 
-pub record SameColumns (r q : Rules) : Type 0 where
+pub record SameShapes (r q : Rules) : Type 0 where
   pub at : (number : ℕ) → (table_of r number).columns ≡ (table_of q number).columns
+  pub kept : (number : ℕ) → kept_of r number ≡ kept_of q number
 
-module _ {r q : Rules} (s : SameColumns r q) where
+module _ {r q : Rules} (s : SameShapes r q) where
   pub same_refs : (row : TableRow) → refs r row ≡ refs q row
   same_refs row = ap (λ (columns : List Column). refs_in columns row.values) (s.at row.table)
 
@@ -156,11 +117,29 @@ module _ {r q : Rules} (s : SameColumns r q) where
   same_layered (row ∷ older) = λ i.
       not (is_named older row.name) && list_all (λ x. is_named older x.name) (same_cascade row i) && same_layered older i
 
+  pub same_resting : (rows : List TableRow) → are_resting r rows ≡ are_resting q rows
+  same_resting [] = refl
+  same_resting (row ∷ older) = λ i.
+      list_all (λ x. list_any (λ y. same_row y.name x.name && (nat_lt y.table row.table || ((y.table == row.table) && is_none (s.kept row.table i)))) older) (same_cascade row i) && same_resting older i
+
+  module _ (g : Effects) (f h : RowName → Bool) (e : (name : RowName) → f name ≡ h name) where
+    pub same_candidate : (row : TableRow) → is_candidate r g f row ≡ is_candidate q g h row
+    same_candidate row = λ i. list_all (λ x. e x.name i) (same_cascade row i) && not (is_deleted g row.name)
+
+    same_least_in : (row : TableRow) (o : Option ℕ) → is_least_in r g f row o ≡ is_least_in q g h row o
+    same_least_in row None = refl
+    same_least_in row (Some column) = λ i. not (list_any (λ other. goes_before column row other && same_candidate other i) g.inserted)
+
+    pub same_least : (row : TableRow) → is_least r g f row ≡ is_least q g h row
+    same_least row = same_least_in row (kept_of r row.table) ∙ ap (is_least_in q g h row) (s.kept row.table)
+
+    same_shows : (name : RowName) → shows r g f name ≡ shows q g h name
+    same_shows name = λ i. list_any (λ row. same_row row.name name && (same_candidate row i && same_least row i)) g.inserted
+
   pub same_to : (g : Effects) (depth : ℕ) (name : RowName) → visible_to r g depth name ≡ visible_to q g depth name
   unfolding visible_to
   same_to g zero name = refl
-  same_to g (suc depth) name = λ i.
-      list_any (λ row. same_row row.name name && list_all (λ x. same_to g depth x.name i) (same_cascade row i)) g.inserted && not (is_deleted g name)
+  same_to g (suc depth) name = same_shows g (visible_to r g depth) (visible_to q g depth) (same_to g depth) name
 
   pub same_visible : (g : Effects) (name : RowName) → is_visible r g name ≡ is_visible q g name
   same_visible g name = same_to g (length g.inserted) name
@@ -172,16 +151,33 @@ module _ {r q : Rules} (s : SameColumns r q) where
       → list_any (λ row. list_any (λ x. is_restrict x.action && same_row x.name name) (refs r row)) rows ≡ list_any (λ row. list_any (λ x. is_restrict x.action && same_row x.name name) (refs q row)) rows
   same_child rows name = λ i. list_any (λ row. list_any (λ x. is_restrict x.action && same_row x.name name) (same_refs row i)) rows
 
-same_at : (tables : List TableDef) (number : ℕ)
-    → (unwrap_or (slice_get (map (λ (columns : List Column). record no_table { columns = columns }) (map (λ (table : TableDef). table.columns) tables)) number) no_table).columns
-    ≡ (unwrap_or (slice_get tables number) no_table).columns
-same_at [] number = refl
-same_at (table ∷ tables) zero = refl
-same_at (table ∷ tables) (suc number) = same_at tables number
+columns_shaped : (tables : List TableDef) (number : ℕ) → (unwrap_or (slice_get (map table_with (map shape_of tables)) number) no_table).columns ≡ (unwrap_or (slice_get tables number) no_table).columns
+columns_shaped [] number = refl
+columns_shaped (table ∷ tables) zero = refl
+columns_shaped (table ∷ tables) (suc number) = columns_shaped tables number
 
--- rules made of the columns of others alone
-pub same_columns : (rules : Rules) (columns : List (List Column)) (ask : ℕ → List Value → Bool) → columns ≡ map (λ (table : TableDef). table.columns) rules.tables
-    → SameColumns (record { tables = map (λ (c : List Column). record no_table { columns = c }) columns; ask = ask }) rules
-same_columns rules columns ask is = record {
-  at = λ number. ap (λ (l : List (List Column)). (unwrap_or (slice_get (map (λ (c : List Column). record no_table { columns = c }) l) number) no_table).columns) is ∙ same_at rules.tables number;
+kept_shaped : (tables : List TableDef) (number : ℕ) → (unwrap_or (slice_get (map table_with (map shape_of tables)) number) no_table).kept ≡ (unwrap_or (slice_get tables number) no_table).kept
+kept_shaped [] number = refl
+kept_shaped (table ∷ tables) zero = refl
+kept_shaped (table ∷ tables) (suc number) = kept_shaped tables number
+
+-- rules made of the shapes of others alone
+pub same_shapes : (rules : Rules) (shapes : List Shape) → shapes ≡ map shape_of rules.tables → SameShapes (rules_over shapes) rules
+same_shapes rules shapes is = record {
+  at = λ number. ap (λ (l : List Shape). (unwrap_or (slice_get (map table_with l) number) no_table).columns) is ∙ columns_shaped rules.tables number;
+  kept = λ number. ap (λ (l : List Shape). (unwrap_or (slice_get (map table_with l) number) no_table).kept) is ∙ kept_shaped rules.tables number;
 }
+
+pub grounded_is : (rules : Rules) (rows : List TableRow) → are_grounded rules rows ≡ are_resting rules rows
+grounded_is rules [] = refl
+grounded_is rules (row ∷ older) =
+    ap (λ b. list_all (λ r. list_any (λ x. same_row x.name r.name && (nat_lt x.table row.table || ((x.table == row.table) && is_none (kept_of rules row.table)))) older) (cascade_refs rules row) && b)
+    (grounded_is rules older)
+
+-- where no table keeps the least row, none does
+pub plain_shapes : (shapes : List Shape) → keep_any shapes ≡ false → (number : ℕ) → is_none (kept_of (rules_over shapes) number) ≡ true
+plain_shapes [] h number = refl
+plain_shapes (shape ∷ shapes) h zero =
+    let step : (o : Option ℕ) → is_some o ≡ false → is_none o ≡ true = elim [ None ↦ λ e. refl | Some column ↦ λ e. absurd cc ] in
+    step shape.kept (or_parts (is_some shape.kept) _ h).0
+plain_shapes (shape ∷ shapes) h (suc number) = plain_shapes shapes (or_parts (is_some shape.kept) _ h).1 number

@@ -1,4 +1,5 @@
 -- The rows that a table lists, by what a state holds.
+use Rattle.tuple_state.specs.declared.shape.Shape.{Shape}
 use Rattle.std.proofs.Common.{◌≡◌, ℕ, zero, suc, ◌+◌, ◌<◌, Bool, true, false, cond, ◌&&◌, List, [], ◌∷◌, ◌++◌, length, map, reverse, take, refl, sym, ap, ap₂, ◌∙◌, subst, None, Some}
 use Rattle.std.specs.Prelude.{filter, slice_get}
 use Rattle.std.specs.Ordering.{eq_by_cmp}
@@ -25,9 +26,9 @@ use Rattle.tuple_state.specs.Arrived.{arrived, listed_rows}
 use Rattle.tuple_state.specs.Kept.{place_of}
 use Rattle.tuple_state.specs.Parents.{columns_at}
 use Rattle.tuple_state.specs.Showing.{shown_by, shown_values_by}
-use Rattle.tuple_state.specs.State.{IsStateOf, State, done_in, row_of, rules_of_state, rules_over_columns}
-use Rattle.tuple_state.proofs.Layers.{SameColumns, same_visible, unnamed_hidden}
-use Rattle.tuple_state.proofs.Lookups.{columns_same, did_same, get_or_from, reverse_cons, unnamed_from_none}
+use Rattle.tuple_state.specs.State.{IsStateOf, State, done_in, row_of, rules_of_state, rules_over}
+use Rattle.tuple_state.proofs.Layers.{SameShapes, same_visible, unnamed_hidden}
+use Rattle.tuple_state.proofs.Lookups.{shapes_same, did_same, get_or_from, reverse_cons, unnamed_from_none}
 
 -- ---- what values show
 
@@ -45,16 +46,16 @@ all_shown rules did (column ∷ columns) [] = refl
 all_shown rules did (column ∷ columns) (v ∷ values) = λ i. one_shown rules did column.kind v i ∷ all_shown rules did columns values i
 
 -- the columns that the rules of a state give a table
-pub columns_with : (columns : List (List Column)) (number : ℕ) → columns_at columns number ≡ (table_of (rules_over_columns columns) number).columns
+pub columns_with : (shapes : List Shape) (number : ℕ) → columns_at shapes number ≡ (table_of (rules_over shapes) number).columns
 columns_with [] number = refl
-columns_with (list ∷ columns) zero = refl
-columns_with (list ∷ columns) (suc number) = columns_with columns number
+columns_with (shape ∷ shapes) zero = refl
+columns_with (shape ∷ shapes) (suc number) = columns_with shapes number
 
 -- what a row lists
-pub values_lined : (state : State) (it : Inserted) (columns : List Column) (values list : List Value) → columns ≡ columns_at state.columns it.entry.table → values ≡ it.entry.values
+pub values_lined : (state : State) (it : Inserted) (columns : List Column) (values list : List Value) → columns ≡ columns_at state.shapes it.entry.table → values ≡ it.entry.values
     → list ≡ shown_values_by (is_visible (rules_of_state state) (done_in state)) columns values → list ≡ (listed (shown (rules_of_state state) (done_in state) (row_of it))).values
 values_lined state it columns values list at of is =
-    is ∙ (λ i. shown_values_by (is_visible (rules_of_state state) (done_in state)) ((at ∙ columns_with state.columns it.entry.table) i) (of i))
+    is ∙ (λ i. shown_values_by (is_visible (rules_of_state state) (done_in state)) ((at ∙ columns_with state.shapes it.entry.table) i) (of i))
     ∙ all_shown (rules_of_state state) (done_in state) (table_of (rules_of_state state) it.entry.table).columns it.entry.values
 
 -- ---- a name that no row has
@@ -65,7 +66,7 @@ none_shown state name none =
 
 -- ---- rules with the same columns show the same
 
-module _ {r q : Rules} (s : SameColumns r q) (did : Effects) where
+module _ {r q : Rules} (s : SameShapes r q) (did : Effects) where
   same_values : (columns : List Column) (values : List Value) → shown_values r did columns values ≡ shown_values q did columns values
   same_values columns values =
       sym (all_shown r did columns values) ∙ (λ i. shown_values_by (λ name. same_visible s did name i) columns values) ∙ all_shown q did columns values
@@ -156,7 +157,7 @@ listed_now : (rules : Rules) (nodes : List NodeData) (state : State) → IsState
 listed_now rules nodes state held table =
     let r = rules_of_state state in
     let did = done_in state in
-    let same = columns_same rules nodes state held in
+    let same = shapes_same rules nodes state held in
     arrived_last state table
     ∙ sym (listed_visible table (shown r did) listed (λ row. is_visible r did row.name) (λ row. refl) did.inserted)
     ∙ (λ i. map listed (filter (in_table table) (map (λ row. same_shown same did row i) (filter (λ row. same_visible same did row.name i) did.inserted))))

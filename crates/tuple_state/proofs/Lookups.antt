@@ -8,13 +8,17 @@ use Rattle.update_model.specs.Node.{NodeData}
 use Rattle.update_model.proofs.Closed.{is_some-position}
 use Rattle.table_model.specs.Visible.{Rules, TableRow, Effects, same_row, is_visible}
 use Rattle.table_model.specs.Verdicts.{effects_in}
+use Rattle.schema.proofs.Soundness.{sound_tables}
+use Rattle.table_model.proofs.Founded.{founded_closed}
 use Rattle.table_model.proofs.Members.{any_mapped, any_reversed}
+use Rattle.table_model.proofs.Resting.{resting}
+use Rattle.table_model.proofs.Settled.{are_resting}
 use Rattle.table_model.proofs.Standing.{row_from_same}
 use Rattle.tuple_state.specs.declared.inserted.Inserted.{Inserted}
 use Rattle.tuple_state.specs.State.{IsStateOf, State, done_in, row_of, rules_of_state}
 use Rattle.tuple_state.specs.Kept.{is_named, place_of}
-use Rattle.tuple_state.proofs.Effects.{did_is, columns_are}
-use Rattle.tuple_state.proofs.Layers.{SameColumns, same_columns, same_visible}
+use Rattle.tuple_state.proofs.Effects.{did_is, shapes_are}
+use Rattle.tuple_state.proofs.Layers.{SameShapes, same_resting, same_shapes, same_visible}
 
 pub reverse_cons : {X : Type 0} (x : X) (xs : List X) → reverse (x ∷ xs) ≡ reverse xs ++ x ∷ []
 reverse_cons x xs = reverse-append (x ∷ []) xs
@@ -77,15 +81,21 @@ none_some o h = ap is_some h
 pub unnamed_from_none : (rows : List Inserted) (name : RowName) → place_of rows name ≡ None → is_named (reverse (map row_of rows)) name ≡ false
 unnamed_from_none rows name h = named_reversed rows name ∙ sym (is_some-position (λ (it : Inserted). same_row it.name name) 0 rows) ∙ none_some _ h
 
--- the rules of a state have the columns of those that it is a state of
-pub columns_same : (rules : Rules) (nodes : List NodeData) (state : State) → IsStateOf rules nodes state → SameColumns (rules_of_state state) rules
-columns_same rules nodes state held = same_columns rules state.columns (λ number values. false) (ap (λ (s : State). s.columns) held.is ∙ columns_are rules nodes)
+-- the rules of a state have the shapes of those that it is a state of
+pub shapes_same : (rules : Rules) (nodes : List NodeData) (state : State) → IsStateOf rules nodes state → SameShapes (rules_of_state state) rules
+shapes_same rules nodes state held = same_shapes rules state.shapes (ap (λ (s : State). s.shapes) held.is ∙ shapes_are rules nodes)
 
 pub did_same : (rules : Rules) (nodes : List NodeData) (state : State) → IsStateOf rules nodes state → done_in state ≡ effects_in rules nodes
 did_same rules nodes state held = ap (λ (s : State). done_in s) held.is ∙ did_is rules nodes
+
+-- the rows of a state rest on earlier ones
+pub resting_now : (rules : Rules) (nodes : List NodeData) (state : State) → IsStateOf rules nodes state → are_resting (rules_of_state state) (done_in state).inserted ≡ true
+resting_now rules nodes state held =
+    same_resting (shapes_same rules nodes state held) (done_in state).inserted ∙ ap (λ (g : Effects). are_resting rules g.inserted) (did_same rules nodes state held)
+    ∙ resting rules (sound_tables rules.tables held.tables) (effects_in rules nodes).inserted (founded_closed rules nodes held.closed).founded
 
 -- what a state shows is what its nodes do
 pub visible_now : (rules : Rules) (nodes : List NodeData) (state : State) → IsStateOf rules nodes state → (name : RowName)
     → is_visible (rules_of_state state) (done_in state) name ≡ is_visible rules (effects_in rules nodes) name
 visible_now rules nodes state held name =
-    same_visible (columns_same rules nodes state held) (done_in state) name ∙ ap (λ (g : Effects). is_visible rules g name) (did_same rules nodes state held)
+    same_visible (shapes_same rules nodes state held) (done_in state) name ∙ ap (λ (g : Effects). is_visible rules g name) (did_same rules nodes state held)

@@ -1,9 +1,9 @@
 -- What a row names, column by column.
+use Rattle.tuple_state.specs.declared.shape.Shape.{Shape}
 use Rattle.std.proofs.Common.{◌≡◌, ◌⊎◌, ℕ, zero, suc, ◌+◌, ◌<◌, ◌≤◌, List, [], ◌∷◌, length, get_or, drop, refl, sym, ap, Some, arith, inl, inr}
 use Rattle.std.specs.Prelude.{slice_get, unwrap_or}
 use Rattle.std.proofs.lemmas.Option.{slice_get_past}
-use Rattle.schema.specs.declared.column.Column.{Column}
-use Rattle.tuple_state.specs.Parents.{columns_at}
+use Rattle.tuple_state.specs.Parents.{columns_at, columns_in}
 
 pub slice_get_from : {X : Type 0} (xs : List X) (k : ℕ) (x : X) → k < length xs → x ≡ get_or xs k x → slice_get xs k ≡ Some x
 slice_get_from [] k x below is = absurd (omega (arith, below))
@@ -20,5 +20,5 @@ length_drop zero xs = inl (omega arith)
 length_drop (suc n) [] = inr refl
 length_drop (suc n) (x ∷ xs) = elim (length_drop n xs) [ inl e ↦ inl (omega (arith, e)) | inr e ↦ inr e ]
 
-pub columns_past : (columns : List (List Column)) (number : ℕ) → length columns ≤ number → columns_at columns number ≡ []
-columns_past columns number past = ap (λ o. unwrap_or o []) (slice_get_past columns number past)
+pub columns_past : (shapes : List Shape) (number : ℕ) → length shapes ≤ number → columns_at shapes number ≡ []
+columns_past shapes number past = ap columns_in (slice_get_past shapes number past)

@@ -1,4 +1,5 @@
 -- Places of layered rows.
+use Rattle.tuple_state.specs.declared.shape.Shape.{Shape}
 use Rattle.std.proofs.Common.{◌≡◌, ℕ, zero, suc, ◌+◌, ◌<◌, ◌==◌, Bool, true, false, cond, ◌&&◌, ◌||◌, List, [], ◌∷◌, ◌++◌, length, get_or, take, map, reverse, refl, sym, ap, ◌∙◌, subst, append_assoc, Option, Some, None, zero-add, length-append, arith}
 use Rattle.std.specs.Prelude.{slice_get, is_some, unwrap_or, Result, Ok, Err, is_err, OnOk}
 use Rattle.std.specs.declared.cmp.Ordering.{Ordering}
@@ -11,7 +12,6 @@ use Rattle.std.proofs.lemmas.List.{reverse-append, map-append, append-nil, take_
 use Rattle.update_model.specs.declared.row_name.RowName.{RowName}
 use Rattle.update_model.specs.Entry.{id_cmp}
 use Rattle.update_model.proofs.Closed.{is_some-position, position_from-push}
-use Rattle.schema.specs.declared.column.Column.{Column}
 use Rattle.table_model.specs.Tables.{name_cmp}
 use Rattle.schema.specs.Numbers.{no_table}
 use Rattle.table_model.specs.Visible.{Rules, TableRow, RowRef, same_row, cascade_refs}
@@ -19,7 +19,7 @@ use Rattle.table_model.proofs.Standing.{row_from_same, same_row-refl}
 use Rattle.tuple_state.specs.declared.inserted.Inserted.{Inserted}
 use Rattle.tuple_state.specs.Kept.{are_layered, is_named, place_of}
 use Rattle.tuple_state.specs.Parents.{AreFresh, columns_at}
-use Rattle.tuple_state.specs.State.{row_of, rules_over_columns}
+use Rattle.tuple_state.specs.State.{row_of, rules_over, table_with}
 use Rattle.tuple_state.proofs.Layers.{layer_parts}
 use Rattle.tuple_state.proofs.Lookups.{reverse_cons, named_reversed}
 
@@ -160,10 +160,10 @@ found_layered rules rows h k it at =
 
 -- ---- the rows that a row names
 
-pub columns_there : (columns : List (List Column)) (number : ℕ) → (unwrap_or (slice_get (map (λ (list : List Column). record no_table { columns = list }) columns) number) no_table).columns ≡ columns_at columns number
+pub columns_there : (shapes : List Shape) (number : ℕ) → (unwrap_or (slice_get (map table_with shapes) number) no_table).columns ≡ columns_at shapes number
 columns_there [] number = refl
-columns_there (list ∷ columns) zero = refl
-columns_there (list ∷ columns) (suc number) = columns_there columns number
+columns_there (shape ∷ shapes) zero = refl
+columns_there (shape ∷ shapes) (suc number) = columns_there shapes number
 
 -- tests that agree on what is named
 all_agree : (p q : RowRef → Bool) (n : RowRef → Bool) → ((r : RowRef) → n r ≡ true → p r ≡ q r) → (rs : List RowRef) → list_all n rs ≡ true → list_all p rs ≡ list_all q rs
@@ -181,18 +181,18 @@ found_before t i (x ∷ before) after h =
     step (t x) refl h
 
 -- of a layered row, each row that it names by CASCADE stands before it
-pub named_before : (columns : List (List Column)) (rows : List Inserted) → are_layered (rules_over_columns columns) (reverse (map row_of rows)) ≡ true → (p q : RowName → Bool) (k : ℕ) (it : Inserted) → slice_get rows k ≡ Some it
+pub named_before : (shapes : List Shape) (rows : List Inserted) → are_layered (rules_over shapes) (reverse (map row_of rows)) ≡ true → (p q : RowName → Bool) (k : ℕ) (it : Inserted) → slice_get rows k ≡ Some it
     → ((j : ℕ) (name : RowName) → place_of rows name ≡ Some j → j < k → p name ≡ q name)
-    → list_all (λ r. p r.name) (cascade_refs (rules_over_columns columns) (row_of it)) ≡ list_all (λ r. q r.name) (cascade_refs (rules_over_columns columns) (row_of it))
-named_before columns rows h p q k it at agree =
+    → list_all (λ r. p r.name) (cascade_refs (rules_over shapes) (row_of it)) ≡ list_all (λ r. q r.name) (cascade_refs (rules_over shapes) (row_of it))
+named_before shapes rows h p q k it at agree =
     let s = split_at rows k it at in
-    let layer = layer_parts (rules_over_columns columns) (reverse (map row_of s.before)) (row_of it)
-    (layered_split (rules_over_columns columns) s.before s.after it (subst (λ l. are_layered (rules_over_columns columns) (reverse (map row_of l)) ≡ true) s.is h)) in
+    let layer = layer_parts (rules_over shapes) (reverse (map row_of s.before)) (row_of it)
+    (layered_split (rules_over shapes) s.before s.after it (subst (λ l. are_layered (rules_over shapes) (reverse (map row_of l)) ≡ true) s.is h)) in
     all_agree (λ r. p r.name) (λ r. q r.name) (λ r. is_named (reverse (map row_of s.before)) r.name)
     (λ r there.
     let f = found_before (λ (row : Inserted). same_row row.name r.name) 0 s.before (it ∷ s.after) (sym (named_reversed s.before r.name) ∙ there) in
     agree f.0 r.name (ap (λ l. place_of l r.name) s.is ∙ f.1) (omega (arith, f.2, s.len)))
-    (cascade_refs (rules_over_columns columns) (row_of it)) layer.refers
+    (cascade_refs (rules_over shapes) (row_of it)) layer.refers
 
 -- what holds on `Ok`, where there is no `Err`
 pub ok_gives : {T E P : Type 0} (r : Result T E) → is_err r ≡ false → OnOk r P → P

@@ -10,7 +10,8 @@ use Rattle.update_model.specs.declared.row_name.RowName.{RowName}
 use Rattle.update_model.specs.Node.{NodeData}
 use Rattle.table_model.specs.declared.verdict.Verdict.TheVariants as verdict
 use Rattle.table_model.specs.Verdicts.{ancestor_of, delete_reason, effects, effects_after, effects_in, effects_of, first_reason, insert_reason, is_valid, joined, judge_next, judged, nothing, row_inserted, verdict_after, verdict_on}
-use Rattle.table_model.specs.Visible.{Effects, RowRef, Rules, TableRow, is_deleted, same_row, visible_rows}
+use Rattle.table_model.specs.Visible.{Effects, RowRef, Rules, TableRow, is_deleted, is_least, is_visible, same_row, visible_rows}
+use Rattle.table_model.specs.Counts.{one_where}
 use Rattle.table_model.proofs.Founded.{founded_closed}
 use Rattle.table_model.proofs.Members.{contains_mapped, contains_turned}
 use Rattle.table_model.proofs.Standing.{row_from_same, same_row-refl}
@@ -19,12 +20,12 @@ use Rattle.tuple_state.specs.declared.dropped.Dropped.{Dropped}
 use Rattle.tuple_state.specs.declared.inserted.Inserted.{Inserted}
 use Rattle.tuple_state.specs.Kept.{IsKept, place_of}
 use Rattle.tuple_state.specs.Links.{Linked}
-use Rattle.tuple_state.specs.State.{IsStateOf, State, done_in, row_of}
+use Rattle.tuple_state.specs.State.{IsStateOf, State, done_in, row_of, rules_of_state}
 use Rattle.tuple_state.proofs.Answering.{at_member, once_each}
 use Rattle.tuple_state.proofs.Counting.{count_mapped, count_reversed}
-use Rattle.tuple_state.proofs.Layers.{layered_founded, same_cascade}
+use Rattle.tuple_state.proofs.Layers.{layered_founded, same_cascade, same_least}
 use Rattle.tuple_state.proofs.Linking.{default_free}
-use Rattle.tuple_state.proofs.Lookups.{columns_same, did_same, get_or_from, row_found, visible_now}
+use Rattle.tuple_state.proofs.Lookups.{shapes_same, did_same, get_or_from, row_found, visible_now}
 use Rattle.tuple_state.proofs.Meaning.{causes_kept, count_append, count_cons, none_counted}
 use Rattle.tuple_state.proofs.Marking.{slice_get_below}
 use Rattle.tuple_state.proofs.Raising.{unit}
@@ -122,11 +123,13 @@ module _ (rules : Rules) (nodes : List NodeData) (state : State) (held : IsState
       (at_member (λ x. AllByRecursion (λ y. same_row x.name y.name ≡ true → x ≡ y) rows) rows row each inside) also
       (subst (λ (n : RowName). same_row row.name n ≡ true) named (same_row-refl row.name))
 
-  pub causes_now : (places : BTreeMap RowName ℕ) (causes : List ℕ) (children deleters : Linked) (ends : List ℕ) → IsKept state places causes children deleters ends → (name : RowName) (k n : ℕ) → place_of state.inserted name ≡ Some k
+  pub causes_now : (places : BTreeMap RowName ℕ) (causes : List ℕ) (children deleters : Linked) (ends groups : List ℕ) (least : List (Option ℕ)) → IsKept state places causes children deleters ends groups least → (name : RowName) (k n : ℕ) → place_of state.inserted name ≡ Some k
       → n ≡ get_or causes k n → (row : TableRow) → Contains (effects_in rules nodes).inserted row → row.name ≡ name → n ≡ causes_of rules nodes row
-  causes_now places causes children deleters ends kept name k n found is row inside named =
+  causes_now places causes children deleters ends groups least kept name k n found is row inside named =
       let at = row_found state.inserted name k found in
       let same = same_found k at.it row at.at inside (named ∙ sym at.name_is) in
-      is ∙ default_free causes k n 0 (omega (arith, at.below, kept.each)) ∙ causes_kept state places causes children deleters ends kept k at.it at.at
-      ∙ (λ i. dropped_counted at.it.name i + count_by (λ (r : RowRef). not (visible_now rules nodes state held r.name i)) (same_cascade (columns_same rules nodes state held) (row_of at.it) i))
+      is ∙ default_free causes k n 0 (omega (arith, at.below, kept.each)) ∙ causes_kept state places causes children deleters ends groups least kept k at.it at.at
+      ∙ (λ i. (dropped_counted at.it.name i + count_by (λ (r : RowRef). not (visible_now rules nodes state held r.name i)) (same_cascade (shapes_same rules nodes state held) (row_of at.it) i))
+      + one_where (not ((same_least (shapes_same rules nodes state held) (done_in state) (is_visible (rules_of_state state) (done_in state)) (is_visible rules (effects_in rules nodes)) (visible_now rules nodes state held) (row_of at.it)
+      ∙ ap (λ (g : Effects). is_least rules g (is_visible rules (effects_in rules nodes)) (row_of at.it)) (did_same rules nodes state held)) i)))
       ∙ ap (λ (x : TableRow). causes_of rules nodes x) (sym same)

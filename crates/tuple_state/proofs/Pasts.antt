@@ -17,7 +17,11 @@ use Rattle.table_model.specs.Nodes.{holds, IsClosed}
 use Rattle.table_model.specs.Verdicts.{Judged, ancestor_of, effects, effects_of, is_valid, joined, judge_next, judged, verdict_on}
 use Rattle.table_model.specs.Visible.{Effects, Rules, TableRow}
 use Rattle.table_model.proofs.Order.{any_weaker, ancestors_held, at_id}
-use Rattle.table_model.proofs.Founded.{founded_closed, all_weaker}
+use Rattle.schema.specs.Sound.{AreTables}
+use Rattle.schema.proofs.Soundness.{sound_tables}
+use Rattle.table_model.proofs.Founded.{Founded, founded_closed}
+use Rattle.table_model.proofs.Resting.{resting}
+use Rattle.table_model.proofs.Settled.{are_resting}
 use Rattle.table_model.proofs.Standing.{any_each, each-map}
 use Rattle.tuple_state.specs.declared.inserted.Inserted.{Inserted}
 use Rattle.tuple_state.specs.declared.dropped.Dropped.{Dropped}
@@ -189,11 +193,11 @@ module _ (rules : Rules) where
         let made = step (keep node.id) refl in
         record { closed = made.0; is = made.1 }
 
-    -- what those that are kept did is layered
-    pub layered_kept : (nodes : List NodeData) → IsClosed nodes → KeepsPreds keep (judged rules nodes) → are_layered rules (effects (kept (judged rules nodes))).inserted ≡ true
-    layered_kept nodes c k =
+    -- what those that are kept inserted passed the tests of inserts
+    pub founded_kept : (nodes : List NodeData) → IsClosed nodes → KeepsPreds keep (judged rules nodes) → Founded rules (effects (kept (judged rules nodes))).inserted
+    founded_kept nodes c k =
         let it = kept_closed nodes c k in
-        layered_founded rules _ (subst (λ (js : List Judged). Rattle.table_model.proofs.Founded.Founded rules (effects js).inserted) it.is (founded_closed rules (chosen nodes) it.closed).founded)
+        subst (λ (js : List Judged). Founded rules (effects js).inserted) it.is (founded_closed rules (chosen nodes) it.closed).founded
 
 -- ---- the positions of a past
 
@@ -275,6 +279,14 @@ pub done_past : (rules : Rules) (nodes : List NodeData) (node : NodeData) (past 
     → done_then (state_of rules nodes) past ≡ effects (filter (λ j. ancestor_of (judged rules nodes) node j.node.id) (judged rules nodes))
 done_past rules nodes node past it = did_then rules past (ancestor_of (judged rules nodes) node) nodes (agrees_from past (ancestor_of (judged rules nodes) node) [] nodes it.exact)
 
+pub founded_past : (rules : Rules) (nodes : List NodeData) (node : NodeData) → IsClosed nodes
+    → Founded rules (effects (filter (λ j. ancestor_of (judged rules nodes) node j.node.id) (judged rules nodes))).inserted
+founded_past rules nodes node c = founded_kept rules (ancestor_of (judged rules nodes) node) nodes c (past_keeps rules node nodes c)
+
 pub layered_past : (rules : Rules) (nodes : List NodeData) (node : NodeData) → IsClosed nodes
     → are_layered rules (effects (filter (λ j. ancestor_of (judged rules nodes) node j.node.id) (judged rules nodes))).inserted ≡ true
-layered_past rules nodes node c = layered_kept rules (ancestor_of (judged rules nodes) node) nodes c (past_keeps rules node nodes c)
+layered_past rules nodes node c = layered_founded rules _ (founded_past rules nodes node c)
+
+pub resting_past : (rules : Rules) (nodes : List NodeData) (node : NodeData) → AreTables [] rules.tables → IsClosed nodes
+    → are_resting rules (effects (filter (λ j. ancestor_of (judged rules nodes) node j.node.id) (judged rules nodes))).inserted ≡ true
+resting_past rules nodes node tables c = resting rules (sound_tables rules.tables tables) _ (founded_past rules nodes node c)

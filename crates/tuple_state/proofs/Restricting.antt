@@ -1,4 +1,5 @@
 -- The rows that name a row by RESTRICT.
+use Rattle.tuple_state.specs.declared.shape.Shape.{Shape}
 use Rattle.std.proofs.Common.{◌≡◌, ℕ, zero, suc, ◌+◌, ◌<◌, ◌≤◌, Bool, true, false, cond, not, ◌&&◌, ◌||◌, List, [], ◌∷◌, length, get_or, take, drop, map, refl, sym, ap, ◌∙◌, Option, None, Some, inl, inr, arith}
 use Rattle.std.specs.Prelude.{slice_get, filter, min, Result, Ok, Err, IfOk}
 use Rattle.std.specs.List.{list_any}
@@ -13,11 +14,12 @@ use Rattle.schema.specs.declared.column.Column.{Column}
 use Rattle.schema.specs.declared.column.ColumnKind.{ColumnKind}
 use Rattle.schema.specs.Columns.{is_restrict, target_of}
 use Rattle.table_model.specs.Visible.{RowRef, TableRow, is_deleted, is_visible, ref_in, ref_to, refs, refs_in, same_row}
+use Rattle.table_model.proofs.Settled.{are_resting}
 use Rattle.tuple_state.specs.declared.inserted.Inserted.{Inserted}
 use Rattle.tuple_state.specs.Kept.{are_layered}
 use Rattle.tuple_state.specs.Parents.{any_restricts, columns_at, is_row, name_by_restrict, restricts_in}
 use Rattle.tuple_state.specs.Past.{child_then, done_then}
-use Rattle.tuple_state.specs.State.{State, done_in, row_of, rules_of_state, rules_over_columns}
+use Rattle.tuple_state.specs.State.{State, done_in, row_of, rules_of_state, rules_over}
 use Rattle.table_model.proofs.Members.{any_mapped, any_reversed}
 use Rattle.tuple_state.proofs.Lookups.{get_or_from}
 use Rattle.tuple_state.proofs.Marking.{length_drop}
@@ -79,12 +81,12 @@ restricts_are name (column ∷ columns) (v ∷ values) =
     (λ i. sym (one_restricts name column.kind v) i || restricts_are name columns values i)
     ∙ sym (list_any-append (λ (r : RowRef). is_restrict r.action && same_row r.name name) (ref_in column.kind v) (refs_in columns values))
 
-pub restricts_row : (columns : List (List Column)) (name : RowName) (row it : Inserted) (list : List Column) → row ≡ it → columns_at columns row.entry.table ≡ list
-    → any_restricts name list row.entry.values ≡ list_any (λ (r : RowRef). is_restrict r.action && same_row r.name name) (refs (rules_over_columns columns) (row_of it))
-restricts_row columns name row it list same is =
+pub restricts_row : (shapes : List Shape) (name : RowName) (row it : Inserted) (list : List Column) → row ≡ it → columns_at shapes row.entry.table ≡ list
+    → any_restricts name list row.entry.values ≡ list_any (λ (r : RowRef). is_restrict r.action && same_row r.name name) (refs (rules_over shapes) (row_of it))
+restricts_row shapes name row it list same is =
     restricts_are name list row.entry.values
-    ∙ ap (λ (l : List Column). list_any (λ (r : RowRef). is_restrict r.action && same_row r.name name) (refs_in l row.entry.values)) (sym (columns_there columns row.entry.table ∙ is))
-    ∙ ap (λ (x : Inserted). list_any (λ (r : RowRef). is_restrict r.action && same_row r.name name) (refs (rules_over_columns columns) (row_of x))) same
+    ∙ ap (λ (l : List Column). list_any (λ (r : RowRef). is_restrict r.action && same_row r.name name) (refs_in l row.entry.values)) (sym (columns_there shapes row.entry.table ∙ is))
+    ∙ ap (λ (x : Inserted). list_any (λ (r : RowRef). is_restrict r.action && same_row r.name name) (refs (rules_over shapes) (row_of x))) same
 
 pub no_restricts : (name : RowName) (values : List Value) → false ≡ any_restricts name [] values
 unfolding any_restricts
@@ -110,7 +112,8 @@ module _ (state : State) (past : ℕ → Bool) (name : RowName) where
       ∙ any_mapped row_of (λ row. v row && c row) (filter (λ (it : Inserted). past it.position) state.inserted)
       ∙ any_of_kept (λ (it : Inserted). v (row_of it) && c (row_of it)) (λ (it : Inserted). past it.position) state.inserted
 
-  module _ (all : are_layered (rules_of_state state) (done_in state).inserted ≡ true) (some : are_layered (rules_of_state state) (done_then state past).inserted ≡ true) where
+  module _ (all : are_layered (rules_of_state state) (done_in state).inserted ≡ true) (some : are_layered (rules_of_state state) (done_then state past).inserted ≡ true)
+      (rest : are_resting (rules_of_state state) (done_then state past).inserted ≡ true) where
     -- what is visible is of the past
     pub holds_at : (place : ℕ) (it : Inserted) (b : Bool) → slice_get state.inserted place ≡ Some it
         → b ≡ (is_visible (rules_of_state state) (done_then state past) it.name && list_any (λ (r : RowRef). is_restrict r.action && same_row r.name name) (refs (rules_of_state state) (row_of it))) → holds_on it ≡ b
@@ -121,7 +124,7 @@ module _ (state : State) (past : ℕ → Bool) (name : RowName) where
         elim [
           | true ↦ λ v e f. refl
           | false ↦ elim [
-            | true ↦ λ e f. absurd (both_ways _ (hidden_row state.columns state.inserted past g.deleted all some place it at (ap (λ x. x && not (is_deleted g it.name)) e)) f)
+            | true ↦ λ e f. absurd (both_ways _ (hidden_row state.shapes state.inserted past g.deleted all some rest place it at (ap (λ x. x && not (is_deleted g it.name)) e)) f)
             | false ↦ λ e f. refl
           ]
         ] in

@@ -1,6 +1,6 @@
 -- What tables keep after the later updates are taken back.
 use Rattle.std.proofs.Common.{◌≡◌, ℕ, zero, suc, ◌+◌, ◌-◌, ◌<◌, ◌≤◌, true, false, cond, not, List, [], ◌∷◌, ◌++◌, length, get_or, map, reverse, take, drop, refl, sym, ap, ◌∙◌, subst, length-append, zero-add, Option, Some, None, nat_lt, arith}
-use Rattle.std.specs.Prelude.{count_by, is_some}
+use Rattle.std.specs.Prelude.{count_by, is_some, slice_get}
 use Rattle.std.specs.List.{list_all}
 use Rattle.std.specs.BTreeMap.{get, BTreeMap}
 use Rattle.std.proofs.lemmas.Bool.{and_from, and_parts}
@@ -18,29 +18,38 @@ use Rattle.tuple_state.specs.declared.links.Link.{Link}
 use Rattle.tuple_state.specs.declared.voided.Voided.{Voided}
 use Rattle.tuple_state.specs.Kept.{IsKept, are_layered, deletes_at, pairs_of, place_of}
 use Rattle.tuple_state.specs.Causes.{AreRising, absent_times, ends_from, parents_from}
+use Rattle.tuple_state.specs.Least.{AreGrouped, AreLevel, AreSettled, is_free, passed_by}
 use Rattle.tuple_state.specs.Links.{Linked, are_inside, is_of}
-use Rattle.tuple_state.specs.State.{IsStateOf, State, done_in, row_of, rules_of_state, rules_over_columns, state_of}
+use Rattle.tuple_state.specs.State.{IsHeld, IsStateOf, State, done_in, keep_any, row_of, rules_of_state, rules_over, state_of}
 use Rattle.tuple_state.proofs.Adding.{NamesRise, all_rise, names_found, news_rise, parents-append, rising_inside, rising_links}
 use Rattle.tuple_state.proofs.Deleting.{drops_found, links_inside, pair_parts, place_stays}
-use Rattle.tuple_state.proofs.Effects.{columns_are, count_is}
+use Rattle.tuple_state.proofs.Effects.{shapes_are, count_is}
 use Rattle.tuple_state.proofs.Fronts.{Parted, closed_back, count_append, counted, names_parted, rows_parted, sooner, take_front, voids_parted}
 use Rattle.tuple_state.proofs.Keeping.{homed_now, layered_now}
+use Rattle.tuple_state.proofs.Levels.{level_now}
 use Rattle.tuple_state.proofs.Lookups.{row_found}
 use Rattle.tuple_state.proofs.Raising.{unit}
 use Rattle.tuple_state.proofs.Spans.{ends-take}
 
 -- ---- the rest stays
 
-pub kept_places : (state : State) (places after_places : BTreeMap RowName ℕ) (causes : List ℕ) (children after_children deleters after_deleters : Linked) (ends : List ℕ) → IsKept state places causes children deleters ends
-    → ((name : RowName) → get name_cmp after_places name ≡ place_of state.inserted name) → after_children ≡ children → after_deleters ≡ deleters → IsKept state after_places causes after_children after_deleters ends
-kept_places state places after_places causes children after_children deleters after_deleters ends kept placed alike same = record {
+pub kept_places : (state : State) (places after_places : BTreeMap RowName ℕ) (causes : List ℕ) (children after_children deleters after_deleters : Linked) (ends groups : List ℕ) (least : List (Option ℕ)) → IsKept state places causes children deleters ends groups least
+    → ((name : RowName) → get name_cmp after_places name ≡ place_of state.inserted name) → after_children ≡ children → after_deleters ≡ deleters → IsKept state after_places causes after_children after_deleters ends groups least
+kept_places state places after_places causes children after_children deleters after_deleters ends groups least kept placed alike same = record {
+  held = kept.held;
   few = kept.few;
   bounded = kept.bounded;
   dated = kept.dated;
   layered = kept.layered;
   placed = placed;
   each = kept.each;
-  counted = λ k. kept.counted k ∙ (λ i. count_by (is_of k) (sym same i).links + absent_times (sym alike i).links causes k);
+  counted = λ k.
+      kept.counted k
+      ∙ (λ i. (count_by (is_of k) (sym same i).links + absent_times (sym alike i).links causes k)
+      + passed_by state.shapes state.inserted (is_free (λ n. count_by (is_of n) (sym same i).links) (sym alike i).links causes) (slice_get state.inserted k));
+  grouped = kept.grouped;
+  sized = kept.sized;
+  spare = kept.spare;
   homes = ap (λ (d : Linked). d.size) alike ∙ kept.homes;
   named = ap (λ (d : Linked). pairs_of d.links) alike ∙ kept.named;
   ended = kept.ended;
@@ -50,9 +59,10 @@ kept_places state places after_places causes children after_children deleters af
   deleted = ap (λ (d : Linked). pairs_of d.links) same ∙ kept.deleted;
 }
 
-pub kept_void : (state : State) (places : BTreeMap RowName ℕ) (causes : List ℕ) (children deleters : Linked) (ends : List ℕ) (voids : List Voided) → IsKept state places causes children deleters ends → state.count < MAX_MEMBERS
-    → IsKept (record state { count = state.count + 1; voids = voids }) places causes children deleters ends
-kept_void state places causes children deleters ends voids kept few = record {
+pub kept_void : (state : State) (places : BTreeMap RowName ℕ) (causes : List ℕ) (children deleters : Linked) (ends groups : List ℕ) (least : List (Option ℕ)) (voids : List Voided) → IsKept state places causes children deleters ends groups least → state.count < MAX_MEMBERS
+    → IsHeld (record state { count = state.count + 1; voids = voids }) → IsKept (record state { count = state.count + 1; voids = voids }) places causes children deleters ends groups least
+kept_void state places causes children deleters ends groups least voids kept few held = record {
+  held = held;
   few = omega (arith, few);
   bounded = kept.bounded;
   dated = sooner (λ (it : Inserted). it.position) state.count (state.count + 1) (omega arith) state.inserted kept.dated;
@@ -60,6 +70,9 @@ kept_void state places causes children deleters ends voids kept few = record {
   placed = kept.placed;
   each = kept.each;
   counted = kept.counted;
+  grouped = kept.grouped;
+  sized = kept.sized;
+  spare = kept.spare;
   homes = kept.homes;
   named = kept.named;
   ended = kept.ended;
@@ -129,7 +142,7 @@ module _ (rules : Rules) (newer older : List NodeData) (state : State) (len : �
   old = state_of rules older
 
   pub old_held : IsStateOf rules older old
-  old_held = record { closed = closed_back newer older held.closed; is = refl }
+  old_held = record { tables = held.tables; closed = closed_back newer older held.closed; is = refl }
 
   rows_are : Parted (λ (it : Inserted). it.position) len state.inserted old.inserted
   rows_are = subst (λ (n : ℕ). Parted (λ (it : Inserted). it.position) n state.inserted old.inserted) at
@@ -158,8 +171,8 @@ module _ (rules : Rules) (newer older : List NodeData) (state : State) (len : �
   pub voids_taken : (n : ℕ) → n ≡ count_by (λ (it : Voided). nat_lt it.position len) state.voids → take n state.voids ≡ old.voids
   voids_taken n is = (λ i. take ((is ∙ counted (λ (it : Voided). it.position) len state.voids old.voids voids_are) i) (voids_are.is i)) ∙ take_front old.voids voids_are.later
 
-  pub columns_stay : state.columns ≡ old.columns
-  columns_stay = ap (λ (s : State). s.columns) held.is ∙ columns_are rules (newer ++ older) ∙ sym (columns_are rules older)
+  pub shapes_stay : state.shapes ≡ old.shapes
+  shapes_stay = ap (λ (s : State). s.shapes) held.is ∙ shapes_are rules (newer ++ older) ∙ sym (shapes_are rules older)
 
   pub count_old : len ≡ old.count
   count_old = sym at ∙ sym (count_is rules older)
@@ -187,17 +200,17 @@ module _ (rules : Rules) (newer older : List NodeData) (state : State) (len : �
   behind = parents_from (rules_of_state state) (length old.inserted) rows_are.later
 
   front_rises : NamesRise (place_of old.inserted) 0 (length old.inserted) front
-  front_rises = all_rise old.columns old.inserted layered_old
+  front_rises = all_rise old.shapes old.inserted layered_old
 
   -- the names that all rows name are those that the first rows name, and others
   fronts_are : Parted (λ (d : Dropped). d.position) (length old.inserted) (parents_from (rules_of_state state) 0 state.inserted) front
   fronts_are = record {
     later = behind;
     is = ap (parents_from (rules_of_state state) 0) rows_are.is ∙ parents-append (rules_of_state state) 0 old.inserted rows_are.later
-        ∙ (λ i. parents_from (rules_over_columns (columns_stay i)) 0 old.inserted ++ parents_from (rules_of_state state) (zero-add (length old.inserted) i) rows_are.later);
+        ∙ (λ i. parents_from (rules_over (shapes_stay i)) 0 old.inserted ++ parents_from (rules_of_state state) (zero-add (length old.inserted) i) rows_are.later);
     before = rise_below (place_of old.inserted) 0 (length old.inserted) front front_rises;
     beyond = rise_beyond (place_of (old.inserted ++ rows_are.later)) (length old.inserted) (length old.inserted) (length (old.inserted ++ rows_are.later)) behind (omega arith)
-        (news_rise state.columns old.inserted rows_are.later (subst (λ (l : List Inserted). are_layered (rules_of_state state) (reverse (map row_of l)) ≡ true) rows_are.is (layered_now rules (newer ++ older) state held)));
+        (news_rise state.shapes old.inserted rows_are.later (subst (λ (l : List Inserted). are_layered (rules_of_state state) (reverse (map row_of l)) ≡ true) rows_are.is (layered_now rules (newer ++ older) state held)));
   }
 
   module _ (children : List Link) (rows n : ℕ) (so : pairs_of children ≡ deletes_at (place_of state.inserted) (parents_from (rules_of_state state) 0 state.inserted))
@@ -217,16 +230,21 @@ module _ (rules : Rules) (newer older : List NodeData) (state : State) (len : �
     pub rising_old : AreRising 0 rows (take n children)
     rising_old = subst (λ m. AreRising 0 m (take n children)) (sym (rows_len rows is_rows)) (rising_links (place_of old.inserted) 0 (length old.inserted) (take n children) front named_old front_rises)
 
+    pub level_old : AreLevel old.shapes old.inserted (take n children)
+    level_old = level_now rules older old old_held layered_old (take n children) named_old
+
     pub children_inside : are_inside rows (take n children) ≡ true
     children_inside = rising_inside 0 rows (take n children) rising_old
 
-  pub kept_old : (places after_places : BTreeMap RowName ℕ) (causes after_causes : List ℕ) (children deleters : Linked) (ends : List ℕ) (rows names n : ℕ) → IsKept state places causes children deleters ends
+  pub kept_old : (places after_places : BTreeMap RowName ℕ) (causes after_causes : List ℕ) (children deleters : Linked) (ends groups after_groups : List ℕ) (least after_least : List (Option ℕ)) (rows names n : ℕ) → IsKept state places causes children deleters ends groups least
       → rows ≡ count_by (λ (it : Inserted). nat_lt it.position len) state.inserted → names ≡ count_by (λ (it : Dropped). nat_lt it.position len) state.dropped
       → n ≡ count_by (λ (l : Link). nat_lt l.number rows) children.links
       → ((name : RowName) → get name_cmp after_places name ≡ place_of old.inserted name) → length after_causes ≡ length old.inserted
-      → ((k : ℕ) → get_or after_causes k 0 ≡ count_by (is_of k) (take names deleters.links) + absent_times (take n children.links) after_causes k)
-      → IsKept old after_places after_causes (record { size = rows; links = take n children.links }) (record { size = rows; links = take names deleters.links }) (take rows ends)
-  kept_old places after_places causes after_causes children deleters ends rows names n kept is drops refs placed size counts = record {
+      → AreSettled old.shapes old.inserted (take n children.links) (λ k. count_by (is_of k) (take names deleters.links)) after_causes
+      → AreGrouped old.shapes old.inserted after_groups → (keep_any old.shapes ≡ true → length after_groups ≡ length old.inserted) → length after_least ≡ length after_groups
+      → IsKept old after_places after_causes (record { size = rows; links = take n children.links }) (record { size = rows; links = take names deleters.links }) (take rows ends) after_groups after_least
+  kept_old places after_places causes after_causes children deleters ends groups after_groups least after_least rows names n kept is drops refs placed size counts grouped sized spare = record {
+    held = record { rules = rules; nodes = older; is = old_held };
     few = let a = count_is rules older in let b = ap (λ (s : State). s.count) held.is ∙ count_is rules (newer ++ older) in let c = length-append newer older in omega (arith, a, b, c, kept.few);
     bounded = λ n.
         let whole = kept.bounded n in
@@ -237,11 +255,14 @@ module _ (rules : Rules) (newer older : List NodeData) (state : State) (len : �
     placed = placed;
     each = size;
     counted = counts;
+    grouped = grouped;
+    sized = sized;
+    spare = spare;
     homes = rows_len rows is;
     named = named_old children.links rows n kept.named is refs;
     ended =
         ap (take rows) kept.ended ∙ ends-take (rules_of_state state) 0 rows state.inserted
-        ∙ (λ i. ends_from (rules_over_columns (columns_stay i)) 0 (rows_taken rows is i));
+        ∙ (λ i. ends_from (rules_over (shapes_stay i)) 0 (rows_taken rows is i));
     rooms = rows_len rows is;
     few_children = let l = take_fewer n children.links in omega (arith, l, kept.few_children);
     few_deleters = let l = take_fewer names deleters.links in omega (arith, l, kept.few_deleters);

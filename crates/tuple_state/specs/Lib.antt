@@ -3,6 +3,7 @@ pub mod Arrived
 pub mod Causes
 pub mod Changes
 pub mod Kept
+pub mod Least
 pub mod Links
 pub mod Parents
 pub mod Past

@@ -1,5 +1,5 @@
 -- The rows that a row names by CASCADE, column by column.
-use Rattle.std.specs.Prelude.{◌≡◌, ℕ, ◌==◌, Bool, true, false, ◌&&◌, ◌||◌, List, [], ◌∷◌, ◌++◌, slice_get, unwrap_or, Option, None, Some, if◌then◌else◌}
+use Rattle.std.specs.Prelude.{◌≡◌, ℕ, ◌==◌, Bool, true, false, ◌&&◌, ◌||◌, List, [], ◌∷◌, ◌++◌, slice_get, Option, None, Some, if◌then◌else◌}
 use Rattle.std.specs.List.{list_any}
 use Rattle.update_model.specs.declared.row_name.RowName.{RowName}
 use Rattle.update_model.specs.declared.value.Value.{Value}
@@ -11,6 +11,7 @@ use Rattle.schema.specs.Columns.{is_restrict, target_of}
 use Rattle.table_model.specs.Visible.{is_cascade, same_row}
 use Rattle.tuple_state.specs.declared.inserted.Inserted.{Inserted}
 use Rattle.tuple_state.specs.declared.dropped.Dropped.{Dropped}
+use Rattle.tuple_state.specs.declared.shape.Shape.{Shape}
 use Rattle.tuple_state.specs.State.{dropped_at}
 
 -- a row's name, where the column is a reference by CASCADE
@@ -43,9 +44,14 @@ unfoldable pub AreFresh : List Inserted → List Inserted → Type 0
 AreFresh rows [] = Unit {0}
 AreFresh rows (it ∷ more) = (list_any (λ row. same_row row.name it.name) rows ≡ false) × AreFresh (rows ++ it ∷ []) more
 
--- the columns of the table with this number, of which one that is not there has none
-abbrev pub columns_at : List (List Column) → ℕ → List Column
-columns_at columns number = unwrap_or (slice_get columns number) []
+-- the columns of a table, of which one that is not there has none
+abbrev pub columns_in : Option Shape → List Column
+columns_in None = []
+columns_in (Some shape) = shape.columns
+
+-- the columns of the table with this number
+abbrev pub columns_at : List Shape → ℕ → List Column
+columns_at shapes number = columns_in (slice_get shapes number)
 
 -- whether a test is true of the place that is found, where one is
 abbrev pub passes_place : (ℕ → Bool) → Option ℕ → Bool
@@ -67,8 +73,8 @@ abbrev pub some_holding : ℕ → List Column → Bool
 some_holding table columns = list_any (λ column. holds_on_to table (target_of column.kind)) columns
 
 -- whether a column of some table does
-abbrev pub is_held : List (List Column) → ℕ → Bool
-is_held columns table = list_any (some_holding table) columns
+abbrev pub is_held : List Shape → ℕ → Bool
+is_held shapes table = list_any (λ shape. some_holding table shape.columns) shapes
 
 -- a row's name, where the column is a reference by RESTRICT
 abbrev pub name_by_restrict : RowName → Option (ℕ × Action) → Option RowName

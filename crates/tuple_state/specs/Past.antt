@@ -1,5 +1,5 @@
 -- The rows that are visible after the ancestors of one update, and what they answer.
-use Rattle.std.specs.Prelude.{◌≡◌, ℕ, ◌<◌, Bool, true, ◌&&◌, List, ◌∷◌, ◌++◌, count_by, filter, length, map, reverse, Option, Some, slice_get}
+use Rattle.std.specs.Prelude.{◌≡◌, ℕ, ◌<◌, ◌==◌, Bool, true, false, ◌&&◌, List, ◌∷◌, ◌++◌, count_by, filter, length, map, reverse, Option, Some, slice_get, slice_index_or}
 use Rattle.update_model.specs.declared.row_entry.RowEntry.{RowEntry}
 use Rattle.update_model.specs.declared.row_name.RowName.{RowName}
 use Rattle.update_model.specs.declared.value.Value.{Value}
@@ -15,7 +15,7 @@ use Rattle.row_check.specs.Comparisons.{compares}
 use Rattle.table_model.specs.Answers.{entry_in, has_child_in}
 use Rattle.tuple_state.specs.declared.inserted.Inserted.{Inserted}
 use Rattle.tuple_state.specs.Parents.{passes_row}
-use Rattle.tuple_state.specs.State.{IsStateOf, State, done_in, row_of, rules_of_state}
+use Rattle.tuple_state.specs.State.{IsStateOf, State, done_in, keep_any, row_of, rules_of_state}
 
 -- This verdict is the one on an update that is next in tables of fewer than 131,072 updates.
 pub record IsNextVerdict (state : State) (node : NodeData) (verdict : Verdict) : Type 0 where
@@ -59,10 +59,20 @@ visible_at ancestor state position name = is_visible (rules_of_state state) (don
 abbrev pub row_visible_at : (ℕ → ℕ → Bool) → State → ℕ → ℕ → Bool
 row_visible_at ancestor state position place = passes_row (visible_at ancestor state position) (slice_get state.inserted place)
 
--- What is visible now is visible then, where an ancestor inserted it.
+-- Where no table keeps the least row of each value, what is visible now is visible then, where an ancestor inserted it.
 abbrev pub Lasts : (ℕ → ℕ → Bool) → State → ℕ → Type 0
-Lasts ancestor state position = (place : ℕ) (it : Inserted) → slice_get state.inserted place ≡ Some it → ancestor it.position position ≡ true
+Lasts ancestor state position = keep_any state.shapes ≡ false → (place : ℕ) (it : Inserted) → slice_get state.inserted place ≡ Some it → ancestor it.position position ≡ true
     → is_visible (rules_of_state state) (done_in state) it.name ≡ true → visible_at ancestor state position it.name ≡ true
+
+-- Of each row this number is 0 where it is visible then.
+abbrev pub AreCausesThen : (ℕ → ℕ → Bool) → State → ℕ → List ℕ → Type 0
+AreCausesThen ancestor state position causes =
+    (length causes ≡ length state.inserted)
+    × ((place : ℕ) (it : Inserted) → slice_get state.inserted place ≡ Some it → (slice_index_or causes place 0 == 0) ≡ visible_at ancestor state position it.name)
+
+-- Where a table keeps the least row of each value, such numbers are known.
+abbrev pub AreKnownThen : (ℕ → ℕ → Bool) → State → ℕ → List ℕ → Type 0
+AreKnownThen ancestor state position causes = keep_any state.shapes ≡ true → AreCausesThen ancestor state position causes
 
 -- the rows that are visible then
 abbrev pub visible_then : State → (ℕ → Bool) → List TableRow

@@ -1,8 +1,8 @@
 -- What tables hold: what the valid updates did, in the order in which they were applied, and the updates that do nothing.
-use Rattle.std.specs.Prelude.{◌≡◌, ℕ, ◌+◌, false, List, [], ◌∷◌, ◌++◌, length, map, reverse}
+use Rattle.std.specs.Prelude.{◌≡◌, ℕ, ◌+◌, Bool, false, List, [], ◌∷◌, ◌++◌, length, map, reverse, is_some}
+use Rattle.std.specs.List.{list_any}
 use Rattle.update_model.specs.declared.row_name.RowName.{RowName}
 use Rattle.update_model.specs.Node.{NodeData}
-use Rattle.schema.specs.declared.column.Column.{Column}
 use Rattle.schema.specs.declared.table_def.TableDef.{TableDef}
 use Rattle.table_model.specs.declared.verdict.Verdict.{Verdict}
 use Rattle.table_model.specs.declared.verdict.Verdict.TheVariants as verdict
@@ -10,14 +10,16 @@ use Rattle.table_model.specs.declared.void_line.VoidLine.{VoidLine}
 use Rattle.table_model.specs.Nodes.{IsClosed}
 use Rattle.table_model.specs.Verdicts.{effects_of, judge_next, judged}
 use Rattle.schema.specs.Numbers.{no_table}
+use Rattle.schema.specs.Sound.{AreTables}
 use Rattle.table_model.specs.Visible.{Effects, Rules, TableRow}
 use Rattle.tuple_state.specs.declared.inserted.Inserted.{Inserted}
 use Rattle.tuple_state.specs.declared.dropped.Dropped.{Dropped}
+use Rattle.tuple_state.specs.declared.shape.Shape.{Shape}
 use Rattle.tuple_state.specs.declared.voided.Voided.{Voided}
 
--- the columns of each table, how many updates were applied, what the valid ones did, oldest first, and the void ones
+-- the shape of each table, how many updates were applied, what the valid ones did, oldest first, and the void ones
 pub record State : Type 0 where
-  pub columns : List (List Column)
+  pub shapes : List Shape
   pub count : ℕ
   pub inserted : List Inserted
   pub dropped : List Dropped
@@ -52,17 +54,22 @@ after state node (verdict.Void reason operation) = record state {
   voids = state.voids ++ voided_at state.count (record { id = node.id; reason = reason; operation = operation }) ∷ [];
 }
 
+-- what tells of a table which of its rows are visible
+abbrev pub shape_of : TableDef → Shape
+shape_of table = record { columns = table.columns; kept = table.kept }
+
 -- the state before any update
 abbrev pub empty_state : List TableDef → State
-empty_state tables = record { columns = map (λ table. table.columns) tables; count = 0; inserted = []; dropped = []; voids = [] }
+empty_state tables = record { shapes = map shape_of tables; count = 0; inserted = []; dropped = []; voids = [] }
 
 -- the state after the nodes of a closed list, newest first, each judged on its ancestors
 unfoldable pub state_of : Rules → List NodeData → State
 state_of rules [] = empty_state rules.tables
 state_of rules (node ∷ older) = after (state_of rules older) node (judge_next rules (judged rules older) node).verdict
 
--- The tables hold what these nodes do.
+-- The tables, which are those of a schema, hold what these nodes do.
 pub record IsStateOf (rules : Rules) (nodes : List NodeData) (state : State) : Type 0 where
+  pub tables : AreTables [] rules.tables
   pub closed : IsClosed nodes
   pub is : state ≡ state_of rules nodes
 
@@ -70,13 +77,27 @@ pub record IsStateOf (rules : Rules) (nodes : List NodeData) (state : State) : T
 abbrev pub done_in : State → Effects
 done_in state = record { inserted = reverse (map row_of state.inserted); deleted = reverse (map (λ it. it.name) state.dropped) }
 
--- rules with these columns and nothing else. Which rows are visible goes by columns alone
-abbrev pub rules_over_columns : List (List Column) → Rules
-rules_over_columns columns = record { tables = map (λ list. record no_table { columns = list }) columns; ask = λ number values. false }
+-- The tables hold what some nodes do.
+pub record IsHeld (state : State) : Type 0 where
+  pub rules : Rules
+  pub nodes : List NodeData
+  pub is : IsStateOf rules nodes state
+
+-- a table of this shape, with nothing else
+abbrev pub table_with : Shape → TableDef
+table_with shape = record no_table { columns = shape.columns; kept = shape.kept }
+
+-- rules with tables of these shapes and nothing else. Which rows are visible goes by the shapes alone
+abbrev pub rules_over : List Shape → Rules
+rules_over shapes = record { tables = map table_with shapes; ask = λ number values. false }
+
+-- whether one of these tables keeps the least row of each value of a column
+abbrev pub keep_any : List Shape → Bool
+keep_any shapes = list_any (λ shape. is_some shape.kept) shapes
 
 -- those of a state
 abbrev pub rules_of_state : State → Rules
-rules_of_state state = rules_over_columns state.columns
+rules_of_state state = rules_over state.shapes
 
 -- The tables hold what nodes do of which all after the first so many are to be taken back.
 pub record IsCut (state : State) (len : ℕ) : Type 0 where

@@ -7,9 +7,9 @@ ghost use Rattle.schema.specs.Columns.{is_restrict};
 ghost use Rattle.table_model.specs.Verdicts.{in_table};
 ghost use Rattle.std.specs.List.{list_any};
 ghost use Rattle.tuple_state.specs.declared.inserted.Inserted.{Inserted as Row};
-ghost use Rattle.tuple_state.specs.Kept.{are_layered, are_referred};
-ghost use Rattle.tuple_state.specs.Past.{Lasts, StandsAt, child_then, count_then, done_then, equal_then, row_then, visible_at};
-ghost use Rattle.tuple_state.specs.State.{done_in, row_of, rules_of_state};
+ghost use Rattle.tuple_state.specs.Kept.{are_grounded, are_layered, are_referred};
+ghost use Rattle.tuple_state.specs.Past.{AreKnownThen, Lasts, StandsAt, child_then, count_then, done_then, equal_then, row_then, visible_at};
+ghost use Rattle.tuple_state.specs.State.{done_in, keep_any, row_of, rules_of_state};
 
 use crate::Tables;
 use std::alloc::{AllocError, Global};
@@ -26,6 +26,7 @@ pub struct At<'a, A: Ancestors> {
     ghost referred: { are_referred (rules_of_state tables.now) (done_in tables.now).inserted ≡ true },
     ghost lasting: { Lasts (A.ancestor ancestors.now) tables.now position },
     ghost layered: { are_layered (rules_of_state tables.now) (done_then tables.now (λ p. A.ancestor ancestors.now p position)).inserted ≡ true },
+    ghost grounded: { are_grounded (rules_of_state tables.now) (done_then tables.now (λ p. A.ancestor ancestors.now p position)).inserted ≡ true },
 }
 
 impl<'a, A: Ancestors> At<'a, A> {
@@ -55,28 +56,42 @@ impl<'a, A: Ancestors> At<'a, A> {
     }
 
     /// Whether the row at a place is visible then and names this one by `RESTRICT`.
-    fn restricts(&self, alloc: Global, place: usize, name: &RowName) -> Result<bool, AllocError>
-        requires { place < length self.now.tables.now.inserted }
+    fn restricts(
+        &self,
+        alloc: Global,
+        known: &[u32],
+        place: usize,
+        name: &RowName,
+    ) -> Result<bool, AllocError>
+        requires known { AreKnownThen (A.ancestor self.now.ancestors.now) self.now.tables.now self.now.position known.now }
+        requires inside { place < length self.now.tables.now.inserted }
         ensures { IfOk result (λ answer. (it : Row) → slice_get self.now.tables.now.inserted place ≡ Some it
             → answer ≡ (visible_at (A.ancestor self.now.ancestors.now) self.now.tables.now self.now.position it.name
             && list_any (λ r. is_restrict r.action && same_row r.name name.now) (refs (rules_of_state self.now.tables.now) (row_of it)))) }
     {
         if self.tables.restricts(place, name) {
-            self.stands(alloc, place)
+            self.stands_by(alloc, known, place)
         } else {
             Ok(false)
         }
     }
 
     /// Whether the row at a place is visible then and of this table.
-    fn stands_in(&self, alloc: Global, place: usize, table: u8) -> Result<bool, AllocError>
-        requires { place < length self.now.tables.now.inserted }
+    fn stands_in(
+        &self,
+        alloc: Global,
+        known: &[u32],
+        place: usize,
+        table: u8,
+    ) -> Result<bool, AllocError>
+        requires known { AreKnownThen (A.ancestor self.now.ancestors.now) self.now.tables.now self.now.position known.now }
+        requires inside { place < length self.now.tables.now.inserted }
         ensures { IfOk result (λ answer. (it : Row) → slice_get self.now.tables.now.inserted place ≡ Some it
             → answer ≡ (visible_at (A.ancestor self.now.ancestors.now) self.now.tables.now self.now.position it.name
             && in_table table (row_of it))) }
     {
         if self.tables.is_in(place, table) {
-            self.stands(alloc, place)
+            self.stands_by(alloc, known, place)
         } else {
             Ok(false)
         }
@@ -86,28 +101,67 @@ impl<'a, A: Ancestors> At<'a, A> {
     fn equals_in(
         &self,
         alloc: Global,
+        known: &[u32],
         place: usize,
         table: u8,
         column: u8,
         value: &Value,
     ) -> Result<bool, AllocError>
-        requires { place < length self.now.tables.now.inserted }
+        requires known { AreKnownThen (A.ancestor self.now.ancestors.now) self.now.tables.now self.now.position known.now }
+        requires inside { place < length self.now.tables.now.inserted }
         ensures { IfOk result (λ answer. (it : Row) → slice_get self.now.tables.now.inserted place ≡ Some it
             → answer ≡ (visible_at (A.ancestor self.now.ancestors.now) self.now.tables.now self.now.position it.name
             && (in_table table (row_of it) && compares Eq (value_at it.entry.values column) value.now))) }
     {
         if self.tables.equals_at(place, table, column, value) {
-            self.stands(alloc, place)
+            self.stands_by(alloc, known, place)
         } else {
             Ok(false)
         }
     }
 
-    /// Whether the row at a place is visible then. A row that is visible now is, where its update is an ancestor. Of others
-    /// it looks at the rows to which `CASCADE` references lead, which ancestors inserted too, each once, the newest first: a
-    /// row names only rows before it.
+    /// Of each row a number that is 0 where it is visible then, or nothing where no table keeps the least row of each value.
+    fn known(&self, alloc: Global) -> Result<Vec<u32>, AllocError>
+        ensures { IfOk result (λ known. AreKnownThen (A.ancestor self.now.ancestors.now) self.now.tables.now self.now.position known.items) }
+    {
+        if self.tables.keeps() {
+            self.tables
+                .causes_then(alloc, self.ancestors, self.position)
+        } else {
+            Ok(Vec::new(alloc))
+        }
+    }
+
+    /// Whether the row at a place is visible then.
     fn stands(&self, alloc: Global, place: usize) -> Result<bool, AllocError>
         requires { place < length self.now.tables.now.inserted }
+        ensures { IfOk result (λ answer. (it : Row) → slice_get self.now.tables.now.inserted place ≡ Some it
+            → answer ≡ visible_at (A.ancestor self.now.ancestors.now) self.now.tables.now self.now.position it.name) }
+    {
+        let known = self.known(alloc)?;
+        self.stands_by(alloc, known.as_slice(), place)
+    }
+
+    /// Whether the row at a place is visible then, where the numbers are known that tell it.
+    fn stands_by(&self, alloc: Global, known: &[u32], place: usize) -> Result<bool, AllocError>
+        requires known { AreKnownThen (A.ancestor self.now.ancestors.now) self.now.tables.now self.now.position known.now }
+        requires inside { place < length self.now.tables.now.inserted }
+        ensures { IfOk result (λ answer. (it : Row) → slice_get self.now.tables.now.inserted place ≡ Some it
+            → answer ≡ visible_at (A.ancestor self.now.ancestors.now) self.now.tables.now self.now.position it.name) }
+    {
+        if self.tables.keeps() {
+            Ok(known[place] == 0)
+        } else {
+            self.climbs(alloc, place)
+        }
+    }
+
+    /// Whether the row at a place is visible then, where no table keeps the least row of each value. A row that is visible now
+    /// is, where its update is an ancestor. Of others it looks at the rows to which `CASCADE` references lead, which ancestors
+    /// inserted too, each once, the newest first: a row names only rows before it.
+    fn climbs(&self, alloc: Global, place: usize) -> Result<bool, AllocError>
+        requires plain { keep_any self.now.tables.now.shapes ≡ false }
+        requires inside { place < length self.now.tables.now.inserted }
         ensures { IfOk result (λ answer. (it : Row) → slice_get self.now.tables.now.inserted place ≡ Some it
             → answer ≡ visible_at (A.ancestor self.now.ancestors.now) self.now.tables.now self.now.position it.name) }
     {
@@ -140,7 +194,8 @@ impl<'a, A: Ancestors> RowsAt for At<'a, A> {
     ghost count = { λ at. count_then at.tables.now (λ p. A.ancestor at.ancestors.now p at.position) };
 
     /// The row with this name, where it is visible then. It takes the time of a walk over the rows to which `CASCADE`
-    /// references lead from it, and over what deletes them.
+    /// references lead from it, and over what deletes them. Where a table keeps the least row of each value it goes over all
+    /// rows.
     fn row_at(&self, alloc: Global, name: &RowName) -> Result<Option<&RowEntry>, AllocError> {
         match self.tables.place(name) {
             Some(place) => {
@@ -160,8 +215,9 @@ impl<'a, A: Ancestors> RowsAt for At<'a, A> {
         if !self.may_be_held(name) {
             return Ok(false);
         }
+        let known = self.known(alloc)?;
         for place in 0..self.tables.row_len() {
-            if self.restricts(alloc, place, name)? {
+            if self.restricts(alloc, known.as_slice(), place, name)? {
                 return Ok(true);
             }
         }
@@ -169,7 +225,7 @@ impl<'a, A: Ancestors> RowsAt for At<'a, A> {
     }
 
     /// How many rows of the table that are visible then have this value in this column, as `UNIQUE` compares them. It
-    /// goes over all rows, since no schema that is accepted has a `UNIQUE`.
+    /// goes over all rows.
     fn equal_rows(
         &self,
         alloc: Global,
@@ -177,9 +233,10 @@ impl<'a, A: Ancestors> RowsAt for At<'a, A> {
         column: u8,
         value: &Value,
     ) -> Result<u32, AllocError> {
+        let known = self.known(alloc)?;
         let mut count = 0;
         for place in 0..self.tables.row_len() {
-            if self.equals_in(alloc, place, table, column, value)? {
+            if self.equals_in(alloc, known.as_slice(), place, table, column, value)? {
                 count += 1;
             }
         }
@@ -189,9 +246,10 @@ impl<'a, A: Ancestors> RowsAt for At<'a, A> {
     /// How many rows of the table are visible then. It goes over all rows, since no schema that is accepted has an
     /// `ATMOST`.
     fn row_count(&self, alloc: Global, table: u8) -> Result<u32, AllocError> {
+        let known = self.known(alloc)?;
         let mut count = 0;
         for place in 0..self.tables.row_len() {
-            if self.stands_in(alloc, place, table)? {
+            if self.stands_in(alloc, known.as_slice(), place, table)? {
                 count += 1;
             }
         }

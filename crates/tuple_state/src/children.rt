@@ -3,11 +3,12 @@
 ghost use Rattle.std.specs.Prelude.{◌≡◌, ◌+◌, ◌<◌, ◌^◌, ◌++◌, IfOk, OnOk, length};
 ghost use Rattle.tuple_state.specs.Causes.{ends_from, parents_from};
 ghost use Rattle.tuple_state.specs.Parents.{name_in, names_in};
-ghost use Rattle.tuple_state.specs.State.{rules_over_columns};
+ghost use Rattle.tuple_state.specs.State.{rules_over};
 
 use crate::parents::parent_of;
+use crate::shape::Shape;
 use crate::{Dropped, Inserted};
-use schema::{Column, ColumnList};
+use schema::Column;
 use std::alloc::{AllocError, Global};
 use update_model::Value;
 
@@ -62,24 +63,24 @@ pub(crate) struct Parents {
 /// The names that these rows name by `CASCADE`. Places number from a first one, and names from another number.
 pub(crate) fn parents_of(
     alloc: Global,
-    columns: &[ColumnList],
+    shapes: &[Shape],
     rows: &[Inserted],
     first: usize,
     from: usize,
 ) -> Result<Parents, AllocError>
     requires few { first + length rows.now < 2 ^ 32 }
     requires number { from < 2 ^ 32 }
-    ensures names { IfOk result (λ parents. parents.names.items ≡ parents_from (rules_over_columns columns.now) first rows.now) }
-    ensures ends { IfOk result (λ parents. parents.ends.items ≡ ends_from (rules_over_columns columns.now) from rows.now) }
+    ensures names { IfOk result (λ parents. parents.names.items ≡ parents_from (rules_over shapes.now) first rows.now) }
+    ensures ends { IfOk result (λ parents. parents.ends.items ≡ ends_from (rules_over shapes.now) from rows.now) }
 {
     let mut names = Vec::new(alloc);
     let mut ends = Vec::with_capacity(alloc, rows.len())?;
     for number in 0..rows.len() {
         let entry = &rows[number].entry;
-        if let Some(columns) = columns.get(usize::from(entry.table)) {
+        if let Some(shape) = shapes.get(usize::from(entry.table)) {
             push_names(
                 &mut names,
-                columns.as_slice(),
+                shape.columns.as_slice(),
                 entry.values.as_slice(),
                 (first + number) as u32,
             )?;

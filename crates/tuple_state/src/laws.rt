@@ -1,7 +1,9 @@
 //! Laws of tables. Each function does nothing: its contract is a theorem for callers to cite. Lists of nodes stand newest
 //! first.
 
-ghost use Rattle.std.specs.Prelude.{◌≡◌, ℕ, true, List, ◌∷◌, map, reverse};
+ghost use Rattle.std.specs.Prelude.{◌≡◌, ℕ, true, Contains, List, [], ◌∷◌, map, reverse};
+ghost use Rattle.schema.specs.Least.{is_steady};
+ghost use Rattle.schema.specs.Sound.{AreTables};
 ghost use Rattle.update_model.specs.Node.{NodeData};
 ghost use Rattle.table_model.specs.declared.verdict.Verdict.{Verdict};
 ghost use Rattle.table_model.specs.Nodes.{IsClosed, IsNext};
@@ -9,10 +11,8 @@ ghost use Rattle.std.specs.List.Sorted.{IsPermutation, IsStrictlySortedBy};
 ghost use Rattle.table_model.specs.declared.shown_row.ShownRow.{ShownRow};
 ghost use Rattle.table_model.specs.Tables.{AreRowsIn, HasDistinctNames, name_cmp, void_lines};
 ghost use Rattle.table_model.specs.Verdicts.{effects_in, judge_next, judged};
-ghost use Rattle.table_model.specs.Visible.{Rules, is_visible};
-ghost use Rattle.tuple_state.specs.Kept.{is_named};
+ghost use Rattle.table_model.specs.Visible.{Rules, TableRow, is_visible};
 ghost use Rattle.tuple_state.specs.Past.{effects_before};
-ghost use Rattle.update_model.specs.declared.row_name.RowName.{RowName};
 ghost use Rattle.tuple_state.specs.Arrived.{arrived};
 ghost use Rattle.tuple_state.specs.State.{IsStateOf, State, after, done_in};
 
@@ -22,12 +22,13 @@ pub fn applied_is_next()
         → verdict ≡ (judge_next rules (judged rules nodes) node).verdict → IsStateOf rules (node ∷ nodes) (after state node verdict) }
 {}
 
-/// What is visible now was visible before. A row that is visible after the updates of a closed list is visible after the
-/// ancestors of any update, where one of them inserted it: nobody has hidden it by then.
+/// What is visible now was visible before, in a table whose rows are hidden for no lesser one. A row of it that is visible
+/// after the updates of a closed list is visible after the ancestors of any update, where one of them inserted it: nobody has
+/// hidden it by then.
 pub fn visible_rows_were_visible()
-    ensures { (rules : Rules) (nodes : List NodeData) (node : NodeData) → IsClosed nodes → (name : RowName)
-        → is_visible rules (effects_in rules nodes) name ≡ true → is_named (effects_before rules nodes node).inserted name ≡ true
-        → is_visible rules (effects_before rules nodes node) name ≡ true }
+    ensures { (rules : Rules) (nodes : List NodeData) (node : NodeData) → AreTables [] rules.tables → IsClosed nodes → (row : TableRow)
+        → Contains (effects_before rules nodes node).inserted row → is_steady rules.tables row.table ≡ true
+        → is_visible rules (effects_in rules nodes) row.name ≡ true → is_visible rules (effects_before rules nodes node) row.name ≡ true }
 {}
 
 /// Tables that hold what nodes do have their effects and their void lines.

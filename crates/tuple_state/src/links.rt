@@ -172,8 +172,8 @@ impl Links {
     }
 }
 
-/// Leaves no place with a last link.
-fn forget(newest: &mut [Option<usize>])
+/// Leaves nothing at each place.
+pub(crate) fn forget(newest: &mut [Option<usize>])
     ensures { (place : ℕ) → slice_index_or newest.new place None ≡ None }
 {
     for last in newest.iter_mut() {

@@ -4,7 +4,8 @@ ghost use Rattle.std.specs.Prelude.{◌≡◌};
 ghost use Rattle.schema.specs.Columns.{target_of};
 ghost use Rattle.tuple_state.specs.Parents.{any_restricts, held_in, holds_on_to, is_held, restricts_in, some_holding};
 
-use schema::{Action, Column, ColumnKind, ColumnList};
+use crate::shape::Shape;
+use schema::{Action, Column, ColumnKind};
 use update_model::{RowName, Value};
 
 /// The row that a value names by `RESTRICT`, if it does.
@@ -66,10 +67,10 @@ fn some_holding(table: u8, columns: &[Column]) -> bool
 }
 
 /// Whether a column of some table refers to this one by `RESTRICT`.
-pub(crate) fn is_held(columns: &[ColumnList], table: u8) -> bool
-    ensures { result ≡ is_held columns.now table }
+pub(crate) fn is_held(shapes: &[Shape], table: u8) -> bool
+    ensures { result ≡ is_held shapes.now table }
 {
-    columns
+    shapes
         .iter()
-        .any(|list| some_holding(table, list.as_slice()))
+        .any(|shape| some_holding(table, shape.columns.as_slice()))
 }

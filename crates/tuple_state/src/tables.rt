@@ -1,4 +1,4 @@
-ghost use Rattle.std.specs.Prelude.{◌≡◌, ℕ, ◌+◌, ◌*◌, ◌<◌, ◌≤◌, Bool, List, [], ◌∷◌, ◌++◌, IfOk, IfNone, IfSome, OnOk, MatchResult, length, map, nat_lt, option_to_list, slice_get, take, Contains, Some, true, ◌&&◌, ◌||◌};
+ghost use Rattle.std.specs.Prelude.{◌≡◌, ℕ, ◌+◌, ◌*◌, ◌<◌, ◌≤◌, Bool, List, [], ◌∷◌, ◌++◌, IfOk, IfNone, IfSome, OnOk, MatchResult, length, map, nat_lt, option_to_list, slice_get, take, Contains, Some, true, not, ◌&&◌, ◌||◌};
 ghost use Rattle.std.specs.List.{list_all, list_any};
 ghost use Rattle.table_model.specs.declared.verdict.Verdict.TheVariants.{Valid};
 ghost use Rattle.update_model.specs.declared.value.Value.{Value as Cell};
@@ -13,28 +13,31 @@ ghost use Rattle.table_model.specs.Verdicts.{effects_in, in_table};
 ghost use Rattle.table_model.specs.Visible.{Rules, TableRow, cascade_refs, is_deleted, is_visible, refs, rules_with, same_row};
 ghost use Rattle.schema.specs.Columns.{is_restrict};
 ghost use Rattle.table_model.specs.Answers.{AreAnswers};
-ghost use Rattle.tuple_state.specs.Past.{IsNextVerdict, IsPastOf, StandsAt, done_then, effects_before};
+ghost use Rattle.tuple_state.specs.Past.{AreCausesThen, IsNextVerdict, IsPastOf, StandsAt, done_then, effects_before};
 ghost use Rattle.tuple_state.specs.Absence.{causes_of};
 ghost use Rattle.tuple_state.specs.Causes.{parents_from};
 ghost use Rattle.tuple_state.specs.Changes.{AreNextChanges};
-ghost use Rattle.tuple_state.specs.Kept.{are_layered, deletes_at, is_named, pairs_of, place_of};
+ghost use Rattle.tuple_state.specs.Kept.{are_grounded, are_layered, deletes_at, is_named, pairs_of, place_of};
 ghost use Rattle.tuple_state.specs.Parents.{columns_at, is_held, passes_place};
-ghost use Rattle.tuple_state.specs.State.{IsCut, IsStateOf, after, done_in, dropped_at, row_of, rules_of_state, voided_at};
+ghost use Rattle.tuple_state.specs.State.{IsCut, IsHeld, IsStateOf, after, done_in, dropped_at, keep_any, row_of, rules_of_state, voided_at};
 ghost use Rattle.tuple_state.specs.declared.inserted.Inserted.{Inserted as Row};
 
 use crate::causes::{add_causes, clear, count_numbers, count_places, room_for};
 use crate::children::parents_of;
-use crate::columns::{columns_of, copy_lists};
 use crate::cutting::{lines_of, names_before, numbers_before, rows_before, voids_before};
 use crate::deleters::grow_links;
+use crate::groups::Groups;
 use crate::links::{Link, Links};
 use crate::parents::{add_parents, add_places, comes_last, remove_places, take_last};
 use crate::restricts::{is_held, restricts};
+use crate::settling::{own_causes, recount, settle};
+use crate::shape::Shape;
+use crate::shapes::{copy_shapes, keep_any, shapes_of};
 use crate::showing::{copy_rows, listed_rows};
 use crate::steps::{dropped_by, inserted_by};
 use crate::{At, Dropped, Inserted, Voided};
 use row_check::{Cmp, compare};
-use schema::{Column, ColumnList, Schema};
+use schema::{Column, Schema};
 use std::alloc::{AllocError, Global};
 use std::collections::{BTreeMap, BTreeSet};
 use std::marker::Model;
@@ -46,8 +49,8 @@ use update_model::{Ancestors, MAX_MEMBERS, Node, RowName, RowsAt, Value};
 pub struct Tables {
     /// Where memory comes from.
     alloc: Global,
-    /// The columns of each table.
-    columns: Vec<ColumnList>,
+    /// What tells of each table which of its rows are visible.
+    shapes: Vec<Shape>,
     /// How many updates were applied.
     count: u32,
     /// The rows in order of arrival.
@@ -55,8 +58,9 @@ pub struct Tables {
     /// Each row's place among these by its name. An ordered map, since strangers choose the names, and since tables list rows
     /// in rising order of names.
     places: BTreeMap<RowName, usize>,
-    /// Of each row the number of its causes of absence: the updates that delete it, and its `CASCADE` columns that name an
-    /// absent row. A row is visible where it is 0.
+    /// Of each row the number of its causes of absence: the updates that delete it, its `CASCADE` columns that name an absent
+    /// row, and 1 where its table keeps the least row of each value and a lesser candidate has its value. A row is visible
+    /// where it is 0.
     causes: Vec<u32>,
     /// The deleted names in order of arrival.
     dropped: Vec<Dropped>,
@@ -69,6 +73,8 @@ pub struct Tables {
     voids: Vec<Voided>,
     /// Of each row the index among the links of `children` that is behind those which come of it.
     ends: Vec<u32>,
+    /// The groups of rows of one value, in tables that keep the least row of each.
+    groups: Groups,
 }
 
 impl Model for Tables {
@@ -77,10 +83,10 @@ impl Model for Tables {
 
     ghost Value = { State };
 
-    ghost view = { λ t. record { columns = t.columns.items; count = t.count; inserted = t.rows.items; dropped = t.dropped.items; voids = t.voids.items } };
+    ghost view = { λ t. record { shapes = t.shapes.items; count = t.count; inserted = t.rows.items; dropped = t.dropped.items; voids = t.voids.items } };
 
-    ghost invariant = { λ t. IsKept (record { columns = t.columns.items; count = t.count; inserted = t.rows.items; dropped = t.dropped.items; voids = t.voids.items })
-        t.places t.causes.items t.children t.deleters t.ends.items };
+    ghost invariant = { λ t. IsKept (record { shapes = t.shapes.items; count = t.count; inserted = t.rows.items; dropped = t.dropped.items; voids = t.voids.items })
+        t.places t.causes.items t.children t.deleters t.ends.items t.groups.numbers.items t.groups.least.items };
 }
 
 impl Tables {
@@ -90,7 +96,7 @@ impl Tables {
     {
         Ok(Tables {
             alloc,
-            columns: columns_of(alloc, schema)?,
+            shapes: shapes_of(alloc, schema)?,
             count: 0,
             rows: Vec::new(alloc),
             places: BTreeMap::new(alloc),
@@ -100,6 +106,7 @@ impl Tables {
             deleters: Links::new(alloc),
             voids: Vec::new(alloc),
             ends: Vec::new(alloc),
+            groups: Groups::new(alloc),
         })
     }
 
@@ -227,9 +234,9 @@ impl Tables {
 
     /// Whether a column of some table refers to this one by `RESTRICT`.
     pub(crate) fn is_held(&self, table: u8) -> bool
-        ensures { result ≡ is_held self.now.columns table }
+        ensures { result ≡ is_held self.now.shapes table }
     {
-        is_held(self.columns.as_slice(), table)
+        is_held(self.shapes.as_slice(), table)
     }
 
     /// Whether the row at a place names this one by `RESTRICT`.
@@ -239,8 +246,8 @@ impl Tables {
             → result ≡ list_any (λ r. is_restrict r.action && same_row r.name name.now) (refs (rules_of_state self.now) (row_of it)) }
     {
         let entry = &self.rows[place].entry;
-        match self.columns.get(usize::from(entry.table)) {
-            Some(columns) => restricts(columns.as_slice(), entry.values.as_slice(), name),
+        match self.shapes.get(usize::from(entry.table)) {
+            Some(shape) => restricts(shape.columns.as_slice(), entry.values.as_slice(), name),
             None => false,
         }
     }
@@ -291,9 +298,10 @@ impl Tables {
         self.causes.reserve(more)?;
         self.ends.reserve(more)?;
         self.dropped.reserve(dropped.len())?;
-        let columns = self.columns.as_slice();
+        let shapes = self.shapes.as_slice();
+        self.groups.reserve(shapes, more)?;
         let len = self.children.len();
-        let mut parents = parents_of(self.alloc, columns, inserted.as_slice(), first, len)?;
+        let mut parents = parents_of(self.alloc, shapes, inserted.as_slice(), first, len)?;
         let mut pending = room_for(self.alloc, dropped.len(), first + more)?;
         add_places(&mut self.places, self.rows.as_slice(), inserted.as_slice())?;
         match grow_links(
@@ -320,6 +328,14 @@ impl Tables {
         self.dropped.append(dropped).unwrap();
         self.ends.append(&mut parents.ends).unwrap();
         self.count += 1;
+        recount(
+            self.causes.as_mut_slice(),
+            &mut self.groups,
+            self.rows.as_slice(),
+            &self.deleters,
+            &self.children,
+            shapes,
+        );
         Ok(())
     }
 
@@ -344,16 +360,26 @@ impl Tables {
         self.voids.truncate(voids);
         self.causes.truncate(rows);
         self.ends.truncate(rows);
+        self.groups.cut(rows);
         self.count = len;
         let causes = self.causes.as_mut_slice();
         clear(causes);
         count_places(causes, self.deleters.links());
         count_numbers(causes, self.children.links());
+        recount(
+            causes,
+            &mut self.groups,
+            self.rows.as_slice(),
+            &self.deleters,
+            &self.children,
+            self.shapes.as_slice(),
+        );
     }
 
     /// Keeps the line of a void update.
     fn keep_void(&mut self, line: VoidLine) -> Result<(), AllocError>
         requires few { self.old.count < MAX_MEMBERS }
+        requires held { IsHeld (record self.old { count = self.old.count + 1; voids = self.old.voids ++ voided_at self.old.count line ∷ [] }) }
         ensures { MatchResult result (λ _. self.new ≡ record self.old { count = self.old.count + 1; voids = self.old.voids ++ voided_at self.old.count line ∷ [] }) (λ _. self.new ≡ self.old) }
     {
         self.voids.push(Voided {
@@ -362,6 +388,57 @@ impl Tables {
         })?;
         self.count += 1;
         Ok(())
+    }
+
+    /// Whether a table keeps the least row of each value of a column.
+    pub(crate) fn keeps(&self) -> bool
+        ensures { result ≡ keep_any self.now.shapes }
+    {
+        keep_any(self.shapes.as_slice())
+    }
+
+    /// Of each row a number that is 0 where it is visible after the ancestors of the update at a position. It goes over all rows.
+    pub(crate) fn causes_then<A: Ancestors>(
+        &self,
+        alloc: Global,
+        ancestors: &A,
+        position: u32,
+    ) -> Result<Vec<u32>, AllocError>
+        requires layered { are_layered (rules_of_state self.now) (done_then self.now (λ p. A.ancestor ancestors.now p position)).inserted ≡ true }
+        requires grounded { are_grounded (rules_of_state self.now) (done_then self.now (λ p. A.ancestor ancestors.now p position)).inserted ≡ true }
+        requires keeps { keep_any self.now.shapes ≡ true }
+        ensures { IfOk result (λ causes. AreCausesThen (A.ancestor ancestors.now) self.now position causes.items) }
+    {
+        let mut causes = own_causes(alloc, self, ancestors, position)?;
+        let mut least = Vec::new(alloc);
+        least.resize(self.row_len(), None)?;
+        settle(
+            causes.as_mut_slice(),
+            least.as_mut_slice(),
+            self.groups.numbers.as_slice(),
+            self.rows.as_slice(),
+            self.children.links(),
+            self.shapes.as_slice(),
+        );
+        Ok(causes)
+    }
+
+    /// Whether an ancestor of the update at a position inserted the row at a place, and none deletes it.
+    pub(crate) fn is_left<A: Ancestors>(
+        &self,
+        alloc: Global,
+        place: usize,
+        ancestors: &A,
+        position: u32,
+    ) -> Result<bool, AllocError>
+        requires { place < length self.now.inserted }
+        ensures { IfOk result (λ left. (it : Row) → slice_get self.now.inserted place ≡ Some it
+            → left ≡ (A.ancestor ancestors.now it.position position && not (is_deleted (done_then self.now (λ p. A.ancestor ancestors.now p position)) it.name))) }
+    {
+        if !ancestors.is_ancestor(alloc, self.rows[place].position, position)? {
+            return Ok(false);
+        }
+        Ok(!self.is_deleted_at(alloc, place, ancestors, position)?)
     }
 
     /// How many updates were applied.
@@ -386,7 +463,8 @@ impl Tables {
     }
 
     /// The number of causes for which a row is absent that a valid update inserted: of the valid updates that delete it, and
-    /// of its `CASCADE` columns that name a row which is not visible. It takes no memory, and logarithmic time.
+    /// of its `CASCADE` columns that name a row which is not visible, and 1 where its table keeps the least row of each
+    /// value and a lesser candidate has its value. It takes no memory, and logarithmic time.
     pub fn causes(&self, row: &RowName) -> &u32
         requires { is_named (done_in self.now).inserted row.now ≡ true }
         ensures { (rules : Rules) (nodes : List NodeData) → IsStateOf rules nodes self.now → (it : TableRow) → Contains (effects_in rules nodes).inserted it → it.name ≡ row.now → result.now ≡ causes_of rules nodes it }
@@ -409,10 +487,10 @@ impl Tables {
 
     /// The columns of the table with this number. A table that is not there has none.
     pub(crate) fn columns(&self, table: u8) -> &[Column]
-        ensures { result.now ≡ columns_at self.now.columns table }
+        ensures { result.now ≡ columns_at self.now.shapes table }
     {
-        match self.columns.get(usize::from(table)) {
-            Some(columns) => columns.as_slice(),
+        match self.shapes.get(usize::from(table)) {
+            Some(shape) => shape.columns.as_slice(),
             None => &[],
         }
     }
@@ -437,13 +515,13 @@ impl Tables {
     pub fn copy(&self, alloc: Global) -> Result<Tables, AllocError>
         ensures { IfOk result (λ tables. tables ≡ self.now) }
     {
-        let columns = copy_lists(alloc, self.columns.as_slice())?;
+        let shapes = copy_shapes(alloc, self.shapes.as_slice())?;
         let rows = copy_rows(alloc, self.rows.as_slice())?;
         let mut places = BTreeMap::new(alloc);
         add_places(&mut places, &[], rows.as_slice())?;
         Ok(Tables {
             alloc,
-            columns,
+            shapes,
             count: self.count,
             rows,
             places,
@@ -453,6 +531,7 @@ impl Tables {
             deleters: self.deleters.copy(alloc)?,
             voids: Vec::from_slice(alloc, self.voids.as_slice())?,
             ends: Vec::from_slice(alloc, self.ends.as_slice())?,
+            groups: self.groups.copy(alloc)?,
         })
     }
 

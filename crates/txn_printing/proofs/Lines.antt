@@ -129,7 +129,7 @@ namely_ascii (b ∷ bs) all (suc i) = namely_ascii bs all.1 i
 
 -- ---- the operation of a line
 
-room : (before : ℕ) → before < 64 → nat_lt before 64 ≡ true
+room : (before : ℕ) → before < 256 → nat_lt before 256 ≡ true
 room before few = grind (arith, nat_tests, few)
 
 insert_words : Laws → (tables : List TableDef) (number : ℕ) (table : TableDef) (vs : List Value) (ws : List Word) → slice_get tables number ≡ Some table → IsNamed tables number table
@@ -178,11 +178,11 @@ insert_whole tables number table vs there named same verb e =
     rw (name_utf8 table.name named.spelled, named.first, there, test) refl in
     sym through ∙ here
 
-insert_verb : (tables : List TableDef) (before : ℕ) (name start after rest : List ℕ) (verb : Verbs) → before < 64 → insert_into tables (word.Plain name) ≡ Some verb
+insert_verb : (tables : List TableDef) (before : ℕ) (name start after rest : List ℕ) (verb : Verbs) → before < 256 → insert_into tables (word.Plain name) ≡ Some verb
     → first_word Spaced start ≡ Some (word.Plain (codes "INSERT"), after) → first_word Spaced (skip_blanks after) ≡ Some (word.Plain name, rest) → verb_at tables before start ≡ Ok (verb, rest)
 insert_verb tables before name start after rest verb few e first second = rw (first, room before few, second, e) refl
 
-insert_is : Laws → (tables : List TableDef) (before number : ℕ) (table : TableDef) (vs : List Value) → before < 64 → AllByRecursion (IsValue before) vs → slice_get tables number ≡ Some table
+insert_is : Laws → (tables : List TableDef) (before number : ℕ) (table : TableDef) (vs : List Value) → before < 256 → AllByRecursion (IsValue before) vs → slice_get tables number ≡ Some table
     → IsNamed tables number table → length vs ≡ length table.columns → (found : Option Verbs) → insert_into tables (word.Plain table.name) ≡ found
     → LineIs tables before (operation_text tables Full (op.Insert number vs)) (op.Insert number vs)
 insert_is laws tables before number table vs few is there named columns None e = absurd (let no = rw (name_utf8 table.name named.spelled, named.first) at e in cc)
@@ -216,11 +216,11 @@ ok_read (Err b) is = absurd is
 abbrev a_delete : Verbs
 a_delete = (ok_read (verb_by [] 0 [] (beside (keyword_in (word.Plain (codes "DELETE"))) [])) tt).0
 
-delete_verb : (tables : List TableDef) (before : ℕ) (start after : List ℕ) → before < 64 → first_word Spaced start ≡ Some (word.Plain (codes "DELETE"), after)
+delete_verb : (tables : List TableDef) (before : ℕ) (start after : List ℕ) → before < 256 → first_word Spaced start ≡ Some (word.Plain (codes "DELETE"), after)
     → verb_at tables before start ≡ Ok (a_delete, after)
 delete_verb tables before start after few first = rw (first, room before few) refl
 
-delete_is : Laws → (tables : List TableDef) (before : ℕ) (row : RowName) → before < 64 → IsRowName row → LineIs tables before (operation_text tables Full (op.Delete row)) (op.Delete row)
+delete_is : Laws → (tables : List TableDef) (before : ℕ) (row : RowName) → before < 256 → IsRowName row → LineIs tables before (operation_text tables Full (op.Delete row)) (op.Delete row)
 delete_is laws tables before row few is =
     let line = operation_text tables Full (op.Delete row) in
     let words = delete_words laws tables row is in
@@ -237,7 +237,7 @@ delete_is laws tables before row few is =
       },
     )
 
-op_is : Laws → (tables : List TableDef) → AreNamed tables → (before : ℕ) → before < 64 → (o : Op) → IsOp before o → HasTable tables o → LineIs tables before (operation_text tables Full o) o
+op_is : Laws → (tables : List TableDef) → AreNamed tables → (before : ℕ) → before < 256 → (o : Op) → IsOp before o → HasTable tables o → LineIs tables before (operation_text tables Full o) o
 op_is laws tables named before few (op.Insert number vs) is (table, there, columns) =
     insert_is laws tables before number table vs few is.3 there (named number table there) columns (insert_into tables (word.Plain table.name)) refl
 op_is laws tables named before few (op.Delete row) is has = delete_is laws tables before row few is
@@ -306,7 +306,7 @@ first_line tables o ops all =
     let line = operation_text tables Full o in
     ap lines_of (append_assoc line (10 ∷ []) (transaction_text tables ops)) ∙ before_lf line (transaction_text tables ops) (no_lf line all) (no_cr line all)
 
-lines_are : Laws → (tables : List TableDef) → AreNamed tables → (before : ℕ) (ops : List Op) → before + length ops ≤ 64 → AreOps before ops → AllByRecursion (HasTable tables) ops
+lines_are : Laws → (tables : List TableDef) → AreNamed tables → (before : ℕ) (ops : List Op) → before + length ops ≤ 256 → AreOps before ops → AllByRecursion (HasTable tables) ops
     → LinesAre tables before (lines_of (transaction_text tables ops)) ops
 unfolding lines_of
 lines_are laws tables named before [] few form there = refl

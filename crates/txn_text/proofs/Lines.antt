@@ -1,10 +1,11 @@
 -- One line more, and what a text then is.
 use Rattle.std.proofs.Common.{◌≡◌, ℕ, ◌+◌, ◌<◌, ◌≤◌, suc, Bool, true, false, List, [], ◌∷◌, ◌++◌, length, refl, sym, ap, subst, ◌∙◌, arith, inl, inr, Option, Some, None, Ok, Err, append_assoc, length-append}
-use Rattle.std.specs.Prelude.{IsUtf8, nat_lt}
+use Rattle.std.specs.Prelude.{IsUtf8, nat_lt, if◌then◌else◌}
 use Rattle.std.specs.Str.{IsValidUpTo}
 use Rattle.std.proofs.lemmas.List.{append-nil}
 use Rattle.std.proofs.lemmas.Bool.{ltb-true}
 use Rattle.std.proofs.lemmas.Str.{utf8_valid_len-IsUtf8, utf8_valid_len-IsValidUpTo}
+use Rattle.update_model.specs.declared.limits.TheConstants.{MAX_OPS}
 use Rattle.update_model.specs.declared.op.Op.{Op}
 use Rattle.update_model.specs.Rows.{IsOp, AreOps}
 use Rattle.text_words.specs.Lines.{lines_of, Begins}
@@ -14,10 +15,11 @@ use Rattle.schema.specs.Data.{SchemaData}
 use Rattle.txn_text.specs.declared.fault.TextError.{TextError}
 use Rattle.txn_text.specs.declared.fault.TextError.TheVariants as error
 use Rattle.txn_text.specs.declared.fault.TextKind.{TextKind}
+use Rattle.txn_text.specs.declared.fault.TextKind.TheVariants.{TooManyOperations}
 use Rattle.txn_text.specs.declared.keyword.Keyword.{Keyword}
 use Rattle.txn_text.specs.declared.stop.Wrong.{Wrong}
 use Rattle.txn_text.specs.declared.verb.Verb.{Verb}
-use Rattle.txn_text.specs.Operations.{keyword_at, verb_by}
+use Rattle.txn_text.specs.Operations.{keyword_at, verb_after, verb_by, wrong_at}
 use Rattle.txn_text.specs.Outcome.{HasCause, HasLineCause, HasFaultIn, Answers, MayStand, IsTaken}
 use Rattle.txn_text.specs.Transactions.{IsCutShort, ends_before, LineIs, LinesAre, FaultIn, Reads, FirstFault}
 
@@ -45,16 +47,15 @@ begins_length text line rest h =
     let l = length-append line (h.end ++ rest) in
     omega arith
 
-room_by : (tables : List TableDef) (before : ℕ) (start : List ℕ) (read : Option (Keyword × List ℕ)) (found : Verb × List ℕ) → verb_by tables before start read ≡ Ok found → before < 64
+room_by : (tables : List TableDef) (before : ℕ) (start : List ℕ) (read : Option (Keyword × List ℕ)) (found : Verb × List ℕ) → verb_by tables before start read ≡ Ok found → before < 256
 room_by tables before start None found e = absurd (cc)
-room_by tables before start (Some read) found e =
-    let step : (b : Bool) → nat_lt before 64 ≡ b → before < 64 = elim [
-      | true ↦ λ t. ltb-true before 64 t
-      | false ↦ λ t. absurd (let x = verb_by tables before start (Some read) in cc)
-    ] in
-    step (nat_lt before 64) refl
+room_by tables before start (Some read) found e = by (nat_lt before MAX_OPS) refl e
+  where
+    by : (b : Bool) → nat_lt before MAX_OPS ≡ b → (if b then verb_after tables read.0 read.1 else Err (wrong_at TooManyOperations start)) ≡ Ok found → before < 256
+    by true t is = ltb-true before MAX_OPS t
+    by false t is = absurd (cc (is))
 
-pub room : (tables : List TableDef) (before : ℕ) (line : List ℕ) (op : Op) → LineIs tables before line op → before < 64
+pub room : (tables : List TableDef) (before : ℕ) (line : List ℕ) (op : Op) → LineIs tables before line op → before < 256
 room tables before line op h = room_by tables before (skip_blanks line) (keyword_at (skip_blanks line)) (h.1.verb, h.1.rest) h.1.first
 
 ops_more : (number : ℕ) (ops : List Op) (op : Op) → AreOps number ops → IsOp (number + length ops) op → AreOps number (ops ++ op ∷ [])
@@ -62,7 +63,7 @@ ops_more number [] op h k = (subst (λ n. IsOp n op) (let e : number + 0 ≡ num
 ops_more number (o ∷ os) op h k =
     (h.0, ops_more (number + 1) os op h.1 (subst (λ n. IsOp n op) (let e : number + suc (length os) ≡ number + 1 + length os = omega arith in e) k))
 
-pub stand_more : (ops : List Op) (op : Op) → MayStand ops → length ops < 64 → IsOp (length ops) op → MayStand (ops ++ op ∷ [])
+pub stand_more : (ops : List Op) (op : Op) → MayStand ops → length ops < 256 → IsOp (length ops) op → MayStand (ops ++ op ∷ [])
 stand_more ops op h few k = record {
   few = let l = length-append ops (op ∷ []) in omega arith;
   form = ops_more 0 ops op h.form (subst (λ n. IsOp n op) (let e : length ops ≡ 0 + length ops = omega arith in e) k);

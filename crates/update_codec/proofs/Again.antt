@@ -1,5 +1,5 @@
 -- Reading gives back what was spelled, and leaves what stands behind it.
-use Rattle.std.proofs.Common.{◌≡◌, ℕ, ◌+◌, ◌^◌, ◌<◌, ◌≤◌, true, List, [], ◌∷◌, ◌++◌, length, refl, sym, ap, subst, ◌∙◌, arith, append_assoc, leb, eqb}
+use Rattle.std.proofs.Common.{◌≡◌, ℕ, ◌+◌, ◌^◌, ◌<◌, ◌≤◌, true, List, [], ◌∷◌, ◌++◌, length, refl, sym, ap, subst, ◌∙◌, arith, append_assoc, leb, eqb, ◌||◌}
 use Rattle.std.proofs.lemmas.List.{append-nil}
 use Rattle.std.proofs.lemmas.Bool.{le-leb, eq-eqb}
 use Rattle.std.proofs.lemmas.Bool.Decides.{nat_tests}
@@ -9,14 +9,15 @@ use Rattle.std.specs.List.{flat_map, AllByRecursion}
 use Rattle.update_model.specs.declared.update_id.UpdateId.{UpdateId}
 use Rattle.update_model.specs.declared.author_key.AuthorKey.{AuthorKey}
 use Rattle.update_model.specs.Block.{IsId}
-use Rattle.update_model.specs.Form.{BodyData, UpdateData, IsBody, IsUpdate, AreRising, signature_length}
+use Rattle.update_model.specs.Form.{BodyData, UpdateData, IsBody, IsNote, IsUpdate, AreRising, most_ops, signature_length}
 use Rattle.update_codec.specs.declared.codec_fault.CodecKind.TheVariants as kinds
-use Rattle.update_codec.specs.Reading.{Read, ◌>>=◌, judge, block_at, number_at, id_at, ids_at, is_next, author_at, ops_at, before_ops_at, body_at, update_at, whole}
+use Rattle.update_codec.specs.Reading.{Read, ◌>>=◌, judge, block_at, number_at, id_at, ids_at, is_next, author_at, text_at, ops_at, before_ops_at, note_at, body_at, update_at, whole}
 use Rattle.update_codec.specs.Spelling as spell
 use Rattle.update_codec.specs.Spelling.{Spells}
 use Rattle.update_codec.proofs.Steps.{then_is, judge_is, ok_is}
 use Rattle.update_codec.proofs.AgainFields.{block_again, u16_again, u32_again, id_again, author_again}
-use Rattle.update_codec.proofs.AgainRows.{ops_again}
+use Rattle.update_codec.proofs.AgainRows.{text_again, ops_again}
+use Rattle.update_codec.proofs.Versions.{unread, version_known, unread_few, few_of}
 
 -- the first of ids that rise, and the others
 pub next_rises : (last : Option UpdateId) (id : UpdateId) (ids : List UpdateId) → AreRising last (id ∷ ids) → (is_next last id ≡ true) × AreRising (Some id) ids
@@ -35,24 +36,24 @@ ids_again (id ∷ ids) last rest are rise =
 
 -- how the fields up to the predecessors stand before what follows
 pub before_ops_flat : (body : BodyData) (rest : List ℕ) → spell.before_ops body ++ rest
-    ≡ 1 ∷ (body.database ++ (to_be_bytes w32 body.author.lms ++ (to_be_bytes w32 body.author.ots ++ (body.author.ident ++ (body.author.root
+    ≡ spell.version body.note ∷ (body.database ++ (to_be_bytes w32 body.author.lms ++ (to_be_bytes w32 body.author.ots ++ (body.author.ident ++ (body.author.root
     ++ (to_be_bytes w16 (length body.preds) ++ (flat_map spell.id body.preds ++ rest)))))))
-before_ops_flat body rest = flat body.database (to_be_bytes w32 body.author.lms) (to_be_bytes w32 body.author.ots) body.author.ident body.author.root (to_be_bytes w16 (length body.preds)) (flat_map spell.id body.preds) rest
+before_ops_flat body rest = flat (spell.version body.note) body.database (to_be_bytes w32 body.author.lms) (to_be_bytes w32 body.author.ots) body.author.ident body.author.root (to_be_bytes w16 (length body.preds)) (flat_map spell.id body.preds) rest
   where
-    flat : (d l o i t p q rest : List ℕ) → ((1 ∷ (d ++ (l ++ (o ++ (i ++ t))))) ++ (p ++ q)) ++ rest ≡ 1 ∷ (d ++ (l ++ (o ++ (i ++ (t ++ (p ++ (q ++ rest)))))))
-    flat d l o i t p q rest = simp append_assoc
+    flat : (v : ℕ) (d l o i t p q rest : List ℕ) → ((v ∷ (d ++ (l ++ (o ++ (i ++ t))))) ++ (p ++ q)) ++ rest ≡ v ∷ (d ++ (l ++ (o ++ (i ++ (t ++ (p ++ (q ++ rest)))))))
+    flat v d l o i t p q rest = simp append_assoc
 
 -- what is read behind the author: the predecessors
-abbrev pub after_header : List ℕ → AuthorKey → List ℕ → Read BodyData
-after_header database key bytes =
+abbrev pub after_header : Option (List ℕ) → List ℕ → AuthorKey → List ℕ → Read BodyData
+after_header noted database key bytes =
     number_at w16 bytes >>= λ n.
     judge (leb n.0 1024) kinds.Count bytes >>= λ few.
     ids_at n.0 None n.1 >>= λ preds.
-    Ok (record { database = database; author = key; preds = preds.0; ops = [] }, preds.1)
+    Ok (record { database = database; author = key; preds = preds.0; ops = []; note = noted }, preds.1)
 
 -- a body up to its operations
 abbrev pub without_ops : BodyData → BodyData
-without_ops body = record { database = body.database; author = body.author; preds = body.preds; ops = [] }
+without_ops body = record { database = body.database; author = body.author; preds = body.preds; ops = []; note = unread body.note }
 
 pub before_ops_again : (body : BodyData) (rest : List ℕ) → IsBody body → before_ops_at (spell.before_ops body ++ rest) ≡ Ok (without_ops body, rest)
 unfolding before_ops_at
@@ -61,39 +62,55 @@ before_ops_again body rest is = subst (λ (bytes : List ℕ). before_ops_at byte
     below : (n : ℕ) → n ≤ 1024 → n < 2 ^ 16
     below n h = omega arith
 
-    flat : (body : BodyData) (rest : List ℕ) → IsBody body → before_ops_at (1 ∷ (body.database ++ (to_be_bytes w32 body.author.lms ++ (to_be_bytes w32 body.author.ots ++ (body.author.ident ++ (body.author.root
+    flat : (body : BodyData) (rest : List ℕ) → IsBody body → before_ops_at (spell.version body.note ∷ (body.database ++ (to_be_bytes w32 body.author.lms ++ (to_be_bytes w32 body.author.ots ++ (body.author.ident ++ (body.author.root
         ++ (to_be_bytes w16 (length body.preds) ++ (flat_map spell.id body.preds ++ rest)))))))) ≡ Ok (without_ops body, rest)
     flat body rest is =
         let ids : List ℕ = flat_map spell.id body.preds ++ rest in
         let count : List ℕ = to_be_bytes w16 (length body.preds) ++ ids in
         let key : List ℕ = to_be_bytes w32 body.author.lms ++ (to_be_bytes w32 body.author.ots ++ (body.author.ident ++ (body.author.root ++ count))) in
-        then_is (block_at 32 (body.database ++ key)) _ (body.database, key) _ (block_again 32 body.database key is.database.len)
+        let version : ℕ = spell.version body.note in
+        judge_is (eqb version 1 || eqb version 2) kinds.Version (version ∷ (body.database ++ key)) _ _ (version_known body.note)
+        (then_is (block_at 32 (body.database ++ key)) _ (body.database, key) _ (block_again 32 body.database key is.database.len)
         (then_is (author_at key) _ (body.author, count) _ (author_again body.author count is.author)
         (then_is (number_at w16 count) _ (length body.preds, ids) _ (u16_again (length body.preds) ids (below (length body.preds) is.few_preds))
         (judge_is (leb (length body.preds) 1024) kinds.Count count _ _ (le-leb _ _ is.few_preds)
-        (then_is (ids_at (length body.preds) None ids) _ (body.preds, rest) _ (ids_again body.preds None rest is.ids is.rising) refl))))
+        (then_is (ids_at (length body.preds) None ids) _ (body.preds, rest) _ (ids_again body.preds None rest is.ids is.rising) refl)))))
 
-pub body_again : (body : BodyData) (rest : List ℕ) → IsBody body → body_at (spell.message body ++ rest) ≡ Ok (body, rest)
-unfolding body_at
-body_again body rest is = subst (λ (bytes : List ℕ). body_at bytes ≡ Ok (body, rest)) (sym (flat (spell.before_ops body) (to_be_bytes w16 (length body.ops)) (flat_map spell.op body.ops) rest)) (read body rest is)
+pub note_again : (noted : Option (List ℕ)) (rest : List ℕ) → IsNote noted → note_at (unread noted) (spell.note noted ++ rest) ≡ Ok (noted, rest)
+unfolding note_at
+note_again None rest is = refl
+note_again (Some text) rest is = then_is (text_at 256 (spell.text text ++ rest)) _ (text, rest) _ (text_again 256 text rest (omega arith) is.0 is.1) refl
+
+-- how the fields of a message stand before what follows
+pub message_flat : (body : BodyData) (rest : List ℕ) → spell.message body ++ rest
+    ≡ spell.before_ops body ++ (to_be_bytes w16 (length body.ops) ++ (flat_map spell.op body.ops ++ (spell.note body.note ++ rest)))
+message_flat body rest = flat (spell.before_ops body) (to_be_bytes w16 (length body.ops)) (flat_map spell.op body.ops) (spell.note body.note) rest
   where
-    flat : (b n o rest : List ℕ) → (b ++ (n ++ o)) ++ rest ≡ b ++ (n ++ (o ++ rest))
-    flat b n o rest = simp append_assoc
+    flat : (b n o t rest : List ℕ) → ((b ++ (n ++ o)) ++ t) ++ rest ≡ b ++ (n ++ (o ++ (t ++ rest)))
+    flat b n o t rest = simp append_assoc
 
-    below : (n : ℕ) → n ≤ 64 → n < 2 ^ 16
+-- what is read behind the predecessors, where the operations are known
+pub behind_preds : (body : BodyData) (bytes : List ℕ) → IsBody body → body_at (spell.before_ops body ++ (to_be_bytes w16 (length body.ops) ++ (flat_map spell.op body.ops ++ bytes)))
+    ≡ (note_at (unread body.note) bytes >>= λ noted. Ok (record { database = body.database; author = body.author; preds = body.preds; ops = body.ops; note = noted.0 }, noted.1))
+unfolding body_at
+behind_preds body bytes is =
+    let ops : List ℕ = flat_map spell.op body.ops ++ bytes in
+    let count : List ℕ = to_be_bytes w16 (length body.ops) ++ ops in
+    let few : length body.ops ≤ 256 = few_of body.note (length body.ops) is.few_ops in
+    then_is (before_ops_at (spell.before_ops body ++ count)) _ (without_ops body, count) _ (before_ops_again body count is)
+    (then_is (number_at w16 count) _ (length body.ops, ops) _ (u16_again (length body.ops) ops (below _ few))
+    (judge_is (leb (length body.ops) (most_ops (unread body.note))) kinds.Count count _ _ (le-leb _ _ (unread_few body.note (length body.ops) is.few_ops))
+    (then_is (ops_at (length body.ops) 0 ops) _ (body.ops, bytes) _ (ops_again 0 body.ops bytes (none_more (length body.ops) few) is.ops) refl)))
+  where
+    below : (n : ℕ) → n ≤ 256 → n < 2 ^ 16
     below n h = omega arith
 
-    read : (body : BodyData) (rest : List ℕ) → IsBody body → body_at (spell.before_ops body ++ (to_be_bytes w16 (length body.ops) ++ (flat_map spell.op body.ops ++ rest))) ≡ Ok (body, rest)
-    read body rest is =
-        let ops : List ℕ = flat_map spell.op body.ops ++ rest in
-        let count : List ℕ = to_be_bytes w16 (length body.ops) ++ ops in
-        then_is (before_ops_at (spell.before_ops body ++ count)) _ (without_ops body, count) _ (before_ops_again body count is)
-        (then_is (number_at w16 count) _ (length body.ops, ops) _ (u16_again (length body.ops) ops (below _ is.few_ops))
-        (judge_is (leb (length body.ops) 64) kinds.Count count _ _ (le-leb _ _ is.few_ops)
-        (then_is (ops_at (length body.ops) 0 ops) _ (body.ops, rest) _ (ops_again 0 body.ops rest (few 0 (length body.ops) refl is.few_ops) is.ops) refl)))
-      where
-        few : (n m : ℕ) → n ≡ 0 → m ≤ 64 → n + m ≤ 256
-        few n m e h = omega arith
+    none_more : (n : ℕ) → n ≤ 256 → 0 + n ≤ 256
+    none_more n h = omega arith
+
+pub body_again : (body : BodyData) (rest : List ℕ) → IsBody body → body_at (spell.message body ++ rest) ≡ Ok (body, rest)
+body_again body rest is = subst (λ (bytes : List ℕ). body_at bytes ≡ Ok (body, rest)) (sym (message_flat body rest))
+    (behind_preds body (spell.note body.note ++ rest) is ∙ then_is (note_at (unread body.note) (spell.note body.note ++ rest)) _ (body.note, rest) _ (note_again body.note rest is.note) refl)
 
 -- no signature is longer
 pub signature_length_le : (key : AuthorKey) → signature_length key ≤ 9004

@@ -25,16 +25,17 @@ int_again n rest fits =
     then_is (number_at w64 (to_be_bytes w64 (cast_unsigned w64 n) ++ rest)) _ (cast_unsigned w64 n, rest) _ (u64_again (cast_unsigned w64 n) rest ((Fits-of_z fits).fits))
     (ap (λ (k : ℤ). Ok (values.Int k, rest)) (to_z-of_z w64 n fits))
 
-text_again : (bytes rest : List ℕ) → length bytes ≤ 1024 → IsUtf8 bytes → text_at (to_be_bytes w16 (length bytes) ++ (bytes ++ rest)) ≡ Ok (values.Text bytes, rest)
+pub text_again : (most : ℕ) (bytes rest : List ℕ) → most ≤ 1024 → length bytes ≤ most → IsUtf8 bytes → text_at most (spell.text bytes ++ rest) ≡ Ok (bytes, rest)
 unfolding text_at
-text_again bytes rest few utf8 =
-    then_is (number_at w16 (to_be_bytes w16 (length bytes) ++ (bytes ++ rest))) _ (length bytes, bytes ++ rest) _ (u16_again (length bytes) (bytes ++ rest) (below (length bytes) few))
-    (judge_is (leb (length bytes) 1024) kinds.Text (to_be_bytes w16 (length bytes) ++ (bytes ++ rest)) _ _ (le-leb _ _ few)
+text_again most bytes rest small few utf8 =
+    subst (λ (b : List ℕ). text_at most b ≡ Ok (bytes, rest)) (sym (append_assoc (to_be_bytes w16 (length bytes)) bytes rest))
+    (then_is (number_at w16 (to_be_bytes w16 (length bytes) ++ (bytes ++ rest))) _ (length bytes, bytes ++ rest) _ (u16_again (length bytes) (bytes ++ rest) (below (length bytes) few small))
+    (judge_is (leb (length bytes) most) kinds.Text (to_be_bytes w16 (length bytes) ++ (bytes ++ rest)) _ _ (le-leb _ _ few)
     (then_is (block_at (length bytes) (bytes ++ rest)) _ (bytes, rest) _ (block_again (length bytes) bytes rest refl)
-    (judge_is (is_utf8 bytes) kinds.Text (bytes ++ rest) _ _ (is_utf8-from_IsUtf8 bytes utf8) refl)))
+    (judge_is (is_utf8 bytes) kinds.Text (bytes ++ rest) _ _ (is_utf8-from_IsUtf8 bytes utf8) refl))))
   where
-    below : (n : ℕ) → n ≤ 1024 → n < 2 ^ 16
-    below n h = omega arith
+    below : (n : ℕ) → n ≤ most → most ≤ 1024 → n < 2 ^ 16
+    below n h g = omega arith
 
 own_again : (number index : ℕ) (rest : List ℕ) → number ≤ 256 → index < number → own_at number (to_be_bytes w16 index ++ rest) ≡ Ok (values.Own index, rest)
 unfolding own_at
@@ -49,9 +50,7 @@ pub value_again : (number : ℕ) (value : Value) (rest : List ℕ) → number �
 unfolding value_at flag_at
 value_again number values.Null rest few is = refl
 value_again number (values.Int n) rest few is = int_again n rest is
-value_again number (values.Text bytes) rest few is =
-    let flat : to_be_bytes w16 (length bytes) ++ (bytes ++ rest) ≡ (to_be_bytes w16 (length bytes) ++ bytes) ++ rest = sym (append_assoc (to_be_bytes w16 (length bytes)) bytes rest) in
-    subst (λ (b : List ℕ). text_at b ≡ Ok (values.Text bytes, rest)) flat (text_again bytes rest is.0 is.1)
+value_again number (values.Text bytes) rest few is = then_is (text_at 1024 (spell.text bytes ++ rest)) _ (bytes, rest) _ (text_again 1024 bytes rest (omega arith) is.0 is.1) refl
 value_again number (values.Flag false) rest few is = refl
 value_again number (values.Flag true) rest few is = refl
 value_again number (values.Row row) rest few is = then_is (row_at (spell.row row ++ rest)) _ (row, rest) _ (row_again row rest is) refl

@@ -1,4 +1,5 @@
 pub mod Again
+mod Versions
 mod AgainFields
 mod AgainRows
 pub mod Loops
@@ -14,3 +15,4 @@ mod ToldFields
 pub mod Told
 pub mod Places
 pub mod Causes
+pub mod FirstVersions

@@ -11,14 +11,15 @@ use Rattle.update_model.specs.declared.op.Op.{Op}
 use Rattle.update_model.specs.Block.{IsId}
 use Rattle.update_model.specs.Form.{BodyData, UpdateData, IsBody, signature_length}
 use Rattle.update_model.specs.Rows.{AreOps}
-use Rattle.update_codec.specs.Parts.{database_of, author_of, first_ids, pred_count, preds_of, ops_read, first_ops, ops_of, signature_of, body_of, update_of, id_of}
-use Rattle.update_codec.specs.Reading.{Read, ops_at}
+use Rattle.update_codec.specs.Parts.{database_of, author_of, first_ids, pred_count, preds_of, ops_read, first_ops, ops_of, note_read, note_of, signature_of, body_of, update_of, id_of}
+use Rattle.update_codec.specs.Reading.{Read, ops_at, body_at}
 use Rattle.update_codec.specs.Spelling as spell
 use Rattle.update_codec.specs.Spelling.{Spells}
 use Rattle.update_codec.specs.Kept.{IsKept}
-use Rattle.update_codec.proofs.Again.{before_ops_flat}
+use Rattle.update_codec.proofs.Again.{before_ops_flat, body_again}
 use Rattle.update_codec.proofs.AgainRows.{ops_again}
 use Rattle.update_codec.proofs.Stops.{ids_length}
+use Rattle.update_codec.proofs.Versions.{few_of}
 
 -- a block at the front
 front_of : (n : ℕ) (block rest : List ℕ) → length block ≡ n → take n (block ++ rest) ≡ block
@@ -41,9 +42,9 @@ record Stands (bytes d l o i t p rest : List ℕ) : Type 0 where
   count : take 2 (drop 89 bytes) ≡ p
   preds : drop 91 bytes ≡ rest
 
-stands : (d l o i t p rest : List ℕ) → length d ≡ 32 → length l ≡ 4 → length o ≡ 4 → length i ≡ 16 → length t ≡ 32 → length p ≡ 2
-    → Stands (1 ∷ (d ++ (l ++ (o ++ (i ++ (t ++ (p ++ rest))))))) d l o i t p rest
-stands d l o i t p rest hd hl ho hi ht hp =
+stands : (v : ℕ) (d l o i t p rest : List ℕ) → length d ≡ 32 → length l ≡ 4 → length o ≡ 4 → length i ≡ 16 → length t ≡ 32 → length p ≡ 2
+    → Stands (v ∷ (d ++ (l ++ (o ++ (i ++ (t ++ (p ++ rest))))))) d l o i t p rest
+stands v d l o i t p rest hd hl ho hi ht hp =
     let p0 : List ℕ = p ++ rest in
     let t0 : List ℕ = t ++ p0 in
     let i0 : List ℕ = i ++ t0 in
@@ -61,12 +62,12 @@ stands d l o i t p rest hd hl ho hi ht hp =
 
 -- a spelling with what stands behind the predecessors
 abbrev laid : BodyData → List ℕ → List ℕ
-laid body rest = 1 ∷ (body.database ++ (to_be_bytes w32 body.author.lms ++ (to_be_bytes w32 body.author.ots ++ (body.author.ident ++ (body.author.root
+laid body rest = spell.version body.note ∷ (body.database ++ (to_be_bytes w32 body.author.lms ++ (to_be_bytes w32 body.author.ots ++ (body.author.ident ++ (body.author.root
     ++ (to_be_bytes w16 (length body.preds) ++ (flat_map spell.id body.preds ++ rest)))))))
 
 laid_stands : (body : BodyData) (rest : List ℕ) → IsBody body
     → Stands (laid body rest) body.database (to_be_bytes w32 body.author.lms) (to_be_bytes w32 body.author.ots) body.author.ident body.author.root (to_be_bytes w16 (length body.preds)) (flat_map spell.id body.preds ++ rest)
-laid_stands body rest is = stands body.database (to_be_bytes w32 body.author.lms) (to_be_bytes w32 body.author.ots) body.author.ident body.author.root (to_be_bytes w16 (length body.preds)) (flat_map spell.id body.preds ++ rest) is.database.len refl refl is.author.ident.len is.author.root.len refl
+laid_stands body rest is = stands (spell.version body.note) body.database (to_be_bytes w32 body.author.lms) (to_be_bytes w32 body.author.ots) body.author.ident body.author.root (to_be_bytes w16 (length body.preds)) (flat_map spell.id body.preds ++ rest) is.database.len refl refl is.author.ident.len is.author.root.len refl
 
 database_laid : (body : BodyData) (rest : List ℕ) → IsBody body → database_of (laid body rest) ≡ body.database
 unfolding database_of
@@ -119,16 +120,16 @@ preds_laid body rest is =
 abbrev counted_ops : List Op → List ℕ
 counted_ops ops = to_be_bytes w16 (length ops) ++ flat_map spell.op ops
 
-first_ops_again : (ops : List Op) (rest : List ℕ) → length ops ≤ 64 → AreOps 0 ops → first_ops (counted_ops ops ++ rest) ≡ ops
+first_ops_again : (ops : List Op) (rest : List ℕ) → length ops ≤ 256 → AreOps 0 ops → first_ops (counted_ops ops ++ rest) ≡ ops
 unfolding first_ops
 first_ops_again ops rest few are =
     ap (λ (n : ℕ). ops_read (ops_at n 0 (flat_map spell.op ops ++ rest))) (from_be_bytes-to_be_bytes_2 (length ops) (below (length ops) few))
     ∙ ap (λ (read : Read (List Op)). ops_read read) (ops_again 0 ops rest (small (length ops) few) are)
   where
-    below : (n : ℕ) → n ≤ 64 → n < 2 ^ 16
+    below : (n : ℕ) → n ≤ 256 → n < 2 ^ 16
     below n h = omega arith
 
-    small : (n : ℕ) → n ≤ 64 → 0 + n ≤ 256
+    small : (n : ℕ) → n ≤ 256 → 0 + n ≤ 256
     small n h = omega arith
 
 ops_laid : (body : BodyData) (rest : List ℕ) → IsBody body → ops_of (laid body (counted_ops body.ops ++ rest)) ≡ body.ops
@@ -137,21 +138,24 @@ ops_laid body rest is =
     let tail : List ℕ = counted_ops body.ops ++ rest in
     let at = laid_stands body tail is in
     let skipped : drop (32 * length body.preds) (flat_map spell.id body.preds ++ tail) ≡ tail = subst (λ (n : ℕ). drop n (flat_map spell.id body.preds ++ tail) ≡ tail) (ids_length body.preds is.ids) (drop-append_seam (flat_map spell.id body.preds) tail) in
-    same_ops _ (length body.preds) _ (flat_map spell.id body.preds ++ tail) (count_laid body tail is) at.preds ∙ ap first_ops skipped ∙ first_ops_again body.ops rest is.few_ops is.ops
+    same_ops _ (length body.preds) _ (flat_map spell.id body.preds ++ tail) (count_laid body tail is) at.preds ∙ ap first_ops skipped ∙ first_ops_again body.ops rest (few_of body.note (length body.ops) is.few_ops) is.ops
   where
     same_ops : (n m : ℕ) (a b : List ℕ) → n ≡ m → a ≡ b → first_ops (drop (32 * n) a) ≡ first_ops (drop (32 * m) b)
     same_ops n m a b e g = λ t. first_ops (drop (32 * e t) (g t))
 
--- what stands behind the operations
+-- what stands behind the message
 abbrev signed : UpdateData → List ℕ
 signed update = to_be_bytes w32 (length update.signature) ++ update.signature
 
 -- what stands behind the predecessors
 abbrev tail_of : UpdateData → List ℕ
-tail_of update = counted_ops update.body.ops ++ signed update
+tail_of update = counted_ops update.body.ops ++ (spell.note update.body.note ++ signed update)
 
 spelling_laid : (bytes : List ℕ) (update : UpdateData) → Spells bytes update → bytes ≡ laid update.body (tail_of update)
-spelling_laid bytes update s = s.spells ∙ append_assoc (spell.before_ops update.body) (counted_ops update.body.ops) (signed update) ∙ before_ops_flat update.body (tail_of update)
+spelling_laid bytes update s = s.spells ∙ flat (spell.before_ops update.body) (counted_ops update.body.ops) (spell.note update.body.note) (signed update) ∙ before_ops_flat update.body (tail_of update)
+  where
+    flat : (b o n s : List ℕ) → ((b ++ o) ++ n) ++ s ≡ b ++ (o ++ (n ++ s))
+    flat b o n s = simp append_assoc
 
 pub database_stands : (bytes : List ℕ) (update : UpdateData) → Spells bytes update → database_of bytes ≡ update.body.database
 database_stands bytes update s = ap database_of (spelling_laid bytes update s) ∙ database_laid update.body (tail_of update) s.form.body
@@ -163,7 +167,11 @@ pub preds_stand : (bytes : List ℕ) (update : UpdateData) → Spells bytes upda
 preds_stand bytes update s = ap preds_of (spelling_laid bytes update s) ∙ preds_laid update.body (tail_of update) s.form.body
 
 pub ops_stand : (bytes : List ℕ) (update : UpdateData) → Spells bytes update → ops_of bytes ≡ update.body.ops
-ops_stand bytes update s = ap ops_of (spelling_laid bytes update s) ∙ ops_laid update.body (signed update) s.form.body
+ops_stand bytes update s = ap ops_of (spelling_laid bytes update s) ∙ ops_laid update.body (spell.note update.body.note ++ signed update) s.form.body
+
+pub note_stands : (bytes : List ℕ) (update : UpdateData) → Spells bytes update → note_of bytes ≡ update.body.note
+unfolding note_of
+note_stands bytes update s = ap (λ (b : List ℕ). note_read (body_at b)) s.spells ∙ ap (λ (read : Read BodyData). note_read read) (body_again update.body (signed update) s.form.body)
 
 -- the last bytes, of which a signature has this many
 last_of : (front last : List ℕ) (n : ℕ) → length last ≡ n → drop (length (front ++ last) - n) (front ++ last) ≡ last
@@ -188,8 +196,9 @@ update_stands bytes update s =
     let author = author_stands bytes update s in
     let preds = preds_stand bytes update s in
     let ops = ops_stand bytes update s in
+    let note = note_stands bytes update s in
     let signature = signature_stands bytes update s in
-    λ t. record { body = record { database = database t; author = author t; preds = preds t; ops = ops t }; signature = signature t }
+    λ t. record { body = record { database = database t; author = author t; preds = preds t; ops = ops t; note = note t }; signature = signature t }
 
 -- What agrees with the update that bytes spell may be kept beside them.
 pub kept_of : (bytes : List ℕ) (update : UpdateData) → Spells bytes update → IsKept bytes update.body (id_of bytes)

@@ -1,7 +1,6 @@
 -- Where reading a field fails, the bytes end in it or have a fault there.
-use Rattle.std.proofs.Common.{◌≡◌, ◌≢◌, ℕ, zero, suc, ◌+◌, ◌<◌, ◌≤◌, true, false, List, [], ◌∷◌, ◌++◌, length, refl, sym, subst, ◌∙◌, arith, ltb, leb, ◌&&◌, inl, inr}
-use Rattle.std.proofs.lemmas.Bool.{ltb-false, leb-false}
-use Rattle.std.proofs.lemmas.Bool.Decides.{nat_tests}
+use Rattle.std.proofs.Common.{◌≡◌, ◌≢◌, ℕ, zero, suc, ◌+◌, ◌<◌, ◌≤◌, false, List, [], ◌∷◌, ◌++◌, length, refl, sym, subst, ◌∙◌, arith, ltb, leb, ◌&&◌, inl, inr}
+use Rattle.std.proofs.lemmas.Bool.{ltb-false, leb-true, leb-false}
 use Rattle.std.proofs.lemmas.Str.{is_utf8-from_IsUtf8}
 use Rattle.std.specs.Prelude.{Ok, Err, IsUtf8}
 use Rattle.std.specs.Int.{w16, w32, w64, to_be_bytes}
@@ -15,7 +14,7 @@ use Rattle.update_model.specs.Block.{AreBytes}
 use Rattle.update_model.specs.Rows.{IsValue, AreOps}
 use Rattle.update_codec.specs.declared.codec_fault.CodecKind.TheVariants as kinds
 use Rattle.update_codec.specs.declared.halt.Halt.{Halt}
-use Rattle.update_codec.specs.Faults.{KeyFault, ValueFault, OpFault, tree_type, chain_type, value_tag, long_text, no_text, flag_tag, later_own, op_tag, value_count, in_value}
+use Rattle.update_codec.specs.Faults.{KeyFault, TextFault, ValueFault, OpFault, tree_type, chain_type, value_tag, long_text, no_text, in_text, flag_tag, later_own, op_tag, value_count, in_value}
 use Rattle.update_codec.specs.Reading.{Read, ◌>>=◌, byte_at, block_at, number_at, id_at, row_at, int_at, text_at, flag_at, own_at, value_at, values_at, insert_at, op_at, ops_at, author_at}
 use Rattle.update_codec.specs.Spelling as spell
 use Rattle.update_codec.proofs.Steps.{failed, short_halt, halt_at, err_is, bind_err, judge_err, number_err, block_err, byte_err}
@@ -78,30 +77,36 @@ tag_takes tag rest fits = record { parts = refl; rest_fits = fits }
 no_utf8 : (bytes : List ℕ) → is_utf8 bytes ≡ false → ¬ (IsUtf8 bytes)
 no_utf8 bytes h = λ is. let good = is_utf8-from_IsUtf8 bytes is in absurd (let g = sym good ∙ h in cc)
 
-text_stops : (number : ℕ) (rest : List ℕ) (h : Halt) → AreBytes rest → text_at rest ≡ Err h → Ends (ValueFault number) (2 ∷ rest) h
+pub text_stops : (most : ℕ) (bytes : List ℕ) (h : Halt) → AreBytes bytes → text_at most bytes ≡ Err h → Ends (TextFault most) bytes h
 unfolding text_at
-text_stops number rest h fits e = elim (bind_err (number_at w16 rest) _ h e) [
-  | inl f ↦ inl (number_err w16 rest h f)
-  | inr a ↦ let ta = u16_takes rest a.0 fits a.1 in
-      elim (judge_err (leb a.0.0 1024) kinds.Text rest _ h a.2) [
-        | inl j ↦ tell_at (ValueFault number) (2 ∷ rest) (2 ∷ []) rest (to_be_bytes w16 a.0.0) a.0.1 kinds.Text 1 h j.1 (tag_takes 2 rest fits) ta.0 refl (long_text a.0.0 ta.1 (leb-false a.0.0 1024 j.0))
+text_stops most bytes h fits e = elim (bind_err (number_at w16 bytes) _ h e) [
+  | inl f ↦ inl (number_err w16 bytes h f)
+  | inr a ↦ let ta = u16_takes bytes a.0 fits a.1 in
+      elim (judge_err (leb a.0.0 most) kinds.Text bytes _ h a.2) [
+        | inl j ↦ tell_at (TextFault most) bytes [] bytes (to_be_bytes w16 a.0.0) a.0.1 kinds.Text 0 h j.1 (Takes-none bytes fits) ta.0 refl (long_text a.0.0 ta.1 (leb-false a.0.0 most j.0))
         | inr j ↦ elim (bind_err (block_at a.0.0 a.0.1) _ h j.1) [
           | inl f ↦ inl (block_err a.0.0 a.0.1 h f)
           | inr b ↦ let tb = block_takes a.0.0 a.0.1 b.0 ta.0.rest_fits b.1 in
               elim (judge_err (is_utf8 b.0.0) kinds.Text a.0.1 _ h b.2) [
-                | inl k ↦ tell_at (ValueFault number) (2 ∷ rest) (2 ∷ to_be_bytes w16 a.0.0) a.0.1 b.0.0 b.0.1 kinds.Text 3 h k.1 (Takes-byte 2 ta.0) tb.0 refl
-                    (faulty a.0.0 b.0.0 tb.1.len (few a.0.0 j.0) (no_utf8 b.0.0 k.0))
+                | inl k ↦ tell_at (TextFault most) bytes (to_be_bytes w16 a.0.0) a.0.1 b.0.0 b.0.1 kinds.Text 2 h k.1 ta.0 tb.0 refl
+                    (faulty a.0.0 b.0.0 tb.1.len (leb-true a.0.0 most j.0) (no_utf8 b.0.0 k.0))
                 | inr k ↦ absurd (let g = k.1 in cc)
               ]
         ]
       ]
 ]
   where
-    few : (n : ℕ) → leb n 1024 ≡ true → n ≤ 1024
-    few n h = grind (arith, nat_tests)
+    faulty : (n : ℕ) (bytes : List ℕ) → length bytes ≡ n → n ≤ most → ¬ (IsUtf8 bytes) → TextFault most (to_be_bytes w16 n ++ bytes) kinds.Text 2
+    faulty n bytes e few bad = subst (λ (m : ℕ). m ≤ most → TextFault most (to_be_bytes w16 m ++ bytes) kinds.Text 2) e (λ h. no_text bytes h bad) few
 
-    faulty : (n : ℕ) (bytes : List ℕ) → length bytes ≡ n → n ≤ 1024 → ¬ (IsUtf8 bytes) → ValueFault number (2 ∷ (to_be_bytes w16 n ++ bytes)) kinds.Text 3
-    faulty n bytes e few bad = subst (λ (m : ℕ). m ≤ 1024 → ValueFault number (2 ∷ (to_be_bytes w16 m ++ bytes)) kinds.Text 3) e (λ h. no_text bytes h bad) few
+abbrev written_at : List ℕ → Read Value
+written_at rest = text_at 1024 rest >>= λ text. Ok (values.Text text.0, text.1)
+
+written_stops : (number : ℕ) (rest : List ℕ) (h : Halt) → AreBytes rest → written_at rest ≡ Err h → Ends (ValueFault number) (2 ∷ rest) h
+written_stops number rest h fits e = elim (bind_err (text_at 1024 rest) _ h e) [
+  | inl f ↦ nested (TextFault 1024) (ValueFault number) (2 ∷ rest) (2 ∷ []) rest 1 h refl refl (λ front kind at f. in_text front kind at f) (text_stops 1024 rest h fits f)
+  | inr a ↦ absurd (let g = a.2 in cc)
+]
 
 flag_stops : (number : ℕ) (rest : List ℕ) (h : Halt) → AreBytes rest → flag_at rest ≡ Err h → Ends (ValueFault number) (3 ∷ rest) h
 unfolding flag_at
@@ -143,7 +148,7 @@ unfolding value_at
 value_stops number [] h fits e = inl (sym (err_is (Value × List ℕ) short_halt h e))
 value_stops number (zero ∷ rest) h fits e = absurd cc
 value_stops number (suc zero ∷ rest) h fits e = inl (int_err rest h e)
-value_stops number (suc (suc zero) ∷ rest) h fits e = text_stops number rest h (behind_fits 2 rest fits) e
+value_stops number (suc (suc zero) ∷ rest) h fits e = written_stops number rest h (behind_fits 2 rest fits) e
 value_stops number (suc (suc (suc zero)) ∷ rest) h fits e = flag_stops number rest h (behind_fits 3 rest fits) e
 value_stops number (suc (suc (suc (suc zero))) ∷ rest) h fits e = inl (named_err rest h e)
 value_stops number (suc (suc (suc (suc (suc zero)))) ∷ rest) h fits e = own_stops number rest h (behind_fits 5 rest fits) e

@@ -5,7 +5,7 @@ use Rattle.std.proofs.lemmas.Bool.{leb-true, ltb-true}
 use Rattle.std.proofs.lemmas.Bool.Decides.{nat_tests}
 use Rattle.std.proofs.lemmas.Int.{of_z-to_z}
 use Rattle.std.proofs.lemmas.Str.{IsUtf8-from_is_utf8}
-use Rattle.std.specs.Prelude.{Ok, Bool}
+use Rattle.std.specs.Prelude.{Ok, Bool, IsUtf8}
 use Rattle.std.specs.Int.{w16, w64, to_be_bytes}
 use Rattle.std.specs.List.{flat_map, AllByRecursion}
 use Rattle.std.specs.Str.{is_utf8}
@@ -33,20 +33,26 @@ int_takes number rest x fits e =
     let ta = u64_takes rest a.0 fits a.1 in
     rw (← ok_is _ x a.2) (Takes-byte 1 (subst (λ (n : ℕ). Takes rest (to_be_bytes w64 n) a.0.1) (sym (of_z-to_z w64 a.0.0 ta.1)) ta.0), sfits_to_z (record { fits = ta.1 }))
 
-text_takes : (number : ℕ) (rest : List ℕ) (x : Value × List ℕ) → AreBytes rest → text_at rest ≡ Ok x → TakesValue number 2 rest x
+pub text_takes : (most : ℕ) (bytes : List ℕ) (x : List ℕ × List ℕ) → AreBytes bytes → text_at most bytes ≡ Ok x → Takes bytes (spell.text x.0) x.1 × (length x.0 ≤ most) × IsUtf8 x.0
 unfolding text_at
-text_takes number rest x fits e =
-    let a = bind_ok (number_at w16 rest) _ x e in
-    let small = judged (leb a.0.0 1024) _ _ _ x a.2 in
+text_takes most bytes x fits e =
+    let a = bind_ok (number_at w16 bytes) _ x e in
+    let small = judged (leb a.0.0 most) _ _ _ x a.2 in
     let b = bind_ok (block_at a.0.0 a.0.1) _ x small.1 in
     let utf8 = judged (is_utf8 b.0.0) _ _ _ x b.2 in
-    let ta = u16_takes rest a.0 fits a.1 in
+    let ta = u16_takes bytes a.0 fits a.1 in
     let tb = block_takes a.0.0 a.0.1 b.0 ta.0.rest_fits b.1 in
-    let len : Takes rest (to_be_bytes w16 (length b.0.0)) a.0.1 = subst (λ (n : ℕ). Takes rest (to_be_bytes w16 n) a.0.1) (sym tb.1.len) ta.0 in
-    rw (← ok_is _ x utf8.1) (Takes-byte 2 (Takes-then len tb.0), (few a.0.0 (length b.0.0) tb.1.len (leb-true a.0.0 1024 small.0), IsUtf8-from_is_utf8 b.0.0 utf8.0))
+    let len : Takes bytes (to_be_bytes w16 (length b.0.0)) a.0.1 = subst (λ (n : ℕ). Takes bytes (to_be_bytes w16 n) a.0.1) (sym tb.1.len) ta.0 in
+    rw (← ok_is _ x utf8.1) (Takes-then len tb.0, few a.0.0 (length b.0.0) tb.1.len (leb-true a.0.0 most small.0), IsUtf8-from_is_utf8 b.0.0 utf8.0)
   where
-    few : (p n : ℕ) → n ≡ p → p ≤ 1024 → n ≤ 1024
+    few : (p n : ℕ) → n ≡ p → p ≤ most → n ≤ most
     few p n e h = omega arith
+
+written_takes : (number : ℕ) (rest : List ℕ) (x : Value × List ℕ) → AreBytes rest → (text_at 1024 rest >>= λ text. Ok (values.Text text.0, text.1)) ≡ Ok x → TakesValue number 2 rest x
+written_takes number rest x fits e =
+    let a = bind_ok (text_at 1024 rest) _ x e in
+    let ta = text_takes 1024 rest a.0 fits a.1 in
+    rw (← ok_is _ x a.2) (Takes-byte 2 ta.0, (ta.1, ta.2))
 
 flag_takes : (number : ℕ) (rest : List ℕ) (x : Value × List ℕ) → AreBytes rest → flag_at rest ≡ Ok x → TakesValue number 3 rest x
 unfolding flag_at
@@ -79,7 +85,7 @@ unfolding value_at
 value_takes number [] x fits e = absurd cc
 value_takes number (zero ∷ rest) x fits e = rw (← ok_is _ x e) (record { parts = refl; rest_fits = behind_fits 0 rest fits }, tt)
 value_takes number (suc zero ∷ rest) x fits e = int_takes number rest x (behind_fits 1 rest fits) e
-value_takes number (suc (suc zero) ∷ rest) x fits e = text_takes number rest x (behind_fits 2 rest fits) e
+value_takes number (suc (suc zero) ∷ rest) x fits e = written_takes number rest x (behind_fits 2 rest fits) e
 value_takes number (suc (suc (suc zero)) ∷ rest) x fits e = flag_takes number rest x (behind_fits 3 rest fits) e
 value_takes number (suc (suc (suc (suc zero))) ∷ rest) x fits e = named_takes number rest x (behind_fits 4 rest fits) e
 value_takes number (suc (suc (suc (suc (suc zero)))) ∷ rest) x fits e = own_takes number rest x (behind_fits 5 rest fits) e
@@ -148,12 +154,12 @@ ops_takes (suc n) number bytes x fits e =
     rw (← ok_is _ x b.2) (Takes-then ta.0 tb.0, ap suc tb.1, (ta.1, tb.2))
 
 -- A block of few bytes that pass the test is a text.
-pub text_is : (n : ℕ) (after text rest items : List ℕ) (test : Bool) → n ≤ 1024 → block_at n after ≡ Ok (text, rest) → test ≡ is_utf8 text → test ≡ true → items ≡ text → IsText items
-text_is n after text rest items test few block tested good same =
-    subst IsText (sym same) (few_bytes (length text) n (block_len n after text rest block) few, IsUtf8-from_is_utf8 text (sym tested ∙ good))
+pub text_is : (most n : ℕ) (after text rest items : List ℕ) (test : Bool) → most ≤ 1024 → n ≤ most → block_at n after ≡ Ok (text, rest) → test ≡ is_utf8 text → test ≡ true → items ≡ text → IsText items
+text_is most n after text rest items test small few block tested good same =
+    subst IsText (sym same) (few_bytes (length text) n (block_len n after text rest block) few small, IsUtf8-from_is_utf8 text (sym tested ∙ good))
   where
-    few_bytes : (a n : ℕ) → a ≡ n → n ≤ 1024 → a ≤ 1024
-    few_bytes a n e h = omega arith
+    few_bytes : (a n : ℕ) → a ≡ n → n ≤ most → most ≤ 1024 → a ≤ 1024
+    few_bytes a n e h g = omega arith
 
 -- Operations in form have values that a byte counts.
 pub counted : (number : ℕ) (ops : List Op) → AreOps number ops → AllByRecursion spell.IsCounted ops

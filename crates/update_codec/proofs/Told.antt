@@ -1,5 +1,5 @@
 -- Bytes that begin with a fault make reading fail there, whatever follows.
-use Rattle.std.proofs.Common.{◌≡◌, ◌≢◌, ℕ, zero, suc, ◌+◌, ◌*◌, ◌^◌, ◌<◌, ◌≤◌, false, List, [], ◌∷◌, ◌++◌, length, refl, sym, ap, subst, ◌∙◌, arith, append_assoc, leb, eqb}
+use Rattle.std.proofs.Common.{◌≡◌, ◌≢◌, ℕ, zero, suc, ◌+◌, ◌*◌, ◌^◌, ◌<◌, ◌≤◌, false, List, [], ◌∷◌, ◌++◌, length, refl, sym, ap, subst, ◌∙◌, arith, append_assoc, leb, eqb, ◌||◌}
 use Rattle.std.proofs.lemmas.List.{length-append}
 use Rattle.std.proofs.lemmas.Bool.{le-leb}
 use Rattle.std.proofs.lemmas.Bool.Decides.{nat_tests}
@@ -10,20 +10,21 @@ use Rattle.update_model.specs.declared.update_id.UpdateId.{UpdateId}
 use Rattle.update_model.specs.declared.author_key.AuthorKey.{AuthorKey}
 use Rattle.update_model.specs.declared.op.Op.{Op}
 use Rattle.update_model.specs.Block.{IsBlock, IsId}
-use Rattle.update_model.specs.Form.{BodyData, UpdateData, IsKey, IsBody, AreRising, signature_length}
+use Rattle.update_model.specs.Form.{BodyData, UpdateData, IsKey, IsBody, AreRising, most_ops, signature_length}
 use Rattle.update_codec.specs.declared.codec_fault.CodecKind.{CodecKind}
 use Rattle.update_codec.specs.declared.codec_fault.CodecKind.TheVariants as kinds
 use Rattle.update_codec.specs.declared.halt.Halt.{Halt}
-use Rattle.update_codec.specs.Faults.{KeyFault, ValueFault, OpFault, BodyFault, UpdateFault, tree_type, chain_type, value_tag, long_text, no_text, flag_tag, later_own, op_tag, value_count, in_value, other_version, in_key, pred_count, pred_order, op_count, in_op, in_body, other_length}
-use Rattle.update_codec.specs.Reading.{Read, block_at, number_at, id_at, ids_at, is_next, author_at, op_at, ops_at, before_ops_at, body_at, update_at}
+use Rattle.update_codec.specs.Faults.{KeyFault, TextFault, ValueFault, OpFault, BodyFault, UpdateFault, tree_type, chain_type, value_tag, long_text, no_text, in_text, flag_tag, later_own, op_tag, value_count, in_value, other_version, in_key, pred_count, pred_order, op_count, in_op, in_note, in_body, other_length}
+use Rattle.update_codec.specs.Reading.{Read, block_at, number_at, id_at, ids_at, is_next, author_at, text_at, op_at, ops_at, before_ops_at, note_at, body_at, update_at}
 use Rattle.update_codec.specs.Spelling as spell
 use Rattle.update_codec.proofs.Steps.{failed, halt_at, then_is, judge_is, judge_fails, fails_first}
 use Rattle.update_codec.proofs.TakesLemmas.{rising}
 use Rattle.update_codec.proofs.AgainFields.{block_again, u16_again, u32_again, id_again, author_again}
-use Rattle.update_codec.proofs.Again.{after_header, without_ops, next_rises, before_ops_again, body_again}
+use Rattle.update_codec.proofs.Again.{after_header, without_ops, next_rises, before_ops_again, behind_preds, body_again}
 use Rattle.update_codec.proofs.FaultSteps.{IsTold}
 use Rattle.update_codec.proofs.Stops.{header_length, ids_place}
-use Rattle.update_codec.proofs.ToldFields.{refuted, above, key_told, op_told, ops_told}
+use Rattle.update_codec.proofs.ToldFields.{refuted, above, key_told, text_told, op_told, ops_told}
+use Rattle.update_codec.proofs.Versions.{unread, version_known, version_refused, unread_most, unread_few, few_of}
 
 -- an id that does not rise behind those that do
 rises_not : (last : Option UpdateId) (id : UpdateId) → ¬ (AreRising last (id ∷ [])) → is_next last id ≡ false
@@ -47,38 +48,43 @@ ids_told (suc n) last (first ∷ ids) id rest few are rise is bad =
     (ids_told n (Some first) ids id rest (omega arith) are.1 next.1 is (λ r. bad (rising last first (ids ++ id ∷ []) next.0 r))))))
 
 -- what reading does behind a header in form
-header_read : (database : List ℕ) (key : AuthorKey) (bytes : List ℕ) → IsBlock 32 database → IsKey key → before_ops_at (spell.header database key ++ bytes) ≡ after_header database key bytes
+header_read : (noted : Option (List ℕ)) (database : List ℕ) (key : AuthorKey) (bytes : List ℕ) → IsBlock 32 database → IsKey key
+    → before_ops_at (spell.header noted database key ++ bytes) ≡ after_header (unread noted) database key bytes
 unfolding before_ops_at
-header_read database key bytes is known =
+header_read noted database key bytes is known =
     let behind : List ℕ = to_be_bytes w32 key.lms ++ (to_be_bytes w32 key.ots ++ (key.ident ++ (key.root ++ bytes))) in
     let flat : (database ++ spell.author key) ++ bytes ≡ database ++ behind = append_assoc database (spell.author key) bytes ∙ ap (λ (b : List ℕ). database ++ b) (spread (to_be_bytes w32 key.lms) (to_be_bytes w32 key.ots) key.ident key.root bytes) in
+    let version : ℕ = spell.version noted in
     rw flat
+    (judge_is (eqb version 1 || eqb version 2) kinds.Version (version ∷ (database ++ behind)) _ _ (version_known noted)
     (then_is (block_at 32 (database ++ behind)) _ (database, behind) _ (block_again 32 database behind is.len)
-    (then_is (author_at behind) _ (key, bytes) _ (author_again key bytes known) refl))
+    (then_is (author_at behind) _ (key, bytes) _ (author_again key bytes known) refl)))
   where
     spread : (a b c d e : List ℕ) → (a ++ (b ++ (c ++ d))) ++ e ≡ a ++ (b ++ (c ++ (d ++ e)))
     spread a b c d e = simp append_assoc
 
-key_behind : (database bytes : List ℕ) (h : Halt) → IsBlock 32 database → author_at bytes ≡ failed (AuthorKey × List ℕ) h → before_ops_at (1 ∷ (database ++ bytes)) ≡ failed (BodyData × List ℕ) h
+key_behind : (noted : Option (List ℕ)) (database bytes : List ℕ) (h : Halt) → IsBlock 32 database → author_at bytes ≡ failed (AuthorKey × List ℕ) h
+    → before_ops_at (spell.version noted ∷ (database ++ bytes)) ≡ failed (BodyData × List ℕ) h
 unfolding before_ops_at
-key_behind database bytes h is e =
-    then_is (block_at 32 (database ++ bytes)) _ (database, bytes) _ (block_again 32 database bytes is.len)
-    (fails_first (author_at bytes) _ h e)
+key_behind noted database bytes h is e =
+    let version : ℕ = spell.version noted in
+    judge_is (eqb version 1 || eqb version 2) kinds.Version (version ∷ (database ++ bytes)) _ _ (version_known noted)
+    (then_is (block_at 32 (database ++ bytes)) _ (database, bytes) _ (block_again 32 database bytes is.len)
+    (fails_first (author_at bytes) _ h e))
 
-version_told : (version : ℕ) (rest : List ℕ) → version ≢ 1 → before_ops_at (version ∷ rest) ≡ failed (BodyData × List ℕ) (halt_at kinds.Version (version ∷ rest))
+version_told : (version : ℕ) (rest : List ℕ) → version ≢ 1 → version ≢ 2 → before_ops_at (version ∷ rest) ≡ failed (BodyData × List ℕ) (halt_at kinds.Version (version ∷ rest))
 unfolding before_ops_at
-version_told version rest bad = judge_fails (eqb version 1) kinds.Version (version ∷ rest) _ (differ version bad)
-  where
-    differ : (n : ℕ) → n ≢ 1 → eqb n 1 ≡ false
-    differ n h = grind (arith, nat_tests)
+version_told version rest not_1 not_2 = judge_fails (eqb version 1 || eqb version 2) kinds.Version (version ∷ rest) _ (version_refused version not_1 not_2)
 
-count_told : (database : List ℕ) (key : AuthorKey) (n : ℕ) (rest : List ℕ) → n < 2 ^ 16 → 1024 < n → after_header database key (to_be_bytes w16 n ++ rest) ≡ failed (BodyData × List ℕ) (halt_at kinds.Count (to_be_bytes w16 n ++ rest))
-count_told database key n rest fits many =
+count_told : (noted : Option (List ℕ)) (database : List ℕ) (key : AuthorKey) (n : ℕ) (rest : List ℕ) → n < 2 ^ 16 → 1024 < n
+    → after_header noted database key (to_be_bytes w16 n ++ rest) ≡ failed (BodyData × List ℕ) (halt_at kinds.Count (to_be_bytes w16 n ++ rest))
+count_told noted database key n rest fits many =
     then_is (number_at w16 (to_be_bytes w16 n ++ rest)) _ (n, rest) _ (u16_again n rest fits)
     (judge_fails (leb n 1024) kinds.Count (to_be_bytes w16 n ++ rest) _ (above n 1024 many))
 
-order_told : (database : List ℕ) (key : AuthorKey) (n : ℕ) (bytes : List ℕ) (h : Halt) → n ≤ 1024 → ids_at n None bytes ≡ failed (List UpdateId × List ℕ) h → after_header database key (to_be_bytes w16 n ++ bytes) ≡ failed (BodyData × List ℕ) h
-order_told database key n bytes h few e =
+order_told : (noted : Option (List ℕ)) (database : List ℕ) (key : AuthorKey) (n : ℕ) (bytes : List ℕ) (h : Halt) → n ≤ 1024 → ids_at n None bytes ≡ failed (List UpdateId × List ℕ) h
+    → after_header noted database key (to_be_bytes w16 n ++ bytes) ≡ failed (BodyData × List ℕ) h
+order_told noted database key n bytes h few e =
     then_is (number_at w16 (to_be_bytes w16 n ++ bytes)) _ (n, bytes) _ (u16_again n bytes (below n few))
     (judge_is (leb n 1024) kinds.Count (to_be_bytes w16 n ++ bytes) _ _ (le-leb _ _ few)
     (fails_first (ids_at n None bytes) _ h e))
@@ -91,23 +97,39 @@ before_ops_told : (bytes : List ℕ) (h : Halt) → before_ops_at bytes ≡ fail
 unfolding body_at
 before_ops_told bytes h e = fails_first (before_ops_at bytes) _ h e
 
-op_count_told : (before : BodyData) (n : ℕ) (rest : List ℕ) → IsBody before → n < 2 ^ 16 → 64 < n → body_at (spell.before_ops before ++ (to_be_bytes w16 n ++ rest)) ≡ failed (BodyData × List ℕ) (halt_at kinds.Count (to_be_bytes w16 n ++ rest))
+op_count_told : (before : BodyData) (n : ℕ) (rest : List ℕ) → IsBody before → n < 2 ^ 16 → most_ops before.note < n
+    → body_at (spell.before_ops before ++ (to_be_bytes w16 n ++ rest)) ≡ failed (BodyData × List ℕ) (halt_at kinds.Count (to_be_bytes w16 n ++ rest))
 unfolding body_at
 op_count_told before n rest is fits many =
     then_is (before_ops_at (spell.before_ops before ++ (to_be_bytes w16 n ++ rest))) _ (without_ops before, to_be_bytes w16 n ++ rest) _ (before_ops_again before (to_be_bytes w16 n ++ rest) is)
     (then_is (number_at w16 (to_be_bytes w16 n ++ rest)) _ (n, rest) _ (u16_again n rest fits)
-    (judge_fails (leb n 64) kinds.Count (to_be_bytes w16 n ++ rest) _ (above n 64 many)))
+    (judge_fails (leb n (most_ops (unread before.note))) kinds.Count (to_be_bytes w16 n ++ rest) _ (above n (most_ops (unread before.note)) (subst (λ (m : ℕ). m < n) (sym (unread_most before.note)) many))))
 
-op_behind : (before : BodyData) (n : ℕ) (bytes : List ℕ) (h : Halt) → IsBody before → n ≤ 64 → ops_at n 0 bytes ≡ failed (List Op × List ℕ) h → body_at (spell.before_ops before ++ (to_be_bytes w16 n ++ bytes)) ≡ failed (BodyData × List ℕ) h
+op_behind : (before : BodyData) (n : ℕ) (bytes : List ℕ) (h : Halt) → IsBody before → n ≤ most_ops before.note → ops_at n 0 bytes ≡ failed (List Op × List ℕ) h
+    → body_at (spell.before_ops before ++ (to_be_bytes w16 n ++ bytes)) ≡ failed (BodyData × List ℕ) h
 unfolding body_at
 op_behind before n bytes h is few e =
     then_is (before_ops_at (spell.before_ops before ++ (to_be_bytes w16 n ++ bytes))) _ (without_ops before, to_be_bytes w16 n ++ bytes) _ (before_ops_again before (to_be_bytes w16 n ++ bytes) is)
-    (then_is (number_at w16 (to_be_bytes w16 n ++ bytes)) _ (n, bytes) _ (u16_again n bytes (below n few))
-    (judge_is (leb n 64) kinds.Count (to_be_bytes w16 n ++ bytes) _ _ (le-leb _ _ few)
+    (then_is (number_at w16 (to_be_bytes w16 n ++ bytes)) _ (n, bytes) _ (u16_again n bytes (below n (few_of before.note n few)))
+    (judge_is (leb n (most_ops (unread before.note))) kinds.Count (to_be_bytes w16 n ++ bytes) _ _ (le-leb _ _ (unread_few before.note n few))
     (fails_first (ops_at n 0 bytes) _ h e)))
   where
-    below : (n : ℕ) → n ≤ 64 → n < 2 ^ 16
+    below : (n : ℕ) → n ≤ 256 → n < 2 ^ 16
     below n h = omega arith
+
+note_fails : (noted : Option (List ℕ)) (bytes : List ℕ) (h : Halt) → noted ≡ Some [] → text_at 256 bytes ≡ failed (List ℕ × List ℕ) h → note_at (unread noted) bytes ≡ failed (Option (List ℕ) × List ℕ) h
+unfolding note_at
+note_fails None bytes h e fails = absurd cc
+note_fails (Some first) bytes h e fails = fails_first (text_at 256 bytes) _ h fails
+
+-- a fault of the note
+note_behind : (before : BodyData) (bytes : List ℕ) (h : Halt) → IsBody before → before.note ≡ Some [] → text_at 256 bytes ≡ failed (List ℕ × List ℕ) h
+    → body_at (spell.before_next_op before (length before.ops) ++ bytes) ≡ failed (BodyData × List ℕ) h
+note_behind before bytes h is empty e = subst (λ (b : List ℕ). body_at b ≡ failed (BodyData × List ℕ) h) (sym (grouped (spell.before_ops before) (to_be_bytes w16 (length before.ops)) (flat_map spell.op before.ops) bytes))
+    (behind_preds before bytes is ∙ fails_first (note_at (unread before.note) bytes) _ h (note_fails before.note bytes h empty e))
+  where
+    grouped : (a b c d : List ℕ) → (a ++ (b ++ c)) ++ d ≡ a ++ (b ++ (c ++ d))
+    grouped a b c d = simp append_assoc
 
 -- how bytes divide, and how long they are then
 two : (a b rest : List ℕ) → (a ++ b) ++ rest ≡ a ++ (b ++ rest)
@@ -141,33 +163,34 @@ part_told read before front rest kind shift at left size place e = record {
     sums s a l p m b x y z = omega arith
 
 pub body_told : (front : List ℕ) (kind : CodecKind) (at : ℕ) → BodyFault front kind at → (rest : List ℕ) → IsTold (body_at (front ++ rest)) (length (front ++ rest)) kind at
-body_told front kind at (other_version version bad) rest = record { left = length (version ∷ rest); is = before_ops_told (version ∷ rest) _ (version_told version rest bad); place = omega arith }
-body_told front k at (in_key database inner kind at_inner is f) rest =
+body_told front kind at (other_version version not_1 not_2) rest = record { left = length (version ∷ rest); is = before_ops_told (version ∷ rest) _ (version_told version rest not_1 not_2); place = omega arith }
+body_told front k at (in_key noted database inner kind at_inner is f) rest =
     let t = key_told inner kind at_inner f rest in
-    part_told body_at (1 ∷ database) inner rest kind 33 at_inner t.left (sized (length database) is.len) t.place
-    (before_ops_told (1 ∷ (database ++ (inner ++ rest))) (record { kind = kind; left = t.left }) (key_behind database (inner ++ rest) (record { kind = kind; left = t.left }) is t.is))
+    part_told body_at (spell.version noted ∷ database) inner rest kind 33 at_inner t.left (sized (length database) is.len) t.place
+    (before_ops_told (spell.version noted ∷ (database ++ (inner ++ rest))) (record { kind = kind; left = t.left }) (key_behind noted database (inner ++ rest) (record { kind = kind; left = t.left }) is t.is))
   where
     sized : (n : ℕ) → n ≡ 32 → 33 ≡ suc n
     sized n e = omega arith
-body_told front kind at (pred_count database key n is known fits many) rest =
-    field_told body_at (spell.header database key) (to_be_bytes w16 n) rest kinds.Count 89 (sym (header_length database key is known))
-    (before_ops_told (spell.header database key ++ (to_be_bytes w16 n ++ rest)) _ (header_read database key (to_be_bytes w16 n ++ rest) is known ∙ count_told database key n rest fits many))
-body_told front kind at (pred_order database key n ids id is known few more are rise is_id bad) rest =
-    let told = order_told database key n (flat_map spell.id ids ++ (spell.id id ++ rest)) (halt_at kinds.Order (spell.id id ++ rest)) few (ids_told n None ids id rest more are rise is_id bad) in
-    let fails = before_ops_told (spell.header database key ++ (to_be_bytes w16 n ++ (flat_map spell.id ids ++ (spell.id id ++ rest)))) _ (header_read database key _ is known ∙ told) in
-    let before : List ℕ = spell.header database key ++ (to_be_bytes w16 n ++ flat_map spell.id ids) in
-    let t = field_told body_at before (spell.id id) rest kinds.Order (91 + 32 * length ids) (sym (ids_place database key n ids is known are))
-    (subst (λ (b : List ℕ). body_at b ≡ failed (BodyData × List ℕ) (halt_at kinds.Order (spell.id id ++ rest))) (sym (grouped (spell.header database key) (to_be_bytes w16 n) (flat_map spell.id ids) (spell.id id ++ rest))) fails) in
-    subst (λ (b : List ℕ). IsTold (body_at (b ++ rest)) (length (b ++ rest)) kinds.Order (91 + 32 * length ids)) (grouped (spell.header database key) (to_be_bytes w16 n) (flat_map spell.id ids) (spell.id id)) t
+body_told front kind at (pred_count noted database key n is known fits many) rest =
+    field_told body_at (spell.header noted database key) (to_be_bytes w16 n) rest kinds.Count 89 (sym (header_length noted database key is known))
+    (before_ops_told (spell.header noted database key ++ (to_be_bytes w16 n ++ rest)) _ (header_read noted database key (to_be_bytes w16 n ++ rest) is known ∙ count_told (unread noted) database key n rest fits many))
+body_told front kind at (pred_order noted database key n ids id is known few more are rise is_id bad) rest =
+    let told = order_told (unread noted) database key n (flat_map spell.id ids ++ (spell.id id ++ rest)) (halt_at kinds.Order (spell.id id ++ rest)) few (ids_told n None ids id rest more are rise is_id bad) in
+    let fails = before_ops_told (spell.header noted database key ++ (to_be_bytes w16 n ++ (flat_map spell.id ids ++ (spell.id id ++ rest)))) _ (header_read noted database key _ is known ∙ told) in
+    let before : List ℕ = spell.header noted database key ++ (to_be_bytes w16 n ++ flat_map spell.id ids) in
+    let t = field_told body_at before (spell.id id) rest kinds.Order (91 + 32 * length ids) (sym (ids_place noted database key n ids is known are))
+    (subst (λ (b : List ℕ). body_at b ≡ failed (BodyData × List ℕ) (halt_at kinds.Order (spell.id id ++ rest))) (sym (grouped (spell.header noted database key) (to_be_bytes w16 n) (flat_map spell.id ids) (spell.id id ++ rest))) fails) in
+    subst (λ (b : List ℕ). IsTold (body_at (b ++ rest)) (length (b ++ rest)) kinds.Order (91 + 32 * length ids)) (grouped (spell.header noted database key) (to_be_bytes w16 n) (flat_map spell.id ids) (spell.id id)) t
   where
     grouped : (a b c d : List ℕ) → (a ++ (b ++ c)) ++ d ≡ a ++ (b ++ (c ++ d))
     grouped a b c d = simp append_assoc
 body_told front kind at (op_count before n is none fits many) rest =
-    field_told body_at (spell.before_ops before) (to_be_bytes w16 n) rest kinds.Count (91 + 32 * length before.preds) (sym (ids_place before.database before.author (length before.preds) before.preds is.database is.author is.ids))
+    field_told body_at (spell.before_ops before) (to_be_bytes w16 n) rest kinds.Count (91 + 32 * length before.preds) (sym (ids_place before.note before.database before.author (length before.preds) before.preds is.database is.author is.ids))
     (op_count_told before n rest is fits many)
 body_told front k at (in_op before n inner kind at_inner is few more f) rest =
-    let t = op_told (length before.ops) (most (length before.ops) n more few) inner kind at_inner f rest in
-    let told = ops_told n 0 before.ops (inner ++ rest) (record { kind = kind; left = t.left }) (most_of (length before.ops) n more few) more is.ops (subst (λ (k : ℕ). op_at k (inner ++ rest) ≡ failed (Op × List ℕ) (record { kind = kind; left = t.left })) (none_more (length before.ops)) t.is) in
+    let most = most_of (length before.ops) n more (few_of before.note n few) in
+    let t = op_told (length before.ops) most inner kind at_inner f rest in
+    let told = ops_told n 0 before.ops (inner ++ rest) (record { kind = kind; left = t.left }) (none_before (length before.ops) most) more is.ops (subst (λ (k : ℕ). op_at k (inner ++ rest) ≡ failed (Op × List ℕ) (record { kind = kind; left = t.left })) (none_more (length before.ops)) t.is) in
     part_told body_at (spell.before_next_op before n) inner rest kind (length (spell.before_next_op before n)) at_inner t.left refl t.place
     (subst (λ (b : List ℕ). body_at b ≡ failed (BodyData × List ℕ) (record { kind = kind; left = t.left })) (sym (grouped (spell.before_ops before) (to_be_bytes w16 n) (flat_map spell.op before.ops) (inner ++ rest)))
     (op_behind before n (flat_map spell.op before.ops ++ (inner ++ rest)) (record { kind = kind; left = t.left }) is few told))
@@ -175,14 +198,18 @@ body_told front k at (in_op before n inner kind at_inner is few more f) rest =
     none_more : (n : ℕ) → n ≡ 0 + n
     none_more n = omega arith
 
-    most_of : (k n : ℕ) → k < n → n ≤ 64 → 0 + k ≤ 256
-    most_of k n h g = omega arith
+    none_before : (n : ℕ) → n ≤ 256 → 0 + n ≤ 256
+    none_before n h = omega arith
 
-    most : (k n : ℕ) → k < n → n ≤ 64 → k ≤ 256
-    most k n h g = omega arith
+    most_of : (k n : ℕ) → k < n → n ≤ 256 → k ≤ 256
+    most_of k n h g = omega arith
 
     grouped : (a b c d : List ℕ) → (a ++ (b ++ c)) ++ d ≡ a ++ (b ++ (c ++ d))
     grouped a b c d = simp append_assoc
+body_told front k at (in_note before inner kind at_inner is empty f) rest =
+    let t = text_told 256 (omega arith) inner kind at_inner f rest in
+    part_told body_at (spell.before_next_op before (length before.ops)) inner rest kind (length (spell.before_next_op before (length before.ops))) at_inner t.left refl t.place
+    (note_behind before (inner ++ rest) (record { kind = kind; left = t.left }) is empty t.is)
 
 length_told : (body : BodyData) (n : ℕ) (rest : List ℕ) → IsBody body → n < 2 ^ 32 → n ≢ signature_length body.author
     → update_at (spell.message body ++ (to_be_bytes w32 n ++ rest)) ≡ failed (UpdateData × List ℕ) (halt_at kinds.SignatureLength (to_be_bytes w32 n ++ rest))
@@ -214,10 +241,13 @@ key_whole : (front : List ℕ) (kind : CodecKind) (at : ℕ) → KeyFault front 
 key_whole front kind at (tree_type lms fits bad) = λ e. absurd cc
 key_whole front kind at (chain_type lms ots good fits bad) = λ e. absurd cc
 
+text_whole : (most : ℕ) (front : List ℕ) (kind : CodecKind) (at : ℕ) → TextFault most front kind at → kind ≢ kinds.Short
+text_whole most front kind at (long_text n fits long) = λ e. absurd cc
+text_whole most front kind at (no_text bytes few bad) = λ e. absurd cc
+
 value_whole : (number : ℕ) (front : List ℕ) (kind : CodecKind) (at : ℕ) → ValueFault number front kind at → kind ≢ kinds.Short
 value_whole number front kind at (value_tag tag big) = λ e. absurd cc
-value_whole number front kind at (long_text n fits long) = λ e. absurd cc
-value_whole number front kind at (no_text bytes few bad) = λ e. absurd cc
+value_whole number front k at (in_text inner kind at_inner f) = text_whole 1024 inner kind at_inner f
 value_whole number front kind at (flag_tag flag big) = λ e. absurd cc
 value_whole number front kind at (later_own index fits late) = λ e. absurd cc
 
@@ -227,12 +257,13 @@ op_whole number front kind at (value_count table n bad) = λ e. absurd cc
 op_whole number front k at (in_value table n values inner kind at_inner count few are f) = value_whole number inner kind at_inner f
 
 body_whole : (front : List ℕ) (kind : CodecKind) (at : ℕ) → BodyFault front kind at → kind ≢ kinds.Short
-body_whole front kind at (other_version version bad) = λ e. absurd cc
-body_whole front k at (in_key database inner kind at_inner is f) = key_whole inner kind at_inner f
-body_whole front kind at (pred_count database key n is known fits many) = λ e. absurd cc
-body_whole front kind at (pred_order database key n ids id is known few more are rise is_id bad) = λ e. absurd cc
+body_whole front kind at (other_version version not_1 not_2) = λ e. absurd cc
+body_whole front k at (in_key noted database inner kind at_inner is f) = key_whole inner kind at_inner f
+body_whole front kind at (pred_count noted database key n is known fits many) = λ e. absurd cc
+body_whole front kind at (pred_order noted database key n ids id is known few more are rise is_id bad) = λ e. absurd cc
 body_whole front kind at (op_count before n is none fits many) = λ e. absurd cc
 body_whole front k at (in_op before n inner kind at_inner is few more f) = op_whole (length before.ops) inner kind at_inner f
+body_whole front k at (in_note before inner kind at_inner is empty f) = text_whole 256 inner kind at_inner f
 
 pub update_whole : (front : List ℕ) (kind : CodecKind) (at : ℕ) → UpdateFault front kind at → kind ≢ kinds.Short
 update_whole front k at (in_body inner kind at_inner f) = body_whole inner kind at_inner f

@@ -14,7 +14,7 @@ use Rattle.update_model.specs.Rows.{IsValue, AreOps}
 use Rattle.update_codec.specs.declared.codec_fault.CodecKind.{CodecKind}
 use Rattle.update_codec.specs.declared.codec_fault.CodecKind.TheVariants as kinds
 use Rattle.update_codec.specs.declared.halt.Halt.{Halt}
-use Rattle.update_codec.specs.Faults.{KeyFault, ValueFault, OpFault, tree_type, chain_type, value_tag, long_text, no_text, flag_tag, later_own, op_tag, value_count, in_value, IsValueCount}
+use Rattle.update_codec.specs.Faults.{KeyFault, TextFault, ValueFault, OpFault, tree_type, chain_type, value_tag, long_text, no_text, in_text, flag_tag, later_own, op_tag, value_count, in_value, IsValueCount}
 use Rattle.update_codec.specs.Reading.{block_at, number_at, text_at, flag_at, own_at, value_at, values_at, insert_at, op_at, ops_at, author_at}
 use Rattle.update_codec.specs.Spelling as spell
 use Rattle.update_codec.proofs.Steps.{failed, halt_at, then_is, judge_is, judge_fails, fails_first}
@@ -60,22 +60,30 @@ key_told front kind at (chain_type lms ots good fits bad) rest = record {
     small : (n : ℕ) → n ≤ 7 → n < 2 ^ 32
     small n h = omega arith
 
-text_told : (number n : ℕ) (rest : List ℕ) → n < 2 ^ 16 → 1024 < n → text_at (to_be_bytes w16 n ++ rest) ≡ failed (Value × List ℕ) (halt_at kinds.Text (to_be_bytes w16 n ++ rest))
+long_told : (most n : ℕ) (rest : List ℕ) → n < 2 ^ 16 → most < n → text_at most (to_be_bytes w16 n ++ rest) ≡ failed (List ℕ × List ℕ) (halt_at kinds.Text (to_be_bytes w16 n ++ rest))
 unfolding text_at
-text_told number n rest fits long =
+long_told most n rest fits long =
     then_is (number_at w16 (to_be_bytes w16 n ++ rest)) _ (n, rest) _ (u16_again n rest fits)
-    (judge_fails (leb n 1024) kinds.Text (to_be_bytes w16 n ++ rest) _ (above n 1024 long))
+    (judge_fails (leb n most) kinds.Text (to_be_bytes w16 n ++ rest) _ (above n most long))
 
-no_text_told : (bytes rest : List ℕ) → length bytes ≤ 1024 → ¬ (IsUtf8 bytes) → text_at (to_be_bytes w16 (length bytes) ++ (bytes ++ rest)) ≡ failed (Value × List ℕ) (halt_at kinds.Text (bytes ++ rest))
+no_text_told : (most : ℕ) (bytes rest : List ℕ) → most ≤ 1024 → length bytes ≤ most → ¬ (IsUtf8 bytes) → text_at most (to_be_bytes w16 (length bytes) ++ (bytes ++ rest)) ≡ failed (List ℕ × List ℕ) (halt_at kinds.Text (bytes ++ rest))
 unfolding text_at
-no_text_told bytes rest few bad =
-    then_is (number_at w16 (to_be_bytes w16 (length bytes) ++ (bytes ++ rest))) _ (length bytes, bytes ++ rest) _ (u16_again (length bytes) (bytes ++ rest) (below (length bytes) few))
-    (judge_is (leb (length bytes) 1024) kinds.Text (to_be_bytes w16 (length bytes) ++ (bytes ++ rest)) _ _ (le-leb _ _ few)
+no_text_told most bytes rest small few bad =
+    then_is (number_at w16 (to_be_bytes w16 (length bytes) ++ (bytes ++ rest))) _ (length bytes, bytes ++ rest) _ (u16_again (length bytes) (bytes ++ rest) (below (length bytes) few small))
+    (judge_is (leb (length bytes) most) kinds.Text (to_be_bytes w16 (length bytes) ++ (bytes ++ rest)) _ _ (le-leb _ _ few)
     (then_is (block_at (length bytes) (bytes ++ rest)) _ (bytes, rest) _ (block_again (length bytes) bytes rest refl)
     (judge_fails (is_utf8 bytes) kinds.Text (bytes ++ rest) _ (refuted (is_utf8 bytes) (λ e. bad (IsUtf8-from_is_utf8 bytes e))))))
   where
-    below : (n : ℕ) → n ≤ 1024 → n < 2 ^ 16
-    below n h = omega arith
+    below : (n : ℕ) → n ≤ most → most ≤ 1024 → n < 2 ^ 16
+    below n h g = omega arith
+
+pub text_told : (most : ℕ) → most ≤ 1024 → (front : List ℕ) (kind : CodecKind) (at : ℕ) → TextFault most front kind at → (rest : List ℕ) → IsTold (text_at most (front ++ rest)) (length (front ++ rest)) kind at
+text_told most small front kind at (long_text n fits long) rest = record { left = length (to_be_bytes w16 n ++ rest); is = long_told most n rest fits long; place = omega arith }
+text_told most small front kind at (no_text bytes few bad) rest = record {
+  left = length (bytes ++ rest);
+  is = subst (λ (b : List ℕ). text_at most b ≡ failed (List ℕ × List ℕ) (halt_at kinds.Text (bytes ++ rest))) (sym (append_assoc (to_be_bytes w16 (length bytes)) bytes rest)) (no_text_told most bytes rest small few bad);
+  place = omega arith;
+}
 
 flag_told : (flag : ℕ) (rest : List ℕ) → 2 ≤ flag → flag_at (flag ∷ rest) ≡ failed (Value × List ℕ) (halt_at kinds.Tag (flag ∷ rest))
 unfolding flag_at
@@ -92,12 +100,16 @@ own_told number index rest fits late =
 pub value_told : (number : ℕ) (front : List ℕ) (kind : CodecKind) (at : ℕ) → ValueFault number front kind at → (rest : List ℕ) → IsTold (value_at number (front ++ rest)) (length (front ++ rest)) kind at
 unfolding value_at
 value_told number front kind at (value_tag tag big) rest = record { left = length (tag ∷ rest); is = value_tag_told number tag rest big; place = omega arith }
-value_told number front kind at (long_text n fits long) rest = record { left = length (to_be_bytes w16 n ++ rest); is = text_told number n rest fits long; place = omega arith }
-value_told number front kind at (no_text bytes few bad) rest = record {
-  left = length (bytes ++ rest);
-  is = subst (λ (b : List ℕ). text_at b ≡ failed (Value × List ℕ) (halt_at kinds.Text (bytes ++ rest))) (sym (append_assoc (to_be_bytes w16 (length bytes)) bytes rest)) (no_text_told bytes rest few bad);
-  place = omega arith;
-}
+value_told number front k at (in_text inner kind at_inner f) rest =
+    let t = text_told 1024 (omega arith) inner kind at_inner f rest in
+    record {
+      left = t.left;
+      is = fails_first (text_at 1024 (inner ++ rest)) _ (record { kind = kind; left = t.left }) t.is;
+      place = next at_inner t.left (length (inner ++ rest)) t.place;
+    }
+  where
+    next : (a l n : ℕ) → a + l ≡ n → (1 + a) + l ≡ suc n
+    next a l n e = omega arith
 value_told number front kind at (flag_tag flag big) rest = record { left = length (flag ∷ rest); is = flag_told flag rest big; place = omega arith }
 value_told number front kind at (later_own index fits late) rest = record { left = length (to_be_bytes w16 index ++ rest); is = own_told number index rest fits late; place = omega arith }
 

@@ -3,16 +3,16 @@
 -- In each of the families below the bytes end in a whole field that has a fault, all that stands before this field
 -- is in form, and the number is the fault's place among these bytes. That a fault is the first one needs no words:
 -- a field can follow fields in form in one way only.
-use Rattle.std.specs.Prelude.{◌≡◌, ◌≢◌, ℕ, ◌+◌, ◌*◌, ◌≤◌, ◌<◌, ◌^◌, List, [], ◌∷◌, ◌++◌, length, None, IsUtf8}
+use Rattle.std.specs.Prelude.{◌≡◌, ◌≢◌, ℕ, ◌+◌, ◌*◌, ◌≤◌, ◌<◌, ◌^◌, List, [], ◌∷◌, ◌++◌, length, Option, Some, None, IsUtf8}
 use Rattle.std.specs.List.{flat_map, AllByRecursion}
 use Rattle.std.specs.Int.{w16, w32, to_be_bytes}
 use Rattle.update_model.specs.declared.update_id.UpdateId.{UpdateId}
 use Rattle.update_model.specs.declared.author_key.AuthorKey.{AuthorKey}
 use Rattle.update_model.specs.declared.value.Value.{Value}
 use Rattle.update_model.specs.Block.{IsBlock, IsId}
-use Rattle.update_model.specs.Form.{BodyData, UpdateData, IsKey, AreRising, IsBody, IsUpdate, signature_length}
+use Rattle.update_model.specs.Form.{BodyData, UpdateData, IsKey, AreRising, IsBody, IsUpdate, most_ops, signature_length}
 use Rattle.update_model.specs.Rows.{IsValue}
-use Rattle.update_model.specs.declared.limits.TheConstants.{MAX_OPS, MAX_PREDS, MAX_TEXT, MAX_VALUES}
+use Rattle.update_model.specs.declared.limits.TheConstants.{MAX_NOTE, MAX_PREDS, MAX_TEXT, MAX_VALUES}
 use Rattle.update_codec.specs.declared.limits.TheConstants.{UPDATE_LIMIT}
 use Rattle.update_codec.specs.Spelling as spell
 use Rattle.update_codec.specs.declared.codec_fault.CodecKind.{CodecKind}
@@ -35,12 +35,16 @@ pub data KeyFault : List ℕ → CodecKind → ℕ → Type 0 where
   tree_type : (lms : ℕ) → lms < 2 ^ 32 → ¬ (IsTreeType lms) → KeyFault (to_be_bytes w32 lms) kinds.KeyType 0
   chain_type : (lms ots : ℕ) → IsTreeType lms → ots < 2 ^ 32 → ¬ (IsChainType ots) → KeyFault (to_be_bytes w32 lms ++ to_be_bytes w32 ots) kinds.KeyType 4
 
--- a value in the operation with this number: an unknown tag, a text that is too long or no UTF-8, a flag that is
--- neither 0 nor 1, or an own reference to no earlier operation
+-- a text of at most this many bytes: one that is too long, or no UTF-8
+pub data TextFault (most : ℕ) : List ℕ → CodecKind → ℕ → Type 0 where
+  long_text : (n : ℕ) → n < 2 ^ 16 → most < n → TextFault most (to_be_bytes w16 n) kinds.Text 0
+  no_text : (bytes : List ℕ) → length bytes ≤ most → ¬ (IsUtf8 bytes) → TextFault most (spell.text bytes) kinds.Text 2
+
+-- a value in the operation with this number: an unknown tag, a text that has a fault, a flag that is neither 0 nor 1,
+-- or an own reference to no earlier operation
 pub data ValueFault (number : ℕ) : List ℕ → CodecKind → ℕ → Type 0 where
   value_tag : (tag : ℕ) → 6 ≤ tag → ValueFault number (tag ∷ []) kinds.Tag 0
-  long_text : (n : ℕ) → n < 2 ^ 16 → MAX_TEXT < n → ValueFault number (2 ∷ to_be_bytes w16 n) kinds.Text 1
-  no_text : (bytes : List ℕ) → length bytes ≤ MAX_TEXT → ¬ (IsUtf8 bytes) → ValueFault number (2 ∷ (to_be_bytes w16 (length bytes) ++ bytes)) kinds.Text 3
+  in_text : (front : List ℕ) (kind : CodecKind) (at : ℕ) → TextFault MAX_TEXT front kind at → ValueFault number (2 ∷ front) kind (1 + at)
   flag_tag : (flag : ℕ) → 2 ≤ flag → ValueFault number (3 ∷ flag ∷ []) kinds.Tag 1
   later_own : (index : ℕ) → index < 2 ^ 16 → number ≤ index → ValueFault number (5 ∷ to_be_bytes w16 index) kinds.OwnIndex 1
 
@@ -52,20 +56,25 @@ pub data OpFault (number : ℕ) : List ℕ → CodecKind → ℕ → Type 0 wher
       → IsValueCount n → length values < n → AllByRecursion (IsValue number) values → ValueFault number front kind at
       → OpFault number (1 ∷ table ∷ n ∷ (flat_map spell.value values ++ front)) kind (3 + length (flat_map spell.value values) + at)
 
--- a body: another version, a key that has a fault, too many predecessors, one that is not above the one before it,
--- too many operations, or one that has a fault
+-- a body: another version, a key that has a fault, too many predecessors, one that is not above the one before it, too
+-- many operations for the version, one that has a fault, or a note that has one. The version stands before all else, so
+-- what is in form before a fault has a note, be it an empty one, exactly in version 2.
 pub data BodyFault : List ℕ → CodecKind → ℕ → Type 0 where
-  other_version : (version : ℕ) → version ≢ 1 → BodyFault (version ∷ []) kinds.Version 0
-  in_key : (database front : List ℕ) (kind : CodecKind) (at : ℕ) → IsBlock 32 database → KeyFault front kind at → BodyFault (1 ∷ (database ++ front)) kind (33 + at)
-  pred_count : (database : List ℕ) (key : AuthorKey) (n : ℕ) → IsBlock 32 database → IsKey key → n < 2 ^ 16 → MAX_PREDS < n
-      → BodyFault (spell.header database key ++ to_be_bytes w16 n) kinds.Count 89
-  pred_order : (database : List ℕ) (key : AuthorKey) (n : ℕ) (ids : List UpdateId) (id : UpdateId) → IsBlock 32 database → IsKey key → n ≤ MAX_PREDS → length ids < n
-      → AllByRecursion IsId ids → AreRising None ids → IsId id → ¬ (AreRising None (ids ++ id ∷ []))
-      → BodyFault (spell.header database key ++ (to_be_bytes w16 n ++ (flat_map spell.id ids ++ spell.id id))) kinds.Order (91 + 32 * length ids)
-  op_count : (before : BodyData) (n : ℕ) → IsBody before → before.ops ≡ [] → n < 2 ^ 16 → MAX_OPS < n
+  other_version : (version : ℕ) → version ≢ 1 → version ≢ 2 → BodyFault (version ∷ []) kinds.Version 0
+  in_key : (note : Option (List ℕ)) (database front : List ℕ) (kind : CodecKind) (at : ℕ) → IsBlock 32 database → KeyFault front kind at
+      → BodyFault (spell.version note ∷ (database ++ front)) kind (33 + at)
+  pred_count : (note : Option (List ℕ)) (database : List ℕ) (key : AuthorKey) (n : ℕ) → IsBlock 32 database → IsKey key → n < 2 ^ 16 → MAX_PREDS < n
+      → BodyFault (spell.header note database key ++ to_be_bytes w16 n) kinds.Count 89
+  pred_order : (note : Option (List ℕ)) (database : List ℕ) (key : AuthorKey) (n : ℕ) (ids : List UpdateId) (id : UpdateId) → IsBlock 32 database → IsKey key
+      → n ≤ MAX_PREDS → length ids < n → AllByRecursion IsId ids → AreRising None ids → IsId id → ¬ (AreRising None (ids ++ id ∷ []))
+      → BodyFault (spell.header note database key ++ (to_be_bytes w16 n ++ (flat_map spell.id ids ++ spell.id id))) kinds.Order (91 + 32 * length ids)
+  op_count : (before : BodyData) (n : ℕ) → IsBody before → before.ops ≡ [] → n < 2 ^ 16 → most_ops before.note < n
       → BodyFault (spell.before_ops before ++ to_be_bytes w16 n) kinds.Count (91 + 32 * length before.preds)
-  in_op : (before : BodyData) (n : ℕ) (front : List ℕ) (kind : CodecKind) (at : ℕ) → IsBody before → n ≤ MAX_OPS → length before.ops < n → OpFault (length before.ops) front kind at
+  in_op : (before : BodyData) (n : ℕ) (front : List ℕ) (kind : CodecKind) (at : ℕ) → IsBody before → n ≤ most_ops before.note → length before.ops < n
+      → OpFault (length before.ops) front kind at
       → BodyFault (spell.before_next_op before n ++ front) kind (length (spell.before_next_op before n) + at)
+  in_note : (before : BodyData) (front : List ℕ) (kind : CodecKind) (at : ℕ) → IsBody before → before.note ≡ Some [] → TextFault MAX_NOTE front kind at
+      → BodyFault (spell.before_next_op before (length before.ops) ++ front) kind (length (spell.before_next_op before (length before.ops)) + at)
 
 -- an update: a body that has a fault, or another length of the signature than its author's key asks for
 pub data UpdateFault : List ℕ → CodecKind → ℕ → Type 0 where

@@ -1,4 +1,5 @@
 pub mod Faults
+pub mod FirstVersion
 pub mod Kept
 pub mod Outcome
 pub mod Parts

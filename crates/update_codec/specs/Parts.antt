@@ -1,5 +1,5 @@
 -- The parts of a spelling, as functions of its bytes alone. Of bytes that are no spelling they say nothing.
-use Rattle.std.specs.Prelude.{ℕ, zero, suc, ◌*◌, ◌-◌, List, [], ◌∷◌, length, take, drop, Ok, Err}
+use Rattle.std.specs.Prelude.{ℕ, zero, suc, ◌*◌, ◌-◌, List, [], ◌∷◌, length, take, drop, Option, None, Ok, Err}
 use Rattle.std.specs.Int.{w16, w32, from_be_bytes}
 use Rattle.sha2.specs.Sha256.{sha256}
 use Rattle.update_model.specs.declared.update_id.UpdateId.{UpdateId}
@@ -7,7 +7,7 @@ use Rattle.update_model.specs.declared.author_key.AuthorKey.{AuthorKey}
 use Rattle.update_model.specs.declared.op.Op.{Op}
 use Rattle.update_model.specs.Form.{BodyData, UpdateData, signature_length}
 use Rattle.update_model.specs.Entry.{Entry}
-use Rattle.update_codec.specs.Reading.{Read, ops_at}
+use Rattle.update_codec.specs.Reading.{Read, ops_at, body_at}
 
 -- the database, which stands behind the version
 unfoldable pub database_of : List ℕ → List ℕ
@@ -48,8 +48,17 @@ first_ops bytes = ops_read (ops_at (from_be_bytes w16 (take 2 bytes)) 0 (drop 2 
 unfoldable pub ops_of : List ℕ → List Op
 ops_of bytes = first_ops (drop (32 * pred_count bytes) (drop 91 bytes))
 
+-- the note of the body that was read
+abbrev pub note_read : Read BodyData → Option (List ℕ)
+note_read (Ok x) = x.0.note
+note_read (Err halt) = None
+
+-- the note, which stands behind the operations in version 2
+unfoldable pub note_of : List ℕ → Option (List ℕ)
+note_of bytes = note_read (body_at bytes)
+
 abbrev pub body_of : List ℕ → BodyData
-body_of bytes = record { database = database_of bytes; author = author_of bytes; preds = preds_of bytes; ops = ops_of bytes }
+body_of bytes = record { database = database_of bytes; author = author_of bytes; preds = preds_of bytes; ops = ops_of bytes; note = note_of bytes }
 
 -- the signature: the last bytes, as many as the author's key asks for
 unfoldable pub signature_of : List ℕ → List ℕ

@@ -1,6 +1,6 @@
 -- Reading from left to right, with the first fault that is met. A fault's place is told by the number of bytes from
 -- there to the end.
-use Rattle.std.specs.Prelude.{◌≡◌, ℕ, zero, suc, ◌+◌, ◌-◌, List, [], ◌∷◌, length, take, drop, Option, Some, None, Result, Ok, Err, Bool, true, false, ◌&&◌, nat_lt, nat_le, ◌==◌, if◌then◌else◌}
+use Rattle.std.specs.Prelude.{◌≡◌, ℕ, zero, suc, ◌+◌, ◌-◌, List, [], ◌∷◌, length, take, drop, Option, Some, None, Result, Ok, Err, Bool, true, false, ◌&&◌, ◌||◌, nat_lt, nat_le, ◌==◌, if◌then◌else◌}
 use Rattle.std.specs.Int.{Width, w16, w32, w64, byte_len, from_be_bytes, cast_signed}
 use Rattle.std.specs.Str.{is_utf8}
 use Rattle.update_model.specs.declared.update_id.UpdateId.{UpdateId}
@@ -10,8 +10,8 @@ use Rattle.update_model.specs.declared.value.Value.{Value}
 use Rattle.update_model.specs.declared.value.Value.TheVariants as values
 use Rattle.update_model.specs.declared.op.Op.{Op}
 use Rattle.update_model.specs.declared.op.Op.TheVariants as ops
-use Rattle.update_model.specs.Form.{BodyData, UpdateData, is_below, signature_length}
-use Rattle.update_model.specs.declared.limits.TheConstants.{MAX_OPS, MAX_PREDS, MAX_TEXT, MAX_VALUES}
+use Rattle.update_model.specs.Form.{BodyData, UpdateData, is_below, most_ops, signature_length}
+use Rattle.update_model.specs.declared.limits.TheConstants.{MAX_NOTE, MAX_PREDS, MAX_TEXT, MAX_VALUES}
 use Rattle.update_codec.specs.declared.limits.TheConstants.{UPDATE_LIMIT}
 use Rattle.update_codec.specs.declared.codec_fault.CodecKind.{CodecKind}
 use Rattle.update_codec.specs.declared.codec_fault.CodecKind.TheVariants as kinds
@@ -78,13 +78,14 @@ int_at bytes = do
   bits ← number_at w64 bytes
   Ok (values.Int (cast_signed w64 bits.0), bits.1)
 
-unfoldable pub text_at : List ℕ → Read Value
-text_at bytes = do
+-- a text of at most this many bytes
+unfoldable pub text_at : ℕ → List ℕ → Read (List ℕ)
+text_at most bytes = do
   len ← number_at w16 bytes
-  small ← judge (nat_le len.0 MAX_TEXT) kinds.Text bytes
+  small ← judge (nat_le len.0 most) kinds.Text bytes
   text ← block_at len.0 len.1
   utf8 ← judge (is_utf8 text.0) kinds.Text len.1
-  Ok (values.Text text.0, text.1)
+  Ok text
 
 unfoldable pub flag_at : List ℕ → Read Value
 flag_at [] = short
@@ -104,7 +105,7 @@ value_at number [] = short
 value_at number (tag ∷ rest) =
     if tag == 0 then Ok (values.Null, rest)
     else if tag == 1 then int_at rest
-    else if tag == 2 then text_at rest
+    else if tag == 2 then (text_at MAX_TEXT rest >>= λ text. Ok (values.Text text.0, text.1))
     else if tag == 3 then flag_at rest
     else if tag == 4 then (row_at rest >>= λ row. Ok (values.Row row.0, row.1))
     else if tag == 5 then own_at number rest
@@ -165,26 +166,38 @@ ids_at (suc n) last bytes = do
   others ← ids_at n (Some id.0) id.1
   Ok (id.0 ∷ others.0, others.1)
 
+-- the note of a body of which no note is read yet: none in version 1, an empty one in version 2
+abbrev pub first_note : ℕ → Option (List ℕ)
+first_note version = if version == 1 then None else Some []
+
 -- all that stands before the number of operations
 unfoldable pub before_ops_at : List ℕ → Read BodyData
 before_ops_at bytes = do
   version ← byte_at bytes
-  one ← judge (version.0 == 1) kinds.Version bytes
+  known ← judge (version.0 == 1 || version.0 == 2) kinds.Version bytes
   database ← block_at 32 version.1
   author ← author_at database.1
   n ← number_at w16 author.1
   few ← judge (nat_le n.0 MAX_PREDS) kinds.Count author.1
   preds ← ids_at n.0 None n.1
-  Ok (record { database = database.0; author = author.0; preds = preds.0; ops = [] }, preds.1)
+  Ok (record { database = database.0; author = author.0; preds = preds.0; ops = []; note = first_note version.0 }, preds.1)
+
+-- what stands behind the operations of a body that has this note until then
+unfoldable pub note_at : Option (List ℕ) → List ℕ → Read (Option (List ℕ))
+note_at None bytes = Ok (None, bytes)
+note_at (Some first) bytes = do
+  text ← text_at MAX_NOTE bytes
+  Ok (Some text.0, text.1)
 
 -- all that is signed
 unfoldable pub body_at : List ℕ → Read BodyData
 body_at bytes = do
   before ← before_ops_at bytes
   n ← number_at w16 before.1
-  few ← judge (nat_le n.0 MAX_OPS) kinds.Count before.1
+  few ← judge (nat_le n.0 (most_ops before.0.note)) kinds.Count before.1
   ops ← ops_at n.0 0 n.1
-  Ok (record { database = before.0.database; author = before.0.author; preds = before.0.preds; ops = ops.0 }, ops.1)
+  note ← note_at before.0.note ops.1
+  Ok (record { database = before.0.database; author = before.0.author; preds = before.0.preds; ops = ops.0; note = note.0 }, note.1)
 
 unfoldable pub update_at : List ℕ → Read UpdateData
 update_at bytes = do

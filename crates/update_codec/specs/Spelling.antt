@@ -1,5 +1,5 @@
 -- The one spelling of each update.
-use Rattle.std.specs.Prelude.{◌≡◌, ℕ, ◌+◌, ◌≤◌, ◌<◌, List, [], ◌∷◌, ◌++◌, length, true, false}
+use Rattle.std.specs.Prelude.{◌≡◌, ℕ, ◌+◌, ◌≤◌, ◌<◌, List, [], ◌∷◌, ◌++◌, length, Option, Some, None, true, false}
 use Rattle.std.specs.List.{flat_map}
 use Rattle.std.specs.Int.{w16, w32, w64, to_be_bytes, cast_unsigned}
 use Rattle.update_model.specs.declared.update_id.UpdateId.{UpdateId}
@@ -20,11 +20,15 @@ id name = name.0
 abbrev pub row : RowName → List ℕ
 row name = id name.update ++ to_be_bytes w16 name.index
 
--- a value: the tag of its kind, and what it is; a text has its length before it
+-- a text: its length, and its bytes
+abbrev pub text : List ℕ → List ℕ
+text bytes = to_be_bytes w16 (length bytes) ++ bytes
+
+-- a value: the tag of its kind, and what it is
 abbrev pub value : Value → List ℕ
 value Null = 0 ∷ []
 value (Int n) = 1 ∷ to_be_bytes w64 (cast_unsigned w64 n)
-value (Text bytes) = 2 ∷ (to_be_bytes w16 (length bytes) ++ bytes)
+value (Text bytes) = 2 ∷ text bytes
 value (Flag false) = 3 ∷ 0 ∷ []
 value (Flag true) = 3 ∷ 1 ∷ []
 value (Row name) = 4 ∷ row name
@@ -44,21 +48,31 @@ IsCounted (Delete name) = Unit {0}
 abbrev pub author : AuthorKey → List ℕ
 author key = to_be_bytes w32 key.lms ++ (to_be_bytes w32 key.ots ++ (key.ident ++ key.root))
 
--- the version, which is 1, the database and the author
-abbrev pub header : List ℕ → AuthorKey → List ℕ
-header database key = 1 ∷ (database ++ author key)
+-- the version: 1 without a note, 2 with one
+abbrev pub version : Option (List ℕ) → ℕ
+version None = 1
+version (Some bytes) = 2
+
+-- the version, the database and the author
+abbrev pub header : Option (List ℕ) → List ℕ → AuthorKey → List ℕ
+header noted database key = version noted ∷ (database ++ author key)
 
 -- all that stands before the number of operations: the header, the number of predecessors, and their ids
 abbrev pub before_ops : BodyData → List ℕ
-before_ops body = header body.database body.author ++ (to_be_bytes w16 (length body.preds) ++ flat_map id body.preds)
+before_ops body = header body.note body.database body.author ++ (to_be_bytes w16 (length body.preds) ++ flat_map id body.preds)
 
 -- all that stands before the next one of n operations, of which the body has those before it
 abbrev pub before_next_op : BodyData → ℕ → List ℕ
 before_next_op body n = before_ops body ++ (to_be_bytes w16 n ++ flat_map op body.ops)
 
--- what is signed: all up to the operations, their number, and the operations
+-- what stands behind the operations: the note, if there is one
+abbrev pub note : Option (List ℕ) → List ℕ
+note None = []
+note (Some bytes) = text bytes
+
+-- what is signed: all up to the operations, their number, the operations, and the note
 abbrev pub message : BodyData → List ℕ
-message body = before_next_op body (length body.ops)
+message body = before_next_op body (length body.ops) ++ note body.note
 
 -- the message, the length of the signature, and the signature
 abbrev pub spelling : UpdateData → List ℕ

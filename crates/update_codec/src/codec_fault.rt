@@ -4,7 +4,7 @@ use std::fmt;
 /// What is wrong with bytes that spell no update.
 #[derive(Clone, Copy, Debug, PartialEq, Eq, Hash)]
 pub enum CodecKind {
-    /// The first byte is not 1.
+    /// The first byte is neither 1 nor 2.
     Version,
     /// The bytes end in a field, or before one.
     Short,
@@ -12,12 +12,14 @@ pub enum CodecKind {
     Trailing,
     /// A predecessor is not above the one before it.
     Order,
-    /// There are more than [`MAX_PREDS`](update_model::MAX_PREDS) predecessors or [`MAX_OPS`](update_model::MAX_OPS)
-    /// operations, or an insert has no values or more than [`MAX_VALUES`](update_model::MAX_VALUES).
+    /// There are more than [`MAX_PREDS`](update_model::MAX_PREDS) predecessors, more than
+    /// [`MAX_PLAIN_OPS`](update_model::MAX_PLAIN_OPS) operations in version 1 or [`MAX_OPS`](update_model::MAX_OPS) in
+    /// version 2, or an insert has no values or more than [`MAX_VALUES`](update_model::MAX_VALUES).
     Count,
     /// An operation or a value has an unknown tag, or a flag is neither 0 nor 1.
     Tag,
-    /// A text has more than [`MAX_TEXT`](update_model::MAX_TEXT) bytes, or is no UTF-8.
+    /// A text has more than [`MAX_TEXT`](update_model::MAX_TEXT) bytes, a note more than
+    /// [`MAX_NOTE`](update_model::MAX_NOTE), or one is no UTF-8.
     Text,
     /// The LMS type is not 5 to 7, or the LM-OTS type is not 1 to 4.
     KeyType,
@@ -57,8 +59,8 @@ impl fmt::Display for CodecKind {
 pub struct CodecFault {
     /// What is wrong.
     pub kind: CodecKind,
-    /// Where, in bytes from the first one: mostly the first byte of the field that has the fault. A text that is no
-    /// UTF-8 is told at its first byte, behind its length.
+    /// Where, in bytes from the first one: mostly the first byte of the field that has the fault. A text or a note
+    /// that is no UTF-8 is told at its first byte, behind its length.
     pub place: u32,
 }
 

@@ -1,19 +1,23 @@
 //! Reading whole updates.
 
 ghost use Rattle.std.specs.Prelude.{◌≡◌, ◌+◌, List, ℕ, Ok, Err, IfOk, IfErr};
-ghost use Rattle.update_model.specs.Form.{BodyData, UpdateData};
+ghost use Rattle.update_model.specs.Form.{BodyData, UpdateData, most_ops as most_by};
 ghost use Rattle.update_codec.specs.Outcome.{Shows, Answers, Fails, HasCause};
-ghost use Rattle.update_codec.specs.Reading.{Gives, Stops, before_ops_at, body_at, whole, placed as placed_in, first_of};
+ghost use Rattle.update_codec.specs.Reading.{Gives, Stops, first_note as first_by, before_ops_at, note_at, body_at, whole, placed as placed_in, first_of};
 ghost use Rattle.update_codec.specs.Spelling.{Spells};
 
 use crate::fields::{array_of, author_of, block_of, byte_of, u16_of, u32_of};
 use crate::halt::{ReadError, fault_at};
-use crate::limits::{UPDATE_LIMIT, VERSION};
+use crate::limits::{NOTED_VERSION, PLAIN_VERSION, UPDATE_LIMIT};
 use crate::operations::ops_of;
 use crate::predecessors::preds_of;
+use crate::values::text_of;
 use crate::{CodecFault, CodecKind, DecodeError};
 use std::alloc::Global;
-use update_model::{Body, ByteList, IdList, MAX_OPS, MAX_PREDS, OpList, Update, signature_len};
+use update_model::{
+    Body, ByteList, IdList, MAX_NOTE, MAX_OPS, MAX_PLAIN_OPS, MAX_PREDS, OpList, TextValue, Update,
+    signature_len,
+};
 
 /// The update whose spelling these bytes are.
 ///
@@ -80,12 +84,59 @@ fn body_of(alloc: Global, bytes: &[u8]) -> Result<(Body, &[u8]), ReadError>
 {
     let (before, after_preds) = before_ops_of(alloc, bytes)?;
     let (count, rest) = u16_of(after_preds)?;
-    if MAX_OPS < count {
+    if most_ops(&before.note) < count {
         return Err(fault_at(CodecKind::Count, after_preds));
     }
     let (ops, rest) = ops_of(alloc, count, rest)?;
     let ops = OpList::from_vec(ops);
-    Ok((Body { ops, ..before }, rest))
+    let (note, rest) = note_of(alloc, &before.note, rest)?;
+    Ok((
+        Body {
+            ops,
+            note,
+            ..before
+        },
+        rest,
+    ))
+}
+
+/// How many operations a body may have with this note, or without one.
+fn most_ops(note: &Option<TextValue>) -> u16
+    ensures { result ≡ most_by note.now }
+{
+    match note {
+        None => MAX_PLAIN_OPS,
+        Some(_) => MAX_OPS,
+    }
+}
+
+/// What stands behind the operations of a body that has this note until then.
+#[tactic(auto, unfolding(crate::specs::Reading::note_at))]
+fn note_of<'a>(
+    alloc: Global,
+    first: &Option<TextValue>,
+    bytes: &'a [u8],
+) -> Result<(Option<TextValue>, &'a [u8]), ReadError>
+    ensures { Gives (λ read. (read.0, read.1.now)) result (note_at first.now bytes.now) }
+{
+    match first {
+        None => Ok((None, bytes)),
+        Some(_) => {
+            let (text, rest) = text_of(alloc, MAX_NOTE, bytes)?;
+            Ok((Some(text), rest))
+        }
+    }
+}
+
+/// The note of a body of which no note is read yet: none in version 1, an empty one in version 2.
+fn first_note(alloc: Global, version: u8) -> Option<TextValue>
+    ensures { result ≡ first_by version }
+{
+    if version == PLAIN_VERSION {
+        None
+    } else {
+        Some(TextValue::from_vec(Vec::new(alloc)))
+    }
 }
 
 /// All that stands before the number of operations: a body that has none.
@@ -94,7 +145,7 @@ fn before_ops_of(alloc: Global, bytes: &[u8]) -> Result<(Body, &[u8]), ReadError
     ensures { Gives (λ read. (read.0, read.1.now)) result (before_ops_at bytes.now) }
 {
     let (version, rest) = byte_of(bytes)?;
-    if version != VERSION {
+    if version != PLAIN_VERSION && version != NOTED_VERSION {
         return Err(fault_at(CodecKind::Version, bytes));
     }
     let (database, rest) = array_of(rest)?;
@@ -106,12 +157,14 @@ fn before_ops_of(alloc: Global, bytes: &[u8]) -> Result<(Body, &[u8]), ReadError
     let (preds, rest) = preds_of(alloc, count as usize, rest)?;
     let preds = IdList::from_vec(preds);
     let ops = OpList::from_vec(Vec::new(alloc));
+    let note = first_note(alloc, version);
     Ok((
         Body {
             database,
             author,
             preds,
             ops,
+            note,
         },
         rest,
     ))

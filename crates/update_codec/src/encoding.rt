@@ -2,13 +2,13 @@
 
 ghost use Rattle.std.specs.Prelude.{◌≡◌, ◌+◌, ◌≤◌, ◌<◌, ◌++◌, length, IfOk, OnOk};
 ghost use Rattle.update_codec.specs.Outcome.{Writes, Refuses};
-ghost use Rattle.update_codec.specs.Spelling.{Spells, before_ops, message, signed_length, spelling};
+ghost use Rattle.update_codec.specs.Spelling.{Spells, before_ops, message, note as note_bytes, signed_length, spelling, version as version_by};
 
-use crate::limits::{UPDATE_LIMIT, VERSION};
-use crate::writing_ops::{put_ops, put_u16, put_u32};
+use crate::limits::{NOTED_VERSION, PLAIN_VERSION, UPDATE_LIMIT};
+use crate::writing_ops::{put_ops, put_text, put_u16, put_u32};
 use crate::{EncodeError, TooLong};
 use std::alloc::{AllocError, Global};
-use update_model::{Body, Update, signature_len};
+use update_model::{Body, TextValue, Update, signature_len};
 
 /// The bytes that the author of a body signs: its spelling up to the signature's length.
 ///
@@ -55,13 +55,33 @@ fn message_of(alloc: Global, body: &Body, more: usize) -> Result<Vec<u8>, AllocE
     let mut out = Vec::with_capacity(alloc, 93 + 32 * preds + more)?;
     put_before_ops(&mut out, body)?;
     put_ops(&mut out, body.ops.as_slice())?;
+    put_note(&mut out, &body.note)?;
     Ok(out)
+}
+
+fn put_note(out: &mut Vec<u8>, note: &Option<TextValue>) -> Result<(), AllocError>
+    ensures { OnOk result (out.new.items ≡ out.old.items ++ note_bytes note.now) }
+{
+    match note {
+        None => Ok(()),
+        Some(text) => put_text(out, text),
+    }
+}
+
+/// The version of a body that has this note, or none.
+fn version_of(note: &Option<TextValue>) -> u8
+    ensures { result ≡ version_by note.now }
+{
+    match note {
+        None => PLAIN_VERSION,
+        Some(_) => NOTED_VERSION,
+    }
 }
 
 fn put_before_ops(out: &mut Vec<u8>, body: &Body) -> Result<(), AllocError>
     ensures { OnOk result (out.new.items ≡ out.old.items ++ before_ops body.now) }
 {
-    out.push(VERSION)?;
+    out.push(version_of(&body.note))?;
     out.extend_from_slice(&body.database)?;
     put_u32(out, body.author.lms)?;
     put_u32(out, body.author.ots)?;

@@ -1,6 +1,7 @@
 //! The one spelling of each update in bytes: encoding, decoding, and the id of an update.
 //!
-//! Version 1 of the format: version, database, author's key, predecessors, operations, and the author's signature.
+//! The format: version, database, author's key, predecessors, operations, in version 2 a note, and the author's signature.
+//! An update without a note is spelled in version 1, and one with a note in version 2.
 //! [`encode`] gives the spelling of an update and [`decode`] the update whose spelling bytes are; each answers exactly
 //! where there is one. Other bytes have one first fault, with its kind and place. [`spelled`] checks bytes in the same
 //! way and keeps them, as a member of a graph does.
@@ -39,8 +40,8 @@ pub use digest::id_of;
 pub use encode_error::{EncodeError, TooLong};
 pub use encoding::{encode, encode_body};
 pub use laws::{
-    fields_of_spelling, no_fault, no_prefix, one_fault, one_spelling, one_update, some_fault,
-    spells_its_parts,
+    fields_of_spelling, first_version_stays, no_fault, no_prefix, one_fault, one_spelling,
+    one_update, some_fault, spells_its_parts,
 };
 pub use limits::UPDATE_LIMIT;
 pub use spelled_update::Spelled;

@@ -1,6 +1,7 @@
 //! Reading the values of an insert.
 
-ghost use Rattle.std.specs.Prelude.{◌≡◌};
+ghost use Rattle.std.specs.Prelude.{◌≡◌, ◌≤◌};
+ghost use Rattle.update_model.specs.declared.limits.TheConstants.{MAX_TEXT};
 ghost use Rattle.std.specs.Str.{is_utf8 as has_utf8};
 ghost use Rattle.update_codec.specs.Reading.{Gives, int_at, text_at, flag_at, own_at, value_at, values_at};
 
@@ -25,13 +26,18 @@ fn is_utf8(bytes: &[u8]) -> bool
     str::from_utf8(bytes).is_ok()
 }
 
-/// A text, which is judged when its length is whole, and again when its bytes are.
+/// A text of at most this many bytes, which is judged when its length is whole, and again when its bytes are.
 #[tactic(auto, unfolding(crate::specs::Reading::text_at))]
-fn text_of(alloc: Global, bytes: &[u8]) -> Result<(Value, &[u8]), ReadError>
-    ensures { Gives (λ read. (read.0, read.1.now)) result (text_at bytes.now) }
+pub(crate) fn text_of(
+    alloc: Global,
+    most: u16,
+    bytes: &[u8],
+) -> Result<(TextValue, &[u8]), ReadError>
+    requires { most ≤ MAX_TEXT }
+    ensures { Gives (λ read. (read.0, read.1.now)) result (text_at most bytes.now) }
 {
     let (len, after_len) = u16_of(bytes)?;
-    if MAX_TEXT < len {
+    if most < len {
         return Err(fault_at(CodecKind::Text, bytes));
     }
     let (text, rest) = block_of(after_len, len as usize)?;
@@ -39,7 +45,7 @@ fn text_of(alloc: Global, bytes: &[u8]) -> Result<(Value, &[u8]), ReadError>
         return Err(fault_at(CodecKind::Text, after_len));
     }
     let text = TextValue::from_vec(Vec::from_slice(alloc, text)?);
-    Ok((Value::Text(text), rest))
+    Ok((text, rest))
 }
 
 #[tactic(auto, unfolding(crate::specs::Reading::flag_at))]
@@ -75,7 +81,10 @@ fn value_of(alloc: Global, number: u16, bytes: &[u8]) -> Result<(Value, &[u8]), 
         [] => Err(SHORT),
         [0, rest @ ..] => Ok((Value::Null, rest)),
         [1, rest @ ..] => int_of(rest),
-        [2, rest @ ..] => text_of(alloc, rest),
+        [2, rest @ ..] => {
+            let (text, rest) = text_of(alloc, MAX_TEXT, rest)?;
+            Ok((Value::Text(text), rest))
+        }
         [3, rest @ ..] => flag_of(rest),
         [4, rest @ ..] => {
             let (row, rest) = row_of(rest)?;

@@ -8,7 +8,7 @@ ghost use Rattle.update_codec.specs.Spelling.{IsCounted};
 
 use byteorder::{BigEndian, ByteOrder};
 use std::alloc::AllocError;
-use update_model::{Op, RowName, Value};
+use update_model::{Op, RowName, TextValue, Value};
 
 pub(crate) fn put_u16(out: &mut Vec<u8>, number: u16) -> Result<(), AllocError>
     ensures { OnOk result (out.new.items ≡ out.old.items ++ to_be_bytes w16 number) }
@@ -41,6 +41,15 @@ fn put_row(out: &mut Vec<u8>, row: &RowName) -> Result<(), AllocError>
     put_u16(out, row.index)
 }
 
+/// The length of a text, and its bytes.
+pub(crate) fn put_text(out: &mut Vec<u8>, text: &TextValue) -> Result<(), AllocError>
+    ensures { OnOk result (out.new.items ≡ out.old.items ++ spell.text text.now) }
+{
+    let bytes = text.as_slice();
+    put_u16(out, bytes.len() as u16)?;
+    out.extend_from_slice(bytes)
+}
+
 fn put_value(out: &mut Vec<u8>, value: &Value) -> Result<(), AllocError>
     ensures { OnOk result (out.new.items ≡ out.old.items ++ spell.value value.now) }
 {
@@ -51,10 +60,8 @@ fn put_value(out: &mut Vec<u8>, value: &Value) -> Result<(), AllocError>
             put_u64(out, number.cast_unsigned())
         }
         Value::Text(text) => {
-            let bytes = text.as_slice();
             out.push(2)?;
-            put_u16(out, bytes.len() as u16)?;
-            out.extend_from_slice(bytes)
+            put_text(out, text)
         }
         Value::Flag(flag) => out.extend_from_slice(&[3, u8::from(*flag)]),
         Value::Row(row) => {

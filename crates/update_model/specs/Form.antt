@@ -1,21 +1,22 @@
 -- What updates are, as plain data, and which of them are in form.
-use Rattle.std.specs.Prelude.{ℕ, ◌+◌, ◌*◌, ◌≤◌, List, [], ◌∷◌, length, Bool, Option, Some, None, IsTrue, ◌==◌, if◌then◌else◌}
+use Rattle.std.specs.Prelude.{ℕ, ◌+◌, ◌*◌, ◌≤◌, List, [], ◌∷◌, length, Bool, Option, Some, None, IsTrue, IsUtf8, ◌==◌, if◌then◌else◌}
 use Rattle.std.specs.List.{AllByRecursion}
 use Rattle.std.specs.Ordering.{nat_cmp, is_lt}
 use Rattle.std.specs.Cmp.Lexicographic.{slice_cmp}
 use Rattle.update_model.specs.declared.update_id.UpdateId.{UpdateId}
 use Rattle.update_model.specs.declared.author_key.AuthorKey.{AuthorKey}
 use Rattle.update_model.specs.declared.op.Op.{Op}
-use Rattle.update_model.specs.declared.limits.TheConstants.{MAX_OPS, MAX_PREDS}
+use Rattle.update_model.specs.declared.limits.TheConstants.{MAX_NOTE, MAX_OPS, MAX_PLAIN_OPS, MAX_PREDS}
 use Rattle.update_model.specs.Block.{IsBlock, IsId}
 use Rattle.update_model.specs.Rows.{AreOps}
 
--- the parts of a body
+-- the parts of a body; it has a note or none
 pub record BodyData : Type 0 where
   pub database : List ℕ
   pub author : AuthorKey
   pub preds : List UpdateId
   pub ops : List Op
+  pub note : Option (List ℕ)
 
 -- a body and a signature
 pub record UpdateData : Type 0 where
@@ -42,6 +43,16 @@ pub record IsKey (key : AuthorKey) : Type 0 where
   pub ident : IsBlock 16 key.ident
   pub root : IsBlock 32 key.root
 
+-- a note is UTF-8, and not too long
+abbrev pub IsNote : Option (List ℕ) → Type 0
+IsNote None = Unit {0}
+IsNote (Some text) = (length text ≤ MAX_NOTE) × IsUtf8 text
+
+-- how many operations a body may have with this note, or without one
+abbrev pub most_ops : Option (List ℕ) → ℕ
+most_ops None = MAX_PLAIN_OPS
+most_ops (Some text) = MAX_OPS
+
 -- a body in form
 pub record IsBody (body : BodyData) : Type 0 where
   pub database : IsBlock 32 body.database
@@ -49,8 +60,9 @@ pub record IsBody (body : BodyData) : Type 0 where
   pub few_preds : length body.preds ≤ MAX_PREDS
   pub ids : AllByRecursion IsId body.preds
   pub rising : AreRising None body.preds
-  pub few_ops : length body.ops ≤ MAX_OPS
+  pub few_ops : length body.ops ≤ most_ops body.note
   pub ops : AreOps 0 body.ops
+  pub note : IsNote body.note
 
 -- how many bytes the one-time signatures of an LM-OTS type have
 abbrev pub ots_length : ℕ → ℕ

@@ -1,13 +1,15 @@
 ghost use Rattle.std.specs.Prelude.{◌≡◌, IfOk};
 
-use crate::{AuthorKey, IdList, OpList};
+use crate::{AuthorKey, IdList, OpList, TextValue};
 use std::alloc::{AllocError, Global};
 use std::marker::Model;
 
-/// What an author signs: the database, who writes, which updates came directly before, and what is done to rows.
+/// What an author signs: the database, who writes, which updates came directly before, what is done to rows, and a
+/// note of it.
 ///
 /// Every value is in form: predecessors rise strictly, there are at most 1,024 of them, the key's two types are
-/// known ones, and there are at most 64 operations of which [`crate::check_ops`] is true.
+/// known ones, a note has at most 256 bytes, and there are at most 256 operations with a note and 64 without one, of
+/// which [`crate::check_ops`] is true.
 #[derive(Debug, Drop)]
 pub struct Body {
     /// The id of the database that the update belongs to.
@@ -18,6 +20,8 @@ pub struct Body {
     pub preds: IdList,
     /// The operations, which number from 0.
     pub ops: OpList,
+    /// What the author says of it, if anything.
+    pub note: Option<TextValue>,
 }
 
 impl Model for Body {
@@ -25,9 +29,9 @@ impl Model for Body {
 
     ghost Value = { BodyData };
 
-    ghost view = { λ body. record { database = body.database; author = body.author; preds = body.preds; ops = body.ops } };
+    ghost view = { λ body. record { database = body.database; author = body.author; preds = body.preds; ops = body.ops; note = body.note } };
 
-    ghost invariant = { λ body. IsBody (record { database = body.database; author = body.author; preds = body.preds; ops = body.ops }) };
+    ghost invariant = { λ body. IsBody (record { database = body.database; author = body.author; preds = body.preds; ops = body.ops; note = body.note }) };
 }
 
 impl Body {
@@ -40,6 +44,16 @@ impl Body {
             author: self.author,
             preds: self.preds.copy(alloc)?,
             ops: self.ops.copy(alloc)?,
+            note: copy_note(alloc, &self.note)?,
         })
+    }
+}
+
+fn copy_note(alloc: Global, note: &Option<TextValue>) -> Result<Option<TextValue>, AllocError>
+    ensures { IfOk result (λ copy. copy ≡ note.now) }
+{
+    match note {
+        None => Ok(None),
+        Some(text) => Ok(Some(text.copy(alloc)?)),
     }
 }

@@ -8,8 +8,8 @@ ghost use Rattle.update_model.specs.Rows.{IsRowName, IsValue, IsOp, AreOps};
 
 use crate::{MAX_OPS, MAX_VALUES, Op, RowName, Value};
 
-/// Whether the operations may stand in a body, which has at most 64 of them: each insert gives one to sixteen
-/// values, and each own reference names an earlier operation.
+/// Whether the operations may stand in a body with a note, which has at most 256 of them: each insert gives one to
+/// sixteen values, and each own reference names an earlier operation.
 pub fn check_ops(ops: &[Op]) -> bool
     ensures { IsTrue result ↔ ((length ops.now ≤ MAX_OPS) × AreOps 0 ops.now) }
 {

@@ -44,7 +44,10 @@ pub use body::Body;
 pub use checking::check_ops;
 pub use db_rule::DbRule;
 pub use laws::{heads_cover_members, heads_of_same_set, nonempty_has_head};
-pub use limits::{MAX_BYTES, MAX_MEMBERS, MAX_NODE_OPS, MAX_OPS, MAX_PREDS, MAX_TEXT, MAX_VALUES};
+pub use limits::{
+    MAX_BYTES, MAX_MEMBERS, MAX_NODE_OPS, MAX_NOTE, MAX_OPS, MAX_PLAIN_OPS, MAX_PREDS, MAX_TEXT,
+    MAX_VALUES,
+};
 pub use lists::{ByteList, IdList, KeyList, PositionList};
 pub use member::Member;
 pub use node::Node;

@@ -3,8 +3,14 @@
 /// The most predecessors of an update.
 pub const MAX_PREDS: u16 = 1024;
 
-/// The most operations of an update.
-pub const MAX_OPS: u16 = 64;
+/// The most operations of an update, which has a note where it has more than [`MAX_PLAIN_OPS`].
+pub const MAX_OPS: u16 = 256;
+
+/// The most operations of an update without a note.
+pub const MAX_PLAIN_OPS: u16 = 64;
+
+/// The most bytes of an update's note.
+pub const MAX_NOTE: u16 = 256;
 
 /// The most operations of a node, which may be made of no update.
 pub const MAX_NODE_OPS: u16 = 256;

@@ -16,7 +16,7 @@ pub fn check_value_text(bytes: &[u8]) -> bool
     bytes.len() <= MAX_TEXT as usize && str::from_utf8(bytes).is_ok()
 }
 
-/// A text in a row: at most 1,024 bytes of UTF-8, which a contract sees as the list of its bytes.
+/// A text in a row, or a note: at most 1,024 bytes of UTF-8, which a contract sees as the list of its bytes.
 #[derive(Debug, Drop)]
 pub struct TextValue {
     bytes: Vec<u8>,

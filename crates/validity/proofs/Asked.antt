@@ -12,15 +12,18 @@ use Rattle.update_model.specs.declared.value.Value.TheVariants as value
 use Rattle.update_model.specs.Node.{NodeData}
 use Rattle.row_check.specs.Meaning.{value_at}
 use Rattle.schema.specs.declared.rules.MatchRule.{MatchRule}
+use Rattle.table_model.specs.declared.verdict.Verdict.{Verdict}
 use Rattle.table_model.specs.declared.verdict.Verdict.TheVariants as verdict
 use Rattle.table_model.specs.Visible.{Effects, RowRef, Rules, TableRow, refs, same_row, table_of, visible_rows}
-use Rattle.table_model.specs.Verdicts.{delete_reason, first_reason, insert_reason, joined, limits_hold, matches_among, nothing, row_inserted, same_author, stands_among, verdict_after}
+use Rattle.table_model.specs.Verdicts.{are_new, delete_reason, first_reason, insert_reason, joined, left_of, limits_hold, matches_among, nothing, row_inserted, same_author, stands_among, verdict_after}
 use Rattle.schema.specs.Checks.{checks_hold}
 use Rattle.schema.specs.Columns.{all_fit}
 use Rattle.validity.specs.declared.own_row.OwnRow.{OwnRow}
 use Rattle.table_model.specs.Answers.{AreAnswers}
-use Rattle.validity.specs.Asked.{delete_asked, insert_asked, is_anothers, is_deletable, is_in, is_match, is_matched, match_asked, own_row, row_of, stands_asked, verdict_asked}
+use Rattle.validity.specs.Asked.{delete_asked, end_asked, freed_by, insert_asked, is_anothers, is_deletable, is_freed, is_in, is_match, is_matched, match_asked, own_row, row_of, stands_asked, verdict_asked}
 use Rattle.validity.proofs.Named.{Once, entry_any}
+use Rattle.validity.proofs.Reasons.{not_twice}
+use Rattle.validity.proofs.Taken.{AreApart, AreLeft, SameFreed, SameNew, left_free, more_freed, more_new, no_new}
 
 -- the update's own rows are these, in whatever order
 pub record SameRows (own : List OwnRow) (rows : List TableRow) : Type 0 where
@@ -115,23 +118,47 @@ module _ (rules : Rules) (past : Effects) (row : RowName → Option RowEntry) (c
       ∷ (8, answers.child name i)
       ∷ [])
 
+  left_are : (names others : List RowName) → SameFreed rules.tables row names others → AreApart others → AreLeft rules equal (freed_by rules.tables row names) (left_of (visible_rows rules past) others)
+  left_are names others s apart = record {
+    is = λ table column value kept.
+        ap (λ n. nat_le (equal table column value) n) (s.freed (is_freed table value))
+        ∙ left_free rules row equal (visible_rows rules past) answers.row answers.single answers.equal table column value kept others apart;
+  }
+
+  same_end : ((did : Effects) → limits_hold (visible_rows rules (joined did past)) 0 rules.tables ≡ true)
+      → (number : ℕ) (own : List OwnRow) (names : List RowName) (did : Effects) → SameNew rules equal own did.inserted → SameFreed rules.tables row names did.deleted → AreApart did.deleted
+      → end_asked rules row equal number own names
+      ≡ (if limits_hold (visible_rows rules (joined did past)) 0 rules.tables && are_new rules (left_of (visible_rows rules past) did.deleted) did.inserted then verdict.Valid else verdict.Void 9 number)
+  same_end limits number own names did n f apart =
+      ap (λ b. if b then verdict.Valid else verdict.Void 9 number) (n.new (freed_by rules.tables row names) (left_of (visible_rows rules past) did.deleted) (left_are names did.deleted f apart))
+      ∙ ap (λ b. if b && are_new rules (left_of (visible_rows rules past) did.deleted) did.inserted then verdict.Valid else verdict.Void 9 number) (sym (limits did))
+
   same_verdict : ((did : Effects) → limits_hold (visible_rows rules (joined did past)) 0 rules.tables ≡ true)
-      → (node : NodeData) (number : ℕ) (own : List OwnRow) (names : List RowName) (did : Effects) → SameRows own did.inserted → SameNames names did.deleted → (ops : List Op)
-      → verdict_asked rules row child node number own names ops ≡ verdict_after rules past (visible_rows rules past) node number did ops
+      → (node : NodeData) (number : ℕ) (own : List OwnRow) (names : List RowName) (did : Effects) → SameRows own did.inserted → SameNew rules equal own did.inserted
+      → SameNames names did.deleted → SameFreed rules.tables row names did.deleted → AreApart did.deleted → (ops : List Op)
+      → verdict_asked rules row child equal node number own names ops ≡ verdict_after rules past (visible_rows rules past) node number did ops
   unfolding verdict_asked
-  same_verdict limits node number own names did s t [] = sym (ap (λ b. if b then verdict.Valid else verdict.Void 9 number) (limits did))
-  same_verdict limits node number own names did s t (Insert table values ∷ ops) = λ i.
+  same_verdict limits node number own names did s n t f apart [] = same_end limits number own names did n f apart
+  same_verdict limits node number own names did s n t f apart (Insert table values ∷ ops) = λ i.
       elim (same_insert own did.inserted s (own_row node number table values) i) [
         | Some reason ↦ verdict.Void reason number
         | None ↦ same_verdict limits node (number + 1) (own ++ own_row node number table values ∷ []) names (record did { inserted = row_inserted node number table values ∷ did.inserted })
-            (more_rows own did.inserted (own_row node number table values) s) t ops i
+            (more_rows own did.inserted (own_row node number table values) s) (more_new rules equal own did.inserted (own_row node number table values) s.any n) t f apart ops i
       ]
-  same_verdict limits node number own names did s t (Delete name ∷ ops) = λ i.
-      elim (same_delete names did.deleted t node.author name i) [
-        | Some reason ↦ verdict.Void reason number
-        | None ↦ same_verdict limits node (number + 1) own (names ++ name ∷ []) (record did { deleted = name ∷ did.deleted }) s (more_names names did.deleted name t) ops i
-      ]
+  same_verdict limits node number own names did s n t f apart (Delete name ∷ ops) =
+      let next : Effects = record did { deleted = name ∷ did.deleted } in
+      let asked : Option ℕ → Verdict = elim [ Some reason ↦ verdict.Void reason number | None ↦ verdict_asked rules row child equal node (number + 1) own (names ++ name ∷ []) ops ] in
+      let defined : Option ℕ → Verdict = elim [ Some reason ↦ verdict.Void reason number | None ↦ verdict_after rules past (visible_rows rules past) node (number + 1) next ops ] in
+      let step : (reason : Option ℕ) → delete_asked rules row child names node.author name ≡ reason → asked reason ≡ defined reason =
+      elim [
+        | Some reason ↦ λ e. refl
+        | None ↦ λ e.
+            same_verdict limits node (number + 1) own (names ++ name ∷ []) next s n (more_names names did.deleted name t) (more_freed rules.tables row names did.deleted name f)
+            (sym (t.any (same_row name)) ∙ not_twice (is_deletable rules (row name)) (list_any (same_row name) names) (is_anothers rules node.author (row name)) (child name) e, apart) ops
+      ] in
+      step (delete_asked rules row child names node.author name) refl ∙ ap defined (same_delete names did.deleted t node.author name)
 
   pub verdict_is_asked : ((did : Effects) → limits_hold (visible_rows rules (joined did past)) 0 rules.tables ≡ true) → (node : NodeData)
-      → verdict_asked rules row child node 0 [] [] node.ops ≡ verdict_after rules past (visible_rows rules past) node 0 nothing node.ops
-  verdict_is_asked limits node = same_verdict limits node 0 [] [] nothing (record { any = λ p. refl }) (record { any = λ p. refl }) node.ops
+      → verdict_asked rules row child equal node 0 [] [] node.ops ≡ verdict_after rules past (visible_rows rules past) node 0 nothing node.ops
+  verdict_is_asked limits node =
+      same_verdict limits node 0 [] [] nothing (record { any = λ p. refl }) (no_new rules equal) (record { any = λ p. refl }) (record { freed = λ p. refl }) tt node.ops

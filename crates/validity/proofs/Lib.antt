@@ -4,3 +4,4 @@ mod Limits
 mod Named
 mod Reasons
 mod Steps
+mod Taken

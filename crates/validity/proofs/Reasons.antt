@@ -19,3 +19,9 @@ eight d m b c d-is m-is b-is c-is = sym (λ i. first_reason ((6, not (d-is i) ||
 
 pub no_reason : (d m b c : Bool) → d ≡ true → m ≡ false → b ≡ false → c ≡ false → None ≡ first_reason ((6, not d || m) ∷ (7, b) ∷ (8, c) ∷ [])
 no_reason d m b c d-is m-is b-is c-is = sym (λ i. first_reason ((6, not (d-is i) || m-is i) ∷ (7, b-is i) ∷ (8, c-is i) ∷ []))
+
+-- where no reason applies, the name is not deleted yet
+pub not_twice : (d m b c : Bool) → first_reason ((6, not d || m) ∷ (7, b) ∷ (8, c) ∷ []) ≡ None → m ≡ false
+not_twice d false b c h = refl
+not_twice true true b c h = absurd cc
+not_twice false true b c h = absurd cc

@@ -62,7 +62,7 @@ fn is_anothers(schema: &Schema, author: &AuthorKey, row: &RowEntry) -> bool
 }
 
 /// The table with this number, where there is one.
-fn table_at(schema: &Schema, number: u8) -> Option<&TableDef>
+pub(crate) fn table_at(schema: &Schema, number: u8) -> Option<&TableDef>
     ensures { option_copied result ≡ slice_get schema.now.tables number }
 {
     if number < schema.tables() {

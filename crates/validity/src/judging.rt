@@ -4,15 +4,16 @@ ghost use Rattle.schema.specs.Data.{Meaning};
 ghost use Rattle.table_model.specs.Verdicts.{is_unlimited, verdict_on};
 ghost use Rattle.table_model.specs.Visible.{Effects, rules_with};
 ghost use Rattle.table_model.specs.Answers.{AreAnswers};
-ghost use Rattle.validity.specs.Asked.{delete_asked, deleted_after, insert_asked, op_asked, own_after, verdict_asked};
+ghost use Rattle.validity.specs.Asked.{delete_asked, deleted_after, end_asked, insert_asked, op_asked, own_after, verdict_asked};
 
 use crate::deleting::delete_reason;
 use crate::inserting::insert_reason;
+use crate::kept_values::are_free;
 use crate::own_row::{OwnRow, own_row};
 use row_check::{Checks, Native, Relation};
 use schema::Schema;
 use std::alloc::{AllocError, Global};
-use table_model::{Verdict, unlimited_tables_hold, verdict_goes_by_operations};
+use table_model::{Verdict, reason, unlimited_tables_hold, verdict_goes_by_operations};
 use update_model::{AuthorKey, Node, Op, RowName, RowsAt};
 
 /// What the operations so far did.
@@ -30,8 +31,9 @@ struct Done {
 ///
 /// The verdict is the first reason that applies, operation by operation, each after the ones before it; [`Verdict::Void`]
 /// says what the reasons are. A reference to the row of an earlier operation of the update may be written as
-/// [`Own`](update_model::Value::Own) or as that row's name. Since no table has a `UNIQUE` or an `ATMOST`, the ninth reason
-/// never comes.
+/// [`Own`](update_model::Value::Own) or as that row's name. Since no table has an `ATMOST`, or a `UNIQUE` without
+/// `KEEP LEAST`, the ninth reason comes by `KEEP LEAST` alone: where a new row has a value that an earlier row of the
+/// update has, or a visible one that the update does not delete.
 ///
 /// It gives up where memory runs out.
 pub fn judge<L: Relation, C: Checks<L>, Q: RowsAt>(
@@ -59,7 +61,7 @@ fn judge_operations<L: Relation, C: Checks<L>, Q: RowsAt>(
     node: &Node,
     rows: &Q,
 ) -> Result<Verdict, AllocError>
-    ensures { IfOk result (λ verdict. verdict ≡ verdict_asked (rules_with L.answer schema.now.tables) (Q.RowsAt.row rows.now) (Q.RowsAt.has_child rows.now) node.now 0 [] [] node.now.ops) }
+    ensures { IfOk result (λ verdict. verdict ≡ verdict_asked (rules_with L.answer schema.now.tables) (Q.RowsAt.row rows.now) (Q.RowsAt.has_child rows.now) (Q.RowsAt.equal_count rows.now) node.now 0 [] [] node.now.ops) }
 {
     let mut done = Done {
         number: 0,
@@ -73,7 +75,32 @@ fn judge_operations<L: Relation, C: Checks<L>, Q: RowsAt>(
             return Ok(Verdict::Void { reason, operation });
         }
     }
-    Ok(Verdict::Valid)
+    end_verdict(alloc, schema, &done, rows)
+}
+
+/// The verdict where each operation may be done.
+fn end_verdict<Q: RowsAt>(
+    alloc: Global,
+    schema: &Schema,
+    done: &Done,
+    rows: &Q,
+) -> Result<Verdict, AllocError>
+    ensures { IfOk result (λ verdict. (ask : Meaning) → verdict ≡ end_asked (rules_with ask schema.now.tables) (Q.RowsAt.row rows.now) (Q.RowsAt.equal_count rows.now) done.now.number done.now.own.items done.now.deleted.items) }
+{
+    if are_free(
+        alloc,
+        schema,
+        done.own.as_slice(),
+        done.deleted.as_slice(),
+        rows,
+    )? {
+        Ok(Verdict::Valid)
+    } else {
+        Ok(Verdict::Void {
+            reason: reason::LIMIT_BROKEN,
+            operation: done.number,
+        })
+    }
 }
 
 /// Does an operation, or answers the number of the first reason for which it may not be done.

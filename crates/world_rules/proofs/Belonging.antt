@@ -5,7 +5,10 @@ use Rattle.std.proofs.lemmas.List.{take-append-le, length-map, map-append}
 use Rattle.session_rules.specs.Course.{opened}
 use Rattle.session_rules.specs.Pair.{Feeds, grown}
 use Rattle.session_rules.specs.State.{SessionData}
+use Rattle.session_rules.specs.Steps.{heads_in}
 use Rattle.sync_session.specs.Kept.{Kept, BelongsTo, seen, whole}
+use Rattle.sync_session.specs.Wants.{AreSought}
+use Rattle.sync_session.proofs.Wanting.{sought_grown}
 use Rattle.update_codec.specs.Parts.{entry_of}
 use Rattle.update_model.specs.declared.limits.TheConstants.{MAX_MEMBERS}
 use Rattle.update_model.specs.Batch.{store_limits}
@@ -39,6 +42,8 @@ belongs_still rule k before now e belongs fine =
         below = let size = ap length e.begins in omega (arith, low, size, length-append before e.more);
         heads = λ id. subst (λ (start : List Entry). has k.heads id ≡ (holds start id && not (names start id))) (sym front) (was.stands.heads id);
         under = was.stands.under;
+        seeks = λ going. subst (λ (xs : List Entry). AreSought (heads_in k.state.peer) xs k.pending k.state.asked k.sought) (sym list)
+            (sought_grown (heads_in k.state.peer) (map entry_of before) (map entry_of e.more) k.pending k.state.asked k.sought (was.stands.seeks going));
       };
       continues = record {
         role = was.continues.role;

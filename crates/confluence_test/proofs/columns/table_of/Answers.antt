@@ -9,3 +9,6 @@ returns-clause-few_columns c = (sound_at c.args.schema.now.tables c.tables-table
 
 pub returns-clause-few_rows : goal.returns-clause-few_rows
 returns-clause-few_rows c = (sound_at c.args.schema.now.tables c.tables-tables.ensures.kept.tables c.args.number c.table.result.now c.table.ensures).few_rows
+
+pub returns-clause-kept : goal.returns-clause-kept
+returns-clause-kept c = (sound_at c.args.schema.now.tables c.tables-tables.ensures.kept.tables c.args.number c.table.result.now c.table.ensures).kept

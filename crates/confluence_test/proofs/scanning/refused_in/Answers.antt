@@ -1,8 +1,6 @@
-use Rattle.std.proofs.Common.{◌∙◌, List, ap, Option, slice_get}
+use Rattle.std.proofs.Common.{◌∙◌, List, ap, Option}
 use Rattle.std.specs.Option.{option_or, option_map}
 use Rattle.schema.specs.declared.column.Column.{Column}
-use Rattle.schema.specs.declared.rules.UniqueRule.{UniqueRule}
-use Rattle.table_model.specs.Invariants.{each_from, unique_declared}
 use Rattle.confluence_test.specs.Findings.{declared_of, refused_by}
 use Rattle.confluence_test.specs.declared.finding.Finding.{Finding}
 use Rattle.confluence_test.proofs.Scans.{table_first, references_from}
@@ -15,7 +13,7 @@ returns-clause-first c =
     let a = c.refused_at_most-at_most.result in
     let r = c.refused_reference-reference.result in
     ap (option_map declared_of) (c.or-2.ensures ∙ ap (λ (o : Option Finding). option_or o r) c.or.ensures)
-    ∙ table_first c.args.permanence.now number c.args.table.now u a r
-    (c.refused_unique-unique.ensures.first ∙ ap (λ (l : List UniqueRule). slice_get (each_from (unique_declared number) 0 l) 0) c.as_slice.ensures)
+    ∙ table_first c.args.permanence.now number c.args.table.now c.requires.kept u a r
+    c.refused_unique-unique.ensures.first
     c.refused_at_most-at_most.ensures.first
-    (c.refused_reference-reference.ensures.first ∙ ap (λ (l : List Column). refused_by c.args.permanence.now (references_from number 0 l)) c.as_slice-2.ensures)
+    (c.refused_reference-reference.ensures.first ∙ ap (λ (l : List Column). refused_by c.args.permanence.now (references_from number 0 l)) c.as_slice.ensures)

@@ -5,7 +5,7 @@ use Rattle.replica.proofs.adding.sign_and_add.Goals as goal
 
 pub add_last-requires-clause-next : goal.add_last-requires-clause-next
 add_last-requires-clause-next g c κs within =
-    members_push c.args.history.now c.args.key.now.secret c.args.key.now.taken c.args.preds c.args.ops c.args.c.now c.in_ok-update.update c.requires.members c.requires.held
+    members_push c.args.history.now c.args.key.now.secret c.args.key.now.taken c.args.preds c.args.says c.args.c.now c.in_ok-update.update c.requires.members c.requires.held
     c.in_ok-update.ensures.made c.in_ok-update.ensures.checked c.in_ok-update.ensures.length c.in_ok-update.ensures.new
 
 pub returns-in_err-add_last-clause-key : goal.returns-in_err-add_last-clause-key
@@ -17,7 +17,7 @@ pub returns-clause-added : goal.returns-clause-added
 returns-clause-added g c = record {
   bytes = c.in_ok-update.update;
   made = c.in_ok-update.ensures.made;
-  members = members_push c.args.history.now c.args.key.now.secret c.args.key.now.taken c.args.preds c.args.ops c.args.c.now c.in_ok-update.update c.requires.members c.requires.held
+  members = members_push c.args.history.now c.args.key.now.secret c.args.key.now.taken c.args.preds c.args.says c.args.c.now c.in_ok-update.update c.requires.members c.requires.held
       c.in_ok-update.ensures.made c.in_ok-update.ensures.checked c.in_ok-update.ensures.length c.in_ok-update.ensures.new;
   valid = c.in_ok-add_last.ensures.valid;
   id_is = c.id-id.ensures;

@@ -18,7 +18,7 @@ read_again rule printed again (form.Column name kind null) has = column_again ru
 read_again rule printed again (form.Ref name table act null) has = ref_again rule name table act null has.0 has.1
 read_again rule printed again (form.Check tokens) has = check_again rule again tokens has
 read_again rule printed again (form.Match column sign reference target) has = match_again rule column sign reference target has.0 has.1 has.2
-read_again rule printed again (form.Unique column) has = unique_again rule column has
+read_again rule printed again (form.Unique column keeps) has = unique_again rule column keeps has
 read_again rule printed again (form.AtMost count) has = at_most_again rule again count has
 read_again rule printed again (form.Sample values) has = sample_again rule printed again values has
 

@@ -18,13 +18,13 @@ returns c =
     let len : ℕ = len_of c.as_slice-heads.result.now c.as_slice-old.result.now c.as_slice-filter.result.now in
     let bytes : List ℕ = c.extend_from_slice-3.new.self.items in
     let parts : List UpdateId → List UpdateId → List ℕ → List ℕ =
-    λ a b f. (((((((((1 ∷ to_be_bytes w32 len) ++ 1 ∷ []) ++ h.database) ++ h.node) ++ to_be_bytes w32 (length a)) ++ spelled_ids a) ++ to_be_bytes w16 (length b)) ++ spelled_ids b) ++ to_be_bytes w32 (length f)) ++ f in
+    λ a b f. (((((((((1 ∷ to_be_bytes w32 len) ++ 2 ∷ []) ++ h.database) ++ h.node) ++ to_be_bytes w32 (length a)) ++ spelled_ids a) ++ to_be_bytes w16 (length b)) ++ spelled_ids b) ++ to_be_bytes w32 (length f)) ++ f in
     let written : bytes ≡ parts c.as_slice-heads.result.now c.as_slice-old.result.now c.as_slice-filter.result.now =
-    hello_steps ((1 ∷ to_be_bytes w32 len) ++ 1 ∷ []) h.database h.node (to_be_bytes w32 (length c.as_slice-heads.result.now)) (spelled_ids c.as_slice-heads.result.now)
+    hello_steps ((1 ∷ to_be_bytes w32 len) ++ 2 ∷ []) h.database h.node (to_be_bytes w32 (length c.as_slice-heads.result.now)) (spelled_ids c.as_slice-heads.result.now)
     (to_be_bytes w16 (length c.as_slice-old.result.now)) (spelled_ids c.as_slice-old.result.now) (to_be_bytes w32 (length c.as_slice-filter.result.now)) c.as_slice-filter.result.now
     c.push.new.self.items c.extend_from_slice.new.self.items c.extend_from_slice-2.new.self.items c.put_u32.new.out.items c.put_ids.new.out.items c.put_u16.new.out.items
     c.put_ids-2.new.out.items c.put_u32-2.new.out.items bytes
-    (c.in_ok-push.ensures.items ∙ ap (λ (o : List ℕ). o ++ 1 ∷ []) c.in_ok-out.ensures) c.in_ok-extend_from_slice.ensures.items c.in_ok-extend_from_slice-2.ensures.items
+    (c.in_ok-push.ensures.items ∙ ap (λ (o : List ℕ). o ++ 2 ∷ []) c.in_ok-out.ensures) c.in_ok-extend_from_slice.ensures.items c.in_ok-extend_from_slice-2.ensures.items
     c.in_ok-put_u32.ensures c.in_ok-put_ids.ensures.items c.in_ok-put_u16.ensures c.in_ok-put_ids-2.ensures.items c.in_ok-put_u32-2.ensures c.in_ok-extend_from_slice-3.ensures.items in
     let blocks : HasBlocks hello = record {
       database = omega arith;

@@ -1,7 +1,12 @@
+use Rattle.schema.proofs.Soundness.{sound_tables}
 use Rattle.table_model.specs.Verdicts.{effects_in}
 use Rattle.table_model.proofs.Founded.{founded_closed}
-use Rattle.table_model.proofs.Standing.{visible_is}
+use Rattle.table_model.proofs.Resting.{ones_from, resting}
+use Rattle.table_model.proofs.Settled.{visible_is}
 use Rattle.table_model.proofs.laws.visible_is_shown.Goals as goal
 
 pub returns : goal.returns
-returns c rules nodes name closed = visible_is rules (effects_in rules nodes) (founded_closed rules nodes closed) name
+returns c rules nodes name tables closed =
+    let did = effects_in rules nodes in
+    let f = (founded_closed rules nodes closed).founded in
+    visible_is rules did (ones_from rules did.inserted f) (resting rules (sound_tables rules.tables tables) did.inserted f) name

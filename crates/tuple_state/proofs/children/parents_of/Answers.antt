@@ -2,7 +2,7 @@ use Rattle.std.proofs.Common.{◌≡◌, ◌≤◌, ◌+◌, ◌++◌, [], ap, a
 use Rattle.std.proofs.lemmas.List.{append-nil}
 use Rattle.tuple_state.specs.Causes.{ends_from, parents_from}
 use Rattle.tuple_state.specs.Parents.{names_in}
-use Rattle.tuple_state.specs.State.{rules_over_columns}
+use Rattle.tuple_state.specs.State.{rules_over}
 use Rattle.tuple_state.specs.declared.inserted.Inserted.{Inserted}
 use Rattle.tuple_state.proofs.Adding.{parents_step}
 use Rattle.tuple_state.proofs.Dropping.{columns_found}
@@ -17,22 +17,22 @@ loop-number-init c = record { names = c.new-names.ensures.items; ends = c.in_ok-
 
 pub loop-number-preserved : goal.loop-number-preserved
 loop-number-preserved c =
-    let rules = rules_over_columns c.args.columns.now in
+    let rules = rules_over c.args.shapes.now in
     let rows = c.args.rows.now in
     let n = c.loop-number.number in
     let it = c.index-rows-number.result in
     let table = c.from.ensures ∙ ap (λ (x : Inserted). x.entry.table) (sym c.index-rows-number.is) in
     let names : c.match-get.names.items ≡ parents_from rules c.args.first (take (n + 1) rows) = elim c.match-get.branch [
       | in-Some+in_ok-push_names w ↦
-          let list = columns_found c.args.columns.now c.args.columns.now c.from.result it.entry.table w.in-Some.columns.now refl table w.in-Some.ensures.lookup.3.0 w.in-Some.ensures.lookup.1 in
+          let list = columns_found c.args.shapes.now c.args.shapes.now c.from.result it.entry.table w.in-Some.shape.now refl table w.in-Some.ensures.lookup.3.0 w.in-Some.ensures.lookup.1 in
           let values : w.as_slice-in-Some.result.now ≡ it.entry.values = w.as_slice-in-Some.ensures ∙ ap (λ (x : Inserted). x.entry.values) (sym c.index-rows-number.is) in
           ap (λ v. v.items) w.names-is ∙ w.in_ok-push_names.ensures
           ∙ (λ i. c.loop-number.names.items ++ names_in (c.args.first + n) (w.as_slice.ensures i) (values i))
-          ∙ parents_step c.args.columns.now c.args.first rows n it c.loop-number.names.items w.in-Some.columns.now c.loop-number-test.true c.index-rows-number.is c.loop-number.invariant.names list
+          ∙ parents_step c.args.shapes.now c.args.first rows n it c.loop-number.names.items w.in-Some.shape.now.columns c.loop-number-test.true c.index-rows-number.is c.loop-number.invariant.names list
       | in_default w ↦
-          let past = columns_past c.args.columns.now it.entry.table (subst (λ n. length c.args.columns.now ≤ n) table w.in_default.ensures.lookup.3) in
+          let past = columns_past c.args.shapes.now it.entry.table (subst (λ n. length c.args.shapes.now ≤ n) table w.in_default.ensures.lookup.3) in
           ap (λ v. v.items) w.names-is ∙ sym (append-nil c.loop-number.names.items)
-          ∙ parents_step c.args.columns.now c.args.first rows n it c.loop-number.names.items [] c.loop-number-test.true c.index-rows-number.is c.loop-number.invariant.names past
+          ∙ parents_step c.args.shapes.now c.args.first rows n it c.loop-number.names.items [] c.loop-number-test.true c.index-rows-number.is c.loop-number.invariant.names past
     ] in
     let count = ap length names in
     let end : c.args.from + c.len.result ≡ c.args.from + length (parents_from rules c.args.first (take (n + 1) rows)) = omega (arith, count, c.len.ensures) in

@@ -1,4 +1,4 @@
-use Rattle.update_codec.proofs.Places.{database_stands, author_stands, preds_stand, ops_stand, signature_stands, update_stands}
+use Rattle.update_codec.proofs.Places.{database_stands, author_stands, preds_stand, ops_stand, note_stands, signature_stands, update_stands}
 use Rattle.update_codec.proofs.laws.fields_of_spelling.Goals as goal
 
 pub returns-clause-database : goal.returns-clause-database
@@ -12,6 +12,9 @@ returns-clause-preds c = preds_stand
 
 pub returns-clause-ops : goal.returns-clause-ops
 returns-clause-ops c = ops_stand
+
+pub returns-clause-note : goal.returns-clause-note
+returns-clause-note c = note_stands
 
 pub returns-clause-signature : goal.returns-clause-signature
 returns-clause-signature c = signature_stands

@@ -1,7 +1,8 @@
 use Rattle.std.proofs.Common.{◌≡◌, ◌+◌, [], length, refl, sym, ap, ◌∙◌, arith}
+use Rattle.std.proofs.lemmas.Result.{IfOk-weaker}
 use Rattle.table_model.specs.Visible.{Rules, rules_with}
 use Rattle.validity.specs.Asked.{verdict_asked}
-use Rattle.validity.proofs.Steps.{on_at, valid_at, void_at}
+use Rattle.validity.proofs.Steps.{end_at, on_at, void_at}
 use Rattle.validity.proofs.judging.judge_operations.Goals as goal
 
 pub loop-op-init : goal.loop-op-init
@@ -19,23 +20,25 @@ returns-in-Some g c =
     let rules : Rules = rules_with g.L.Relation.answer c.args.schema.now.tables in
     let row = g.Q.RowsAt.row c.args.rows.now in
     let child = g.Q.RowsAt.has_child c.args.rows.now in
+    let equal = g.Q.RowsAt.equal_count c.args.rows.now in
     let node = c.args.node.now in
     let ops = c.as_slice-op-items.result.now in
-    void_at rules row child node ops c.loop-op.op-index c.loop-op.done.number c.loop-op.done.own.items c.loop-op.done.deleted.items c.op-item.result c.in-Some.reason _
+    void_at rules row child equal node ops c.loop-op.op-index c.loop-op.done.number c.loop-op.done.own.items c.loop-op.done.deleted.items c.op-item.result c.in-Some.reason _
     c.loop-op-test.true c.op-item.is (sym c.in_ok-reason.ensures.reason ∙ c.in-Some.is) c.loop-op.invariant.rest
-    ∙ ap (λ all. verdict_asked rules row child node 0 [] [] all) (c.as_slice-op-items.ensures ∙ ap (λ n. n.ops) c.node.view_is)
+    ∙ ap (λ all. verdict_asked rules row child equal node 0 [] [] all) (c.as_slice-op-items.ensures ∙ ap (λ n. n.ops) c.node.view_is)
 
 pub loop-op-preserved : goal.loop-op-preserved
 loop-op-preserved g c =
     let rules : Rules = rules_with g.L.Relation.answer c.args.schema.now.tables in
     let row = g.Q.RowsAt.row c.args.rows.now in
     let child = g.Q.RowsAt.has_child c.args.rows.now in
+    let equal = g.Q.RowsAt.equal_count c.args.rows.now in
     let next = c.in_ok-reason.ensures.number c.in_default.is in
     record {
       few = c.loop-op.invariant.few;
       number = next ∙ ap (λ n. n + 1) c.loop-op.invariant.number;
       rest =
-          on_at rules row child c.args.node.now c.as_slice-op-items.result.now c.loop-op.op-index c.loop-op.done.number c.loop-op.done.own.items c.loop-op.done.deleted.items
+          on_at rules row child equal c.args.node.now c.as_slice-op-items.result.now c.loop-op.op-index c.loop-op.done.number c.loop-op.done.own.items c.loop-op.done.deleted.items
           c.op-item.result _ _ _ _ c.loop-op-test.true c.op-item.is (sym c.in_ok-reason.ensures.reason ∙ c.in_default.is)
           next (c.in_ok-reason.ensures.own c.in_default.is) (c.in_ok-reason.ensures.deleted c.in_default.is) c.loop-op.invariant.rest;
     }
@@ -45,9 +48,11 @@ returns g c =
     let rules : Rules = rules_with g.L.Relation.answer c.args.schema.now.tables in
     let row = g.Q.RowsAt.row c.args.rows.now in
     let child = g.Q.RowsAt.has_child c.args.rows.now in
+    let equal = g.Q.RowsAt.equal_count c.args.rows.now in
     let node = c.args.node.now in
     let ops = c.as_slice-op-items.result.now in
     let end : c.loop-op.op-index ≡ length ops = omega arith in
-    valid_at rules row child node ops c.loop-op.done.number c.loop-op.done.own.items c.loop-op.done.deleted.items _
+    let at_end = end_at rules row child equal node ops c.loop-op.done.number c.loop-op.done.own.items c.loop-op.done.deleted.items _
     (rw (← end) c.loop-op.invariant.rest)
-    ∙ ap (λ all. verdict_asked rules row child node 0 [] [] all) (c.as_slice-op-items.ensures ∙ ap (λ n. n.ops) c.node.view_is)
+    ∙ ap (λ all. verdict_asked rules row child equal node 0 [] [] all) (c.as_slice-op-items.ensures ∙ ap (λ n. n.ops) c.node.view_is) in
+    IfOk-weaker c.end_verdict.result _ _ (λ verdict is. is g.L.Relation.answer ∙ at_end) c.end_verdict.ensures

@@ -9,7 +9,7 @@ invariant-loop-op g l = record {
   few : length l.op-items ≤ 256;
   number : l.done.number ≡ l.op-index;
   rest :
-      verdict_asked (rules_with g.L.Relation.answer l.schema.tables) (g.Q.RowsAt.row l.rows) (g.Q.RowsAt.has_child l.rows) l.node
+      verdict_asked (rules_with g.L.Relation.answer l.schema.tables) (g.Q.RowsAt.row l.rows) (g.Q.RowsAt.has_child l.rows) (g.Q.RowsAt.equal_count l.rows) l.node
       l.done.number l.done.own.items l.done.deleted.items (drop l.op-index l.op-items)
-      ≡ verdict_asked (rules_with g.L.Relation.answer l.schema.tables) (g.Q.RowsAt.row l.rows) (g.Q.RowsAt.has_child l.rows) l.node 0 [] [] l.op-items;
+      ≡ verdict_asked (rules_with g.L.Relation.answer l.schema.tables) (g.Q.RowsAt.row l.rows) (g.Q.RowsAt.has_child l.rows) (g.Q.RowsAt.equal_count l.rows) l.node 0 [] [] l.op-items;
 }

@@ -12,13 +12,17 @@ use Rattle.update_model.specs.Rule.{IsListed, RuleData}
 use Rattle.update_codec.specs.Parts.{entry_of}
 use Rattle.schema.specs.Data.{SchemaData}
 use Rattle.lms_tree.specs.SecretKey.{public_key}
-use Rattle.replica.specs.Making.{AddsMade, AfterLeastHeads, IsAddCause, IsJoinCause, IsSignCause, Joins, body_by}
+use Rattle.replica.specs.Making.{AddsMade, AfterLeastHeads, IsAddCause, IsJoinCause, IsSignCause, Joins, body_with}
 use Rattle.replica.specs.Replicas.{ReplicaState}
+use Rattle.replica.specs.declared.contents.Contents.{Contents}
 use Rattle.replica.specs.declared.make_fault.MakeFault.{MakeFault}
 use Rattle.replica.proofs.HeadLists.{heads_held, one_heads, rising, rising_take}
 use Rattle.replica.proofs.Made.{join_cause, joins}
 use Rattle.replica.proofs.Outcomes.{err_handed}
 use Rattle.replica.proofs.replica.Replica.join.Goals as goal
+
+abbrev unnoted : List Op → Contents
+unnoted ops = record { ops = ops; note = None }
 
 pub returns-then-not-lists-clause-refused : goal.returns-then-not-lists-clause-refused
 returns-then-not-lists-clause-refused g c =
@@ -61,14 +65,14 @@ returns-in_err-id-clause-refused g c =
     let same : length p.0 ≡ length n.0 = ap length (one_heads (map entry_of h.members) p.0 n.0 p.1 n.1) in
     let several : 2 ≤ length p.0 = omega (arith, same, n.2) in
     let after : AfterLeastHeads h c.in_ok-preds.preds = record { heads = p.0; are = p.1; several = several; least = p.2 } in
-    let none : c.from_vec-none.result ≡ [] = c.from_vec-none.ensures ∙ c.new.ensures.items in
+    let none : c.from_vec-ops.result ≡ [] = c.from_vec-ops.ensures ∙ c.new.ensures.items in
     let yes : IsTrue c.lists.result = search rules in
     let listed : IsListed h.schema.rule.authors (public_key a.key.now.secret) =
     subst (λ (r : RuleData). IsListed r.authors (public_key a.key.now.secret)) (c.rule.ensures ∙ ap (λ (s : SchemaData). s.rule) c.schema.ensures)
     (subst (λ (k : AuthorKey). IsListed c.rule.result.now.authors k) c.public.ensures.value (c.lists.ensures.0 yes)) in
     let why = c.in_err-id.field-0.0 in
-    let form = subst (λ (ops : List Op). IsBody (body_by h (public_key a.key.now.secret) c.in_ok-preds.preds ops)) none c.in_err-id.ensures.form in
-    let cause = subst (λ (ops : List Op). IsSignCause h a.key.now.secret a.key.now.taken c.in_ok-preds.preds ops a.c.now why ⊎ IsAddCause why) none c.in_err-id.ensures.refused in
+    let form = subst (λ (ops : List Op). IsBody (body_with h (public_key a.key.now.secret) c.in_ok-preds.preds (unnoted ops))) none c.in_err-id.ensures.form in
+    let cause = subst (λ (ops : List Op). IsSignCause h a.key.now.secret a.key.now.taken c.in_ok-preds.preds (unnoted ops) a.c.now why ⊎ IsAddCause why) none c.in_err-id.ensures.refused in
     subst (λ (r : ReplicaState). IfErr c.from_residual-in_err-id.result (λ (w : MakeFault). IsJoinCause r.history a.key.now.secret a.key.now.taken a.c.now w)) c.self.view_is
     (err_handed c.from_residual-in_err-id.result why (λ (w : MakeFault). IsJoinCause h a.key.now.secret a.key.now.taken a.c.now w) c.from_residual-in_err-id.ensures.1
     (join_cause h a.key.now.secret a.key.now.taken c.in_ok-preds.preds a.c.now why after listed form cause))
@@ -82,7 +86,7 @@ returns-clause-joined g c =
     let same : length p.0 ≡ length n.0 = ap length (one_heads (map entry_of h.members) p.0 n.0 p.1 n.1) in
     let several : 2 ≤ length p.0 = omega (arith, same, n.2) in
     let after : AfterLeastHeads h c.in_ok-preds.preds = record { heads = p.0; are = p.1; several = several; least = p.2 } in
-    let none : c.from_vec-none.result ≡ [] = c.from_vec-none.ensures ∙ c.new.ensures.items in
+    let none : c.from_vec-ops.result ≡ [] = c.from_vec-ops.ensures ∙ c.new.ensures.items in
     subst (λ (r : ReplicaState). Joins r.history a.key.now.secret a.key.now.taken a.c.now c.in_ok-id.id c.sign_and_add.new.history) c.self.view_is
     (joins g.L.Relation.answer h a.key.now.secret a.key.now.taken c.in_ok-preds.preds a.c.now c.in_ok-id.id c.sign_and_add.new.history after
-    (subst (λ (ops : List Op). AddsMade g.L.Relation.answer false h a.key.now.secret a.key.now.taken c.in_ok-preds.preds ops a.c.now c.in_ok-id.id c.sign_and_add.new.history) none c.in_ok-id.ensures.added))
+    (subst (λ (ops : List Op). AddsMade g.L.Relation.answer false h a.key.now.secret a.key.now.taken c.in_ok-preds.preds (unnoted ops) a.c.now c.in_ok-id.id c.sign_and_add.new.history) none c.in_ok-id.ensures.added))

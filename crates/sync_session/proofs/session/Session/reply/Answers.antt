@@ -3,7 +3,7 @@ use Rattle.update_codec.specs.Parts.{entry_of}
 use Rattle.session_rules.specs.declared.end.End.TheVariants.{Done}
 use Rattle.sync_session.specs.Kept.{Kept, turn_of}
 use Rattle.sync_frames.specs.Payload.{TurnData}
-use Rattle.sync_session.proofs.Settling.{replied_to}
+use Rattle.sync_session.proofs.Settling.{replied_to, seeking_replied}
 use Rattle.sync_session.proofs.session.Session.reply.Goals as goal
 
 pub returns-clause-replies : goal.returns-clause-replies
@@ -15,3 +15,9 @@ returns-clause-replies g c =
 
 pub returns-clause-within : goal.returns-clause-within
 returns-clause-within g c = subst (λ (ps : List ℕ). All (λ p. p < length (g.H.Holder.members c.args.holder.now)) ps) (sym c.from_vec.ensures) c.in_ok-send.ensures.within
+
+pub returns-clause-seeks : goal.returns-clause-seeks
+returns-clause-seeks g c =
+    seeking_replied (map entry_of (g.H.Holder.members c.args.holder.now)) (turn_of c.args.turn.now) (turn_of c.args.own) c.args.self.now c.await_answers.new.self _ c.ending-end.result
+    c.requires.settled c.requires.left c.in_ok-await_answers.ensures
+    (ap (λ (k : Kept). record k { state = record k.state { ended = c.ending-end.result } }) c.self.view_is)

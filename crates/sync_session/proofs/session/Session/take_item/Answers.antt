@@ -46,14 +46,14 @@ returns-then-not-has_room-clause-stands c rule members checked stands = stands_e
 
 pub returns-clause-takes : goal.returns-clause-takes
 returns-clause-takes c limits start list =
-    item_new limits start list c.args.self.now c.gather.new.self c.args.update c.silent-2.result
+    item_new limits start list c.args.self.now c.gather.new.self c.gather.new.self.sought c.args.update c.silent-2.result
     (fault_from start c.args.self.now _ (entry_of c.args.update) c.item_fault.result c.id-id.result c.self.view_is c.id-id.ensures c.item_fault.ensures.fault ∙ c.in_default.is)
     (sym (subst (λ (k : Kept). c.has_room.result ≡ has_room_for k.pending c.args.update) c.self.view_is c.has_room.ensures) ∙ c.if-not-has_room.false)
     (repeated_is c.args.self.now c.id-id.result (entry_of c.args.update).id c.is_repeated.result false c.id-id.ensures c.is_repeated.ensures.there c.if-is_repeated.false)
-    c.in_ok-gather.ensures c.silent-2.ensures
+    c.in_ok-gather.ensures.state c.silent-2.ensures
 
 pub returns-clause-stands : goal.returns-clause-stands
-returns-clause-stands c rule members checked stands = stands_new c.args.update c.args.self.now c.gather.new.self c.in_ok-gather.ensures rule members checked stands
+returns-clause-stands c rule members checked stands = stands_new c.args.update c.args.self.now c.gather.new.self c.gather.new.self.sought c.in_ok-gather.ensures.state c.in_ok-gather.ensures.sought rule members checked stands
 
 pub returns-in-Some-clause-nothing : goal.returns-in-Some-clause-nothing
 returns-in-Some-clause-nothing c = closing_sends (Peer _) c.end.result c.end.ensures.out

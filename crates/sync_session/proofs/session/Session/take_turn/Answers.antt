@@ -4,7 +4,7 @@ use Rattle.sync_session.specs.Pending.{PendingData}
 use Rattle.session_rules.specs.declared.end.End.TheVariants.{Store}
 use Rattle.sync_session.specs.Kept.{Kept, turn_of, updates_in, with_refusal}
 use Rattle.sync_session.proofs.Standing.{stands_end}
-use Rattle.sync_session.proofs.TurnTaking.{answers_stands, answers_turn, closed_after, fault_at, refused_stays, turn_refused, waits_within}
+use Rattle.sync_session.proofs.TurnTaking.{answers_stands, answers_turn, closed_after, fault_at, refused_stays, seeks_committed, turn_refused, waits_within}
 use Rattle.std.proofs.Common.{length, map, List, ℕ, Ok}
 use Rattle.update_codec.specs.Parts.{entry_of}
 use Rattle.session_rules.specs.declared.end.End.TheVariants.{Peer, Full}
@@ -40,7 +40,7 @@ pub returns-in-Ok-clause-stands : goal.returns-in-Ok-clause-stands
 returns-in-Ok-clause-stands g c =
     answers_stands (g.H.Holder.limits c.args.holder.now) (g.H.Holder.rule c.args.holder.now) c.args.self.now _ c.settle.new.self (g.H.Holder.members c.args.holder.now) c.in_ok-batch.batch.items (g.H.Holder.members c.commit.new.self) c.in-Ok.committed _ c.settle.result
     (ap (λ (k : Kept). record k { pending = c.take.new.self }) c.self.view_is ∙ ap (λ (p : PendingData). record c.args.self.now { pending = p }) c.in_ok-batch.ensures.state)
-    (subst (λ (k : Kept). c.in_ok-batch.batch.items ≡ k.pending.waiting ++ k.pending.gathered) c.self.view_is c.in_ok-batch.ensures.batch) c.in-Ok.ensures.commits c.requires.stands c.settle.ensures.settles
+    (subst (λ (k : Kept). c.in_ok-batch.batch.items ≡ k.pending.waiting ++ k.pending.gathered) c.self.view_is c.in_ok-batch.ensures.batch) c.in-Ok.ensures.commits c.requires.stands c.settle.ensures.settles c.settle.ensures.seeks
 
 pub returns-in-Err-DiskFault-clause-takes : goal.returns-in-Err-DiskFault-clause-takes
 returns-in-Err-DiskFault-clause-takes g c =
@@ -82,3 +82,10 @@ returns-in-Err-Full-clause-within g c = none_within (g.H.Holder.members c.commit
 pub returns-in-Err-DiskFault-clause-within : goal.returns-in-Err-DiskFault-clause-within
 returns-in-Err-DiskFault-clause-within g c =
     none_within (g.H.Holder.members c.commit.new.self) c.refuse-in-Err-DiskFault.result.send (closing_sends Store c.refuse-in-Err-DiskFault.result c.refuse-in-Err-DiskFault.ensures.out)
+
+pub settle-requires-clause-seeks : goal.settle-requires-clause-seeks
+settle-requires-clause-seeks g c =
+    seeks_committed (g.H.Holder.limits c.args.holder.now) c.args.self.now _ (g.H.Holder.members c.args.holder.now) c.in_ok-batch.batch.items (g.H.Holder.members c.commit.new.self) c.in-Ok.committed
+    (ap (λ (k : Kept). record k { pending = c.take.new.self }) c.self.view_is ∙ ap (λ (p : PendingData). record c.args.self.now { pending = p }) c.in_ok-batch.ensures.state)
+    (subst (λ (k : Kept). c.in_ok-batch.batch.items ≡ k.pending.waiting ++ k.pending.gathered) c.self.view_is c.in_ok-batch.ensures.batch) c.in-Ok.ensures.commits
+    (c.requires.stands.seeks c.requires.running.running)

@@ -4,6 +4,7 @@ use Rattle.tuple_state.specs.declared.inserted.Inserted.{Inserted}
 use Rattle.tuple_state.specs.State.{rules_of_state}
 use Rattle.tuple_state.proofs.Finding.{same_some, row_absent, row_hidden, row_shown}
 use Rattle.tuple_state.proofs.Lookups.{row_found}
+use Rattle.tuple_state.proofs.Layers.{grounded_is}
 use Rattle.tuple_state.proofs.at.AtRowsAt.row_at.Goals as goal
 
 pub stands-requires : goal.stands-requires
@@ -15,7 +16,7 @@ row-requires g c = (row_found c.args.self.now.tables.now.inserted c.args.name.no
 pub returns-then-branch : goal.returns-then-branch
 returns-then-branch g c =
     let row = row_found c.args.self.now.tables.now.inserted c.args.name.now c.in-Some.place (sym c.in-Some.ensures) in
-    row_shown c.args.self.now.tables.now _ c.args.self.now.founded c.args.self.now.layered c.in-Some.place c.row.result.now c.args.name.now c.row.ensures.row (ap (λ (r : Inserted). r.name) (sym (same_some row.it c.row.result.now (sym row.at ∙ c.row.ensures.row))) ∙ row.name_is)
+    row_shown c.args.self.now.tables.now _ c.args.self.now.founded c.args.self.now.layered (sym (grounded_is (rules_of_state c.args.self.now.tables.now) _) ∙ c.args.self.now.grounded) c.in-Some.place c.row.result.now c.args.name.now c.row.ensures.row (ap (λ (r : Inserted). r.name) (sym (same_some row.it c.row.result.now (sym row.at ∙ c.row.ensures.row))) ∙ row.name_is)
     (sym (c.in_ok-stands-in-Some.ensures c.row.result.now c.row.ensures.row) ∙ c.if-branch.true)
 
 pub returns-else-branch : goal.returns-else-branch

@@ -1,9 +1,16 @@
-use Rattle.std.proofs.Common.{ℕ, ◌<◌, ◌≤◌, Bool, subst, ◌∙◌}
+use Rattle.std.proofs.Common.{sym, List, ℕ, ◌<◌, ◌≤◌, Bool, subst, ◌∙◌}
 use Rattle.table_model.specs.Verdicts.{in_table}
 use Rattle.tuple_state.proofs.Counting.{all_counted, no_more, one_more}
 use Rattle.tuple_state.proofs.Dropping.{row_there}
+use Rattle.tuple_state.specs.State.{rules_of_state}
+use Rattle.tuple_state.proofs.Layers.{grounded_is}
+use Rattle.tuple_state.specs.Past.{AreKnownThen}
 use Rattle.tuple_state.proofs.at.AtRowsAt.row_count.Goals as goal
 use Rattle.tuple_state.proofs.at.AtRowsAt.row_count.Goals.{then-branch, else-branch}
+
+pub stands_in-requires-clause-known : goal.stands_in-requires-clause-known
+stands_in-requires-clause-known g c =
+    subst (λ (l : List ℕ). AreKnownThen (g.A.Ancestors.ancestor c.args.self.now.ancestors.now) c.args.self.now.tables.now c.args.self.now.position l) (sym c.as_slice.ensures.value) c.in_ok-known.ensures
 
 pub loop-place-preserved : goal.loop-place-preserved
 loop-place-preserved g c =
@@ -13,9 +20,9 @@ loop-place-preserved g c =
     let row = row_there s.inserted c.loop-place.place below in
     elim c.if-branch.branch [
       | then-branch w ↦ w.count-is
-          ∙ one_more s past (in_table c.args.table) c.args.self.now.founded c.args.self.now.layered c.loop-place.place row.0 _ c.loop-place.count row.1 below (c.in_ok-stands_in.ensures row.0 row.1) w.if-branch.true c.loop-place.invariant
+          ∙ one_more s past (in_table c.args.table) c.args.self.now.founded c.args.self.now.layered (sym (grounded_is (rules_of_state c.args.self.now.tables.now) _) ∙ c.args.self.now.grounded) c.loop-place.place row.0 _ c.loop-place.count row.1 below (c.in_ok-stands_in.ensures row.0 row.1) w.if-branch.true c.loop-place.invariant
       | else-branch w ↦ w.count-is
-          ∙ no_more s past (in_table c.args.table) c.args.self.now.founded c.args.self.now.layered c.loop-place.place row.0 _ c.loop-place.count row.1 below (c.in_ok-stands_in.ensures row.0 row.1) w.if-branch.false c.loop-place.invariant
+          ∙ no_more s past (in_table c.args.table) c.args.self.now.founded c.args.self.now.layered (sym (grounded_is (rules_of_state c.args.self.now.tables.now) _) ∙ c.args.self.now.grounded) c.loop-place.place row.0 _ c.loop-place.count row.1 below (c.in_ok-stands_in.ensures row.0 row.1) w.if-branch.false c.loop-place.invariant
     ]
 
 pub returns : goal.returns

@@ -1,4 +1,4 @@
-use Rattle.std.proofs.Common.{◌≡◌, ℕ, List, [], ap, sym, subst, ◌∙◌}
+use Rattle.std.proofs.Common.{◌≡◌, ℕ, List, Option, [], ap, sym, subst, ◌∙◌}
 use Rattle.std.specs.BTreeMap.{get}
 use Rattle.update_model.specs.declared.row_name.RowName.{RowName}
 use Rattle.table_model.specs.Tables.{name_cmp}
@@ -18,17 +18,25 @@ add_places-requires-clause-fresh c =
 pub invariant_of-result : goal.invariant_of-result
 invariant_of-result c =
     let inside = c.self.inside in
-    let state : State = record { columns = inside.columns.items; count = inside.count; inserted = inside.rows.items; dropped = inside.dropped.items; voids = inside.voids.items } in
-    let columns = c.in_ok-columns.ensures ∙ c.as_slice.ensures.value in
+    let state : State = record { shapes = inside.shapes.items; count = inside.count; inserted = inside.rows.items; dropped = inside.dropped.items; voids = inside.voids.items } in
+    let shapes = c.in_ok-shapes.ensures ∙ c.as_slice.ensures.value in
     let rows = c.in_ok-rows.ensures ∙ c.as_slice-2.ensures.value in
     let causes = c.in_ok-from_slice.ensures.items ∙ c.as_slice-4.ensures.value in
     let dropped = c.in_ok-from_slice-2.ensures.items ∙ c.as_slice-5.ensures.value in
     let voids = c.in_ok-from_slice-3.ensures.items ∙ c.as_slice-6.ensures.value in
-    let whole : ◌≡◌ {A = State} (record { columns = c.in_ok-columns.columns.items; count = inside.count; inserted = c.in_ok-rows.rows.items; dropped = c.in_ok-from_slice-2.field-0.items; voids = c.in_ok-from_slice-3.field-0.items }) state =
-    λ i. record { columns = columns i; count = inside.count; inserted = rows i; dropped = dropped i; voids = voids i } in
+    let whole : ◌≡◌ {A = State} (record { shapes = c.in_ok-shapes.shapes.items; count = inside.count; inserted = c.in_ok-rows.rows.items; dropped = c.in_ok-from_slice-2.field-0.items; voids = c.in_ok-from_slice-3.field-0.items }) state =
+    λ i. record { shapes = shapes i; count = inside.count; inserted = rows i; dropped = dropped i; voids = voids i } in
     let placed : (name : RowName) → get name_cmp c.add_places.new.places name ≡ place_of inside.rows.items name =
     λ name. c.in_ok-add_places.ensures.ok name ∙ ap (λ (l : List Inserted). place_of l name) (c.as_slice-3.ensures.value ∙ rows) in
-    subst (λ (s : State). IsKept s c.add_places.new.places c.in_ok-from_slice.field-0.items c.in_ok-copy.field-0 c.in_ok-copy-2.field-0 c.in_ok-from_slice-4.field-0.items) (sym whole)
-    (subst (λ (l : List ℕ). IsKept state c.add_places.new.places l c.in_ok-copy.field-0 c.in_ok-copy-2.field-0 c.in_ok-from_slice-4.field-0.items) (sym causes)
-    (subst (IsKept state c.add_places.new.places inside.causes.items c.in_ok-copy.field-0 c.in_ok-copy-2.field-0) (sym (c.in_ok-from_slice-4.ensures.items ∙ c.as_slice-7.ensures.value))
-    (kept_places state inside.places c.add_places.new.places inside.causes.items inside.children c.in_ok-copy.field-0 inside.deleters c.in_ok-copy-2.field-0 inside.ends.items c.self.invariant placed c.in_ok-copy.ensures c.in_ok-copy-2.ensures)))
+    let places = c.add_places.new.places in
+    let children = c.in_ok-copy.field-0 in
+    let deleters = c.in_ok-copy-2.field-0 in
+    let ends = c.in_ok-from_slice-4.field-0.items in
+    let numbers = c.in_ok-copy-3.field-0.numbers.items in
+    let least = c.in_ok-copy-3.field-0.least.items in
+    subst (λ (s : State). IsKept s places c.in_ok-from_slice.field-0.items children deleters ends numbers least) (sym whole)
+    (subst (λ (l : List ℕ). IsKept state places l children deleters ends numbers least) (sym causes)
+    (subst (λ (l : List ℕ). IsKept state places inside.causes.items children deleters l numbers least) (sym (c.in_ok-from_slice-4.ensures.items ∙ c.as_slice-7.ensures.value))
+    (subst (λ (l : List ℕ). IsKept state places inside.causes.items children deleters inside.ends.items l least) (sym c.in_ok-copy-3.ensures.numbers)
+    (subst (λ (l : List (Option ℕ)). IsKept state places inside.causes.items children deleters inside.ends.items inside.groups.numbers.items l) (sym c.in_ok-copy-3.ensures.least)
+    (kept_places state inside.places places inside.causes.items inside.children children inside.deleters deleters inside.ends.items inside.groups.numbers.items inside.groups.least.items c.self.invariant placed c.in_ok-copy.ensures c.in_ok-copy-2.ensures)))))

@@ -17,7 +17,7 @@ any_ancestor-requires g c =
 pub returns : goal.returns
 returns g c =
     let inside = c.self.inside in
-    let state : State = record { columns = inside.columns.items; count = inside.count; inserted = inside.rows.items; dropped = inside.dropped.items; voids = inside.voids.items } in
+    let state : State = record { shapes = inside.shapes.items; count = inside.count; inserted = inside.rows.items; dropped = inside.dropped.items; voids = inside.voids.items } in
     let past : ℕ → Bool = λ p. g.A.Ancestors.ancestor c.args.ancestors.now p c.args.position in
     if_ok _ (λ (answer : Bool). (it : Inserted) → slice_get c.args.self.now.inserted c.args.place ≡ Some it → answer ≡ is_deleted (done_then c.args.self.now past) it.name) c.any_ancestor.result
     (λ answer is it at.

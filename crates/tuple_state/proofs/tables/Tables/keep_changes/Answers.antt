@@ -1,10 +1,10 @@
-use Rattle.std.proofs.Common.{◌≡◌, ℕ, ◌+◌, ◌-◌, ◌++◌, length, get_or, take, drop, map, reverse, replicate, List, Option, Some, vec_len, length-append, refl, ap, sym, subst, ◌∙◌, inl, inr, arith}
+use Rattle.std.proofs.Common.{◌≡◌, ℕ, ◌+◌, ◌-◌, ◌++◌, length, get_or, take, drop, map, reverse, replicate, List, Option, Some, vec_len, length-append, true, false, refl, ap, sym, subst, ◌∙◌, inl, inr, arith}
 use Rattle.std.specs.Prelude.{count_by, ◌==◌}
 use Rattle.std.proofs.lemmas.List.Sums.{count_by-le-length}
 use Rattle.std.proofs.lemmas.List.{length-map, length-replicate, nil_from_length, take_all, take_at}
 use Rattle.table_model.specs.Verdicts.{effects_of}
 use Rattle.tuple_state.specs.declared.dropped.Dropped.{Dropped}
-use Rattle.tuple_state.specs.State.{State, dropped_at, inserted_at, rules_of_state, rules_over_columns}
+use Rattle.tuple_state.specs.State.{State, keep_any, dropped_at, inserted_at, rules_of_state, rules_over}
 use Rattle.std.specs.BTreeMap.{get}
 use Rattle.table_model.specs.Tables.{name_cmp}
 use Rattle.tuple_state.specs.Changes.{AreNextChanges}
@@ -15,7 +15,13 @@ use Rattle.tuple_state.specs.declared.links.Link.{Link}
 use Rattle.tuple_state.proofs.Deleting.{all_same, links_inside, pairs_same}
 use Rattle.tuple_state.proofs.Fronts.{few_rows}
 use Rattle.tuple_state.proofs.Shortening.{kept_places}
-use Rattle.tuple_state.proofs.Keeping.{drops_there, kept_next, known_inside, layered_next, news_few, padded_counts, parents_found, refs_rising, rising_next}
+use Rattle.std.proofs.lemmas.Bool.{cases_Bool}
+use Rattle.tuple_state.specs.Least.{AreSettled}
+use Rattle.tuple_state.specs.Links.{are_inside}
+use Rattle.tuple_state.proofs.Grouping.{grouped_more, grouped_moved}
+use Rattle.tuple_state.proofs.Leasts.{plain_settled, settled_moved}
+use Rattle.tuple_state.proofs.Levels.{level_moved}
+use Rattle.tuple_state.proofs.Keeping.{deleters_next, drops_there, kept_next, known_inside, layered_next, level_next, news_few, padded_counts, padded_few, parents_found, refs_rising, rising_next}
 use Rattle.tuple_state.proofs.Adding.{rising_lower}
 use Rattle.tuple_state.proofs.Raising.{absent_fewer}
 use Rattle.tuple_state.proofs.Lookups.{row_found}
@@ -26,7 +32,7 @@ use Rattle.tuple_state.proofs.tables.Tables.keep_changes.Goals as goal
 pub parents_of-requires : goal.parents_of-requires
 parents_of-requires c =
     let inside = c.self.inside in
-    let state : State = record { columns = inside.columns.items; count = inside.count; inserted = inside.rows.items; dropped = inside.dropped.items; voids = inside.voids.items } in
+    let state : State = record { shapes = inside.shapes.items; count = inside.count; inserted = inside.rows.items; dropped = inside.dropped.items; voids = inside.voids.items } in
     let changes = subst (λ (s : State). AreNextChanges s c.args.inserted.now.items c.args.dropped.now.items) (sym c.self.view_is) c.requires.next in
     let node = changes.node in
     let next = changes.next in
@@ -35,7 +41,7 @@ parents_of-requires c =
     let first : c.len-first.result ≡ length inside.rows.items = omega (arith, c.len-first.ensures) in
     let few = few_rows inside.rows.items inside.count c.self.invariant.dated c.self.invariant.bounded in
     let most = c.self.invariant.few in
-    let more = news_few state node inside.places inside.causes.items inside.children inside.deleters inside.ends.items c.self.invariant next small in
+    let more = news_few state node inside.places inside.causes.items inside.children inside.deleters inside.ends.items inside.groups.numbers.items inside.groups.least.items c.self.invariant next small in
     let slice = ap length (c.as_slice.ensures.value ∙ changes.rows) in
     record {
       few = omega (arith, first, few, most, more, slice);
@@ -45,26 +51,26 @@ parents_of-requires c =
 pub add_places-requires-clause-fresh : goal.add_places-requires-clause-fresh
 add_places-requires-clause-fresh c =
     let inside = c.self.inside in
-    let state : State = record { columns = inside.columns.items; count = inside.count; inserted = inside.rows.items; dropped = inside.dropped.items; voids = inside.voids.items } in
+    let state : State = record { shapes = inside.shapes.items; count = inside.count; inserted = inside.rows.items; dropped = inside.dropped.items; voids = inside.voids.items } in
     let changes = subst (λ (s : State). AreNextChanges s c.args.inserted.now.items c.args.dropped.now.items) (sym c.self.view_is) c.requires.next in
     let node = changes.node in
     let next = changes.next in
     let news = map (inserted_at inside.count) (reverse (effects_of node).inserted) in
     rw (c.as_slice-2.ensures.value, c.reserve.ensures.items, c.as_slice-3.ensures.value, changes.rows)
-    (fresh_layered _ inside.rows.items _ (layered_next state node inside.places inside.causes.items inside.children inside.deleters inside.ends.items c.self.invariant next))
+    (fresh_layered _ inside.rows.items _ (layered_next state node inside.places inside.causes.items inside.children inside.deleters inside.ends.items inside.groups.numbers.items inside.groups.least.items c.self.invariant next))
 
 pub invariant_of-self-in_err-add_places : goal.invariant_of-self-in_err-add_places
 invariant_of-self-in_err-add_places c =
     let inside = c.self.inside in
-    let state : State = record { columns = inside.columns.items; count = inside.count; inserted = inside.rows.items; dropped = inside.dropped.items; voids = inside.voids.items } in
-    rw (c.reserve.ensures.items, c.reserve-2.ensures.items, c.reserve-4.ensures.items, c.reserve-3.ensures.items)
-    (kept_places state inside.places c.add_places.new.places inside.causes.items inside.children inside.children inside.deleters inside.deleters inside.ends.items c.self.invariant
+    let state : State = record { shapes = inside.shapes.items; count = inside.count; inserted = inside.rows.items; dropped = inside.dropped.items; voids = inside.voids.items } in
+    rw (c.reserve.ensures.items, c.reserve-2.ensures.items, c.reserve-4.ensures.items, c.reserve-3.ensures.items, c.reserve-5.ensures.numbers, c.reserve-5.ensures.least)
+    (kept_places state inside.places c.add_places.new.places inside.causes.items inside.children inside.children inside.deleters inside.deleters inside.ends.items inside.groups.numbers.items inside.groups.least.items c.self.invariant
     (rw (c.as_slice-2.ensures.value, c.reserve.ensures.items) at c.in_err-add_places.ensures.err) refl refl)
 
 pub grow_links-requires-clause-named : goal.grow_links-requires-clause-named
 grow_links-requires-clause-named c =
     let inside = c.self.inside in
-    let state : State = record { columns = inside.columns.items; count = inside.count; inserted = inside.rows.items; dropped = inside.dropped.items; voids = inside.voids.items } in
+    let state : State = record { shapes = inside.shapes.items; count = inside.count; inserted = inside.rows.items; dropped = inside.dropped.items; voids = inside.voids.items } in
     let changes = subst (λ (s : State). AreNextChanges s c.args.inserted.now.items c.args.dropped.now.items) (sym c.self.view_is) c.requires.next in
     let node = changes.node in
     let next = changes.next in
@@ -72,26 +78,26 @@ grow_links-requires-clause-named c =
     let first : c.len-first.result ≡ length inside.rows.items = omega (arith, c.len-first.ensures) in
     let placed = rw (c.as_slice-2.ensures.value, c.reserve.ensures.items, c.as_slice-3.ensures.value, changes.rows) at c.in_ok-add_places.ensures.ok in
     let parents_are : c.in_ok-parents.parents.names.items ≡ parents_from (rules_of_state state) (length inside.rows.items) news =
-    c.in_ok-parents.ensures.names ∙ (λ i. parents_from (rules_over_columns (c.as_slice-columns.ensures.value i)) (first i) ((c.as_slice.ensures.value ∙ changes.rows) i)) in
+    c.in_ok-parents.ensures.names ∙ (λ i. parents_from (rules_over (c.as_slice-shapes.ensures.value i)) (first i) ((c.as_slice.ensures.value ∙ changes.rows) i)) in
     rw (c.as_slice-4.ensures.value, parents_are)
-    (all_same placed (parents_from (rules_of_state state) (length inside.rows.items) news) ∙ parents_found state node inside.places inside.causes.items inside.children inside.deleters inside.ends.items c.self.invariant next)
+    (all_same placed (parents_from (rules_of_state state) (length inside.rows.items) news) ∙ parents_found state node inside.places inside.causes.items inside.children inside.deleters inside.ends.items inside.groups.numbers.items inside.groups.least.items c.self.invariant next)
 
 pub grow_links-requires-clause-found : goal.grow_links-requires-clause-found
 grow_links-requires-clause-found c =
     let inside = c.self.inside in
-    let state : State = record { columns = inside.columns.items; count = inside.count; inserted = inside.rows.items; dropped = inside.dropped.items; voids = inside.voids.items } in
+    let state : State = record { shapes = inside.shapes.items; count = inside.count; inserted = inside.rows.items; dropped = inside.dropped.items; voids = inside.voids.items } in
     let changes = subst (λ (s : State). AreNextChanges s c.args.inserted.now.items c.args.dropped.now.items) (sym c.self.view_is) c.requires.next in
     let node = changes.node in
     let next = changes.next in
     let news = map (inserted_at inside.count) (reverse (effects_of node).inserted) in
     let placed = rw (c.as_slice-2.ensures.value, c.reserve.ensures.items, c.as_slice-3.ensures.value, changes.rows) at c.in_ok-add_places.ensures.ok in
     rw (c.as_slice-5.ensures.value, changes.names)
-    (all_same placed (map (dropped_at inside.count) (reverse (effects_of node).deleted)) ∙ drops_there state node inside.places inside.causes.items inside.children inside.deleters inside.ends.items c.self.invariant next)
+    (all_same placed (map (dropped_at inside.count) (reverse (effects_of node).deleted)) ∙ drops_there state node inside.places inside.causes.items inside.children inside.deleters inside.ends.items inside.groups.numbers.items inside.groups.least.items c.self.invariant next)
 
 pub grow_links-requires-clause-inside : goal.grow_links-requires-clause-inside
 grow_links-requires-clause-inside c name place at =
     let inside = c.self.inside in
-    let state : State = record { columns = inside.columns.items; count = inside.count; inserted = inside.rows.items; dropped = inside.dropped.items; voids = inside.voids.items } in
+    let state : State = record { shapes = inside.shapes.items; count = inside.count; inserted = inside.rows.items; dropped = inside.dropped.items; voids = inside.voids.items } in
     let changes = subst (λ (s : State). AreNextChanges s c.args.inserted.now.items c.args.dropped.now.items) (sym c.self.view_is) c.requires.next in
     let node = changes.node in
     let next = changes.next in
@@ -106,7 +112,7 @@ grow_links-requires-clause-inside c name place at =
 pub add_causes-requires-clause-rising : goal.add_causes-requires-clause-rising
 add_causes-requires-clause-rising c =
     let inside = c.self.inside in
-    let state : State = record { columns = inside.columns.items; count = inside.count; inserted = inside.rows.items; dropped = inside.dropped.items; voids = inside.voids.items } in
+    let state : State = record { shapes = inside.shapes.items; count = inside.count; inserted = inside.rows.items; dropped = inside.dropped.items; voids = inside.voids.items } in
     let changes = subst (λ (s : State). AreNextChanges s c.args.inserted.now.items c.args.dropped.now.items) (sym c.self.view_is) c.requires.next in
     let node = changes.node in
     let next = changes.next in
@@ -114,7 +120,7 @@ add_causes-requires-clause-rising c =
     let first : c.len-first.result ≡ length inside.rows.items = omega (arith, c.len-first.ensures) in
     let placed = rw (c.as_slice-2.ensures.value, c.reserve.ensures.items, c.as_slice-3.ensures.value, changes.rows) at c.in_ok-add_places.ensures.ok in
     let parents_are : c.in_ok-parents.parents.names.items ≡ parents_from (rules_of_state state) (length inside.rows.items) news =
-    c.in_ok-parents.ensures.names ∙ (λ i. parents_from (rules_over_columns (c.as_slice-columns.ensures.value i)) (first i) ((c.as_slice.ensures.value ∙ changes.rows) i)) in
+    c.in_ok-parents.ensures.names ∙ (λ i. parents_from (rules_over (c.as_slice-shapes.ensures.value i)) (first i) ((c.as_slice.ensures.value ∙ changes.rows) i)) in
     let refs = c.in-Ok.added.parents.items in
     let refs_are : pairs_of refs ≡ deletes_at (place_of (inside.rows.items ++ news)) (parents_from (rules_of_state state) (length inside.rows.items) news) =
     c.in-Ok.ensures.parents ∙ ap (deletes_at (get name_cmp c.add_places.new.places)) (c.as_slice-4.ensures.value ∙ parents_are) ∙ pairs_same placed (parents_from (rules_of_state state) (length inside.rows.items) news) in
@@ -129,12 +135,12 @@ add_causes-requires-clause-rising c =
     omega (arith, a, b, d, e, c.self.invariant.each)) in
     let children_are : c.grow_links.new.children.links ≡ inside.children.links ++ refs = ap (λ (d : Linked). d.links) c.in-Ok.ensures.children in
     subst (λ (l : List Link). AreRising 0 (length c.as_mut_slice-causes.result.now) l) (sym children_are)
-    (subst (λ m. AreRising 0 m (inside.children.links ++ refs)) (sym len) (rising_next state node inside.places inside.causes.items inside.children inside.deleters inside.ends.items c.self.invariant next refs refs_are))
+    (subst (λ m. AreRising 0 m (inside.children.links ++ refs)) (sym len) (rising_next state node inside.places inside.causes.items inside.children inside.deleters inside.ends.items inside.groups.numbers.items inside.groups.least.items c.self.invariant next refs refs_are))
 
 pub add_causes-requires-clause-parents : goal.add_causes-requires-clause-parents
 add_causes-requires-clause-parents c =
     let inside = c.self.inside in
-    let state : State = record { columns = inside.columns.items; count = inside.count; inserted = inside.rows.items; dropped = inside.dropped.items; voids = inside.voids.items } in
+    let state : State = record { shapes = inside.shapes.items; count = inside.count; inserted = inside.rows.items; dropped = inside.dropped.items; voids = inside.voids.items } in
     let changes = subst (λ (s : State). AreNextChanges s c.args.inserted.now.items c.args.dropped.now.items) (sym c.self.view_is) c.requires.next in
     let node = changes.node in
     let next = changes.next in
@@ -142,7 +148,7 @@ add_causes-requires-clause-parents c =
     let first : c.len-first.result ≡ length inside.rows.items = omega (arith, c.len-first.ensures) in
     let placed = rw (c.as_slice-2.ensures.value, c.reserve.ensures.items, c.as_slice-3.ensures.value, changes.rows) at c.in_ok-add_places.ensures.ok in
     let parents_are : c.in_ok-parents.parents.names.items ≡ parents_from (rules_of_state state) (length inside.rows.items) news =
-    c.in_ok-parents.ensures.names ∙ (λ i. parents_from (rules_over_columns (c.as_slice-columns.ensures.value i)) (first i) ((c.as_slice.ensures.value ∙ changes.rows) i)) in
+    c.in_ok-parents.ensures.names ∙ (λ i. parents_from (rules_over (c.as_slice-shapes.ensures.value i)) (first i) ((c.as_slice.ensures.value ∙ changes.rows) i)) in
     let refs = c.in-Ok.added.parents.items in
     let refs_are : pairs_of refs ≡ deletes_at (place_of (inside.rows.items ++ news)) (parents_from (rules_of_state state) (length inside.rows.items) news) =
     c.in-Ok.ensures.parents ∙ ap (deletes_at (get name_cmp c.add_places.new.places)) (c.as_slice-4.ensures.value ∙ parents_are) ∙ pairs_same placed (parents_from (rules_of_state state) (length inside.rows.items) news) in
@@ -156,12 +162,12 @@ add_causes-requires-clause-parents c =
     (let a = ap length whole in let b = length-append inside.causes.items (replicate (length news) 0) in let d = length-replicate {A = ℕ} (length news) 0 in let e = length-append inside.rows.items news in
     omega (arith, a, b, d, e, c.self.invariant.each)) in
     subst (λ m. AreRising 0 m refs) (sym len)
-    (rising_lower (length inside.rows.items) 0 (length (inside.rows.items ++ news)) refs (omega arith) (refs_rising state node inside.places inside.causes.items inside.children inside.deleters inside.ends.items c.self.invariant next refs refs_are))
+    (rising_lower (length inside.rows.items) 0 (length (inside.rows.items ++ news)) refs (omega arith) (refs_rising state node inside.places inside.causes.items inside.children inside.deleters inside.ends.items inside.groups.numbers.items inside.groups.least.items c.self.invariant next refs refs_are))
 
 pub add_causes-requires-clause-dropped : goal.add_causes-requires-clause-dropped
 add_causes-requires-clause-dropped c =
     let inside = c.self.inside in
-    let state : State = record { columns = inside.columns.items; count = inside.count; inserted = inside.rows.items; dropped = inside.dropped.items; voids = inside.voids.items } in
+    let state : State = record { shapes = inside.shapes.items; count = inside.count; inserted = inside.rows.items; dropped = inside.dropped.items; voids = inside.voids.items } in
     let changes = subst (λ (s : State). AreNextChanges s c.args.inserted.now.items c.args.dropped.now.items) (sym c.self.view_is) c.requires.next in
     let node = changes.node in
     let next = changes.next in
@@ -187,7 +193,7 @@ add_causes-requires-clause-dropped c =
 pub add_causes-requires-clause-room : goal.add_causes-requires-clause-room
 add_causes-requires-clause-room c =
     let inside = c.self.inside in
-    let state : State = record { columns = inside.columns.items; count = inside.count; inserted = inside.rows.items; dropped = inside.dropped.items; voids = inside.voids.items } in
+    let state : State = record { shapes = inside.shapes.items; count = inside.count; inserted = inside.rows.items; dropped = inside.dropped.items; voids = inside.voids.items } in
     let changes = subst (λ (s : State). AreNextChanges s c.args.inserted.now.items c.args.dropped.now.items) (sym c.self.view_is) c.requires.next in
     let node = changes.node in
     let next = changes.next in
@@ -220,7 +226,7 @@ add_causes-requires-clause-room c =
 pub add_causes-requires-clause-few : goal.add_causes-requires-clause-few
 add_causes-requires-clause-few c k =
     let inside = c.self.inside in
-    let state : State = record { columns = inside.columns.items; count = inside.count; inserted = inside.rows.items; dropped = inside.dropped.items; voids = inside.voids.items } in
+    let state : State = record { shapes = inside.shapes.items; count = inside.count; inserted = inside.rows.items; dropped = inside.dropped.items; voids = inside.voids.items } in
     let changes = subst (λ (s : State). AreNextChanges s c.args.inserted.now.items c.args.dropped.now.items) (sym c.self.view_is) c.requires.next in
     let node = changes.node in
     let next = changes.next in
@@ -241,7 +247,8 @@ add_causes-requires-clause-few c k =
     let deleters_are : c.grow_links.new.deleters.links ≡ inside.deleters.links ++ names = ap (λ (d : Linked). d.links) c.in-Ok.ensures.deleters in
     let new = c.grow_links.new.children.links in
     let pad = inside.causes.items ++ replicate (length news) 0 in
-    let count = ap (λ (l : List ℕ). get_or l k 0) whole ∙ padded_counts state node inside.places inside.causes.items inside.children inside.deleters inside.ends.items c.self.invariant next (length news) k in
+    let same = ap (λ (l : List ℕ). get_or l k 0) whole in
+    let count = padded_few state node inside.places inside.causes.items inside.children inside.deleters inside.ends.items inside.groups.numbers.items inside.groups.least.items c.self.invariant next (length news) k in
     let absent = absent_fewer inside.children.links pad k in
     let known = count_by-le-length (λ (link : Link). link.number == k) inside.children.links in
     let added = count_by-le-length (λ (link : Link). link.number == k) refs in
@@ -250,31 +257,234 @@ add_causes-requires-clause-few c k =
     let going = count_by-le-length (is_of k) names in
     let child_len = ap length children_are ∙ length-append inside.children.links refs in
     let gone_len = ap length deleters_are ∙ length-append inside.deleters.links names in
-    omega (arith, count, absent, known, added, all, gone, going, child_len, gone_len, c.grow_links.ensures.few_children, c.grow_links.ensures.few_deleters)
+    omega (arith, same, count, absent, known, added, all, gone, going, child_len, gone_len, c.grow_links.ensures.few_children, c.grow_links.ensures.few_deleters)
 
 pub remove_places-requires-clause-fresh : goal.remove_places-requires-clause-fresh
 remove_places-requires-clause-fresh c =
     let inside = c.self.inside in
-    let state : State = record { columns = inside.columns.items; count = inside.count; inserted = inside.rows.items; dropped = inside.dropped.items; voids = inside.voids.items } in
+    let state : State = record { shapes = inside.shapes.items; count = inside.count; inserted = inside.rows.items; dropped = inside.dropped.items; voids = inside.voids.items } in
     let changes = subst (λ (s : State). AreNextChanges s c.args.inserted.now.items c.args.dropped.now.items) (sym c.self.view_is) c.requires.next in
     let node = changes.node in
     let next = changes.next in
     let news = map (inserted_at inside.count) (reverse (effects_of node).inserted) in
     rw (c.as_slice-in-Err.ensures.value, c.reserve.ensures.items, c.as_slice-in-Err-2.ensures.value, changes.rows)
-    (fresh_layered _ inside.rows.items _ (layered_next state node inside.places inside.causes.items inside.children inside.deleters inside.ends.items c.self.invariant next))
+    (fresh_layered _ inside.rows.items _ (layered_next state node inside.places inside.causes.items inside.children inside.deleters inside.ends.items inside.groups.numbers.items inside.groups.least.items c.self.invariant next))
 
 pub invariant_of-self-in-Err : goal.invariant_of-self-in-Err
 invariant_of-self-in-Err c =
     let inside = c.self.inside in
-    let state : State = record { columns = inside.columns.items; count = inside.count; inserted = inside.rows.items; dropped = inside.dropped.items; voids = inside.voids.items } in
-    rw (c.reserve.ensures.items, c.reserve-2.ensures.items, c.reserve-4.ensures.items, c.reserve-3.ensures.items)
-    (kept_places state inside.places c.remove_places.new.places inside.causes.items inside.children c.grow_links.new.children inside.deleters c.grow_links.new.deleters inside.ends.items c.self.invariant
+    let state : State = record { shapes = inside.shapes.items; count = inside.count; inserted = inside.rows.items; dropped = inside.dropped.items; voids = inside.voids.items } in
+    rw (c.reserve.ensures.items, c.reserve-2.ensures.items, c.reserve-4.ensures.items, c.reserve-3.ensures.items, c.reserve-5.ensures.numbers, c.reserve-5.ensures.least)
+    (kept_places state inside.places c.remove_places.new.places inside.causes.items inside.children c.grow_links.new.children inside.deleters c.grow_links.new.deleters inside.ends.items inside.groups.numbers.items inside.groups.least.items c.self.invariant
     (rw (c.as_slice-in-Err.ensures.value, c.reserve.ensures.items) at c.remove_places.ensures) c.in-Err.ensures.children c.in-Err.ensures.deleters)
+
+pub recount-requires-clause-rising : goal.recount-requires-clause-rising
+recount-requires-clause-rising c =
+    let inside = c.self.inside in
+    let state : State = record { shapes = inside.shapes.items; count = inside.count; inserted = inside.rows.items; dropped = inside.dropped.items; voids = inside.voids.items } in
+    let changes = subst (λ (s : State). AreNextChanges s c.args.inserted.now.items c.args.dropped.now.items) (sym c.self.view_is) c.requires.next in
+    let node = changes.node in
+    let next = changes.next in
+    let news = map (inserted_at inside.count) (reverse (effects_of node).inserted) in
+    let first : c.len-first.result ≡ length inside.rows.items = omega (arith, c.len-first.ensures) in
+    let placed = rw (c.as_slice-2.ensures.value, c.reserve.ensures.items, c.as_slice-3.ensures.value, changes.rows) at c.in_ok-add_places.ensures.ok in
+    let parents_are : c.in_ok-parents.parents.names.items ≡ parents_from (rules_of_state state) (length inside.rows.items) news =
+    c.in_ok-parents.ensures.names ∙ (λ i. parents_from (rules_over (c.as_slice-shapes.ensures.value i)) (first i) ((c.as_slice.ensures.value ∙ changes.rows) i)) in
+    let refs = c.in-Ok.added.parents.items in
+    let refs_are : pairs_of refs ≡ deletes_at (place_of (inside.rows.items ++ news)) (parents_from (rules_of_state state) (length inside.rows.items) news) =
+    c.in-Ok.ensures.parents ∙ ap (deletes_at (get name_cmp c.add_places.new.places)) (c.as_slice-4.ensures.value ∙ parents_are) ∙ pairs_same placed (parents_from (rules_of_state state) (length inside.rows.items) news) in
+    let names = c.in-Ok.added.dropped.items in
+    let drops = map (dropped_at inside.count) (reverse (effects_of node).deleted) in
+    let names_are : pairs_of names ≡ deletes_at (place_of (inside.rows.items ++ news)) drops =
+    c.in-Ok.ensures.dropped ∙ ap (deletes_at (get name_cmp c.add_places.new.places)) (c.as_slice-5.ensures.value ∙ changes.names) ∙ pairs_same placed drops in
+    let children_are : c.grow_links.new.children.links ≡ inside.children.links ++ refs = ap (λ (d : Linked). d.links) c.in-Ok.ensures.children in
+    let deleters_are : c.grow_links.new.deleters.links ≡ inside.deleters.links ++ names = ap (λ (d : Linked). d.links) c.in-Ok.ensures.deleters in
+    let rows = rw (c.unwrap-2.ensures, c.reserve.ensures.items, changes.rows) at c.append.ensures.items in
+    let rows_now : c.as_slice-6.result.now ≡ inside.rows.items ++ news = c.as_slice-6.ensures.value ∙ rows in
+    let all_len = length-append inside.rows.items news in
+    let size = ap length rows_now in
+    subst (λ (l : List Link). AreRising 0 (length c.as_slice-6.result.now) l) (sym children_are)
+    (subst (λ m. AreRising 0 m (inside.children.links ++ refs)) (sym size) (rising_next state node inside.places inside.causes.items inside.children inside.deleters inside.ends.items inside.groups.numbers.items inside.groups.least.items c.self.invariant next refs refs_are))
+
+pub recount-requires-clause-level : goal.recount-requires-clause-level
+recount-requires-clause-level c =
+    let inside = c.self.inside in
+    let state : State = record { shapes = inside.shapes.items; count = inside.count; inserted = inside.rows.items; dropped = inside.dropped.items; voids = inside.voids.items } in
+    let changes = subst (λ (s : State). AreNextChanges s c.args.inserted.now.items c.args.dropped.now.items) (sym c.self.view_is) c.requires.next in
+    let node = changes.node in
+    let next = changes.next in
+    let news = map (inserted_at inside.count) (reverse (effects_of node).inserted) in
+    let first : c.len-first.result ≡ length inside.rows.items = omega (arith, c.len-first.ensures) in
+    let placed = rw (c.as_slice-2.ensures.value, c.reserve.ensures.items, c.as_slice-3.ensures.value, changes.rows) at c.in_ok-add_places.ensures.ok in
+    let parents_are : c.in_ok-parents.parents.names.items ≡ parents_from (rules_of_state state) (length inside.rows.items) news =
+    c.in_ok-parents.ensures.names ∙ (λ i. parents_from (rules_over (c.as_slice-shapes.ensures.value i)) (first i) ((c.as_slice.ensures.value ∙ changes.rows) i)) in
+    let refs = c.in-Ok.added.parents.items in
+    let refs_are : pairs_of refs ≡ deletes_at (place_of (inside.rows.items ++ news)) (parents_from (rules_of_state state) (length inside.rows.items) news) =
+    c.in-Ok.ensures.parents ∙ ap (deletes_at (get name_cmp c.add_places.new.places)) (c.as_slice-4.ensures.value ∙ parents_are) ∙ pairs_same placed (parents_from (rules_of_state state) (length inside.rows.items) news) in
+    let names = c.in-Ok.added.dropped.items in
+    let drops = map (dropped_at inside.count) (reverse (effects_of node).deleted) in
+    let names_are : pairs_of names ≡ deletes_at (place_of (inside.rows.items ++ news)) drops =
+    c.in-Ok.ensures.dropped ∙ ap (deletes_at (get name_cmp c.add_places.new.places)) (c.as_slice-5.ensures.value ∙ changes.names) ∙ pairs_same placed drops in
+    let children_are : c.grow_links.new.children.links ≡ inside.children.links ++ refs = ap (λ (d : Linked). d.links) c.in-Ok.ensures.children in
+    let deleters_are : c.grow_links.new.deleters.links ≡ inside.deleters.links ++ names = ap (λ (d : Linked). d.links) c.in-Ok.ensures.deleters in
+    let rows = rw (c.unwrap-2.ensures, c.reserve.ensures.items, changes.rows) at c.append.ensures.items in
+    let rows_now : c.as_slice-6.result.now ≡ inside.rows.items ++ news = c.as_slice-6.ensures.value ∙ rows in
+    let all_len = length-append inside.rows.items news in
+    let size = ap length rows_now in
+    level_moved inside.shapes.items _ (inside.rows.items ++ news) _ (inside.children.links ++ refs) _ (sym c.as_slice-shapes.ensures.value) (sym rows_now) (sym children_are) (level_next state node inside.places inside.causes.items inside.children inside.deleters inside.ends.items inside.groups.numbers.items inside.groups.least.items c.self.invariant next refs refs_are)
+
+pub recount-requires-clause-inside : goal.recount-requires-clause-inside
+recount-requires-clause-inside c =
+    let inside = c.self.inside in
+    let state : State = record { shapes = inside.shapes.items; count = inside.count; inserted = inside.rows.items; dropped = inside.dropped.items; voids = inside.voids.items } in
+    let changes = subst (λ (s : State). AreNextChanges s c.args.inserted.now.items c.args.dropped.now.items) (sym c.self.view_is) c.requires.next in
+    let node = changes.node in
+    let next = changes.next in
+    let news = map (inserted_at inside.count) (reverse (effects_of node).inserted) in
+    let first : c.len-first.result ≡ length inside.rows.items = omega (arith, c.len-first.ensures) in
+    let placed = rw (c.as_slice-2.ensures.value, c.reserve.ensures.items, c.as_slice-3.ensures.value, changes.rows) at c.in_ok-add_places.ensures.ok in
+    let parents_are : c.in_ok-parents.parents.names.items ≡ parents_from (rules_of_state state) (length inside.rows.items) news =
+    c.in_ok-parents.ensures.names ∙ (λ i. parents_from (rules_over (c.as_slice-shapes.ensures.value i)) (first i) ((c.as_slice.ensures.value ∙ changes.rows) i)) in
+    let refs = c.in-Ok.added.parents.items in
+    let refs_are : pairs_of refs ≡ deletes_at (place_of (inside.rows.items ++ news)) (parents_from (rules_of_state state) (length inside.rows.items) news) =
+    c.in-Ok.ensures.parents ∙ ap (deletes_at (get name_cmp c.add_places.new.places)) (c.as_slice-4.ensures.value ∙ parents_are) ∙ pairs_same placed (parents_from (rules_of_state state) (length inside.rows.items) news) in
+    let names = c.in-Ok.added.dropped.items in
+    let drops = map (dropped_at inside.count) (reverse (effects_of node).deleted) in
+    let names_are : pairs_of names ≡ deletes_at (place_of (inside.rows.items ++ news)) drops =
+    c.in-Ok.ensures.dropped ∙ ap (deletes_at (get name_cmp c.add_places.new.places)) (c.as_slice-5.ensures.value ∙ changes.names) ∙ pairs_same placed drops in
+    let children_are : c.grow_links.new.children.links ≡ inside.children.links ++ refs = ap (λ (d : Linked). d.links) c.in-Ok.ensures.children in
+    let deleters_are : c.grow_links.new.deleters.links ≡ inside.deleters.links ++ names = ap (λ (d : Linked). d.links) c.in-Ok.ensures.deleters in
+    let rows = rw (c.unwrap-2.ensures, c.reserve.ensures.items, changes.rows) at c.append.ensures.items in
+    let rows_now : c.as_slice-6.result.now ≡ inside.rows.items ++ news = c.as_slice-6.ensures.value ∙ rows in
+    let all_len = length-append inside.rows.items news in
+    let size = ap length rows_now in
+    subst (λ (l : List Link). are_inside (length c.as_slice-6.result.now) l ≡ true) (sym deleters_are)
+    (subst (λ m. are_inside m (inside.deleters.links ++ names) ≡ true) (sym size) (deleters_next state node inside.places inside.causes.items inside.children inside.deleters inside.ends.items inside.groups.numbers.items inside.groups.least.items c.self.invariant next refs refs_are names names_are))
+
+pub recount-requires-clause-grouped : goal.recount-requires-clause-grouped
+recount-requires-clause-grouped c =
+    let inside = c.self.inside in
+    let state : State = record { shapes = inside.shapes.items; count = inside.count; inserted = inside.rows.items; dropped = inside.dropped.items; voids = inside.voids.items } in
+    let changes = subst (λ (s : State). AreNextChanges s c.args.inserted.now.items c.args.dropped.now.items) (sym c.self.view_is) c.requires.next in
+    let node = changes.node in
+    let next = changes.next in
+    let news = map (inserted_at inside.count) (reverse (effects_of node).inserted) in
+    let first : c.len-first.result ≡ length inside.rows.items = omega (arith, c.len-first.ensures) in
+    let placed = rw (c.as_slice-2.ensures.value, c.reserve.ensures.items, c.as_slice-3.ensures.value, changes.rows) at c.in_ok-add_places.ensures.ok in
+    let parents_are : c.in_ok-parents.parents.names.items ≡ parents_from (rules_of_state state) (length inside.rows.items) news =
+    c.in_ok-parents.ensures.names ∙ (λ i. parents_from (rules_over (c.as_slice-shapes.ensures.value i)) (first i) ((c.as_slice.ensures.value ∙ changes.rows) i)) in
+    let refs = c.in-Ok.added.parents.items in
+    let refs_are : pairs_of refs ≡ deletes_at (place_of (inside.rows.items ++ news)) (parents_from (rules_of_state state) (length inside.rows.items) news) =
+    c.in-Ok.ensures.parents ∙ ap (deletes_at (get name_cmp c.add_places.new.places)) (c.as_slice-4.ensures.value ∙ parents_are) ∙ pairs_same placed (parents_from (rules_of_state state) (length inside.rows.items) news) in
+    let names = c.in-Ok.added.dropped.items in
+    let drops = map (dropped_at inside.count) (reverse (effects_of node).deleted) in
+    let names_are : pairs_of names ≡ deletes_at (place_of (inside.rows.items ++ news)) drops =
+    c.in-Ok.ensures.dropped ∙ ap (deletes_at (get name_cmp c.add_places.new.places)) (c.as_slice-5.ensures.value ∙ changes.names) ∙ pairs_same placed drops in
+    let children_are : c.grow_links.new.children.links ≡ inside.children.links ++ refs = ap (λ (d : Linked). d.links) c.in-Ok.ensures.children in
+    let deleters_are : c.grow_links.new.deleters.links ≡ inside.deleters.links ++ names = ap (λ (d : Linked). d.links) c.in-Ok.ensures.deleters in
+    let rows = rw (c.unwrap-2.ensures, c.reserve.ensures.items, changes.rows) at c.append.ensures.items in
+    let rows_now : c.as_slice-6.result.now ≡ inside.rows.items ++ news = c.as_slice-6.ensures.value ∙ rows in
+    let all_len = length-append inside.rows.items news in
+    let size = ap length rows_now in
+    grouped_moved inside.shapes.items _ (inside.rows.items ++ news) _ inside.groups.numbers.items _ (sym c.as_slice-shapes.ensures.value) (sym rows_now) (sym c.reserve-5.ensures.numbers)
+    (grouped_more inside.shapes.items inside.rows.items news inside.groups.numbers.items c.self.invariant.sized c.self.invariant.grouped)
+
+pub recount-requires-clause-spare : goal.recount-requires-clause-spare
+recount-requires-clause-spare c = ap length c.reserve-5.ensures.least ∙ c.self.invariant.spare ∙ sym (ap length c.reserve-5.ensures.numbers)
+
+pub recount-requires-clause-old : goal.recount-requires-clause-old
+recount-requires-clause-old c keeps =
+    let inside = c.self.inside in
+    let state : State = record { shapes = inside.shapes.items; count = inside.count; inserted = inside.rows.items; dropped = inside.dropped.items; voids = inside.voids.items } in
+    let changes = subst (λ (s : State). AreNextChanges s c.args.inserted.now.items c.args.dropped.now.items) (sym c.self.view_is) c.requires.next in
+    let node = changes.node in
+    let next = changes.next in
+    let news = map (inserted_at inside.count) (reverse (effects_of node).inserted) in
+    let first : c.len-first.result ≡ length inside.rows.items = omega (arith, c.len-first.ensures) in
+    let placed = rw (c.as_slice-2.ensures.value, c.reserve.ensures.items, c.as_slice-3.ensures.value, changes.rows) at c.in_ok-add_places.ensures.ok in
+    let parents_are : c.in_ok-parents.parents.names.items ≡ parents_from (rules_of_state state) (length inside.rows.items) news =
+    c.in_ok-parents.ensures.names ∙ (λ i. parents_from (rules_over (c.as_slice-shapes.ensures.value i)) (first i) ((c.as_slice.ensures.value ∙ changes.rows) i)) in
+    let refs = c.in-Ok.added.parents.items in
+    let refs_are : pairs_of refs ≡ deletes_at (place_of (inside.rows.items ++ news)) (parents_from (rules_of_state state) (length inside.rows.items) news) =
+    c.in-Ok.ensures.parents ∙ ap (deletes_at (get name_cmp c.add_places.new.places)) (c.as_slice-4.ensures.value ∙ parents_are) ∙ pairs_same placed (parents_from (rules_of_state state) (length inside.rows.items) news) in
+    let names = c.in-Ok.added.dropped.items in
+    let drops = map (dropped_at inside.count) (reverse (effects_of node).deleted) in
+    let names_are : pairs_of names ≡ deletes_at (place_of (inside.rows.items ++ news)) drops =
+    c.in-Ok.ensures.dropped ∙ ap (deletes_at (get name_cmp c.add_places.new.places)) (c.as_slice-5.ensures.value ∙ changes.names) ∙ pairs_same placed drops in
+    let children_are : c.grow_links.new.children.links ≡ inside.children.links ++ refs = ap (λ (d : Linked). d.links) c.in-Ok.ensures.children in
+    let deleters_are : c.grow_links.new.deleters.links ≡ inside.deleters.links ++ names = ap (λ (d : Linked). d.links) c.in-Ok.ensures.deleters in
+    let rows = rw (c.unwrap-2.ensures, c.reserve.ensures.items, changes.rows) at c.append.ensures.items in
+    let rows_now : c.as_slice-6.result.now ≡ inside.rows.items ++ news = c.as_slice-6.ensures.value ∙ rows in
+    let all_len = length-append inside.rows.items news in
+    let size = ap length rows_now in
+    let sized = c.self.invariant.sized (sym (ap keep_any c.as_slice-shapes.ensures.value) ∙ keeps) in
+    let len = ap length c.reserve-5.ensures.numbers in
+    omega (arith, size, all_len, sized, len)
+
+pub recount-requires-clause-room : goal.recount-requires-clause-room
+recount-requires-clause-room c keeps =
+    let inside = c.self.inside in
+    let state : State = record { shapes = inside.shapes.items; count = inside.count; inserted = inside.rows.items; dropped = inside.dropped.items; voids = inside.voids.items } in
+    let changes = subst (λ (s : State). AreNextChanges s c.args.inserted.now.items c.args.dropped.now.items) (sym c.self.view_is) c.requires.next in
+    let node = changes.node in
+    let next = changes.next in
+    let news = map (inserted_at inside.count) (reverse (effects_of node).inserted) in
+    let first : c.len-first.result ≡ length inside.rows.items = omega (arith, c.len-first.ensures) in
+    let placed = rw (c.as_slice-2.ensures.value, c.reserve.ensures.items, c.as_slice-3.ensures.value, changes.rows) at c.in_ok-add_places.ensures.ok in
+    let parents_are : c.in_ok-parents.parents.names.items ≡ parents_from (rules_of_state state) (length inside.rows.items) news =
+    c.in_ok-parents.ensures.names ∙ (λ i. parents_from (rules_over (c.as_slice-shapes.ensures.value i)) (first i) ((c.as_slice.ensures.value ∙ changes.rows) i)) in
+    let refs = c.in-Ok.added.parents.items in
+    let refs_are : pairs_of refs ≡ deletes_at (place_of (inside.rows.items ++ news)) (parents_from (rules_of_state state) (length inside.rows.items) news) =
+    c.in-Ok.ensures.parents ∙ ap (deletes_at (get name_cmp c.add_places.new.places)) (c.as_slice-4.ensures.value ∙ parents_are) ∙ pairs_same placed (parents_from (rules_of_state state) (length inside.rows.items) news) in
+    let names = c.in-Ok.added.dropped.items in
+    let drops = map (dropped_at inside.count) (reverse (effects_of node).deleted) in
+    let names_are : pairs_of names ≡ deletes_at (place_of (inside.rows.items ++ news)) drops =
+    c.in-Ok.ensures.dropped ∙ ap (deletes_at (get name_cmp c.add_places.new.places)) (c.as_slice-5.ensures.value ∙ changes.names) ∙ pairs_same placed drops in
+    let children_are : c.grow_links.new.children.links ≡ inside.children.links ++ refs = ap (λ (d : Linked). d.links) c.in-Ok.ensures.children in
+    let deleters_are : c.grow_links.new.deleters.links ≡ inside.deleters.links ++ names = ap (λ (d : Linked). d.links) c.in-Ok.ensures.deleters in
+    let rows = rw (c.unwrap-2.ensures, c.reserve.ensures.items, changes.rows) at c.append.ensures.items in
+    let rows_now : c.as_slice-6.result.now ≡ inside.rows.items ++ news = c.as_slice-6.ensures.value ∙ rows in
+    let all_len = length-append inside.rows.items news in
+    let size = ap length rows_now in
+    let sized = c.self.invariant.sized (sym (ap keep_any c.as_slice-shapes.ensures.value) ∙ keeps) in
+    let room = c.in_ok-reserve-5.ensures.room keeps in
+    let news_len : length c.args.inserted.now.items ≡ length news = ap length changes.rows in
+    omega (arith, size, all_len, sized, room, news_len, c.len-more.ensures)
+
+pub recount-requires-clause-space : goal.recount-requires-clause-space
+recount-requires-clause-space c keeps =
+    let inside = c.self.inside in
+    let state : State = record { shapes = inside.shapes.items; count = inside.count; inserted = inside.rows.items; dropped = inside.dropped.items; voids = inside.voids.items } in
+    let changes = subst (λ (s : State). AreNextChanges s c.args.inserted.now.items c.args.dropped.now.items) (sym c.self.view_is) c.requires.next in
+    let node = changes.node in
+    let next = changes.next in
+    let news = map (inserted_at inside.count) (reverse (effects_of node).inserted) in
+    let first : c.len-first.result ≡ length inside.rows.items = omega (arith, c.len-first.ensures) in
+    let placed = rw (c.as_slice-2.ensures.value, c.reserve.ensures.items, c.as_slice-3.ensures.value, changes.rows) at c.in_ok-add_places.ensures.ok in
+    let parents_are : c.in_ok-parents.parents.names.items ≡ parents_from (rules_of_state state) (length inside.rows.items) news =
+    c.in_ok-parents.ensures.names ∙ (λ i. parents_from (rules_over (c.as_slice-shapes.ensures.value i)) (first i) ((c.as_slice.ensures.value ∙ changes.rows) i)) in
+    let refs = c.in-Ok.added.parents.items in
+    let refs_are : pairs_of refs ≡ deletes_at (place_of (inside.rows.items ++ news)) (parents_from (rules_of_state state) (length inside.rows.items) news) =
+    c.in-Ok.ensures.parents ∙ ap (deletes_at (get name_cmp c.add_places.new.places)) (c.as_slice-4.ensures.value ∙ parents_are) ∙ pairs_same placed (parents_from (rules_of_state state) (length inside.rows.items) news) in
+    let names = c.in-Ok.added.dropped.items in
+    let drops = map (dropped_at inside.count) (reverse (effects_of node).deleted) in
+    let names_are : pairs_of names ≡ deletes_at (place_of (inside.rows.items ++ news)) drops =
+    c.in-Ok.ensures.dropped ∙ ap (deletes_at (get name_cmp c.add_places.new.places)) (c.as_slice-5.ensures.value ∙ changes.names) ∙ pairs_same placed drops in
+    let children_are : c.grow_links.new.children.links ≡ inside.children.links ++ refs = ap (λ (d : Linked). d.links) c.in-Ok.ensures.children in
+    let deleters_are : c.grow_links.new.deleters.links ≡ inside.deleters.links ++ names = ap (λ (d : Linked). d.links) c.in-Ok.ensures.deleters in
+    let rows = rw (c.unwrap-2.ensures, c.reserve.ensures.items, changes.rows) at c.append.ensures.items in
+    let rows_now : c.as_slice-6.result.now ≡ inside.rows.items ++ news = c.as_slice-6.ensures.value ∙ rows in
+    let all_len = length-append inside.rows.items news in
+    let size = ap length rows_now in
+    let sized = c.self.invariant.sized (sym (ap keep_any c.as_slice-shapes.ensures.value) ∙ keeps) in
+    let room = c.in_ok-reserve-5.ensures.space keeps in
+    let news_len : length c.args.inserted.now.items ≡ length news = ap length changes.rows in
+    omega (arith, size, all_len, sized, c.self.invariant.spare, room, news_len, c.len-more.ensures)
 
 pub invariant_of-self-2 : goal.invariant_of-self-2
 invariant_of-self-2 c =
     let inside = c.self.inside in
-    let state : State = record { columns = inside.columns.items; count = inside.count; inserted = inside.rows.items; dropped = inside.dropped.items; voids = inside.voids.items } in
+    let state : State = record { shapes = inside.shapes.items; count = inside.count; inserted = inside.rows.items; dropped = inside.dropped.items; voids = inside.voids.items } in
     let changes = subst (λ (s : State). AreNextChanges s c.args.inserted.now.items c.args.dropped.now.items) (sym c.self.view_is) c.requires.next in
     let node = changes.node in
     let next = changes.next in
@@ -283,7 +493,7 @@ invariant_of-self-2 c =
     let first : c.len-first.result ≡ length inside.rows.items = omega (arith, c.len-first.ensures) in
     let placed = rw (c.as_slice-2.ensures.value, c.reserve.ensures.items, c.as_slice-3.ensures.value, changes.rows) at c.in_ok-add_places.ensures.ok in
     let parents_are : c.in_ok-parents.parents.names.items ≡ parents_from (rules_of_state state) (length inside.rows.items) news =
-    c.in_ok-parents.ensures.names ∙ (λ i. parents_from (rules_over_columns (c.as_slice-columns.ensures.value i)) (first i) ((c.as_slice.ensures.value ∙ changes.rows) i)) in
+    c.in_ok-parents.ensures.names ∙ (λ i. parents_from (rules_over (c.as_slice-shapes.ensures.value i)) (first i) ((c.as_slice.ensures.value ∙ changes.rows) i)) in
     let refs = c.in-Ok.added.parents.items in
     let refs_are : pairs_of refs ≡ deletes_at (place_of (inside.rows.items ++ news)) (parents_from (rules_of_state state) (length inside.rows.items) news) =
     c.in-Ok.ensures.parents ∙ ap (deletes_at (get name_cmp c.add_places.new.places)) (c.as_slice-4.ensures.value ∙ parents_are) ∙ pairs_same placed (parents_from (rules_of_state state) (length inside.rows.items) news) in
@@ -306,27 +516,45 @@ invariant_of-self-2 c =
     let gone = rw (c.unwrap-3.ensures, c.reserve-4.ensures.items, changes.names) at c.append-2.ensures.items in
     let front : take c.resize.new.self.len (c.add_causes.new.causes ++ drop (length c.add_causes.new.causes) c.resize.new.self.items) ≡ c.add_causes.new.causes =
     take_at c.add_causes.new.causes (drop (length c.add_causes.new.causes) c.resize.new.self.items) c.resize.new.self.len (c.add_causes.auto.causes ∙ c.as_mut_slice-causes.ensures.len) in
-    let before : (k : ℕ) → get_or c.as_mut_slice-causes.result.now k 0 ≡ count_by (is_of k) inside.deleters.links + absent_times inside.children.links c.as_mut_slice-causes.result.now k =
-    subst (λ (l : List ℕ). (k : ℕ) → get_or l k 0 ≡ count_by (is_of k) inside.deleters.links + absent_times inside.children.links l k) (sym whole) (padded_counts state node inside.places inside.causes.items inside.children inside.deleters inside.ends.items c.self.invariant next (length news)) in
-    let counts : (k : ℕ) → get_or c.add_causes.new.causes k 0 ≡ count_by (is_of k) (inside.deleters.links ++ names) + absent_times (inside.children.links ++ refs) c.add_causes.new.causes k =
-    λ k.
+    let before : keep_any inside.shapes.items ≡ false → (k : ℕ) → get_or c.as_mut_slice-causes.result.now k 0 ≡ count_by (is_of k) inside.deleters.links + absent_times inside.children.links c.as_mut_slice-causes.result.now k =
+    λ plain.
+    subst (λ (l : List ℕ). (k : ℕ) → get_or l k 0 ≡ count_by (is_of k) inside.deleters.links + absent_times inside.children.links l k) (sym whole) (padded_counts state node inside.places inside.causes.items inside.children inside.deleters inside.ends.items inside.groups.numbers.items inside.groups.least.items c.self.invariant next plain (length news)) in
+    let counts : keep_any inside.shapes.items ≡ false → (k : ℕ) → get_or c.add_causes.new.causes k 0 ≡ count_by (is_of k) (inside.deleters.links ++ names) + absent_times (inside.children.links ++ refs) c.add_causes.new.causes k =
+    λ plain k.
     c.add_causes.ensures (length inside.rows.items) inside.children.links inside.deleters.links children_are
-    (subst (λ m. AreRising (length inside.rows.items) m refs) (sym len) (refs_rising state node inside.places inside.causes.items inside.children inside.deleters inside.ends.items c.self.invariant next refs refs_are)) (known_inside state node inside.places inside.causes.items inside.children inside.deleters inside.ends.items c.self.invariant next) before k
+    (subst (λ m. AreRising (length inside.rows.items) m refs) (sym len) (refs_rising state node inside.places inside.causes.items inside.children inside.deleters inside.ends.items inside.groups.numbers.items inside.groups.least.items c.self.invariant next refs refs_are)) (known_inside state node inside.places inside.causes.items inside.children inside.deleters inside.ends.items inside.groups.numbers.items inside.groups.least.items c.self.invariant next) (before plain) k
     ∙ ap (λ (l : List Link). count_by (is_of k) (inside.deleters.links ++ names) + absent_times l c.add_causes.new.causes k) children_are in
+    let added : List ℕ = take c.resize.new.self.len (c.add_causes.new.causes ++ drop (length c.add_causes.new.causes) c.resize.new.self.items) in
+    let last : take c.resize.new.self.len (c.recount.new.causes ++ drop (length c.recount.new.causes) added) ≡ c.recount.new.causes =
+    take_at c.recount.new.causes (drop (length c.recount.new.causes) added) c.resize.new.self.len (c.recount.auto.causes ∙ c.as_mut_slice.ensures.len) in
+    let rows_now : c.as_slice-6.result.now ≡ inside.rows.items ++ news = c.as_slice-6.ensures.value ∙ rows in
+    let settled : AreSettled inside.shapes.items (inside.rows.items ++ news) (inside.children.links ++ refs) (λ k. count_by (is_of k) (inside.deleters.links ++ names)) c.recount.new.causes =
+    elim (cases_Bool (keep_any inside.shapes.items)) [
+      | inl keeps ↦
+          settled_moved _ inside.shapes.items _ (inside.rows.items ++ news) _ (inside.children.links ++ refs) _ (inside.deleters.links ++ names) c.recount.new.causes c.as_slice-shapes.ensures.value rows_now children_are deleters_are
+          (c.recount.ensures.counted (ap keep_any c.as_slice-shapes.ensures.value ∙ keeps))
+      | inr plain ↦
+          let stays : c.recount.new.causes ≡ c.add_causes.new.causes = c.recount.ensures.plain (ap keep_any c.as_slice-shapes.ensures.value ∙ plain) ∙ c.as_mut_slice.ensures.value ∙ front in
+          plain_settled inside.shapes.items (inside.rows.items ++ news) (inside.children.links ++ refs) (λ k. count_by (is_of k) (inside.deleters.links ++ names)) c.recount.new.causes plain
+          (subst (λ (l : List ℕ). (k : ℕ) → get_or l k 0 ≡ count_by (is_of k) (inside.deleters.links ++ names) + absent_times (inside.children.links ++ refs) l k) (sym stays) (counts plain))
+    ] in
     let all_len = length-append inside.rows.items news in
     let child_len = ap length children_are in
     let gone_len = ap length deleters_are in
     let ended = rw (c.unwrap-4.ensures, c.reserve-3.ensures.items) at c.append-3.ensures.items in
     let more_ends : c.in_ok-parents.parents.ends.items ≡ ends_from (rules_of_state state) (length inside.children.links) news =
-    c.in_ok-parents.ensures.ends ∙ (λ i. ends_from (rules_over_columns (c.as_slice-columns.ensures.value i)) (c.len-len.ensures.len i) ((c.as_slice.ensures.value ∙ changes.rows) i)) in
-    rw (rows, gone, front, ended, c.in-Ok.ensures.children, c.in-Ok.ensures.deleters)
-    (kept_next state node inside.places inside.causes.items inside.children inside.deleters inside.ends.items c.self.invariant next refs refs_are small c.add_places.new.places (c.len-first.result + c.len-more.result) c.add_causes.new.causes c.in_ok-parents.parents.ends.items names placed names_are more_ends
-    (omega (arith, first, c.len-more.ensures, news_len, all_len)) (c.add_causes.auto.causes ∙ len)
-    (omega (arith, child_len, c.grow_links.ensures.few_children)) (omega (arith, gone_len, c.grow_links.ensures.few_deleters)) counts)
+    c.in_ok-parents.ensures.ends ∙ (λ i. ends_from (rules_over (c.as_slice-shapes.ensures.value i)) (c.len-len.ensures.len i) ((c.as_slice.ensures.value ∙ changes.rows) i)) in
+    rw (rows, gone, last, ended, c.in-Ok.ensures.children, c.in-Ok.ensures.deleters)
+    (kept_next state node inside.places inside.causes.items inside.children inside.deleters inside.ends.items inside.groups.numbers.items inside.groups.least.items c.self.invariant next refs refs_are small c.add_places.new.places (c.len-first.result + c.len-more.result) c.recount.new.causes c.in_ok-parents.parents.ends.items
+    c.recount.new.groups.numbers.items c.recount.new.groups.least.items names placed names_are more_ends
+    (omega (arith, first, c.len-more.ensures, news_len, all_len)) (c.recount.auto.causes ∙ ap length (c.as_mut_slice.ensures.value ∙ front) ∙ c.add_causes.auto.causes ∙ len)
+    (omega (arith, child_len, c.grow_links.ensures.few_children)) (omega (arith, gone_len, c.grow_links.ensures.few_deleters)) settled
+    (grouped_moved _ inside.shapes.items _ (inside.rows.items ++ news) _ _ c.as_slice-shapes.ensures.value rows_now refl c.recount.ensures.grouped)
+    (λ keeps. c.recount.ensures.all (ap keep_any c.as_slice-shapes.ensures.value ∙ keeps) ∙ ap length rows_now) c.recount.ensures.spare)
 
 pub unwrap-requires-4 : goal.unwrap-requires-4
 unwrap-requires-4 c =
     let inside = c.self.inside in
-    let long = ap length c.in_ok-parents.ensures.ends ∙ ends-length (rules_over_columns c.as_slice-columns.result.now) c.len-len.result c.as_slice.result.now in
+    let long = ap length c.in_ok-parents.ensures.ends ∙ ends-length (rules_over c.as_slice-shapes.result.now) c.len-len.result c.as_slice.result.now in
     let news = ap length (c.as_slice.ensures.value) in
     c.append-3.ensures.succeeds (omega (arith, long, news, c.len-more.ensures, c.in_ok-reserve-3.ensures.ok))

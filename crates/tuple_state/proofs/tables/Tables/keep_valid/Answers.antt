@@ -10,7 +10,7 @@ use Rattle.tuple_state.proofs.tables.Tables.keep_valid.Goals as goal
 pub keep_changes-requires : goal.keep_changes-requires
 keep_changes-requires c =
     let inside = c.self.inside in
-    let state : State = record { columns = inside.columns.items; count = inside.count; inserted = inside.rows.items; dropped = inside.dropped.items; voids = inside.voids.items } in
+    let state : State = record { shapes = inside.shapes.items; count = inside.count; inserted = inside.rows.items; dropped = inside.dropped.items; voids = inside.voids.items } in
     let changes : AreNextChanges state c.in_ok-inserted.inserted.items c.in_ok-dropped.dropped.items = record {
       node = c.args.node;
       next = subst (λ (s : State). IsNextVerdict s c.args.node verdict.Valid) (sym c.self.view_is) c.requires.next;

@@ -9,7 +9,7 @@ use Rattle.tuple_state.proofs.tables.Tables.parents.Goals as goal
 pub index-requires : goal.index-requires
 index-requires c =
     let inside = c.self.inside in
-    let state : State = record { columns = inside.columns.items; count = inside.count; inserted = inside.rows.items; dropped = inside.dropped.items; voids = inside.voids.items } in
+    let state : State = record { shapes = inside.shapes.items; count = inside.count; inserted = inside.rows.items; dropped = inside.dropped.items; voids = inside.voids.items } in
     let same = ap (λ (s : State). length s.inserted) c.self.view_is in
     let long = ap length c.self.invariant.ended ∙ ends-length (rules_of_state state) 0 inside.rows.items in
     omega (arith, same, long, c.requires)
@@ -17,7 +17,7 @@ index-requires c =
 pub part-requires-clause-start : goal.part-requires-clause-start
 part-requires-clause-start c =
     let inside = c.self.inside in
-    let state : State = record { columns = inside.columns.items; count = inside.count; inserted = inside.rows.items; dropped = inside.dropped.items; voids = inside.voids.items } in
+    let state : State = record { shapes = inside.shapes.items; count = inside.count; inserted = inside.rows.items; dropped = inside.dropped.items; voids = inside.voids.items } in
     let same = ap (λ (s : State). length s.inserted) c.self.view_is in
     let below : c.args.place < length inside.rows.items = omega (arith, same, c.requires) in
     let row = row_there inside.rows.items c.args.place below in
@@ -29,7 +29,7 @@ part-requires-clause-start c =
 pub part-requires-clause-end : goal.part-requires-clause-end
 part-requires-clause-end c =
     let inside = c.self.inside in
-    let state : State = record { columns = inside.columns.items; count = inside.count; inserted = inside.rows.items; dropped = inside.dropped.items; voids = inside.voids.items } in
+    let state : State = record { shapes = inside.shapes.items; count = inside.count; inserted = inside.rows.items; dropped = inside.dropped.items; voids = inside.voids.items } in
     let same = ap (λ (s : State). length s.inserted) c.self.view_is in
     let below : c.args.place < length inside.rows.items = omega (arith, same, c.requires) in
     let row = row_there inside.rows.items c.args.place below in
@@ -40,7 +40,7 @@ part-requires-clause-end c =
 pub returns : goal.returns
 returns c it at =
     let inside = c.self.inside in
-    let state : State = record { columns = inside.columns.items; count = inside.count; inserted = inside.rows.items; dropped = inside.dropped.items; voids = inside.voids.items } in
+    let state : State = record { shapes = inside.shapes.items; count = inside.count; inserted = inside.rows.items; dropped = inside.dropped.items; voids = inside.voids.items } in
     let here = ap (λ (s : State). slice_get s.inserted c.args.place) c.self.view_is ∙ at in
     let same = ap (λ (s : State). length s.inserted) c.self.view_is in
     let below : c.args.place < length inside.rows.items = omega (arith, same, c.requires) in

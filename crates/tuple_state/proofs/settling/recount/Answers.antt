@@ -1,0 +1,18 @@
+use Rattle.std.proofs.Common.{◌≡◌, ◌+◌, ℕ, List, get_or, ap, subst, arith}
+use Rattle.std.specs.Prelude.{count_by}
+use Rattle.tuple_state.specs.Least.{AreSettled}
+use Rattle.tuple_state.specs.Links.{is_of}
+use Rattle.tuple_state.specs.declared.links.Link.{Link}
+use Rattle.tuple_state.proofs.Leasts.{settled_based}
+use Rattle.tuple_state.proofs.settling.recount.Goals as goal
+
+pub returns-clause-counted : goal.returns-clause-counted
+returns-clause-counted c e =
+    let based : (k : ℕ) → get_or c.count_places.new.causes k 0 ≡ count_by (is_of k) c.args.deleters.now.links =
+    λ k.
+    let zero_is = c.clear.ensures k in
+    let count = c.count_places.ensures k in
+    let same = ap (λ (l : List Link). count_by (is_of k) l) c.links.ensures.links in
+    omega (arith, zero_is, count, same) in
+    settled_based c.args.shapes.now c.args.rows.now c.args.children.now.links (λ k. get_or c.count_places.new.causes k 0) (λ k. count_by (is_of k) c.args.deleters.now.links) c.settle.new.causes based
+    (subst (λ (l : List Link). AreSettled c.args.shapes.now c.args.rows.now l (λ k. get_or c.count_places.new.causes k 0) c.settle.new.causes) c.links-2.ensures.links c.settle.ensures)
