@@ -36,7 +36,7 @@ const JOIN: Step = Step::Record(0, &[ROOT, OTHER_ROOT], 0, &[]);
 const SWAPPED: Step = Step::Record(0, &[OTHER_ROOT, ROOT], 0, &[]);
 
 /// Streams, with the status and the text that they get.
-const CASES: [(&[Step], u8, &str); 24] = [
+const CASES: [(&[Step], u8, &str); 25] = [
     (&[], 0, ""),
     (
         &[FIRST, SECOND],
