@@ -10,7 +10,6 @@ use Rattle.session_rules.specs.declared.role.Role.TheVariants.{Initiator}
 use Rattle.peer_memory.specs.declared.peer.Peer.{Peer as PeerEntry}
 use Rattle.replica.specs.Replicas.{ReplicaState}
 use Rattle.turn_lock.specs.Seats.{Known}
-use Rattle.turn_lock.proofs.Prefixes.{prefix_self}
 use Rattle.shared_replica.specs.declared.entry.Entry.{Entry}
 use Rattle.shared_replica.specs.Entries.{IsStoreOf}
 use Rattle.shared_replica.proofs.Going.{updates_stay}
@@ -18,7 +17,7 @@ use Rattle.session_server.specs.declared.served.Served.{Served}
 use Rattle.session_server.specs.Serving.{Ran}
 use Rattle.session_server.specs.Sessions.{IsSession}
 use Rattle.outcomes.specs.declared.refusal.Refusal.TheVariants as refusals
-use Rattle.net_commands.specs.Meetings.{HandsNone, HandsOver}
+use Rattle.net_commands.specs.Meetings.{HandsLink, HandsNone, handed}
 use Rattle.net_commands.specs.Open.{MeetsOpen, held, no_memory, not_dialled, opening_list}
 use Rattle.net_commands.proofs.Sharing.{broken_rose, grown, grows_none, met_counted, store_met}
 
@@ -37,10 +36,10 @@ hands_none result fault net new is after =
       failed = let f : new.failed ≡ one_more net.failed = ap (λ (n : NetState). n.failed) e in omega (arith, f);
     }
 
-hands_over : (before mid after : NetState) (ran : Ran) → HandsOut before ran.left ran.held mid → after ≡ taken_back mid ran.held' → HandsOver before ran after
-hands_over before mid after ran out back = record {
-  first = subst (λ (n : NetState). IsFirst before.coming ran.left ran.held n.coming) (sym back) out.first;
-  given = ap (λ (n : NetState). n.given) back ∙ ap (λ (given : Option (List (List ℕ))). with_held given ran.held') out.given;
+hands_over : (before mid after : NetState) (left put put_on : Option (List ℕ)) → HandsOut before left put mid → after ≡ taken_back mid put_on → HandsLink before left put put_on after
+hands_over before mid after left put put_on out back = record {
+  first = subst (λ (n : NetState). IsFirst before.coming left put n.coming) (sym back) out.first;
+  given = ap (λ (n : NetState). n.given) back ∙ ap (λ (given : Option (List (List ℕ))). with_held given put_on) out.given;
   out = let b : after.out ≡ mid.out - 1 = ap (λ (n : NetState). n.out) back in let o = out.out in omega (arith, b, o);
   failed = ap (λ (n : NetState). n.failed) back ∙ out.failed;
 }
@@ -48,17 +47,19 @@ hands_over before mid after ran out back = record {
 -- ---- what meeting comes to
 
 -- there was no memory to share the replica
-pub meets_none : (peers : List PeerEntry) (name : List ℕ) (net : NetState) (net_faults : ℕ) (old now : ReplicaState) → now ≡ old → MeetsOpen peers name net net net_faults net_faults old now (Err refusals.Memory)
-meets_none peers name net net_faults old now is =
-    subst (λ (r : ReplicaState). MeetsOpen peers name net net net_faults net_faults old r (Err refusals.Memory)) (sym is) (record { grows = grows_none old; comes = no_memory refl refl })
+pub meets_none : (peers : List PeerEntry) (name : List ℕ) (net mid net_new : NetState) (net_faults net_faults_new : ℕ) (left put : Option (List ℕ)) (old now : ReplicaState)
+    → HandsOut net left put mid → net_new ≡ taken_back mid put → now ≡ old → MeetsOpen peers name net net_new net_faults net_faults_new old now (Err refusals.Memory)
+meets_none peers name net mid net_new net_faults net_faults_new left put old now out back is =
+    subst (λ (r : ReplicaState). MeetsOpen peers name net net_new net_faults net_faults_new old r (Err refusals.Memory)) (sym is)
+    (record { grows = grows_none old; comes = no_memory (handed left put put (hands_over net mid net_new left put put out back)) refl refl })
 
 -- no link was handed out
-pub meets_nobody : {T E : Type 0} (result : Result T E) (fault : E) (peers : List PeerEntry) (name : List ℕ) (net net_new : NetState) (net_faults net_faults_new : ℕ) (old now : ReplicaState) (seen last : List Entry)
-    → result ≡ Err fault → OnErr result (net_new ≡ after_try result net) → OnErr result (Rose net_faults net_faults_new) → seen ≡ opening_list old → IsPrefix seen last → IsStoreOf last now
-    → MeetsOpen peers name net net_new net_faults net_faults_new old now (Err refusals.Stream)
-meets_nobody result fault peers name net net_new net_faults net_faults_new old now seen last is after rose opened begins store = record {
-  grows = grown old now seen seen last opened (prefix_self seen) begins store;
-  comes = not_dialled (hands_none result fault net net_new is (failed result fault is after)) (failed result fault is rose) refl;
+pub meets_nobody : {T E : Type 0} (result : Result T E) (fault : E) (peers : List PeerEntry) (name : List ℕ) (net net_new : NetState) (net_faults net_faults_new : ℕ) (old : ReplicaState)
+    → result ≡ Err fault → OnErr result (net_new ≡ after_try result net) → OnErr result (Rose net_faults net_faults_new)
+    → MeetsOpen peers name net net_new net_faults net_faults_new old old (Err refusals.Stream)
+meets_nobody result fault peers name net net_new net_faults net_faults_new old is after rose = record {
+  grows = grows_none old;
+  comes = not_dialled (hands_none result fault net net_new is (failed result fault is after)) (failed result fault is rose) refl refl;
 }
 
 session_seen : (rule : RuleData) (role : Role) (peers : List PeerEntry) (name : Option (List ℕ)) (before after : Known Entry) (left left' put put' : Option (List ℕ)) (faults faults' : ℕ) (served : Served)
@@ -77,7 +78,7 @@ meets_somebody rule peers name net mid net_new net_faults mid_faults net_faults_
     record {
       grows = grown old now ran.before.seen ran.after.seen last opened seen begins store;
       comes = held ran refl (record {
-        handed = hands_over net mid net_new ran out back;
+        handed = hands_over net mid net_new ran.left ran.held ran.held' out back;
         opened = opened;
         seen = seen;
         within = updates_stay ran.after.seen last now begins store;

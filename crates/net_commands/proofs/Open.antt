@@ -57,10 +57,10 @@ peers_home dir before opened taken home takes tells =
 
 -- ---- where it did not come to a session
 
-module _ (dir address : List ℕ) (before after : ShelfState) (net net_new : NetState) (faults faults_new net_faults net_faults_new : ℕ) (old now : ReplicaState) (keeps : KeepsPeers dir before after) (later : faults ≤ faults_new) where
+module _ (dir address : List ℕ) (before after : ShelfState) (net net_new : NetState) (faults faults_new net_faults net_faults_new : ℕ) (old : ReplicaState) (keeps : KeepsPeers dir before after) (later : faults ≤ faults_new) where
   -- want of memory
-  pub open_memory : Dials net net_new → KeepsGrowing old now → Stands now → SyncsOpen dir address before after net net_new faults faults_new net_faults net_faults_new old now (Err refusals.Memory)
-  open_memory dials grows stands = record {
+  pub open_memory : (now : ReplicaState) → Dials net net_new → KeepsGrowing old now → Stands now → SyncsOpen dir address before after net net_new faults faults_new net_faults net_faults_new old now (Err refusals.Memory)
+  open_memory now dials grows stands = record {
     added = grows.added;
     holds = holds_grown old now false grows stands (λ is. absurd (true≢false (sym is)));
     comes = inr refl;
@@ -72,12 +72,12 @@ module _ (dir address : List ℕ) (before after : ShelfState) (net net_new : Net
   }
 
   -- the net handed no link out
-  pub open_undialled : HandsNone net net_new → Rose net_faults net_faults_new → KeepsGrowing old now → Stands now
-      → SyncsOpen dir address before after net net_new faults faults_new net_faults net_faults_new old now (Err refusals.Stream)
-  open_undialled none rose grows stands = record {
-    added = grows.added;
-    holds = holds_grown old now false grows stands (λ is. absurd (true≢false (sym is)));
-    comes = inl (undialled none refl);
+  pub open_undialled : HandsNone net net_new → Rose net_faults net_faults_new → Stands old
+      → SyncsOpen dir address before after net net_new faults faults_new net_faults net_faults_new old old (Err refusals.Stream)
+  open_undialled none rose stands = record {
+    added = [];
+    holds = holds_grown old old false (grows_none old) stands (λ is. absurd (true≢false (sym is)));
+    comes = inl (undialled none refl refl);
     dials = refused none;
     keeps = keeps;
     later = later;
@@ -90,13 +90,13 @@ pub open_stopped : (dir address : List ℕ) (before after : ShelfState) (net : N
     → IsPeersFault faults faults_new refusal → SyncsOpen dir address before after net net faults faults_new net_faults net_faults replica replica (Err refusal)
 open_stopped dir address before after net faults faults_new net_faults replica refusal keeps later stands (inl memory) =
     subst (λ (r : Refusal). SyncsOpen dir address before after net net faults faults_new net_faults net_faults replica replica (Err r)) (sym memory)
-    (open_memory dir address before after net net faults faults_new net_faults net_faults replica replica keeps later (not_asked refl) (grows_none replica) stands)
+    (open_memory dir address before after net net faults faults_new net_faults net_faults replica keeps later replica (not_asked refl) (grows_none replica) stands)
 open_stopped dir address before after net faults faults_new net_faults replica refusal keeps later stands (inr (is, rose)) =
     subst (λ (r : Refusal). SyncsOpen dir address before after net net faults faults_new net_faults net_faults replica replica (Err r)) (sym is)
     (record {
-      added = (grows_none replica).added;
+      added = [];
       holds = holds_grown replica replica false (grows_none replica) stands (λ e. absurd (true≢false (sym e)));
-      comes = inl (unread refl refl);
+      comes = inl (unread refl refl refl);
       dials = not_asked refl;
       keeps = keeps;
       later = later;
@@ -116,7 +116,7 @@ module _ (dir address : List ℕ) (before mid after : ShelfState) (net net_new :
     added = whole.added;
     holds = holds_grown old now (told_done answer) whole stands concludes.clean;
     comes = by concludes.comes;
-    dials = handed ran holds.handed;
+    dials = handed ran.left ran.held ran.held' holds.handed;
     keeps = keeps_peers_then dir before mid after keeps concludes.keeps;
     later = let two = concludes.later in omega (arith, one_later, two);
     store_fault = λ is. from (concludes.store_fault is);
@@ -164,14 +164,15 @@ module _ (dir address : List ℕ) (before mid : ShelfState) (net net_new : NetSt
   open_unmet refusal is stands = by meets.comes
     where
       by : MeetsBy peers name net net_new net_faults net_faults_new old ended result → SyncsOpen dir address before mid net net_new faults between net_faults net_faults_new old ended (Err refusal)
-      by (no_memory same memory) =
+      by (no_memory dials same memory) =
           let e : refusal ≡ refusals.Memory = cc (is, memory) in
           subst (λ (r : Refusal). SyncsOpen dir address before mid net net_new faults between net_faults net_faults_new old ended (Err r)) (sym e)
-          (open_memory dir address before mid net net_new faults between net_faults net_faults_new old ended keeps one_later (not_asked same) meets.grows stands)
-      by (not_dialled none rose stream) =
+          (open_memory dir address before mid net net_new faults between net_faults net_faults_new old keeps one_later ended dials meets.grows stands)
+      by (not_dialled none rose same stream) =
           let e : refusal ≡ refusals.Stream = cc (is, stream) in
           subst (λ (r : Refusal). SyncsOpen dir address before mid net net_new faults between net_faults net_faults_new old ended (Err r)) (sym e)
-          (open_undialled dir address before mid net net_new faults between net_faults net_faults_new old ended keeps one_later none rose meets.grows stands)
+          (subst (λ (s : ReplicaState). SyncsOpen dir address before mid net net_new faults between net_faults net_faults_new old s (Err refusals.Stream)) (sym same)
+          (open_undialled dir address before mid net net_new faults between net_faults net_faults_new old keeps one_later none rose (subst Stands same stands)))
       by (held ran ok holds) = absurd (cc (is, ok))
 
   -- somebody was
@@ -181,8 +182,8 @@ module _ (dir address : List ℕ) (before mid : ShelfState) (net net_new : NetSt
   open_told after faults_new now served answer is reads same is_name concludes stands = by meets.comes
     where
       by : MeetsBy peers name net net_new net_faults net_faults_new old ended result → SyncsOpen dir address before after net net_new faults faults_new net_faults net_faults_new old now answer
-      by (no_memory unasked memory) = absurd (cc (is, memory))
-      by (not_dialled none rose stream) = absurd (cc (is, stream))
+      by (no_memory dials unchanged memory) = absurd (cc (is, memory))
+      by (not_dialled none rose unchanged stream) = absurd (cc (is, stream))
       by (held ran ok holds) =
           let e : served ≡ ran.served = cc (is, ok) in
           open_met dir address before mid after net net_new faults between faults_new net_faults net_faults_new old ended now peers name ran served answer keeps reads same one_later is_name meets.grows e holds concludes stands
@@ -198,8 +199,8 @@ concluded_moves a b peers name m n p q served answer on old new (not_kept done i
 
 meeting_moves : (a b : Bool) (store : StoreData) (address m n p q : List ℕ) (net net_new : NetState) (added : List (List ℕ)) (answer : Told) → (IsTrue b → IsTrue a) → m ≡ n → (IsTrue b → q ≡ p)
     → MeetingOf a store address m p net net_new added answer → MeetingOf b store address n q net net_new added answer
-meeting_moves a b store address m n p q net net_new added answer on old new (unread same is) = unread same is
-meeting_moves a b store address m n p q net net_new added answer on old new (undialled none is) = undialled none is
+meeting_moves a b store address m n p q net net_new added answer on old new (unread same none is) = unread same none is
+meeting_moves a b store address m n p q net net_new added answer on old new (undialled none nothing is) = undialled none nothing is
 meeting_moves a b store address m n p q net net_new added answer on old new (met w) = met (record {
   peers = w.peers;
   reads = λ tells. subst (λ (l : List ℕ). Reads l w.peers) old (w.reads (on tells));

@@ -39,7 +39,7 @@ use Rattle.net_commands.specs.Words.{has_status, serve_status, serve_text}
 use Rattle.outcomes.specs.declared.reply.Reply.{Reply}
 use Rattle.update_log.specs.Log.{IsClean}
 use Rattle.net_commands.proofs.Open.{keeps_peers_then}
-use Rattle.net_commands.proofs.Sharing.{grows_then, holds_grown, passes_by}
+use Rattle.net_commands.proofs.Sharing.{grows_none, grows_then, holds_grown, passes_by}
 
 -- ---- statuses
 
@@ -164,23 +164,24 @@ module _ (dir : List ℕ) (asked : ℕ) (before after : ShelfState) (net net_new
     stream_fault = λ is. absurd (cc (is));
   }
 
-  -- what is remembered of peers was not read
-  pub serving_stopped : (refusal : Refusal) → net_new ≡ net → KeepsGrowing old now → Stands now → IsPeersFault faults faults_new refusal
-      → ServesOpen dir asked before after net net_new faults faults_new net_faults net_faults_new old now (Err refusal)
-  serving_stopped refusal same grows stands (inl memory) =
-      subst (λ (r : Refusal). ServesOpen dir asked before after net net_new faults faults_new net_faults net_faults_new old now (Err r)) (sym memory) (serving_memory (ap (λ (n : NetState). n.out) same) grows stands)
-  serving_stopped refusal same grows stands (inr (is, rose)) =
-      subst (λ (r : Refusal). ServesOpen dir asked before after net net_new faults faults_new net_faults net_faults_new old now (Err r)) (sym is)
-      (record {
-        added = grows.added;
-        holds = holds_grown old now false grows stands (λ e. absurd (true≢false (sym e)));
-        comes = inl (unread same refl);
-        out = ap (λ (n : NetState). n.out) same;
-        keeps = keeps;
-        later = later;
-        store_fault = λ status. inl rose;
-        stream_fault = λ status. absurd (cc (status));
-      })
+-- what is remembered of peers was not read
+pub serving_stopped : (dir : List ℕ) (asked : ℕ) (before after : ShelfState) (net : NetState) (faults faults_new net_faults : ℕ) (old : ReplicaState) → KeepsPeers dir before after → faults ≤ faults_new → (refusal : Refusal) → Stands old
+    → IsPeersFault faults faults_new refusal → ServesOpen dir asked before after net net faults faults_new net_faults net_faults old old (Err refusal)
+serving_stopped dir asked before after net faults faults_new net_faults old keeps later refusal stands (inl memory) =
+    subst (λ (r : Refusal). ServesOpen dir asked before after net net faults faults_new net_faults net_faults old old (Err r)) (sym memory)
+    (serving_memory dir asked before after net net faults faults_new net_faults net_faults old old keeps later refl (grows_none old) stands)
+serving_stopped dir asked before after net faults faults_new net_faults old keeps later refusal stands (inr (is, rose)) =
+    subst (λ (r : Refusal). ServesOpen dir asked before after net net faults faults_new net_faults net_faults old old (Err r)) (sym is)
+    (record {
+      added = [];
+      holds = holds_grown old old false (grows_none old) stands (λ e. absurd (true≢false (sym e)));
+      comes = inl (unread refl refl refl);
+      out = refl;
+      keeps = keeps;
+      later = later;
+      store_fault = λ status. inl rose;
+      stream_fault = λ status. absurd (cc (status));
+    })
 
 -- ---- where sessions were held
 
@@ -237,7 +238,7 @@ serving_held dir asked before mid after net net_new faults between faults_new ne
 -- what is told of a part is told of it before it was taken and after it was put back
 serving_moves : (a b : Bool) (store : StoreData) (asked : ℕ) (m n p q : List ℕ) (net net_new : NetState) (net_faults net_faults_new : ℕ) (added : List (List ℕ)) (answer : Told) → (IsTrue b → IsTrue a) → m ≡ n → (IsTrue b → q ≡ p)
     → ServingOf a store asked m p net net_new net_faults net_faults_new added answer → ServingOf b store asked n q net net_new net_faults net_faults_new added answer
-serving_moves a b store asked m n p q net net_new net_faults net_faults_new added answer on old new (unread same is) = unread same is
+serving_moves a b store asked m n p q net net_new net_faults net_faults_new added answer on old new (unread same none is) = unread same none is
 serving_moves a b store asked m n p q net net_new net_faults net_faults_new added answer on old new (served w) = served (record {
   peers = w.peers;
   reads = λ tells. subst (λ (l : List ℕ). Reads l w.peers) old (w.reads (on tells));

@@ -62,7 +62,7 @@ prefix_then a b c p q = subst (IsPrefix a) q.1 (prefix_more a b q.0 p)
 
 -- ---- how it grows
 
-pub grows_none : (replica : ReplicaState) → KeepsGrowing replica replica
+abbrev pub grows_none : (replica : ReplicaState) → KeepsGrowing replica replica
 grows_none replica = record { store = record { node = refl; schema = refl }; disk = record { tells = refl; slot = refl }; added = []; members = sym (append-nil replica.history.members) }
 
 pub grows_then : (old mid now : ReplicaState) → KeepsGrowing old mid → KeepsGrowing mid now → KeepsGrowing old now

@@ -52,12 +52,16 @@ pub record Passes (store : StoreData) (added : List (List ℕ)) (first last : Kn
 
 -- ---- nets
 
--- A link was handed out, and put back after this session.
-pub record HandsOver (before : NetState) (ran : Ran) (after : NetState) : Type 0 where
-  pub first : IsFirst before.coming ran.left ran.held after.coming
-  pub given : after.given ≡ with_held before.given ran.held'
+-- A link was handed out that had these bytes left and these put on it, and put back with these on it.
+pub record HandsLink (before : NetState) (left held held' : Option (List ℕ)) (after : NetState) : Type 0 where
+  pub first : IsFirst before.coming left held after.coming
+  pub given : after.given ≡ with_held before.given held'
   pub out : after.out ≡ before.out
   pub failed : after.failed ≡ before.failed
+
+-- A link was handed out, and put back after this session.
+abbrev pub HandsOver : NetState → Ran → NetState → Type 0
+HandsOver before ran after = HandsLink before ran.left ran.held ran.held' after
 
 -- No link was handed out, and that counts as a call that failed.
 pub record HandsNone (before after : NetState) : Type 0 where
@@ -70,7 +74,7 @@ pub record HandsNone (before after : NetState) : Type 0 where
 pub data Dials (before after : NetState) : Type 0 where
   not_asked : after ≡ before → Dials before after
   refused : HandsNone before after → Dials before after
-  handed : (ran : Ran) → HandsOver before ran after → Dials before after
+  handed : (left held held' : Option (List ℕ)) → HandsLink before left held held' after → Dials before after
 
 -- The refusal is one of a store that is not opened.
 abbrev pub IsOfStore : Refusal → Type 0
@@ -96,10 +100,10 @@ pub record Meets (tells : Bool) (store : StoreData) (address : List ℕ) (memory
   pub session : IsSession store.schema.rule Initiator peers (Some (sha256 address)) ran.before ran.after ran.left ran.left' ran.held ran.held' ran.faults ran.faults' ran.served
   pub concluded : Concluded tells peers (sha256 address) memory memory_new ran.served told
 
--- What comes of a store that is open: a disk failed before a link was asked for; or none was handed out; or it met the peer.
+-- What comes of a store that is open: a disk failed before a link was asked for; or none was handed out; or it met the peer. Only a peer brings updates.
 pub data MeetingOf (tells : Bool) (store : StoreData) (address : List ℕ) (memory memory_new : List ℕ) (net net_new : NetState) (added : List (List ℕ)) (told : Told) : Type 0 where
-  not_read : net_new ≡ net → told ≡ Err refusals.StoreFault → MeetingOf tells store address memory memory_new net net_new added told
-  not_dialled : HandsNone net net_new → told ≡ Err refusals.Stream → MeetingOf tells store address memory memory_new net net_new added told
+  not_read : net_new ≡ net → added ≡ [] → told ≡ Err refusals.StoreFault → MeetingOf tells store address memory memory_new net net_new added told
+  not_dialled : HandsNone net net_new → added ≡ [] → told ≡ Err refusals.Stream → MeetingOf tells store address memory memory_new net net_new added told
   met : Meets tells store address memory memory_new net net_new added told → MeetingOf tells store address memory memory_new net net_new added told
 
 -- What `sync` answers to what the parts of a directory read as, where the shelf tells it: the store is refused, or a disk failed as it was taken, and the net is left
@@ -158,9 +162,9 @@ pub record ServesPeers (tells : Bool) (store : StoreData) (asked : ℕ) (memory 
   pub said : Tells told (serve_text sessions store_failed net_failed) (serve_status sessions store_failed net_failed)
   pub remembers : store_failed ≡ false → IsTrue tells → RemembersSessions peers sessions memory memory_new
 
--- What comes of a store that is open: a disk failed before a link was asked for; or it served.
+-- What comes of a store that is open: a disk failed before a link was asked for, and nothing was added; or it served.
 pub data ServingOf (tells : Bool) (store : StoreData) (asked : ℕ) (memory memory_new : List ℕ) (net net_new : NetState) (net_faults net_faults_new : ℕ) (added : List (List ℕ)) (told : Told) : Type 0 where
-  not_read : net_new ≡ net → told ≡ Err refusals.StoreFault → ServingOf tells store asked memory memory_new net net_new net_faults net_faults_new added told
+  not_read : net_new ≡ net → added ≡ [] → told ≡ Err refusals.StoreFault → ServingOf tells store asked memory memory_new net net_new net_faults net_faults_new added told
   served : ServesPeers tells store asked memory memory_new net net_new net_faults net_faults_new added told → ServingOf tells store asked memory memory_new net net_new net_faults net_faults_new added told
 
 -- What `serve` answers to what the parts of a directory read as, where the shelf tells it: the store is refused, or a disk failed as it was taken, and the net is left

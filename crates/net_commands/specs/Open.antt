@@ -53,10 +53,10 @@ pub record HoldsSession (peers : List PeerEntry) (name : List ℕ) (net net_new 
   pub broken : ran.served.ending ≡ endings.Broken → Rose net_faults net_faults_new
   pub stored : ran.served.ending ≡ endings.Store → 0 < now.log.faults
 
--- What meeting the node at an address comes to.
+-- What meeting the node at an address comes to. Without a session the store is what it was.
 pub data MeetsBy (peers : List PeerEntry) (name : List ℕ) (net net_new : NetState) (net_faults net_faults_new : ℕ) (old now : ReplicaState) (result : Result Served Refusal) : Type 0 where
-  no_memory : net_new ≡ net → result ≡ Err refusals.Memory → MeetsBy peers name net net_new net_faults net_faults_new old now result
-  not_dialled : HandsNone net net_new → Rose net_faults net_faults_new → result ≡ Err refusals.Stream → MeetsBy peers name net net_new net_faults net_faults_new old now result
+  no_memory : Dials net net_new → now ≡ old → result ≡ Err refusals.Memory → MeetsBy peers name net net_new net_faults net_faults_new old now result
+  not_dialled : HandsNone net net_new → Rose net_faults net_faults_new → now ≡ old → result ≡ Err refusals.Stream → MeetsBy peers name net net_new net_faults net_faults_new old now result
   held : (ran : Ran) → result ≡ Ok ran.served → HoldsSession peers name net net_new net_faults net_faults_new old now ran → MeetsBy peers name net net_new net_faults net_faults_new old now result
 
 pub record MeetsOpen (peers : List PeerEntry) (name : List ℕ) (net net_new : NetState) (net_faults net_faults_new : ℕ) (old now : ReplicaState) (result : Result Served Refusal) : Type 0 where

@@ -82,7 +82,7 @@ fn sync_open<T: Threads + Wait, H: Shelf, N: Net>(
     (replica, told)
 }
 
-/// Dials, and holds a session with the node at the other end. The replica comes back, whatever it comes to.
+/// Dials, and holds a session with the node at the other end. The replica comes back, whatever it comes to; without a session it is what it was.
 fn meet<T: Threads + Wait, N: Net, D: Disk>(
     rt: &T,
     alloc: Global,
@@ -96,13 +96,16 @@ fn meet<T: Threads + Wait, N: Net, D: Disk>(
     requires { rule.now ≡ replica.history.schema.rule }
     ensures { MeetsOpen peers.now name (N.state net.old) (N.state net.new) (N.faults net.old) (N.faults net.new) replica result.0 result.1 }
 {
-    let (shared, pass) = match Shared::new(alloc, replica) {
-        Ok(both) => both,
-        Err(refused) => return (refused.back, Err(Refusal::Memory)),
-    };
     let mut link = match net.dial(address) {
         Ok(link) => link,
-        Err(_) => return (shared.end(rt, pass), Err(Refusal::Stream)),
+        Err(_) => return (replica, Err(Refusal::Stream)),
+    };
+    let (shared, pass) = match Shared::new(alloc, replica) {
+        Ok(both) => both,
+        Err(refused) => {
+            net.put_back(link);
+            return (refused.back, Err(Refusal::Memory));
+        }
     };
     let (pass, served) = run_session(
         rt,

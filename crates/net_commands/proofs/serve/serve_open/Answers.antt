@@ -4,7 +4,7 @@ use Rattle.net_commands.proofs.Sharing.{grows_none}
 use Rattle.net_commands.proofs.serve.serve_open.Goals as goal
 
 pub returns-in-Err : goal.returns-in-Err
-returns-in-Err g c = serving_stopped _ _ _ _ _ _ _ _ _ _ _ _ c.peers_of.ensures.keeps c.peers_of.ensures.later c.in-Err.refusal refl (grows_none _) c.each_stands.ensures c.in-Err.ensures.failed
+returns-in-Err g c = serving_stopped _ _ _ _ _ _ _ _ _ c.peers_of.ensures.keeps c.peers_of.ensures.later c.in-Err.refusal c.each_stands.ensures c.in-Err.ensures.failed
 
 pub returns-in-Err-copy : goal.returns-in-Err-copy
 returns-in-Err-copy g c = serving_memory _ _ _ _ _ _ _ _ _ _ _ _ c.peers_of.ensures.keeps c.peers_of.ensures.later refl (grows_none _) c.each_stands.ensures

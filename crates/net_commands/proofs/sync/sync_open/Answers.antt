@@ -9,7 +9,7 @@ pub returns-in-Err : goal.returns-in-Err
 returns-in-Err g c = open_stopped _ _ _ _ _ _ _ _ _ c.in-Err.refusal c.peers_of.ensures.keeps c.peers_of.ensures.later c.each_stands.ensures c.in-Err.ensures.failed
 
 pub returns-in-Err-copy : goal.returns-in-Err-copy
-returns-in-Err-copy g c = open_memory _ _ _ _ _ _ _ _ _ _ _ _ c.peers_of.ensures.keeps c.peers_of.ensures.later (not_asked refl) (grows_none _) c.each_stands.ensures
+returns-in-Err-copy g c = open_memory _ _ _ _ _ _ _ _ _ _ _ c.peers_of.ensures.keeps c.peers_of.ensures.later _ (not_asked refl) (grows_none _) c.each_stands.ensures
 
 pub returns-in-Err-met : goal.returns-in-Err-met
 returns-in-Err-met g c = open_unmet _ _ _ _ _ _ _ _ _ _ _ _ _ _ c.meet-replica.result.1 c.peers_of.ensures.keeps c.peers_of.ensures.later c.meet-replica.ensures c.in-Err-met.refusal c.in-Err-met.is c.each_stands-2.ensures
