@@ -4,7 +4,7 @@ use Rattle.std.specs.declared.alloc.Global.{Global}
 use Rattle.std.specs.Io.KnownBytes.{Appends}
 use Rattle.std.specs.String.{string_bytes}
 use Rattle.command_words.specs.NetRequests.{AsksNet, NetText, for_serve, for_sync}
-use Rattle.bec_node.specs.Families.{AsksForSome, FamilyText, IsFamilyCommand, of_audits, of_net, of_seals, of_views}
+use Rattle.bec_node.specs.Families.{AsksForSome, FamilyText, IsFamilyCommand, of_audits, of_net, of_seals, of_views, of_worlds}
 
 net_asks : (words : List (List ℕ)) (request : NetText) → AsksNet words request → AsksForSome (of_net request)
 net_asks words request (for_sync directory address takes dir addr) = tt
@@ -15,6 +15,7 @@ asks_for_some words (of_net request) asks = net_asks (map string_bytes words) re
 asks_for_some words (of_seals request) asks = tt
 asks_for_some words (of_audits request) asks = tt
 asks_for_some words (of_views request) asks = tt
+asks_for_some words (of_worlds request) asks = tt
 
 pub appends_none : (held : Option (List ℕ)) → Appends held held []
 appends_none None = tt

@@ -1,11 +1,14 @@
 -- How a run ends.
-use Rattle.std.proofs.Common.{◌≡◌, ◌⊎◌, inl, inr, ℕ, List, [], codes, refl, sym, subst, map, Option, Some, None, Ok, Err, String, IsTrue, arith}
+use Rattle.std.specs.Prelude.{option_map}
+use Rattle.std.proofs.lemmas.Bool.Decides.{nat_tests}
+use Rattle.std.proofs.Common.{◌≡◌, ◌⊎◌, inl, inr, ℕ, ◌≤◌, Bool, true, false, cond, IfSome, length, nat_le, List, [], codes, refl, sym, subst, map, Option, Some, None, Ok, Err, String, IsTrue, arith}
 use Rattle.std.specs.declared.alloc.Global.{Global}
 use Rattle.std.specs.String.{string_bytes}
 use Rattle.std.specs.Io.KnownBytes.{Appends}
 use Rattle.lm_ots.specs.declared.ots_type.OtsType.{OtsType}
 use Rattle.lms_tree.specs.declared.lms_type.LmsType.{LmsType}
-use Rattle.command_words.specs.Requests.{Asks, RequestText, heads, check, dump, init, keygen, apply, join, export, query, merge, for_heads, for_check, for_dump, for_init, for_keygen, for_apply, for_join, for_export, for_query, for_merge}
+use Rattle.update_model.specs.declared.limits.TheConstants.{MAX_NOTE}
+use Rattle.command_words.specs.Requests.{Asks, apply_app, given, note_of, RequestText, heads, check, dump, init, keygen, apply, join, export, query, merge, notes, for_heads, for_check, for_dump, for_init, for_keygen, for_apply, for_join, for_export, for_query, for_merge, for_notes}
 use Rattle.outcomes.specs.declared.refusal.Refusal.TheVariants.{Memory, StoreFault, Stream, Words}
 use Rattle.schema_verdict.specs.declared.status.TheConstants.{NO_COMMAND, OUT_OF_MEMORY}
 use Rattle.node_commands.specs.Bundle.{DumpAnswer}
@@ -16,12 +19,12 @@ use Rattle.schema_verdict.specs.Written.{Puts, SinkState}
 use Rattle.outcomes.specs.Outside.{IsUntouched, Outside}
 use Rattle.key_directory.specs.Parts.{IsHome}
 use Rattle.bec_node.specs.Own.{EndsAs, IsOwn}
-use Rattle.bec_node.specs.RunAlone.{AnswersOnly, Comes, IsCommand, IsNoCommand, named, none, Runs, unread, NamesApart}
+use Rattle.bec_node.specs.RunAlone.{AnswersOnly, Comes, IsCommand, HasShortNote, IsNoCommand, named, none, Runs, unread, NamesApart}
 use Rattle.outcomes.specs.Comes.{ReadsSource, ReadsStoreOnly, IsSourceFault}
 use Rattle.store_directory.specs.Stores.{StoreData}
 use Rattle.node_commands.specs.Asking.{QueryAnswer}
 use Rattle.outcomes.specs.StoreAnswers.{Printing, ReadsStore}
-use Rattle.node_commands.specs.Shows.{ShowsHeads, ShowsRecords, ShowsTables}
+use Rattle.node_commands.specs.Shows.{ShowsHeads, ShowsNotes, ShowsRecords, ShowsTables}
 use Rattle.node_commands.specs.Creating.{DrawsKeyOnly, Inits}
 use Rattle.node_commands.proofs.NewKeys.{key_without_memory}
 use Rattle.node_commands.proofs.NewStores.{init_without_memory}
@@ -71,11 +74,11 @@ module _ {S H R : Type 0} (before after : Outside S H R) where
   keygen_lacks lms ots dir (Err refusal) lacks comes =
       record { draws = key_without_memory lms ots before.stream dir before.store after.store before.shelf_faults after.shelf_faults refusal comes.draws; source = comes.source }
 
-  apply_lacks : (dir : List ℕ) (outcome : Outcome) → MayLackMemory outcome → Applies dir before after outcome → Applies dir before after (Err Memory)
-  apply_lacks dir (Ok text) lacks comes = absurd lacks
-  apply_lacks dir (Err refusal) lacks comes =
-      signs_without_memory _ (ApplyAnswer before.left after.left before.stream) (IsSourceFault before.source_faults after.source_faults) dir before.store after.store before.shelf_faults after.shelf_faults refusal
-      (none_by_apply before.left after.left before.stream refusal) comes
+  apply_lacks : (dir : List ℕ) (note : Option (List ℕ)) (outcome : Outcome) → MayLackMemory outcome → Applies dir note before after outcome → Applies dir note before after (Err Memory)
+  apply_lacks dir _ (Ok text) lacks comes = absurd lacks
+  apply_lacks dir note (Err refusal) lacks comes =
+      signs_without_memory _ (ApplyAnswer note before.left after.left before.stream) (IsSourceFault before.source_faults after.source_faults) dir before.store after.store before.shelf_faults after.shelf_faults refusal
+      (none_by_apply note before.left after.left before.stream refusal) comes
 
   join_lacks : (dir : List ℕ) (outcome : Outcome) → MayLackMemory outcome → JoinsHeads dir before after outcome → JoinsHeads dir before after (Err Memory)
   join_lacks dir (Ok text) lacks comes = absurd lacks
@@ -92,11 +95,12 @@ module _ {S H R : Type 0} (before after : Outside S H R) where
   comes_lacking (dump (Some dir) json) outcome lacks comes = store_lacks (Printing (ShowsTables json)) dir outcome lacks comes
   comes_lacking (init dir) outcome lacks comes = init_lacks dir outcome lacks comes
   comes_lacking (keygen dir lms ots) outcome lacks comes = keygen_lacks lms ots dir outcome lacks comes
-  comes_lacking (apply dir) outcome lacks comes = apply_lacks dir outcome lacks comes
+  comes_lacking (apply dir note) outcome lacks comes = apply_lacks dir note outcome lacks comes
   comes_lacking (join dir) outcome lacks comes = join_lacks dir outcome lacks comes
   comes_lacking (export dir updates_only) outcome lacks comes = store_lacks (Printing (ShowsRecords updates_only)) dir outcome lacks comes
   comes_lacking (query dir text json) outcome lacks comes = store_lacks (QueryAnswer text json) dir outcome lacks comes
   comes_lacking (merge first second) outcome lacks comes = merge_lacks first second outcome lacks comes
+  comes_lacking (notes dir) outcome lacks comes = store_lacks (Printing ShowsNotes) dir outcome lacks comes
 
 -- words that ask for something name two directories by two words
 pub names_apart : (words : List (List ℕ)) (request : RequestText) → Asks words request → NamesApart request
@@ -105,11 +109,39 @@ names_apart words request (for_check taken) = tt
 names_apart words request (for_dump taken) = tt
 names_apart words request (for_init directory taken dir) = tt
 names_apart words request (for_keygen directory height width taken dir h w) = tt
-names_apart words request (for_apply directory taken dir) = tt
+names_apart words request (for_apply directory _ taken dir is) = tt
 names_apart words request (for_join directory taken dir) = tt
 names_apart words request (for_export directory taken dir) = tt
 names_apart words request (for_query directory text taken dir given) = tt
 names_apart words request (for_merge first second taken dir other differ) = differ
+names_apart words request (for_notes directory taken dir) = tt
+
+note_is_short : (word note : Option (List ℕ)) → note_of word ≡ Some note → IfSome note (λ text. length text ≤ MAX_NOTE)
+note_is_short None note is = let none : note ≡ None = cc in rw none tt
+note_is_short (Some word) note is = by (nat_le (length word) MAX_NOTE) refl is
+  where
+    by : (b : Bool) → nat_le (length word) MAX_NOTE ≡ b → cond b (Some (Some word)) None ≡ Some note → IfSome note (λ text. length text ≤ MAX_NOTE)
+    by true e given = let some : note ≡ Some word = cc in rw some (grind (arith, nat_tests))
+    by false e given = absurd cc
+
+-- and a note that they give is short
+pub short_note : (words : List (List ℕ)) (request : RequestText) → Asks words request → HasShortNote request
+short_note words request (for_heads taken) = tt
+short_note words request (for_check taken) = tt
+short_note words request (for_dump taken) = tt
+short_note words request (for_init directory taken dir) = tt
+short_note words request (for_keygen directory height width taken dir h w) = tt
+short_note words request (for_apply directory note taken dir is) = note_is_short (given apply_app words (codes "note")) note is
+short_note words request (for_join directory taken dir) = tt
+short_note words request (for_export directory taken dir) = tt
+short_note words request (for_query directory text taken dir given_text) = tt
+short_note words request (for_merge first second taken dir other differ) = tt
+short_note words request (for_notes directory taken dir) = tt
+
+-- as it is said of what is lent
+pub lent_short : {X : Type 0} (text_of : X → List ℕ) (note : Option X) → IfSome (option_map text_of note) (λ text. length text ≤ MAX_NOTE) → IfSome note (λ n. length (text_of n) ≤ MAX_NOTE)
+lent_short text_of None short = tt
+lent_short text_of (Some n) short = short
 
 -- ---- runs
 

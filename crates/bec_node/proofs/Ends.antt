@@ -1,7 +1,6 @@
 -- Each request ends as one of its own may, whether the shelf tells what it has or not; and a fault is told only where one was counted.
-use Rattle.std.proofs.Common.{◌≡◌, ◌⊎◌, inl, inr, ℕ, Bool, List, refl, sym, ap, subst, ◌∙◌, Option, Some, None, Ok, Err, arith}
-use Rattle.command_words.specs.Requests.{RequestText, heads, check, dump, init, keygen, apply, join, export, query, merge}
-use Rattle.bec_bytes.specs.Causes.{Rose}
+use Rattle.std.proofs.Common.{◌≡◌, ◌⊎◌, inl, inr, ℕ, Bool, List, refl, sym, ap, subst, ◌∙◌, Option, Some, None, Ok, Err}
+use Rattle.command_words.specs.Requests.{RequestText, heads, check, dump, init, keygen, apply, join, export, query, merge, notes}
 use Rattle.confluence_test.specs.declared.refusal.SchemaRefusal.{SchemaRefusal}
 use Rattle.confluence_test.specs.declared.refusal.SchemaRefusal.TheVariants as taking
 use Rattle.lms_tree.specs.SecretKey.{SecretData}
@@ -13,15 +12,13 @@ use Rattle.lm_ots.specs.declared.ots_type.OtsType.{OtsType}
 use Rattle.lms_tree.specs.declared.lms_type.LmsType.{LmsType}
 use Rattle.rand_core.specs.Stream.{Stream}
 use Rattle.store_directory.specs.Stores.{StoreData}
-use Rattle.update_model.specs.declared.op.Op.{Op}
+use Rattle.replica.specs.declared.contents.Contents.{Contents}
 use Rattle.history.specs.Histories.{HistoryData}
-use Rattle.update_stream.specs.declared.record_fault.RecordFault.TheVariants as records
-use Rattle.schema_verdict.specs.declared.status.TheConstants.{STORE_FAULT, STREAM_FAULT}
-use Rattle.schema_verdict.specs.Verdict.{CheckAnswer as IsVerdict, confluent, refused as taken_not}
+use Rattle.schema_verdict.specs.Verdict.{confluent, refused as taken_not}
 use Rattle.outcomes.specs.declared.refusal.Refusal.{Refusal}
 use Rattle.outcomes.specs.declared.refusal.Refusal.TheVariants as refusals
 use Rattle.outcomes.specs.Comes.{AnswersSome, IsAnyFault, IsRefused, IsShelfFault, IsSourceFault, ReadsSource, ReadsStoreOnly}
-use Rattle.outcomes.specs.Outcome.{Ends, IsFault, Outcome, Says, from_make, from_taking, status_for, status_of}
+use Rattle.outcomes.specs.Outcome.{IsFault, Outcome, from_make, from_taking}
 use Rattle.outcomes.specs.Outside.{Outside}
 use Rattle.outcomes.specs.StoreAnswers.{Printing, ReadsStore, Readings, RefusesStore, answered, bad_store, next_bytes, no_store, refused}
 use Rattle.node_commands.specs.Asking.{QueryAnswer, answers, faulted}
@@ -29,8 +26,8 @@ use Rattle.node_commands.specs.Bundle.{DumpAnswer, LacksText, RecordsAnswer, Tex
 use Rattle.node_commands.specs.Creating.{DrawsKeyOnly, Inits, IsInitEnd, IsInitFault, IsKeygenEnd}
 use Rattle.node_commands.specs.Heads.{HeadsAnswer, done as heads_done, refused as heads_refused}
 use Rattle.node_commands.specs.Merging.{IsMergeEnd, Merges}
-use Rattle.node_commands.specs.Shows.{ShowsHeads, ShowsRecords, ShowsTables}
-use Rattle.node_commands.specs.Signing.{AnswersSomeKey, Applies, ApplyAnswer, IsNoStop, IsUnopened, JoinAnswer, JoinsHeads, MakeAnswer, answered as by_key, asked, bad_text, by_fault, joined, made, none, not_joined, not_made, unopened}
+use Rattle.node_commands.specs.Shows.{ShowsHeads, ShowsNotes, ShowsRecords, ShowsTables}
+use Rattle.node_commands.specs.Signing.{AnswersSomeKey, Applies, ApplyAnswer, IsNoStop, IsUnopened, JoinAnswer, JoinsHeads, MakeAnswer, answered as by_key, asked, bad_text, by_fault, joined, made, none, not_joined, not_made, saying, unopened}
 use Rattle.node_commands.specs.Verdict.{CheckAnswer}
 use Rattle.bec_node.specs.Own.{EndsAs, EndsOf, IsOfKey, IsOfOperations, IsOfQuery, IsOfRecord, IsOfSchema, IsOfSession, IsOfSigning, IsOfStore, IsOwn}
 use Rattle.bec_node.specs.RunAlone.{Comes}
@@ -153,16 +150,16 @@ some_own Answers Own only parts added refusal (refused why refuses nothing is) =
 
 -- ---- answers that make an update
 
-make_answer_own : (ops : List Op) (c : List ℕ) (history : HistoryData) (secret : SecretData) (used : List Bool) (added : List (List ℕ)) (refusal : Refusal)
-    → MakeAnswer ops c history secret used added (Err refusal) → IsOfSigning refusal ⊎ IsOfOperations refusal
-make_answer_own ops c history secret used added refusal (made id bytes makes adds prints) = absurd prints
-make_answer_own ops c history secret used added refusal (not_made why cause is_refused adds is) =
+make_answer_own : (says : Contents) (c : List ℕ) (history : HistoryData) (secret : SecretData) (used : List Bool) (added : List (List ℕ)) (refusal : Refusal)
+    → MakeAnswer says c history secret used added (Err refusal) → IsOfSigning refusal ⊎ IsOfOperations refusal
+make_answer_own says c history secret used added refusal (made id bytes makes adds prints) = absurd prints
+make_answer_own says c history secret used added refusal (not_made why cause is_refused adds is) =
     has (λ (r : Refusal). IsOfSigning r ⊎ IsOfOperations r) refusal (from_make secret why) is (make_own secret why (subst IsRefused is is_refused))
 
-apply_answer_own : (before after : Option (List ℕ)) (stream : Stream) (history : HistoryData) (secret : SecretData) (used : List Bool) (added : List (List ℕ)) (refusal : Refusal)
-    → ApplyAnswer before after stream history secret used added (Err refusal) → IsOfSigning refusal ⊎ IsOfOperations refusal
-apply_answer_own before after stream history secret used added refusal (bad_text text fault whole_text first adds is) = has (λ (r : Refusal). IsOfSigning r ⊎ IsOfOperations r) refusal (refusals.Transaction fault) is (inr tt)
-apply_answer_own before after stream history secret used added refusal (asked text ops whole_text reads answer) = make_answer_own ops (next_bytes stream) history secret used added refusal answer
+apply_answer_own : (note before after : Option (List ℕ)) (stream : Stream) (history : HistoryData) (secret : SecretData) (used : List Bool) (added : List (List ℕ)) (refusal : Refusal)
+    → ApplyAnswer note before after stream history secret used added (Err refusal) → IsOfSigning refusal ⊎ IsOfOperations refusal
+apply_answer_own _ before after stream history secret used added refusal (bad_text text fault whole_text first adds is) = has (λ (r : Refusal). IsOfSigning r ⊎ IsOfOperations r) refusal (refusals.Transaction fault) is (inr tt)
+apply_answer_own note before after stream history secret used added refusal (asked text ops whole_text reads answer) = make_answer_own (saying note ops) (next_bytes stream) history secret used added refusal answer
 
 join_make_own : (history : HistoryData) (secret : SecretData) (used : List Bool) (c : List ℕ) (why : MakeFault) → IsJoinCause history secret used c why → IsRefused (Err (from_make secret why))
     → IsOfSigning (from_make secret why)
@@ -250,21 +247,21 @@ module _ {S H R : Type 0} (before after : Outside S H R) where
       by (inl is) = inl (merge_own refusal is)
       by (inr failed) = by_shelf (IsOwn (merge first second)) refusal failed
 
-  apply_ends : (dir : List ℕ) (outcome : Outcome) → Applies dir before after outcome → EndsAs (apply dir) before after outcome
-  apply_ends dir (Ok text) comes = tt
-  apply_ends dir (Err refusal) comes = by comes.runs.added comes.ends
+  apply_ends : (dir : List ℕ) (note : Option (List ℕ)) (outcome : Outcome) → Applies dir note before after outcome → EndsAs (apply dir note) before after outcome
+  apply_ends dir _ (Ok text) comes = tt
+  apply_ends dir note (Err refusal) comes = by comes.runs.added comes.ends
     where
-      opened : IsOfStore refusal ⊎ IsOfKey refusal → EndsBy (IsOwn (apply dir)) refusal
+      opened : IsOfStore refusal ⊎ IsOfKey refusal → EndsBy (IsOwn (apply dir note)) refusal
       opened (inl is) = inl (inl is)
       opened (inr is) = inl (inr (inl is))
 
-      faulted_by : IsShelfFault before.shelf_faults after.shelf_faults (Err refusal) ⊎ IsSourceFault before.source_faults after.source_faults (Err refusal) → EndsBy (IsOwn (apply dir)) refusal
-      faulted_by (inl failed) = by_shelf (IsOwn (apply dir)) refusal failed
+      faulted_by : IsShelfFault before.shelf_faults after.shelf_faults (Err refusal) ⊎ IsSourceFault before.source_faults after.source_faults (Err refusal) → EndsBy (IsOwn (apply dir note)) refusal
+      faulted_by (inl failed) = by_shelf (IsOwn (apply dir note)) refusal failed
       faulted_by (inr failed) = inr (inl failed)
 
-      by : (added : List (List ℕ)) → AnswersSomeKey (ApplyAnswer before.left after.left before.stream)
-          (λ given. IsShelfFault before.shelf_faults after.shelf_faults given ⊎ IsSourceFault before.source_faults after.source_faults given) added (Err refusal) → EndsBy (IsOwn (apply dir)) refusal
-      by added (by_key history secret used answer) = inl (inr (inr (apply_answer_own before.left after.left before.stream history secret used added refusal answer)))
+      by : (added : List (List ℕ)) → AnswersSomeKey (ApplyAnswer note before.left after.left before.stream)
+          (λ given. IsShelfFault before.shelf_faults after.shelf_faults given ⊎ IsSourceFault before.source_faults after.source_faults given) added (Err refusal) → EndsBy (IsOwn (apply dir note)) refusal
+      by added (by_key history secret used answer) = inl (inr (inr (apply_answer_own note before.left after.left before.stream history secret used added refusal answer)))
       by added (unopened is nothing) = opened (unopened_own refusal is)
       by added (by_fault failed nothing) = faulted_by failed
 
@@ -293,8 +290,9 @@ module _ {S H R : Type 0} (before after : Outside S H R) where
   ends_as (dump (Some dir) json) outcome comes = store_ends (IsOwn (dump (Some dir) json)) (Printing (ShowsTables json)) (λ refusal. ⊥) (printing_only (ShowsTables json)) of_store dir outcome comes
   ends_as (init dir) outcome comes = init_ends dir outcome comes
   ends_as (keygen dir lms ots) outcome comes = keygen_ends lms ots dir outcome comes
-  ends_as (apply dir) outcome comes = apply_ends dir outcome comes
+  ends_as (apply dir note) outcome comes = apply_ends dir note outcome comes
   ends_as (join dir) outcome comes = join_ends dir outcome comes
   ends_as (export dir updates_only) outcome comes = store_ends (IsOwn (export dir updates_only)) (Printing (ShowsRecords updates_only)) (λ refusal. ⊥) (printing_only (ShowsRecords updates_only)) of_store dir outcome comes
   ends_as (query dir text json) outcome comes = store_ends (IsOwn (query dir text json)) (QueryAnswer text json) IsOfQuery (query_only text json) (λ refusal is. is) dir outcome comes
   ends_as (merge first second) outcome comes = merge_ends first second outcome comes
+  ends_as (notes dir) outcome comes = store_ends (IsOwn (notes dir)) (Printing ShowsNotes) (λ refusal. ⊥) (printing_only ShowsNotes) of_store dir outcome comes

@@ -1,9 +1,9 @@
 -- A fault is told only where one was counted.
 use Rattle.std.proofs.Common.{◌≡◌, ◌⊎◌, inl, inr, ℕ, List, refl, sym, ap, subst, ◌∙◌, Option, Some, None, Ok, Err, arith}
-use Rattle.command_words.specs.Requests.{RequestText, heads, check, dump, init, keygen, apply, join, export, query, merge}
+use Rattle.command_words.specs.Requests.{RequestText, heads, check, dump, init, keygen, apply, join, export, query, merge, notes}
 use Rattle.bec_bytes.specs.Causes.{Rose}
 use Rattle.update_stream.specs.declared.record_fault.RecordFault.TheVariants as records
-use Rattle.schema_verdict.specs.declared.status.TheConstants.{OUT_OF_MEMORY, STORE_FAULT, STREAM_FAULT}
+use Rattle.schema_verdict.specs.declared.status.TheConstants.{STORE_FAULT, STREAM_FAULT}
 use Rattle.outcomes.specs.declared.refusal.Refusal.{Refusal}
 use Rattle.outcomes.specs.declared.refusal.Refusal.TheVariants as refusals
 use Rattle.outcomes.specs.Outcome.{Ends, Outcome, Says, status_for, status_of}
@@ -71,10 +71,10 @@ no_own_store (dump (Some dir) json) is = is
 no_own_store (init dir) (inl is) = is
 no_own_store (init dir) (inr is) = cc
 no_own_store (keygen dir lms ots) is = cc
-no_own_store (apply dir) (inl is) = is
-no_own_store (apply dir) (inr (inl is)) = is
-no_own_store (apply dir) (inr (inr (inl is))) = is
-no_own_store (apply dir) (inr (inr (inr is))) = is
+no_own_store (apply dir _) (inl is) = is
+no_own_store (apply dir _) (inr (inl is)) = is
+no_own_store (apply dir _) (inr (inr (inl is))) = is
+no_own_store (apply dir _) (inr (inr (inr is))) = is
 no_own_store (join dir) (inl is) = is
 no_own_store (join dir) (inr (inl is)) = is
 no_own_store (join dir) (inr (inr is)) = is
@@ -83,6 +83,7 @@ no_own_store (query dir text json) (inl is) = is
 no_own_store (query dir text json) (inr is) = is
 no_own_store (merge first second) (inl is) = is
 no_own_store (merge first second) (inr is) = is
+no_own_store (notes dir) is = is
 
 pub no_own_stream : (request : RequestText) → IsOwn request refusals.Stream → ⊥
 no_own_stream (heads None) is = is
@@ -95,10 +96,10 @@ no_own_stream (dump (Some dir) json) is = is
 no_own_stream (init dir) (inl is) = is
 no_own_stream (init dir) (inr is) = cc
 no_own_stream (keygen dir lms ots) is = cc
-no_own_stream (apply dir) (inl is) = is
-no_own_stream (apply dir) (inr (inl is)) = is
-no_own_stream (apply dir) (inr (inr (inl is))) = is
-no_own_stream (apply dir) (inr (inr (inr is))) = is
+no_own_stream (apply dir _) (inl is) = is
+no_own_stream (apply dir _) (inr (inl is)) = is
+no_own_stream (apply dir _) (inr (inr (inl is))) = is
+no_own_stream (apply dir _) (inr (inr (inr is))) = is
 no_own_stream (join dir) (inl is) = is
 no_own_stream (join dir) (inr (inl is)) = is
 no_own_stream (join dir) (inr (inr is)) = is
@@ -107,6 +108,7 @@ no_own_stream (query dir text json) (inl is) = is
 no_own_stream (query dir text json) (inr is) = is
 no_own_stream (merge first second) (inl is) = is
 no_own_stream (merge first second) (inr is) = is
+no_own_stream (notes dir) is = is
 
 -- ---- outcomes
 

@@ -1,8 +1,7 @@
 -- After a command every part of the shelf is in its place.
-use Rattle.std.proofs.Common.{◌≡◌, List, sym, subst, Option, Some, None, IsTrue}
-use Rattle.bec_disk.specs.Shelf.{ShelfState}
+use Rattle.std.proofs.Common.{◌≡◌, sym, subst, Some, None, IsTrue}
 use Rattle.key_directory.specs.Parts.{IsHome}
-use Rattle.command_words.specs.Requests.{RequestText, heads, check, dump, init, keygen, apply, join, export, query, merge}
+use Rattle.command_words.specs.Requests.{RequestText, heads, check, dump, init, keygen, apply, join, export, query, merge, notes}
 use Rattle.outcomes.specs.Outcome.{Outcome}
 use Rattle.outcomes.specs.Outside.{Outside}
 use Rattle.bec_node.specs.RunAlone.{Comes}
@@ -23,8 +22,9 @@ module _ {S H R : Type 0} (before after : Outside S H R) (home : IsTrue before.s
   comes_home (dump (Some dir) json) outcome comes = comes.runs.runs.home
   comes_home (init dir) outcome comes = comes.home
   comes_home (keygen dir lms ots) outcome comes = comes.draws.home
-  comes_home (apply dir) outcome comes = comes.runs.home
+  comes_home (apply dir _) outcome comes = comes.runs.home
   comes_home (join dir) outcome comes = comes.joins.runs.home
   comes_home (export dir updates_only) outcome comes = comes.runs.runs.home
   comes_home (query dir text json) outcome comes = comes.runs.runs.home
   comes_home (merge first second) outcome comes = comes.stores.home
+  comes_home (notes dir) outcome comes = comes.runs.runs.home

@@ -1,6 +1,5 @@
 -- What a run of a family leaves.
 use Rattle.std.proofs.Common.{◌≡◌, ◌⊎◌, inl, inr, ℕ, List, refl, sym, ap, subst, ◌∙◌, Option, Some, None, Ok, Err, IsTrue, arith}
-use Rattle.std.specs.declared.alloc.Global.{Global}
 use Rattle.bec_bytes.specs.Causes.{Rose}
 use Rattle.bec_disk.specs.Shelf.{ShelfState}
 use Rattle.bec_links.specs.Nets.{NetState}
@@ -15,7 +14,8 @@ use Rattle.command_words.specs.AuditRequests.{AuditText, audit, confirm}
 use Rattle.command_words.specs.NetRequests.{NetText, serve, sync}
 use Rattle.command_words.specs.SealRequests.{SealText, hsskey, seal, unseal}
 use Rattle.command_words.specs.WatchRequests.{WatchText, watch}
-use Rattle.net_commands.specs.Meetings.{Dials, HandsNone, handed, not_asked, refused as none_handed}
+use Rattle.command_words.specs.WorldRequests.{WorldText, demo, world}
+use Rattle.net_commands.specs.Meetings.{Dials, handed, not_asked, refused as none_handed}
 use Rattle.schema_verdict.specs.Verdict.{OutcomeOf, Prints}
 use Rattle.schema_verdict.specs.Written.{SinkState}
 use Rattle.schema_verdict.specs.declared.status.TheConstants.{STORE_FAULT, STREAM_FAULT}
@@ -28,19 +28,20 @@ use Rattle.audit_commands.specs.Audits.{ShowsDoubled}
 use Rattle.audit_commands.specs.Confirming.{ConfirmAnswer, confirmed, refused as not_confirmed}
 use Rattle.outcomes.specs.declared.refusal.Refusal.{Refusal}
 use Rattle.outcomes.specs.declared.refusal.Refusal.TheVariants as refusals
-use Rattle.outcomes.specs.Outcome.{Ends, Outcome, status_for, status_of}
+use Rattle.outcomes.specs.Outcome.{Ends, Outcome, status_of}
 use Rattle.outcomes.specs.Outside.{Outside}
 use Rattle.outcomes.specs.StoreAnswers.{Printing}
 use Rattle.outcomes.specs.Told.{EndsTold, Told, told_status}
 use Rattle.watch_command.specs.Ending.{HasCause, Says}
 use Rattle.watch_command.specs.declared.stop.Stop.{Stop}
 use Rattle.watch_command.specs.declared.stop.Stop.TheVariants.{Refused, Unwritten}
-use Rattle.bec_node.specs.Families.{AuditComes, FamilyText, IsAnswered, SealComes, TellsSeals, ViewComes, from_seal, of_audits, of_net, of_seals, of_views, told_as}
+use Rattle.bec_node.specs.Families.{AuditComes, FamilyText, SealComes, TellsSeals, ViewComes, WorldComes, from_seal, told_as}
 use Rattle.bec_node.specs.Own.{EndsOf, IsOfStore}
-use Rattle.bec_node.specs.Run.{ComesOver, DoesAsked, DoesOver, Leaves, NetSeen, of_keys, over_net, over_seals, over_views}
-use Rattle.bec_node.proofs.Ends.{has, of_store, printing_only, source_ends, store_ends}
+use Rattle.bec_node.specs.Run.{DoesAsked, DoesOver, Leaves, NetSeen, of_keys, over_net, over_seals, over_views, over_worlds}
+use Rattle.bec_node.proofs.Ends.{of_store, printing_only, source_ends, store_ends}
 use Rattle.bec_node.proofs.Faults.{as_outcome, ended_store, ended_stream, refusal_store, refusal_stream, same_refusal, source_or_sink, source_rose, store_rose}
 use Rattle.bec_node.proofs.Home.{IsSeen, same_home}
+use Rattle.bec_node.proofs.Worlds.{demo_store, demo_stream, world_store, world_stream}
 
 -- ---- what is told
 
@@ -58,7 +59,7 @@ told_stream old new held held_new (Err refusal) status ends e = source_or_sink (
 dials_out : (net net_new : NetState) → Dials net net_new → net_new.out ≡ net.out
 dials_out net net_new (not_asked same) = ap (λ (n : NetState). n.out) same
 dials_out net net_new (none_handed none) = none.out
-dials_out net net_new (handed ran over) = over.out
+dials_out net net_new (handed left held held' over) = over.out
 
 -- ---- seals
 
@@ -257,11 +258,16 @@ module _ {S H R N : Type 0} (before after : Outside S H R) (net net_new : NetSee
   views_home : (request : WatchText) → ViewComes request before after sink sink_new status → IsTrue before.store.tells → IsHome after.store
   views_home (watch dir text every) comes = comes.watches.home
 
+  worlds : (request : WorldText) → WorldComes request before after sink sink_new status → net_new ≡ net → Leaves before after net net_new sink sink_new status
+  worlds (world audited) comes same = netless (λ e. absurd (world_store sink sink_new status audited _ _ comes.tells e), world_stream sink sink_new status audited _ _ comes.tells) same
+  worlds (demo number count) comes same = netless (λ e. absurd (demo_store sink sink_new status number count comes.tells.0 e), demo_stream sink sink_new status number count comes.tells.0) same
+
   pub asked_leaves : {request : FamilyText} → DoesAsked before after net net_new sink sink_new status request → Leaves before after net net_new sink sink_new status
   asked_leaves (over_net request comes) = meets request comes.told comes.does comes.said
   asked_leaves (over_seals request answered same) = netless (seal_blames before after sink sink_new status request answered.outcome answered.comes answered.said) same
   asked_leaves (of_keys request answered same) = netless (audit_blames before after sink sink_new status request answered.outcome answered.comes answered.said) same
   asked_leaves (over_views request comes same) = views request comes same
+  asked_leaves (over_worlds request comes same) = worlds request comes same
 
   pub asked_home : (IsTrue before.store.tells → IsHome before.store) → IsSeen before after → {request : FamilyText} → DoesAsked before after net net_new sink sink_new status request
       → IsTrue before.store.tells → IsHome after.store
@@ -269,3 +275,4 @@ module _ {S H R N : Type 0} (before after : Outside S H R) (net net_new : NetSee
   asked_home home seen (over_seals request answered same) = seal_home before after sink sink_new status home seen request answered.outcome answered.comes
   asked_home home seen (of_keys request answered same) = audit_home before after sink sink_new status home seen request answered.outcome answered.comes
   asked_home home seen (over_views request comes same) = views_home request comes
+  asked_home home seen (over_worlds request comes same) = same_home before after home seen comes.shelf

@@ -7,3 +7,4 @@ pub mod Home
 pub mod Leaving
 pub mod Only
 pub mod Unsealing
+mod Worlds

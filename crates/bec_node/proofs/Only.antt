@@ -2,7 +2,7 @@
 use Rattle.std.proofs.Common.{◌≡◌, ◌⊎◌, inl, inr, ℕ, List, [], ◌∷◌, ap, IsTrue, IfSome, Option, Some, None}
 use Rattle.lm_ots.specs.declared.ots_type.OtsType.{OtsType}
 use Rattle.lms_tree.specs.declared.lms_type.LmsType.{LmsType}
-use Rattle.command_words.specs.Requests.{RequestText, heads, check, dump, init, keygen, apply, join, export, query, merge}
+use Rattle.command_words.specs.Requests.{RequestText, heads, check, dump, init, keygen, apply, join, export, query, merge, notes}
 use Rattle.bec_disk.specs.declared.part.Part.TheVariants.{Schema, Updates, Key, Used}
 use Rattle.schema_verdict.specs.declared.status.TheConstants.{OUT_OF_MEMORY}
 use Rattle.node_commands.specs.Bundle.{DumpAnswer}
@@ -19,7 +19,7 @@ use Rattle.outcomes.specs.Only.{EachAs}
 use Rattle.node_commands.specs.Signing.{ApplyAnswer, IsNoStop, IsSureOfApply, JoinAnswer, JoinsHeads, StoreAnswer}
 use Rattle.node_commands.specs.Asking.{QueryAnswer}
 use Rattle.outcomes.specs.StoreAnswers.{Readings, Printing, ReadsStore}
-use Rattle.node_commands.specs.Shows.{ShowsHeads, ShowsRecords, ShowsTables}
+use Rattle.node_commands.specs.Shows.{ShowsHeads, ShowsNotes, ShowsRecords, ShowsTables}
 use Rattle.node_commands.proofs.Answer.{OneAnswer}
 use Rattle.node_commands.proofs.MakersOnce.{OneOfMakers, used_or_not}
 use Rattle.node_commands.proofs.MergeOnce.{OneOfMerge}
@@ -33,10 +33,10 @@ init_fault : {S H R : Type 0} (dir : List ℕ) (before : Outside S H R) (left : 
 init_fault dir before None status is tells = tt
 init_fault dir before (Some input) status is tells = λ other later. each_fault (InitAnswer (Some input) other before.stream (readings before.store dir) later) status (inr (inr is))
 
-apply_fault : {S H R : Type 0} (dir : List ℕ) (before : Outside S H R) (left : Option (List ℕ)) (status : ℕ) → status ≡ OUT_OF_MEMORY
-    → IsTrue before.store.tells → IfSome left (λ input. EachAs (IsSureOfApply input before.stream (readings before.store dir)) status)
-apply_fault dir before None status is tells = tt
-apply_fault dir before (Some input) status is tells = each_fault (IsSureOfApply input before.stream (readings before.store dir)) status (inr (inr is))
+apply_fault : {S H R : Type 0} (dir : List ℕ) (note : Option (List ℕ)) (before : Outside S H R) (left : Option (List ℕ)) (status : ℕ) → status ≡ OUT_OF_MEMORY
+    → IsTrue before.store.tells → IfSome left (λ input. EachAs (IsSureOfApply note input before.stream (readings before.store dir)) status)
+apply_fault dir _ before None status is tells = tt
+apply_fault dir note before (Some input) status is tells = each_fault (IsSureOfApply note input before.stream (readings before.store dir)) status (inr (inr is))
 
 -- want of memory comes in place of each answer
 pub only_memory : {S H R : Type 0} (request : RequestText) (before : Outside S H R) (status : ℕ) → status ≡ OUT_OF_MEMORY → AnswersOnly request before status
@@ -47,11 +47,12 @@ only_memory (dump None json) before status is = source_fault (DumpAnswer json) b
 only_memory (dump (Some dir) json) before status is = shelf_fault (ReadsStore (Printing (ShowsTables json))) dir before.store status (inr (inr is))
 only_memory (init dir) before status is = init_fault dir before before.left status is
 only_memory (keygen dir lms ots) before status is = λ tells later. each_fault (KeygenAnswer lms ots before.stream (readings before.store dir) later) status (inr (inr is))
-only_memory (apply dir) before status is = apply_fault dir before before.left status is
+only_memory (apply dir note) before status is = apply_fault dir note before before.left status is
 only_memory (join dir) before status is = shelf_fault (StoreAnswer (Unit {0}) (JoinAnswer before.stream)) dir before.store status (inr (inr is))
 only_memory (export dir updates_only) before status is = shelf_fault (ReadsStore (Printing (ShowsRecords updates_only))) dir before.store status (inr (inr is))
 only_memory (query dir text json) before status is = shelf_fault (ReadsStore (QueryAnswer text json)) dir before.store status (inr (inr is))
 only_memory (merge first second) before status is = λ tells. each_fault (IsSureOfMerge (readings before.store first) (readings before.store second)) status (inr (inr is))
+only_memory (notes dir) before status is = shelf_fault (ReadsStore (Printing ShowsNotes)) dir before.store status (inr (inr is))
 
 -- an outcome that came and was said
 module _ {S H R : Type 0} (one : OneAnswer) (parts : OneOfParts) (makers : OneOfMakers) (merges : OneOfMerge) (before after : Outside S H R) (status : ℕ) where
@@ -86,21 +87,21 @@ module _ {S H R : Type 0} (one : OneAnswer) (parts : OneOfParts) (makers : OneOf
       fault (inl failed) = fault_status before.shelf_faults after.shelf_faults outcome failed
       fault (inr stops) = absurd stops
 
-  apply_only : (dir : List ℕ) (left : Option (List ℕ)) (outcome : Outcome)
+  apply_only : (dir : List ℕ) (note : Option (List ℕ)) (left : Option (List ℕ)) (outcome : Outcome)
       → RunsStore (λ given. IsShelfFault before.shelf_faults after.shelf_faults given ⊎ IsSourceFault before.source_faults after.source_faults given)
-      (StoreAnswer ((after.source ≡ before.source) × (after.random ≡ before.random)) (ApplyAnswer left after.left before.stream)) (Schema ∷ Updates ∷ Key ∷ Used ∷ []) dir before.store after.store outcome
+      (StoreAnswer ((after.source ≡ before.source) × (after.random ≡ before.random)) (ApplyAnswer note left after.left before.stream)) (Schema ∷ Updates ∷ Key ∷ Used ∷ []) dir before.store after.store outcome
       → IsSaidAs outcome status
-      → IsTrue before.store.tells → IfSome left (λ input. EachAs (IsSureOfApply input before.stream (readings before.store dir)) status)
-  apply_only dir None outcome runs said tells = tt
-  apply_only dir (Some input) outcome runs said tells =
+      → IsTrue before.store.tells → IfSome left (λ input. EachAs (IsSureOfApply note input before.stream (readings before.store dir)) status)
+  apply_only dir _ None outcome runs said tells = tt
+  apply_only dir note (Some input) outcome runs said tells =
       told_only status (λ given. IsShelfFault before.shelf_faults after.shelf_faults given ⊎ IsSourceFault before.source_faults after.source_faults given)
-      (λ given. StoreAnswer ((after.source ≡ before.source) × (after.random ≡ before.random)) (ApplyAnswer (Some input) after.left before.stream) (readings before.store dir) runs.added given)
-      (IsSureOfApply input before.stream (readings before.store dir)) outcome
+      (λ given. StoreAnswer ((after.source ≡ before.source) × (after.random ≡ before.random)) (ApplyAnswer note (Some input) after.left before.stream) (readings before.store dir) runs.added given)
+      (IsSureOfApply note input before.stream (readings before.store dir)) outcome
       (λ given came sure.
-      (makers.apply input before.stream (readings before.store dir) outcome given (
+      (makers.apply note input before.stream (readings before.store dir) outcome given (
         after.left,
         runs.added,
-        used_or_not ((after.source ≡ before.source) × (after.random ≡ before.random)) (ApplyAnswer (Some input) after.left before.stream) (readings before.store dir) runs.added outcome came,
+        used_or_not ((after.source ≡ before.source) × (after.random ≡ before.random)) (ApplyAnswer note (Some input) after.left before.stream) (readings before.store dir) runs.added outcome came,
       ) sure).0)
       fault (applied runs.comes) said
     where
@@ -142,8 +143,9 @@ module _ {S H R : Type 0} (one : OneAnswer) (parts : OneOfParts) (makers : OneOf
   only_said (dump (Some dir) json) outcome comes said = read_only before after status (Printing (ShowsTables json)) (parts.dump json) dir outcome comes said
   only_said (init dir) outcome comes said = init_only dir before.left outcome comes.comes said
   only_said (keygen dir lms ots) outcome comes said = keygen_only lms ots dir outcome comes said
-  only_said (apply dir) outcome comes said = apply_only dir before.left outcome comes.runs said
+  only_said (apply dir note) outcome comes said = apply_only dir note before.left outcome comes.runs said
   only_said (join dir) outcome comes said = join_only dir outcome comes said
   only_said (export dir updates_only) outcome comes said = read_only before after status (Printing (ShowsRecords updates_only)) (parts.export updates_only) dir outcome comes said
   only_said (query dir text json) outcome comes said = read_only before after status (QueryAnswer text json) (parts.query text json) dir outcome comes said
   only_said (merge first second) outcome comes said = merge_only first second outcome comes said
+  only_said (notes dir) outcome comes said = read_only before after status (Printing ShowsNotes) parts.notes dir outcome comes said

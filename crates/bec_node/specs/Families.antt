@@ -1,4 +1,4 @@
--- The families of commands beside those of a run alone: over a net, over seals, audits of keys, and views of queries.
+-- The families of commands beside those of a run alone: over a net, over seals, audits of keys, views of queries, and worlds.
 use Rattle.std.specs.Prelude.{◌≡◌, ℕ, ◌<◌, List, map, IsErrOf, IsTrue, String, Ok, Err}
 use Rattle.std.specs.declared.alloc.Global.{Global}
 use Rattle.std.specs.String.{string_bytes}
@@ -7,8 +7,9 @@ use Rattle.bec_disk.specs.Shelf.{ShelfState}
 use Rattle.command_words.specs.AuditRequests.{AsksAudit, AuditText, audit, confirm}
 use Rattle.command_words.specs.NetRequests.{AsksNet, NetText, sync, serve}
 use Rattle.command_words.specs.SealRequests.{AsksSeal, SealText, hsskey, seal, unseal}
-use Rattle.command_words.specs.Seen.{audit_seen, net_seen, seal_seen, watch_seen}
+use Rattle.command_words.specs.Seen.{audit_seen, net_seen, seal_seen, watch_seen, world_seen}
 use Rattle.command_words.specs.WatchRequests.{AsksWatch, WatchText, watch}
+use Rattle.command_words.specs.WorldRequests.{AsksWorld, WorldText, demo, world}
 use Rattle.key_directory.specs.Parts.{IsHome}
 use Rattle.lm_ots.specs.declared.ots_type.OtsType.{OtsType}
 use Rattle.lms_tree.specs.declared.lms_type.LmsType.{LmsType}
@@ -28,8 +29,10 @@ use Rattle.outcomes.specs.declared.refusal.Refusal.TheVariants as refusals
 use Rattle.schema_verdict.specs.Verdict.{OutcomeOf}
 use Rattle.schema_verdict.specs.Written.{SinkState}
 use Rattle.watch_command.specs.Runs.{WatchesIn}
+use Rattle.world_commands.specs.Answers.{TellsWorld}
+use Rattle.world_commands.specs.Demos.{TellsDemo}
 use Rattle.bec_node.specs.declared.families.FamilyRequest.{FamilyRequest}
-use Rattle.bec_node.specs.declared.families.FamilyRequest.TheVariants.{Net, Seals, Audits, Views}
+use Rattle.bec_node.specs.declared.families.FamilyRequest.TheVariants.{Net, Seals, Audits, Views, Worlds}
 
 -- a request of one of these families
 pub data FamilyText : Type 0 where
@@ -37,6 +40,7 @@ pub data FamilyText : Type 0 where
   of_seals : SealText → FamilyText
   of_audits : AuditText → FamilyText
   of_views : WatchText → FamilyText
+  of_worlds : WorldText → FamilyText
 
 -- what a contract sees of one
 abbrev pub family_seen : FamilyRequest → FamilyText
@@ -44,6 +48,7 @@ family_seen (Net request) = of_net (net_seen request)
 family_seen (Seals request) = of_seals (seal_seen request)
 family_seen (Audits request) = of_audits (audit_seen request)
 family_seen (Views request) = of_views (watch_seen request)
+family_seen (Worlds request) = of_worlds (world_seen request)
 
 -- the words ask for this
 abbrev pub IsFamilyCommand : FamilyText → List (String Global) → Type 0
@@ -51,6 +56,7 @@ IsFamilyCommand (of_net request) words = AsksNet (map string_bytes words) reques
 IsFamilyCommand (of_seals request) words = AsksSeal (map string_bytes words) request
 IsFamilyCommand (of_audits request) words = AsksAudit (map string_bytes words) request
 IsFamilyCommand (of_views request) words = AsksWatch (map string_bytes words) request
+IsFamilyCommand (of_worlds request) words = AsksWorld (map string_bytes words) request
 
 -- Where a request asks for sessions, it asks for one at least.
 abbrev pub AsksForSome : FamilyText → Type 0
@@ -59,6 +65,7 @@ AsksForSome (of_net (serve dir address sessions)) = 0 < sessions
 AsksForSome (of_seals request) = Unit {0}
 AsksForSome (of_audits request) = Unit {0}
 AsksForSome (of_views request) = Unit {0}
+AsksForSome (of_worlds request) = Unit {0}
 
 -- A command is done, or refused: what it comes to is said, and each answer that it has to what stands outside comes with its status.
 pub record IsAnswered {S H R : Type 0} (Comes : Outside S H R → Outside S H R → Outcome → Type 0) (Only : ℕ → Type 0) (before after : Outside S H R) (sink sink_new : SinkState) (status : ℕ) : Type 0 where
@@ -138,3 +145,17 @@ pub record WatchesQuery {S H R : Type 0} (dir text : List ℕ) (every : ℕ) (be
 -- What a request about views comes to, and what it writes.
 abbrev pub ViewComes : {S H R : Type 0} → WatchText → Outside S H R → Outside S H R → SinkState → SinkState → ℕ → Type 0
 ViewComes (watch dir text every) = WatchesQuery dir text every
+
+-- ---- worlds
+
+-- What a request about worlds comes to, and what it writes. A script is read from the source; a demonstration leaves it as it was.
+abbrev pub WorldTells : {S H R : Type 0} → WorldText → Outside S H R → Outside S H R → SinkState → SinkState → ℕ → Type 0
+WorldTells (world audited) before after =
+    TellsWorld audited (record { left = before.left; faults = before.source_faults }) (record { left = after.left; faults = after.source_faults })
+WorldTells (demo number count) before after = λ sink sink_new status. TellsDemo number count sink sink_new status × (after.source ≡ before.source)
+
+-- A request about worlds uses neither the shelf nor the generator.
+pub record WorldComes {S H R : Type 0} (request : WorldText) (before after : Outside S H R) (sink sink_new : SinkState) (status : ℕ) : Type 0 where
+  pub tells : WorldTells request before after sink sink_new status
+  pub shelf : after.shelf ≡ before.shelf
+  pub random : after.random ≡ before.random

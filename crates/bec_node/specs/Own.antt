@@ -1,6 +1,6 @@
 -- How each request may end, whether the shelf tells what it has or not.
 use Rattle.std.specs.Prelude.{◌≡◌, ◌⊎◌, None, Some, Ok, Err}
-use Rattle.command_words.specs.Requests.{RequestText, heads, check, dump, init, keygen, apply, join, export, query, merge}
+use Rattle.command_words.specs.Requests.{RequestText, heads, check, dump, init, keygen, apply, join, export, query, merge, notes}
 use Rattle.outcomes.specs.declared.refusal.Refusal.{Refusal}
 use Rattle.outcomes.specs.declared.refusal.Refusal.TheVariants as refusals
 use Rattle.outcomes.specs.Comes.{IsAnyFault}
@@ -66,11 +66,12 @@ IsOwn (dump None json) refusal = IsOfRecord refusal ⊎ (IsOfSchema refusal ⊎ 
 IsOwn (dump (Some dir) json) refusal = IsOfStore refusal
 IsOwn (init dir) refusal = IsOfSchema refusal ⊎ (refusal ≡ refusals.StoreThere)
 IsOwn (keygen dir lms ots) refusal = refusal ≡ refusals.KeyThere
-IsOwn (apply dir) refusal = IsOfStore refusal ⊎ (IsOfKey refusal ⊎ (IsOfSigning refusal ⊎ IsOfOperations refusal))
+IsOwn (apply dir _) refusal = IsOfStore refusal ⊎ (IsOfKey refusal ⊎ (IsOfSigning refusal ⊎ IsOfOperations refusal))
 IsOwn (join dir) refusal = IsOfStore refusal ⊎ (IsOfKey refusal ⊎ IsOfSigning refusal)
 IsOwn (export dir updates_only) refusal = IsOfStore refusal
 IsOwn (query dir text json) refusal = IsOfStore refusal ⊎ IsOfQuery refusal
 IsOwn (merge first second) refusal = IsOfStore refusal ⊎ IsOfSession refusal
+IsOwn (notes dir) refusal = IsOfStore refusal
 
 -- It is done, or refused for a reason of its own; or memory ran out, or the shelf or the source failed, whose count of faults rose.
 abbrev pub EndsOf : {S H R : Type 0} → (Refusal → Type 0) → Outside S H R → Outside S H R → Outcome → Type 0

@@ -9,10 +9,11 @@ use Rattle.command_words.specs.AuditRequests.{AuditText}
 use Rattle.command_words.specs.NetRequests.{NetText, sync, serve}
 use Rattle.command_words.specs.SealRequests.{SealText}
 use Rattle.command_words.specs.WatchRequests.{WatchText}
+use Rattle.command_words.specs.WorldRequests.{WorldText}
 use Rattle.schema_verdict.specs.declared.status.TheConstants.{OUT_OF_MEMORY, STORE_FAULT, STREAM_FAULT}
 use Rattle.outcomes.specs.Outside.{IsUntouched, Outside}
 use Rattle.schema_verdict.specs.Written.{SinkState}
-use Rattle.bec_node.specs.Families.{AuditAnswersOnly, AuditComes, FamilyText, IsAnswered, IsFamilyCommand, SealAnswersOnly, SealComes, ViewComes, of_audits, of_net, of_seals, of_views}
+use Rattle.bec_node.specs.Families.{AuditAnswersOnly, AuditComes, FamilyText, IsAnswered, IsFamilyCommand, SealAnswersOnly, SealComes, ViewComes, WorldComes, of_audits, of_net, of_seals, of_views, of_worlds}
 use Rattle.bec_node.specs.RunAlone.{Runs}
 use Rattle.net_commands.specs.Meetings.{ServesStore, SyncsStore}
 use Rattle.outcomes.specs.Told.{Told, EndsTold}
@@ -46,6 +47,7 @@ pub data DoesAsked {S H R N : Type 0} (before after : Outside S H R) (net net_ne
   of_keys : (request : AuditText) → IsAnswered (AuditComes request) (AuditAnswersOnly request before) before after sink sink_new status → net_new ≡ net
       → DoesAsked before after net net_new sink sink_new status (of_audits request)
   over_views : (request : WatchText) → ViewComes request before after sink sink_new status → net_new ≡ net → DoesAsked before after net net_new sink sink_new status (of_views request)
+  over_worlds : (request : WorldText) → WorldComes request before after sink sink_new status → net_new ≡ net → DoesAsked before after net net_new sink sink_new status (of_worlds request)
 
 -- A run of the program. Words that ask for something of a family come to that; other words do what they do alone, and leave the net as it was; and without
 -- memory for reading the words nothing is done.

@@ -1,11 +1,12 @@
 -- What a run of the program does.
-use Rattle.std.specs.Prelude.{◌≡◌, ℕ, List, map, IfSome, IsTrue, Err, String, slice_get, Some, None, ◌≢◌, ◌⊎◌}
+use Rattle.std.specs.Prelude.{◌≡◌, ℕ, ◌≤◌, List, length, map, IfSome, IsTrue, Err, String, slice_get, Some, None, ◌≢◌, ◌⊎◌}
 use Rattle.std.specs.declared.alloc.Global.{Global}
 use Rattle.std.specs.declared.option.Option.{Option}
 use Rattle.std.specs.String.{string_bytes}
 use Rattle.bec_bytes.specs.Causes.{Rose}
 use Rattle.bec_disk.specs.Shelf.{ShelfState}
-use Rattle.command_words.specs.Requests.{Asks, RequestText, heads, check, dump, init, keygen, apply, join, export, query, merge}
+use Rattle.update_model.specs.declared.limits.TheConstants.{MAX_NOTE}
+use Rattle.command_words.specs.Requests.{Asks, RequestText, heads, check, dump, init, keygen, apply, join, export, query, merge, notes}
 use Rattle.outcomes.specs.declared.refusal.Refusal.TheVariants.{Memory, Words}
 use Rattle.node_commands.specs.Bundle.{DumpAnswer}
 use Rattle.outcomes.specs.Comes.{ReadsStoreOnly, readings, ReadsSource}
@@ -20,7 +21,7 @@ use Rattle.schema_verdict.specs.declared.status.TheConstants.{STORE_FAULT, STREA
 use Rattle.node_commands.specs.Signing.{Applies, IsSureOfApply, JoinAnswer, JoinsHeads, SignAnswer, StoreAnswer}
 use Rattle.node_commands.specs.Asking.{QueryAnswer}
 use Rattle.outcomes.specs.StoreAnswers.{Readings, Printing, ReadsStore}
-use Rattle.node_commands.specs.Shows.{ShowsHeads, ShowsRecords, ShowsTables}
+use Rattle.node_commands.specs.Shows.{ShowsHeads, ShowsNotes, ShowsRecords, ShowsTables}
 use Rattle.node_commands.specs.Verdict.{CheckAnswer}
 use Rattle.outcomes.specs.Only.{EachAs, SourceOnly, ShelfOnly}
 use Rattle.bec_node.specs.Own.{EndsAs}
@@ -46,11 +47,12 @@ Comes (dump None json) before after outcome = ReadsSource (DumpAnswer json) befo
 Comes (dump (Some dir) json) before after outcome = ReadsStoreOnly (ReadsStore (Printing (ShowsTables json))) dir before after outcome
 Comes (init dir) before after outcome = Inits dir before after outcome
 Comes (keygen dir lms ots) before after outcome = DrawsKeyOnly lms ots dir before after outcome
-Comes (apply dir) before after outcome = Applies dir before after outcome
+Comes (apply dir note) before after outcome = Applies dir note before after outcome
 Comes (join dir) before after outcome = JoinsHeads dir before after outcome
 Comes (export dir updates_only) before after outcome = ReadsStoreOnly (ReadsStore (Printing (ShowsRecords updates_only))) dir before after outcome
 Comes (query dir text json) before after outcome = ReadsStoreOnly (ReadsStore (QueryAnswer text json)) dir before after outcome
 Comes (merge first second) before after outcome = Merges first second before after outcome
+Comes (notes dir) before after outcome = ReadsStoreOnly (ReadsStore (Printing ShowsNotes)) dir before after outcome
 
 -- Words that ask for something come to what that comes to; other words leave all as it was; and so does want of memory for reading the words.
 pub data AsksFor {S H R : Type 0} (words : List (String Global)) (before after : Outside S H R) (outcome : Outcome) : Type 0 where
@@ -75,11 +77,12 @@ AnswersOnly (init dir) before status =
     IsTrue before.store.tells → IfSome before.left (λ input. (after : Option (List ℕ)) (later : Readings) → EachAs (InitAnswer (Some input) after before.stream (readings before.store dir) later) status)
 AnswersOnly (keygen dir lms ots) before status =
     IsTrue before.store.tells → (later : Readings) → EachAs (KeygenAnswer lms ots before.stream (readings before.store dir) later) status
-AnswersOnly (apply dir) before status = IsTrue before.store.tells → IfSome before.left (λ input. EachAs (IsSureOfApply input before.stream (readings before.store dir)) status)
+AnswersOnly (apply dir note) before status = IsTrue before.store.tells → IfSome before.left (λ input. EachAs (IsSureOfApply note input before.stream (readings before.store dir)) status)
 AnswersOnly (join dir) before status = SignOnly (JoinAnswer before.stream) dir before.store status
 AnswersOnly (export dir updates_only) before status = ShelfOnly (ReadsStore (Printing (ShowsRecords updates_only))) dir before.store status
 AnswersOnly (query dir text json) before status = ShelfOnly (ReadsStore (QueryAnswer text json)) dir before.store status
 AnswersOnly (merge first second) before status = IsTrue before.store.tells → EachAs (IsSureOfMerge (readings before.store first) (readings before.store second)) status
+AnswersOnly (notes dir) before status = ShelfOnly (ReadsStore (Printing ShowsNotes)) dir before.store status
 
 -- A run of the program: the words and what stands outside ask for an outcome, the sink is told it, and the status is its own. Whether the shelf tells what it has or not, what
 -- is asked for is done or refused for a reason of its own, or a fault came in its place; a store fault is told only where the shelf counted one, and a stream fault only
@@ -98,3 +101,8 @@ pub record Runs {S H R : Type 0} (words : List (String Global)) (before after : 
 abbrev pub NamesApart : RequestText → Type 0
 NamesApart (merge first second) = first ≢ second
 NamesApart request = Unit {0}
+
+-- Where a request gives a note, it is a short one.
+abbrev pub HasShortNote : RequestText → Type 0
+HasShortNote (apply dir note) = IfSome note (λ text. length text ≤ MAX_NOTE)
+HasShortNote request = Unit {0}

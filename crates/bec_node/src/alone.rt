@@ -1,7 +1,7 @@
 //! The commands without a net, by the words of a command line.
 
 ghost use Rattle.std.specs.Prelude.{IsTrue};
-ghost use Rattle.bec_node.specs.RunAlone.{NamesApart, Comes, Runs};
+ghost use Rattle.bec_node.specs.RunAlone.{HasShortNote, NamesApart, Comes, Runs};
 ghost use Rattle.outcomes.specs.Outside.{outside};
 ghost use Rattle.command_words.specs.Seen.{request_seen};
 ghost use Rattle.key_directory.specs.Parts.{IsHome};
@@ -10,9 +10,9 @@ use bec_bytes::{Sink, Source};
 use bec_disk::Shelf;
 use command_words::{Request, one_request, request_in};
 use node_commands::{
-    apply_in, bundle_tables, dump_in, export_in, heads_in, init_in, join_in, keygen_in, merge_in,
-    one_answer, one_answer_of_makers, one_answer_of_merge, one_answer_of_parts, query_in,
-    stream_heads, verdict,
+    Application, apply_in, bundle_tables, dump_in, export_in, heads_in, init_in, join_in,
+    keygen_in, merge_in, notes_in, one_answer, one_answer_of_makers, one_answer_of_merge,
+    one_answer_of_parts, query_in, stream_heads, verdict,
 };
 use outcomes::status::OUT_OF_MEMORY;
 use outcomes::{Refusal, finish, no_command};
@@ -68,6 +68,7 @@ fn outcome_of<V: Verifier, H: Shelf, R: Rng, S: Source>(
 ) -> Result<Vec<u8>, Refusal>
     requires home { IsTrue (H.state shelf.old).tells → IsHome (H.state shelf.old) }
     requires apart { NamesApart (request_seen request.now) }
+    requires short { HasShortNote (request_seen request.now) }
     ensures { Comes (request_seen request.now) (outside S.left S.faults H.state H.faults R.stream input.old shelf.old random.old)
         (outside S.left S.faults H.state H.faults R.stream input.new shelf.new random.new) result }
 {
@@ -91,7 +92,13 @@ fn outcome_of<V: Verifier, H: Shelf, R: Rng, S: Source>(
             height,
             width,
         } => keygen_in(alloc, shelf, directory, *height, *width, random),
-        Request::Apply { directory } => apply_in(verifier, alloc, shelf, directory, random, input),
+        Request::Apply { directory, note } => {
+            let application = Application {
+                directory,
+                note: *note,
+            };
+            apply_in(verifier, alloc, shelf, &application, random, input)
+        }
         Request::Join { directory } => join_in(verifier, alloc, shelf, directory, random),
         Request::Export { directory, updates } => export_in(
             verifier, alloc, shelf, directory, *updates,
@@ -102,5 +109,6 @@ fn outcome_of<V: Verifier, H: Shelf, R: Rng, S: Source>(
             json,
         } => query_in(verifier, alloc, shelf, directory, text, *json),
         Request::Merge { first, second } => merge_in(verifier, alloc, shelf, first, second),
+        Request::Notes { directory } => notes_in(verifier, alloc, shelf, directory),
     }
 }

@@ -4,8 +4,8 @@ ghost use Rattle.std.specs.Prelude.{IfOk, MatchOption};
 ghost use Rattle.bec_node.specs.Families.{FamilyText, IsFamilyCommand, family_seen};
 
 use command_words::{
-    AuditRequest, NetRequest, SealRequest, WatchRequest, audit_request_in, net_request_in,
-    seal_request_in, watch_request_in,
+    AuditRequest, NetRequest, SealRequest, WatchRequest, WorldRequest, audit_request_in,
+    net_request_in, seal_request_in, watch_request_in, world_request_in,
 };
 use std::alloc::{AllocError, Global};
 
@@ -20,6 +20,8 @@ pub(crate) enum FamilyRequest<'a> {
     Audits(AuditRequest<'a>),
     /// About views of queries.
     Views(WatchRequest<'a>),
+    /// About worlds.
+    Worlds(WorldRequest),
 }
 
 /// What these words ask for of one of these families, or `None` where they ask for nothing of them. The one error is want of
@@ -40,8 +42,11 @@ pub(crate) fn family_request_in<'a>(
     if let Some(request) = audit_request_in(alloc, words)? {
         return Ok(Some(FamilyRequest::Audits(request)));
     }
-    match watch_request_in(alloc, words)? {
-        Some(request) => Ok(Some(FamilyRequest::Views(request))),
+    if let Some(request) = watch_request_in(alloc, words)? {
+        return Ok(Some(FamilyRequest::Views(request)));
+    }
+    match world_request_in(alloc, words)? {
+        Some(request) => Ok(Some(FamilyRequest::Worlds(request))),
         None => Ok(None),
     }
 }

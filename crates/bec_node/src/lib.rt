@@ -3,7 +3,7 @@
 //!
 //! The program itself makes the real objects and calls [`run`]; tests call it over objects in memory. What each command does is
 //! told by the crates below, one for each family: `node_commands` has those that need no net, `seal_commands` those over seals,
-//! `audit_commands` those that audit keys, and `net_commands` the two that use a net:
+//! `audit_commands` those that audit keys, `world_commands` those over worlds in memory, and `net_commands` the two that use a net:
 //!
 //! ```text
 //! bec sync DIR ADDR                  reconciles the store of a directory with the one that is served at an address

@@ -12,7 +12,7 @@ use audit_commands::{audit_in, confirm_in, one_answer_of_audits};
 use bec_bytes::{Sink, Source};
 use bec_disk::Shelf;
 use bec_links::Net;
-use command_words::{AuditRequest, NetRequest, SealRequest};
+use command_words::{AuditRequest, NetRequest, SealRequest, WorldRequest};
 use net_commands::{serve_in, sync_in};
 use outcomes::status::OUT_OF_MEMORY;
 use outcomes::{Refusal, Reply, end, finish};
@@ -22,6 +22,7 @@ use std::alloc::Global;
 use std::sync::Wait;
 use std::thread::Threads;
 use watch_command::{Watch, watch_in};
+use world_commands::{tell_demo, tell_world};
 
 /// Does what the words of a command line ask for, over a shelf of directories, a net of links, a generator of random words, a source and a
 /// sink, and answers the exit status. No part of the shelf may be handed out, and none is afterwards; nor is a link of the net.
@@ -115,6 +116,12 @@ where
                 input,
                 out,
             )
+        }
+        FamilyRequest::Worlds(WorldRequest::World { audit }) => {
+            tell_world(alloc, *audit, input, out)
+        }
+        FamilyRequest::Worlds(WorldRequest::Demo { number, count }) => {
+            tell_demo(alloc, *number, *count, out)
         }
     }
 }

@@ -12,3 +12,4 @@ pub mod Replaced
 pub mod Started
 pub mod Made
 pub mod Goes
+pub mod Reported

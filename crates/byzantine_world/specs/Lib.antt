@@ -3,3 +3,4 @@ pub mod Standing
 pub mod Events
 pub mod Taking
 pub mod Begun
+pub mod Shown

@@ -1,8 +1,9 @@
 //! A world of correct replicas, crashes and liars, in memory: what may happen happens to it, one event after another.
 //!
 //! A [`World`] is made from the text of a schema ([`World::new`]). [`World::step`] takes an event, and does with the real replicas and
-//! sessions what the relation of `world_rules` says; so the laws of every list of events hold of it. Everything is determined by
-//! the number that it begins with.
+//! sessions what the relation of `world_rules` says; so the laws of every list of events hold of it. What its replicas and
+//! sessions have come to can be reported ([`World::replicas`], [`World::sessions`]). Everything is determined by the number
+//! that it begins with.
 //!
 //! ```text
 //! let mut world = World::new(alloc, text, 2, types, 1)?;
@@ -19,6 +20,7 @@ mod beginning;
 mod carrying;
 mod feeding;
 mod meeting;
+mod reporting;
 mod state;
 mod talk;
 mod world;

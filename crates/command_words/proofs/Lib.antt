@@ -6,3 +6,4 @@ mod Refusing
 mod Rules
 mod SealRules
 mod WatchRules
+mod WorldRules

@@ -1,10 +1,10 @@
 -- The request for a net that is read from words is the one that the rules tell.
 use Rattle.std.proofs.Common.{◌≡◌, ◌∙◌, ◌+◌, ◌-◌, ◌≤◌, ◌&&◌, ℕ, ap, cond, Bool, true, false, List, [], ◌∷◌, Option, Some, None, option_map, option_and_then, refl, sym, subst, codes, arith}
-use Rattle.std.specs.Prelude.{◌↔◌, decimal, nat_le, slice_get}
+use Rattle.std.specs.Prelude.{◌↔◌, decimal, nat_le}
 use Rattle.std.proofs.lemmas.Bool.Decides.{nat_tests}
 use Rattle.std.proofs.lemmas.Fmt.{decimal_digit}
 use Rattle.clap.specs.Words.{App, Text, first_of}
-use Rattle.command_words.specs.Requests.{RequestText, heads_app, dump_app, directory_app, check_app, keygen_app, export_app, query_app, merge_app, Asks, Takes, for_heads, for_check, for_dump, for_init, for_keygen, for_apply, for_join, for_export, for_query, for_merge}
+use Rattle.command_words.specs.Requests.{RequestText, heads_app, dump_app, directory_app, check_app, keygen_app, apply_app, export_app, query_app, merge_app, Asks, Takes, for_heads, for_check, for_dump, for_init, for_keygen, for_apply, for_join, for_export, for_query, for_merge, for_notes}
 use Rattle.command_words.specs.NetRequests.{NetText, sync, serve, sync_app, serve_app, AsksNet, for_sync, for_serve}
 use Rattle.command_words.specs.NetCommands.{net_request_by, net_request_of, serve_by, serve_of, session_count, sync_by, sync_of}
 use Rattle.command_words.specs.Words.{rows_given}
@@ -107,8 +107,9 @@ not_both words request other (for_check h) k = apart (codes "check") check_app w
 not_both words request other (for_dump h) k = apart (codes "dump") dump_app words other h refl k
 not_both words request other (for_init directory h g) k = apart (codes "init") (directory_app (codes "init")) words other h refl k
 not_both words request other (for_keygen directory height width h d e f) k = apart (codes "keygen") keygen_app words other h refl k
-not_both words request other (for_apply directory h g) k = apart (codes "apply") (directory_app (codes "apply")) words other h refl k
+not_both words request other (for_apply directory text h d n) k = apart (codes "apply") apply_app words other h refl k
 not_both words request other (for_join directory h g) k = apart (codes "join") (directory_app (codes "join")) words other h refl k
 not_both words request other (for_export directory h g) k = apart (codes "export") export_app words other h refl k
 not_both words request other (for_query directory text h f s) k = apart (codes "query") query_app words other h refl k
 not_both words request other (for_merge first second h f s differ) k = apart (codes "merge") merge_app words other h refl k
+not_both words request other (for_notes directory h g) k = apart (codes "notes") (directory_app (codes "notes")) words other h refl k

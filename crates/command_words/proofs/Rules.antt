@@ -5,8 +5,8 @@ use Rattle.std.proofs.lemmas.Slice.Eq.{bytes_eq-Decides}
 use Rattle.clap.specs.Words.{App, Row, Text, first_of, matches_of}
 use Rattle.lm_ots.specs.declared.ots_type.OtsType.{OtsType}
 use Rattle.lms_tree.specs.declared.lms_type.LmsType.{LmsType}
-use Rattle.command_words.specs.Requests.{RequestText, heads, check, init, keygen, apply, join, export, query, merge, heads_app, dump_app, directory_app, check_app, keygen_app, export_app, query_app, merge_app, height_of, width_of, Takes, given, Asks, for_heads, for_check, for_dump, for_init, for_keygen, for_apply, for_join, for_export, for_query, for_merge}
-use Rattle.command_words.specs.Commands.{heads_of, check_of, dump_by, dump_of, directory_of, keygen_by, keygen_of, export_by, export_of, query_by, query_of, merge_with, merge_by, merge_of, request_by, request_of}
+use Rattle.command_words.specs.Requests.{RequestText, heads, check, init, keygen, apply, join, export, query, merge, notes, heads_app, dump_app, directory_app, check_app, keygen_app, apply_app, export_app, query_app, merge_app, height_of, width_of, note_of, Takes, given, Asks, for_heads, for_check, for_dump, for_init, for_keygen, for_apply, for_join, for_export, for_query, for_merge, for_notes}
+use Rattle.command_words.specs.Commands.{heads_of, check_of, dump_by, dump_of, directory_of, keygen_by, keygen_of, apply_by, apply_of, export_by, export_of, query_by, query_of, merge_with, merge_by, merge_of, request_by, request_of}
 use Rattle.command_words.specs.Words.{is_set, is_taken, rows_given}
 
 -- ---- from the rules
@@ -30,6 +30,9 @@ alone name words directory h g = ap (option_and_then (first_of (codes "DIR"))) (
 abbrev keygen_from : Option Text → Option LmsType → Option OtsType → Option RequestText
 keygen_from directory height width = option_and_then (λ d. option_and_then (λ h. option_map (λ w. keygen d h w) width) height) directory
 
+abbrev apply_from : Option Text → Option (Option Text) → Option RequestText
+apply_from directory note = option_and_then (λ d. option_map (λ n. apply d n) note) directory
+
 merged : (first second : Text) → first ≢ second → merge_with first second ≡ Some (merge first second)
 merged first second differ =
     let step : (b : Bool) → bytes_eq first second ≡ b → cond b None (Some (merge first second)) ≡ Some (merge first second) = elim [
@@ -49,8 +52,8 @@ by_rule words request (for_init directory h g) =
     first_is (codes "init") (directory_app (codes "init")) words h ∙ ap (option_map init) (alone (codes "init") words directory h g)
 by_rule words request (for_keygen directory height width h d e f) =
     first_is (codes "keygen") keygen_app words h ∙ ap (option_and_then keygen_by) (rows_are (codes "keygen") keygen_app words h) ∙ (λ i. keygen_from (d i) (e i) (f i))
-by_rule words request (for_apply directory h g) =
-    first_is (codes "apply") (directory_app (codes "apply")) words h ∙ ap (option_map apply) (alone (codes "apply") words directory h g)
+by_rule words request (for_apply directory text h d n) =
+    first_is (codes "apply") apply_app words h ∙ ap (option_and_then apply_by) (rows_are (codes "apply") apply_app words h) ∙ (λ i. apply_from (d i) (n i))
 by_rule words request (for_join directory h g) =
     first_is (codes "join") (directory_app (codes "join")) words h ∙ ap (option_map join) (alone (codes "join") words directory h g)
 by_rule words request (for_export directory h g) =
@@ -62,6 +65,8 @@ by_rule words request (for_query directory text h f s) =
 by_rule words request (for_merge first second h f s differ) =
     first_is (codes "merge") merge_app words h ∙ ap (option_and_then merge_by) (rows_are (codes "merge") merge_app words h)
     ∙ (λ i. option_and_then (λ a. option_and_then (merge_with a) (s i)) (f i)) ∙ merged first second differ
+by_rule words request (for_notes directory h g) =
+    first_is (codes "notes") (directory_app (codes "notes")) words h ∙ ap (option_map notes) (alone (codes "notes") words directory h g)
 
 -- ---- to the rules
 
@@ -126,6 +131,16 @@ from_keygen words rest request n e =
     (for_keygen d.0 h.0 w.0 t.0 (ap (first_of (codes "DIR")) of ∙ d.1) (ap (λ (rows : List Row). height_of (first_of (codes "height") rows)) of ∙ h.1)
     (ap (λ (rows : List Row). width_of (first_of (codes "width") rows)) of ∙ w.1))
 
+from_apply : (words rest : List Text) (request : RequestText) → words ≡ codes "apply" ∷ rest → apply_of words ≡ Some request → Asks words request
+from_apply words rest request n e =
+    let k = chained apply_by (rows_given apply_app words) request e in
+    let t = takes (codes "apply") apply_app words rest k.0 n k.1 in
+    let asked : Text → Option RequestText = λ d. option_map (λ note. apply d note) (note_of (first_of (codes "note") k.0)) in
+    let d = chained asked (first_of (codes "DIR") k.0) request k.2 in
+    let x = mapped (λ (note : Option Text). apply d.0 note) (note_of (first_of (codes "note") k.0)) request d.2 in
+    subst (λ (r : RequestText). Asks words r) x.2
+    (for_apply d.0 x.0 t.0 (ap (first_of (codes "DIR")) (sym t.1) ∙ d.1) (ap (λ (rows : List Row). note_of (first_of (codes "note") rows)) (sym t.1) ∙ x.1))
+
 from_export : (words rest : List Text) (request : RequestText) → words ≡ codes "export" ∷ rest → export_of words ≡ Some request → Asks words request
 from_export words rest request n e =
     let k = chained export_by (rows_given export_app words) request e in
@@ -184,11 +199,12 @@ told first rest request =
     (either first (codes "dump") rest request _ _ (λ n. from_dump words rest request n)
     (either first (codes "init") rest request _ _ (λ n. from_one (λ (r : RequestText). Asks words r) (codes "init") init words rest request n for_init)
     (either first (codes "keygen") rest request _ _ (λ n. from_keygen words rest request n)
-    (either first (codes "apply") rest request _ _ (λ n. from_one (λ (r : RequestText). Asks words r) (codes "apply") apply words rest request n for_apply)
+    (either first (codes "apply") rest request _ _ (λ n. from_apply words rest request n)
     (either first (codes "join") rest request _ _ (λ n. from_one (λ (r : RequestText). Asks words r) (codes "join") join words rest request n for_join)
     (either first (codes "export") rest request _ _ (λ n. from_export words rest request n)
     (either first (codes "query") rest request _ _ (λ n. from_query words rest request n)
-    (either first (codes "merge") rest request _ _ (λ n. from_merge words rest request n) (λ e. absurd (cc)))))))))))
+    (either first (codes "merge") rest request _ _ (λ n. from_merge words rest request n)
+    (either first (codes "notes") rest request _ _ (λ n. from_one (λ (r : RequestText). Asks words r) (codes "notes") notes words rest request n for_notes) (λ e. absurd (cc))))))))))))
 
 pub to_rule : (words : List Text) (request : RequestText) → request_of words ≡ Some request → Asks words request
 to_rule [] request e = absurd (cc)

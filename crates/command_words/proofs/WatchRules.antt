@@ -1,6 +1,6 @@
 -- The request to watch a query that is read from words is the one that the rules tell.
 use Rattle.std.proofs.Common.{◌≡◌, ◌∙◌, ◌≤◌, ◌&&◌, ℕ, ℤ, pos, negsuc, ap, cond, Bool, true, false, List, [], ◌∷◌, Option, Some, None, option_map, option_and_then, refl, sym, subst, codes, arith}
-use Rattle.std.specs.Prelude.{◌↔◌, decimal, nat_le}
+use Rattle.std.specs.Prelude.{◌↔◌, nat_le}
 use Rattle.std.proofs.lemmas.Bool.Decides.{nat_tests}
 use Rattle.clap.specs.Words.{Row, Text, first_of}
 use Rattle.text_words.specs.Integers.{int_of}

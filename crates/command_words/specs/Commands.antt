@@ -1,7 +1,7 @@
 -- The request that words are, as it is read: by the first word, and then by what the words give for each argument.
 use Rattle.std.specs.Prelude.{List, Option, Some, None, option_map, option_and_then, if◌then◌else◌, bytes_eq, slice_get, codes}
 use Rattle.clap.specs.Words.{Row, Text, first_of}
-use Rattle.command_words.specs.Requests.{RequestText, heads, check, dump, init, keygen, apply, join, export, query, merge, heads_app, dump_app, directory_app, check_app, keygen_app, export_app, query_app, merge_app, height_of, width_of}
+use Rattle.command_words.specs.Requests.{RequestText, heads, check, dump, init, keygen, apply, join, export, query, merge, notes, heads_app, dump_app, directory_app, check_app, keygen_app, apply_app, export_app, query_app, merge_app, height_of, width_of, note_of}
 use Rattle.command_words.specs.Words.{is_set, rows_given}
 
 abbrev pub heads_of : List Text → Option RequestText
@@ -23,8 +23,11 @@ directory_of name words = option_and_then (first_of (codes "DIR")) (rows_given (
 abbrev pub init_of : List Text → Option RequestText
 init_of words = option_map init (directory_of (codes "init") words)
 
+abbrev pub apply_by : List Row → Option RequestText
+apply_by rows = option_and_then (λ directory. option_map (λ note. apply directory note) (note_of (first_of (codes "note") rows))) (first_of (codes "DIR") rows)
+
 abbrev pub apply_of : List Text → Option RequestText
-apply_of words = option_map apply (directory_of (codes "apply") words)
+apply_of words = option_and_then apply_by (rows_given apply_app words)
 
 abbrev pub join_of : List Text → Option RequestText
 join_of words = option_map join (directory_of (codes "join") words)
@@ -59,6 +62,9 @@ merge_by rows = option_and_then (λ first. option_and_then (merge_with first) (f
 abbrev pub merge_of : List Text → Option RequestText
 merge_of words = option_and_then merge_by (rows_given merge_app words)
 
+abbrev pub notes_of : List Text → Option RequestText
+notes_of words = option_map notes (directory_of (codes "notes") words)
+
 abbrev pub request_by : Text → List Text → Option RequestText
 request_by first words =
     if bytes_eq first (codes "heads") then heads_of words
@@ -71,6 +77,7 @@ request_by first words =
     else if bytes_eq first (codes "export") then export_of words
     else if bytes_eq first (codes "query") then query_of words
     else if bytes_eq first (codes "merge") then merge_of words
+    else if bytes_eq first (codes "notes") then notes_of words
     else None
 
 abbrev pub request_of : List Text → Option RequestText

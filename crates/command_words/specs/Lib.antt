@@ -10,3 +10,5 @@ pub mod Seen
 pub mod WatchCommands
 pub mod WatchRequests
 pub mod Words
+pub mod WorldCommands
+pub mod WorldRequests

@@ -1,10 +1,11 @@
 -- What the words of a command line ask for, by rules.
-use Rattle.std.specs.Prelude.{◌≡◌, ◌≢◌, Bool, true, List, [], ◌∷◌, Option, Some, None, if◌then◌else◌, bytes_eq, codes}
+use Rattle.std.specs.Prelude.{◌≡◌, ◌≢◌, Bool, true, List, [], ◌∷◌, length, Option, Some, None, if◌then◌else◌, bytes_eq, codes, nat_le}
 use Rattle.clap.specs.Words.{App, Text, first_of, matches_of}
 use Rattle.lm_ots.specs.declared.ots_type.OtsType.{OtsType}
 use Rattle.lm_ots.specs.declared.ots_type.OtsType.TheVariants.{W1, W2, W4, W8}
 use Rattle.lms_tree.specs.declared.lms_type.LmsType.{LmsType}
 use Rattle.lms_tree.specs.declared.lms_type.LmsType.TheVariants.{H5, H10, H15}
+use Rattle.update_model.specs.declared.limits.TheConstants.{MAX_NOTE}
 use Rattle.command_words.specs.Words.{command_app, flag, is_set, is_taken, needed, position, value}
 
 -- a request, with the words that name directories, and that of a query
@@ -14,11 +15,12 @@ pub data RequestText : Type 0 where
   dump : Option Text → Bool → RequestText
   init : Text → RequestText
   keygen : Text → LmsType → OtsType → RequestText
-  apply : Text → RequestText
+  apply : Text → Option Text → RequestText
   join : Text → RequestText
   export : Text → Bool → RequestText
   query : Text → Text → Bool → RequestText
   merge : Text → Text → RequestText
+  notes : Text → RequestText
 
 -- ---- the arguments of each command
 
@@ -41,6 +43,10 @@ check_app = command_app (codes "check") []
 -- keygen DIR [--height H] [--width W]
 abbrev pub keygen_app : App
 keygen_app = command_app (codes "keygen") (needed (position (codes "DIR")) ∷ value (codes "height") ∷ value (codes "width") ∷ [])
+
+-- apply DIR [--note TEXT]
+abbrev pub apply_app : App
+apply_app = command_app (codes "apply") (needed (position (codes "DIR")) ∷ value (codes "note") ∷ [])
 
 -- export DIR [--updates]
 abbrev pub export_app : App
@@ -73,6 +79,11 @@ width_of (Some word) =
     else if bytes_eq word (codes "8") then Some W8
     else None
 
+-- the note that a word is, or none where there is no word; a word that is too long is no note
+abbrev pub note_of : Option Text → Option (Option Text)
+note_of None = Some None
+note_of (Some word) = if nat_le (length word) MAX_NOTE then Some (Some word) else None
+
 -- ---- the rules
 
 -- The first of the words is this name, and the command takes them all.
@@ -96,8 +107,8 @@ pub data Asks (words : List Text) : RequestText → Type 0 where
   for_keygen : (directory : Text) (height : LmsType) (width : OtsType) → Takes (codes "keygen") keygen_app words
       → given keygen_app words (codes "DIR") ≡ Some directory → height_of (given keygen_app words (codes "height")) ≡ Some height
       → width_of (given keygen_app words (codes "width")) ≡ Some width → Asks words (keygen directory height width)
-  for_apply : (directory : Text) → Takes (codes "apply") (directory_app (codes "apply")) words
-      → given (directory_app (codes "apply")) words (codes "DIR") ≡ Some directory → Asks words (apply directory)
+  for_apply : (directory : Text) (note : Option Text) → Takes (codes "apply") apply_app words → given apply_app words (codes "DIR") ≡ Some directory
+      → note_of (given apply_app words (codes "note")) ≡ Some note → Asks words (apply directory note)
   for_join : (directory : Text) → Takes (codes "join") (directory_app (codes "join")) words
       → given (directory_app (codes "join")) words (codes "DIR") ≡ Some directory → Asks words (join directory)
   for_export : (directory : Text) → Takes (codes "export") export_app words → given export_app words (codes "DIR") ≡ Some directory
@@ -106,3 +117,5 @@ pub data Asks (words : List Text) : RequestText → Type 0 where
       → given query_app words (codes "TEXT") ≡ Some text → Asks words (query directory text (is_set (codes "json") (matches_of query_app words)))
   for_merge : (first second : Text) → Takes (codes "merge") merge_app words → given merge_app words (codes "DIR") ≡ Some first
       → given merge_app words (codes "OTHER") ≡ Some second → first ≢ second → Asks words (merge first second)
+  for_notes : (directory : Text) → Takes (codes "notes") (directory_app (codes "notes")) words
+      → given (directory_app (codes "notes")) words (codes "DIR") ≡ Some directory → Asks words (notes directory)

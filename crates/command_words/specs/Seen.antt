@@ -1,19 +1,22 @@
 -- What a contract sees of a request.
 use Rattle.std.specs.Prelude.{option_map}
 use Rattle.command_words.specs.AuditRequests.{AuditText, audit, confirm}
-use Rattle.command_words.specs.Requests.{RequestText, heads, check, dump, init, keygen, apply, join, export, query, merge}
+use Rattle.command_words.specs.Requests.{RequestText, heads, check, dump, init, keygen, apply, join, export, query, merge, notes}
 use Rattle.command_words.specs.NetRequests.{NetText, sync, serve}
 use Rattle.command_words.specs.SealRequests.{SealText, hsskey, seal, unseal}
 use Rattle.command_words.specs.WatchRequests.{WatchText, watch}
+use Rattle.command_words.specs.WorldRequests.{WorldText, demo, world}
 use Rattle.command_words.specs.declared.audit_request.AuditRequest.{AuditRequest}
 use Rattle.command_words.specs.declared.audit_request.AuditRequest.TheVariants.{Audit, Confirm}
 use Rattle.command_words.specs.declared.request.Request.{Request}
-use Rattle.command_words.specs.declared.request.Request.TheVariants.{Heads, Check, Dump, Init, Keygen, Apply, Join, Export, Query, Merge}
+use Rattle.command_words.specs.declared.request.Request.TheVariants.{Heads, Check, Dump, Init, Keygen, Apply, Join, Export, Query, Merge, Notes}
 use Rattle.command_words.specs.declared.net_request.NetRequest.{NetRequest}
 use Rattle.command_words.specs.declared.net_request.NetRequest.TheVariants.{Sync, Serve}
 use Rattle.command_words.specs.declared.seal_request.SealRequest.{SealRequest}
 use Rattle.command_words.specs.declared.seal_request.SealRequest.TheVariants.{Hsskey, Seal, Unseal}
 use Rattle.command_words.specs.declared.watch_request.WatchRequest.{WatchRequest}
+use Rattle.command_words.specs.declared.world_request.WorldRequest.{WorldRequest}
+use Rattle.command_words.specs.declared.world_request.WorldRequest.TheVariants.{Demo, World}
 
 abbrev pub request_seen : Request → RequestText
 request_seen (Heads directory) = heads (option_map (λ d. d.now) directory)
@@ -21,11 +24,12 @@ request_seen Check = check
 request_seen (Dump directory json) = dump (option_map (λ d. d.now) directory) json
 request_seen (Init directory) = init directory.now
 request_seen (Keygen directory height width) = keygen directory.now height width
-request_seen (Apply directory) = apply directory.now
+request_seen (Apply directory note) = apply directory.now (option_map (λ n. n.now) note)
 request_seen (Join directory) = join directory.now
 request_seen (Export directory updates) = export directory.now updates
 request_seen (Query directory text json) = query directory.now text.now json
 request_seen (Merge first second) = merge first.now second.now
+request_seen (Notes directory) = notes directory.now
 
 -- the same of one that needs a net
 abbrev pub net_seen : NetRequest → NetText
@@ -42,7 +46,12 @@ seal_seen (Unseal key signature) = unseal key signature.items
 abbrev pub watch_seen : WatchRequest → WatchText
 watch_seen request = watch request.directory.now request.text.now request.every
 
--- and of one about keys that signed twice
+-- of one about keys that signed twice
 abbrev pub audit_seen : AuditRequest → AuditText
 audit_seen (Audit directory) = audit directory.now
 audit_seen Confirm = confirm
+
+-- and of one about worlds
+abbrev pub world_seen : WorldRequest → WorldText
+world_seen (World audited) = world audited
+world_seen (Demo number count) = demo number count

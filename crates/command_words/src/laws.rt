@@ -12,6 +12,8 @@ ghost use Rattle.command_words.specs.WatchRequests.{AsksWatch, WatchText};
 ghost use Rattle.command_words.specs.WatchCommands.{watch_request_of};
 ghost use Rattle.command_words.specs.AuditRequests.{AsksAudit, AuditText};
 ghost use Rattle.command_words.specs.AuditCommands.{audit_request_of};
+ghost use Rattle.command_words.specs.WorldRequests.{AsksWorld, WorldText};
+ghost use Rattle.command_words.specs.WorldCommands.{world_request_of};
 
 /// The request that is read from words is the one that the rules tell.
 pub fn requests_are_by_rule()
@@ -68,6 +70,16 @@ pub fn one_audit_request()
     ensures { (words : List Text) (request other : AuditText) → AsksAudit words request → AsksAudit words other → request ≡ other }
 {}
 
+/// The request about worlds that is read from words is the one that the rules tell.
+pub fn world_requests_are_by_rule()
+    ensures { (words : List Text) (request : WorldText) → AsksWorld words request ↔ (world_request_of words ≡ Some request) }
+{}
+
+/// Words ask for at most one thing about worlds.
+pub fn one_world_request()
+    ensures { (words : List Text) (request other : WorldText) → AsksWorld words request → AsksWorld words other → request ≡ other }
+{}
+
 /// Words that ask for something about seals ask for nothing else.
 pub fn nothing_beside_seals()
     ensures alone { (words : List Text) (request : RequestText) (other : SealText) → Asks words request → AsksSeal words other → ⊥ }
@@ -87,4 +99,13 @@ pub fn nothing_beside_watching()
 pub fn nothing_beside_audits()
     ensures alone { (words : List Text) (request : RequestText) (other : AuditText) → Asks words request → AsksAudit words other → ⊥ }
     ensures over_net { (words : List Text) (request : NetText) (other : AuditText) → AsksNet words request → AsksAudit words other → ⊥ }
+{}
+
+/// Words that ask for something about worlds ask for nothing else.
+pub fn nothing_beside_worlds()
+    ensures alone { (words : List Text) (request : RequestText) (other : WorldText) → Asks words request → AsksWorld words other → ⊥ }
+    ensures over_net { (words : List Text) (request : NetText) (other : WorldText) → AsksNet words request → AsksWorld words other → ⊥ }
+    ensures sealed { (words : List Text) (request : SealText) (other : WorldText) → AsksSeal words request → AsksWorld words other → ⊥ }
+    ensures watched { (words : List Text) (request : WatchText) (other : WorldText) → AsksWatch words request → AsksWorld words other → ⊥ }
+    ensures audited { (words : List Text) (request : AuditText) (other : WorldText) → AsksAudit words request → AsksWorld words other → ⊥ }
 {}

@@ -2,8 +2,8 @@
 //!
 //! [`request_in`] reads all words, of which the first names the command, and answers the [`Request`] with its arguments,
 //! or that the words are no command. [`net_request_in`] does so for the two commands that need a net, and answers the
-//! [`NetRequest`]; [`seal_request_in`] for those about seals, [`watch_request_in`] for the one that watches a query, and
-//! [`audit_request_in`] for those about keys that signed twice. No words ask for things of two of these kinds. Arguments are read
+//! [`NetRequest`]; [`seal_request_in`] for those about seals, [`watch_request_in`] for the one that watches a query,
+//! [`audit_request_in`] for those about keys that signed twice, and [`world_request_in`] for those about worlds. No words ask for things of two of these kinds. Arguments are read
 //! by one simple command of `clap`: `--x V` and `--x=V` are the same, options may stand among the positions, and `--` ends them.
 //! Each option stands once at most.
 //!
@@ -13,11 +13,12 @@
 //! dump [DIR] [--json]
 //! init DIR
 //! keygen DIR [--height 5,10,15] [--width 1,2,4,8]
-//! apply DIR
+//! apply DIR [--note TEXT]
 //! join DIR
 //! export DIR [--updates]
 //! query DIR TEXT [--json]
 //! merge DIR DIR
+//! notes DIR
 //!
 //! sync DIR ADDR
 //! serve DIR ADDR --sessions 1..8
@@ -30,6 +31,9 @@
 //!
 //! audit DIR
 //! confirm
+//!
+//! world [--audit]
+//! demo NUMBER 4..4000
 //! ```
 //!
 //! Which words are which request is told by rules (`Asks` in specs/Requests, `AsksNet` in specs/NetRequests, and so on). It opens
@@ -50,14 +54,17 @@ mod seal_request;
 mod seal_requests;
 mod watch_request;
 mod watch_requests;
+mod world_request;
+mod world_requests;
 
 pub use audit_request::AuditRequest;
 pub use audit_requests::audit_request_in;
 pub use laws::{
     audit_requests_are_by_rule, net_requests_are_by_rule, no_other_request, nothing_beside_audits,
-    nothing_beside_seals, nothing_beside_watching, one_audit_request, one_net_request, one_request,
-    one_seal_request, one_watch_request, requests_are_by_rule, seal_requests_are_by_rule,
-    watch_requests_are_by_rule,
+    nothing_beside_seals, nothing_beside_watching, nothing_beside_worlds, one_audit_request,
+    one_net_request, one_request, one_seal_request, one_watch_request, one_world_request,
+    requests_are_by_rule, seal_requests_are_by_rule, watch_requests_are_by_rule,
+    world_requests_are_by_rule,
 };
 pub use net_request::NetRequest;
 pub use net_requests::net_request_in;
@@ -67,3 +74,5 @@ pub use seal_request::SealRequest;
 pub use seal_requests::seal_request_in;
 pub use watch_request::WatchRequest;
 pub use watch_requests::watch_request_in;
+pub use world_request::WorldRequest;
+pub use world_requests::world_request_in;

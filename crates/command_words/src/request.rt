@@ -25,9 +25,10 @@ pub enum Request<'a> {
         height: LmsType,
         width: OtsType,
     },
-    /// `apply`: makes an update of a transaction.
+    /// `apply`: makes an update of a transaction, with a note of at most 256 bytes or without one.
     Apply {
         directory: &'a str,
+        note: Option<&'a str>,
     },
     /// `join`: makes an update of no operation over the heads.
     Join {
@@ -48,5 +49,9 @@ pub enum Request<'a> {
     Merge {
         first: &'a str,
         second: &'a str,
+    },
+    /// `notes`: the notes of the updates of the store in a directory.
+    Notes {
+        directory: &'a str,
     },
 }

@@ -2,8 +2,8 @@
 
 ghost use Rattle.std.specs.Prelude.{◌≡◌, true, IfOk, MatchOption, map, option_map, string_bytes};
 ghost use Rattle.clap.specs.Words.{is_simple_and_free};
-ghost use Rattle.command_words.specs.Requests.{Asks, RequestText, height_of, width_of, directory_app};
-ghost use Rattle.command_words.specs.Commands.{request_of, request_by, heads_of, check_of, dump_of, dump_by, init_of, keygen_of, keygen_by, apply_of, join_of, export_of, export_by, query_of, query_by, merge_of, merge_by, directory_of};
+ghost use Rattle.command_words.specs.Requests.{Asks, RequestText, height_of, note_of, width_of, directory_app};
+ghost use Rattle.command_words.specs.Commands.{request_of, request_by, heads_of, check_of, dump_of, dump_by, init_of, keygen_of, keygen_by, apply_of, apply_by, join_of, export_of, export_by, query_of, query_by, merge_of, merge_by, notes_of, directory_of};
 ghost use Rattle.command_words.specs.Seen.{request_seen};
 
 use crate::argument::{Argument, Form};
@@ -13,6 +13,7 @@ use crate::{Request, requests_are_by_rule};
 use lm_ots::OtsType;
 use lms_tree::LmsType;
 use std::alloc::{AllocError, Global};
+use update_model::MAX_NOTE;
 
 /// What these words ask for, or `None` where they are no command. The first word names the command. The one error is want
 /// of memory, after which nothing is known of the words.
@@ -52,6 +53,7 @@ fn request_by<'a>(
         "export" => export_of(alloc, words),
         "query" => query_of(alloc, words),
         "merge" => merge_of(alloc, words),
+        "notes" => notes_of(alloc, words),
         _ => Ok(None),
     }
 }
@@ -146,13 +148,44 @@ fn init_of<'a>(alloc: Global, words: &'a [String]) -> Result<Option<Request<'a>>
     }
 }
 
-/// `apply DIR`
+static APPLY: [Argument<'static>; 2] = [
+    Argument {
+        name: "DIR",
+        form: Form::Position,
+        required: true,
+    },
+    Argument {
+        name: "note",
+        form: Form::Value,
+        required: false,
+    },
+];
+
+/// `apply DIR [--note TEXT]`
 fn apply_of<'a>(alloc: Global, words: &'a [String]) -> Result<Option<Request<'a>>, AllocError>
     ensures { IfOk result (λ found. option_map request_seen found ≡ apply_of (map string_bytes words.entry.now)) }
 {
-    match directory_of(alloc, "apply", words)? {
-        Some(directory) => Ok(Some(Request::Apply { directory })),
+    match read_words(alloc, "apply", &APPLY, words)? {
+        Some(given) => Ok(apply_by(&given)),
         None => Ok(None),
+    }
+}
+
+fn apply_by<'a>(given: &Given<'a>) -> Option<Request<'a>>
+    ensures { option_map request_seen result ≡ apply_by given.now }
+{
+    let directory = given.word("DIR")?;
+    let note = note_of(given.word("note"))?;
+    Some(Request::Apply { directory, note })
+}
+
+/// The note that a word is, or none where there is no word. A word of more than 256 bytes is no note.
+fn note_of<'a>(word: Option<&'a str>) -> Option<Option<&'a str>>
+    ensures { option_map (λ note. option_map (λ n. n.now) note) result ≡ note_of (option_map (λ w. w.now) word.entry) }
+{
+    match word {
+        Some(text) if usize::from(MAX_NOTE) < text.len() => None,
+        note => Some(note),
     }
 }
 
@@ -349,4 +382,14 @@ fn merge_by<'a>(given: &Given<'a>) -> Option<Request<'a>>
         return None;
     }
     Some(Request::Merge { first, second })
+}
+
+/// `notes DIR`
+fn notes_of<'a>(alloc: Global, words: &'a [String]) -> Result<Option<Request<'a>>, AllocError>
+    ensures { IfOk result (λ found. option_map request_seen found ≡ notes_of (map string_bytes words.entry.now)) }
+{
+    match directory_of(alloc, "notes", words)? {
+        Some(directory) => Ok(Some(Request::Notes { directory })),
+        None => Ok(None),
+    }
 }

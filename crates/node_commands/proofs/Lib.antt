@@ -10,6 +10,7 @@ pub mod MergeOnce
 pub mod Merging
 pub mod NewKeys
 pub mod NewStores
+pub mod Notes
 pub mod Orders
 pub mod PartsOnce
 pub mod Records

@@ -11,7 +11,8 @@ use Rattle.schema_text.specs.Schemas.{Declares}
 use Rattle.schema.specs.Data.{Meaning, SchemaData}
 use Rattle.confluence_test.specs.Taking.{RefusesSchema}
 use Rattle.history.specs.Histories.{HistoryData}
-use Rattle.replica.specs.Making.{HasNoneToJoin, IsJoinCause, IsMakeCause, Joins, Makes}
+use Rattle.replica.specs.declared.contents.Contents.{Contents}
+use Rattle.replica.specs.Making.{HasNoneToJoin, IsJoinCause, IsMakeCauseWith, Joins, MakesWith}
 use Rattle.replica.specs.Told.{IsAfterVerdict, IsBeforeVerdict, IsTold}
 use Rattle.replica.specs.declared.make_fault.MakeFault.{MakeFault}
 use Rattle.replica.specs.declared.make_fault.MakeFault.TheVariants.{NotListed, TooManyHeads, Invalid, TooLong, Full, Spent, Taken, DiskFault, Memory}
@@ -26,7 +27,7 @@ use Rattle.node_commands.specs.Creating.{InitAnswer, KeygenAnswer, created, draw
 use Rattle.outcomes.specs.Comes.{IsRefused}
 use Rattle.outcomes.specs.Outcome.{Outcome, from_make, from_taking}
 use Rattle.schema_verdict.specs.Verdict.{Prints}
-use Rattle.node_commands.specs.Signing.{ApplyAnswer, IsBeforeOperations, IsInvalid, IsSureOfApply, JoinAnswer, KeyedAnswer, MakeAnswer, MayApply, SignAnswer, StoreAnswer, asked, bad_text, history_of, joined, made, none, not_joined, not_made, taken_of, with_key, with_store, with_update, without_key, without_store}
+use Rattle.node_commands.specs.Signing.{ApplyAnswer, IsBeforeOperations, IsInvalid, IsSureOfApply, JoinAnswer, KeyedAnswer, MakeAnswer, MayApply, SignAnswer, StoreAnswer, asked, bad_text, history_of, joined, made, none, not_joined, not_made, saying, taken_of, with_key, with_store, with_update, without_key, without_store}
 use Rattle.outcomes.specs.StoreAnswers.{RefusesKey, bad_key, no_key, Readings, next_bytes}
 use Rattle.outcomes.specs.Texts.{database_text, line_of}
 use Rattle.outcomes.proofs.Same.{Same, same_prints, same_refused}
@@ -87,19 +88,19 @@ pub record JoinLaws : Type 0 where
 
 -- what is known of making: a refusal that comes before operations are judged excludes every other one, and that an update is made
 pub record EarlyLaws : Type 0 where
-  pub refused : (ask : Meaning) (history : HistoryData) (secret : SecretData) (taken : List Bool) (ops : List Op) (c : List ℕ) (why other : MakeFault) → IsBeforeVerdict why → IsTold other
-      → IsMakeCause ask history secret taken ops c why → IsMakeCause ask history secret taken ops c other → why ≡ other
-  pub made_or_refused : (ask : Meaning) (history : HistoryData) (secret : SecretData) (taken : List Bool) (ops : List Op) (c : List ℕ) (id : UpdateId) (new : HistoryData) (why : MakeFault) → IsBeforeVerdict why
-      → Makes ask history secret taken ops c id new → IsMakeCause ask history secret taken ops c why → ⊥
+  pub refused : (ask : Meaning) (history : HistoryData) (secret : SecretData) (taken : List Bool) (says : Contents) (c : List ℕ) (why other : MakeFault) → IsBeforeVerdict why → IsTold other
+      → IsMakeCauseWith ask history secret taken says c why → IsMakeCauseWith ask history secret taken says c other → why ≡ other
+  pub made_or_refused : (ask : Meaning) (history : HistoryData) (secret : SecretData) (taken : List Bool) (says : Contents) (c : List ℕ) (id : UpdateId) (new : HistoryData) (why : MakeFault) → IsBeforeVerdict why
+      → MakesWith ask history secret taken says c id new → IsMakeCauseWith ask history secret taken says c why → ⊥
 
 -- what is known of making where the operations are valid: they make one update, or one refusal has its cause, and not both
 pub record MakeLaws : Type 0 where
-  pub made : (ask : Meaning) (history : HistoryData) (secret : SecretData) (taken : List Bool) (ops : List Op) (c : List ℕ) (id other : UpdateId) (new newer : HistoryData)
-      → Makes ask history secret taken ops c id new → Makes ask history secret taken ops c other newer → id ≡ other
-  pub refused : (ask : Meaning) (history : HistoryData) (secret : SecretData) (taken : List Bool) (ops : List Op) (c : List ℕ) (why other : MakeFault) → IsAfterVerdict why → IsAfterVerdict other
-      → IsMakeCause ask history secret taken ops c why → IsMakeCause ask history secret taken ops c other → why ≡ other
-  pub made_or_refused : (ask : Meaning) (history : HistoryData) (secret : SecretData) (taken : List Bool) (ops : List Op) (c : List ℕ) (id : UpdateId) (new : HistoryData) (why : MakeFault) → IsAfterVerdict why
-      → Makes ask history secret taken ops c id new → IsMakeCause ask history secret taken ops c why → ⊥
+  pub made : (ask : Meaning) (history : HistoryData) (secret : SecretData) (taken : List Bool) (says : Contents) (c : List ℕ) (id other : UpdateId) (new newer : HistoryData)
+      → MakesWith ask history secret taken says c id new → MakesWith ask history secret taken says c other newer → id ≡ other
+  pub refused : (ask : Meaning) (history : HistoryData) (secret : SecretData) (taken : List Bool) (says : Contents) (c : List ℕ) (why other : MakeFault) → IsAfterVerdict why → IsAfterVerdict other
+      → IsMakeCauseWith ask history secret taken says c why → IsMakeCauseWith ask history secret taken says c other → why ≡ other
+  pub made_or_refused : (ask : Meaning) (history : HistoryData) (secret : SecretData) (taken : List Bool) (says : Contents) (c : List ℕ) (id : UpdateId) (new : HistoryData) (why : MakeFault) → IsAfterVerdict why
+      → MakesWith ask history secret taken says c id new → IsMakeCauseWith ask history secret taken says c why → ⊥
 
 -- One answer over what is open: two outcomes that this is said of are one.
 abbrev IsSignedOnce : (Outcome → Outcome → Type 0) → SignAnswer → SignAnswer → Type 0
@@ -207,17 +208,17 @@ before_or_after secret Memory h apart = absurd h
 abbrev IsToldApart : Outcome → Outcome → Type 0
 IsToldApart a b = IsBeforeOperations b ⊎ ((IsInvalid a → ⊥) × (IsInvalid b → ⊥))
 
-module _ (early : EarlyLaws) (makes : MakeLaws) (ops : List Op) (c : List ℕ) (history : HistoryData) (secret : SecretData) (taken : List Bool) where
-  made_or_not : (id : UpdateId) (new : HistoryData) (why : MakeFault) → IsBeforeVerdict why ⊎ IsAfterVerdict why → Makes is_luhn history secret taken ops c id new
-      → IsMakeCause is_luhn history secret taken ops c why → ⊥
-  made_or_not id new why (inl before) done cause = early.made_or_refused is_luhn history secret taken ops c id new why before done cause
-  made_or_not id new why (inr after) done cause = makes.made_or_refused is_luhn history secret taken ops c id new why after done cause
+module _ (early : EarlyLaws) (makes : MakeLaws) (says : Contents) (c : List ℕ) (history : HistoryData) (secret : SecretData) (taken : List Bool) where
+  made_or_not : (id : UpdateId) (new : HistoryData) (why : MakeFault) → IsBeforeVerdict why ⊎ IsAfterVerdict why → MakesWith is_luhn history secret taken says c id new
+      → IsMakeCauseWith is_luhn history secret taken says c why → ⊥
+  made_or_not id new why (inl before) done cause = early.made_or_refused is_luhn history secret taken says c id new why before done cause
+  made_or_not id new why (inr after) done cause = makes.made_or_refused is_luhn history secret taken says c id new why after done cause
 
   stopped_once : (why other : MakeFault) → IsBeforeVerdict why ⊎ IsAfterVerdict why → IsBeforeVerdict other ⊎ IsAfterVerdict other → IsTold why → IsTold other
-      → IsMakeCause is_luhn history secret taken ops c why → IsMakeCause is_luhn history secret taken ops c other → why ≡ other
-  stopped_once why other (inl before) side told known cause reason = early.refused is_luhn history secret taken ops c why other before known cause reason
-  stopped_once why other (inr after) (inl before) told known cause reason = sym (early.refused is_luhn history secret taken ops c other why before told reason cause)
-  stopped_once why other (inr after) (inr later) told known cause reason = makes.refused is_luhn history secret taken ops c why other after later cause reason
+      → IsMakeCauseWith is_luhn history secret taken says c why → IsMakeCauseWith is_luhn history secret taken says c other → why ≡ other
+  stopped_once why other (inl before) side told known cause reason = early.refused is_luhn history secret taken says c why other before known cause reason
+  stopped_once why other (inr after) (inl before) told known cause reason = sym (early.refused is_luhn history secret taken says c other why before told reason cause)
+  stopped_once why other (inr after) (inr later) told known cause reason = makes.refused is_luhn history secret taken says c why other after later cause reason
 
   second_side : (a b : Outcome) (why : MakeFault) → IsToldApart a b → IsRefused b → b ≡ Err (from_make secret why) → IsBeforeVerdict why ⊎ IsAfterVerdict why
   second_side a b why (inl before) stopped is = inl (early_of secret why (subst IsBeforeOperations is before))
@@ -232,26 +233,26 @@ module _ (early : EarlyLaws) (makes : MakeLaws) (ops : List Op) (c : List ℕ) (
   first_apart a b line (inr apart) p invalid = apart.0 invalid
 
   refused_alike : (a b : Outcome) (why other : MakeFault) → IsToldApart a b → IsRefused a → IsRefused b → a ≡ Err (from_make secret why) → b ≡ Err (from_make secret other)
-      → IsMakeCause is_luhn history secret taken ops c why → IsMakeCause is_luhn history secret taken ops c other → why ≡ other
+      → IsMakeCauseWith is_luhn history secret taken says c why → IsMakeCauseWith is_luhn history secret taken says c other → why ≡ other
   refused_alike a b why other (inl before) stopped refuses is so cause reason =
-      sym (early.refused is_luhn history secret taken ops c other why (early_of secret other (subst IsBeforeOperations so before)) (told_of secret why (subst IsRefused is stopped)) reason cause)
+      sym (early.refused is_luhn history secret taken says c other why (early_of secret other (subst IsBeforeOperations so before)) (told_of secret why (subst IsRefused is stopped)) reason cause)
   refused_alike a b why other (inr apart) stopped refuses is so cause reason =
       stopped_once why other (first_side a why apart.0 stopped is) (second_side a b other (inr apart) refuses so) (told_of secret why (subst IsRefused is stopped)) (told_of secret other (subst IsRefused so refuses)) cause reason
 
-make_answered : EarlyLaws → MakeLaws → (ops : List Op) (c : List ℕ) → IsSignedOnce IsToldApart (MakeAnswer ops c) (MakeAnswer ops c)
-make_answered early makes ops c history secret taken added others a b shown (made id bytes done adds p) (made name more twice add q) =
-    same_prints a b (line_of id) (line_of name) (ap line_of (makes.made is_luhn history secret taken ops c id name (with_update history bytes) (with_update history more) done twice)) p q
-make_answered early makes ops c history secret taken added others a b shown (made id bytes done adds p) (not_made why cause stopped nothing is) =
-    absurd (made_or_not early makes ops c history secret taken id (with_update history bytes) why (second_side early makes ops c history secret taken a b why shown stopped is) done cause)
-make_answered early makes ops c history secret taken added others a b shown (not_made why cause stopped nothing is) (made id bytes done adds q) =
-    absurd (made_or_not early makes ops c history secret taken id (with_update history bytes) why
-    (first_side early makes ops c history secret taken a why (first_apart early makes ops c history secret taken a b (line_of id) shown q) stopped is) done cause)
-make_answered early makes ops c history secret taken added others a b shown (not_made why cause stopped nothing is) (not_made other reason refuses naught so) =
+make_answered : EarlyLaws → MakeLaws → (says : Contents) (c : List ℕ) → IsSignedOnce IsToldApart (MakeAnswer says c) (MakeAnswer says c)
+make_answered early makes says c history secret taken added others a b shown (made id bytes done adds p) (made name more twice add q) =
+    same_prints a b (line_of id) (line_of name) (ap line_of (makes.made is_luhn history secret taken says c id name (with_update history bytes) (with_update history more) done twice)) p q
+make_answered early makes says c history secret taken added others a b shown (made id bytes done adds p) (not_made why cause stopped nothing is) =
+    absurd (made_or_not early makes says c history secret taken id (with_update history bytes) why (second_side early makes says c history secret taken a b why shown stopped is) done cause)
+make_answered early makes says c history secret taken added others a b shown (not_made why cause stopped nothing is) (made id bytes done adds q) =
+    absurd (made_or_not early makes says c history secret taken id (with_update history bytes) why
+    (first_side early makes says c history secret taken a why (first_apart early makes says c history secret taken a b (line_of id) shown q) stopped is) done cause)
+make_answered early makes says c history secret taken added others a b shown (not_made why cause stopped nothing is) (not_made other reason refuses naught so) =
     same_refused a b (from_make secret why) (from_make secret other)
-    (ap (from_make secret) (refused_alike early makes ops c history secret taken a b why other shown stopped refuses is so cause reason)) is so
+    (ap (from_make secret) (refused_alike early makes says c history secret taken a b why other shown stopped refuses is so cause reason)) is so
 
-module _ (texts : TextLaws) (early : EarlyLaws) (makes : MakeLaws) (input : List ℕ) (after other : Option (List ℕ)) (stream : Stream) where
-  apply_answered : IsSignedOnce IsToldApart (ApplyAnswer (Some input) after stream) (ApplyAnswer (Some input) other stream)
+module _ (texts : TextLaws) (early : EarlyLaws) (makes : MakeLaws) (note : Option (List ℕ)) (input : List ℕ) (after other : Option (List ℕ)) (stream : Stream) where
+  apply_answered : IsSignedOnce IsToldApart (ApplyAnswer note (Some input) after stream) (ApplyAnswer note (Some input) other stream)
   apply_answered history secret taken added others a b shown (bad_text t f h first nothing is) (bad_text u g k second naught so) =
       let here : FirstFault history.schema input f.kind f.line f.column = subst (λ (w : List ℕ). FirstFault history.schema w f.kind f.line f.column) h.0 first in
       let twice : FirstFault history.schema input g.kind g.line g.column = subst (λ (w : List ℕ). FirstFault history.schema w g.kind g.line g.column) k.0 second in
@@ -263,7 +264,8 @@ module _ (texts : TextLaws) (early : EarlyLaws) (makes : MakeLaws) (input : List
       absurd (texts.no_fault history.schema input ops f.kind f.line f.column (subst (λ (w : List ℕ). Reads history.schema w ops) k.0 reads) (subst (λ (w : List ℕ). FirstFault history.schema w f.kind f.line f.column) h.0 first))
   apply_answered history secret taken added others a b shown (asked t ops h reads answer) (asked u more k read reply) =
       let same : ops ≡ more = texts.one_transaction history.schema input ops more (subst (λ (w : List ℕ). Reads history.schema w ops) h.0 reads) (subst (λ (w : List ℕ). Reads history.schema w more) k.0 read) in
-      make_answered early makes more (next_bytes stream) history secret taken added others a b shown (subst (λ (l : List Op). MakeAnswer l (next_bytes stream) history secret taken added a) same answer) reply
+      make_answered early makes (saying note more) (next_bytes stream) history secret taken added others a b shown
+      (subst (λ (l : List Op). MakeAnswer (saying note l) (next_bytes stream) history secret taken added a) same answer) reply
 
 -- what an answer leaves unused was used or not
 pub used_or_not : (Unused : Type 0) (Answer : SignAnswer) (parts : Readings) (added : List (List ℕ)) (outcome : Outcome) → StoreAnswer Unused Answer parts added outcome → StoreAnswer (Unit {0}) Answer parts added outcome
@@ -276,14 +278,14 @@ pub record OneOfMakers : Type 0 where
   pub init : (input : List ℕ) (after other : Option (List ℕ)) (stream : Stream) (parts later another : Readings) (a b : Outcome)
       → InitAnswer (Some input) after stream parts later a → InitAnswer (Some input) other stream parts another b → Same a b
   pub keygen : (lms : LmsType) (ots : OtsType) (stream : Stream) (parts later another : Readings) (a b : Outcome) → KeygenAnswer lms ots stream parts later a → KeygenAnswer lms ots stream parts another b → Same a b
-  pub apply : (input : List ℕ) (stream : Stream) (parts : Readings) (a b : Outcome) → MayApply input stream parts a → IsSureOfApply input stream parts b → Same a b
+  pub apply : (note : Option (List ℕ)) (input : List ℕ) (stream : Stream) (parts : Readings) (a b : Outcome) → MayApply note input stream parts a → IsSureOfApply note input stream parts b → Same a b
   pub join : (stream : Stream) (parts : Readings) (added others : List (List ℕ)) (a b : Outcome)
       → StoreAnswer (Unit {0}) (JoinAnswer stream) parts added a → StoreAnswer (Unit {0}) (JoinAnswer stream) parts others b → Same a b
 
-may_tell : (input : List ℕ) (stream : Stream) (parts : Readings) (a b : Outcome) → MayApply input stream parts a → IsSureOfApply input stream parts b → IsToldApart a b
-may_tell input stream parts a b may sure = by sure.1
+may_tell : (note : Option (List ℕ)) (input : List ℕ) (stream : Stream) (parts : Readings) (a b : Outcome) → MayApply note input stream parts a → IsSureOfApply note input stream parts b → IsToldApart a b
+may_tell note input stream parts a b may sure = by sure.1
   where
-    by : IsBeforeOperations b ⊎ ((other : Outcome) → MayApply input stream parts other → IsInvalid other → ⊥) → IsToldApart a b
+    by : IsBeforeOperations b ⊎ ((other : Outcome) → MayApply note input stream parts other → IsInvalid other → ⊥) → IsToldApart a b
     by (inl before) = inl before
     by (inr never) = inr (never a may, never b sure.0)
 
@@ -291,8 +293,8 @@ pub answered_of_makers : SchemaLaws → StoreLaws → KeyLaws → TextLaws → E
 answered_of_makers schemas stores keys texts early makes joining = record {
   init = init_answered schemas;
   keygen = keygen_answered;
-  apply = λ input stream parts a b may sure.
-      stored_answered stores keys IsToldApart (ApplyAnswer (Some input) may.0 stream) (ApplyAnswer (Some input) sure.0.0 stream) (apply_answered texts early makes input may.0 sure.0.0 stream) parts may.1 sure.0.1 a b
-      (may_tell input stream parts a b may sure) may.2 sure.0.2;
+  apply = λ note input stream parts a b may sure.
+      stored_answered stores keys IsToldApart (ApplyAnswer note (Some input) may.0 stream) (ApplyAnswer note (Some input) sure.0.0 stream) (apply_answered texts early makes note input may.0 sure.0.0 stream) parts may.1 sure.0.1 a b
+      (may_tell note input stream parts a b may sure) may.2 sure.0.2;
   join = λ stream parts added others a b. stored_answered stores keys (λ first second. Unit {0}) (JoinAnswer stream) (JoinAnswer stream) (join_answered joining stream) parts added others a b tt;
 }

@@ -28,7 +28,8 @@ use Rattle.key_index.specs.Used.{IsUsed, used_in}
 use Rattle.replica.specs.declared.make_fault.MakeFault.{MakeFault}
 use Rattle.replica.specs.declared.make_fault.MakeFault.TheVariants.{NotListed, TooManyHeads, Invalid, TooLong, Full, Spent, Taken, DiskFault, Memory}
 use Rattle.replica.specs.declared.make_fault.Side.TheVariants.{Key as KeySide, Log as LogSide}
-use Rattle.replica.specs.Making.{HasNoneToJoin, IsJoinCause, IsMakeCause, Joins, JoinsTo, Makes}
+use Rattle.replica.specs.declared.contents.Contents.{Contents}
+use Rattle.replica.specs.Making.{HasNoneToJoin, IsJoinCause, IsMakeCauseWith, Joins, JoinsTo, MakesWith}
 use Rattle.replica.specs.Replicas.{ReplicaState}
 use Rattle.replica.specs.Signing.{KeyAfter, KeyAfterJoin, SignsAtLeast, TriesLeast}
 use Rattle.store_directory.specs.Holding.{IsStoreCause, LetsGo, OpenData, PutsStore, TakesStore}
@@ -57,7 +58,7 @@ use Rattle.outcomes.specs.declared.refusal.Refusal.TheVariants as refusals
 use Rattle.outcomes.specs.Comes.{IsShelfFault, is_done, readings, IsSourceFault}
 use Rattle.schema_verdict.specs.Inputs.{ReadsText}
 use Rattle.outcomes.specs.Outcome.{Outcome, from_key, from_make, from_store, from_text}
-use Rattle.node_commands.specs.Signing.{ApplyAnswer, IsInnerFault, IsNoStop, IsOpenFault, JoinAnswer, KeyedAnswer, MakeAnswer, MakesUpdate, SignAnswer, SignsIn, SignsOpen, StopsReading, StoreAnswer, TakesText, UsesKey, UsesKeyIn, AnswersSomeKey, DrawsFor, answered, by_fault, unopened, asked, bad_text, history_of, joined, made, none, not_joined, not_made, taken_of, with_key, with_store, without_key, without_store}
+use Rattle.node_commands.specs.Signing.{ApplyAnswer, IsInnerFault, IsNoStop, IsOpenFault, JoinAnswer, KeyedAnswer, MakeAnswer, MakesUpdate, SignAnswer, SignsIn, SignsOpen, StopsReading, StoreAnswer, TakesText, UsesKey, UsesKeyIn, AnswersSomeKey, DrawsFor, answered, by_fault, unopened, asked, bad_text, history_of, joined, made, none, not_joined, not_made, saying, taken_of, with_key, with_store, without_key, without_store}
 use Rattle.outcomes.specs.OpenStores.{WorksFrom}
 use Rattle.outcomes.specs.StoreAnswers.{after_bytes, bad_key, bad_store, next_bytes, no_key, no_store}
 use Rattle.outcomes.specs.Standing.{Stands}
@@ -228,22 +229,22 @@ module _ (old : ReplicaState) (key : KeyState) (new : ReplicaState) (key_new : K
       so (inl answers) = inl answers
       so (inr fault) = inr (fault, refl)
 
-  pub makes : (ops : List Op) (c : List ℕ) (id : UpdateId) (text : Vec ℕ Global) → Makes is_luhn old.history key.secret key.taken ops c id new.history
+  pub makes : (says : Contents) (c : List ℕ) (id : UpdateId) (text : Vec ℕ Global) → MakesWith is_luhn old.history key.secret key.taken says c id new.history
       → (IsTrue old.log.disk.tells → IsClean new.log.end new.log.disk) → text.items ≡ line_of id → SignsAtLeast key key_new
-      → SignsOpen (MakeAnswer ops c) IsNoStop stream stream_new old key new key_new (Ok text)
-  makes ops c id text is clean printed signs =
-      adds (MakeAnswer ops c) (is.bytes ∷ []) text is.last clean
-      (made id is.bytes (subst (λ (h : HistoryData). Makes is_luhn old.history key.secret key.taken ops c id h) is.last is) refl printed) signs
+      → SignsOpen (MakeAnswer says c) IsNoStop stream stream_new old key new key_new (Ok text)
+  makes says c id text is clean printed signs =
+      adds (MakeAnswer says c) (is.bytes ∷ []) text is.last clean
+      (made id is.bytes (subst (λ (h : HistoryData). MakesWith is_luhn old.history key.secret key.taken says c id h) is.last is) refl printed) signs
 
-  pub makes_not : (ops : List Op) (c : List ℕ) (why : MakeFault) → new.history ≡ old.history → IsMakeCause is_luhn old.history key.secret key.taken ops c why
+  pub makes_not : (says : Contents) (c : List ℕ) (why : MakeFault) → new.history ≡ old.history → IsMakeCauseWith is_luhn old.history key.secret key.taken says c why
       → (why ≡ DiskFault KeySide → Rose key.parts.used_faults key_new.parts.used_faults) → (why ≡ DiskFault LogSide → Rose old.log.faults new.log.faults)
-      → KeyAfter {T = UpdateId} key (Err why) key_new → SignsOpen (MakeAnswer ops c) IsNoStop stream stream_new old key new key_new (Err (from_make key.secret why))
-  makes_not ops c why same cause key_failed log_failed after =
-      fails (MakeAnswer ops c) (from_make key.secret why) same (by why cause key_failed log_failed) (uses_not key key_new why after) (draws_not stream stream_new drawn key.secret why)
+      → KeyAfter {T = UpdateId} key (Err why) key_new → SignsOpen (MakeAnswer says c) IsNoStop stream stream_new old key new key_new (Err (from_make key.secret why))
+  makes_not says c why same cause key_failed log_failed after =
+      fails (MakeAnswer says c) (from_make key.secret why) same (by why cause key_failed log_failed) (uses_not key key_new why after) (draws_not stream stream_new drawn key.secret why)
     where
-      by : (why : MakeFault) → IsMakeCause is_luhn old.history key.secret key.taken ops c why → (why ≡ DiskFault KeySide → Rose key.parts.used_faults key_new.parts.used_faults)
+      by : (why : MakeFault) → IsMakeCauseWith is_luhn old.history key.secret key.taken says c why → (why ≡ DiskFault KeySide → Rose key.parts.used_faults key_new.parts.used_faults)
           → (why ≡ DiskFault LogSide → Rose old.log.faults new.log.faults)
-          → MakeAnswer ops c old.history key.secret key.taken [] (Err (from_make key.secret why)) ⊎ IsOpenFault IsNoStop old key new key_new (Err (from_make key.secret why))
+          → MakeAnswer says c old.history key.secret key.taken [] (Err (from_make key.secret why)) ⊎ IsOpenFault IsNoStop old key new key_new (Err (from_make key.secret why))
       by NotListed so k l = inl (not_made NotListed so tt refl refl)
       by (TooManyHeads n) so k l = inl (not_made (TooManyHeads n) so tt refl refl)
       by (Invalid reason operation) so k l = inl (not_made (Invalid reason operation) so tt refl refl)
@@ -338,10 +339,10 @@ text_refused (Some input) after old new schema read (text_errors.Fault fault) re
     })
 
 -- what a text that was not read answers over what is open
-pub apply_stopped : (before after : Option (List ℕ)) (stream : Stream) (old new : ℕ) (replica : ReplicaState) (key : KeyState) (refusal : Refusal) → Stands replica
-    → StopsReading before after old new replica.history.schema refusal → SignsOpen (ApplyAnswer before after stream) (IsSourceFault old new) stream stream replica key replica key (Err refusal)
-apply_stopped before after stream old new replica key refusal stands stopped =
-    signs_nothing (ApplyAnswer before after stream) (IsSourceFault old new) stream stream replica key (Err refusal) stands (by stopped) (unused stopped) (undrawn stopped)
+pub apply_stopped : (note before after : Option (List ℕ)) (stream : Stream) (old new : ℕ) (replica : ReplicaState) (key : KeyState) (refusal : Refusal) → Stands replica
+    → StopsReading before after old new replica.history.schema refusal → SignsOpen (ApplyAnswer note before after stream) (IsSourceFault old new) stream stream replica key replica key (Err refusal)
+apply_stopped note before after stream old new replica key refusal stands stopped =
+    signs_nothing (ApplyAnswer note before after stream) (IsSourceFault old new) stream stream replica key (Err refusal) stands (by stopped) (unused stopped) (undrawn stopped)
   where
     undrawn : StopsReading before after old new replica.history.schema refusal → DrawsFor stream stream (Err refusal)
     undrawn (inl faults) = subst (λ (r : Refusal). DrawsFor stream stream (Err r)) (sym faults.is) refl
@@ -354,16 +355,16 @@ apply_stopped before after stream old new replica key refusal stands stopped =
     unused (inr (inr failed)) = subst (λ (r : Refusal). UsesOpen key key [] (Err r)) (sym failed.0) refl
 
     by : StopsReading before after old new replica.history.schema refusal
-        → ApplyAnswer before after stream replica.history key.secret key.taken [] (Err refusal) ⊎ IsOpenFault (IsSourceFault old new) replica key replica key (Err refusal)
+        → ApplyAnswer note before after stream replica.history key.secret key.taken [] (Err refusal) ⊎ IsOpenFault (IsSourceFault old new) replica key replica key (Err refusal)
     by (inl faults) = inl (bad_text faults.text faults.fault faults.whole faults.first refl (ap Err faults.is))
     by (inr (inl memory)) = inr (inl (ap Err memory))
     by (inr (inr failed)) = inr (inr (inl (ap Err failed.0, failed.1)))
 
-pub apply_asked : (before after : Option (List ℕ)) (stream stream_new : Stream) (old new : ℕ) (replica : ReplicaState) (key : KeyState) (replica_new : ReplicaState) (key_new : KeyState) (ops : List Op) (outcome : Outcome)
-    → TakesText before after replica.history.schema ops → SignsOpen (MakeAnswer ops (next_bytes stream)) IsNoStop stream stream_new replica key replica_new key_new outcome
-    → SignsOpen (ApplyAnswer before after stream) (IsSourceFault old new) stream stream_new replica key replica_new key_new outcome
-apply_asked before after stream stream_new old new replica key replica_new key_new ops outcome takes signs =
-    signs_as (MakeAnswer ops (next_bytes stream)) (ApplyAnswer before after stream) IsNoStop (IsSourceFault old new) stream stream_new replica key replica_new key_new outcome
+pub apply_asked : (note before after : Option (List ℕ)) (stream stream_new : Stream) (old new : ℕ) (replica : ReplicaState) (key : KeyState) (replica_new : ReplicaState) (key_new : KeyState) (ops : List Op) (outcome : Outcome)
+    → TakesText before after replica.history.schema ops → SignsOpen (MakeAnswer (saying note ops) (next_bytes stream)) IsNoStop stream stream_new replica key replica_new key_new outcome
+    → SignsOpen (ApplyAnswer note before after stream) (IsSourceFault old new) stream stream_new replica key replica_new key_new outcome
+apply_asked note before after stream stream_new old new replica key replica_new key_new ops outcome takes signs =
+    signs_as (MakeAnswer (saying note ops) (next_bytes stream)) (ApplyAnswer note before after stream) IsNoStop (IsSourceFault old new) stream stream_new replica key replica_new key_new outcome
     (λ added answer. asked takes.text ops takes.whole takes.reads answer) (λ stops. absurd stops) signs
 
 -- ---- the key of a directory
@@ -691,13 +692,13 @@ module _ (Unused : Type 0) (Answer : SignAnswer) (Stops : Outcome → Type 0) (s
 abbrev pub IsAddedNone : SignAnswer → Refusal → Type 0
 IsAddedNone Answer refusal = (history : HistoryData) (secret : SecretData) (taken : List Bool) (added : List (List ℕ)) → Answer history secret taken added (Err refusal) → added ≡ []
 
-none_by_making : (ops : List Op) (c : List ℕ) (refusal : Refusal) → IsAddedNone (MakeAnswer ops c) refusal
-none_by_making ops c refusal history secret taken added (made id bytes is last prints) = absurd prints
-none_by_making ops c refusal history secret taken added (not_made why cause refused nothing_added is) = nothing_added
+none_by_making : (says : Contents) (c : List ℕ) (refusal : Refusal) → IsAddedNone (MakeAnswer says c) refusal
+none_by_making says c refusal history secret taken added (made id bytes is last prints) = absurd prints
+none_by_making says c refusal history secret taken added (not_made why cause refused nothing_added is) = nothing_added
 
-pub none_by_apply : (before after : Option (List ℕ)) (stream : Stream) (refusal : Refusal) → IsAddedNone (ApplyAnswer before after stream) refusal
-none_by_apply before after stream refusal history secret taken added (bad_text text fault whole first nothing_added is) = nothing_added
-none_by_apply before after stream refusal history secret taken added (asked text ops whole reads answer) = none_by_making ops (next_bytes stream) refusal history secret taken added answer
+pub none_by_apply : (note before after : Option (List ℕ)) (stream : Stream) (refusal : Refusal) → IsAddedNone (ApplyAnswer note before after stream) refusal
+none_by_apply said before after stream refusal history secret taken added (bad_text text fault whole first nothing_added is) = nothing_added
+none_by_apply said before after stream refusal history secret taken added (asked text ops whole reads answer) = none_by_making (saying said ops) (next_bytes stream) refusal history secret taken added answer
 
 pub none_by_join : (stream : Stream) (refusal : Refusal) → IsAddedNone (JoinAnswer stream) refusal
 none_by_join stream refusal history secret taken added (joined id bytes is last prints) = absurd prints

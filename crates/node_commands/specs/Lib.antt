@@ -3,6 +3,7 @@ pub mod Bundle
 pub mod Creating
 pub mod Heads
 pub mod Merging
+pub mod Notes
 pub mod Shows
 pub mod Signing
 pub mod Verdict

@@ -14,7 +14,8 @@ use Rattle.history.specs.Histories.{HistoryData}
 use Rattle.key_index.specs.KeyState.{KeyState}
 use Rattle.key_index.specs.Used.{least_unused, used_in}
 use Rattle.replica.specs.declared.make_fault.MakeFault.{MakeFault}
-use Rattle.replica.specs.Making.{HasNoneToJoin, IsJoinCause, IsMakeCause, Joins, Makes}
+use Rattle.replica.specs.declared.contents.Contents.{Contents}
+use Rattle.replica.specs.Making.{HasNoneToJoin, IsJoinCause, IsMakeCauseWith, Joins, MakesWith, noted, plain}
 use Rattle.replica.specs.Replicas.{ReplicaState}
 use Rattle.replica.specs.Signing.{SignsAtLeast, TriesLeast}
 use Rattle.key_directory.specs.Keys.{KeepsUsed, ReadsAsKey, WorksWith}
@@ -53,20 +54,25 @@ taken_of (Some used) = used_in used
 abbrev pub SignAnswer : Type 1
 SignAnswer = HistoryData → SecretData → List Bool → List (List ℕ) → Outcome → Type 0
 
--- What is answered where an update of these operations is to be made, with C: it is made, stands last, and its id is printed; or why it is not made.
-pub data MakeAnswer (ops : List Op) (c : List ℕ) (history : HistoryData) (secret : SecretData) (taken : List Bool) (added : List (List ℕ)) (outcome : Outcome) : Type 0 where
-  made : (id : UpdateId) (bytes : List ℕ) → Makes is_luhn history secret taken ops c id (with_update history bytes) → added ≡ bytes ∷ [] → Prints outcome (line_of id)
-      → MakeAnswer ops c history secret taken added outcome
-  not_made : (why : MakeFault) → IsMakeCause is_luhn history secret taken ops c why → IsRefused outcome → added ≡ [] → outcome ≡ Err (from_make secret why)
-      → MakeAnswer ops c history secret taken added outcome
+-- what an update says of operations that are given this note, or none
+abbrev pub saying : Option (List ℕ) → List Op → Contents
+saying None ops = plain ops
+saying (Some note) ops = noted ops note
 
--- What `apply` answers to what the source has left before and after, and to the generator's next bytes: the text is no transaction, or an update of
--- its operations is to be made.
-pub data ApplyAnswer (before after : Option (List ℕ)) (stream : Stream) (history : HistoryData) (secret : SecretData) (taken : List Bool) (added : List (List ℕ)) (outcome : Outcome) : Type 0 where
+-- What is answered where an update that says this is to be made, with C: it is made, stands last, and its id is printed; or why it is not made.
+pub data MakeAnswer (says : Contents) (c : List ℕ) (history : HistoryData) (secret : SecretData) (taken : List Bool) (added : List (List ℕ)) (outcome : Outcome) : Type 0 where
+  made : (id : UpdateId) (bytes : List ℕ) → MakesWith is_luhn history secret taken says c id (with_update history bytes) → added ≡ bytes ∷ [] → Prints outcome (line_of id)
+      → MakeAnswer says c history secret taken added outcome
+  not_made : (why : MakeFault) → IsMakeCauseWith is_luhn history secret taken says c why → IsRefused outcome → added ≡ [] → outcome ≡ Err (from_make secret why)
+      → MakeAnswer says c history secret taken added outcome
+
+-- What `apply` with a note, or without one, answers to what the source has left before and after, and to the generator's next bytes: the text is no
+-- transaction, or an update of its operations is to be made that has this note.
+pub data ApplyAnswer (note before after : Option (List ℕ)) (stream : Stream) (history : HistoryData) (secret : SecretData) (taken : List Bool) (added : List (List ℕ)) (outcome : Outcome) : Type 0 where
   bad_text : (text : List ℕ) (fault : TextFault) → IsWholeText MAX_TRANSACTION_BYTES before after text → FirstFault history.schema text fault.kind fault.line fault.column → added ≡ []
-      → outcome ≡ Err (Transaction fault) → ApplyAnswer before after stream history secret taken added outcome
+      → outcome ≡ Err (Transaction fault) → ApplyAnswer note before after stream history secret taken added outcome
   asked : (text : List ℕ) (ops : List Op) → IsWholeText MAX_TRANSACTION_BYTES before after text → Reads history.schema text ops
-      → MakeAnswer ops (next_bytes stream) history secret taken added outcome → ApplyAnswer before after stream history secret taken added outcome
+      → MakeAnswer (saying note ops) (next_bytes stream) history secret taken added outcome → ApplyAnswer note before after stream history secret taken added outcome
 
 -- What `join` answers to the generator's next bytes: the heads are joined by an update that stands last, and its id is printed; or there are fewer than
 -- two, and nothing is printed; or why they are not joined.
@@ -183,20 +189,20 @@ abbrev pub IsInvalid : Outcome → Type 0
 IsInvalid (Err (refusals.Invalid reason operation)) = Unit {0}
 IsInvalid outcome = ⊥
 
--- What `apply` may answer to an input, whatever is left of it, and whether what an answer leaves unused was used or not.
-abbrev pub MayApply : List ℕ → Stream → Readings → Outcome → Type 0
-MayApply input stream parts outcome = (after : Option (List ℕ)) × (added : List (List ℕ)) × StoreAnswer (Unit {0}) (ApplyAnswer (Some input) after stream) parts added outcome
+-- What `apply` with this note, or without one, may answer to an input, whatever is left of it, and whether what an answer leaves unused was used or not.
+abbrev pub MayApply : Option (List ℕ) → List ℕ → Stream → Readings → Outcome → Type 0
+MayApply note input stream parts outcome = (after : Option (List ℕ)) × (added : List (List ℕ)) × StoreAnswer (Unit {0}) (ApplyAnswer note (Some input) after stream) parts added outcome
 
 -- Of these the answers that exclude each other one: each refusal that comes before the operations are judged; and every answer, where none is that
 -- they are invalid.
-abbrev pub IsSureOfApply : List ℕ → Stream → Readings → Outcome → Type 0
-IsSureOfApply input stream parts outcome =
-    MayApply input stream parts outcome × (IsBeforeOperations outcome ⊎ ((other : Outcome) → MayApply input stream parts other → IsInvalid other → ⊥))
+abbrev pub IsSureOfApply : Option (List ℕ) → List ℕ → Stream → Readings → Outcome → Type 0
+IsSureOfApply note input stream parts outcome =
+    MayApply note input stream parts outcome × (IsBeforeOperations outcome ⊎ ((other : Outcome) → MayApply note input stream parts other → IsInvalid other → ⊥))
 
--- `apply`.
-abbrev pub Applies : {S H R : Type 0} → List ℕ → Outside S H R → Outside S H R → Outcome → Type 0
-Applies dir before after outcome =
-    MakesUpdate ((after.source ≡ before.source) × (after.random ≡ before.random)) (ApplyAnswer before.left after.left before.stream) (IsSourceFault before.source_faults after.source_faults)
+-- `apply` over the store of a directory, with this note or without one.
+abbrev pub Applies : {S H R : Type 0} → List ℕ → Option (List ℕ) → Outside S H R → Outside S H R → Outcome → Type 0
+Applies dir note before after outcome =
+    MakesUpdate ((after.source ≡ before.source) × (after.random ≡ before.random)) (ApplyAnswer note before.left after.left before.stream) (IsSourceFault before.source_faults after.source_faults)
     before.stream after.stream dir before.store after.store before.shelf_faults after.shelf_faults outcome
 
 -- `join`, which does not use the source.

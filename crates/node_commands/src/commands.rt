@@ -9,4 +9,5 @@ pub mod init;
 pub mod join;
 pub mod keygen;
 pub mod merge;
+pub mod notes;
 pub mod query_store;

@@ -13,7 +13,7 @@ ghost use Rattle.outcomes.specs.Outcome.{Outcome, status_of, text_of};
 ghost use Rattle.node_commands.specs.Signing.{IsSureOfApply, JoinAnswer, MayApply, StoreAnswer};
 ghost use Rattle.node_commands.specs.Asking.{QueryAnswer};
 ghost use Rattle.outcomes.specs.StoreAnswers.{Readings, Printing, ReadsStore};
-ghost use Rattle.node_commands.specs.Shows.{ShowsHeads, ShowsRecords, ShowsTables};
+ghost use Rattle.node_commands.specs.Shows.{ShowsHeads, ShowsNotes, ShowsRecords, ShowsTables};
 ghost use Rattle.node_commands.specs.Verdict.{CheckAnswer};
 
 use confluence_laws::tables_are_of_the_set;
@@ -56,6 +56,8 @@ pub fn one_answer_of_parts()
         → ReadsStore (Printing (ShowsTables json)) parts added outcome → ReadsStore (Printing (ShowsTables json)) parts others another → (status_of outcome ≡ status_of another) × (text_of outcome ≡ text_of another) }
     ensures query { (text : List ℕ) (json : Bool) (parts : Readings) (added others : List (List ℕ)) (outcome another : Outcome)
         → ReadsStore (QueryAnswer text json) parts added outcome → ReadsStore (QueryAnswer text json) parts others another → (status_of outcome ≡ status_of another) × (text_of outcome ≡ text_of another) }
+    ensures notes { (parts : Readings) (added others : List (List ℕ)) (outcome another : Outcome)
+        → ReadsStore (Printing ShowsNotes) parts added outcome → ReadsStore (Printing ShowsNotes) parts others another → (status_of outcome ≡ status_of another) × (text_of outcome ≡ text_of another) }
     ensures export { (updates_only : Bool) (parts : Readings) (added others : List (List ℕ)) (outcome another : Outcome)
         → ReadsStore (Printing (ShowsRecords updates_only)) parts added outcome → ReadsStore (Printing (ShowsRecords updates_only)) parts others another → (status_of outcome ≡ status_of another) × (text_of outcome ≡ text_of another) }
 {
@@ -76,8 +78,8 @@ pub fn one_answer_of_makers()
         → InitAnswer (Some input) after stream parts later outcome → InitAnswer (Some input) other stream parts another given → (status_of outcome ≡ status_of given) × (text_of outcome ≡ text_of given) }
     ensures keygen { (height : Height) (width : Width) (stream : Stream) (parts later another : Readings) (outcome given : Outcome)
         → KeygenAnswer height width stream parts later outcome → KeygenAnswer height width stream parts another given → (status_of outcome ≡ status_of given) × (text_of outcome ≡ text_of given) }
-    ensures apply { (input : List ℕ) (stream : Stream) (parts : Readings) (outcome given : Outcome)
-        → MayApply input stream parts outcome → IsSureOfApply input stream parts given → (status_of outcome ≡ status_of given) × (text_of outcome ≡ text_of given) }
+    ensures apply { (note : Told (List ℕ)) (input : List ℕ) (stream : Stream) (parts : Readings) (outcome given : Outcome)
+        → MayApply note input stream parts outcome → IsSureOfApply note input stream parts given → (status_of outcome ≡ status_of given) × (text_of outcome ≡ text_of given) }
     ensures join { (stream : Stream) (parts : Readings) (added others : List (List ℕ)) (outcome given : Outcome)
         → StoreAnswer (Unit {0}) (JoinAnswer stream) parts added outcome → StoreAnswer (Unit {0}) (JoinAnswer stream) parts others given → (status_of outcome ≡ status_of given) × (text_of outcome ≡ text_of given) }
 {

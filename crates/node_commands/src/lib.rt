@@ -10,11 +10,13 @@
 //! bec dump DIR              with `--json`, here and of a bundle, as one JSON object
 //! bec init DIR < schema     makes a store of a schema in a directory that has none, and prints the id of its database
 //! bec keygen DIR            draws a key for a directory that has none, and prints its public key
-//! bec apply DIR < text      makes an update of a transaction by the key of the directory, and prints its id
+//! bec apply DIR < text      makes an update of a transaction by the key of the directory, and prints its id; with
+//!                           `--note TEXT` the update has this note
 //! bec join DIR              joins the heads of the store by an update, and prints its id
 //! bec export DIR            the bundle of the store, or with `--updates` its update stream alone
 //! bec query DIR TEXT        what a query asks of the store, one row a line, or with `--json` as one JSON object
 //! bec merge DIR DIR         reconciles the stores of two directories, and prints what each gained
+//! bec notes DIR             the ids and the notes of the updates of the store that have one, rising by id, one a line
 //! ```
 //!
 //! What is told of each is an answer in specs/; that an input has one answer are the laws [`one_answer`],
@@ -32,7 +34,7 @@ mod laws;
 mod stream;
 
 pub use bundle::bundle_schema;
-pub use commands::apply::apply_in;
+pub use commands::apply::{Application, apply_in};
 pub use commands::check::verdict;
 pub use commands::dump::{bundle_tables, dump_in};
 pub use commands::export::export_in;
@@ -41,6 +43,7 @@ pub use commands::init::init_in;
 pub use commands::join::join_in;
 pub use commands::keygen::keygen_in;
 pub use commands::merge::merge_in;
+pub use commands::notes::notes_in;
 pub use commands::query_store::query_in;
 pub use heads::heads_of;
 pub use laws::{one_answer, one_answer_of_makers, one_answer_of_merge, one_answer_of_parts};

@@ -37,10 +37,14 @@ state_text Down = codes " down" ++ (10 ∷ [])
 abbrev pub replica_text : ℕ → ShownReplica → List ℕ
 replica_text number replica = codes "replica " ++ (decimal number ++ state_text replica)
 
+-- the texts of things that number from here, one after another
+abbrev pub each_numbered : {A : Type 0} → (ℕ → A → List ℕ) → ℕ → List A → List ℕ
+each_numbered text number [] = []
+each_numbered text number (a ∷ rest) = text number a ++ each_numbered text (number + 1) rest
+
 -- replicas that number from here
 abbrev pub replicas_text : ℕ → List ShownReplica → List ℕ
-replicas_text number [] = []
-replicas_text number (replica ∷ replicas) = replica_text number replica ++ replicas_text (number + 1) replicas
+replicas_text number replicas = each_numbered replica_text number replicas
 
 -- how an end ended
 abbrev pub end_text : ShownEnd → List ℕ
@@ -58,3 +62,12 @@ second_text (Some end) = end_text end
 
 abbrev pub session_text : ShownSession → List ℕ
 session_text session = numbered (codes "session ") session.number ++ (end_text session.first ++ (second_text session.second ++ (10 ∷ [])))
+
+-- how many one-time keys signed twice, of a replica that runs
+abbrev pub doubled_text : ℕ → Option ℕ → List ℕ
+doubled_text number None = []
+doubled_text number (Some count) = numbered (codes "replica ") number ++ (numbered (codes " doubled ") count ++ (10 ∷ []))
+
+-- the same of replicas that number from here
+abbrev pub doubled_texts : ℕ → List (Option ℕ) → List ℕ
+doubled_texts number counts = each_numbered doubled_text number counts

@@ -9,6 +9,7 @@
 //! replica 1 down
 //! session 0 done done
 //! session 1 peer 9
+//! replica 0 doubled 0
 //! ```
 //!
 //! What is printed is a function of what is shown (specs/Reports).
@@ -17,5 +18,5 @@
 mod printing;
 mod shown;
 
-pub use printing::{push_missed, push_replicas, push_sessions};
+pub use printing::{push_doubled, push_missed, push_replicas, push_sessions};
 pub use shown::{Counts, Missed, ShownEnd, ShownReplica, ShownSession};

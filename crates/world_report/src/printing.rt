@@ -4,7 +4,7 @@ ghost use Rattle.std.specs.Prelude.{◌≡◌, ℕ, ◌∷◌, ◌++◌, OnOk, O
 ghost use mathlib.Core.List.{IsPrefix};
 ghost use Rattle.std.specs.Fmt.{decimal};
 ghost use Rattle.std.specs.List.{flat_map};
-ghost use Rattle.world_report.specs.Reports.{missed_text, replica_text, replicas_text, counts_text, count_text, session_text, end_text, second_text, numbered};
+ghost use Rattle.world_report.specs.Reports.{missed_text, replica_text, replicas_text, counts_text, count_text, doubled_text, doubled_texts, session_text, end_text, second_text, numbered};
 
 use crate::{Counts, Missed, ShownEnd, ShownReplica, ShownSession};
 use itoa::Buffer;
@@ -17,12 +17,12 @@ pub fn push_missed(out: &mut Vec<u8>, missed: &Missed) -> Result<(), AllocError>
 {
     match missed {
         Missed::NoSuch { line } => {
-            push_numbered(out, b"line ", *line)?;
+            push_numbered(out, b"line ", u64::from(*line))?;
             out.extend_from_slice(b" none\n")
         }
         Missed::Refused { line, cause } => {
-            push_numbered(out, b"line ", *line)?;
-            push_numbered(out, b" refused ", u32::from(*cause))?;
+            push_numbered(out, b"line ", u64::from(*line))?;
+            push_numbered(out, b" refused ", u64::from(*cause))?;
             out.extend_from_slice(b"\n")
         }
     }
@@ -61,11 +61,11 @@ fn push_counts(out: &mut Vec<u8>, counts: &Counts) -> Result<(), AllocError>
     ensures added { OnOk result (out.new.items ≡ out.old.items ++ counts_text counts.now) }
     ensures kept { OnErr result (IsPrefix out.old.items out.new.items) }
 {
-    push_numbered(out, b" updates ", counts.updates)?;
-    push_numbered(out, b" heads ", counts.heads)?;
+    push_numbered(out, b" updates ", u64::from(counts.updates))?;
+    push_numbered(out, b" heads ", u64::from(counts.heads))?;
     out.extend_from_slice(b" rows")?;
     push_rows(out, counts.rows.as_slice())?;
-    push_numbered(out, b" void ", counts.voids)?;
+    push_numbered(out, b" void ", u64::from(counts.voids))?;
     out.extend_from_slice(b"\n")
 }
 
@@ -75,9 +75,40 @@ fn push_rows(out: &mut Vec<u8>, rows: &[u32]) -> Result<(), AllocError>
     ensures kept { OnErr result (IsPrefix out.old.items out.new.items) }
 {
     for count in rows {
-        push_numbered(out, b" ", *count)?;
+        push_numbered(out, b" ", u64::from(*count))?;
     }
     Ok(())
+}
+
+/// Adds a line for each replica that runs, which number from 0, of how many one-time keys signed twice among what it holds:
+/// `replica 0 doubled 0`. A replica that has stopped has `None`.
+pub fn push_doubled(out: &mut Vec<u8>, counts: &[Option<u64>]) -> Result<(), AllocError>
+    ensures added { OnOk result (out.new.items ≡ out.old.items ++ doubled_texts 0 counts.now) }
+    ensures kept { OnErr result (IsPrefix out.old.items out.new.items) }
+{
+    let mut number = 0;
+    let mut rest = counts;
+    while let [count, after @ ..] = rest {
+        push_doubled_of(out, number, *count)?;
+        number += 1;
+        rest = after;
+    }
+    Ok(())
+}
+
+/// Adds the line of a replica that runs.
+fn push_doubled_of(out: &mut Vec<u8>, number: u64, count: Option<u64>) -> Result<(), AllocError>
+    ensures added { OnOk result (out.new.items ≡ out.old.items ++ doubled_text number count) }
+    ensures kept { OnErr result (IsPrefix out.old.items out.new.items) }
+{
+    match count {
+        Some(count) => {
+            push_numbered(out, b"replica ", number)?;
+            push_numbered(out, b" doubled ", count)?;
+            out.extend_from_slice(b"\n")
+        }
+        None => Ok(()),
+    }
 }
 
 /// Adds a line for each session: `session 0 done done`.
@@ -96,7 +127,7 @@ fn push_session(out: &mut Vec<u8>, session: ShownSession) -> Result<(), AllocErr
     ensures added { OnOk result (out.new.items ≡ out.old.items ++ session_text session) }
     ensures kept { OnErr result (IsPrefix out.old.items out.new.items) }
 {
-    push_numbered(out, b"session ", session.number)?;
+    push_numbered(out, b"session ", u64::from(session.number))?;
     push_end(out, session.first)?;
     push_second(out, session.second)?;
     out.extend_from_slice(b"\n")
@@ -121,7 +152,7 @@ fn push_end(out: &mut Vec<u8>, end: ShownEnd) -> Result<(), AllocError>
     match end {
         ShownEnd::Open => out.extend_from_slice(b" open"),
         ShownEnd::Done => out.extend_from_slice(b" done"),
-        ShownEnd::Peer(fault) => push_numbered(out, b" peer ", u32::from(fault)),
+        ShownEnd::Peer(fault) => push_numbered(out, b" peer ", u64::from(fault)),
         ShownEnd::Full => out.extend_from_slice(b" full"),
         ShownEnd::Store => out.extend_from_slice(b" store"),
         ShownEnd::Cut => out.extend_from_slice(b" cut"),
@@ -129,12 +160,12 @@ fn push_end(out: &mut Vec<u8>, end: ShownEnd) -> Result<(), AllocError>
 }
 
 /// Adds words and a number.
-fn push_numbered(out: &mut Vec<u8>, words: &[u8], number: u32) -> Result<(), AllocError>
+fn push_numbered(out: &mut Vec<u8>, words: &[u8], number: u64) -> Result<(), AllocError>
     ensures added { OnOk result (out.new.items ≡ out.old.items ++ numbered words.now number) }
     ensures kept { OnErr result (IsPrefix out.old.items out.new.items) }
 {
     out.extend_from_slice(words)?;
-    push_number(out, u64::from(number))
+    push_number(out, number)
 }
 
 /// Adds a number in decimal.

@@ -5,7 +5,7 @@ use Rattle.schema_text.specs.declared.fault.SchemaKind.{SchemaKind}
 use Rattle.schema_text.specs.Schemas.{Declares, FirstFault as FirstSchemaFault}
 use Rattle.world_script.specs.declared.act.Act.{Act}
 use Rattle.world_script.specs.declared.act.Act.TheVariants as act
-use Rattle.world_script.specs.declared.event.Event.TheVariants.{Make}
+use Rattle.world_rules.specs.declared.event.Event.TheVariants.{Make}
 use Rattle.world_script.specs.declared.fault.ScriptFault.{ScriptFault}
 use Rattle.world_script.specs.declared.fault.ScriptFault.TheVariants.{Schema, AtLine}
 use Rattle.world_script.specs.declared.heading.Heading.{Heading}

@@ -8,8 +8,8 @@ use Rattle.schema.specs.Data.{SchemaData}
 use Rattle.txn_text.specs.Outcome.{MayStand}
 use Rattle.world_script.specs.declared.act.Act.{Act}
 use Rattle.world_script.specs.declared.act.Act.TheVariants as act
-use Rattle.world_script.specs.declared.event.Event.{Event}
-use Rattle.world_script.specs.declared.event.Event.TheVariants.{Make, Start, Carry, Cut, Feed, Stop, Restart}
+use Rattle.world_rules.specs.declared.event.Event.{Event}
+use Rattle.world_rules.specs.declared.event.Event.TheVariants.{Make, Start, Carry, Cut, Feed, Stop, Restart}
 use Rattle.world_script.specs.declared.limits.TheConstants.{MAX_REPLICAS, MAX_SCRIPT_BYTES, MAX_SESSIONS}
 use Rattle.world_script.specs.declared.line.Line.{Line}
 use Rattle.world_script.specs.declared.line.Line.TheVariants.{One, Run}

@@ -31,7 +31,6 @@
 #![tactic(auto)]
 
 mod act;
-mod event;
 mod fault;
 mod heading;
 mod laws;
@@ -46,11 +45,12 @@ mod reading;
 mod script;
 mod words;
 
-pub use event::Event;
 pub use fault::{ScriptError, ScriptFault};
 pub use laws::{no_fault, one_fault, one_script};
 pub use limits::{MAX_REPLICAS, MAX_SCRIPT_BYTES, MAX_SESSIONS};
 pub use line::Line;
 pub use line_list::LineList;
+pub use parts::schema_part;
 pub use reading::read_script;
 pub use script::Script;
+pub use world_rules::Event;

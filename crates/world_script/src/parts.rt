@@ -1,7 +1,7 @@
 //! The schema of a script, and what follows it.
 
 ghost use Rattle.std.specs.Prelude.{◌≡◌, ◌≤◌, length, IfNone, IfSome};
-ghost use Rattle.world_script.specs.Scripts.{IsPassed, IsDivided, lines_before};
+ghost use Rattle.world_script.specs.Scripts.{IsPassed, IsDivided, lines_before, schema_part};
 ghost use Rattle.world_script.specs.Headings.{begins_world as is_world_line};
 ghost use Rattle.text_words.specs.Lines.{lines_of};
 
@@ -18,6 +18,15 @@ pub(crate) struct Parts<'a> {
     pub number: u32,
     /// The bytes from the line `WORLD` on.
     pub rest: &'a [u8],
+}
+
+/// The schema of a script: all that stands before the line `WORLD`, or the whole text where there is no such line. The text has
+/// at most [`MAX_SCRIPT_BYTES`].
+pub fn schema_part(text: &[u8]) -> &[u8]
+    requires { length text.now ≤ MAX_SCRIPT_BYTES }
+    ensures { result.now ≡ schema_part text.now }
+{
+    parts_of(text).schema
 }
 
 /// The parts of a script.

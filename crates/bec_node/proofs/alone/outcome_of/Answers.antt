@@ -1,4 +1,5 @@
 use Rattle.std.proofs.Common.{refl}
+use Rattle.bec_node.proofs.Ending.{lent_short}
 use Rattle.bec_node.proofs.alone.outcome_of.Goals as goal
 
 pub returns-in-Dump-Some-default : goal.returns-in-Dump-Some-default
@@ -11,3 +12,9 @@ returns-in-Export g c = rw c.in-Export.is (record { runs = c.export_in.ensures; 
 
 pub returns-in-Query : goal.returns-in-Query
 returns-in-Query g c = rw c.in-Query.is (record { runs = c.query_in.ensures; source = refl; random = refl })
+
+pub apply_in-requires-clause-short : goal.apply_in-requires-clause-short
+apply_in-requires-clause-short g c = lent_short (λ note. note.now) c.in-Apply.note (rw c.in-Apply.is at c.requires.short)
+
+pub returns-in-Notes : goal.returns-in-Notes
+returns-in-Notes g c = rw c.in-Notes.is (record { runs = c.notes_in.ensures; source = refl; random = refl })

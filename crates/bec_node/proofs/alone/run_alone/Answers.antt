@@ -6,7 +6,7 @@ use Rattle.schema_verdict.specs.Written.{SinkState}
 use Rattle.node_commands.proofs.Answer.{OneAnswer}
 use Rattle.node_commands.proofs.MakersOnce.{OneOfMakers}
 use Rattle.node_commands.proofs.PartsOnce.{OneOfParts}
-use Rattle.bec_node.proofs.Ending.{names_apart, runs, runs_none, runs_unread}
+use Rattle.bec_node.proofs.Ending.{names_apart, runs, runs_none, runs_unread, short_note}
 use Rattle.bec_node.proofs.alone.run_alone.Goals as goal
 
 pub returns-in_default : goal.returns-in_default
@@ -33,7 +33,7 @@ returns g c =
     let laws = c.one_answer.ensures in
     let one : OneAnswer = record { heads = laws.heads; check = laws.check; dump = laws.dump } in
     let stored = c.one_answer_of_parts.ensures in
-    let parts : OneOfParts = record { heads = stored.heads; dump = stored.dump; export = stored.export; query = stored.query } in
+    let parts : OneOfParts = record { heads = stored.heads; dump = stored.dump; export = stored.export; query = stored.query; notes = stored.notes } in
     let made = c.one_answer_of_makers.ensures in
     let makers : OneOfMakers = record { init = made.init; keygen = made.keygen; apply = made.apply; join = made.join } in
     runs c.args.words.now seen then sink sink_new c.finish.result c.requires (λ same. (ap g.H.Shelf.state same, ap g.H.Counted.faults same)) one parts makers c.one_answer_of_merge.ensures c.one_request.ensures (request_seen c.in-Some.request) asks
@@ -43,3 +43,8 @@ pub outcome_of-outcome-requires-clause-apart : goal.outcome_of-outcome-requires-
 outcome_of-outcome-requires-clause-apart g c =
     let asks = rw c.in-Some.is at c.in-Ok.ensures in
     names_apart (map string_bytes c.args.words.now) (request_seen c.in-Some.request) asks
+
+pub outcome_of-outcome-requires-clause-short : goal.outcome_of-outcome-requires-clause-short
+outcome_of-outcome-requires-clause-short g c =
+    let asks = rw c.in-Some.is at c.in-Ok.ensures in
+    short_note (map string_bytes c.args.words.now) (request_seen c.in-Some.request) asks

@@ -1,4 +1,4 @@
-use Rattle.std.proofs.Common.{ap, inl, inr, refl, arith}
+use Rattle.std.proofs.Common.{ap, refl, arith}
 use Rattle.outcomes.specs.Outside.{outside}
 use Rattle.schema_verdict.specs.Written.{SinkState}
 use Rattle.bec_node.specs.Families.{family_seen}

@@ -1,12 +1,13 @@
 use Rattle.std.proofs.Common.{refl}
 use Rattle.command_words.specs.AuditRequests.{audit, confirm}
 use Rattle.command_words.specs.Seen.{net_seen, seal_seen, watch_seen}
+use Rattle.command_words.specs.WorldRequests.{demo, world}
 use Rattle.schema_verdict.specs.Written.{SinkState}
 use Rattle.audit_commands.specs.Audits.{ShowsDoubled}
 use Rattle.audit_commands.specs.Confirming.{ConfirmAnswer}
 use Rattle.outcomes.specs.Outside.{outside}
 use Rattle.outcomes.specs.StoreAnswers.{Printing}
-use Rattle.bec_node.specs.Run.{of_keys, over_net, over_seals, over_views}
+use Rattle.bec_node.specs.Run.{of_keys, over_net, over_seals, over_views, over_worlds}
 use Rattle.bec_node.proofs.Answered.{source_answered, store_answered}
 use Rattle.bec_node.proofs.program.run_asked.Goals as goal
 
@@ -45,3 +46,15 @@ pub returns-in-Views : goal.returns-in-Views
 returns-in-Views g c =
     rw c.in-Views.is
     (over_views (watch_seen c.in-Views.request) (record { watches = c.watch_in.ensures; random = refl }) refl)
+
+pub returns-in-Worlds-World : goal.returns-in-Worlds-World
+returns-in-Worlds-World g c =
+    let which = rw c.in-Worlds-World.is at c.in-Worlds-World.field-0-is in
+    rw (c.in-Worlds-World.is, which)
+    (over_worlds (world c.in-Worlds-World.audit) (record { tells = c.tell_world.ensures; shelf = refl; random = refl }) refl)
+
+pub returns-in-Worlds-Demo : goal.returns-in-Worlds-Demo
+returns-in-Worlds-Demo g c =
+    let which = rw c.in-Worlds-Demo.is at c.in-Worlds-Demo.field-0-is in
+    rw (c.in-Worlds-Demo.is, which)
+    (over_worlds (demo c.in-Worlds-Demo.number c.in-Worlds-Demo.count) (record { tells = (c.tell_demo.ensures, refl); shelf = refl; random = refl }) refl)

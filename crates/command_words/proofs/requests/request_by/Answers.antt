@@ -29,3 +29,6 @@ returns-in-query c = rw c.in-query.is c.query_of.ensures
 
 pub returns-in-merge : goal.returns-in-merge
 returns-in-merge c = rw c.in-merge.is c.merge_of.ensures
+
+pub returns-in-notes : goal.returns-in-notes
+returns-in-notes c = rw c.in-notes.is c.notes_of.ensures

@@ -1,4 +1,3 @@
-use Rattle.replica.specs.Making.{plain}
 use Rattle.node_commands.proofs.MakersOnce.{OneOfMakers, answered_of_makers}
 use Rattle.node_commands.proofs.laws.one_answer_of_makers.Goals as goal
 
@@ -9,15 +8,8 @@ returns c =
     (record { one_store = c.one_store.ensures; not_bad = c.store_or_not.ensures.not_bad; no_store = c.store_or_not.ensures.no_store; bad_store = c.store_or_not.ensures.bad_store })
     (record { one_key = c.one_key.ensures; not_bad = c.key_or_not.ensures.not_bad; no_key = c.key_or_not.ensures.no_key; bad_key = c.key_or_not.ensures.bad_key })
     (record { one_transaction = c.one_transaction.ensures; one_fault = c.one_fault.ensures; no_fault = c.no_fault.ensures })
-    (record {
-      refused = λ ask history secret taken ops. c.one_early_refusal.ensures.refused ask history secret taken (plain ops);
-      made_or_refused = λ ask history secret taken ops. c.one_early_refusal.ensures.made_or_refused ask history secret taken (plain ops);
-    })
-    (record {
-      made = λ ask history secret taken ops. c.one_make.ensures.made ask history secret taken (plain ops);
-      refused = λ ask history secret taken ops. c.one_make.ensures.refused ask history secret taken (plain ops);
-      made_or_refused = λ ask history secret taken ops. c.one_make.ensures.made_or_refused ask history secret taken (plain ops);
-    })
+    (record { refused = c.one_early_refusal.ensures.refused; made_or_refused = c.one_early_refusal.ensures.made_or_refused })
+    (record { made = c.one_make.ensures.made; refused = c.one_make.ensures.refused; made_or_refused = c.one_make.ensures.made_or_refused })
     (record {
       joined = c.one_join.ensures.joined;
       refused = c.one_join.ensures.refused;

@@ -1,4 +1,5 @@
 use Rattle.std.proofs.Common.{◌+◌, ◌≤◌, length}
+use Rattle.world_report.specs.Reports.{replica_text}
 use Rattle.world_report.proofs.Rows.{PrintsOn}
 use Rattle.world_report.proofs.printing.push_replicas.Given as goal
 
@@ -6,7 +7,7 @@ use Rattle.world_report.proofs.printing.push_replicas.Given as goal
 abbrev pub invariant-loop-rest : goal.invariant-loop-rest
 invariant-loop-rest l = record {
   few : l.number + length l.rest ≤ length l.replicas;
-  prints : PrintsOn l.fn.out.items l.out.items l.replicas l.number l.rest;
+  prints : PrintsOn replica_text l.fn.out.items l.out.items l.replicas l.number l.rest;
 }
 
 abbrev pub decreases-loop-rest : goal.decreases-loop-rest

@@ -1,4 +1,5 @@
 use Rattle.std.proofs.Common.{subst}
+use Rattle.std.specs.Prelude.{option_map}
 use Rattle.std.proofs.lemmas.Result.{err_from_is_err_and}
 use Rattle.schema.specs.Data.{SchemaData}
 use Rattle.node_commands.specs.Signing.{StopsReading, TakesText}
@@ -12,12 +13,12 @@ returns-in_err-ops g c =
     let after = g.S.Source.left c.read_ops.new.input in
     let old = g.S.Counted.faults c.args.input.now in
     let new = g.S.Counted.faults c.read_ops.new.input in
-    rw (p.1, p.2) (apply_stopped before after (g.R.Rng.stream c.args.random.now) old new c.args.replica.now c.args.key.now c.in_err-ops.field-0.0 c.each_stands.ensures
+    rw (p.1, p.2) (apply_stopped (option_map (λ n. n.now) c.args.note) before after (g.R.Rng.stream c.args.random.now) old new c.args.replica.now c.args.key.now c.in_err-ops.field-0.0 c.each_stands.ensures
     (subst (λ (s : SchemaData). StopsReading before after old new s c.in_err-ops.field-0.0) c.schema.ensures c.in_err-ops.ensures.stopped))
 
 pub returns : goal.returns
 returns g c =
     let before = g.S.Source.left c.args.input.now in
     let after = g.S.Source.left c.read_ops.new.input in
-    apply_asked before after (g.R.Rng.stream c.args.random.now) (g.R.Rng.stream c.make_by.new.random) (g.S.Counted.faults c.args.input.now) (g.S.Counted.faults c.read_ops.new.input) c.args.replica.now c.args.key.now c.make_by.new.replica c.make_by.new.key
+    apply_asked (option_map (λ n. n.now) c.args.note) before after (g.R.Rng.stream c.args.random.now) (g.R.Rng.stream c.make_by.new.random) (g.S.Counted.faults c.args.input.now) (g.S.Counted.faults c.read_ops.new.input) c.args.replica.now c.args.key.now c.make_by.new.replica c.make_by.new.key
     c.in_ok-ops.ops c.make_by.result (subst (λ (s : SchemaData). TakesText before after s c.in_ok-ops.ops) c.schema.ensures c.in_ok-ops.ensures.read) c.make_by.ensures

@@ -1,0 +1,93 @@
+//! The run of a demonstration.
+
+ghost use Rattle.std.specs.Prelude.{◌≡◌, ◌<◌, IfOk, OnOk, length};
+ghost use Rattle.demonstration.specs.Demos.{IsCounted};
+ghost use Rattle.row_check.specs.Checksum.{is_luhn};
+
+use crate::author::Author;
+use crate::counts::{DemoCounts, counts_of};
+use crate::meeting::meet;
+use crate::operations::operations_of;
+use numbered_words::Words;
+use std::alloc::{AllocError, Global};
+
+/// How many authors there are.
+const AUTHORS: u32 = 4;
+
+/// What four replicas come to that make so many updates by turns, of which some meet in between by the words of a
+/// number, and all at the end.
+///
+/// In the last four steps nobody meets. The one error is want of memory.
+pub fn demonstrate(alloc: Global, number: u64, count: u32) -> Result<DemoCounts, AllocError>
+    ensures { IfOk result (λ counts. IsCounted is_luhn counts) }
+{
+    let mut words = Words::new(number);
+    let mut authors = begun(alloc, &mut words)?;
+    'updates: for k in 0..count {
+        make_one(alloc, &mut authors, k, &mut words)?;
+        if count - k > AUTHORS {
+            meet_by_chance(alloc, &mut authors, &mut words)?;
+        }
+    }
+    meet_all(alloc, &mut authors)?;
+    meet_all(alloc, &mut authors)?;
+    counts_of(alloc, &authors[0])
+}
+
+/// The four authors, who have made nothing.
+fn begun(alloc: Global, words: &mut Words) -> Result<Vec<Author>, AllocError>
+    ensures { IfOk result (λ authors. length authors.items ≡ 4) }
+{
+    let mut authors = Vec::new(alloc);
+    'authors: for number in 0..AUTHORS {
+        let author = Author::create(alloc, number as u8, words)?;
+        if authors.push(author).is_err() {
+            return Err(AllocError);
+        }
+    }
+    Ok(authors)
+}
+
+/// The author whose turn it is makes the update with this number, from 0.
+fn make_one(
+    alloc: Global,
+    authors: &mut [Author],
+    k: u32,
+    words: &mut Words,
+) -> Result<(), AllocError>
+    requires { length authors.old ≡ 4 }
+    ensures { length authors.new ≡ 4 }
+{
+    let author = k % AUTHORS;
+    let one = &mut authors[author as usize];
+    let ops = operations_of(alloc, author, k / AUTHORS, one.last, words)?;
+    one.make(alloc, ops, words)
+}
+
+/// Two authors meet, where the next word says so, which then says who.
+fn meet_by_chance(
+    alloc: Global,
+    authors: &mut [Author],
+    words: &mut Words,
+) -> Result<(), AllocError>
+    requires { length authors.old ≡ 4 }
+    ensures { length authors.new ≡ 4 }
+{
+    let word = words.word();
+    if word % 4 != 0 {
+        return Ok(());
+    }
+    let first = (word >> 8) % 4;
+    let second = (first + 1 + (word >> 16) % 3) % 4;
+    meet(alloc, authors, first as usize, second as usize)
+}
+
+/// The first author meets each of the others.
+fn meet_all(alloc: Global, authors: &mut [Author]) -> Result<(), AllocError>
+    requires { length authors.old ≡ 4 }
+    ensures { length authors.new ≡ 4 }
+{
+    meet(alloc, authors, 0, 1)?;
+    meet(alloc, authors, 0, 2)?;
+    meet(alloc, authors, 0, 3)
+}

@@ -1,0 +1,5 @@
+mod Doing
+mod Doubles
+mod Inputs
+mod Reaching
+mod Telling

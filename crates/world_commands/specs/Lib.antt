@@ -1,0 +1,5 @@
+pub mod Answers
+pub mod Demos
+pub mod Lines
+pub mod Running
+pub mod Shown
