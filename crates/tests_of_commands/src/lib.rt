@@ -9,6 +9,8 @@ mod keys;
 #[cfg(test)]
 mod merging;
 #[cfg(test)]
+mod notes;
+#[cfg(test)]
 mod queries;
 #[cfg(test)]
 mod steps;

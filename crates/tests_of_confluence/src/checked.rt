@@ -28,7 +28,7 @@ fn numbered(number: u8) -> UpdateId {
 }
 
 /// The name of the row that the update with this number inserts.
-fn row_of(number: u8) -> RowName {
+pub(crate) fn row_of(number: u8) -> RowName {
     RowName {
         update: numbered(number),
         index: 0,
@@ -36,7 +36,12 @@ fn row_of(number: u8) -> RowName {
 }
 
 /// An update of one operation, after another one, if any.
-fn node(alloc: Global, number: u8, pred: Option<u8>, op: Op) -> Result<Node, AllocError> {
+pub(crate) fn node(
+    alloc: Global,
+    number: u8,
+    pred: Option<u8>,
+    op: Op,
+) -> Result<Node, AllocError> {
     let mut preds = Vec::new(alloc);
     if let Some(pred) = pred {
         preds.push(numbered(pred))?;
@@ -57,7 +62,12 @@ fn node(alloc: Global, number: u8, pred: Option<u8>, op: Op) -> Result<Node, All
 }
 
 /// Inserts a row of these values.
-fn insert(alloc: Global, table: u8, number: i64, more: Option<Value>) -> Result<Op, AllocError> {
+pub(crate) fn insert(
+    alloc: Global,
+    table: u8,
+    number: i64,
+    more: Option<Value>,
+) -> Result<Op, AllocError> {
     let mut values = Vec::new(alloc);
     values.push(Value::Int(number))?;
     if let Some(value) = more {

@@ -4,4 +4,6 @@
 #[cfg(test)]
 mod checked;
 #[cfg(test)]
+mod kept;
+#[cfg(test)]
 mod tested;

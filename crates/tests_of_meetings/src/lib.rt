@@ -10,4 +10,6 @@ mod nodes;
 #[cfg(test)]
 mod pipes;
 #[cfg(test)]
+mod recorded;
+#[cfg(test)]
 mod runs;

@@ -83,20 +83,21 @@ fn tried<T: Threads + Wait + Sync>(
     Ok((said, copy))
 }
 
-/// Carries what each end says to the other, in runs that begin anew over copies of one shelf, so often. It answers what both say last.
-fn carried<T: Threads + Wait + Sync>(
+/// Carries what each end says to the other, in runs that begin anew over copies of one shelf, so often; these words call. It answers what both say last.
+pub fn carried<T: Threads + Wait + Sync>(
     rt: &T,
     alloc: Global,
     shelf: &MemShelf,
+    syncs: &str,
     times: u32,
 ) -> Result<(Said, Said), AllocError>
     requires { IsHome (shelf_of shelf.now) }
 {
     let (mut served, _) = tried(rt, alloc, shelf, SERVES, b"")?;
-    let (mut synced, _) = tried(rt, alloc, shelf, SYNCS, b"")?;
+    let (mut synced, _) = tried(rt, alloc, shelf, syncs, b"")?;
     for _ in 0..times {
         (served, _) = tried(rt, alloc, shelf, SERVES, &synced.sent)?;
-        (synced, _) = tried(rt, alloc, shelf, SYNCS, &served.sent)?;
+        (synced, _) = tried(rt, alloc, shelf, syncs, &served.sent)?;
     }
     Ok((served, synced))
 }
@@ -150,7 +151,7 @@ fn an_update_goes_over_and_no_front_of_it(rt: HostRuntime) -> Result<(), Fail> {
     let alloc = rt.alloc();
     let mut shelf = MemShelf::new(alloc);
     assert!(rt; begins(&rt, alloc, &mut shelf)?);
-    let (served, synced) = carried(&rt, alloc, &shelf, 3)?;
+    let (served, synced) = carried(&rt, alloc, &shelf, SYNCS, 3)?;
     assert!(rt; served.text.as_slice() == b"session 1 done gained 1 turns 4\n".as_slice());
     assert!(rt; synced.text.as_slice() == b"gained 0\nturns 4\n".as_slice());
     let (_, here) = tried_and_told(&rt, alloc, &shelf, SERVES, &synced.sent)?;

@@ -1,5 +1,8 @@
 //! Commands over seals and audits of keys, over an empty shelf and a net without links.
 
+ghost use Rattle.bec_disk.specs.Shelved.{shelf_of};
+ghost use Rattle.key_directory.specs.Parts.{IsHome};
+
 use crate::records::{authors, signed};
 use crate::runs::words;
 use bec_bytes::{MemSink, MemSource};
@@ -15,6 +18,35 @@ use std::test::Fail;
 use std::thread::Threads;
 use update_model::signature_len;
 
+/// What the program says over a shelf to these bytes: its status, and what it prints.
+fn said<T: Threads + Wait + Sync>(
+    rt: &T,
+    alloc: Global,
+    shelf: &mut MemShelf,
+    line: &str,
+    bytes: &[u8],
+) -> Result<(u8, Vec<u8>), AllocError>
+    requires home { IsHome (shelf_of shelf.old) }
+    ensures home { IsHome (shelf_of shelf.new) }
+{
+    let mut net = MemNet::new(alloc, Vec::new(alloc), Vec::new(alloc));
+    let mut random = Pcg32::new(42, 54);
+    let mut input = MemSource::new(Vec::from_slice(alloc, bytes)?, Vec::new(alloc));
+    let mut out = MemSink::new(alloc, Vec::new(alloc));
+    let words = words(alloc, line)?;
+    let status = run(
+        rt,
+        alloc,
+        &words,
+        shelf,
+        &mut net,
+        &mut random,
+        &mut input,
+        &mut out,
+    );
+    Ok((status, out.bytes().to_vec(alloc)?))
+}
+
 /// Whether the program answers these bytes with this status and this text.
 fn answers<T: Threads + Wait + Sync>(
     rt: &T,
@@ -24,23 +56,8 @@ fn answers<T: Threads + Wait + Sync>(
     status: u8,
     text: &str,
 ) -> Result<bool, AllocError> {
-    let mut shelf = MemShelf::new(alloc);
-    let mut net = MemNet::new(alloc, Vec::new(alloc), Vec::new(alloc));
-    let mut random = Pcg32::new(42, 54);
-    let mut input = MemSource::new(Vec::from_slice(alloc, bytes)?, Vec::new(alloc));
-    let mut out = MemSink::new(alloc, Vec::new(alloc));
-    let words = words(alloc, line)?;
-    let got = run(
-        rt,
-        alloc,
-        &words,
-        &mut shelf,
-        &mut net,
-        &mut random,
-        &mut input,
-        &mut out,
-    );
-    Ok(got == status && out.bytes() == text.as_bytes())
+    let (got, printed) = said(rt, alloc, &mut MemShelf::new(alloc), line, bytes)?;
+    Ok(got == status && printed.as_slice() == text.as_bytes())
 }
 
 /// Words, and what they are answered with where nothing is read.
@@ -62,6 +79,13 @@ const ROWS: &[Row<'static>] = &[
     ("watch A SELECT", 8, "! no store\n"),
     ("heads A", 8, "! no store\n"),
     ("sync A 127.0.0.1:7000", 8, "! no store\n"),
+    ("world", 1, "! schema line 1: line\n"),
+    ("world A", 2, "! words\n"),
+    ("world --audit=yes", 2, "! words\n"),
+    ("demo 7 3", 2, "! words\n"),
+    ("demo 7 4001", 2, "! words\n"),
+    ("demo 07 4", 2, "! words\n"),
+    ("demo 18446744073709551616 4", 2, "! words\n"),
 ];
 
 #[test]
@@ -69,6 +93,58 @@ fn words_of_each_family(rt: HostRuntime) -> Result<(), Fail> {
     for (line, status, text) in ROWS {
         assert!(rt;
             answers(&rt, rt.alloc(), line, b"", *status, text)?,
+            "{line}"
+        );
+    }
+    Ok(())
+}
+
+#[test]
+fn a_key_of_two_levels_is_drawn_once(rt: HostRuntime) -> Result<(), Fail> {
+    let mut shelf = MemShelf::new(rt.alloc());
+    let drawn = said(
+        &rt,
+        rt.alloc(),
+        &mut shelf,
+        "hsskey A --height 5 --width 2",
+        b"",
+    )?;
+    assert!(rt; drawn.0 == 0 && drawn.1.len() == 121);
+    let again = said(&rt, rt.alloc(), &mut shelf, "hsskey A", b"")?;
+    assert!(rt; again.0 == 8 && again.1.as_slice() == b"! key there\n".as_slice());
+    Ok(())
+}
+
+/// A world of one replica, which makes an update, and what becomes of it.
+const SCRIPT: &str = "DATABASE u\nTABLE user\nCOLUMN name TEXT 1 8\nSAMPLE \"ann\"\n\
+WORLD 1 5 8 1\nMAKE 0 INSERT user \"ann\"\nCUT 0\n";
+
+/// The same without the line that names a session which is not there.
+const SHORT: &str = "DATABASE u\nTABLE user\nCOLUMN name TEXT 1 8\nSAMPLE \"ann\"\n\
+WORLD 1 5 8 1\nMAKE 0 INSERT user \"ann\"\n";
+
+/// What a command over worlds answers to a script.
+const WORLDS: &[(&str, &str, u8, &str)] = &[
+    ("world", SCRIPT, 1, "! script line 7\n"),
+    (
+        "world",
+        SHORT,
+        0,
+        "replica 0 updates 1 heads 1 rows 1 void 0\n",
+    ),
+    (
+        "world --audit",
+        SHORT,
+        0,
+        "replica 0 updates 1 heads 1 rows 1 void 0\nreplica 0 doubled 0\n",
+    ),
+];
+
+#[test]
+fn scripts_of_worlds(rt: HostRuntime) -> Result<(), Fail> {
+    for (line, script, status, text) in WORLDS {
+        assert!(rt;
+            answers(&rt, rt.alloc(), line, script.as_bytes(), *status, text)?,
             "{line}"
         );
     }
