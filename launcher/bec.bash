@@ -3,14 +3,16 @@
 _bec() {
     local word=${COMP_WORDS[COMP_CWORD]} command=${COMP_WORDS[1]} offered=''
     if [ "$COMP_CWORD" -eq 1 ]; then
-        offered="init keygen apply join set dump query watch heads export draw log show who diff status schema key csv page import clone merge sync serve check hsskey seal unseal audit confirm help --help --version"
+        offered="init keygen apply join set dump query watch heads notes export draw log show who diff status schema key csv page import clone merge sync serve check hsskey seal unseal audit confirm world demo help --help --version"
     elif [ "$command" = help ]; then
-        offered="init keygen apply join set dump query watch heads export draw log show who diff status schema key csv page import clone merge sync serve check hsskey seal unseal audit confirm status"
+        offered="init keygen apply join set dump query watch heads notes export draw log show who diff status schema key csv page import clone merge sync serve check hsskey seal unseal audit confirm world demo status"
     else
         case $command,${COMP_WORDS[COMP_CWORD - 1]} in
         keygen,--height) offered="5 10 15" ;;
         keygen,--width) offered="1 2 4 8" ;;
         keygen,*) [[ $word == -* ]] && offered="--height --width" ;;
+        apply,--note) offered="" ;;
+        apply,*) [[ $word == -* ]] && offered="--note" ;;
         dump,*) [[ $word == -* ]] && offered="--json" ;;
         query,*) [[ $word == -* ]] && offered="--json" ;;
         watch,--every) offered="" ;;
@@ -27,6 +29,7 @@ _bec() {
         hsskey,--height) offered="5 10" ;;
         hsskey,--width) offered="1 2 4 8" ;;
         hsskey,*) [[ $word == -* ]] && offered="--height --width" ;;
+        world,*) [[ $word == -* ]] && offered="--audit" ;;
         esac
     fi
     mapfile -t COMPREPLY < <(compgen -W "$offered" -- "$word")
