@@ -210,6 +210,7 @@ class Update(NamedTuple):
     author: bytes
     preds: list[bytes]
     operations: list
+    note: bytes = b""
 
 
 class Reader:
@@ -250,13 +251,14 @@ class Reader:
 
 
 def update_of(spelling):
-    """The update that these bytes spell: behind version and database the author, the predecessors and the operations."""
+    """The update that these bytes spell: behind version and database the author, the predecessors, the operations, and in version 2 the note."""
     reader = Reader(spelling)
     reader.bytes(33)
     author = reader.bytes(56)
     preds = [reader.bytes(32) for _ in range(reader.number("H"))]
     operations = [reader.operation() for _ in range(reader.number("H"))]
-    return Update(hashlib.sha256(spelling).digest(), author, preds, operations)
+    note = reader.bytes(reader.number("H")) if spelling[0] == 2 else b""
+    return Update(hashlib.sha256(spelling).digest(), author, preds, operations, note)
 
 
 def parts_of(bundle):

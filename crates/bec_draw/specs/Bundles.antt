@@ -1,15 +1,18 @@
 -- What looking at a bundle comes to: a picture of its updates, or their log.
-use Rattle.std.specs.Prelude.{◌≡◌, ℕ, ◌&&◌, Bool, true, false, List, [], ◌∷◌, map, if◌then◌else◌, codes, bytes_eq, Option, None, Some, Err}
+use Rattle.std.specs.Prelude.{◌≡◌, ℕ, ◌&&◌, true, false, List, [], ◌∷◌, map, if◌then◌else◌, codes, bytes_eq, Option, None, Some, Err}
 use Rattle.row_check.specs.Checksum.{is_luhn}
 use Rattle.confluence_test.specs.Taking.{RefusesSchema, TakesSchema}
 use Rattle.confluence_test.specs.declared.refusal.SchemaRefusal.{SchemaRefusal}
 use Rattle.bec_draw.specs.declared.asked.Asked.{Asked}
 use Rattle.bec_draw.specs.declared.asked.Asked.TheVariants.{Picture, Log}
 use Rattle.graph_drawing.specs.declared.form.Form.TheVariants.{Svg, Dot}
+use Rattle.graph_drawing.specs.declared.note_line.NoteLine.{NoteLine}
 use Rattle.graph_drawing.specs.Logs.{IsLog}
 use Rattle.graph_drawing.specs.Depths.{nodes_of}
 use Rattle.graph_drawing.specs.Pictures.{IsPicture}
+use Rattle.graph_drawing.specs.Told.{Told}
 use Rattle.node_commands.specs.Bundle.{HoldsText, LacksText}
+use Rattle.node_commands.specs.Notes.{AreNoted, note_text}
 use Rattle.outcomes.specs.declared.refusal.Refusal.{Refusal}
 use Rattle.outcomes.specs.declared.refusal.Refusal.TheVariants.{Record, Words}
 use Rattle.outcomes.specs.Outcome.{ComesTo, Outcome, from_taking}
@@ -17,28 +20,38 @@ use Rattle.schema_verdict.specs.Verdict.{Prints}
 use Rattle.outcomes.specs.Rules.{rules_of}
 use Rattle.schema.specs.Data.{SchemaData}
 use Rattle.schema.specs.declared.table_def.TableDef.{TableDef}
-use Rattle.table_model.specs.declared.void_line.VoidLine.{VoidLine}
 use Rattle.table_model.specs.Tables.{AreVoidsIn}
-use Rattle.update_codec.specs.Parts.{entry_of}
-use Rattle.update_model.specs.declared.update_id.UpdateId.{UpdateId}
+use Rattle.update_codec.specs.Parts.{entry_of, id_of}
 use Rattle.update_model.specs.Graph.{AreHeads}
 use Rattle.update_model.specs.Node.{NodeData}
 use Rattle.update_stream.specs.declared.reading.Reading.TheVariants.{Whole, Refused}
 use Rattle.update_stream.specs.declared.record_fault.RecordFault.{RecordFault}
 use Rattle.update_stream.specs.Told.{Reads}
 
--- the text that is asked of nodes, with these heads and these updates that do nothing
-abbrev pub IsTextOf : Asked → List TableDef → List NodeData → List UpdateId → List VoidLine → List ℕ → Type 0
-IsTextOf (Picture form) tables nodes heads voids text = IsPicture form tables nodes heads voids text
-IsTextOf (Log rows) tables nodes heads voids text = IsLog rows tables nodes heads voids text
+-- the text that is asked of nodes, with what is told of them
+abbrev pub IsTextOf : Asked → List TableDef → List NodeData → Told → List ℕ → Type 0
+IsTextOf (Picture form) tables nodes told text = IsPicture form tables nodes told text
+IsTextOf (Log rows) tables nodes told text = IsLog rows tables nodes told text
 
--- The text is what is asked of these members, with their heads and with those that do nothing.
+-- the note of an update, with its id
+abbrev pub note_line_of : List ℕ → NoteLine
+note_line_of bytes = record { id = id_of bytes; text = note_text bytes }
+
+-- In rising order of ids, these are the notes of members that are not empty.
+abbrev pub AreNotesOf : List (List ℕ) → List NoteLine → Type 0
+AreNotesOf members notes = (noted : List (List ℕ)) × AreNoted members noted × (notes ≡ map note_line_of noted)
+
+-- What is told of these members is their heads, those that do nothing, and their notes.
+pub record IsToldOf (schema : SchemaData) (members : List (List ℕ)) (told : Told) : Type 0 where
+  pub heads : AreHeads (map entry_of members) told.heads
+  pub voids : AreVoidsIn (rules_of schema) (nodes_of members) told.voids
+  pub notes : AreNotesOf members told.notes
+
+-- The text is what is asked of these members, with what is told of them.
 pub record ShowsMembers (asked : Asked) (schema : SchemaData) (members : List (List ℕ)) (text : List ℕ) : Type 0 where
-  pub heads : List UpdateId
-  pub voids : List VoidLine
-  pub are_heads : AreHeads (map entry_of members) heads
-  pub are_voids : AreVoidsIn (rules_of schema) (nodes_of members) voids
-  pub shows : IsTextOf asked schema.tables (nodes_of members) heads voids text
+  pub told : Told
+  pub is_told : IsToldOf schema members told
+  pub shows : IsTextOf asked schema.tables (nodes_of members) told text
 
 -- What follows a schema is a stream under its rule, whose graph is shown; or a record of it is refused.
 pub data RecordsShown (asked : Asked) (schema : SchemaData) (before after : Option (List ℕ)) (outcome : Outcome) : Type 0 where

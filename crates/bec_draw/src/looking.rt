@@ -6,12 +6,13 @@ ghost use Rattle.table_model.specs.Invariants.{invariants_of};
 ghost use Rattle.graph_drawing.specs.Depths.{nodes_of};
 ghost use Rattle.outcomes.specs.Outcome.{ComesTo, Ends, Outcome};
 ghost use Rattle.outcomes.specs.Rules.{rules_of};
-ghost use Rattle.bec_draw.specs.Bundles.{BundleShown, IsTextOf, ShowsAsked, ShowsMembers, asked_by};
+ghost use Rattle.bec_draw.specs.Bundles.{BundleShown, IsTextOf, IsToldOf, ShowsAsked, ShowsMembers, asked_by};
 
 use crate::asked::Asked;
+use crate::notes::notes_of;
 use bec_bytes::{Sink, Source};
 use confluence_test::{accepted_is_unlimited, take_schema};
-use graph_drawing::{Form, draw, log, omitted};
+use graph_drawing::{Form, Told, draw, log, omitted};
 use hash_graph::Graph;
 use history::replay;
 use node_commands::{bundle_schema, heads_of, read_graph};
@@ -19,9 +20,7 @@ use outcomes::{Refusal, finish};
 use row_check::{Luhn, Native};
 use schema::Schema;
 use std::alloc::{AllocError, Global};
-use table_model::VoidLine;
 use update_check::Checked;
-use update_model::UpdateId;
 
 /// Shows the bundle of a source: writes its picture or its log, or the lines of what is refused. Answers the exit status, and how many
 /// updates are left out of a picture.
@@ -114,35 +113,46 @@ fn graph_text(
     requires { IsTrue (are_accepted (rules_of schema.now) (invariants_of (rules_of schema.now))) }
     ensures { IfOk result (λ text. ShowsMembers asked schema.now graph.now text.items) }
 {
-    accepted_is_unlimited();
-    let found = heads_of(alloc, graph)?;
-    let heads = found.list(alloc)?;
-    let tables = replay(alloc, schema, native, graph)?;
-    let voids = tables.voids(alloc)?;
-    let text = text_of(
-        alloc,
-        asked,
-        schema,
-        graph,
-        heads.as_slice(),
-        voids.as_slice(),
-    )?;
+    let told = told_of(alloc, schema, native, graph)?;
+    let text = text_of(alloc, asked, schema, graph, &told)?;
     Ok(text)
 }
 
-/// The same with its heads and the updates that do nothing.
+/// What is told of a graph's updates: its heads, those that do nothing, and their notes.
+fn told_of(
+    alloc: Global,
+    schema: &Schema,
+    native: &Native<Luhn, Luhn>,
+    graph: &Graph<Checked>,
+) -> Result<Told, AllocError>
+    requires { IsTrue (are_accepted (rules_of schema.now) (invariants_of (rules_of schema.now))) }
+    ensures { IfOk result (λ told. IsToldOf schema.now graph.now told) }
+{
+    accepted_is_unlimited();
+    let notes = notes_of(alloc, graph)?;
+    let found = heads_of(alloc, graph)?;
+    let heads = found.list(alloc)?;
+    let tables = replay(alloc, schema, native, graph)?;
+    let voids = tables.voids(alloc)?.into_vec();
+    Ok(Told {
+        heads,
+        voids,
+        notes,
+    })
+}
+
+/// The same with what is told of its updates.
 fn text_of(
     alloc: Global,
     asked: Asked,
     schema: &Schema,
     graph: &Graph<Checked>,
-    heads: &[UpdateId],
-    voids: &[VoidLine],
+    told: &Told,
 ) -> Result<Vec<u8>, AllocError>
-    ensures { IfOk result (λ text. IsTextOf asked schema.now.tables (nodes_of graph.now) heads.now voids.now text.items) }
+    ensures { IfOk result (λ text. IsTextOf asked schema.now.tables (nodes_of graph.now) told.now text.items) }
 {
     match asked {
-        Asked::Picture(form) => draw(alloc, form, schema, graph, heads, voids),
-        Asked::Log(rows) => log(alloc, rows, schema, graph, heads, voids),
+        Asked::Picture(form) => draw(alloc, form, schema, graph, told),
+        Asked::Log(rows) => log(alloc, rows, schema, graph, told),
     }
 }

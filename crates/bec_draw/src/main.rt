@@ -6,6 +6,7 @@
 
 mod asked;
 mod looking;
+mod notes;
 
 use crate::looking::{left_out_line, run};
 use bec_bytes::write_all_of;

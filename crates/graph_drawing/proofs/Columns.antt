@@ -6,24 +6,23 @@ use Rattle.std.proofs.lemmas.Bool.{and_parts, eqb-true}
 use Rattle.std.proofs.lemmas.List.Elements.{Contains-append_cases}
 use Rattle.std.proofs.lemmas.Slice.Eq.{bytes_eq-Decides}
 use Rattle.update_model.specs.declared.author_key.AuthorKey.{AuthorKey}
-use Rattle.update_model.specs.declared.update_id.UpdateId.{UpdateId}
-use Rattle.table_model.specs.declared.void_line.VoidLine.{VoidLine}
 use Rattle.table_model.specs.Verdicts.{same_author}
 use Rattle.table_model.proofs.Each.{each-append}
 use Rattle.table_model.proofs.Members.{contains_cases, find_finds, none_in}
 use Rattle.graph_drawing.specs.declared.placed.Placed.{Placed}
 use Rattle.graph_drawing.specs.declared.spot.Spot.{Spot}
 use Rattle.graph_drawing.specs.Boxes.{Arranged, arrange, arranged, is_in_lane, lane_of, spot_of, with_spot}
+use Rattle.graph_drawing.specs.Told.{Told}
 
 -- ---- what is so of each node is so of each box
 
-pub each_box : (P : Placed → Type 0) (heads : List UpdateId) (voids : List VoidLine) (before : Arranged) (placed : List Placed)
+pub each_box : (P : Placed → Type 0) (told : Told) (before : Arranged) (placed : List Placed)
     → AllByRecursion (λ spot. P (record { depth = spot.depth; node = spot.node })) before.spots → AllByRecursion P placed
-    → AllByRecursion (λ spot. P (record { depth = spot.depth; node = spot.node })) (fold (arrange heads voids) before placed).spots
-each_box P heads voids before [] h all = h
-each_box P heads voids before (next ∷ placed) h all =
-    each_box P heads voids (arrange heads voids before next) placed
-    (each-append (λ (spot : Spot). P (record { depth = spot.depth; node = spot.node })) before.spots (spot_of heads voids before.spots before.width next ∷ []) h (all.0, tt)) all.1
+    → AllByRecursion (λ spot. P (record { depth = spot.depth; node = spot.node })) (fold (arrange told) before placed).spots
+each_box P told before [] h all = h
+each_box P told before (next ∷ placed) h all =
+    each_box P told (arrange told before next) placed
+    (each-append (λ (spot : Spot). P (record { depth = spot.depth; node = spot.node })) before.spots (spot_of told before.spots before.width next ∷ []) h (all.0, tt)) all.1
 
 -- ---- one author a column
 
@@ -91,11 +90,11 @@ put_kept before spot kept right =
       ];
     }
 
-stands_right : (heads : List UpdateId) (voids : List VoidLine) (before : Arranged) (next : Placed) → StandsRight before (spot_of heads voids before.spots before.width next)
-stands_right heads voids before next =
+stands_right : (told : Told) (before : Arranged) (next : Placed) → StandsRight before (spot_of told before.spots before.width next)
+stands_right told before next =
     let author = next.node.author in
     let lane = lane_of before.spots next in
-    let spot = spot_of heads voids before.spots before.width next in
+    let spot = spot_of told before.spots before.width next in
     let step : (found : Option Spot) → find (is_in_lane author lane) before.spots ≡ found → unwrap_or (option_map (λ (s : Spot). s.column) found) before.width ≡ spot.column → StandsRight before spot = elim [
       | None ↦ λ is column. inl (sym column)
       | Some other ↦ λ is column.
@@ -104,12 +103,12 @@ stands_right heads voids before next =
     ] in
     step (find (is_in_lane author lane) before.spots) refl refl
 
-all_kept : (heads : List UpdateId) (voids : List VoidLine) (before : Arranged) (placed : List Placed) → OneAuthorEach before → OneAuthorEach (fold (arrange heads voids) before placed)
-all_kept heads voids before [] kept = kept
-all_kept heads voids before (next ∷ placed) kept =
-    all_kept heads voids (arrange heads voids before next) placed (put_kept before (spot_of heads voids before.spots before.width next) kept (stands_right heads voids before next))
+all_kept : (told : Told) (before : Arranged) (placed : List Placed) → OneAuthorEach before → OneAuthorEach (fold (arrange told) before placed)
+all_kept told before [] kept = kept
+all_kept told before (next ∷ placed) kept =
+    all_kept told (arrange told before next) placed (put_kept before (spot_of told before.spots before.width next) kept (stands_right told before next))
 
-pub one_author : (heads : List UpdateId) (voids : List VoidLine) (placed : List Placed) (spot other : Spot) → Contains (arranged heads voids placed).spots spot → Contains (arranged heads voids placed).spots other
+pub one_author : (told : Told) (placed : List Placed) (spot other : Spot) → Contains (arranged told placed).spots spot → Contains (arranged told placed).spots other
     → spot.column ≡ other.column → spot.node.author ≡ other.node.author
-one_author heads voids placed spot other c d same =
-    (all_kept heads voids (record { spots = []; width = 0 }) placed (record { low = λ s none. absurd (none_in s none); alike = λ s t none too e. absurd (none_in s none) })).alike spot other c d same
+one_author told placed spot other c d same =
+    (all_kept told (record { spots = []; width = 0 }) placed (record { low = λ s none. absurd (none_in s none); alike = λ s t none too e. absurd (none_in s none) })).alike spot other c d same

@@ -1,12 +1,13 @@
 -- Maps that are filled from the end of a list.
-use Rattle.std.proofs.Common.{◌≡◌, ℕ, suc, ◌<◌, ◌≤◌, ◌-◌, Bool, true, false, cond, ◌||◌, List, ◌∷◌, length, drop, get_or, refl, sym, ◌∙◌, ap, arith, Some, option_map, find}
+use Rattle.std.proofs.Common.{◌≡◌, Bor, ℕ, suc, ◌<◌, ◌≤◌, ◌-◌, Bool, true, false, cond, ◌||◌, List, ◌∷◌, length, drop, get_or, refl, sym, ◌∙◌, ap, arith, Some, option_map, find}
 use Rattle.std.specs.BTreeMap.{get, BTreeMap, Updates}
-use Rattle.std.specs.Option.{is_some}
+use Rattle.std.specs.Option.{is_some, option_copied}
 use Rattle.std.proofs.Math.Seq.{drop-cons}
 use Rattle.update_model.specs.declared.update_id.UpdateId.{UpdateId}
 use Rattle.update_model.specs.Entry.{id_cmp, same_id}
 use Rattle.table_model.specs.declared.void_line.VoidLine.{VoidLine}
-use Rattle.graph_drawing.specs.Boxes.{is_head, reason_of}
+use Rattle.graph_drawing.specs.declared.note_line.NoteLine.{NoteLine}
+use Rattle.graph_drawing.specs.Boxes.{is_head, note_of, reason_of}
 
 -- what is left of a list, one step further to its front
 from_before : {X : Type 0} (l : List X) (p : ℕ) (d : X) → 0 < p → p ≤ length l → drop (p - 1) l ≡ get_or l (p - 1) d ∷ drop p l
@@ -35,4 +36,16 @@ reasons_next voids p d before after some within known updates id =
   where
     by : (b : Bool) → cond b (Some (get_or voids (p - 1) d).reason) (get id_cmp before id) ≡ option_map (λ (line : VoidLine). line.reason) (cond b (Some (get_or voids (p - 1) d)) (find (λ (line : VoidLine). same_id line.id id) (drop p voids)))
     by true = refl
+    by false = known id
+
+-- one more note is known, which is lent
+pub notes_next : (notes : List NoteLine) (p : ℕ) (line : NoteLine) (before after : BTreeMap UpdateId (Bor (List ℕ))) (text : Bor (List ℕ)) → 0 < p → p ≤ length notes → line ≡ get_or notes (p - 1) line
+    → ((id : UpdateId) → option_copied (get id_cmp before id) ≡ note_of (drop p notes) id) → Updates id_cmp before after line.id (Some text) → text.now ≡ line.text
+    → (id : UpdateId) → option_copied (get id_cmp after id) ≡ note_of (drop (p - 1) notes) id
+notes_next notes p line before after text some within at known updates is id =
+    let front : drop (p - 1) notes ≡ line ∷ drop p notes = from_before notes p line some within ∙ ap (λ l. l ∷ drop p notes) (sym at) in
+    ap option_copied (updates.0 id) ∙ by (same_id line.id id) ∙ sym (ap (λ l. note_of l id) front)
+  where
+    by : (b : Bool) → option_copied (cond b (Some text) (get id_cmp before id)) ≡ option_map (λ (found : NoteLine). found.text) (cond b (Some line) (find (λ (other : NoteLine). same_id other.id id) (drop p notes)))
+    by true = ap Some is
     by false = known id

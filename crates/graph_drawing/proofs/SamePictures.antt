@@ -2,9 +2,7 @@
 use Rattle.std.proofs.Common.{◌≡◌, ℕ, Bool, List, sym, ◌∙◌, ap, subst, Some}
 use Rattle.std.proofs.lemmas.List.Sorted.{IsPermutation-sym}
 use Rattle.schema.specs.declared.table_def.TableDef.{TableDef}
-use Rattle.update_model.specs.declared.update_id.UpdateId.{UpdateId}
 use Rattle.update_model.specs.Node.{NodeData}
-use Rattle.table_model.specs.declared.void_line.VoidLine.{VoidLine}
 use Rattle.table_model.specs.Nodes.{node_of, IsClosed, IsSameSet}
 use Rattle.confluence_laws.proofs.SameTables.{PassesOn, permuted_on}
 use Rattle.graph_drawing.specs.declared.form.Form.{Form}
@@ -12,6 +10,7 @@ use Rattle.graph_drawing.specs.declared.placed.Placed.{Placed}
 use Rattle.graph_drawing.specs.Depths.{AreInOrder, depth_in, placed_in, rank, rank_cmp}
 use Rattle.graph_drawing.specs.Logs.{IsLog, log_text}
 use Rattle.graph_drawing.specs.Pictures.{IsPicture, text_in_order}
+use Rattle.graph_drawing.specs.Told.{Told}
 use Rattle.graph_drawing.proofs.DepthFacts.{at_node, found_held, from_nodes, same_depth}
 use Rattle.graph_drawing.proofs.Ranks.{rank_cmp_total}
 use Rattle.graph_drawing.proofs.Rising.{one_list, rises}
@@ -40,12 +39,12 @@ same_order xs ys c d same placed others a b =
     (passes_through (permuted_on placed one a.exact) (passes_through (placed_on xs ys c d same) (permuted_on two others (IsPermutation-sym others two b.exact))))
     (passes_through (permuted_on others two b.exact) (passes_through (placed_on ys xs d c (flipped xs ys same)) (permuted_on one placed (IsPermutation-sym placed one a.exact))))
 
-pub same_picture : (form : Form) (tables : List TableDef) (xs ys : List NodeData) (heads : List UpdateId) (voids : List VoidLine) (text other : List ℕ)
-    → IsClosed xs → IsClosed ys → IsSameSet xs ys → IsPicture form tables xs heads voids text → IsPicture form tables ys heads voids other → text ≡ other
-same_picture form tables xs ys heads voids text other c d same a b =
-    a.2 ∙ ap (text_in_order form tables heads voids) (same_order xs ys c d same a.0 b.0 a.1 b.1) ∙ sym b.2
+pub same_picture : (form : Form) (tables : List TableDef) (xs ys : List NodeData) (told : Told) (text other : List ℕ)
+    → IsClosed xs → IsClosed ys → IsSameSet xs ys → IsPicture form tables xs told text → IsPicture form tables ys told other → text ≡ other
+same_picture form tables xs ys told text other c d same a b =
+    a.2 ∙ ap (text_in_order form tables told) (same_order xs ys c d same a.0 b.0 a.1 b.1) ∙ sym b.2
 
-pub same_log : (rows : Bool) (tables : List TableDef) (xs ys : List NodeData) (heads : List UpdateId) (voids : List VoidLine) (text other : List ℕ)
-    → IsClosed xs → IsClosed ys → IsSameSet xs ys → IsLog rows tables xs heads voids text → IsLog rows tables ys heads voids other → text ≡ other
-same_log rows tables xs ys heads voids text other c d same a b =
-    a.2 ∙ ap (log_text rows tables heads voids) (same_order xs ys c d same a.0 b.0 a.1 b.1) ∙ sym b.2
+pub same_log : (rows : Bool) (tables : List TableDef) (xs ys : List NodeData) (told : Told) (text other : List ℕ)
+    → IsClosed xs → IsClosed ys → IsSameSet xs ys → IsLog rows tables xs told text → IsLog rows tables ys told other → text ≡ other
+same_log rows tables xs ys told text other c d same a b =
+    a.2 ∙ ap (log_text rows tables told) (same_order xs ys c d same a.0 b.0 a.1 b.1) ∙ sym b.2

@@ -8,8 +8,10 @@ use Rattle.update_model.specs.Entry.{same_id}
 use Rattle.table_model.specs.declared.void_line.VoidLine.{VoidLine}
 use Rattle.table_model.specs.Verdicts.{same_author}
 use Rattle.graph_drawing.specs.declared.limits.TheConstants.{MAX_DRAWN}
+use Rattle.graph_drawing.specs.declared.note_line.NoteLine.{NoteLine}
 use Rattle.graph_drawing.specs.declared.placed.Placed.{Placed}
 use Rattle.graph_drawing.specs.declared.spot.Spot.{Spot}
+use Rattle.graph_drawing.specs.Told.{Told}
 
 -- how many nodes are not drawn
 abbrev pub omitted : List Placed → ℕ
@@ -26,6 +28,10 @@ is_head heads id = list_any (λ head. same_id head id) heads
 -- the reason for which the update with this id does nothing
 abbrev pub reason_of : List VoidLine → UpdateId → Option ℕ
 reason_of voids id = option_map (λ line. line.reason) (find (λ line. same_id line.id id) voids)
+
+-- the note of the update with this id
+abbrev pub note_of : List NoteLine → UpdateId → Option (List ℕ)
+note_of notes id = option_map (λ line. line.text) (find (λ line. same_id line.id id) notes)
 
 -- whether a box is of this author and in this row
 abbrev pub is_beside : Placed → Spot → Bool
@@ -44,13 +50,14 @@ abbrev pub column_of : List Spot → ℕ → AuthorKey → ℕ → ℕ
 column_of spots width author lane = unwrap_or (option_map (λ spot. spot.column) (find (is_in_lane author lane) spots)) width
 
 -- the box of a node beside those that stand already
-abbrev pub spot_of : List UpdateId → List VoidLine → List Spot → ℕ → Placed → Spot
-spot_of heads voids spots width placed = record {
+abbrev pub spot_of : Told → List Spot → ℕ → Placed → Spot
+spot_of told spots width placed = record {
   depth = placed.depth;
   lane = lane_of spots placed;
   column = column_of spots width placed.node.author (lane_of spots placed);
-  head = is_head heads placed.node.id;
-  reason = reason_of voids placed.node.id;
+  head = is_head told.heads placed.node.id;
+  reason = reason_of told.voids placed.node.id;
+  note = note_of told.notes placed.node.id;
   node = placed.node;
 }
 
@@ -64,9 +71,9 @@ abbrev pub with_spot : Arranged → Spot → Arranged
 with_spot before spot = record { spots = before.spots ++ spot ∷ []; width = cond (spot.column == before.width) (before.width + 1) before.width }
 
 -- one more node
-abbrev pub arrange : List UpdateId → List VoidLine → Arranged → Placed → Arranged
-arrange heads voids before placed = with_spot before (spot_of heads voids before.spots before.width placed)
+abbrev pub arrange : Told → Arranged → Placed → Arranged
+arrange told before placed = with_spot before (spot_of told before.spots before.width placed)
 
 -- the boxes of these nodes
-abbrev pub arranged : List UpdateId → List VoidLine → List Placed → Arranged
-arranged heads voids placed = fold (arrange heads voids) (record { spots = []; width = 0 }) placed
+abbrev pub arranged : Told → List Placed → Arranged
+arranged told placed = fold (arrange told) (record { spots = []; width = 0 }) placed

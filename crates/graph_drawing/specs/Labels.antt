@@ -1,8 +1,9 @@
--- The lines in a box: the id and the author, what the update does, and why it does nothing if so.
+-- The lines in a box: the id and the author, the note if there is one, what the update does, and why it does nothing if so.
 use Rattle.std.specs.Prelude.{ℕ, ◌-◌, ◌==◌, if◌then◌else◌, List, [], ◌++◌, length, take, codes, Option, Some, None}
 use Rattle.std.specs.Fmt.{decimal}
 use Rattle.std.specs.List.{flat_map}
 use Rattle.update_model.specs.declared.op.Op.{Op}
+use Rattle.text_words.specs.Printing.{quoted}
 use Rattle.schema.specs.declared.table_def.TableDef.{TableDef}
 use Rattle.graph_drawing.specs.declared.form.Form.{Form}
 use Rattle.graph_drawing.specs.declared.form.Form.TheVariants.{Svg, Dot}
@@ -26,6 +27,11 @@ line form text = line_begin form ++ (text ++ line_end form)
 abbrev pub title : Spot → List ℕ
 title spot = short_id spot.node.id ++ (codes " by .." ++ key_end spot.node.author)
 
+-- the line of a note, in quotes
+abbrev pub note_line : Form → Option (List ℕ) → List ℕ
+note_line form None = []
+note_line form (Some text) = line form (clipped (quoted text) MAX_CHARACTERS)
+
 -- the line of an operation
 abbrev pub operation_line : Form → List TableDef → Op → List ℕ
 operation_line form tables op = line form (clipped (short_operation tables op) MAX_CHARACTERS)
@@ -45,4 +51,4 @@ operation_lines form tables ops = flat_map (operation_line form tables) (take MA
 
 -- all lines of a box
 unfoldable pub box_lines : Form → List TableDef → Spot → List ℕ
-box_lines form tables spot = line form (title spot) ++ (operation_lines form tables spot.node.ops ++ void_line form spot.reason)
+box_lines form tables spot = line form (title spot) ++ (note_line form spot.note ++ (operation_lines form tables spot.node.ops ++ void_line form spot.reason))

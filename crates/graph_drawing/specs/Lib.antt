@@ -5,4 +5,5 @@ pub mod Labels
 pub mod Logs
 pub mod Pictures
 pub mod Svg
+pub mod Told
 pub mod Words

@@ -3,16 +3,16 @@
 ghost use Rattle.std.specs.Prelude.{◌≡◌, ◌≤◌, IfOk, length};
 ghost use Rattle.graph_drawing.specs.Boxes.{arranged, column_of, is_beside, is_in_lane, lane_of, spot_of};
 
-use crate::ids::{is_head, reason_of, same_author};
+use crate::ids::{copy_note, is_head, reason_of, same_author};
 use crate::limits::MAX_DRAWN;
 use crate::placed::Placed;
 use crate::spot::Spot;
+use crate::told::Told;
 use std::alloc::{AllocError, Global};
-use table_model::VoidLine;
-use update_model::{AuthorKey, UpdateId};
+use update_model::AuthorKey;
 
 /// Boxes, and how many columns they have.
-#[derive(Debug, Drop)]
+#[derive(Drop)]
 pub(crate) struct Arrangement {
     /// The boxes in order.
     pub spots: Vec<Spot>,
@@ -24,16 +24,15 @@ pub(crate) struct Arrangement {
 pub(crate) fn arrange(
     alloc: Global,
     placed: &[Placed],
-    heads: &[UpdateId],
-    voids: &[VoidLine],
+    told: &Told,
 ) -> Result<Arrangement, AllocError>
     requires { length placed.now ≤ MAX_DRAWN }
-    ensures { IfOk result (λ made. record { spots = made.spots.items; width = made.width } ≡ arranged heads.now voids.now placed.now) }
+    ensures { IfOk result (λ made. record { spots = made.spots.items; width = made.width } ≡ arranged told.now placed.now) }
 {
     let mut spots = Vec::new(alloc);
     let mut width = 0;
     for next in placed {
-        let spot = spot_of(alloc, heads, voids, &spots, width, next)?;
+        let spot = spot_of(alloc, told, &spots, width, next)?;
         width = if spot.column == width {
             width + 1
         } else {
@@ -47,13 +46,12 @@ pub(crate) fn arrange(
 /// The box of an update beside those that stand already.
 fn spot_of(
     alloc: Global,
-    heads: &[UpdateId],
-    voids: &[VoidLine],
+    told: &Told,
     spots: &[Spot],
     width: u32,
     placed: &Placed,
 ) -> Result<Spot, AllocError>
-    ensures { IfOk result (λ spot. spot ≡ spot_of heads.now voids.now spots.now width placed.now) }
+    ensures { IfOk result (λ spot. spot ≡ spot_of told.now spots.now width placed.now) }
 {
     let lane = lane_of(spots, placed);
     let node = placed.node.copy(alloc)?;
@@ -61,8 +59,9 @@ fn spot_of(
         depth: placed.depth,
         lane,
         column: column_of(spots, width, &node.author, lane),
-        head: is_head(heads, &node.id),
-        reason: reason_of(voids, &node.id),
+        head: is_head(&told.heads, &node.id),
+        reason: reason_of(&told.voids, &node.id),
+        note: copy_note(alloc, &told.notes, &node.id)?,
         node,
     })
 }

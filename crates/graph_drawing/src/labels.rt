@@ -2,7 +2,8 @@
 
 ghost use Rattle.std.specs.Prelude.{◌≡◌, ◌++◌, OnOk, take};
 ghost use Rattle.std.specs.List.{flat_map};
-ghost use Rattle.graph_drawing.specs.Labels.{box_lines, line, line_begin, line_end, more_line, operation_line, operation_lines, title, void_line};
+ghost use Rattle.graph_drawing.specs.Labels.{box_lines, line, line_begin, line_end, more_line, note_line, operation_line, operation_lines, title, void_line};
+ghost use Rattle.graph_drawing.specs.Words.{clipped};
 
 use crate::form::Form;
 use crate::limits::{MAX_CHARACTERS, MAX_LINES};
@@ -12,6 +13,7 @@ use crate::words::{
 };
 use schema::Schema;
 use std::alloc::{AllocError, Global};
+use text_words::{ByteString, push_quoted};
 use update_model::Op;
 
 /// Adds all lines of a box.
@@ -26,6 +28,7 @@ pub(crate) fn push_box_lines(
     ensures { OnOk result (out.new.items ≡ out.old.items ++ box_lines form schema.now.tables spot.now) }
 {
     push_title(out, form, spot)?;
+    push_note_line(alloc, out, form, &spot.note)?;
     push_operation_lines(alloc, out, form, schema, spot.node.ops.as_slice())?;
     push_void_line(out, form, spot.reason)
 }
@@ -70,6 +73,23 @@ fn push_title(out: &mut Vec<u8>, form: Form, spot: &Spot) -> Result<(), AllocErr
     out.extend_from_slice(line_end(form))
 }
 
+/// Adds the line of a note, if there is one.
+fn push_note_line(
+    alloc: Global,
+    out: &mut Vec<u8>,
+    form: Form,
+    note: &Option<ByteString>,
+) -> Result<(), AllocError>
+    ensures { OnOk result (out.new.items ≡ out.old.items ++ note_line form note.now) }
+{
+    let Some(text) = note else {
+        return Ok(());
+    };
+    let mut words = Vec::new(alloc);
+    push_quoted(&mut words, text.as_slice())?;
+    push_clipped_line(out, form, &words)
+}
+
 /// Adds the lines of the first operations, and how many there are behind them.
 fn push_operation_lines(
     alloc: Global,
@@ -112,8 +132,15 @@ fn push_operation_line(
 {
     let mut words = Vec::new(alloc);
     push_short_operation(&mut words, schema, op)?;
+    push_clipped_line(out, form, &words)
+}
+
+/// Adds a line with the first characters of this text.
+fn push_clipped_line(out: &mut Vec<u8>, form: Form, text: &[u8]) -> Result<(), AllocError>
+    ensures { OnOk result (out.new.items ≡ out.old.items ++ line form (clipped text.now MAX_CHARACTERS)) }
+{
     out.extend_from_slice(line_begin(form))?;
-    push_clipped(out, &words, MAX_CHARACTERS)?;
+    push_clipped(out, text, MAX_CHARACTERS)?;
     out.extend_from_slice(line_end(form))
 }
 

@@ -2,9 +2,7 @@
 
 ghost use Rattle.std.specs.Prelude.{◌≡◌, ◌<◌, Bool, List, ℕ, true, Contains};
 ghost use Rattle.schema.specs.declared.table_def.TableDef.{TableDef};
-ghost use Rattle.table_model.specs.declared.void_line.VoidLine.{VoidLine};
 ghost use Rattle.table_model.specs.Nodes.{IsClosed, IsSameSet};
-ghost use Rattle.update_model.specs.declared.update_id.UpdateId.{UpdateId};
 ghost use Rattle.update_model.specs.Graph.{has};
 ghost use Rattle.update_model.specs.Node.{NodeData};
 ghost use Rattle.graph_drawing.specs.declared.form.Form.{Form as Written};
@@ -14,28 +12,29 @@ ghost use Rattle.graph_drawing.specs.Boxes.{arranged, drawn};
 ghost use Rattle.graph_drawing.specs.Depths.{AreInOrder};
 ghost use Rattle.graph_drawing.specs.Logs.{IsLog};
 ghost use Rattle.graph_drawing.specs.Pictures.{IsPicture};
+ghost use Rattle.graph_drawing.specs.Told.{Told};
 
 /// A picture is a function of the set of updates, in whatever order they came.
 pub fn same_set_same_picture()
-    ensures { (form : Written) (tables : List TableDef) (xs ys : List NodeData) (heads : List UpdateId) (voids : List VoidLine) (text other : List ℕ)
-        → IsClosed xs → IsClosed ys → IsSameSet xs ys → IsPicture form tables xs heads voids text → IsPicture form tables ys heads voids other → text ≡ other }
+    ensures { (form : Written) (tables : List TableDef) (xs ys : List NodeData) (told : Told) (text other : List ℕ)
+        → IsClosed xs → IsClosed ys → IsSameSet xs ys → IsPicture form tables xs told text → IsPicture form tables ys told other → text ≡ other }
 {}
 
 /// A log is a function of the set of updates, in whatever order they came.
 pub fn same_set_same_log()
-    ensures { (rows : Bool) (tables : List TableDef) (xs ys : List NodeData) (heads : List UpdateId) (voids : List VoidLine) (text other : List ℕ)
-        → IsClosed xs → IsClosed ys → IsSameSet xs ys → IsLog rows tables xs heads voids text → IsLog rows tables ys heads voids other → text ≡ other }
+    ensures { (rows : Bool) (tables : List TableDef) (xs ys : List NodeData) (told : Told) (text other : List ℕ)
+        → IsClosed xs → IsClosed ys → IsSameSet xs ys → IsLog rows tables xs told text → IsLog rows tables ys told other → text ≡ other }
 {}
 
 /// Each box lies in a lower row than those of its predecessors that are drawn.
 pub fn boxes_lie_below()
-    ensures { (nodes : List NodeData) (placed : List Placed) (heads : List UpdateId) (voids : List VoidLine) (spot other : Spot) → IsClosed nodes → AreInOrder nodes placed
-        → Contains (arranged heads voids (drawn placed)).spots spot → Contains (arranged heads voids (drawn placed)).spots other
+    ensures { (nodes : List NodeData) (placed : List Placed) (told : Told) (spot other : Spot) → IsClosed nodes → AreInOrder nodes placed
+        → Contains (arranged told (drawn placed)).spots spot → Contains (arranged told (drawn placed)).spots other
         → has spot.node.preds other.node.id ≡ true → other.depth < spot.depth }
 {}
 
 /// The boxes of a column have one author.
 pub fn columns_have_one_author()
-    ensures { (heads : List UpdateId) (voids : List VoidLine) (placed : List Placed) (spot other : Spot)
-        → Contains (arranged heads voids placed).spots spot → Contains (arranged heads voids placed).spots other → spot.column ≡ other.column → spot.node.author ≡ other.node.author }
+    ensures { (told : Told) (placed : List Placed) (spot other : Spot)
+        → Contains (arranged told placed).spots spot → Contains (arranged told placed).spots other → spot.column ≡ other.column → spot.node.author ≡ other.node.author }
 {}

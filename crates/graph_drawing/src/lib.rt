@@ -5,12 +5,14 @@
 //! [`boxes_lie_below`] and [`columns_have_one_author`].
 //!
 //! ```text
-//! let text = draw(alloc, Form::Svg, &schema, &graph, &heads, &voids)?;
+//! let told = Told { heads, voids, notes };
+//! let text = draw(alloc, Form::Svg, &schema, &graph, &told)?;
 //! ```
 //!
 //! At most [`MAX_DRAWN`] updates are drawn, the last ones in the order of depth and id.
 //!
 //! [`log`] answers the log of a graph: a line for each update, the newest first. It is a function of the set too: [`same_set_same_log`].
+//! What both tell of updates beside themselves comes as [`Told`].
 #![tactic(auto)]
 
 mod boxes;
@@ -22,11 +24,13 @@ mod labels;
 mod laws;
 mod limits;
 mod logs;
+mod note_line;
 mod pictures;
 mod placed;
 mod sorting;
 mod spot;
 mod svg;
+mod told;
 mod words;
 
 pub use form::Form;
@@ -35,4 +39,6 @@ pub use laws::{
 };
 pub use limits::MAX_DRAWN;
 pub use logs::log;
+pub use note_line::NoteLine;
 pub use pictures::{draw, omitted};
+pub use told::Told;

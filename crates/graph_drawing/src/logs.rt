@@ -1,16 +1,18 @@
 //! The log of a graph.
 
-ghost use Rattle.std.specs.Prelude.{◌≡◌, ◌++◌, IfOk, OnOk, is_some};
+ghost use Rattle.std.specs.Prelude.{◌≡◌, ◌++◌, IfOk, OnOk, is_some, option_copied};
 ghost use Rattle.std.specs.BTreeMap.{get};
 ghost use Rattle.std.specs.List.{flat_map};
 ghost use Rattle.update_model.specs.declared.update_id.UpdateId.{UpdateId as Id};
 ghost use Rattle.update_model.specs.Entry.{id_cmp};
-ghost use Rattle.graph_drawing.specs.Boxes.{is_head, reason_of};
+ghost use Rattle.graph_drawing.specs.Boxes.{is_head, note_of, reason_of};
 ghost use Rattle.graph_drawing.specs.Depths.{nodes_of};
-ghost use Rattle.graph_drawing.specs.Logs.{IsLog, asked_rows, head_mark, log_by, log_entry, log_front, log_line, operation_row, void_mark};
+ghost use Rattle.graph_drawing.specs.Logs.{IsLog, asked_rows, head_mark, log_by, log_entry, log_front, log_line, note_row, operation_row, void_mark};
 
+use crate::note_line::NoteLine;
 use crate::placed::Placed;
 use crate::sorting::place_in_order;
+use crate::told::Told;
 use crate::words::{push_id, push_key, push_number, reason_words};
 use hash_graph::Graph;
 use schema::Schema;
@@ -18,34 +20,49 @@ use std::alloc::{AllocError, Global};
 use std::collections::BTreeMap;
 use table_model::VoidLine;
 use table_text::{NameStyle, push_operation};
+use text_words::push_quoted;
 use update_check::Checked;
 use update_model::{Op, UpdateId};
 
 /// What a log tells of updates beside themselves, by their ids.
 #[derive(Drop)]
-pub(crate) struct Marks {
+pub(crate) struct Marks<'a> {
     /// The heads.
     heads: BTreeMap<UpdateId, ()>,
     /// Why updates do nothing.
     reasons: BTreeMap<UpdateId, u8>,
+    /// The notes of updates.
+    notes: BTreeMap<UpdateId, &'a [u8]>,
 }
 
-/// The log of a graph with these heads and these updates that do nothing: a line for each update, the newest first, with its id, its
-/// author, its depth, whether it is a head, and why it does nothing if so; and behind the line what the update does, if `rows` says so.
+/// What a log tells of one update beside itself.
+#[derive(Drop)]
+struct Mark<'a> {
+    /// Whether it is a head.
+    head: bool,
+    /// Why it does nothing, if so.
+    reason: Option<u8>,
+    /// Its note, if it has one.
+    note: Option<&'a [u8]>,
+}
+
+/// The log of a graph, with what is told of its updates: a line for each update, the newest first, with its id, its author, its
+/// depth, whether it is a head, and why it does nothing if so; behind it a line with its note, if it has one; and behind these
+/// what the update does, if `rows` says so.
 pub fn log(
     alloc: Global,
     rows: bool,
     schema: &Schema,
     graph: &Graph<Checked>,
-    heads: &[UpdateId],
-    voids: &[VoidLine],
+    told: &Told,
 ) -> Result<Vec<u8>, AllocError>
-    ensures { IfOk result (λ text. IsLog rows schema.now.tables (nodes_of graph.now) heads.now voids.now text.items) }
+    ensures { IfOk result (λ text. IsLog rows schema.now.tables (nodes_of graph.now) told.now text.items) }
 {
     let placed = place_in_order(alloc, graph)?;
     let marks = Marks {
-        heads: heads_by_id(alloc, heads)?,
-        reasons: reasons_by_id(alloc, voids)?,
+        heads: heads_by_id(alloc, &told.heads)?,
+        reasons: reasons_by_id(alloc, &told.voids)?,
+        notes: notes_by_id(alloc, &told.notes)?,
     };
     let mut text = Vec::new(alloc);
     push_log(&mut text, rows, schema, &marks, placed.as_slice())?;
@@ -75,6 +92,21 @@ fn reasons_by_id(alloc: Global, voids: &[VoidLine]) -> Result<BTreeMap<UpdateId,
     Ok(known)
 }
 
+/// The notes of updates, by their ids.
+fn notes_by_id<'a>(
+    alloc: Global,
+    notes: &'a [NoteLine],
+) -> Result<BTreeMap<UpdateId, &'a [u8]>, AllocError>
+    ensures { IfOk result (λ known. (id : Id) → option_copied (get id_cmp known id) ≡ note_of notes.now id) }
+{
+    let mut known = BTreeMap::new(alloc);
+    for position in (0..notes.len()).rev() {
+        let line = &notes[position];
+        known.insert(line.id, line.text.as_slice())?;
+    }
+    Ok(known)
+}
+
 /// Adds the entries of updates, the last one first.
 fn push_log(
     out: &mut Vec<u8>,
@@ -83,7 +115,7 @@ fn push_log(
     marks: &Marks,
     placed: &[Placed],
 ) -> Result<(), AllocError>
-    ensures { OnOk result (out.new.items ≡ out.old.items ++ log_by rows schema.now.tables (λ id. is_some (get id_cmp marks.now.heads id)) (get id_cmp marks.now.reasons) placed.now) }
+    ensures { OnOk result (out.new.items ≡ out.old.items ++ log_by rows schema.now.tables (λ id. is_some (get id_cmp marks.now.heads id)) (get id_cmp marks.now.reasons) (λ id. option_copied (get id_cmp marks.now.notes id)) placed.now) }
 {
     for position in (0..placed.len()).rev() {
         push_entry(out, rows, schema, marks, &placed[position])?;
@@ -100,28 +132,44 @@ fn push_entry(
     placed: &Placed,
 ) -> Result<(), AllocError>
     ensures { OnOk result (out.new.items ≡ out.old.items
-        ++ log_entry rows schema.now.tables (is_some (get id_cmp marks.now.heads placed.now.node.id)) (get id_cmp marks.now.reasons placed.now.node.id) placed.now) }
+        ++ log_entry rows schema.now.tables (is_some (get id_cmp marks.now.heads placed.now.node.id)) (get id_cmp marks.now.reasons placed.now.node.id)
+        (option_copied (get id_cmp marks.now.notes placed.now.node.id)) placed.now) }
 {
     let id = &placed.node.id;
-    let head = marks.heads.contains_key(id);
-    let reason = marks.reasons.get(id).copied();
-    push_told(out, rows, schema, head, reason, placed)
+    let mark = Mark {
+        head: marks.heads.contains_key(id),
+        reason: marks.reasons.get(id).copied(),
+        note: marks.notes.get(id).copied(),
+    };
+    push_marked(out, rows, schema, &mark, placed)
 }
 
-/// Adds the entry of an update of which it is known whether it is a head and why it does nothing.
+/// Adds the entry of an update of which this is told.
 #[tactic(auto, unfolding(crate::specs::Logs::log_entry))]
-fn push_told(
+fn push_marked(
     out: &mut Vec<u8>,
     rows: bool,
     schema: &Schema,
-    head: bool,
-    reason: Option<u8>,
+    mark: &Mark,
     placed: &Placed,
 ) -> Result<(), AllocError>
-    ensures { OnOk result (out.new.items ≡ out.old.items ++ log_entry rows schema.now.tables head reason placed.now) }
+    ensures { OnOk result (out.new.items ≡ out.old.items ++ log_entry rows schema.now.tables mark.now.head mark.now.reason (option_copied mark.now.note) placed.now) }
 {
-    push_line(out, head, reason, placed)?;
+    push_line(out, mark.head, mark.reason, placed)?;
+    push_note_row(out, mark.note)?;
     push_asked_rows(out, rows, schema, placed.node.ops.as_slice())
+}
+
+/// Adds the line of a note, if there is one.
+fn push_note_row(out: &mut Vec<u8>, note: Option<&[u8]>) -> Result<(), AllocError>
+    ensures { OnOk result (out.new.items ≡ out.old.items ++ note_row (option_copied note.entry)) }
+{
+    let Some(text) = note else {
+        return Ok(());
+    };
+    out.extend_from_slice(b"  note ")?;
+    push_quoted(out, text)?;
+    out.extend_from_slice(b"\n")
 }
 
 /// Adds the line of each operation, if they are asked for.

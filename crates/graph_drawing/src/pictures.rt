@@ -12,26 +12,24 @@ use crate::limits::MAX_DRAWN;
 use crate::placed::Placed;
 use crate::sorting::place_in_order;
 use crate::svg::push_svg;
+use crate::told::Told;
 use hash_graph::Graph;
 use schema::Schema;
 use std::alloc::{AllocError, Global};
-use table_model::VoidLine;
 use update_check::Checked;
-use update_model::UpdateId;
 
-/// Draws a graph with these heads and these updates that do nothing.
+/// Draws a graph, with what is told of its updates.
 pub fn draw(
     alloc: Global,
     form: Form,
     schema: &Schema,
     graph: &Graph<Checked>,
-    heads: &[UpdateId],
-    voids: &[VoidLine],
+    told: &Told,
 ) -> Result<Vec<u8>, AllocError>
-    ensures { IfOk result (λ text. IsPicture form schema.now.tables (nodes_of graph.now) heads.now voids.now text.items) }
+    ensures { IfOk result (λ text. IsPicture form schema.now.tables (nodes_of graph.now) told.now text.items) }
 {
     let placed = place_in_order(alloc, graph)?;
-    let text = text_in_order(alloc, form, schema, placed.as_slice(), heads, voids)?;
+    let text = text_in_order(alloc, form, schema, placed.as_slice(), told)?;
     Ok(text)
 }
 
@@ -48,13 +46,12 @@ fn text_in_order(
     form: Form,
     schema: &Schema,
     placed: &[Placed],
-    heads: &[UpdateId],
-    voids: &[VoidLine],
+    told: &Told,
 ) -> Result<Vec<u8>, AllocError>
-    ensures { IfOk result (λ text. text.items ≡ text_in_order form schema.now.tables heads.now voids.now placed.now) }
+    ensures { IfOk result (λ text. text.items ≡ text_in_order form schema.now.tables told.now placed.now) }
 {
     let omitted = placed.len().saturating_sub(MAX_DRAWN);
-    let picture = arrange(alloc, &placed[omitted..], heads, voids)?;
+    let picture = arrange(alloc, &placed[omitted..], told)?;
     let mut text = Vec::new(alloc);
     match form {
         Form::Svg => push_svg(alloc, &mut text, schema, omitted, &picture)?,

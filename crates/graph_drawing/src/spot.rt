@@ -1,7 +1,8 @@
+use text_words::ByteString;
 use update_model::Node;
 
 /// The box of an update.
-#[derive(Debug, Drop)]
+#[derive(Drop)]
 pub struct Spot {
     /// How deep the update lies, which is its row.
     pub depth: u32,
@@ -13,6 +14,8 @@ pub struct Spot {
     pub head: bool,
     /// Why it does nothing, if so.
     pub reason: Option<u8>,
+    /// Its note, if it has one.
+    pub note: Option<ByteString>,
     /// The update.
     pub node: Node,
 }
