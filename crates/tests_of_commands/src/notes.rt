@@ -98,9 +98,9 @@ fn stream_of_lists(alloc: Global, count: usize) -> Result<Vec<u8>, AllocError> {
 #[test]
 fn more_operations(rt: HostRuntime) -> Result<(), Fail> {
     let few = stream_of_lists(rt.alloc(), 64)?;
-    assert_eq!(rt; few.get(..5), Some(b"\0\0\x0a\x2d\x01".as_slice()));
+    assert!(rt; few.starts_with(b"\0\0\x0a\x2d\x01"));
     let many = stream_of_lists(rt.alloc(), 65)?;
-    assert_eq!(rt; many.get(..5), Some(b"\0\0\x0a\x42\x02".as_slice()));
+    assert!(rt; many.starts_with(b"\0\0\x0a\x42\x02"));
     assert_eq!(rt; many.len(), 2_630);
     Ok(())
 }
