@@ -109,8 +109,8 @@ class Replica(Store):
     def add(self, spellings):
         before = dict(self.updates)
         added, waiting = super().add(spellings)
-        # where nothing is added, the disk is synced all the same
-        if not (self.log.writes(tuple(self.updates.values())) if added else self.log.passes()):
+        # (where nothing is added, nothing is written, by a call, and the disk is synced)
+        if not self.log.writes(tuple(self.updates.values())):
             self.updates = before
             raise Ended("store")
         return added, waiting
