@@ -7,8 +7,6 @@ mod chains;
 #[cfg(test)]
 mod kept;
 #[cfg(test)]
-mod least;
-#[cfg(test)]
 mod orders;
 #[cfg(test)]
 mod signed;
