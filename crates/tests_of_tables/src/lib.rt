@@ -7,6 +7,8 @@ mod chains;
 #[cfg(test)]
 mod kept;
 #[cfg(test)]
+mod least;
+#[cfg(test)]
 mod orders;
 #[cfg(test)]
 mod signed;
