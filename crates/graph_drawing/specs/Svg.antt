@@ -70,7 +70,7 @@ place least spot = point (codes "<g transform='translate(") (across spot.column)
 
 -- what stands before the lines of a box, and behind them
 unfoldable pub box_begin : List ℕ
-box_begin = codes "'><rect width='296' height='116' rx='8'/><text x='12' y='6'>"
+box_begin = codes "'><rect width='296' height='124' rx='8'/><text x='12' y='6'>"
 
 unfoldable pub box_end : List ℕ
 box_end = codes "</text></g>\n"

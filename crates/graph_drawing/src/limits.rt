@@ -25,7 +25,7 @@ pub(crate) const DOWN: u64 = 170;
 pub(crate) const HALF_WIDTH: u64 = 148;
 
 /// How high a box is.
-pub(crate) const BOX_HEIGHT: u64 = 116;
+pub(crate) const BOX_HEIGHT: u64 = 124;
 
 /// How far a line goes straight at its ends.
 pub(crate) const CURVE: u64 = 27;

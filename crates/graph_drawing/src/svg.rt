@@ -278,7 +278,7 @@ fn push_place(out: &mut Vec<u8>, least: u32, spot: &Spot) -> Result<(), AllocErr
 fn box_begin() -> &'static [u8]
     ensures { result.now ≡ box_begin }
 {
-    b"'><rect width='296' height='116' rx='8'/><text x='12' y='6'>"
+    b"'><rect width='296' height='124' rx='8'/><text x='12' y='6'>"
 }
 
 /// What stands behind the lines of a box.
