@@ -233,3 +233,25 @@ pub fn command_merge<V: Verifier, H: Shelf, R: Rng, S: Source, K: Sink>(
 {
     run_alone(verifier, alloc, words, shelf, random, input, out)
 }
+
+/// The command `notes DIR`: prints the notes of the directory's store that are not empty, each with the id of its update, in rising order of ids; or the
+/// line for what is refused. The first word has to be `notes`.
+///
+/// Its clause is that of [`run_alone`] for these words.
+pub fn command_notes<V: Verifier, H: Shelf, R: Rng, S: Source, K: Sink>(
+    verifier: &V,
+    alloc: Global,
+    words: &[String],
+    shelf: &mut H,
+    random: &mut R,
+    input: &mut S,
+    out: &mut K,
+) -> u8
+    requires first { HasFirstWord (codes "notes") words.now }
+    requires home { IsTrue (H.state shelf.old).tells → IsHome (H.state shelf.old) }
+    ensures { Runs words.now
+        (outside S.left S.faults H.state H.faults R.stream input.old shelf.old random.old) (outside S.left S.faults H.state H.faults R.stream input.new shelf.new random.new)
+        (record { held = K.held out.old; faults = K.faults out.old }) (record { held = K.held out.new; faults = K.faults out.new }) result }
+{
+    run_alone(verifier, alloc, words, shelf, random, input, out)
+}

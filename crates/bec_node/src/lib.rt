@@ -23,7 +23,7 @@ mod seals;
 pub use alone::run_alone;
 pub use commands::{
     command_apply, command_check, command_dump, command_export, command_heads, command_init,
-    command_join, command_keygen, command_merge, command_query,
+    command_join, command_keygen, command_merge, command_notes, command_query,
 };
 pub use outcomes::{Refusal, Reply, status};
 pub use program::run;
