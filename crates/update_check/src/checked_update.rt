@@ -18,7 +18,7 @@ pub struct Checked {
     spelled: Spelled,
 
     // how many of its predecessors were found held when it last had to wait: a hint, which no contract sees
-    found: u32,
+    found: usize,
 }
 
 impl Model for Checked {
@@ -122,10 +122,10 @@ impl Member for Checked {
 
 impl Candidate for Checked {
     fn found(&self) -> usize {
-        self.found as usize
+        self.found
     }
 
     fn note(&mut self, found: usize) {
-        self.found = found as u32;
+        self.found = found;
     }
 }
