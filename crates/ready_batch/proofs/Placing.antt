@@ -11,13 +11,12 @@ use Rattle.std.proofs.lemmas.List.Elements.{Contains-get_or, Contains-append_lef
 use Rattle.update_model.specs.declared.update_id.UpdateId.{UpdateId}
 use Rattle.update_model.specs.Entry.{Entry, same_id}
 use Rattle.update_model.specs.Graph.{holds}
-use Rattle.ready_batch.specs.declared.attempt.Attempt.{Attempt}
 use Rattle.ready_batch.specs.Steps.{left_at, AreSlots, AllPlaced, IsStuck, IsParked}
 use Rattle.ready_batch.proofs.Elements.{first_or_later}
 use Rattle.ready_batch.proofs.Holding.{holds_more, holds_last, not_held_push}
 
 -- Every other place is as it was, or is stuck now or to be tried next; and this one is gone or stuck.
-pub still_placed : {M : Type 0} (entry : M → Entry) (graph graph' : List Entry) (batch : List M) (slots slots' : List (Option M)) (parked parked' : BTreeMap UpdateId (Vec Attempt Global)) (place : ℕ) (others next next' : List ℕ)
+pub still_placed : {M : Type 0} (entry : M → Entry) (graph graph' : List Entry) (batch : List M) (slots slots' : List (Option M)) (parked parked' : BTreeMap UpdateId (Vec ℕ Global)) (place : ℕ) (others next next' : List ℕ)
     → AllPlaced entry graph batch slots parked ((place ∷ others) ++ next)
     → ((i : ℕ) → (i ≡ place → ⊥) → left_at slots' i ≡ left_at slots i)
     → ((i : ℕ) (e : Entry) → IsStuck graph parked i e → Contains next' i ⊎ IsStuck graph' parked' i e)
@@ -56,7 +55,7 @@ still_placed entry graph graph' batch slots slots' parked parked' place others n
     ]
 
 -- nothing is at a place beyond the slots, or where nothing was left
-pub passed_over : {M : Type 0} (entry : M → Entry) (graph : List Entry) (batch : List M) (slots slots' : List (Option M)) (parked : BTreeMap UpdateId (Vec Attempt Global)) (place : ℕ) (others next : List ℕ)
+pub passed_over : {M : Type 0} (entry : M → Entry) (graph : List Entry) (batch : List M) (slots slots' : List (Option M)) (parked : BTreeMap UpdateId (Vec ℕ Global)) (place : ℕ) (others next : List ℕ)
     → ((i : ℕ) → (i ≡ place → ⊥) → left_at slots' i ≡ left_at slots i) → left_at slots' place ≡ None
     → AllPlaced entry graph batch slots parked ((place ∷ others) ++ next) → AllPlaced entry graph batch slots' parked (others ++ next)
 passed_over entry graph batch slots slots' parked place others next same gone placed =
@@ -107,7 +106,7 @@ slots_gone {M} entry graph graph' batch slots slots' place m are is long same go
         ap (λ (y : M). holds graph' (entry y).id) one ∙ held
 
 -- a member that is put back, and noted under a predecessor
-pub placed_parked : {M : Type 0} (entry : M → Entry) (graph : List Entry) (batch : List M) (slots slots' : List (Option M)) (parked parked' : BTreeMap UpdateId (Vec Attempt Global)) (place : ℕ) (others next : List ℕ) (member : M) (id : UpdateId)
+pub placed_parked : {M : Type 0} (entry : M → Entry) (graph : List Entry) (batch : List M) (slots slots' : List (Option M)) (parked parked' : BTreeMap UpdateId (Vec ℕ Global)) (place : ℕ) (others next : List ℕ) (member : M) (id : UpdateId)
     → AreSlots entry graph batch slots → left_at slots place ≡ Some member → ((i : ℕ) → left_at slots' i ≡ left_at slots i)
     → AllPlaced entry graph batch slots parked ((place ∷ others) ++ next) → Contains (entry member).preds id → holds graph id ≡ false
     → IsParked parked' id place → ((q : UpdateId) (i : ℕ) → IsParked parked q i → IsParked parked' q i) → AllPlaced entry graph batch slots' parked' (others ++ next)
@@ -123,7 +122,7 @@ placed_parked {M} entry graph batch slots slots' parked parked' place others nex
         inr (record { id = id; named = subst (λ (x : M). Contains (entry x).preds id) (sym is) named; lacks = lacks; parked_there = noted })
 
 -- a member that is added, after which those that waited for it are to be tried
-pub placed_added : {M : Type 0} (entry : M → Entry) (graph graph' : List Entry) (batch : List M) (slots slots' : List (Option M)) (parked parked' : BTreeMap UpdateId (Vec Attempt Global)) (place : ℕ) (others next next' places : List ℕ) (member : M) (id : UpdateId)
+pub placed_added : {M : Type 0} (entry : M → Entry) (graph graph' : List Entry) (batch : List M) (slots slots' : List (Option M)) (parked parked' : BTreeMap UpdateId (Vec ℕ Global)) (place : ℕ) (others next next' places : List ℕ) (member : M) (id : UpdateId)
     → ((i : ℕ) → (i ≡ place → ⊥) → left_at slots' i ≡ left_at slots i) → left_at slots' place ≡ None
     → AllPlaced entry graph batch slots parked ((place ∷ others) ++ next) → graph' ≡ graph ++ entry member ∷ [] → id ≡ (entry member).id → next' ≡ next ++ places
     → ((q : UpdateId) (i : ℕ) → IsParked parked q i → ((q ≡ id) × Contains places i) ⊎ ((same_id q id ≡ false) × IsParked parked' q i)) → AllPlaced entry graph' batch slots' parked' (others ++ next')

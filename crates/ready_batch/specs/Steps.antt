@@ -6,7 +6,6 @@ use Rattle.std.specs.declared.alloc.Global.{Global}
 use Rattle.update_model.specs.declared.update_id.UpdateId.{UpdateId}
 use Rattle.update_model.specs.Entry.{Entry, id_cmp}
 use Rattle.update_model.specs.Graph.{holds, is_within, IsClosed, IsNext}
-use Rattle.ready_batch.specs.declared.attempt.Attempt.{Attempt}
 use Rattle.ready_batch.specs.declared.tried.Tried.{Tried}
 use Rattle.ready_batch.specs.declared.tried.Tried.TheVariants.{Added, Known, Lacks}
 
@@ -14,34 +13,30 @@ use Rattle.ready_batch.specs.declared.tried.Tried.TheVariants.{Added, Known, Lac
 abbrev pub left_at : {M : Type 0} → List (Option M) → ℕ → Option M
 left_at slots place = get_or slots place None
 
--- the places that are to be looked at
-abbrev pub places_of : List Attempt → List ℕ
-places_of attempts = map (λ (a : Attempt). a.place) attempts
-
 -- Each member is at its place, or is gone since its id is held.
 pub record AreSlots {M : Type 0} (entry : M → Entry) (graph : List Entry) (batch : List M) (slots : List (Option M)) : Type 0 where
   pub long : length slots ≡ length batch
   pub each : (i : ℕ) (m : M) → slice_get batch i ≡ Some m → (left_at slots i ≡ Some m) ⊎ ((left_at slots i ≡ None) × (holds graph (entry m).id ≡ true))
 
 -- the place is noted under this id
-abbrev pub IsParked : BTreeMap UpdateId (Vec Attempt Global) → UpdateId → ℕ → Type 0
-IsParked parked id place = (v : Vec Attempt Global) × (get id_cmp parked id ≡ Some v) × Contains (places_of v.items) place
+abbrev pub IsParked : BTreeMap UpdateId (Vec ℕ Global) → UpdateId → ℕ → Type 0
+IsParked parked id place = (v : Vec ℕ Global) × (get id_cmp parked id ≡ Some v) × Contains v.items place
 
 -- The member at this place waits for a predecessor that is not held, and is noted under its id.
-pub record IsStuck (graph : List Entry) (parked : BTreeMap UpdateId (Vec Attempt Global)) (place : ℕ) (e : Entry) : Type 0 where
+pub record IsStuck (graph : List Entry) (parked : BTreeMap UpdateId (Vec ℕ Global)) (place : ℕ) (e : Entry) : Type 0 where
   pub id : UpdateId
   pub named : Contains e.preds id
   pub lacks : holds graph id ≡ false
   pub parked_there : IsParked parked id place
 
 -- Each member is gone, or is to be tried, or waits for a predecessor.
-abbrev pub AllPlaced : {M : Type 0} → (M → Entry) → List Entry → List M → List (Option M) → BTreeMap UpdateId (Vec Attempt Global) → List ℕ → Type 0
+abbrev pub AllPlaced : {M : Type 0} → (M → Entry) → List Entry → List M → List (Option M) → BTreeMap UpdateId (Vec ℕ Global) → List ℕ → Type 0
 AllPlaced {M} entry graph batch slots parked to_try =
     (i : ℕ) (m : M) → slice_get batch i ≡ Some m → (left_at slots i ≡ None) ⊎ (Contains to_try i ⊎ IsStuck graph parked i (entry m))
 
 -- Each member that is not gone waits for a predecessor that is not held.
 abbrev pub AllStuck : {M : Type 0} → (M → Entry) → List Entry → List M → List (Option M) → Type 0
-AllStuck entry graph batch slots = (parked : BTreeMap UpdateId (Vec Attempt Global)) × AllPlaced entry graph batch slots parked []
+AllStuck entry graph batch slots = (parked : BTreeMap UpdateId (Vec ℕ Global)) × AllPlaced entry graph batch slots parked []
 
 -- Each place of the batch is among these.
 abbrev pub IsAllOf : {M : Type 0} → List ℕ → List M → Type 0

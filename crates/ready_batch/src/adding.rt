@@ -1,12 +1,11 @@
 ghost use Rattle.std.specs.Prelude.{◌≡◌, ◌≢◌, ◌⊎◌, ◌<◌, ◌≤◌, ◌++◌, ◌∷◌, [], ℕ, List, Some, None, IfOk, OnOk, Contains, length, map, set};
 ghost use Rattle.update_model.specs.Batch.{IsTooMuch, store_limits};
 ghost use Rattle.ready_batch.specs.Ready.{AddsReady, IsBehind};
-ghost use Rattle.ready_batch.specs.Steps.{AreSlots, AllPlaced, AllStuck, IsAllOf, IsOverSome, KeepsSlots, AddsFrom, kept_of, left_at, places_of};
+ghost use Rattle.ready_batch.specs.Steps.{AreSlots, AllPlaced, AllStuck, IsAllOf, IsOverSome, KeepsSlots, AddsFrom, kept_of, left_at};
 
-use crate::AddFault;
-use crate::attempt::Attempt;
 use crate::parked::{park, release};
 use crate::tried::{Tried, try_member};
+use crate::{AddFault, Candidate};
 use hash_graph::Graph;
 use std::alloc::{AllocError, Global};
 use std::collections::BTreeMap;
@@ -17,7 +16,7 @@ use update_model::{MAX_MEMBERS, Member, UpdateId};
 ///
 /// [`AddFault::Full`] comes only where all of the batch that can be added would pass a limit of the graph, and
 /// [`AddFault::Memory`] wherever memory runs out. After either, some of the batch may stand behind what was held.
-pub fn add_ready<M: Member + Drop>(
+pub fn add_ready<M: Candidate + Drop>(
     alloc: Global,
     graph: &mut Graph<M>,
     batch: Vec<M>,
@@ -28,22 +27,22 @@ pub fn add_ready<M: Member + Drop>(
     // Whatever it answers, what was held stands in front, so that it can be cut back.
     ensures behind { IsBehind graph.old graph.new }
 {
-    let wave = all_attempts(alloc, batch.len())?;
+    let wave = all_places(alloc, batch.len())?;
     let mut slots = slots_of(alloc, batch)?;
     add_waves(alloc, graph, &mut slots, wave)?;
     graph.len(); // what was added is within the limits
     Ok(left_over(alloc, graph, slots)?)
 }
 
-/// An attempt for each place below this one.
-fn all_attempts(alloc: Global, count: usize) -> Result<Vec<Attempt>, AllocError>
-    ensures { IfOk result (λ attempts. (i : ℕ) → i < count → Contains (places_of attempts.items) i) }
+/// Each place below this one.
+fn all_places(alloc: Global, count: usize) -> Result<Vec<usize>, AllocError>
+    ensures { IfOk result (λ places. (i : ℕ) → i < count → Contains places.items i) }
 {
-    let mut attempts = Vec::new(alloc);
+    let mut places = Vec::new(alloc);
     for place in 0..count {
-        attempts.push(Attempt { place, found: 0 })?;
+        places.push(place)?;
     }
-    Ok(attempts)
+    Ok(places)
 }
 
 /// A place for each member.
@@ -77,15 +76,15 @@ fn left_over<M: Member + Drop>(
 }
 
 /// Tries these members, and then, wave by wave, those that waited for what was added.
-fn add_waves<M: Member + Drop>(
+fn add_waves<M: Candidate + Drop>(
     alloc: Global,
     graph: &mut Graph<M>,
     slots: &mut Vec<Option<M>>,
-    first: Vec<Attempt>,
+    first: Vec<usize>,
 ) -> Result<(), AddFault>
     ensures slots { OnOk result (KeepsSlots M.entry graph.old slots.old.items graph.new slots.new.items) }
     ensures from { AddsFrom M.entry graph.old slots.old.items graph.new }
-    ensures stuck { OnOk result ((batch : List M) → AreSlots M.entry (map M.entry graph.old) batch slots.old.items → IsAllOf (places_of first.items) batch
+    ensures stuck { OnOk result ((batch : List M) → AreSlots M.entry (map M.entry graph.old) batch slots.old.items → IsAllOf first.items batch
         → AllStuck M.entry (map M.entry graph.new) batch slots.new.items) }
     ensures full { result ≡ Err AddFault.Full → IsOverSome M.entry graph.old slots.old.items graph.new }
     ensures behind { IsBehind graph.old graph.new }
@@ -99,63 +98,68 @@ fn add_waves<M: Member + Drop>(
 }
 
 /// Tries these members, and answers those that waited for what was added.
-fn add_wave<M: Member + Drop>(
+fn add_wave<M: Candidate + Drop>(
     alloc: Global,
     graph: &mut Graph<M>,
     slots: &mut Vec<Option<M>>,
-    parked: &mut BTreeMap<UpdateId, Vec<Attempt>>,
-    wave: &[Attempt],
-) -> Result<Vec<Attempt>, AddFault>
+    parked: &mut BTreeMap<UpdateId, Vec<usize>>,
+    wave: &[usize],
+) -> Result<Vec<usize>, AddFault>
     ensures slots { OnOk result (KeepsSlots M.entry graph.old slots.old.items graph.new slots.new.items) }
     ensures from { AddsFrom M.entry graph.old slots.old.items graph.new }
     ensures placed { IfOk result (λ next. (batch : List M) → AreSlots M.entry (map M.entry graph.old) batch slots.old.items
-        → AllPlaced M.entry (map M.entry graph.old) batch slots.old.items parked.old (places_of wave.now)
-        → AllPlaced M.entry (map M.entry graph.new) batch slots.new.items parked.new (places_of next.items)) }
+        → AllPlaced M.entry (map M.entry graph.old) batch slots.old.items parked.old wave.now
+        → AllPlaced M.entry (map M.entry graph.new) batch slots.new.items parked.new next.items) }
     ensures further { IfOk result (λ next. (next.items ≡ []) ⊎ (length graph.old < length graph.new)) }
     ensures full { result ≡ Err AddFault.Full → IsOverSome M.entry graph.old slots.old.items graph.new }
     ensures behind { IsBehind graph.old graph.new }
     ensures few { OnOk result (length graph.new ≤ MAX_MEMBERS) }
 {
     let mut next = Vec::new(alloc);
-    'attempts: for attempt in wave {
-        try_place(alloc, graph, slots, parked, &mut next, *attempt)?;
+    'places: for place in wave {
+        try_place(alloc, graph, slots, parked, &mut next, *place)?;
     }
     graph.len(); // what was added is within the limits
     Ok(next)
 }
 
-/// Tries the member at a place: it is added, or passed over since its id is held, or noted under a predecessor that is
-/// not held. What was noted under what is added is to be tried next.
-fn try_place<M: Member + Drop>(
+/// Tries the member at a place: it is added, or passed over since its id is held, or its place is noted under a
+/// predecessor that is not held. What was noted under what is added is to be tried next.
+fn try_place<M: Candidate + Drop>(
     alloc: Global,
     graph: &mut Graph<M>,
     slots: &mut Vec<Option<M>>,
-    parked: &mut BTreeMap<UpdateId, Vec<Attempt>>,
-    next: &mut Vec<Attempt>,
-    attempt: Attempt,
+    parked: &mut BTreeMap<UpdateId, Vec<usize>>,
+    next: &mut Vec<usize>,
+    place: usize,
 ) -> Result<(), AddFault>
     ensures slots { OnOk result (KeepsSlots M.entry graph.old slots.old.items graph.new slots.new.items) }
     ensures from { AddsFrom M.entry graph.old slots.old.items graph.new }
     ensures placed { OnOk result ((batch : List M) (others : List ℕ) → AreSlots M.entry (map M.entry graph.old) batch slots.old.items
-        → AllPlaced M.entry (map M.entry graph.old) batch slots.old.items parked.old ((attempt.place ∷ others) ++ places_of next.old.items)
-        → AllPlaced M.entry (map M.entry graph.new) batch slots.new.items parked.new (others ++ places_of next.new.items)) }
+        → AllPlaced M.entry (map M.entry graph.old) batch slots.old.items parked.old ((place ∷ others) ++ next.old.items)
+        → AllPlaced M.entry (map M.entry graph.new) batch slots.new.items parked.new (others ++ next.new.items)) }
     ensures further { OnOk result ((next.new.items ≡ next.old.items) ⊎ (length graph.old < length graph.new)) }
     ensures full { result ≡ Err AddFault.Full → IsOverSome M.entry graph.old slots.old.items graph.new }
     ensures behind { IsBehind graph.old graph.new }
 {
-    let place = attempt.place;
     let Some(member) = take_left(slots, place) else {
         return Ok(());
     };
-    match try_member(graph, member, attempt.found)? {
+    let found = member.found();
+    match try_member(graph, member, found)? {
         Tried::Known => Ok(()),
         Tried::Added(id) => {
             let released = release(alloc, parked, &id);
             Ok(next.extend_from_slice(&released)?)
         }
-        Tried::Lacks { member, id, found } => {
+        Tried::Lacks {
+            mut member,
+            id,
+            found,
+        } => {
+            member.note(found);
             slots[place] = Some(member);
-            Ok(park(alloc, parked, id, Attempt { place, found })?)
+            Ok(park(alloc, parked, id, place)?)
         }
     }
 }

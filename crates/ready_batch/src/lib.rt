@@ -10,7 +10,8 @@
 //! ```
 //!
 //! A member that lacks a predecessor is noted under the first one that is not held, and is looked at again, from there on,
-//! once that one is added: so a batch takes about as many look-ups as its members have predecessors together.
+//! once that one is added: so a batch takes about as many look-ups as its members have predecessors together. The member
+//! itself remembers where that is ([`Candidate`]), so that one which waits costs a look-up in a later batch.
 //!
 //! The laws say that the order makes no difference to who is held: [`orders_hold_the_same`] of any two orders, and
 //! [`ready_is_added`] that whoever can be added is held.
@@ -21,11 +22,12 @@
 
 mod add_fault;
 mod adding;
-mod attempt;
+mod candidate;
 mod laws;
 mod parked;
 mod tried;
 
 pub use add_fault::AddFault;
 pub use adding::add_ready;
+pub use candidate::Candidate;
 pub use laws::{orders_hold_the_same, ready_is_added};

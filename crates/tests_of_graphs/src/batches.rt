@@ -2,7 +2,7 @@
 
 use crate::ids::id;
 use hash_graph::Graph;
-use ready_batch::{AddFault, add_ready};
+use ready_batch::{AddFault, Candidate, add_ready};
 use std::alloc::{AllocError, Global};
 use update_model::{Member, UpdateId};
 
@@ -30,6 +30,15 @@ impl Member for Plain {
     fn bytes(&self) -> &[u8] {
         &[]
     }
+}
+
+// it remembers nothing, so each look at it begins with its first predecessor
+impl Candidate for Plain {
+    fn found(&self) -> usize {
+        0
+    }
+
+    fn note(&mut self, _found: usize) {}
 }
 
 /// A member and its predecessor, by numbers; 0 is none.

@@ -3,6 +3,7 @@ ghost use Rattle.update_codec.specs.Parts.{body_of, database_of, entry_of, signa
 ghost use Rattle.update_check.specs.Signed.{IsSigned, IsUnder, SpellsSigned, node_of};
 
 use crate::checking::is_body_under;
+use ready_batch::Candidate;
 use std::alloc::{AllocError, Global};
 use std::marker::Model;
 use update_codec::Spelled;
@@ -15,6 +16,9 @@ use update_model::{Body, DbRule, Member, Node, UpdateId};
 #[derive(Debug, Drop)]
 pub struct Checked {
     spelled: Spelled,
+
+    // how many of its predecessors were found held when it last had to wait: a hint, which no contract sees
+    found: usize,
 }
 
 impl Model for Checked {
@@ -35,7 +39,7 @@ impl Checked {
         requires { SpellsSigned spelled (update_of spelled) }
         ensures { result ≡ spelled }
     {
-        Checked { spelled }
+        Checked { spelled, found: 0 }
     }
 
     /// What its author signed.
@@ -80,12 +84,13 @@ impl Checked {
         })
     }
 
-    /// An equal update on memory of its own.
+    /// An equal update on memory of its own, which has not been tried.
     pub fn copy(&self, alloc: Global) -> Result<Checked, AllocError>
         ensures { IfOk result (λ copy. copy ≡ self.now) }
     {
         Ok(Checked {
             spelled: self.spelled.copy(alloc)?,
+            found: 0,
         })
     }
 
@@ -94,7 +99,7 @@ impl Checked {
         ensures value { result.items ≡ self }
         ensures signed { IsSigned self }
     {
-        let Checked { spelled } = self;
+        let Checked { spelled, .. } = self;
         spelled.into_bytes()
     }
 }
@@ -112,5 +117,15 @@ impl Member for Checked {
 
     fn bytes(&self) -> &[u8] {
         self.spelled.bytes()
+    }
+}
+
+impl Candidate for Checked {
+    fn found(&self) -> usize {
+        self.found
+    }
+
+    fn note(&mut self, found: usize) {
+        self.found = found;
     }
 }
