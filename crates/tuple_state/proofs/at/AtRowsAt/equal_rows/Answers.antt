@@ -1,4 +1,4 @@
-use Rattle.std.proofs.Common.{sym, List, ℕ, ◌<◌, ◌≤◌, Bool, subst, ◌∙◌, ◌&&◌}
+use Rattle.std.proofs.Common.{sym, ℕ, ◌<◌, ◌≤◌, Bool, subst, ◌∙◌, ◌&&◌}
 use Rattle.row_check.specs.declared.cmp.Cmp.TheVariants.{Eq}
 use Rattle.row_check.specs.Comparisons.{compares}
 use Rattle.row_check.specs.Meaning.{value_at}

@@ -1,4 +1,4 @@
-use Rattle.std.proofs.Common.{List, ℕ, ◌<◌, ◌≤◌, Bool, sym, subst, ◌∙◌}
+use Rattle.std.proofs.Common.{ℕ, ◌<◌, ◌≤◌, Bool, sym, subst, ◌∙◌}
 use Rattle.tuple_state.proofs.Dropping.{row_there}
 use Rattle.tuple_state.proofs.Restricting.{child_is, holds_at, none_at_end, none_yet, some_here}
 use Rattle.tuple_state.specs.State.{rules_of_state}

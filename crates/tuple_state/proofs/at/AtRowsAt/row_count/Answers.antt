@@ -1,4 +1,4 @@
-use Rattle.std.proofs.Common.{sym, List, ℕ, ◌<◌, ◌≤◌, Bool, subst, ◌∙◌}
+use Rattle.std.proofs.Common.{sym, ℕ, ◌<◌, ◌≤◌, Bool, subst, ◌∙◌}
 use Rattle.table_model.specs.Verdicts.{in_table}
 use Rattle.tuple_state.proofs.Counting.{all_counted, no_more, one_more}
 use Rattle.tuple_state.proofs.Dropping.{row_there}
