@@ -78,11 +78,6 @@ pub fn judge_draft<L: Relation, C: Checks<L>>(
     let places = places_below(alloc, graph, len, draft.preds.as_slice())?;
     let preds = places.as_slice();
     let ancestors = DraftAncestors { ancestry, preds };
-    judge(
-        alloc,
-        schema,
-        native,
-        draft,
-        &views.tables.at(&ancestors, len),
-    )
+    let rows = views.tables.at(alloc, &ancestors, len)?;
+    judge(alloc, schema, native, draft, &rows)
 }

@@ -166,5 +166,6 @@ fn judge_next<L: Relation, C: Checks<L>>(
     verdict_is_on_ancestors();
     graph.len(); // it is closed
     ancestry.len(); // predecessors stand earlier
-    judge(alloc, schema, native, node, &tables.at(ancestry, position))
+    let rows = tables.at(alloc, ancestry, position)?;
+    judge(alloc, schema, native, node, &rows)
 }

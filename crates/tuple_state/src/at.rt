@@ -16,32 +16,63 @@ use std::alloc::{AllocError, Global};
 use std::collections::BTreeSet;
 use update_model::{Ancestors, RowEntry, RowName, RowsAt, Value};
 
-/// The rows that are visible after the ancestors of one update, which [`Tables::at`] lends.
+/// The rows that are visible after the ancestors of one update, which [`Tables::at`] lends. Where a table keeps the least
+/// row of each value, it is counted once which rows these are, and each question is answered of that.
 #[derive(Drop)]
 pub struct At<'a, A: Ancestors> {
     tables: &'a Tables,
     ancestors: &'a A,
     position: u32,
+    /// Of each row a number that is 0 where it is visible then, where a table keeps the least row of each value, and else
+    /// nothing.
+    known: Vec<u32>,
     ghost founded: { are_layered (rules_of_state tables.now) (done_in tables.now).inserted ≡ true },
     ghost referred: { are_referred (rules_of_state tables.now) (done_in tables.now).inserted ≡ true },
     ghost lasting: { Lasts (A.ancestor ancestors.now) tables.now position },
     ghost layered: { are_layered (rules_of_state tables.now) (done_then tables.now (λ p. A.ancestor ancestors.now p position)).inserted ≡ true },
     ghost grounded: { are_grounded (rules_of_state tables.now) (done_then tables.now (λ p. A.ancestor ancestors.now p position)).inserted ≡ true },
+    ghost counted: { AreKnownThen (A.ancestor ancestors.now) tables.now position known.items },
+}
+
+/// Of each row a number that is 0 where it is visible after the ancestors of the update at this position, where a table keeps
+/// the least row of each value, and else nothing.
+fn known_then<A: Ancestors>(
+    alloc: Global,
+    tables: &Tables,
+    ancestors: &A,
+    position: u32,
+) -> Result<Vec<u32>, AllocError>
+    requires past { StandsAt tables.now (λ p. A.ancestor ancestors.now p position) }
+    ensures { IfOk result (λ known. AreKnownThen (A.ancestor ancestors.now) tables.now position known.items) }
+{
+    if tables.keeps() {
+        tables.causes_then(alloc, ancestors, position)
+    } else {
+        Ok(Vec::new(alloc))
+    }
 }
 
 impl<'a, A: Ancestors> At<'a, A> {
-    /// The rows of these tables that are visible after the ancestors of the update at this position.
-    pub(crate) fn new(tables: &'a Tables, ancestors: &'a A, position: u32) -> At<'a, A>
+    /// The rows of these tables that are visible after the ancestors of the update at this position. Where a table keeps the
+    /// least row of each value it goes over all rows.
+    pub(crate) fn new(
+        alloc: Global,
+        tables: &'a Tables,
+        ancestors: &'a A,
+        position: u32,
+    ) -> Result<At<'a, A>, AllocError>
         requires past { StandsAt tables.now (λ p. A.ancestor ancestors.now p position) }
-        ensures tables { result.tables.now ≡ tables.now }
-        ensures ancestors { result.ancestors.now ≡ ancestors.now }
-        ensures position { result.position ≡ position }
+        ensures tables { IfOk result (λ at. at.tables.now ≡ tables.now) }
+        ensures ancestors { IfOk result (λ at. at.ancestors.now ≡ ancestors.now) }
+        ensures position { IfOk result (λ at. at.position ≡ position) }
     {
-        At {
+        let known = known_then(alloc, tables, ancestors, position)?;
+        Ok(At {
             tables,
             ancestors,
             position,
-        }
+            known,
+        })
     }
 
     /// Whether there is a row with this name, and a column that refers to its table by `RESTRICT`. Else no row names it so,
@@ -56,42 +87,28 @@ impl<'a, A: Ancestors> At<'a, A> {
     }
 
     /// Whether the row at a place is visible then and names this one by `RESTRICT`.
-    fn restricts(
-        &self,
-        alloc: Global,
-        known: &[u32],
-        place: usize,
-        name: &RowName,
-    ) -> Result<bool, AllocError>
-        requires known { AreKnownThen (A.ancestor self.now.ancestors.now) self.now.tables.now self.now.position known.now }
-        requires inside { place < length self.now.tables.now.inserted }
+    fn restricts(&self, alloc: Global, place: usize, name: &RowName) -> Result<bool, AllocError>
+        requires { place < length self.now.tables.now.inserted }
         ensures { IfOk result (λ answer. (it : Row) → slice_get self.now.tables.now.inserted place ≡ Some it
             → answer ≡ (visible_at (A.ancestor self.now.ancestors.now) self.now.tables.now self.now.position it.name
             && list_any (λ r. is_restrict r.action && same_row r.name name.now) (refs (rules_of_state self.now.tables.now) (row_of it)))) }
     {
         if self.tables.restricts(place, name) {
-            self.stands_by(alloc, known, place)
+            self.stands(alloc, place)
         } else {
             Ok(false)
         }
     }
 
     /// Whether the row at a place is visible then and of this table.
-    fn stands_in(
-        &self,
-        alloc: Global,
-        known: &[u32],
-        place: usize,
-        table: u8,
-    ) -> Result<bool, AllocError>
-        requires known { AreKnownThen (A.ancestor self.now.ancestors.now) self.now.tables.now self.now.position known.now }
-        requires inside { place < length self.now.tables.now.inserted }
+    fn stands_in(&self, alloc: Global, place: usize, table: u8) -> Result<bool, AllocError>
+        requires { place < length self.now.tables.now.inserted }
         ensures { IfOk result (λ answer. (it : Row) → slice_get self.now.tables.now.inserted place ≡ Some it
             → answer ≡ (visible_at (A.ancestor self.now.ancestors.now) self.now.tables.now self.now.position it.name
             && in_table table (row_of it))) }
     {
         if self.tables.is_in(place, table) {
-            self.stands_by(alloc, known, place)
+            self.stands(alloc, place)
         } else {
             Ok(false)
         }
@@ -101,34 +118,20 @@ impl<'a, A: Ancestors> At<'a, A> {
     fn equals_in(
         &self,
         alloc: Global,
-        known: &[u32],
         place: usize,
         table: u8,
         column: u8,
         value: &Value,
     ) -> Result<bool, AllocError>
-        requires known { AreKnownThen (A.ancestor self.now.ancestors.now) self.now.tables.now self.now.position known.now }
-        requires inside { place < length self.now.tables.now.inserted }
+        requires { place < length self.now.tables.now.inserted }
         ensures { IfOk result (λ answer. (it : Row) → slice_get self.now.tables.now.inserted place ≡ Some it
             → answer ≡ (visible_at (A.ancestor self.now.ancestors.now) self.now.tables.now self.now.position it.name
             && (in_table table (row_of it) && compares Eq (value_at it.entry.values column) value.now))) }
     {
         if self.tables.equals_at(place, table, column, value) {
-            self.stands_by(alloc, known, place)
+            self.stands(alloc, place)
         } else {
             Ok(false)
-        }
-    }
-
-    /// Of each row a number that is 0 where it is visible then, or nothing where no table keeps the least row of each value.
-    fn known(&self, alloc: Global) -> Result<Vec<u32>, AllocError>
-        ensures { IfOk result (λ known. AreKnownThen (A.ancestor self.now.ancestors.now) self.now.tables.now self.now.position known.items) }
-    {
-        if self.tables.keeps() {
-            self.tables
-                .causes_then(alloc, self.ancestors, self.position)
-        } else {
-            Ok(Vec::new(alloc))
         }
     }
 
@@ -138,19 +141,8 @@ impl<'a, A: Ancestors> At<'a, A> {
         ensures { IfOk result (λ answer. (it : Row) → slice_get self.now.tables.now.inserted place ≡ Some it
             → answer ≡ visible_at (A.ancestor self.now.ancestors.now) self.now.tables.now self.now.position it.name) }
     {
-        let known = self.known(alloc)?;
-        self.stands_by(alloc, known.as_slice(), place)
-    }
-
-    /// Whether the row at a place is visible then, where the numbers are known that tell it.
-    fn stands_by(&self, alloc: Global, known: &[u32], place: usize) -> Result<bool, AllocError>
-        requires known { AreKnownThen (A.ancestor self.now.ancestors.now) self.now.tables.now self.now.position known.now }
-        requires inside { place < length self.now.tables.now.inserted }
-        ensures { IfOk result (λ answer. (it : Row) → slice_get self.now.tables.now.inserted place ≡ Some it
-            → answer ≡ visible_at (A.ancestor self.now.ancestors.now) self.now.tables.now self.now.position it.name) }
-    {
         if self.tables.keeps() {
-            Ok(known[place] == 0)
+            Ok(self.known[place] == 0)
         } else {
             self.climbs(alloc, place)
         }
@@ -194,8 +186,8 @@ impl<'a, A: Ancestors> RowsAt for At<'a, A> {
     ghost count = { λ at. count_then at.tables.now (λ p. A.ancestor at.ancestors.now p at.position) };
 
     /// The row with this name, where it is visible then. It takes the time of a walk over the rows to which `CASCADE`
-    /// references lead from it, and over what deletes them. Where a table keeps the least row of each value it goes over all
-    /// rows.
+    /// references lead from it, and over what deletes them, or, where a table keeps the least row of each value, of a look
+    /// at what is counted already.
     fn row_at(&self, alloc: Global, name: &RowName) -> Result<Option<&RowEntry>, AllocError> {
         match self.tables.place(name) {
             Some(place) => {
@@ -215,9 +207,8 @@ impl<'a, A: Ancestors> RowsAt for At<'a, A> {
         if !self.may_be_held(name) {
             return Ok(false);
         }
-        let known = self.known(alloc)?;
         for place in 0..self.tables.row_len() {
-            if self.restricts(alloc, known.as_slice(), place, name)? {
+            if self.restricts(alloc, place, name)? {
                 return Ok(true);
             }
         }
@@ -233,10 +224,9 @@ impl<'a, A: Ancestors> RowsAt for At<'a, A> {
         column: u8,
         value: &Value,
     ) -> Result<u32, AllocError> {
-        let known = self.known(alloc)?;
         let mut count = 0;
         for place in 0..self.tables.row_len() {
-            if self.equals_in(alloc, known.as_slice(), place, table, column, value)? {
+            if self.equals_in(alloc, place, table, column, value)? {
                 count += 1;
             }
         }
@@ -246,10 +236,9 @@ impl<'a, A: Ancestors> RowsAt for At<'a, A> {
     /// How many rows of the table are visible then. It goes over all rows, since no schema that is accepted has an
     /// `ATMOST`.
     fn row_count(&self, alloc: Global, table: u8) -> Result<u32, AllocError> {
-        let known = self.known(alloc)?;
         let mut count = 0;
         for place in 0..self.tables.row_len() {
-            if self.stands_in(alloc, known.as_slice(), place, table)? {
+            if self.stands_in(alloc, place, table)? {
                 count += 1;
             }
         }

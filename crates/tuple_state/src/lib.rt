@@ -7,8 +7,8 @@
 //!
 //! Where no table keeps the least row of each value (`UNIQUE` with `KEEP LEAST`), what is visible now was visible before, so of
 //! a row that nobody hides no history is walked, and an update costs the rows that vanish for it. Where one does, a row can come
-//! back, and which rows are visible is counted anew for each update, and for each question of what was visible before: table
-//! by table, over all rows.
+//! back, and which rows are visible is counted anew for each update, and once for all questions of what was visible after the
+//! ancestors of one: table by table, over all rows.
 //!
 //! It judges nothing itself: whoever applies an update says its verdict, and a contract asks that it is the right one.
 #![tactic(auto)]

@@ -535,15 +535,21 @@ impl Tables {
         })
     }
 
-    /// The rows that are visible after the ancestors of the update at this position, where the first positions are those
-    /// of the updates that were applied.
-    pub fn at<'a, A: Ancestors>(&'a self, ancestors: &'a A, position: u32) -> At<'a, A>
+    /// The rows that are visible after the ancestors of the update at this position, where the first positions are those of
+    /// the updates that were applied. Where a table keeps the least row of each value it goes over all rows, and takes memory
+    /// for them, once for all that is asked of what it gives. Else it takes none.
+    pub fn at<'a, A: Ancestors>(
+        &'a self,
+        alloc: Global,
+        ancestors: &'a A,
+        position: u32,
+    ) -> Result<At<'a, A>, AllocError>
         requires past { StandsAt self.now (λ p. A.ancestor ancestors.now p position) }
-        ensures answers { (rules : Rules) (nodes : List NodeData) (node : NodeData) → IsStateOf rules nodes self.now → IsPastOf rules nodes node (λ p. A.ancestor ancestors.now p position)
-            → AreAnswers rules (effects_before rules nodes node) (⟦<At<'a, A> as RowsAt>⟧.row result) (⟦<At<'a, A> as RowsAt>⟧.has_child result)
-            (⟦<At<'a, A> as RowsAt>⟧.equal_count result) (⟦<At<'a, A> as RowsAt>⟧.count result) }
+        ensures answers { IfOk result (λ at. (rules : Rules) (nodes : List NodeData) (node : NodeData) → IsStateOf rules nodes self.now → IsPastOf rules nodes node (λ p. A.ancestor ancestors.now p position)
+            → AreAnswers rules (effects_before rules nodes node) (⟦<At<'a, A> as RowsAt>⟧.row at) (⟦<At<'a, A> as RowsAt>⟧.has_child at)
+            (⟦<At<'a, A> as RowsAt>⟧.equal_count at) (⟦<At<'a, A> as RowsAt>⟧.count at)) }
     {
-        At::new(self, ancestors, position)
+        At::new(alloc, self, ancestors, position)
     }
 }
 

@@ -9,5 +9,5 @@ use Rattle.tuple_state.proofs.at.At.equals_in.Goals as goal
 pub returns-then-equals_at : goal.returns-then-equals_at
 returns-then-equals_at g c =
     let past : ℕ → Bool = λ p. g.A.Ancestors.ancestor c.args.self.now.ancestors.now p c.args.self.now.position in
-    tested c.args.self.now.tables.now past (λ row. in_table c.args.table row && compares Eq (value_at row.values c.args.column) c.args.value.now) c.args.place c.stands_by.result
-    c.equals_at.result c.if-equals_at.true c.equals_at.ensures c.stands_by.ensures
+    tested c.args.self.now.tables.now past (λ row. in_table c.args.table row && compares Eq (value_at row.values c.args.column) c.args.value.now) c.args.place c.stands.result
+    c.equals_at.result c.if-equals_at.true c.equals_at.ensures c.stands.ensures

@@ -14,4 +14,5 @@ invariant_of-result g c =
       lasting = lasts_then it.rules it.nodes it.node c.args.tables.now _ it.is it.past_of;
       layered = layered_then it.rules it.nodes it.node c.args.tables.now _ it.is it.past_of;
       grounded = grounded_is (rules_of_state c.args.tables.now) _ ∙ resting_then it.rules it.nodes it.node c.args.tables.now _ it.is it.past_of;
+      counted = c.in_ok-known.ensures;
     }

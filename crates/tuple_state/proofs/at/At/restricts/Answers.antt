@@ -17,6 +17,6 @@ returns-then-restricts g c =
     if_ok (λ (b : Bool). (it : Inserted) → slice_get s.inserted c.args.place ≡ Some it → b ≡ is_visible (rules_of_state s) (done_then s past) it.name)
     (λ (b : Bool). (it : Inserted) → slice_get s.inserted c.args.place ≡ Some it
     → b ≡ (is_visible (rules_of_state s) (done_then s past) it.name && list_any (λ r. is_restrict r.action && same_row r.name c.args.name.now) (refs (rules_of_state s) (row_of it))))
-    c.stands_by.result
+    c.stands.result
     (λ b f it at. f it at ∙ sym (ap (λ x. is_visible (rules_of_state s) (done_then s past) it.name && x) (sym (c.restricts.ensures it at) ∙ c.if-restricts.true) ∙ and_true _))
-    c.stands_by.ensures
+    c.stands.ensures

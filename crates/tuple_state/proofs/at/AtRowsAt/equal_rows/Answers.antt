@@ -1,4 +1,4 @@
-use Rattle.std.proofs.Common.{sym, List, ℕ, ◌<◌, ◌≤◌, Bool, subst, ◌∙◌, ◌&&◌}
+use Rattle.std.proofs.Common.{sym, ℕ, ◌<◌, ◌≤◌, Bool, subst, ◌∙◌, ◌&&◌}
 use Rattle.row_check.specs.declared.cmp.Cmp.TheVariants.{Eq}
 use Rattle.row_check.specs.Comparisons.{compares}
 use Rattle.row_check.specs.Meaning.{value_at}
@@ -7,13 +7,8 @@ use Rattle.tuple_state.proofs.Counting.{all_counted, no_more, one_more}
 use Rattle.tuple_state.proofs.Dropping.{row_there}
 use Rattle.tuple_state.specs.State.{rules_of_state}
 use Rattle.tuple_state.proofs.Layers.{grounded_is}
-use Rattle.tuple_state.specs.Past.{AreKnownThen}
 use Rattle.tuple_state.proofs.at.AtRowsAt.equal_rows.Goals as goal
 use Rattle.tuple_state.proofs.at.AtRowsAt.equal_rows.Goals.{then-branch, else-branch}
-
-pub equals_in-requires-clause-known : goal.equals_in-requires-clause-known
-equals_in-requires-clause-known g c =
-    subst (λ (l : List ℕ). AreKnownThen (g.A.Ancestors.ancestor c.args.self.now.ancestors.now) c.args.self.now.tables.now c.args.self.now.position l) (sym c.as_slice.ensures.value) c.in_ok-known.ensures
 
 pub loop-place-preserved : goal.loop-place-preserved
 loop-place-preserved g c =

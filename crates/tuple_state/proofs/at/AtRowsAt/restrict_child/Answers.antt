@@ -1,14 +1,9 @@
-use Rattle.std.proofs.Common.{List, ℕ, ◌<◌, ◌≤◌, Bool, sym, subst, ◌∙◌}
+use Rattle.std.proofs.Common.{ℕ, ◌<◌, ◌≤◌, Bool, sym, subst, ◌∙◌}
 use Rattle.tuple_state.proofs.Dropping.{row_there}
 use Rattle.tuple_state.proofs.Restricting.{child_is, holds_at, none_at_end, none_yet, some_here}
 use Rattle.tuple_state.specs.State.{rules_of_state}
 use Rattle.tuple_state.proofs.Layers.{grounded_is}
-use Rattle.tuple_state.specs.Past.{AreKnownThen}
 use Rattle.tuple_state.proofs.at.AtRowsAt.restrict_child.Goals as goal
-
-pub restricts-requires-clause-known : goal.restricts-requires-clause-known
-restricts-requires-clause-known g c =
-    subst (λ (l : List ℕ). AreKnownThen (g.A.Ancestors.ancestor c.args.self.now.ancestors.now) c.args.self.now.tables.now c.args.self.now.position l) (sym c.as_slice.ensures.value) c.in_ok-known.ensures
 
 pub returns-then-not-may_be_held : goal.returns-then-not-may_be_held
 returns-then-not-may_be_held g c = sym (c.may_be_held.ensures c.if-not-may_be_held.true)
