@@ -41,11 +41,11 @@ module _ (sink sink_new : SinkState) (status : ℕ) where
   world_stream audit source source_new (nothing_said is none) e = absurd (let own = is in omega (arith, e, own))
 
   pub demo_store : (number count : ℕ) → TellsDemo number count sink sink_new status → status ≡ STORE_FAULT → ⊥
-  demo_store number count (counted counts are puts) e =
+  demo_store number count (counted counts are demo puts) e =
       let own = put_store sink.faults sink_new.faults sink.held sink_new.held DONE _ status puts e in omega (arith, own)
   demo_store number count (uncounted is none) e = omega (arith, e, is)
 
   pub demo_stream : {A : Type 0} (number count : ℕ) → TellsDemo number count sink sink_new status → status ≡ STREAM_FAULT → A ⊎ Rose sink.faults sink_new.faults
-  demo_stream number count (counted counts are puts) e =
+  demo_stream number count (counted counts are demo puts) e =
       sink_failed DONE (λ own. omega (arith, own)) (put_stream sink.faults sink_new.faults sink.held sink_new.held DONE _ status puts e)
   demo_stream number count (uncounted is none) e = absurd (let own = is in omega (arith, e, own))

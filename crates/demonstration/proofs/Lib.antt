@@ -1,0 +1,4 @@
+mod Counting
+mod Plans
+mod Sites
+mod Valid

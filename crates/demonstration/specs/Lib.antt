@@ -1,1 +1,3 @@
 pub mod Demos
+pub mod Plans
+pub mod Sites

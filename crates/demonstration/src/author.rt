@@ -1,5 +1,21 @@
 //! The authors of a demonstration.
 
+ghost use Rattle.std.specs.Prelude.{◌≡◌, ◌≤◌, ◌++◌, [], ℕ, List, Option, IfOk, OnOk, length};
+ghost use Rattle.confluence_test.specs.Taking.{TakesSchema};
+ghost use Rattle.demonstration.specs.Demos.{AddsOne};
+ghost use Rattle.demonstration.specs.Plans.{AreOpsOf};
+ghost use Rattle.demonstration.specs.Sites.{IsSite};
+ghost use Rattle.key_index.specs.Creating.{after_draw, drawn_key};
+ghost use Rattle.lm_ots.specs.declared.ots_type.OtsType.TheVariants.{W4};
+ghost use Rattle.lms_tree.specs.SecretKey.{SecretData};
+ghost use Rattle.lms_tree.specs.declared.lms_type.LmsType.TheVariants.{H10};
+ghost use Rattle.numbered_words.specs.Numbered.{word_steps};
+ghost use Rattle.rand_core.specs.Steps.{stream_of};
+ghost use Rattle.row_check.specs.Checksum.{is_luhn};
+ghost use Rattle.schema.specs.Data.{SchemaData};
+ghost use Rattle.update_model.specs.Rows.{AreOps};
+ghost use Rattle.update_model.specs.declared.update_id.UpdateId.{UpdateId as UpdateIdData};
+
 use bec_disk::MemDisk;
 use key_index::KeyStore;
 use lm_ots::OtsType;
@@ -9,10 +25,10 @@ use rand_core::Rng;
 use replica::{MakeFault, Replica, create};
 use row_check::{Luhn, Native};
 use std::alloc::{AllocError, Global};
-use update_model::{OpList, UpdateId, check_ops};
+use update_model::{OpList, UpdateId};
 
 /// The text of the schema of a demonstration: lists, and tasks in them.
-fn schema_text() -> &'static [u8] {
+pub(crate) fn declared_text() -> &'static [u8] {
     b"DATABASE tasks
 TABLE list DELETABLE
 COLUMN title TEXT 1 40
@@ -40,15 +56,26 @@ pub(crate) struct Author {
 }
 
 impl Author {
-    /// The author with this number, whose key is drawn from the words. It has made nothing.
-    pub fn create(alloc: Global, number: u8, words: &mut Words) -> Result<Author, AllocError> {
+    /// The author with this number, whose store is of this schema, and whose key is drawn from the words. It has made
+    /// nothing.
+    pub fn create(
+        alloc: Global,
+        number: u8,
+        text: &[u8],
+        words: &mut Words,
+    ) -> Result<Author, AllocError>
+        ensures taken { IfOk result (λ author. TakesSchema is_luhn text.now author.store.history.schema) }
+        ensures key { IfOk result (λ author. author.key.secret ≡ drawn_key H10 W4 (stream_of word_steps words.old)) }
+        ensures drawn { OnOk result (stream_of word_steps words.new ≡ after_draw (stream_of word_steps words.old)) }
+        ensures empty { IfOk result (λ author. author.store.history.members ≡ []) }
+    {
         let key = draw_key(alloc, words)?;
         let mut schema = MemDisk::new(alloc);
         let updates = MemDisk::new(alloc);
         let mut node = [0; 32];
         node[31] = number;
         let native = Native::new(Luhn);
-        match create(alloc, &mut schema, updates, node, schema_text(), native) {
+        match create(alloc, &mut schema, updates, node, text, native) {
             Ok(store) => Ok(Author {
                 store,
                 key,
@@ -60,33 +87,39 @@ impl Author {
 
     /// Makes an update of these operations. The random bytes of its signature are the next words.
     ///
-    /// The one error is want of memory, of a disk too. Where no update may hold the operations, or the update is
-    /// refused, as with digests that collide or a key that is spent, none is made: the counts in the end tell of so
-    /// many fewer.
-    pub fn make(
-        &mut self,
-        alloc: Global,
-        ops: OpList,
-        words: &mut Words,
-    ) -> Result<(), AllocError> {
+    /// The one error is want of memory, of a disk too. Where the update is refused, as with digests that collide or a
+    /// key that is spent, none is made: the counts in the end tell of so many fewer.
+    pub fn make(&mut self, alloc: Global, ops: OpList, words: &mut Words) -> Result<(), AllocError>
+        requires few { length ops ≤ 3 }
+        requires form { AreOps 0 ops }
+        ensures { (keys : List SecretData) (schema : SchemaData) (made : List (List ℕ)) (author number : ℕ) (last : Option UpdateIdData) → AreOpsOf author number last ops
+            → IsSite keys schema made self.old → OnOk result (AddsOne keys (λ more. IsSite keys schema (made ++ more) self.new)) }
+    {
         let mut c = [0; 32];
         words.fill_bytes(&mut c);
-        if !check_ops(ops.as_slice()) {
-            return Ok(());
-        }
         match self.store.make(alloc, ops, &mut self.key, &c) {
             Ok(id) => {
                 self.last = Some(id);
                 Ok(())
             }
-            Err(MakeFault::Memory | MakeFault::DiskFault(_)) => Err(AllocError),
-            Err(_) => Ok(()),
+            Err(why) => passed_over(why),
         }
     }
 }
 
+/// What a refusal is to a demonstration: an error where memory ran out, or a disk did, and else nothing.
+fn passed_over(why: MakeFault) -> Result<(), AllocError> {
+    match why {
+        MakeFault::Memory | MakeFault::DiskFault(_) => Err(AllocError),
+        _ => Ok(()),
+    }
+}
+
 /// A key that is drawn from the words, over empty disks.
-fn draw_key(alloc: Global, words: &mut Words) -> Result<KeyStore<MemDisk>, AllocError> {
+fn draw_key(alloc: Global, words: &mut Words) -> Result<KeyStore<MemDisk>, AllocError>
+    ensures key { IfOk result (λ key. key.secret ≡ drawn_key H10 W4 (stream_of word_steps words.old)) }
+    ensures drawn { OnOk result (stream_of word_steps words.new ≡ after_draw (stream_of word_steps words.old)) }
+{
     let key = MemDisk::new(alloc);
     let used = MemDisk::new(alloc);
     match KeyStore::create(alloc, key, used, LmsType::H10, OtsType::W4, words) {

@@ -1,7 +1,7 @@
 //! What a replica of a demonstration holds.
 
 ghost use Rattle.std.specs.Prelude.{IfOk};
-ghost use Rattle.demonstration.specs.Demos.{IsCounted};
+ghost use Rattle.demonstration.specs.Demos.{AreCountsOf};
 ghost use Rattle.row_check.specs.Checksum.{is_luhn};
 
 use crate::author::Author;
@@ -30,7 +30,7 @@ pub(crate) const TASK: u8 = 1;
 
 /// What an author's replica holds.
 pub(crate) fn counts_of(alloc: Global, author: &Author) -> Result<DemoCounts, AllocError>
-    ensures { IfOk result (λ counts. IsCounted is_luhn counts) }
+    ensures { IfOk result (λ counts. AreCountsOf is_luhn author.now.store.history counts) }
 {
     let updates = author.store.len();
     let heads = author.store.heads(alloc)?;

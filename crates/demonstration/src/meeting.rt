@@ -1,6 +1,9 @@
 //! Two authors meet.
 
-ghost use Rattle.std.specs.Prelude.{◌≡◌, ◌≢◌, ◌<◌, length};
+ghost use Rattle.std.specs.Prelude.{◌≡◌, ◌≢◌, ◌<◌, ℕ, List, OnOk, length};
+ghost use Rattle.demonstration.specs.Sites.{IsCourse, IsSite};
+ghost use Rattle.lms_tree.specs.SecretKey.{SecretData};
+ghost use Rattle.schema.specs.Data.{SchemaData};
 
 use crate::author::Author;
 use session_rules::End;
@@ -18,7 +21,8 @@ pub(crate) fn meet(
     requires first { first < length authors.old }
     requires second { second < length authors.old }
     requires differ { first ≢ second }
-    ensures { length authors.new ≡ length authors.old }
+    ensures many { length authors.new ≡ length authors.old }
+    ensures course { (keys : List SecretData) (count : ℕ) → IsCourse keys count authors.old → OnOk result (IsCourse keys count authors.new) }
 {
     if first < second {
         let (front, back) = authors.split_at_mut(second);
@@ -31,7 +35,12 @@ pub(crate) fn meet(
 
 /// Runs a session between two authors, of whom the first begins. The one error is want of memory, of a disk too:
 /// nothing else fails a call of their disks.
-fn sync(alloc: Global, one: &mut Author, other: &mut Author) -> Result<(), AllocError> {
+fn sync(alloc: Global, one: &mut Author, other: &mut Author) -> Result<(), AllocError>
+    ensures one { (keys : List SecretData) (schema : SchemaData) (made : List (List ℕ)) → IsSite keys schema made one.old → IsSite keys schema made other.old → OnOk result (IsSite keys schema made one.new) }
+    ensures other { (keys : List SecretData) (schema : SchemaData) (made : List (List ℕ)) → IsSite keys schema made one.old → IsSite keys schema made other.old → OnOk result (IsSite keys schema made other.new) }
+{
+    one.store.len(); // what every replica keeps
+    other.store.len(); // the same
     let database = one.store.schema().rule().database;
     let start = PairStart {
         database_a: database,
@@ -42,6 +51,8 @@ fn sync(alloc: Global, one: &mut Author, other: &mut Author) -> Result<(), Alloc
         old_b: IdList::from_vec(Vec::new(alloc)),
     };
     let ended = sync_pair(alloc, &mut one.store, &mut other.store, start)?;
+    one.store.len(); // what every replica keeps
+    other.store.len(); // the same
     if matches!(ended.a, End::Store) || one.store.starved() || other.store.starved() {
         return Err(AllocError);
     }

@@ -1,9 +1,16 @@
 //! The operations of the updates of a demonstration.
 
+ghost use Rattle.std.specs.Prelude.{◌≡◌, ◌<◌, ◌≤◌, ◌%◌, ◌∷◌, [], ℕ, None, IfOk, length, string_bytes};
+ghost use Rattle.demonstration.specs.Plans.{AreOpsOf, task_insert};
+ghost use Rattle.update_model.specs.declared.limits.TheConstants.{MAX_TEXT};
+ghost use Rattle.update_model.specs.declared.op.Op.TheVariants.{Delete as Deletes};
+ghost use Rattle.update_model.specs.declared.value.Value.TheVariants.{Text as TextOf};
+ghost use Rattle.update_model.specs.Rows.{AreOps};
+
 use crate::counts::{LIST, TASK};
 use numbered_words::Words;
 use std::alloc::{AllocError, Global};
-use update_model::{Op, OpList, RowName, TextValue, UpdateId, Value, ValueList, check_value_text};
+use update_model::{Op, OpList, RowName, TextValue, UpdateId, Value, ValueList};
 
 /// The operations of an author's update with this number: each fifth one deletes the row that the one before inserted
 /// first; the others insert a list and two tasks in it, whose priorities are the next words.
@@ -13,7 +20,11 @@ pub(crate) fn operations_of(
     number: u32,
     last: Option<UpdateId>,
     words: &mut Words,
-) -> Result<OpList, AllocError> {
+) -> Result<OpList, AllocError>
+    ensures plan { IfOk result (λ ops. AreOpsOf author number last ops) }
+    ensures few { IfOk result (λ ops. length ops ≤ 3) }
+    ensures form { IfOk result (λ ops. AreOps 0 ops) }
+{
     match last {
         Some(update) if number % 5 == 4 => deleting(alloc, update),
         _ => inserting(alloc, author, number, words),
@@ -21,7 +32,10 @@ pub(crate) fn operations_of(
 }
 
 /// Deletes the row that an update inserted first.
-fn deleting(alloc: Global, update: UpdateId) -> Result<OpList, AllocError> {
+fn deleting(alloc: Global, update: UpdateId) -> Result<OpList, AllocError>
+    ensures ops { IfOk result (λ ops. ops ≡ Deletes (record { update = update; index = 0 }) ∷ []) }
+    ensures form { IfOk result (λ ops. AreOps 0 ops) }
+{
     let row = RowName { update, index: 0 };
     Ok(OpList::from_vec(vec![in alloc; Op::Delete { row }]?))
 }
@@ -32,7 +46,11 @@ fn inserting(
     author: u32,
     number: u32,
     words: &mut Words,
-) -> Result<OpList, AllocError> {
+) -> Result<OpList, AllocError>
+    ensures plan { IfOk result (λ ops. AreOpsOf author number None ops) }
+    ensures few { IfOk result (λ ops. length ops ≤ 3) }
+    ensures form { IfOk result (λ ops. AreOps 0 ops) }
+{
     let title = text(format!(in alloc; "{author}-{number}")?);
     let list = Op::Insert {
         table: LIST,
@@ -44,7 +62,10 @@ fn inserting(
 }
 
 /// Inserts a task with this title in the list that the first operation inserts.
-fn task(alloc: Global, title: String, words: &mut Words) -> Result<Op, AllocError> {
+fn task(alloc: Global, title: String, words: &mut Words) -> Result<Op, AllocError>
+    requires { length (string_bytes title) ≤ MAX_TEXT }
+    ensures { IfOk result (λ op. (prio : ℕ) × (prio < 9) × (op ≡ task_insert (string_bytes title) prio)) }
+{
     let prio = words.word() % 9;
     let values = vec![in alloc;
         text(title),
@@ -59,12 +80,10 @@ fn task(alloc: Global, title: String, words: &mut Words) -> Result<Op, AllocErro
     })
 }
 
-/// A text as a value, or none where it is longer than a text in a row may be.
-fn text(text: String) -> Value {
-    let bytes = text.into_bytes();
-    if check_value_text(bytes.as_slice()) {
-        Value::Text(TextValue::from_vec(bytes))
-    } else {
-        Value::Null
-    }
+/// A text as a value.
+fn text(text: String) -> Value
+    requires { length (string_bytes text) ≤ MAX_TEXT }
+    ensures { result ≡ TextOf (string_bytes text) }
+{
+    Value::Text(TextValue::from_vec(text.into_bytes()))
 }

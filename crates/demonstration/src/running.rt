@@ -1,14 +1,19 @@
 //! The run of a demonstration.
 
-ghost use Rattle.std.specs.Prelude.{◌≡◌, ◌<◌, IfOk, OnOk, length};
-ghost use Rattle.demonstration.specs.Demos.{IsCounted};
+ghost use Rattle.std.specs.Prelude.{◌≡◌, ◌+◌, ℕ, List, IfOk, OnOk, length};
+ghost use Rattle.demonstration.specs.Demos.{IsCounted, IsDemo, drawn_from, keys_of};
+ghost use Rattle.demonstration.specs.Sites.{IsCourse};
+ghost use Rattle.lms_tree.specs.SecretKey.{SecretData};
+ghost use Rattle.numbered_words.specs.Numbered.{word_steps};
+ghost use Rattle.rand_core.specs.Steps.{stream_of};
 ghost use Rattle.row_check.specs.Checksum.{is_luhn};
 
-use crate::author::Author;
+use crate::author::{Author, declared_text};
 use crate::counts::{DemoCounts, counts_of};
 use crate::meeting::meet;
 use crate::operations::operations_of;
 use numbered_words::Words;
+use schema_text::one_schema;
 use std::alloc::{AllocError, Global};
 
 /// How many authors there are.
@@ -19,7 +24,8 @@ const AUTHORS: u32 = 4;
 ///
 /// In the last four steps nobody meets. The one error is want of memory.
 pub fn demonstrate(alloc: Global, number: u64, count: u32) -> Result<DemoCounts, AllocError>
-    ensures { IfOk result (λ counts. IsCounted is_luhn counts) }
+    ensures counted { IfOk result (λ counts. IsCounted is_luhn counts) }
+    ensures made { IfOk result (λ counts. IsDemo number count counts) }
 {
     let mut words = Words::new(number);
     let mut authors = begun(alloc, &mut words)?;
@@ -29,18 +35,30 @@ pub fn demonstrate(alloc: Global, number: u64, count: u32) -> Result<DemoCounts,
             meet_by_chance(alloc, &mut authors, &mut words)?;
         }
     }
-    meet_all(alloc, &mut authors)?;
-    meet_all(alloc, &mut authors)?;
+    ended(alloc, &mut authors)
+}
+
+/// What the replicas come to once all have met.
+fn ended(alloc: Global, authors: &mut [Author]) -> Result<DemoCounts, AllocError>
+    requires { length authors.old ≡ 4 }
+    ensures counted { IfOk result (λ counts. IsCounted is_luhn counts) }
+    ensures made { (number count : ℕ) → IsCourse (keys_of number) count authors.old → IfOk result (λ counts. IsDemo number count counts) }
+{
+    meet_all(alloc, authors)?;
+    meet_all(alloc, authors)?;
     counts_of(alloc, &authors[0])
 }
 
 /// The four authors, who have made nothing.
 fn begun(alloc: Global, words: &mut Words) -> Result<Vec<Author>, AllocError>
-    ensures { IfOk result (λ authors. length authors.items ≡ 4) }
+    ensures four { IfOk result (λ authors. length authors.items ≡ 4) }
+    ensures course { IfOk result (λ authors. IsCourse (drawn_from (stream_of word_steps words.old)) 0 authors.items) }
 {
+    one_schema();
+    let text = declared_text();
     let mut authors = Vec::new(alloc);
     'authors: for number in 0..AUTHORS {
-        let author = Author::create(alloc, number as u8, words)?;
+        let author = Author::create(alloc, number as u8, text, words)?;
         if authors.push(author).is_err() {
             return Err(AllocError);
         }
@@ -56,7 +74,8 @@ fn make_one(
     words: &mut Words,
 ) -> Result<(), AllocError>
     requires { length authors.old ≡ 4 }
-    ensures { length authors.new ≡ 4 }
+    ensures four { length authors.new ≡ 4 }
+    ensures course { (keys : List SecretData) (count : ℕ) → IsCourse keys count authors.old → OnOk result (IsCourse keys (count + 1) authors.new) }
 {
     let author = k % AUTHORS;
     let one = &mut authors[author as usize];
@@ -71,7 +90,8 @@ fn meet_by_chance(
     words: &mut Words,
 ) -> Result<(), AllocError>
     requires { length authors.old ≡ 4 }
-    ensures { length authors.new ≡ 4 }
+    ensures four { length authors.new ≡ 4 }
+    ensures course { (keys : List SecretData) (count : ℕ) → IsCourse keys count authors.old → OnOk result (IsCourse keys count authors.new) }
 {
     let word = words.word();
     if word % 4 != 0 {
@@ -85,7 +105,8 @@ fn meet_by_chance(
 /// The first author meets each of the others.
 fn meet_all(alloc: Global, authors: &mut [Author]) -> Result<(), AllocError>
     requires { length authors.old ≡ 4 }
-    ensures { length authors.new ≡ 4 }
+    ensures four { length authors.new ≡ 4 }
+    ensures course { (keys : List SecretData) (count : ℕ) → IsCourse keys count authors.old → OnOk result (IsCourse keys count authors.new) }
 {
     meet(alloc, authors, 0, 1)?;
     meet(alloc, authors, 0, 2)?;

@@ -1,7 +1,7 @@
 //! The counts of a demonstration.
 
 ghost use Rattle.std.specs.Prelude.{◌≡◌, ◌++◌, IfOk, OnOk};
-ghost use Rattle.demonstration.specs.Demos.{IsCounted};
+ghost use Rattle.demonstration.specs.Demos.{IsCounted, IsDemo};
 ghost use Rattle.demonstration.specs.declared.counts.DemoCounts.{DemoCounts as Counted};
 ghost use Rattle.row_check.specs.Checksum.{is_luhn};
 ghost use Rattle.world_commands.specs.Demos.{count_line, counts_text};
@@ -12,7 +12,7 @@ use std::alloc::{AllocError, Global};
 
 /// What the replicas of a demonstration by this number come to that make so many updates, a line each.
 pub fn demo_in(alloc: Global, number: u64, count: u32) -> Result<Vec<u8>, AllocError>
-    ensures { IfOk result (λ text. (counts : Counted) × IsCounted is_luhn counts × (text.items ≡ counts_text counts)) }
+    ensures { IfOk result (λ text. (counts : Counted) × IsCounted is_luhn counts × IsDemo number count counts × (text.items ≡ counts_text counts)) }
 {
     let counts = demonstrate(alloc, number, count)?;
     let mut text = Vec::new(alloc);

@@ -7,8 +7,8 @@ ghost use Rattle.world_commands.specs.Shown.{AreOfSites, Audits, CountsDoubled, 
 ghost use Rattle.world_rules.specs.Worlds.{SiteData, WorldData};
 
 use byzantine_world::World;
-use key_audit::find;
 use std::alloc::{AllocError, Global};
+use world_audit::audit_world;
 use world_report::{push_doubled, push_replicas, push_sessions};
 
 /// Adds what the replicas and the sessions of a world have come to, and, where that is asked for, how many one-time
@@ -73,8 +73,8 @@ fn doubled_count(alloc: Global, world: &World, number: usize) -> Result<Option<u
     let Ok(number) = u32::try_from(number) else {
         return Err(AllocError);
     };
-    match world.replica(number) {
-        Some(replica) => Ok(Some(find(alloc, replica)?.len() as u64)),
+    match audit_world(alloc, world, number)? {
+        Some(entries) => Ok(Some(entries.len() as u64)),
         None => Ok(None),
     }
 }

@@ -1,10 +1,12 @@
 pub mod Belonging
 pub mod Below
 pub mod Courses
+pub mod Doubles
 pub mod Events
 pub mod Extending
 pub mod Hearing
 pub mod Keys
+pub mod Leaves
 pub mod Making
 pub mod Moving
 pub mod Passing

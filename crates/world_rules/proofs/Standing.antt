@@ -44,12 +44,14 @@ use Rattle.world_rules.proofs.Below.{all_below}
 use Rattle.world_rules.proofs.Schemas.{SchemaLaws}
 use Rattle.world_rules.proofs.Sets.{invariants_hold, one_set}
 use Rattle.world_rules.proofs.Making.{AreKnown, IsKnown, event_known}
+use Rattle.world_rules.proofs.Leaves.{AreLong, event_long, new_long}
 
 -- The invariant of all runs.
 pub record Stands (schema : SchemaData) (w : WorldData) : Type 0 where
   pub sound : IsSound schema w
   pub signed : AreSigned w
   pub known : AreKnown w
+  pub long : AreLong w
 
 no_members : (rule : RuleData) → AreMembers rule []
 no_members rule = record { checked = All-from_recursion (IsChecked rule) [] tt; closed = tt; within = refl }
@@ -85,7 +87,8 @@ new_stands ask schema w n = record {
     sessions = λ s m there. absurd (let none = n.sessions s in cc);
   };
   signed = record { each = subst (AllByRecursion (IsSignature w)) (sym n.signed) tt; distinct = subst (IsDistinct same_index) (sym n.signed) tt };
-  known = λ r site there. subst (AllByRecursion (IsKnown w)) (sym ((n.sites r site there).created.members refl)) tt;
+  known = λ r site there. subst (AllByRecursion (IsKnown w r)) (sym ((n.sites r site there).created.members refl)) tt;
+  long = new_long ask schema w n;
 }
 
 stands_after : SchemaLaws → (ask : Meaning) (schema : SchemaData) (first w : WorldData) → IsNew ask schema first → Reaches ask first w → Stands schema w
@@ -96,7 +99,8 @@ stands_after laws ask schema first w n (goes before _ event answer run happens) 
     record {
       sound = next.0;
       signed = event_signed ask schema before w (finds before event) event answer s.sound.sites next.1 s.signed happens;
-      known = event_known ask schema before w (finds before event) event answer s.sound s.known happens;
+      known = event_known ask schema before w (finds before event) event answer s.sound s.long s.known happens;
+      long = event_long ask before w (finds before event) event answer s.long happens;
     }
 
 pub stands_always : SchemaLaws → (ask : Meaning) (schema : SchemaData) (w : WorldData) → IsReached ask schema w → Stands schema w
@@ -152,7 +156,7 @@ sound_talk schema w s m a b stands there at_a at_b =
 
 -- ---- who made what
 
-checked_signed : (rule : RuleData) (u : List ℕ) → IsChecked rule u → IsSigned u
+pub checked_signed : (rule : RuleData) (u : List ℕ) → IsChecked rule u → IsSigned u
 checked_signed rule u h = (h.0, h.1)
 
 -- of one author a message is that of one body
@@ -190,7 +194,7 @@ of_signature schema w graph u s stands are held signed is =
 
 pub of_make : (schema : SchemaData) (w : WorldData) (q r : ℕ) (site : SiteData) (u : List ℕ) → Stands schema w → NoForgery w → site_at w q ≡ Some site → Contains (held_by site) u → IsKeyOf w r u
     → (by : ℕ) × IsKeyOf w by u × IsOfMake w by (held_by site) u
-of_make schema w q r site u stands honest there held key = by_known (each_member (IsKnown w) (held_by site) u (stands.known q site there) held)
+of_make schema w q r site u stands honest there held key = by_known (each_member (IsKnown w q) (held_by site) u (stands.known q site there) held)
   where
     are : AreMembers schema.rule (held_by site)
     are = (stands.sound.sites q site there).members
@@ -203,8 +207,8 @@ of_make schema w q r site u stands honest there held key = by_known (each_member
         let g = each_member (IsSignature w) w.signed s stands.signed.each signed in
         record { site = g.site; there = g.there; author = ap (λ (b : BodyData). b.author) (sym is) ∙ g.author }
 
-    by_known : IsKnown w u → (by : ℕ) × IsKeyOf w by u × IsOfMake w by (held_by site) u
-    by_known (inr made) = (made.0.replica, key_of made.0 made.1 made.2, of_signature schema w (held_by site) u made.0 stands (stands.sound.sites q site there).members held made.1 made.2)
+    by_known : IsKnown w q u → (by : ℕ) × IsKeyOf w by u × IsOfMake w by (held_by site) u
+    by_known (inr made) = (made.0.replica, key_of made.0 made.1 made.3, of_signature schema w (held_by site) u made.0 stands (stands.sound.sites q site there).members held made.1 made.3)
     by_known (inl met) =
         let signed_u : IsSigned met.0.update = subst IsSigned (sym met.2) (checked_signed schema.rule u (each_member (IsChecked schema.rule) (held_by site) u (recursion_from_All (IsChecked schema.rule) (held_by site) (stands.sound.sites q site there).members.checked) held)) in
         let was = honest met.0 r met.1 signed_u (subst (IsKeyOf w r) (sym met.2) key) in

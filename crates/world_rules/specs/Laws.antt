@@ -2,10 +2,11 @@
 use Rattle.std.specs.Prelude.{◌≡◌, ℕ, ◌≤◌, ◌&&◌, ◌==◌, Bool, IsTrue, List, ◌++◌, length, map, take, Contains, Some}
 use Rattle.bec_disk.specs.Disk.{DiskState, IsImage, EveryImage, LeavesOnly}
 use Rattle.lms_tree.specs.SecretKey.{public_key}
+use Rattle.lms_tree.specs.Signature.{leaf_number}
 use Rattle.session_rules.specs.Laws.{HasAll, NoCollision}
 use Rattle.session_rules.specs.Pair.{bound, missing, IsNoFault}
 use Rattle.session_rules.specs.declared.end.End.TheVariants.{Done}
-use Rattle.update_codec.specs.Parts.{author_of, body_of, entry_of, preds_of}
+use Rattle.update_codec.specs.Parts.{author_of, body_of, entry_of, preds_of, signature_of}
 use Rattle.update_codec.specs.Spelling.{message}
 use Rattle.update_check.specs.Signed.{IsSigned}
 use Rattle.bec_bytes.specs.Framed.{stream_of}
@@ -59,6 +60,12 @@ pub record IsKeyOf (w : WorldData) (r : ℕ) (update : List ℕ) : Type 0 where
 abbrev pub NoForgery : WorldData → Type 0
 NoForgery w = (m : MetData) (r : ℕ) → Contains w.met m → IsSigned m.update → IsKeyOf w r m.update
     → (s : SignedData) × Contains w.signed s × (s.replica ≡ r) × (message s.body ≡ message (body_of m.update)) × (s.event ≤ m.event)
+
+-- Whenever an update is met that the key of a correct replica signed, a Make of that replica signed its message, under the index that its signature names, in the
+-- same event or an earlier one.
+abbrev pub NoForgedIndex : WorldData → Type 0
+NoForgedIndex w = (m : MetData) (r : ℕ) → Contains w.met m → IsSigned m.update → IsKeyOf w r m.update
+    → (s : SignedData) × Contains w.signed s × (s.replica ≡ r) × (message s.body ≡ message (body_of m.update)) × (s.index ≡ leaf_number (signature_of m.update)) × (s.event ≤ m.event)
 
 -- The message of the update was signed by a Make of this replica. It names every head that the replica had then; and where no two updates of the graph
 -- and of what it held then share an id, all of that are ancestors of the update.

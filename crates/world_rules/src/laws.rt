@@ -4,17 +4,19 @@ ghost use Rattle.std.specs.Prelude.{◌≡◌, ℕ, List, Contains, Some, map};
 ghost use Rattle.std.specs.List.{IsDistinct};
 ghost use Rattle.bec_disk.specs.Disk.{EveryImage};
 ghost use Rattle.key_index.specs.Used.{IsUsed};
+ghost use Rattle.lms_tree.specs.Signature.{leaf_number};
 ghost use Rattle.schema.specs.Data.{Meaning, SchemaData};
 ghost use Rattle.session_rules.specs.Laws.{NoCollision};
 ghost use Rattle.table_model.specs.Visible.{rules_with};
 ghost use Rattle.update_check.specs.Members.{AreMembers};
-ghost use Rattle.update_codec.specs.Parts.{entry_of};
+ghost use Rattle.update_codec.specs.Parts.{body_of, entry_of, signature_of};
+ghost use Rattle.update_codec.specs.Spelling.{message};
 ghost use Rattle.update_model.specs.declared.update_id.UpdateId.{UpdateId};
 ghost use Rattle.update_model.specs.Graph.{AreHeads};
 ghost use Rattle.world_rules.specs.declared.event.Event.{Event as EventData};
 ghost use Rattle.world_rules.specs.declared.event.Stepped.{Stepped as SteppedData};
 ghost use Rattle.world_rules.specs.Happens.{Happens, IsReached};
-ghost use Rattle.world_rules.specs.Laws.{HaveOneSet, HoldsInvariants, IsKeyOf, IsOfMake, IsSoundTalk, KeepsList, LeavesThrough, NoForgery, same_index};
+ghost use Rattle.world_rules.specs.Laws.{HaveOneSet, HoldsInvariants, IsKeyOf, IsOfMake, IsSoundTalk, KeepsList, LeavesThrough, NoForgedIndex, NoForgery, same_index};
 ghost use Rattle.world_rules.specs.Meetings.{TwoEnds};
 ghost use Rattle.world_rules.specs.Worlds.{Both, SignedData, SiteData, WorldData, held_by, session_at, site_at};
 
@@ -86,6 +88,17 @@ pub fn one_index_one_message()
     ensures any_moment { (ask : Meaning) (schema : SchemaData) (w next : WorldData) (event : EventData) (answer : SteppedData) (s : SignedData) (site : SiteData)
         → IsReached ask schema w → Happens ask w event answer next → Contains w.signed s → site_at w s.replica ≡ Some site
         → (new : SiteData) × (site_at next s.replica ≡ Some new) × LeavesThrough site.key.parts.used new.key.parts.used (IsUsed s.index) }
+{
+    one_schema();
+    declared_is_sound();
+}
+
+/// Unless a signature was forged: of two updates that a correct replica holds, signed by a correct replica's key under one
+/// index, the messages are the same. So a key that signed two messages under one index is no correct replica's.
+pub fn correct_keys_are_never_doubled()
+    ensures { (ask : Meaning) (schema : SchemaData) (w : WorldData) (q r : ℕ) (site : SiteData) (first second : List ℕ) → IsReached ask schema w → NoForgedIndex w
+        → site_at w q ≡ Some site → Contains (held_by site) first → Contains (held_by site) second → IsKeyOf w r first → IsKeyOf w r second
+        → leaf_number (signature_of first) ≡ leaf_number (signature_of second) → message (body_of first) ≡ message (body_of second) }
 {
     one_schema();
     declared_is_sound();

@@ -10,7 +10,6 @@ returns c =
     let rules = rules_with is_luhn history.schema.tables in
     let nodes = nodes_of history.members in
     record {
-      history = history;
       heads = c.in_ok-heads.heads.items;
       lists = c.in_ok-lists.lists;
       tasks = c.in_ok-tasks.tasks;
