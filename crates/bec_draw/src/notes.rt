@@ -1,16 +1,13 @@
 //! The notes of the updates of a graph.
 
-ghost use Rattle.std.specs.Prelude.{◌≡◌, List, ℕ, IfOk, filter, map};
-ghost use Rattle.update_codec.specs.Parts.{entry_of, id_of};
-ghost use Rattle.update_model.specs.Entry.{id_cmp};
-ghost use Rattle.update_model.specs.Graph.{IsClosed};
-ghost use Rattle.node_commands.specs.Notes.{AreNoted, is_noted, note_text};
+ghost use Rattle.std.specs.Prelude.{◌≡◌, IfOk, filter, map};
+ghost use Rattle.node_commands.specs.Notes.{is_noted};
 ghost use Rattle.bec_draw.specs.Bundles.{AreNotesOf, note_line_of};
 
 use graph_drawing::NoteLine;
 use hash_graph::Graph;
+use node_commands::{in_order, note_of};
 use std::alloc::{AllocError, Global};
-use std::cmp::Ordering;
 use text_words::ByteString;
 use update_check::Checked;
 use update_model::Member;
@@ -38,32 +35,6 @@ fn noted_of(alloc: Global, graph: &Graph<Checked>) -> Result<Vec<&Checked>, Allo
         }
     }
     Ok(noted)
-}
-
-/// The note of an update, which is empty where it has none.
-fn note_of(update: &Checked) -> &[u8]
-    ensures { result.now ≡ note_text update.now }
-{
-    match &update.body().note {
-        Some(note) => note.as_slice(),
-        None => &[],
-    }
-}
-
-/// Puts updates in order of ids, which rise where no two are equal.
-fn in_order<'a>(mut noted: Vec<&'a Checked>) -> Vec<&'a Checked>
-    ensures { (members : List (List ℕ)) → IsClosed (map entry_of members) → map (λ update. update.now) noted.entry.items ≡ filter is_noted members
-        → AreNoted members (map (λ update. update.now) result.items) }
-{
-    noted.sort_unstable_by(|a, b| id_cmp(a, b));
-    noted
-}
-
-/// The order of the ids of two updates.
-fn id_cmp(a: &Checked, b: &Checked) -> Ordering
-    ensures { result ≡ id_cmp (id_of a.now) (id_of b.now) }
-{
-    a.id().cmp(&b.id())
 }
 
 /// The notes of updates, with their ids.

@@ -12,14 +12,14 @@ use update_model::{AuthorKey, Member};
 pub fn author_of(update: &Checked) -> AuthorKey
     ensures { result ≡ author_of update.now }
 {
-    update.body().author
+    *update.author()
 }
 
 /// The index of the one-time key with which it is signed: a signature begins with it (RFC 8554, section 5.4).
 pub fn index_of(update: &Checked) -> u32
     ensures { result ≡ index_of update.now }
 {
-    update.body(); // the signature has the length of the key's
+    update.author(); // the signature has the length of the key's
     BigEndian::read_u32(update.signature())
 }
 
@@ -27,7 +27,7 @@ pub fn index_of(update: &Checked) -> u32
 pub fn message_of(update: &Checked) -> &[u8]
     ensures { result.now ≡ message_of update.now }
 {
-    update.body(); // the bytes end with the signature
+    update.author(); // the bytes end with the signature
     let bytes = update.bytes();
     &bytes[..bytes.len() - update.signature().len() - 4]
 }

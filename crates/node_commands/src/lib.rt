@@ -21,7 +21,7 @@
 //!
 //! What is told of each is an answer in specs/; that an input has one answer are the laws [`one_answer`],
 //! [`one_answer_of_parts`], [`one_answer_of_makers`] and [`one_answer_of_merge`]. How a bundle is read stands here for other
-//! programs too: [`bundle_schema`] and [`read_graph`].
+//! programs too: [`bundle_schema`] and [`read_graph`]; and so does how notes are put in order: [`note_of`] and [`in_order`].
 //!
 //! It waits for nobody but its source, and opens nothing by itself.
 #![tactic(auto)]
@@ -43,7 +43,7 @@ pub use commands::init::init_in;
 pub use commands::join::join_in;
 pub use commands::keygen::keygen_in;
 pub use commands::merge::merge_in;
-pub use commands::notes::notes_in;
+pub use commands::notes::{in_order, note_of, notes_in};
 pub use commands::query_store::query_in;
 pub use heads::heads_of;
 pub use laws::{one_answer, one_answer_of_makers, one_answer_of_merge, one_answer_of_parts};

@@ -4,8 +4,7 @@ use Rattle.std.specs.declared.alloc.AllocError.{AllocError}
 use Rattle.std.proofs.lemmas.List.{map-append}
 use Rattle.update_check.specs.Signed.{IsChecked, IsUnder, SpellsSigned}
 use Rattle.update_check.specs.declared.check_error.CheckFault.TheVariants.{WrongDatabase, AuthorNotListed}
-use Rattle.update_codec.specs.Parts.{body_of, entry_of, signature_of}
-use Rattle.update_model.specs.Form.{BodyData}
+use Rattle.update_codec.specs.Parts.{body_of, entry_of, update_of}
 use Rattle.update_model.specs.Batch.{Limits}
 use Rattle.update_model.specs.Entry.{Entry}
 use Rattle.update_model.specs.Rule.{RuleData}
@@ -146,15 +145,15 @@ module _ (limits : Limits) (rule : RuleData) (s : SessionData) (before : List En
 
 -- ---- how an update arrives
 
-module _ (rule : RuleData) (bytes : List ℕ) (body : BodyData) (is : body ≡ body_of bytes) (signed : SpellsSigned bytes (record { body = body; signature = signature_of bytes })) where
+module _ (rule : RuleData) (bytes : List ℕ) (signed : SpellsSigned bytes (update_of bytes)) where
   pub arrives_fine : (copy : List ℕ) → copy ≡ bytes → IsUnder rule (body_of bytes) → Arrives rule (Item (entry_of bytes)) (Item (entry_of copy))
-  arrives_fine copy same under = inl (ap (λ (u : List ℕ). Item (entry_of u)) same, (record { body = body; signature = signature_of bytes }, signed, subst (IsUnder rule) (sym is) under))
+  arrives_fine copy same under = inl (ap (λ (u : List ℕ). Item (entry_of u)) same, (update_of bytes, signed, under))
 
   pub is_fine : (copy : List ℕ) → copy ≡ bytes → IsUnder rule (body_of bytes) → IsChecked rule copy
-  is_fine copy same under = subst (IsChecked rule) (sym same) (record { body = body; signature = signature_of bytes }, signed, subst (IsUnder rule) (sym is) under)
+  is_fine copy same under = subst (IsChecked rule) (sym same) (update_of bytes, signed, under)
 
   pub arrives_unlisted : (body_of bytes).database ≡ rule.database → ¬ (IsUnder rule (body_of bytes)) → Arrives rule (Item (entry_of bytes)) (BadItem 3)
-  arrives_unlisted same bad = inr (AuthorNotListed, refl, (record { body = body; signature = signature_of bytes }, signed.spells, ap (λ (b : BodyData). b.database) is ∙ same, λ listed. bad (subst (IsUnder rule) is (record { database = ap (λ (b : BodyData). b.database) is ∙ same; author = listed }))))
+  arrives_unlisted same bad = inr (AuthorNotListed, refl, (update_of bytes, signed.spells, same, λ listed. bad (record { database = same; author = listed })))
 
   pub arrives_elsewhere : (body_of bytes).database ≢ rule.database → Arrives rule (Item (entry_of bytes)) (BadItem 2)
-  arrives_elsewhere other = inr (WrongDatabase, refl, (record { body = body; signature = signature_of bytes }, signed.spells, λ same. other (sym (ap (λ (b : BodyData). b.database) is) ∙ same)))
+  arrives_elsewhere other = inr (WrongDatabase, refl, (update_of bytes, signed.spells, other))

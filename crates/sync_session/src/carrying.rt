@@ -220,7 +220,7 @@ fn arriving(alloc: Global, rule: &DbRule, update: &Checked) -> Result<CheckedFra
     ensures arrives { IfOk result (λ frame. Arrives rule.now (item (entry_of update.now)) (frame_of frame)) }
     ensures under { IfOk result (IsFrameUnder rule.now) }
 {
-    update.body(); // its author signed it
+    update.author(); // who signed it
     if update.is_under(rule) {
         return Ok(CheckedFrame::Item(update.copy(alloc)?));
     }

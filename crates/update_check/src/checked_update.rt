@@ -1,18 +1,20 @@
 ghost use Rattle.std.specs.Prelude.{◌≡◌, ◌↔◌, IsTrue, IfOk};
-ghost use Rattle.update_codec.specs.Parts.{body_of, database_of, entry_of, signature_of, update_of};
+ghost use Rattle.update_model.specs.Form.{IsKnownKey};
+ghost use Rattle.update_codec.specs.Parts.{author_of, body_of, database_of, entry_of, note_of, signature_of, update_of};
 ghost use Rattle.update_check.specs.Signed.{IsSigned, IsUnder, SpellsSigned, node_of};
 
-use crate::checking::is_body_under;
+use crate::checking::is_taken;
 use ready_batch::Candidate;
 use std::alloc::{AllocError, Global};
 use std::marker::Model;
 use update_codec::Spelled;
-use update_model::{Body, DbRule, Member, Node, UpdateId};
+use update_model::{AuthorKey, Body, DbRule, Member, Node, TextValue, UpdateId};
 
 /// An update that is spelled and signed: its bytes spell it, its id is theirs, and its author signed it.
 ///
-/// A contract sees it as its bytes. There is no call that lends an [`update_model::Update`], which would keep the
-/// signature a second time: [`Checked::body`] and [`Checked::signature`] are its parts.
+/// A contract sees it as its bytes. What is kept beside them is said at [`Spelled`]: no operations, which
+/// [`Checked::body`] and [`Checked::node`] read again from the bytes, and no signature, which [`Checked::signature`]
+/// lends from them.
 #[derive(Debug, Drop)]
 pub struct Checked {
     spelled: Spelled,
@@ -42,12 +44,27 @@ impl Checked {
         Checked { spelled, found: 0 }
     }
 
-    /// What its author signed.
-    pub fn body(&self) -> &Body
-        ensures value { result.now ≡ body_of self.now }
-        ensures signed { SpellsSigned self.now (record { body = result.now; signature = signature_of self.now }) }
+    /// What its author signed, read again from the bytes.
+    pub fn body(&self, alloc: Global) -> Result<Body, AllocError>
+        ensures { IfOk result (λ body. body ≡ body_of self.now) }
     {
-        self.spelled.body()
+        self.spelled.body(alloc)
+    }
+
+    /// The key of its author, who signed it. Its types are known ones.
+    pub fn author(&self) -> &AuthorKey
+        ensures value { result.now ≡ author_of self.now }
+        ensures known { IsKnownKey result.now }
+        ensures signed { SpellsSigned self.now (update_of self.now) }
+    {
+        self.spelled.author()
+    }
+
+    /// What its author says of it, if anything.
+    pub fn note(&self) -> &Option<TextValue>
+        ensures { result.now ≡ note_of self.now }
+    {
+        self.spelled.note()
     }
 
     /// Its author's signature.
@@ -68,19 +85,24 @@ impl Checked {
     pub fn is_under(&self, rule: &DbRule) -> bool
         ensures { IsTrue result ↔ IsUnder rule.now (body_of self.now) }
     {
-        is_body_under(rule, self.body())
+        is_taken(rule, self.database(), self.author())
     }
 
-    /// What tables see of it: a copy of its operations, predecessors and author, and its id.
+    /// What tables see of it: its operations, predecessors and author, read again from the bytes, and its id.
     pub fn node(&self, alloc: Global) -> Result<Node, AllocError>
         ensures { IfOk result (λ node. node ≡ node_of self.now) }
     {
-        let body = self.body();
+        let Body {
+            author,
+            preds,
+            ops,
+            ..
+        } = self.body(alloc)?;
         Ok(Node {
             id: self.id(),
-            preds: body.preds.copy(alloc)?,
-            author: body.author,
-            ops: body.ops.copy(alloc)?,
+            preds,
+            author,
+            ops,
         })
     }
 

@@ -12,7 +12,7 @@ use crate::{CheckError, CheckFault, Checked, no_cause};
 use lms_tree::verify;
 use std::alloc::Global;
 use update_codec::{Spelled, spelled};
-use update_model::{Body, DbRule};
+use update_model::{AuthorKey, DbRule};
 
 /// Takes over bytes that spell an update of the rule's database, by a listed author who signed it.
 ///
@@ -50,11 +50,11 @@ fn fault_of(rule: &DbRule, update: &Spelled) -> Option<CheckFault>
     ensures under { IfNone result (IsUnder rule.now (body_of update.now)) }
     ensures fault { IfSome result (λ fault. IsCause rule.now update.now fault) }
 {
-    let body = update.body();
-    if !is_of_database(rule, body) {
+    let author = update.author(); // the bytes spell an update
+    if !is_of_database(rule, update.database()) {
         return Some(CheckFault::WrongDatabase);
     }
-    if !is_by_listed(rule, body) {
+    if !is_by_listed(rule, author) {
         return Some(CheckFault::AuthorNotListed);
     }
     if !is_signed(update) {
@@ -63,31 +63,31 @@ fn fault_of(rule: &DbRule, update: &Spelled) -> Option<CheckFault>
     None
 }
 
-/// Whether the body is of the rule's database, and the rule lists its author.
-#[tactic(auto, using(crate::proofs::Whole::under_where_listed))]
-pub(crate) fn is_body_under(rule: &DbRule, body: &Body) -> bool
-    ensures { IsTrue result ↔ IsUnder rule.now body.now }
+/// Whether the database is the rule's, and the rule lists the author.
+#[tactic(auto, using(crate::proofs::Whole::taken_where_listed))]
+pub(crate) fn is_taken(rule: &DbRule, database: &[u8; 32], author: &AuthorKey) -> bool
+    ensures { IsTrue result ↔ ((database.now ≡ rule.now.database) × IsListed rule.now.authors author.now) }
 {
-    is_of_database(rule, body) && is_by_listed(rule, body)
+    is_of_database(rule, database) && is_by_listed(rule, author)
 }
 
-/// Whether the body is of the rule's database.
-fn is_of_database(rule: &DbRule, body: &Body) -> bool
-    ensures { IsTrue result ↔ (body.now.database ≡ rule.now.database) }
+/// Whether the database is the rule's.
+fn is_of_database(rule: &DbRule, database: &[u8; 32]) -> bool
+    ensures { IsTrue result ↔ (database.now ≡ rule.now.database) }
 {
-    body.database == rule.database
+    *database == rule.database
 }
 
-/// Whether the rule lists the body's author.
-fn is_by_listed(rule: &DbRule, body: &Body) -> bool
-    ensures { IsTrue result ↔ IsListed rule.now.authors body.now.author }
+/// Whether the rule lists the author.
+fn is_by_listed(rule: &DbRule, author: &AuthorKey) -> bool
+    ensures { IsTrue result ↔ IsListed rule.now.authors author.now }
 {
-    rule.lists(&body.author)
+    rule.lists(author)
 }
 
 /// Whether its author signed a spelled update.
 fn is_signed(update: &Spelled) -> bool
     ensures { IsTrue result ↔ Signed (author_of update.now) (message (body_of update.now)) (signature_of update.now) }
 {
-    verify(&update.body().author, update.message(), update.signature())
+    verify(update.author(), update.message(), update.signature())
 }

@@ -8,7 +8,8 @@
 //! ```text
 //! let rule = DbRule { database, authors };
 //! let update = check(alloc, &rule, bytes)?;
-//! update.body();                          // what its author signed
+//! update.author();                        // whose key it is, and who signed it
+//! update.body(alloc)?;                    // what its author signed, read again from the bytes
 //! update.node(alloc)?;                    // what tables see of it
 //! ```
 //!

@@ -13,9 +13,9 @@ use Rattle.update_codec.specs.declared.decode_error.DecodeError.{DecodeError}
 use Rattle.update_codec.specs.declared.decode_error.DecodeError.TheVariants.{Fault, Memory}
 use Rattle.update_codec.specs.declared.halt.Halt.{Halt}
 use Rattle.update_codec.specs.Faults.{FirstFault, BeginsWithUpdate, BeginsWithFault, UpdateFault, too_long, in_field, after_update, cut_short}
-use Rattle.update_codec.specs.Kept.{IsKept}
+use Rattle.update_codec.specs.Kept.{IsKept, header_from}
 use Rattle.update_codec.specs.Outcome.{Answers, Fails, HasCause}
-use Rattle.update_codec.specs.Parts.{id_of}
+use Rattle.update_codec.specs.Parts.{body_of, id_of, update_of}
 use Rattle.update_codec.specs.Reading.{update_at, whole, placed, first_of}
 use Rattle.update_codec.specs.Spelling as spell
 use Rattle.update_codec.specs.Spelling.{Spells, IsSpelling}
@@ -256,5 +256,15 @@ fails_only bytes Memory x u fails s = tt
 fails_only bytes (Fault fault) x u fails s = absurd (never_both bytes u fault (first_again bytes u s) fails)
 
 -- What is kept of bytes that were read agrees with them.
-pub kept_as_read : (bytes : List ℕ) (body : BodyData) (signature : List ℕ) → AreBytes bytes → first_of bytes ≡ found (record { body = body; signature = signature }) → IsKept bytes body (id_of bytes)
+pub kept_as_read : (bytes : List ℕ) (body : BodyData) (signature : List ℕ) → AreBytes bytes → first_of bytes ≡ found (record { body = body; signature = signature }) → IsKept bytes (header_from body) (id_of bytes)
 kept_as_read bytes body signature fits e = kept_of bytes (record { body = body; signature = signature }) (first_spells bytes _ fits e)
+
+-- Bytes that spell an update are read as its body, and never refused.
+pub body_as_read : (bytes : List ℕ) (body : BodyData) (signature : List ℕ) → Spells bytes (update_of bytes) → first_of bytes ≡ found (record { body = body; signature = signature }) → body ≡ body_of bytes
+body_as_read bytes body signature s e = same (record { body = body; signature = signature }) (update_of bytes) (sym e ∙ first_again bytes (update_of bytes) s)
+  where
+    same : (a b : UpdateData) → found a ≡ found b → a.body ≡ b.body
+    same a b e = cc
+
+pub never_refused : (bytes : List ℕ) (error : DecodeError) (fault : CodecFault) → Spells bytes (update_of bytes) → error ≡ Fault fault → Fails error (first_of bytes) → ⊥
+never_refused bytes error fault s is fails = never_both bytes (update_of bytes) fault (first_again bytes (update_of bytes) s) (subst (λ (e : DecodeError). Fails e (first_of bytes)) is fails)

@@ -15,7 +15,7 @@ use Rattle.update_codec.specs.Parts.{database_of, author_of, first_ids, pred_cou
 use Rattle.update_codec.specs.Reading.{Read, ops_at, body_at}
 use Rattle.update_codec.specs.Spelling as spell
 use Rattle.update_codec.specs.Spelling.{Spells}
-use Rattle.update_codec.specs.Kept.{IsKept}
+use Rattle.update_codec.specs.Kept.{IsKept, header_from}
 use Rattle.update_codec.proofs.Again.{before_ops_flat, body_again}
 use Rattle.update_codec.proofs.AgainRows.{ops_again}
 use Rattle.update_codec.proofs.Stops.{ids_length}
@@ -201,26 +201,26 @@ update_stands bytes update s =
     λ t. record { body = record { database = database t; author = author t; preds = preds t; ops = ops t; note = note t }; signature = signature t }
 
 -- What agrees with the update that bytes spell may be kept beside them.
-pub kept_of : (bytes : List ℕ) (update : UpdateData) → Spells bytes update → IsKept bytes update.body (id_of bytes)
+pub kept_of : (bytes : List ℕ) (update : UpdateData) → Spells bytes update → IsKept bytes (header_from update.body) (id_of bytes)
 kept_of bytes update s =
     let is = update_stands bytes update s in
-    record { spells = subst (λ (u : UpdateData). Spells bytes u) (sym is) s; same_body = ap (λ (u : UpdateData). u.body) (sym is); same_id = refl }
+    record { spells = subst (λ (u : UpdateData). Spells bytes u) (sym is) s; same_header = ap (λ (u : UpdateData). header_from u.body) (sym is); same_id = refl }
 
 -- the last bytes of what is kept, as a slice of it is seen
-pub signature_read : (slice kept : List ℕ) (body : BodyData) (len n : ℕ) → slice ≡ kept → len ≡ length slice → n ≡ signature_length body.author → body ≡ body_of kept
+pub signature_read : (slice kept : List ℕ) (author : AuthorKey) (len n : ℕ) → slice ≡ kept → len ≡ length slice → n ≡ signature_length author → author ≡ author_of kept
     → take (length slice - (len - n)) (drop (len - n) slice) ≡ signature_of kept
 unfolding signature_of
-signature_read slice kept body len n is e sized same =
-    take_rest slice (len - n) ∙ at slice kept len n (signature_length (author_of kept)) is e (sized ∙ ap (λ (b : BodyData). signature_length b.author) same)
+signature_read slice kept author len n is e sized same =
+    take_rest slice (len - n) ∙ at slice kept len n (signature_length (author_of kept)) is e (sized ∙ ap signature_length same)
   where
     at : (slice kept : List ℕ) (len n m : ℕ) → slice ≡ kept → len ≡ length slice → n ≡ m → drop (len - n) slice ≡ drop (length kept - m) kept
     at slice kept len n m is e a = rw (e, a, is) refl
 
 -- the first bytes of what is kept, as a slice of it is seen
-pub message_read : (slice kept : List ℕ) (body : BodyData) (len n : ℕ) → slice ≡ kept → len ≡ length slice → n ≡ signature_length body.author → body ≡ body_of kept → Spells kept (update_of kept)
+pub message_read : (slice kept : List ℕ) (author : AuthorKey) (len n : ℕ) → slice ≡ kept → len ≡ length slice → n ≡ signature_length author → author ≡ author_of kept → Spells kept (update_of kept)
     → take (len - n - 4) slice ≡ spell.message (body_of kept)
-message_read slice kept body len n is e sized same s =
-    front slice (spell.message (body_of kept)) (to_be_bytes w32 (length (signature_of kept))) (signature_of kept) len n (is ∙ s.spells) e refl (sized ∙ ap (λ (b : BodyData). signature_length b.author) same ∙ sym s.form.signature.len)
+message_read slice kept author len n is e sized same s =
+    front slice (spell.message (body_of kept)) (to_be_bytes w32 (length (signature_of kept))) (signature_of kept) len n (is ∙ s.spells) e refl (sized ∙ ap signature_length same ∙ sym s.form.signature.len)
   where
     front : (slice m l t : List ℕ) (len n : ℕ) → slice ≡ m ++ (l ++ t) → len ≡ length slice → length l ≡ 4 → n ≡ length t → take (len - n - 4) slice ≡ m
     front slice m l t len n parts e four sized =

@@ -3,6 +3,7 @@
 ghost use Rattle.std.specs.Prelude.{◌≡◌, ◌+◌, List, ℕ, Ok, Err, IfOk, IfErr};
 ghost use Rattle.update_model.specs.Form.{BodyData, UpdateData, most_ops as most_by};
 ghost use Rattle.update_codec.specs.Outcome.{Shows, Answers, Fails, HasCause};
+ghost use Rattle.update_codec.specs.Parts.{body_of as body_by, update_of};
 ghost use Rattle.update_codec.specs.Reading.{Gives, Stops, first_note as first_by, before_ops_at, note_at, body_at, whole, placed as placed_in, first_of};
 ghost use Rattle.update_codec.specs.Spelling.{Spells};
 
@@ -13,7 +14,7 @@ use crate::operations::ops_of;
 use crate::predecessors::preds_of;
 use crate::values::text_of;
 use crate::{CodecFault, CodecKind, DecodeError};
-use std::alloc::Global;
+use std::alloc::{AllocError, Global};
 use update_model::{
     Body, ByteList, IdList, MAX_NOTE, MAX_OPS, MAX_PLAIN_OPS, MAX_PREDS, OpList, TextValue, Update,
     signature_len,
@@ -58,6 +59,18 @@ pub(crate) fn parts_of(alloc: Global, bytes: &[u8]) -> Result<(Body, &[u8]), Dec
             kind: halt.kind,
             place: bytes.len().saturating_sub(halt.left) as u32,
         })),
+    }
+}
+
+/// The body of the update that these bytes spell. They have no fault, so nothing but want of memory is in the way.
+pub(crate) fn spelled_body(alloc: Global, bytes: &[u8]) -> Result<Body, AllocError>
+    requires { Spells bytes.now (update_of bytes.now) }
+    ensures { IfOk result (λ body. body ≡ body_by bytes.now) }
+{
+    match parts_of(alloc, bytes) {
+        Ok((body, _signature)) => Ok(body),
+        Err(DecodeError::Memory) => Err(AllocError),
+        Err(DecodeError::Fault(_)) => unreachable!(),
     }
 }
 

@@ -24,6 +24,7 @@ mod encode_error;
 mod encoding;
 mod fields;
 mod halt;
+mod header;
 mod laws;
 mod limits;
 mod operations;

@@ -72,17 +72,17 @@ fn noted_of<D: Disk>(
 }
 
 /// The note of an update, which is empty where it has none.
-fn note_of(update: &Checked) -> &[u8]
+pub fn note_of(update: &Checked) -> &[u8]
     ensures { result.now ≡ note_text update.now }
 {
-    match &update.body().note {
+    match update.note() {
         Some(note) => note.as_slice(),
         None => &[],
     }
 }
 
-/// Puts updates in order of ids, which rise where no two are equal.
-fn in_order<'a>(mut noted: Vec<&'a Checked>) -> Vec<&'a Checked>
+/// Puts updates in order of ids. These rise, where the updates are those of a closed list that have a note.
+pub fn in_order<'a>(mut noted: Vec<&'a Checked>) -> Vec<&'a Checked>
     ensures { (members : List (List ℕ)) → IsClosed (map entry_of members) → map (λ update. update.now) noted.entry.items ≡ filter is_noted members
         → AreNoted members (map (λ update. update.now) result.items) }
 {

@@ -9,4 +9,4 @@ pub returns : goal.returns
 returns c =
     let sig = c.signature.ensures in
     front c.bytes-bytes.result.now (message (body_of c.args.update.now)) c.signature.result.now
-    (c.bytes-bytes.ensures ∙ c.body.ensures.signed.spells.spells ∙ (λ i. message (c.body.ensures.value i) ++ (to_be_bytes w32 (length (sym sig i)) ++ sym sig i)))
+    (c.bytes-bytes.ensures ∙ c.author.ensures.signed.spells.spells ∙ (λ i. message (body_of c.args.update.now) ++ (to_be_bytes w32 (length (sym sig i)) ++ sym sig i)))

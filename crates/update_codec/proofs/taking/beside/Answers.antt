@@ -9,4 +9,4 @@ returns-in_err-body-clause-cause c =
     rw (p.1, p.2) (refused_of c.args.bytes.now c.in_err-body.field-0.0 (λ i. omega (arith, c.type_inv.bytes i)) c.in_err-body.ensures)
 
 pub returns-clause-kept : goal.returns-clause-kept
-returns-clause-kept c = rw c.id_of.ensures (kept_as_read c.args.bytes.now c.in_ok-body.body c.in_ok-body._signature.now (λ i. omega (arith, c.type_inv.bytes i)) c.in_ok-body.ensures)
+returns-clause-kept c = rw (c.id_of.ensures, c.of_body.ensures) (kept_as_read c.args.bytes.now c.in_ok-body.body c.in_ok-body._signature.now (λ i. omega (arith, c.type_inv.bytes i)) c.in_ok-body.ensures)

@@ -1,7 +1,6 @@
-use Rattle.std.proofs.Common.{◌↔◌, IsTrue, subst}
-use Rattle.update_model.specs.Form.{BodyData}
-use Rattle.update_check.specs.Signed.{IsUnder}
+use Rattle.update_check.proofs.Whole.{taken_under}
 use Rattle.update_check.proofs.checked_update.Checked.is_under.Goals as goal
 
 pub returns : goal.returns
-returns c = subst (λ (b : BodyData). IsTrue c.is_body_under.result ↔ IsUnder c.args.rule.now b) c.body.ensures.value c.is_body_under.ensures
+returns c =
+    taken_under c.args.rule.now c.args.self.now c.database.result.now c.author.result.now c.is_taken.result c.database.ensures c.author.ensures.value c.is_taken.ensures

@@ -4,5 +4,5 @@ use Rattle.update_codec.proofs.spelled_update.Spelled.signature.Goals as goal
 
 pub returns : goal.returns
 returns c =
-    signature_read c.deref.result.now c.args.self.now (record { database = c.behind-self.inside.database; author = c.behind-self.inside.author; preds = c.behind-self.inside.preds; ops = c.behind-self.inside.ops; note = c.behind-self.inside.note }) c.len.result c.signature_len-len.result
-    (c.deref.ensures.value ∙ c.self.view_is) (c.len.ensures ∙ sym c.deref.ensures.len) c.signature_len-len.ensures (c.behind-self.view_is ∙ c.body.ensures.value)
+    signature_read c.deref.result.now c.args.self.now c.author.result.now c.len.result c.signature_len-len.result
+    (c.deref.ensures.value ∙ c.self.view_is) (c.len.ensures ∙ sym c.deref.ensures.len) c.signature_len-len.ensures c.author.ensures.value
