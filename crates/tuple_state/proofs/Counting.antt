@@ -17,7 +17,7 @@ use Rattle.tuple_state.proofs.Restricting.{if_ok}
 
 -- ---- counts of changed lists
 
-count_of_kept : {X : Type 0} (t k : X → Bool) (xs : List X) → count_by t (filter k xs) ≡ count_by (λ x. k x && t x) xs
+pub count_of_kept : {X : Type 0} (t k : X → Bool) (xs : List X) → count_by t (filter k xs) ≡ count_by (λ x. k x && t x) xs
 count_of_kept t k [] = refl
 count_of_kept t k (x ∷ xs) =
     let rest = count_of_kept t k xs in

@@ -15,7 +15,7 @@ use Rattle.tuple_state.specs.Links.{Linked, is_of}
 
 pub kept_new : (rules : Rules) (shapes : List Shape) (places : BTreeMap RowName ℕ) (children deleters : Linked) → places.entries ≡ [] → children ≡ record { size = 0; links = [] } → deleters ≡ record { size = 0; links = [] }
     → IsStateOf rules [] (record { shapes = shapes; count = 0; inserted = []; dropped = []; voids = [] })
-    → IsKept (record { shapes = shapes; count = 0; inserted = []; dropped = []; voids = [] }) places [] children deleters [] [] []
+    → IsKept (record { shapes = shapes; count = 0; inserted = []; dropped = []; voids = [] }) places [] children deleters [] [] [] []
 unfolding are_layered ends_from parents_from
 kept_new rules shapes places children deleters none childless empty held = record {
   held = record { rules = rules; nodes = []; is = held };
@@ -32,6 +32,7 @@ kept_new rules shapes places children deleters none childless empty held = recor
   grouped = grouped_none shapes [];
   sized = λ keeps. refl;
   spare = refl;
+  threaded = refl;
   homes = ap (λ (d : Linked). d.size) childless;
   named = ap (λ (d : Linked). pairs_of d.links) childless;
   ended = refl;

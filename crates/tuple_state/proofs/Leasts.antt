@@ -16,7 +16,7 @@ use Rattle.tuple_state.specs.declared.shape.Shape.{Shape}
 use Rattle.tuple_state.specs.declared.links.Link.{Link}
 use Rattle.tuple_state.specs.Links.{is_of}
 use Rattle.tuple_state.specs.Causes.{absent_times}
-use Rattle.tuple_state.specs.Least.{AreGrouped, AreSettled, IsFirst, IsLeastOf, NoneStands, any_from, are_equal, is_behind, is_first, is_first_at, is_lesser, is_lesser_at, is_free, is_passed, is_passed_in, is_standing, passed_by}
+use Rattle.tuple_state.specs.Least.{AreGrouped, AreLeast, AreSettled, IsFirst, IsLeastOf, NoneStands, any_from, are_equal, is_behind, is_first, is_first_at, is_lesser, is_lesser_at, is_free, is_in, is_passed, is_passed_in, is_standing, passed_by}
 use Rattle.tuple_state.specs.State.{keep_any, row_of, rules_over}
 use Rattle.tuple_state.proofs.Layers.{plain_shapes}
 use Rattle.tuple_state.proofs.Grouping.{group_same, last_or}
@@ -117,16 +117,16 @@ least_end rows standing n None past none = λ k it below at. none k it (omega (a
 least_end rows standing n (Some q) past f = record { it = f.it; at = f.at; stands = f.stands; least = λ k other below there stands. f.least k other (omega (arith, below, past)) there stands }
 
 module _ (rows : List Inserted) (causes groups : List ℕ) (least : List (Option ℕ)) (table n : ℕ) (it : Inserted) (at : slice_get rows n ≡ Some it)
-    (are : (g : ℕ) → IsLeastOf rows (is_standing causes groups table g) n (get_or least g None)) where
-  not_own : (g : ℕ) → (get_or groups n 0 == g) ≡ false → is_standing causes groups table g n it ≡ false
-  not_own g e =
+    (g : ℕ) (are : IsLeastOf rows (is_standing causes groups table g) n (get_or least g None)) where
+  not_own : (get_or groups n 0 == g) ≡ false → is_standing causes groups table g n it ≡ false
+  not_own e =
       let step : (a : Bool) → ((a && (get_or groups n 0 == g)) && (get_or causes n 0 == 0)) ≡ false = elim [ true ↦ ap (λ b. b && (get_or causes n 0 == 0)) e | false ↦ refl ] in
       step (it.entry.table == table)
 
   -- a row that is better than the least one of its group
   pub least_then : (((it.entry.table == table) && (get_or causes n 0 == 0)) && is_first rows it (get_or least (get_or groups n 0) None)) ≡ true → get_or groups n 0 < length least
-      → (g : ℕ) → IsLeastOf rows (is_standing causes groups table g) (n + 1) (get_or (set least (get_or groups n 0) (Some n)) g None)
-  least_then better inside g =
+      → IsLeastOf rows (is_standing causes groups table g) (n + 1) (get_or (set least (get_or groups n 0) (Some n)) g None)
+  least_then better inside =
       let parts = and_parts ((it.entry.table == table) && (get_or causes n 0 == 0)) _ better in
       let two = and_parts (it.entry.table == table) _ parts.0 in
       let step : (b : Bool) → (get_or groups n 0 == g) ≡ b → IsLeastOf rows (is_standing causes groups table g) (n + 1) (get_or (set least (get_or groups n 0) (Some n)) g None) = elim [
@@ -134,19 +134,19 @@ module _ (rows : List Inserted) (causes groups : List ℕ) (least : List (Option
             let same : get_or groups n 0 ≡ g = eqb-true (get_or groups n 0) g e in
             let here : get_or (set least (get_or groups n 0) (Some n)) g None ≡ Some n = ap (λ k. get_or (set least (get_or groups n 0) (Some n)) k None) (sym same) ∙ (rw get_or-set_same refl) in
             subst (λ (o : Option ℕ). IsLeastOf rows (is_standing causes groups table g) (n + 1) o) (sym here)
-            (extend_new rows (is_standing causes groups table g) n it at (and_from _ _ (and_from _ _ two.0 e) two.1) (get_or least g None) (ap (λ k. is_first rows it (get_or least k None)) (sym same) ∙ parts.1) (are g))
+            (extend_new rows (is_standing causes groups table g) n it at (and_from _ _ (and_from _ _ two.0 e) two.1) (get_or least g None) (ap (λ k. is_first rows it (get_or least k None)) (sym same) ∙ parts.1) are)
         | false ↦ λ e.
             let ne : g ≢ get_or groups n 0 = λ s. both_ways _ e (eq-eqb (get_or groups n 0) g (sym s)) in
             let there : get_or (set least (get_or groups n 0) (Some n)) g None ≡ get_or least g None = (rw get_or-set_other refl) in
             subst (λ (o : Option ℕ). IsLeastOf rows (is_standing causes groups table g) (n + 1) o) (sym there)
-            (extend_same rows (is_standing causes groups table g) n it at (not_own g e) (get_or least g None) (are g))
+            (extend_same rows (is_standing causes groups table g) n it at (not_own e) (get_or least g None) are)
       ] in
       step (get_or groups n 0 == g) refl
 
   -- one that is not
   pub least_else : (((it.entry.table == table) && (get_or causes n 0 == 0)) && is_first rows it (get_or least (get_or groups n 0) None)) ≡ false
-      → (g : ℕ) → IsLeastOf rows (is_standing causes groups table g) (n + 1) (get_or least g None)
-  least_else worse g =
+      → IsLeastOf rows (is_standing causes groups table g) (n + 1) (get_or least g None)
+  least_else worse =
       let step : (b c d : Bool) → (get_or groups n 0 == g) ≡ b → ((it.entry.table == table) && (get_or causes n 0 == 0)) ≡ c → is_first rows it (get_or least (get_or groups n 0) None) ≡ d → (c && d) ≡ false
       → IsLeastOf rows (is_standing causes groups table g) (n + 1) (get_or least g None) = elim [
         | true ↦ elim [
@@ -154,11 +154,11 @@ module _ (rows : List Inserted) (causes groups : List ℕ) (least : List (Option
             | true ↦ λ e f h bad. absurd cc
             | false ↦ λ e f h bad.
                 let same : get_or groups n 0 ≡ g = eqb-true (get_or groups n 0) g e in
-                extend_kept rows (is_standing causes groups table g) n it at (get_or least g None) (ap (λ k. is_first rows it (get_or least k None)) (sym same) ∙ h) (are g)
+                extend_kept rows (is_standing causes groups table g) n it at (get_or least g None) (ap (λ k. is_first rows it (get_or least k None)) (sym same) ∙ h) are
           ]
-          | false ↦ λ d e f h bad. extend_same rows (is_standing causes groups table g) n it at (turned (it.entry.table == table) (get_or groups n 0 == g) (get_or causes n 0 == 0) f) (get_or least g None) (are g)
+          | false ↦ λ d e f h bad. extend_same rows (is_standing causes groups table g) n it at (turned (it.entry.table == table) (get_or groups n 0 == g) (get_or causes n 0 == 0) f) (get_or least g None) are
         ]
-        | false ↦ λ c d e f h bad. extend_same rows (is_standing causes groups table g) n it at (not_own g e) (get_or least g None) (are g)
+        | false ↦ λ c d e f h bad. extend_same rows (is_standing causes groups table g) n it at (not_own e) (get_or least g None) are
       ] in
       step (get_or groups n 0 == g) ((it.entry.table == table) && (get_or causes n 0 == 0)) (is_first rows it (get_or least (get_or groups n 0) None)) refl refl refl worse
     where
@@ -235,7 +235,7 @@ settled_based shapes rows links base other causes same s k =
 -- ---- rows behind the least one of their group
 
 module _ (shapes : List Shape) (rows : List Inserted) (groups causes : List ℕ) (least : List (Option ℕ)) (table column : ℕ) (grouped : AreGrouped shapes rows groups) (all : length groups ≡ length rows)
-    (kept : kept_of (rules_over shapes) table ≡ Some column) (are : (g : ℕ) → IsLeastOf rows (is_standing causes groups table g) (length rows) (get_or least g None)) where
+    (kept : kept_of (rules_over shapes) table ≡ Some column) (are : AreLeast rows causes groups table (length rows) least) where
   module _ (k : ℕ) (it : Inserted) (at : slice_get rows k ≡ Some it) (own : it.entry.table ≡ table) where
     abbrev test : ℕ → Inserted → Bool
     test place other = goes_before column (row_of it) (row_of other) && (get_or causes place 0 == 0)
@@ -292,4 +292,4 @@ module _ (shapes : List Shape) (rows : List Inserted) (groups causes : List ℕ)
 
     -- a row is behind the least one of its group where a row that stands goes before it
     pub behind_is : is_behind rows groups least table k (Some it) ≡ any_from test 0 rows
-    behind_is = ap (λ b. b && is_lesser rows it (get_or least (get_or groups k 0) None)) (eq-eqb it.entry.table table own) ∙ behind_by (get_or least (get_or groups k 0) None) (are (get_or groups k 0))
+    behind_is = ap (λ b. b && is_lesser rows it (get_or least (get_or groups k 0) None)) (eq-eqb it.entry.table table own) ∙ behind_by (get_or least (get_or groups k 0) None) (are k (ap (is_in table) at ∙ eq-eqb it.entry.table table own))

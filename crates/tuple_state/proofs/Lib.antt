@@ -24,6 +24,7 @@ pub mod Marks
 pub mod Meaning
 pub mod Once
 pub mod Ordered
+pub mod Parting
 pub mod Pasts
 pub mod Raising
 pub mod Reaching
@@ -34,5 +35,6 @@ pub mod Shortening
 pub mod Spans
 pub mod Starting
 pub mod Stepping
+pub mod Threading
 pub mod Voiding
 pub mod Walking

@@ -313,7 +313,7 @@ all_kept : {X : Type 0} (xs : List X) → filter (λ x. true) xs ≡ xs
 all_kept [] = refl
 all_kept (x ∷ xs) = ap (λ l. x ∷ l) (all_kept xs)
 
-module _ (state : State) (places : BTreeMap RowName ℕ) (causes : List ℕ) (children deleters : Linked) (ends groups : List ℕ) (least : List (Option ℕ)) (kept : IsKept state places causes children deleters ends groups least) where
+module _ (state : State) (places : BTreeMap RowName ℕ) (causes : List ℕ) (children deleters : Linked) (ends groups : List ℕ) (least : List (Option ℕ)) (nexts : List ℕ) (kept : IsKept state places causes children deleters ends groups least nexts) where
   abbrev names_gone : List RowName
   names_gone = reverse (map (λ (d : Dropped). d.name) state.dropped)
 

@@ -9,7 +9,7 @@ use Rattle.tuple_state.specs.declared.inserted.Inserted.{Inserted}
 use Rattle.tuple_state.specs.declared.links.Link.{Link}
 use Rattle.tuple_state.specs.declared.shape.Shape.{Shape}
 use Rattle.tuple_state.specs.Causes.{AreRising, absent_times, is_absent, one_at, times_in}
-use Rattle.tuple_state.specs.Least.{AreGrouped, AreLevel, AreSettled, IsLeastOf, any_from, is_behind, is_free, is_in, is_level, is_passed, is_passed_in, is_standing, passed_by}
+use Rattle.tuple_state.specs.Least.{AreGrouped, AreLeast, AreLevel, AreSettled, any_from, is_behind, is_free, is_in, is_level, is_passed, is_passed_in, passed_by}
 use Rattle.tuple_state.specs.State.{row_of, rules_over}
 use Rattle.tuple_state.proofs.Dropping.{row_there}
 use Rattle.tuple_state.proofs.Grouping.{below_or, last_or}
@@ -34,7 +34,7 @@ none_higher causes low high k (link ∷ links) rise above =
     ∙ (λ i. unit ((ap (λ b. is_absent causes link.place && b) other ∙ and_none (is_absent causes link.place)) i) + none_higher causes link.number high k links rise.3 above i)
 
 -- counts of absent places agree where they agree on those that have the number
-absent_agree : (a b : List ℕ) (k : ℕ) (links : List Link) → ((n : ℕ) (link : Link) → slice_get links n ≡ Some link → link.number ≡ k → is_absent a link.place ≡ is_absent b link.place) → absent_times links a k ≡ absent_times links b k
+pub absent_agree : (a b : List ℕ) (k : ℕ) (links : List Link) → ((n : ℕ) (link : Link) → slice_get links n ≡ Some link → link.number ≡ k → is_absent a link.place ≡ is_absent b link.place) → absent_times links a k ≡ absent_times links b k
 absent_agree a b k [] h = refl
 absent_agree a b k (link ∷ links) h =
     let step : (c : Bool) → (link.number == k) ≡ c → (is_absent a link.place && c) ≡ (is_absent b link.place && c) = elim [
@@ -292,7 +292,7 @@ module _ (shapes : List Shape) (rows : List Inserted) (links : List Link) (rise 
 
     -- a table that keeps one
     module _ (groups : List ℕ) (least : List (Option ℕ)) (column : ℕ) (new : List ℕ) (kept : kept_of (rules_over shapes) table ≡ Some column) (grouped : AreGrouped shapes rows groups) (all : length groups ≡ length rows)
-        (are : (g : ℕ) → IsLeastOf rows (is_standing counted groups table g) (length rows) (get_or least g None))
+        (are : AreLeast rows counted groups table (length rows) least)
         (behind : (k : ℕ) → get_or new k 0 ≡ get_or counted k 0 + one_where (is_behind rows groups least table k (slice_get rows k))) where
       new_others : (k : ℕ) (it : Inserted) → slice_get rows k ≡ Some it → it.entry.table ≢ table → get_or new k 0 ≡ get_or counted k 0
       new_others k it at ne =
@@ -340,7 +340,7 @@ module _ (shapes : List Shape) (rows : List Inserted) (links : List Link) (rise 
 
     -- a table of either kind
     pub settled_next : (groups : List ℕ) (least : List (Option ℕ)) (new : List ℕ) → AreGrouped shapes rows groups → length groups ≡ length rows → (kept : Option ℕ) → kept_of (rules_over shapes) table ≡ kept → (keeps : Bool) → keeps ≡ is_some kept
-        → (keeps ≡ true → (g : ℕ) → IsLeastOf rows (is_standing counted groups table g) (length rows) (get_or least g None))
+        → (keeps ≡ true → AreLeast rows counted groups table (length rows) least)
         → (keeps ≡ true → (k : ℕ) → get_or new k 0 ≡ get_or counted k 0 + one_where (is_behind rows groups least table k (slice_get rows k)))
         → (keeps ≡ false → new ≡ counted) → AreSettledTo shapes rows links base (table + 1) new
     settled_next groups least new grouped all None kept keeps is are behind plain = subst (λ (l : List ℕ). AreSettledTo shapes rows links base (table + 1) l) (sym (plain is)) (settled_plain kept)

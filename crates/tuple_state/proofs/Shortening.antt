@@ -33,9 +33,9 @@ use Rattle.tuple_state.proofs.Spans.{ends-take}
 
 -- ---- the rest stays
 
-pub kept_places : (state : State) (places after_places : BTreeMap RowName ℕ) (causes : List ℕ) (children after_children deleters after_deleters : Linked) (ends groups : List ℕ) (least : List (Option ℕ)) → IsKept state places causes children deleters ends groups least
-    → ((name : RowName) → get name_cmp after_places name ≡ place_of state.inserted name) → after_children ≡ children → after_deleters ≡ deleters → IsKept state after_places causes after_children after_deleters ends groups least
-kept_places state places after_places causes children after_children deleters after_deleters ends groups least kept placed alike same = record {
+pub kept_places : (state : State) (places after_places : BTreeMap RowName ℕ) (causes : List ℕ) (children after_children deleters after_deleters : Linked) (ends groups : List ℕ) (least : List (Option ℕ)) (nexts : List ℕ) → IsKept state places causes children deleters ends groups least nexts
+    → ((name : RowName) → get name_cmp after_places name ≡ place_of state.inserted name) → after_children ≡ children → after_deleters ≡ deleters → IsKept state after_places causes after_children after_deleters ends groups least nexts
+kept_places state places after_places causes children after_children deleters after_deleters ends groups least nexts kept placed alike same = record {
   held = kept.held;
   few = kept.few;
   bounded = kept.bounded;
@@ -50,6 +50,7 @@ kept_places state places after_places causes children after_children deleters af
   grouped = kept.grouped;
   sized = kept.sized;
   spare = kept.spare;
+  threaded = kept.threaded;
   homes = ap (λ (d : Linked). d.size) alike ∙ kept.homes;
   named = ap (λ (d : Linked). pairs_of d.links) alike ∙ kept.named;
   ended = kept.ended;
@@ -59,9 +60,9 @@ kept_places state places after_places causes children after_children deleters af
   deleted = ap (λ (d : Linked). pairs_of d.links) same ∙ kept.deleted;
 }
 
-pub kept_void : (state : State) (places : BTreeMap RowName ℕ) (causes : List ℕ) (children deleters : Linked) (ends groups : List ℕ) (least : List (Option ℕ)) (voids : List Voided) → IsKept state places causes children deleters ends groups least → state.count < MAX_MEMBERS
-    → IsHeld (record state { count = state.count + 1; voids = voids }) → IsKept (record state { count = state.count + 1; voids = voids }) places causes children deleters ends groups least
-kept_void state places causes children deleters ends groups least voids kept few held = record {
+pub kept_void : (state : State) (places : BTreeMap RowName ℕ) (causes : List ℕ) (children deleters : Linked) (ends groups : List ℕ) (least : List (Option ℕ)) (nexts : List ℕ) (voids : List Voided) → IsKept state places causes children deleters ends groups least nexts → state.count < MAX_MEMBERS
+    → IsHeld (record state { count = state.count + 1; voids = voids }) → IsKept (record state { count = state.count + 1; voids = voids }) places causes children deleters ends groups least nexts
+kept_void state places causes children deleters ends groups least nexts voids kept few held = record {
   held = held;
   few = omega (arith, few);
   bounded = kept.bounded;
@@ -73,6 +74,7 @@ kept_void state places causes children deleters ends groups least voids kept few
   grouped = kept.grouped;
   sized = kept.sized;
   spare = kept.spare;
+  threaded = kept.threaded;
   homes = kept.homes;
   named = kept.named;
   ended = kept.ended;
@@ -236,14 +238,14 @@ module _ (rules : Rules) (newer older : List NodeData) (state : State) (len : �
     pub children_inside : are_inside rows (take n children) ≡ true
     children_inside = rising_inside 0 rows (take n children) rising_old
 
-  pub kept_old : (places after_places : BTreeMap RowName ℕ) (causes after_causes : List ℕ) (children deleters : Linked) (ends groups after_groups : List ℕ) (least after_least : List (Option ℕ)) (rows names n : ℕ) → IsKept state places causes children deleters ends groups least
+  pub kept_old : (places after_places : BTreeMap RowName ℕ) (causes after_causes : List ℕ) (children deleters : Linked) (ends groups after_groups : List ℕ) (least after_least : List (Option ℕ)) (nexts after_nexts : List ℕ) (rows names n : ℕ) → IsKept state places causes children deleters ends groups least nexts
       → rows ≡ count_by (λ (it : Inserted). nat_lt it.position len) state.inserted → names ≡ count_by (λ (it : Dropped). nat_lt it.position len) state.dropped
       → n ≡ count_by (λ (l : Link). nat_lt l.number rows) children.links
       → ((name : RowName) → get name_cmp after_places name ≡ place_of old.inserted name) → length after_causes ≡ length old.inserted
       → AreSettled old.shapes old.inserted (take n children.links) (λ k. count_by (is_of k) (take names deleters.links)) after_causes
-      → AreGrouped old.shapes old.inserted after_groups → (keep_any old.shapes ≡ true → length after_groups ≡ length old.inserted) → length after_least ≡ length after_groups
-      → IsKept old after_places after_causes (record { size = rows; links = take n children.links }) (record { size = rows; links = take names deleters.links }) (take rows ends) after_groups after_least
-  kept_old places after_places causes after_causes children deleters ends groups after_groups least after_least rows names n kept is drops refs placed size counts grouped sized spare = record {
+      → AreGrouped old.shapes old.inserted after_groups → (keep_any old.shapes ≡ true → length after_groups ≡ length old.inserted) → length after_least ≡ length after_groups → length after_nexts ≡ length after_groups
+      → IsKept old after_places after_causes (record { size = rows; links = take n children.links }) (record { size = rows; links = take names deleters.links }) (take rows ends) after_groups after_least after_nexts
+  kept_old places after_places causes after_causes children deleters ends groups after_groups least after_least nexts after_nexts rows names n kept is drops refs placed size counts grouped sized spare threaded = record {
     held = record { rules = rules; nodes = older; is = old_held };
     few = let a = count_is rules older in let b = ap (λ (s : State). s.count) held.is ∙ count_is rules (newer ++ older) in let c = length-append newer older in omega (arith, a, b, c, kept.few);
     bounded = λ n.
@@ -258,6 +260,7 @@ module _ (rules : Rules) (newer older : List NodeData) (state : State) (len : �
     grouped = grouped;
     sized = sized;
     spare = spare;
+    threaded = threaded;
     homes = rows_len rows is;
     named = named_old children.links rows n kept.named is refs;
     ended =

@@ -106,7 +106,7 @@ pub end_is : (rules : Rules) (rows : List Inserted) (ends : List ℕ) (k to d : 
 end_is rules rows ends k to d ended below is = begin_later rules rows ends (k + 1) to d ended (omega (arith, below)) (λ e. omega (arith, e)) (is ∙ ap (λ n. get_or ends n d) (let e : k ≡ k + 1 - 1 = omega arith in e))
 
 module _ (rules : Rules) (place : RowName → Option ℕ) (rows : List Inserted) (links : List Link) (named : pairs_of links ≡ deletes_at place (parents_from rules 0 rows)) (k : ℕ) (it : Inserted) (at : slice_get rows k ≡ Some it) where
-  next_is : before rules rows (k + 1) ≡ before rules rows k + length (cascade_refs rules (row_of it))
+  pub next_is : before rules rows (k + 1) ≡ before rules rows k + length (cascade_refs rules (row_of it))
   unfolding parents_from
   next_is =
       let below = slice_get_below rows k it at in

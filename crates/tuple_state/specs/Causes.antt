@@ -1,5 +1,5 @@
 -- Counts of why rows are absent, by the links from each row to those that name it.
-use Rattle.std.specs.Prelude.{◌≡◌, ℕ, ◌+◌, ◌<◌, ◌≤◌, ◌==◌, Bool, true, not, ◌&&◌, nat_lt, List, [], ◌∷◌, ◌++◌, length, map, count_by, sum_by, slice_index_or, if◌then◌else◌}
+use Rattle.std.specs.Prelude.{◌≡◌, ℕ, zero, suc, ◌+◌, ◌-◌, ◌<◌, ◌≤◌, ◌==◌, Bool, true, not, ◌&&◌, nat_lt, List, [], ◌∷◌, ◌++◌, length, map, count_by, sum_by, drop, filter, take, slice_index_or, if◌then◌else◌}
 use Rattle.std.specs.List.{list_all}
 use Rattle.table_model.specs.Visible.{Rules, cascade_refs}
 use Rattle.tuple_state.specs.declared.dropped.Dropped.{Dropped}
@@ -62,3 +62,14 @@ parents_from rules place (it ∷ rows) = map (λ r. dropped_at place r.name) (ca
 unfoldable pub ends_from : Rules → ℕ → List Inserted → List ℕ
 ends_from rules from [] = []
 ends_from rules from (it ∷ rows) = (from + length (cascade_refs rules (row_of it))) ∷ ends_from rules (from + length (cascade_refs rules (row_of it))) rows
+
+-- where the numbers of a place begin, if those of each place end there
+abbrev pub begin_of : List ℕ → ℕ → ℕ
+begin_of ends zero = 0
+begin_of ends (suc k) = slice_index_or ends k 0
+
+-- The links with the number of a place are those from the end of the place before it up to its own.
+pub record AreParted (links : List Link) (ends : List ℕ) : Type 0 where
+  pub rises : (k : ℕ) → k < length ends → begin_of ends k ≤ slice_index_or ends k 0
+  pub few : (k : ℕ) → k < length ends → slice_index_or ends k 0 ≤ length links
+  pub own : (k : ℕ) → k < length ends → take (slice_index_or ends k 0 - begin_of ends k) (drop (begin_of ends k) links) ≡ filter (λ link. link.number == k) links

@@ -52,7 +52,7 @@ deletes_at place dropped = map (λ (drop : Dropped). (place drop.name, drop.posi
 -- The tables hold what some nodes do. The rows are layered and each is found by its name. By its place the updates that delete it
 -- are found, the rows that name it by CASCADE, and those that it names. Its count is that of the updates, of the absent rows among
 -- the latter, and 1 where a lesser candidate has its value in a column of which its table keeps the least row.
-pub record IsKept (state : State) (places : BTreeMap RowName ℕ) (causes : List ℕ) (children deleters : Linked) (ends groups : List ℕ) (least : List (Option ℕ)) : Type 0 where
+pub record IsKept (state : State) (places : BTreeMap RowName ℕ) (causes : List ℕ) (children deleters : Linked) (ends groups : List ℕ) (least : List (Option ℕ)) (nexts : List ℕ) : Type 0 where
   pub held : IsHeld state
   pub few : state.count ≤ MAX_MEMBERS
   pub bounded : (len : ℕ) → count_by (λ it. nat_lt it.position len) state.inserted ≤ 256 * len
@@ -64,6 +64,7 @@ pub record IsKept (state : State) (places : BTreeMap RowName ℕ) (causes : List
   pub grouped : AreGrouped state.shapes state.inserted groups
   pub sized : keep_any state.shapes ≡ true → length groups ≡ length state.inserted
   pub spare : length least ≡ length groups
+  pub threaded : length nexts ≡ length groups
   pub homes : children.size ≡ length state.inserted
   pub named : pairs_of children.links ≡ deletes_at (place_of state.inserted) (parents_from (rules_of_state state) 0 state.inserted)
   pub ended : ends ≡ ends_from (rules_of_state state) 0 state.inserted

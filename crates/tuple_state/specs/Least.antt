@@ -108,3 +108,8 @@ is_in table (Some it) = it.entry.table == table
 abbrev pub is_behind : List Inserted → List ℕ → List (Option ℕ) → ℕ → ℕ → Option Inserted → Bool
 is_behind rows groups least table place None = false
 is_behind rows groups least table place (Some it) = (it.entry.table == table) && is_lesser rows it (slice_index_or least (slice_index_or groups place 0) None)
+
+-- Of the first so many rows the least one is known of the group of each row of a table.
+abbrev pub AreLeast : List Inserted → List ℕ → List ℕ → ℕ → ℕ → List (Option ℕ) → Type 0
+AreLeast rows causes groups table len least = (k : ℕ) → is_in table (slice_get rows k) ≡ true
+    → IsLeastOf rows (is_standing causes groups table (slice_index_or groups k 0)) len (slice_index_or least (slice_index_or groups k 0) None)

@@ -10,3 +10,4 @@ pub mod Past
 pub mod Showing
 pub mod State
 pub mod Steps
+pub mod Threads

@@ -23,6 +23,8 @@ pub(crate) struct Groups {
     pub(crate) numbers: Vec<usize>,
     /// Room for the least row of each group.
     pub(crate) least: Vec<Option<usize>>,
+    /// Room for the place of the next row of its table, of each row.
+    pub(crate) nexts: Vec<usize>,
 }
 
 impl Groups {
@@ -30,10 +32,12 @@ impl Groups {
     pub(crate) fn new(alloc: Global) -> Groups
         ensures numbers { result.numbers.items ≡ [] }
         ensures least { result.least.items ≡ [] }
+        ensures nexts { result.nexts.items ≡ [] }
     {
         Groups {
             numbers: Vec::new(alloc),
             least: Vec::new(alloc),
+            nexts: Vec::new(alloc),
         }
     }
 
@@ -41,12 +45,15 @@ impl Groups {
     pub(crate) fn reserve(&mut self, shapes: &[Shape], more: usize) -> Result<(), AllocError>
         ensures numbers { self.new.numbers.items ≡ self.old.numbers.items }
         ensures least { self.new.least.items ≡ self.old.least.items }
+        ensures nexts { self.new.nexts.items ≡ self.old.nexts.items }
         ensures room { OnOk result (keep_any shapes.now ≡ true → length self.old.numbers.items + more ≤ vec_capacity self.new.numbers) }
         ensures space { OnOk result (keep_any shapes.now ≡ true → length self.old.least.items + more ≤ vec_capacity self.new.least) }
+        ensures way { OnOk result (keep_any shapes.now ≡ true → length self.old.nexts.items + more ≤ vec_capacity self.new.nexts) }
     {
         if keep_any(shapes) {
             self.numbers.reserve(more)?;
             self.least.reserve(more)?;
+            self.nexts.reserve(more)?;
         }
         Ok(())
     }
@@ -55,37 +62,45 @@ impl Groups {
     pub(crate) fn grow(&mut self, rows: &[Inserted], shapes: &[Shape])
         requires grouped { AreGrouped shapes.now rows.now self.old.numbers.items }
         requires each { length self.old.least.items ≡ length self.old.numbers.items }
+        requires threaded { length self.old.nexts.items ≡ length self.old.numbers.items }
         requires few { length self.old.numbers.items ≤ length rows.now }
         requires room { length rows.now ≤ vec_capacity self.old.numbers }
         requires space { length rows.now ≤ vec_capacity self.old.least }
+        requires way { length rows.now ≤ vec_capacity self.old.nexts }
         ensures grouped { AreGrouped shapes.now rows.now self.new.numbers.items }
         ensures all { length self.new.numbers.items ≡ length rows.now }
         ensures each { length self.new.least.items ≡ length rows.now }
+        ensures threaded { length self.new.nexts.items ≡ length rows.now }
     {
         for place in self.numbers.len()..rows.len() {
             let group = group_of(rows, self.numbers.as_slice(), shapes, place);
             self.numbers.push_reserved(group);
         }
         self.least.resize(rows.len(), None).unwrap();
+        self.nexts.resize(rows.len(), 0).unwrap();
     }
 
     /// Leaves the groups of the first so many rows. It takes no memory.
     pub(crate) fn cut(&mut self, rows: usize)
         ensures numbers { self.new.numbers.items ≡ take rows self.old.numbers.items }
         ensures least { self.new.least.items ≡ take rows self.old.least.items }
+        ensures nexts { self.new.nexts.items ≡ take rows self.old.nexts.items }
     {
         self.numbers.truncate(rows);
         self.least.truncate(rows);
+        self.nexts.truncate(rows);
     }
 
     /// Equal groups on memory of their own.
     pub(crate) fn copy(&self, alloc: Global) -> Result<Groups, AllocError>
         ensures numbers { IfOk result (λ groups. groups.numbers.items ≡ self.now.numbers.items) }
         ensures least { IfOk result (λ groups. groups.least.items ≡ self.now.least.items) }
+        ensures nexts { IfOk result (λ groups. groups.nexts.items ≡ self.now.nexts.items) }
     {
         Ok(Groups {
             numbers: Vec::from_slice(alloc, self.numbers.as_slice())?,
             least: Vec::from_slice(alloc, self.least.as_slice())?,
+            nexts: Vec::from_slice(alloc, self.nexts.as_slice())?,
         })
     }
 }

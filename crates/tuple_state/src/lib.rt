@@ -8,7 +8,7 @@
 //! Where no table keeps the least row of each value (`UNIQUE` with `KEEP LEAST`), what is visible now was visible before, so of
 //! a row that nobody hides no history is walked, and an update costs the rows that vanish for it. Where one does, a row can come
 //! back, and which rows are visible is counted anew for each update, and once for all questions of what was visible after the
-//! ancestors of one: table by table, over all rows.
+//! ancestors of one: table by table, each over its own rows and the links that come of them.
 //!
 //! It judges nothing itself: whoever applies an update says its verdict, and a contract asks that it is the right one.
 #![tactic(auto)]
@@ -19,6 +19,7 @@ mod children;
 mod cutting;
 mod deleters;
 mod dropped;
+mod grounds;
 mod groups;
 mod inserted;
 mod laws;
@@ -32,6 +33,7 @@ mod shapes;
 mod showing;
 mod steps;
 mod tables;
+mod threads;
 mod voided;
 
 pub use at::At;

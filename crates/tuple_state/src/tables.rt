@@ -1,5 +1,6 @@
 ghost use Rattle.std.specs.Prelude.{◌≡◌, ℕ, ◌+◌, ◌*◌, ◌<◌, ◌≤◌, Bool, List, [], ◌∷◌, ◌++◌, IfOk, IfNone, IfSome, OnOk, MatchResult, length, map, nat_lt, option_to_list, slice_get, take, Contains, Some, true, not, ◌&&◌, ◌||◌};
 ghost use Rattle.std.specs.List.{list_all, list_any};
+ghost use Rattle.std.specs.Vec.{vec_capacity};
 ghost use Rattle.table_model.specs.declared.verdict.Verdict.TheVariants.{Valid};
 ghost use Rattle.update_model.specs.declared.value.Value.{Value as Cell};
 ghost use Rattle.row_check.specs.declared.cmp.Cmp.TheVariants.{Eq};
@@ -26,6 +27,7 @@ use crate::causes::{add_causes, clear, count_numbers, count_places, room_for};
 use crate::children::parents_of;
 use crate::cutting::{lines_of, names_before, numbers_before, rows_before, voids_before};
 use crate::deleters::grow_links;
+use crate::grounds::Grounds;
 use crate::groups::Groups;
 use crate::links::{Link, Links};
 use crate::parents::{add_parents, add_places, comes_last, remove_places, take_last};
@@ -86,7 +88,7 @@ impl Model for Tables {
     ghost view = { λ t. record { shapes = t.shapes.items; count = t.count; inserted = t.rows.items; dropped = t.dropped.items; voids = t.voids.items } };
 
     ghost invariant = { λ t. IsKept (record { shapes = t.shapes.items; count = t.count; inserted = t.rows.items; dropped = t.dropped.items; voids = t.voids.items })
-        t.places t.causes.items t.children t.deleters t.ends.items t.groups.numbers.items t.groups.least.items };
+        t.places t.causes.items t.children t.deleters t.ends.items t.groups.numbers.items t.groups.least.items t.groups.nexts.items };
 }
 
 impl Tables {
@@ -294,9 +296,7 @@ impl Tables {
     {
         let first = self.rows.len();
         let more = inserted.len();
-        self.rows.reserve(more)?;
-        self.causes.reserve(more)?;
-        self.ends.reserve(more)?;
+        reserve_rows(&mut self.rows, &mut self.causes, &mut self.ends, more)?;
         self.dropped.reserve(dropped.len())?;
         let shapes = self.shapes.as_slice();
         self.groups.reserve(shapes, more)?;
@@ -328,14 +328,9 @@ impl Tables {
         self.dropped.append(dropped).unwrap();
         self.ends.append(&mut parents.ends).unwrap();
         self.count += 1;
-        recount(
-            self.causes.as_mut_slice(),
-            &mut self.groups,
-            self.rows.as_slice(),
-            &self.deleters,
-            &self.children,
-            shapes,
-        );
+        let grounds = Grounds::new(&self.rows, &self.children, &self.ends, shapes);
+        let causes = self.causes.as_mut_slice();
+        recount(causes, &mut self.groups, &self.deleters, &grounds);
         Ok(())
     }
 
@@ -366,14 +361,9 @@ impl Tables {
         clear(causes);
         count_places(causes, self.deleters.links());
         count_numbers(causes, self.children.links());
-        recount(
-            causes,
-            &mut self.groups,
-            self.rows.as_slice(),
-            &self.deleters,
-            &self.children,
-            self.shapes.as_slice(),
-        );
+        let shapes = self.shapes.as_slice();
+        let grounds = Grounds::new(&self.rows, &self.children, &self.ends, shapes);
+        recount(causes, &mut self.groups, &self.deleters, &grounds);
     }
 
     /// Keeps the line of a void update.
@@ -412,13 +402,15 @@ impl Tables {
         let mut causes = own_causes(alloc, self, ancestors, position)?;
         let mut least = Vec::new(alloc);
         least.resize(self.row_len(), None)?;
+        let mut nexts = Vec::new(alloc);
+        nexts.resize(self.row_len(), 0)?;
+        let shapes = self.shapes.as_slice();
         settle(
             causes.as_mut_slice(),
             least.as_mut_slice(),
+            nexts.as_mut_slice(),
             self.groups.numbers.as_slice(),
-            self.rows.as_slice(),
-            self.children.links(),
-            self.shapes.as_slice(),
+            &Grounds::new(&self.rows, &self.children, &self.ends, shapes),
         );
         Ok(causes)
     }
@@ -551,6 +543,25 @@ impl Tables {
     {
         At::new(alloc, self, ancestors, position)
     }
+}
+
+/// Takes memory for so many more rows, with the counts of their causes and the ends of their links.
+fn reserve_rows(
+    rows: &mut Vec<Inserted>,
+    causes: &mut Vec<u32>,
+    ends: &mut Vec<u32>,
+    more: usize,
+) -> Result<(), AllocError>
+    ensures rows { rows.new.items ≡ rows.old.items }
+    ensures causes { causes.new.items ≡ causes.old.items }
+    ensures ends { ends.new.items ≡ ends.old.items }
+    ensures row_room { OnOk result (length rows.old.items + more ≤ vec_capacity rows.new) }
+    ensures cause_room { OnOk result (length causes.old.items + more ≤ vec_capacity causes.new) }
+    ensures end_room { OnOk result (length ends.old.items + more ≤ vec_capacity ends.new) }
+{
+    rows.reserve(more)?;
+    causes.reserve(more)?;
+    ends.reserve(more)
 }
 
 /// Whether the value in a column, where there is one, equals this value.

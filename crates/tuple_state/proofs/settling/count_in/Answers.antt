@@ -1,90 +1,68 @@
-use Rattle.std.proofs.Common.{◌≡◌, ◌≢◌, ◌+◌, ◌<◌, ◌==◌, ◌&&◌, ℕ, Bool, true, false, not, List, ap, get_or, length, sym, take, ◌∙◌, arith}
-use Rattle.std.specs.Prelude.{slice_get}
-use Rattle.std.proofs.lemmas.Bool.{and_parts, both_ways}
-use Rattle.std.proofs.lemmas.List.Sums.{sum_by_more, sum_by_more_le}
-use Rattle.tuple_state.specs.Causes.{absent_times, is_absent, one_at}
+use Rattle.std.proofs.Common.{◌≡◌, ◌+◌, ◌<◌, ◌≤◌, ◌==◌, ℕ, List, true, cond, nat_lt, get_or, get_or-set_other, length, set, subst, sym, ap, ◌∙◌, arith}
+use Rattle.std.specs.Prelude.{count_by, slice_get}
+use Rattle.std.proofs.lemmas.List.Sums.{length-filter}
+use Rattle.table_model.proofs.Standing.{all_filtered}
+use Rattle.tuple_state.specs.Causes.{absent_times, is_absent, times_in}
 use Rattle.tuple_state.specs.Least.{is_in}
+use Rattle.tuple_state.specs.Links.{are_inside}
 use Rattle.tuple_state.specs.declared.links.Link.{Link}
-use Rattle.tuple_state.proofs.Raising.{absent_fewer, grown_count, number_counted, one_here, rising_at, unit}
-use Rattle.tuple_state.proofs.Settles.{cond_low, counted_else, counted_then}
+use Rattle.tuple_state.proofs.Adding.{rising_inside}
+use Rattle.tuple_state.proofs.Parting.{absent_before, absent_parents}
+use Rattle.tuple_state.proofs.Raising.{absent_fewer}
+use Rattle.tuple_state.proofs.Settles.{behind_first}
+use Rattle.tuple_state.proofs.Threading.{counted_onward, counted_row, grown_by}
 use Rattle.tuple_state.proofs.settling.count_in.Goals as goal
-use Rattle.tuple_state.proofs.settling.count_in.Goals.{then-is_counted, else-is_counted}
 
-pub is_counted-requires-clause-place : goal.is_counted-requires-clause-place
-is_counted-requires-clause-place c =
-    let links = c.args.children.now in
-    let i = c.loop-link.link-index in
-    let nobody : Link = record { place = 0; number = 0 } in
-    let high = length c.args.rows.now in
-    let at = rising_at 0 high links i nobody c.requires.rising c.loop-link-test.true in
-    let a = at.0 in
-    let b = at.1 in
-    omega (arith, a, b, c.requires.each, c.loop-link.auto.causes)
+pub absent_among-absent-requires-clause-inside : goal.absent_among-absent-requires-clause-inside
+absent_among-absent-requires-clause-inside c =
+    let links = c.args.grounds.now.children.now in
+    let n = c.loop-place.place in
+    let size : length c.args.grounds.now.rows.now ≡ length c.loop-place.causes = sym (c.loop-place.auto.causes ∙ c.requires.each) in
+    let whole : are_inside (length c.loop-place.causes) links ≡ true = subst (λ m. are_inside m links ≡ true) size (rising_inside 0 (length c.args.grounds.now.rows.now) links c.requires.rising) in
+    subst (λ (l : List Link). are_inside (length c.loop-place.causes) l ≡ true) (sym c.parents.ensures)
+    (all_filtered (λ (l : Link). l.number == n) (λ (l : Link). nat_lt l.place (length c.loop-place.causes)) links whole)
 
-pub is_counted-requires-clause-number : goal.is_counted-requires-clause-number
-is_counted-requires-clause-number c =
-    let links = c.args.children.now in
-    let i = c.loop-link.link-index in
-    let nobody : Link = record { place = 0; number = 0 } in
-    let high = length c.args.rows.now in
-    let at = rising_at 0 high links i nobody c.requires.rising c.loop-link-test.true in
-    let a = at.0 in
-    let b = at.1 in
-    omega (arith, a)
-
-pub bounds-causes-link-then-is_counted : goal.bounds-causes-link-then-is_counted
-bounds-causes-link-then-is_counted c =
-    let links = c.args.children.now in
-    let i = c.loop-link.link-index in
-    let nobody : Link = record { place = 0; number = 0 } in
-    let high = length c.args.rows.now in
-    let at = rising_at 0 high links i nobody c.requires.rising c.loop-link-test.true in
-    let a = at.0 in
-    let b = at.1 in
-    omega (arith, a, c.requires.each, c.loop-link.auto.causes)
+pub absent_among-absent-requires-clause-few : goal.absent_among-absent-requires-clause-few
+absent_among-absent-requires-clause-few c =
+    let n = c.loop-place.place in
+    let len = ap length c.parents.ensures ∙ length-filter (λ (l : Link). l.number == n) c.args.grounds.now.children.now in
+    let few = c.requires.few n in
+    omega (arith, len, few)
 
 pub overflow_add-causes : goal.overflow_add-causes
 overflow_add-causes c =
-    let links = c.args.children.now in
-    let i = c.loop-link.link-index in
-    let nobody : Link = record { place = 0; number = 0 } in
-    let high = length c.args.rows.now in
-    let at = rising_at 0 high links i nobody c.requires.rising c.loop-link-test.true in
-    let a = at.0 in
-    let b = at.1 in
-    let n = (get_or links i nobody).number in
-    let so_far = c.loop-link.invariant n in
-    let low = cond_low (is_in c.args.table (slice_get c.args.rows.now n)) (absent_times (take i links) c.loop-link.causes n) in
-    let fewer = absent_fewer (take i links) c.loop-link.causes n in
-    let more = sum_by_more_le (λ (l : Link). unit (l.number == n)) links i nobody c.loop-link-test.true in
-    let one = one_here n in
+    let links = c.args.grounds.now.children.now in
+    let causes = c.loop-place.causes in
+    let n = c.loop-place.place in
+    let more : c.absent_among-absent.result ≡ absent_times links causes n = c.absent_among-absent.ensures ∙ ap (λ (l : List Link). count_by (λ (x : Link). is_absent causes x.place) l) c.parents.ensures ∙ absent_parents causes links n in
+    let so_far = behind_first n (get_or causes n 0) (get_or c.args.causes.now n 0) _ (c.loop-place.invariant.counted n) in
+    let fewer = absent_fewer links causes n in
     let few = c.requires.few n in
-    omega (arith, so_far, low, fewer, more, one, few)
+    omega (arith, more, so_far, fewer, few)
 
-pub loop-link-preserved : goal.loop-link-preserved
-loop-link-preserved c k =
-    let links = c.args.children.now in
-    let i = c.loop-link.link-index in
-    let nobody : Link = record { place = 0; number = 0 } in
-    let high = length c.args.rows.now in
-    let at = rising_at 0 high links i nobody c.requires.rising c.loop-link-test.true in
-    let a = at.0 in
-    let b = at.1 in
-    let link = get_or links i nobody in
-    let so_far = c.loop-link.invariant k in
-    elim c.if-is_counted.branch [
-      | then-is_counted w ↦
-          let both = and_parts (is_in c.args.table (slice_get c.args.rows.now link.number)) _ (sym c.is_counted.ensures ∙ w.if-is_counted.true) in
-          let gone : get_or c.loop-link.causes link.place 0 ≢ 0 = λ e. both_ways _ (ap (λ n. not (n == 0)) e) both.1 in
-          let inside : link.number < length c.loop-link.causes = omega (arith, a, c.requires.each, c.loop-link.auto.causes) in
-          let count = grown_count c.loop-link.causes link.number inside k in
-          let more = number_counted 0 high links c.loop-link.causes i nobody c.requires.rising c.loop-link-test.true gone inside k in
-          ap (λ (l : List ℕ). get_or l k 0) w.causes-is ∙ count
-          ∙ counted_then c.args.table c.args.rows.now link.number k (get_or c.loop-link.causes k 0) (get_or c.args.causes.now k 0) (absent_times (take i links) c.loop-link.causes k) _ both.0 so_far
-          (ap (λ (l : List ℕ). absent_times (take (i + 1) links) l k) w.causes-is ∙ more)
-      | else-is_counted w ↦
-          let more = sum_by_more (λ (l : Link). unit (is_absent c.loop-link.causes l.place && (l.number == k))) links i nobody c.loop-link-test.true in
-          ap (λ (l : List ℕ). get_or l k 0) w.causes-is
-          ∙ counted_else c.args.table c.args.rows.now link.number k (get_or c.loop-link.causes k 0) (get_or c.args.causes.now k 0) (absent_times (take i links) c.loop-link.causes k) _ (is_absent c.loop-link.causes link.place)
-          (sym c.is_counted.ensures ∙ w.if-is_counted.false) so_far (ap (λ (l : List ℕ). absent_times (take (i + 1) links) l k) w.causes-is ∙ more)
-    ]
+pub loop-place-preserved : goal.loop-place-preserved
+loop-place-preserved c =
+    let rows = c.args.grounds.now.rows.now in
+    let links = c.args.grounds.now.children.now in
+    let causes = c.loop-place.causes in
+    let table = c.args.members.now.table in
+    let n = c.loop-place.place in
+    let absent = c.absent_among-absent.result in
+    let new = set causes n (get_or causes n 0 + absent) in
+    let below : n < length rows = c.loop-place-test.true in
+    let inside : n < length causes = omega (arith, below, c.requires.each, c.loop-place.auto.causes) in
+    let own = c.loop-place.invariant.own below in
+    let next = c.requires.threaded.onward n (omega arith) own in
+    let more : absent ≡ absent_times links causes n = c.absent_among-absent.ensures ∙ ap (λ (l : List Link). count_by (λ (x : Link). is_absent causes x.place) l) c.parents.ensures ∙ absent_parents causes links n in
+    let stay : (j : ℕ) → j < n → get_or new j 0 ≡ get_or causes j 0 = λ j low. get_or-set_other causes n j (get_or causes n 0 + absent) 0 (λ e. omega (arith, e, low)) in
+    record {
+      counted = λ k.
+          let was : ℕ = cond (is_in table (slice_get rows k)) (absent_times links causes k) 0 in
+          let is : ℕ = cond (is_in table (slice_get rows k)) (absent_times links new k) 0 in
+          let same : k ≤ n → is ≡ was = λ low. ap (λ m. cond (is_in table (slice_get rows k)) m 0) (absent_before (length rows) links new causes n k c.requires.rising stay low) in
+          let here : n ≡ k → absent ≡ was = λ e.
+          more ∙ ap (λ b. cond b (absent_times links causes n) 0) (sym own) ∙ ap (λ m. cond (is_in table (slice_get rows m)) (absent_times links causes m) 0) e in
+          let one = grown_by causes n absent inside k ∙ counted_row n k (get_or causes k 0) (get_or c.args.causes.now k 0) absent was is same here (c.loop-place.invariant.counted k) in
+          counted_onward (n + 1) (get_or c.args.members.now.nexts.now n 0) k (get_or new k 0) (get_or c.args.causes.now k 0) is next.ahead (λ low high. ap (λ b. cond b (absent_times links new k) 0) (next.none k low high)) one;
+      own = next.own;
+    }

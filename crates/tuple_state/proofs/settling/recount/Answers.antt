@@ -14,5 +14,4 @@ returns-clause-counted c e =
     let count = c.count_places.ensures k in
     let same = ap (λ (l : List Link). count_by (is_of k) l) c.links.ensures.links in
     omega (arith, zero_is, count, same) in
-    settled_based c.args.shapes.now c.args.rows.now c.args.children.now.links (λ k. get_or c.count_places.new.causes k 0) (λ k. count_by (is_of k) c.args.deleters.now.links) c.settle.new.causes based
-    (subst (λ (l : List Link). AreSettled c.args.shapes.now c.args.rows.now l (λ k. get_or c.count_places.new.causes k 0) c.settle.new.causes) c.links-2.ensures.links c.settle.ensures)
+    settled_based c.args.grounds.now.shapes.now c.args.grounds.now.rows.now c.args.grounds.now.children.now (λ k. get_or c.count_places.new.causes k 0) (λ k. count_by (is_of k) c.args.deleters.now.links) c.settle.new.causes based c.settle.ensures

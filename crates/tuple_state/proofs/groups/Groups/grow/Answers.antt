@@ -19,4 +19,6 @@ loop-place-preserved c = record {
   room = omega (arith, c.push_reserved.ensures.capacity, c.loop-place.invariant.room);
   least = c.loop-place.invariant.least;
   space = c.loop-place.invariant.space;
+  nexts = c.loop-place.invariant.nexts;
+  way = c.loop-place.invariant.way;
 }

@@ -12,4 +12,6 @@ invariant-loop-place l = record {
   room : length l.rows ≤ vec_capacity l.self.numbers;
   least : l.self.least.items ≡ l.fn.self.least.items;
   space : length l.rows ≤ vec_capacity l.self.least;
+  nexts : l.self.nexts.items ≡ l.fn.self.nexts.items;
+  way : length l.rows ≤ vec_capacity l.self.nexts;
 }

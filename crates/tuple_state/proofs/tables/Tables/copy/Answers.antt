@@ -34,9 +34,11 @@ invariant_of-result c =
     let ends = c.in_ok-from_slice-4.field-0.items in
     let numbers = c.in_ok-copy-3.field-0.numbers.items in
     let least = c.in_ok-copy-3.field-0.least.items in
-    subst (λ (s : State). IsKept s places c.in_ok-from_slice.field-0.items children deleters ends numbers least) (sym whole)
-    (subst (λ (l : List ℕ). IsKept state places l children deleters ends numbers least) (sym causes)
-    (subst (λ (l : List ℕ). IsKept state places inside.causes.items children deleters l numbers least) (sym (c.in_ok-from_slice-4.ensures.items ∙ c.as_slice-7.ensures.value))
-    (subst (λ (l : List ℕ). IsKept state places inside.causes.items children deleters inside.ends.items l least) (sym c.in_ok-copy-3.ensures.numbers)
-    (subst (λ (l : List (Option ℕ)). IsKept state places inside.causes.items children deleters inside.ends.items inside.groups.numbers.items l) (sym c.in_ok-copy-3.ensures.least)
-    (kept_places state inside.places places inside.causes.items inside.children children inside.deleters deleters inside.ends.items inside.groups.numbers.items inside.groups.least.items c.self.invariant placed c.in_ok-copy.ensures c.in_ok-copy-2.ensures)))))
+    let nexts = c.in_ok-copy-3.field-0.nexts.items in
+    subst (λ (s : State). IsKept s places c.in_ok-from_slice.field-0.items children deleters ends numbers least nexts) (sym whole)
+    (subst (λ (l : List ℕ). IsKept state places l children deleters ends numbers least nexts) (sym causes)
+    (subst (λ (l : List ℕ). IsKept state places inside.causes.items children deleters l numbers least nexts) (sym (c.in_ok-from_slice-4.ensures.items ∙ c.as_slice-7.ensures.value))
+    (subst (λ (l : List ℕ). IsKept state places inside.causes.items children deleters inside.ends.items l least nexts) (sym c.in_ok-copy-3.ensures.numbers)
+    (subst (λ (l : List (Option ℕ)). IsKept state places inside.causes.items children deleters inside.ends.items inside.groups.numbers.items l nexts) (sym c.in_ok-copy-3.ensures.least)
+    (subst (λ (l : List ℕ). IsKept state places inside.causes.items children deleters inside.ends.items inside.groups.numbers.items inside.groups.least.items l) (sym c.in_ok-copy-3.ensures.nexts)
+    (kept_places state inside.places places inside.causes.items inside.children children inside.deleters deleters inside.ends.items inside.groups.numbers.items inside.groups.least.items inside.groups.nexts.items c.self.invariant placed c.in_ok-copy.ensures c.in_ok-copy-2.ensures))))))

@@ -281,10 +281,10 @@ invariant_of-self c =
           (sym (c.recount.ensures.plain (ap keep_any shapes_now ∙ plain))) counts)
     ] in
     subst (λ (s : State). IsKept s c.remove_places.new.places (take c.truncate-4.new.self.len (c.recount.new.causes ++ drop (length c.recount.new.causes) c.truncate-4.new.self.items)) c.cut-2.new.self c.cut.new.self c.truncate-5.new.self.items
-    c.recount.new.groups.numbers.items c.recount.new.groups.least.items)
+    c.recount.new.groups.numbers.items c.recount.new.groups.least.items c.recount.new.groups.nexts.items)
     (sym (left c it.rules it.newer it.older it.is it.at))
     (rw (front, c.cut.ensures, c.cut-2.ensures, c.truncate-5.ensures.items)
-    (kept_old it.rules it.newer it.older state c.args.len held it.at inside.places c.remove_places.new.places inside.causes.items c.recount.new.causes inside.children inside.deleters inside.ends.items inside.groups.numbers.items c.recount.new.groups.numbers.items inside.groups.least.items c.recount.new.groups.least.items
+    (kept_old it.rules it.newer it.older state c.args.len held it.at inside.places c.remove_places.new.places inside.causes.items c.recount.new.causes inside.children inside.deleters inside.ends.items inside.groups.numbers.items c.recount.new.groups.numbers.items inside.groups.least.items c.recount.new.groups.least.items inside.groups.nexts.items c.recount.new.groups.nexts.items
     n c.names_before-names.result c.numbers_before-parents.result
     c.self.invariant rows_is names_is refs_is placed (c.recount.auto.causes ∙ c.count_numbers.auto.causes ∙ size ∙ len_old) settled (grouped_moved _ old.shapes _ old.inserted _ _ shapes_now rows_now refl c.recount.ensures.grouped)
     (λ keeps. c.recount.ensures.all (ap keep_any shapes_now ∙ keeps) ∙ ap length rows_now) c.recount.ensures.spare))

@@ -41,7 +41,7 @@ parents_of-requires c =
     let first : c.len-first.result ≡ length inside.rows.items = omega (arith, c.len-first.ensures) in
     let few = few_rows inside.rows.items inside.count c.self.invariant.dated c.self.invariant.bounded in
     let most = c.self.invariant.few in
-    let more = news_few state node inside.places inside.causes.items inside.children inside.deleters inside.ends.items inside.groups.numbers.items inside.groups.least.items c.self.invariant next small in
+    let more = news_few state node inside.places inside.causes.items inside.children inside.deleters inside.ends.items inside.groups.numbers.items inside.groups.least.items inside.groups.nexts.items c.self.invariant next small in
     let slice = ap length (c.as_slice.ensures.value ∙ changes.rows) in
     record {
       few = omega (arith, first, few, most, more, slice);
@@ -57,14 +57,14 @@ add_places-requires-clause-fresh c =
     let next = changes.next in
     let news = map (inserted_at inside.count) (reverse (effects_of node).inserted) in
     rw (c.as_slice-2.ensures.value, c.reserve.ensures.items, c.as_slice-3.ensures.value, changes.rows)
-    (fresh_layered _ inside.rows.items _ (layered_next state node inside.places inside.causes.items inside.children inside.deleters inside.ends.items inside.groups.numbers.items inside.groups.least.items c.self.invariant next))
+    (fresh_layered _ inside.rows.items _ (layered_next state node inside.places inside.causes.items inside.children inside.deleters inside.ends.items inside.groups.numbers.items inside.groups.least.items inside.groups.nexts.items c.self.invariant next))
 
 pub invariant_of-self-in_err-add_places : goal.invariant_of-self-in_err-add_places
 invariant_of-self-in_err-add_places c =
     let inside = c.self.inside in
     let state : State = record { shapes = inside.shapes.items; count = inside.count; inserted = inside.rows.items; dropped = inside.dropped.items; voids = inside.voids.items } in
     rw (c.reserve.ensures.items, c.reserve-2.ensures.items, c.reserve-4.ensures.items, c.reserve-3.ensures.items, c.reserve-5.ensures.numbers, c.reserve-5.ensures.least)
-    (kept_places state inside.places c.add_places.new.places inside.causes.items inside.children inside.children inside.deleters inside.deleters inside.ends.items inside.groups.numbers.items inside.groups.least.items c.self.invariant
+    (kept_places state inside.places c.add_places.new.places inside.causes.items inside.children inside.children inside.deleters inside.deleters inside.ends.items inside.groups.numbers.items inside.groups.least.items inside.groups.nexts.items c.self.invariant
     (rw (c.as_slice-2.ensures.value, c.reserve.ensures.items) at c.in_err-add_places.ensures.err) refl refl)
 
 pub grow_links-requires-clause-named : goal.grow_links-requires-clause-named
@@ -80,7 +80,7 @@ grow_links-requires-clause-named c =
     let parents_are : c.in_ok-parents.parents.names.items ≡ parents_from (rules_of_state state) (length inside.rows.items) news =
     c.in_ok-parents.ensures.names ∙ (λ i. parents_from (rules_over (c.as_slice-shapes.ensures.value i)) (first i) ((c.as_slice.ensures.value ∙ changes.rows) i)) in
     rw (c.as_slice-4.ensures.value, parents_are)
-    (all_same placed (parents_from (rules_of_state state) (length inside.rows.items) news) ∙ parents_found state node inside.places inside.causes.items inside.children inside.deleters inside.ends.items inside.groups.numbers.items inside.groups.least.items c.self.invariant next)
+    (all_same placed (parents_from (rules_of_state state) (length inside.rows.items) news) ∙ parents_found state node inside.places inside.causes.items inside.children inside.deleters inside.ends.items inside.groups.numbers.items inside.groups.least.items inside.groups.nexts.items c.self.invariant next)
 
 pub grow_links-requires-clause-found : goal.grow_links-requires-clause-found
 grow_links-requires-clause-found c =
@@ -92,7 +92,7 @@ grow_links-requires-clause-found c =
     let news = map (inserted_at inside.count) (reverse (effects_of node).inserted) in
     let placed = rw (c.as_slice-2.ensures.value, c.reserve.ensures.items, c.as_slice-3.ensures.value, changes.rows) at c.in_ok-add_places.ensures.ok in
     rw (c.as_slice-5.ensures.value, changes.names)
-    (all_same placed (map (dropped_at inside.count) (reverse (effects_of node).deleted)) ∙ drops_there state node inside.places inside.causes.items inside.children inside.deleters inside.ends.items inside.groups.numbers.items inside.groups.least.items c.self.invariant next)
+    (all_same placed (map (dropped_at inside.count) (reverse (effects_of node).deleted)) ∙ drops_there state node inside.places inside.causes.items inside.children inside.deleters inside.ends.items inside.groups.numbers.items inside.groups.least.items inside.groups.nexts.items c.self.invariant next)
 
 pub grow_links-requires-clause-inside : goal.grow_links-requires-clause-inside
 grow_links-requires-clause-inside c name place at =
@@ -135,7 +135,7 @@ add_causes-requires-clause-rising c =
     omega (arith, a, b, d, e, c.self.invariant.each)) in
     let children_are : c.grow_links.new.children.links ≡ inside.children.links ++ refs = ap (λ (d : Linked). d.links) c.in-Ok.ensures.children in
     subst (λ (l : List Link). AreRising 0 (length c.as_mut_slice-causes.result.now) l) (sym children_are)
-    (subst (λ m. AreRising 0 m (inside.children.links ++ refs)) (sym len) (rising_next state node inside.places inside.causes.items inside.children inside.deleters inside.ends.items inside.groups.numbers.items inside.groups.least.items c.self.invariant next refs refs_are))
+    (subst (λ m. AreRising 0 m (inside.children.links ++ refs)) (sym len) (rising_next state node inside.places inside.causes.items inside.children inside.deleters inside.ends.items inside.groups.numbers.items inside.groups.least.items inside.groups.nexts.items c.self.invariant next refs refs_are))
 
 pub add_causes-requires-clause-parents : goal.add_causes-requires-clause-parents
 add_causes-requires-clause-parents c =
@@ -162,7 +162,7 @@ add_causes-requires-clause-parents c =
     (let a = ap length whole in let b = length-append inside.causes.items (replicate (length news) 0) in let d = length-replicate {A = ℕ} (length news) 0 in let e = length-append inside.rows.items news in
     omega (arith, a, b, d, e, c.self.invariant.each)) in
     subst (λ m. AreRising 0 m refs) (sym len)
-    (rising_lower (length inside.rows.items) 0 (length (inside.rows.items ++ news)) refs (omega arith) (refs_rising state node inside.places inside.causes.items inside.children inside.deleters inside.ends.items inside.groups.numbers.items inside.groups.least.items c.self.invariant next refs refs_are))
+    (rising_lower (length inside.rows.items) 0 (length (inside.rows.items ++ news)) refs (omega arith) (refs_rising state node inside.places inside.causes.items inside.children inside.deleters inside.ends.items inside.groups.numbers.items inside.groups.least.items inside.groups.nexts.items c.self.invariant next refs refs_are))
 
 pub add_causes-requires-clause-dropped : goal.add_causes-requires-clause-dropped
 add_causes-requires-clause-dropped c =
@@ -248,7 +248,7 @@ add_causes-requires-clause-few c k =
     let new = c.grow_links.new.children.links in
     let pad = inside.causes.items ++ replicate (length news) 0 in
     let same = ap (λ (l : List ℕ). get_or l k 0) whole in
-    let count = padded_few state node inside.places inside.causes.items inside.children inside.deleters inside.ends.items inside.groups.numbers.items inside.groups.least.items c.self.invariant next (length news) k in
+    let count = padded_few state node inside.places inside.causes.items inside.children inside.deleters inside.ends.items inside.groups.numbers.items inside.groups.least.items inside.groups.nexts.items c.self.invariant next (length news) k in
     let absent = absent_fewer inside.children.links pad k in
     let known = count_by-le-length (λ (link : Link). link.number == k) inside.children.links in
     let added = count_by-le-length (λ (link : Link). link.number == k) refs in
@@ -268,14 +268,14 @@ remove_places-requires-clause-fresh c =
     let next = changes.next in
     let news = map (inserted_at inside.count) (reverse (effects_of node).inserted) in
     rw (c.as_slice-in-Err.ensures.value, c.reserve.ensures.items, c.as_slice-in-Err-2.ensures.value, changes.rows)
-    (fresh_layered _ inside.rows.items _ (layered_next state node inside.places inside.causes.items inside.children inside.deleters inside.ends.items inside.groups.numbers.items inside.groups.least.items c.self.invariant next))
+    (fresh_layered _ inside.rows.items _ (layered_next state node inside.places inside.causes.items inside.children inside.deleters inside.ends.items inside.groups.numbers.items inside.groups.least.items inside.groups.nexts.items c.self.invariant next))
 
 pub invariant_of-self-in-Err : goal.invariant_of-self-in-Err
 invariant_of-self-in-Err c =
     let inside = c.self.inside in
     let state : State = record { shapes = inside.shapes.items; count = inside.count; inserted = inside.rows.items; dropped = inside.dropped.items; voids = inside.voids.items } in
     rw (c.reserve.ensures.items, c.reserve-2.ensures.items, c.reserve-4.ensures.items, c.reserve-3.ensures.items, c.reserve-5.ensures.numbers, c.reserve-5.ensures.least)
-    (kept_places state inside.places c.remove_places.new.places inside.causes.items inside.children c.grow_links.new.children inside.deleters c.grow_links.new.deleters inside.ends.items inside.groups.numbers.items inside.groups.least.items c.self.invariant
+    (kept_places state inside.places c.remove_places.new.places inside.causes.items inside.children c.grow_links.new.children inside.deleters c.grow_links.new.deleters inside.ends.items inside.groups.numbers.items inside.groups.least.items inside.groups.nexts.items c.self.invariant
     (rw (c.as_slice-in-Err.ensures.value, c.reserve.ensures.items) at c.remove_places.ensures) c.in-Err.ensures.children c.in-Err.ensures.deleters)
 
 pub recount-requires-clause-rising : goal.recount-requires-clause-rising
@@ -304,7 +304,7 @@ recount-requires-clause-rising c =
     let all_len = length-append inside.rows.items news in
     let size = ap length rows_now in
     subst (λ (l : List Link). AreRising 0 (length c.as_slice-6.result.now) l) (sym children_are)
-    (subst (λ m. AreRising 0 m (inside.children.links ++ refs)) (sym size) (rising_next state node inside.places inside.causes.items inside.children inside.deleters inside.ends.items inside.groups.numbers.items inside.groups.least.items c.self.invariant next refs refs_are))
+    (subst (λ m. AreRising 0 m (inside.children.links ++ refs)) (sym size) (rising_next state node inside.places inside.causes.items inside.children inside.deleters inside.ends.items inside.groups.numbers.items inside.groups.least.items inside.groups.nexts.items c.self.invariant next refs refs_are))
 
 pub recount-requires-clause-level : goal.recount-requires-clause-level
 recount-requires-clause-level c =
@@ -331,7 +331,7 @@ recount-requires-clause-level c =
     let rows_now : c.as_slice-6.result.now ≡ inside.rows.items ++ news = c.as_slice-6.ensures.value ∙ rows in
     let all_len = length-append inside.rows.items news in
     let size = ap length rows_now in
-    level_moved inside.shapes.items _ (inside.rows.items ++ news) _ (inside.children.links ++ refs) _ (sym c.as_slice-shapes.ensures.value) (sym rows_now) (sym children_are) (level_next state node inside.places inside.causes.items inside.children inside.deleters inside.ends.items inside.groups.numbers.items inside.groups.least.items c.self.invariant next refs refs_are)
+    level_moved inside.shapes.items _ (inside.rows.items ++ news) _ (inside.children.links ++ refs) _ (sym c.as_slice-shapes.ensures.value) (sym rows_now) (sym children_are) (level_next state node inside.places inside.causes.items inside.children inside.deleters inside.ends.items inside.groups.numbers.items inside.groups.least.items inside.groups.nexts.items c.self.invariant next refs refs_are)
 
 pub recount-requires-clause-inside : goal.recount-requires-clause-inside
 recount-requires-clause-inside c =
@@ -359,7 +359,7 @@ recount-requires-clause-inside c =
     let all_len = length-append inside.rows.items news in
     let size = ap length rows_now in
     subst (λ (l : List Link). are_inside (length c.as_slice-6.result.now) l ≡ true) (sym deleters_are)
-    (subst (λ m. are_inside m (inside.deleters.links ++ names) ≡ true) (sym size) (deleters_next state node inside.places inside.causes.items inside.children inside.deleters inside.ends.items inside.groups.numbers.items inside.groups.least.items c.self.invariant next refs refs_are names names_are))
+    (subst (λ m. are_inside m (inside.deleters.links ++ names) ≡ true) (sym size) (deleters_next state node inside.places inside.causes.items inside.children inside.deleters inside.ends.items inside.groups.numbers.items inside.groups.least.items inside.groups.nexts.items c.self.invariant next refs refs_are names names_are))
 
 pub recount-requires-clause-grouped : goal.recount-requires-clause-grouped
 recount-requires-clause-grouped c =
@@ -518,11 +518,11 @@ invariant_of-self-2 c =
     take_at c.add_causes.new.causes (drop (length c.add_causes.new.causes) c.resize.new.self.items) c.resize.new.self.len (c.add_causes.auto.causes ∙ c.as_mut_slice-causes.ensures.len) in
     let before : keep_any inside.shapes.items ≡ false → (k : ℕ) → get_or c.as_mut_slice-causes.result.now k 0 ≡ count_by (is_of k) inside.deleters.links + absent_times inside.children.links c.as_mut_slice-causes.result.now k =
     λ plain.
-    subst (λ (l : List ℕ). (k : ℕ) → get_or l k 0 ≡ count_by (is_of k) inside.deleters.links + absent_times inside.children.links l k) (sym whole) (padded_counts state node inside.places inside.causes.items inside.children inside.deleters inside.ends.items inside.groups.numbers.items inside.groups.least.items c.self.invariant next plain (length news)) in
+    subst (λ (l : List ℕ). (k : ℕ) → get_or l k 0 ≡ count_by (is_of k) inside.deleters.links + absent_times inside.children.links l k) (sym whole) (padded_counts state node inside.places inside.causes.items inside.children inside.deleters inside.ends.items inside.groups.numbers.items inside.groups.least.items inside.groups.nexts.items c.self.invariant next plain (length news)) in
     let counts : keep_any inside.shapes.items ≡ false → (k : ℕ) → get_or c.add_causes.new.causes k 0 ≡ count_by (is_of k) (inside.deleters.links ++ names) + absent_times (inside.children.links ++ refs) c.add_causes.new.causes k =
     λ plain k.
     c.add_causes.ensures (length inside.rows.items) inside.children.links inside.deleters.links children_are
-    (subst (λ m. AreRising (length inside.rows.items) m refs) (sym len) (refs_rising state node inside.places inside.causes.items inside.children inside.deleters inside.ends.items inside.groups.numbers.items inside.groups.least.items c.self.invariant next refs refs_are)) (known_inside state node inside.places inside.causes.items inside.children inside.deleters inside.ends.items inside.groups.numbers.items inside.groups.least.items c.self.invariant next) (before plain) k
+    (subst (λ m. AreRising (length inside.rows.items) m refs) (sym len) (refs_rising state node inside.places inside.causes.items inside.children inside.deleters inside.ends.items inside.groups.numbers.items inside.groups.least.items inside.groups.nexts.items c.self.invariant next refs refs_are)) (known_inside state node inside.places inside.causes.items inside.children inside.deleters inside.ends.items inside.groups.numbers.items inside.groups.least.items inside.groups.nexts.items c.self.invariant next) (before plain) k
     ∙ ap (λ (l : List Link). count_by (is_of k) (inside.deleters.links ++ names) + absent_times l c.add_causes.new.causes k) children_are in
     let added : List ℕ = take c.resize.new.self.len (c.add_causes.new.causes ++ drop (length c.add_causes.new.causes) c.resize.new.self.items) in
     let last : take c.resize.new.self.len (c.recount.new.causes ++ drop (length c.recount.new.causes) added) ≡ c.recount.new.causes =
@@ -545,8 +545,8 @@ invariant_of-self-2 c =
     let more_ends : c.in_ok-parents.parents.ends.items ≡ ends_from (rules_of_state state) (length inside.children.links) news =
     c.in_ok-parents.ensures.ends ∙ (λ i. ends_from (rules_over (c.as_slice-shapes.ensures.value i)) (c.len-len.ensures.len i) ((c.as_slice.ensures.value ∙ changes.rows) i)) in
     rw (rows, gone, last, ended, c.in-Ok.ensures.children, c.in-Ok.ensures.deleters)
-    (kept_next state node inside.places inside.causes.items inside.children inside.deleters inside.ends.items inside.groups.numbers.items inside.groups.least.items c.self.invariant next refs refs_are small c.add_places.new.places (c.len-first.result + c.len-more.result) c.recount.new.causes c.in_ok-parents.parents.ends.items
-    c.recount.new.groups.numbers.items c.recount.new.groups.least.items names placed names_are more_ends
+    (kept_next state node inside.places inside.causes.items inside.children inside.deleters inside.ends.items inside.groups.numbers.items inside.groups.least.items inside.groups.nexts.items c.self.invariant next refs refs_are small c.add_places.new.places (c.len-first.result + c.len-more.result) c.recount.new.causes c.in_ok-parents.parents.ends.items
+    c.recount.new.groups.numbers.items c.recount.new.groups.least.items c.recount.new.groups.nexts.items names placed names_are more_ends
     (omega (arith, first, c.len-more.ensures, news_len, all_len)) (c.recount.auto.causes ∙ ap length (c.as_mut_slice.ensures.value ∙ front) ∙ c.add_causes.auto.causes ∙ len)
     (omega (arith, child_len, c.grow_links.ensures.few_children)) (omega (arith, gone_len, c.grow_links.ensures.few_deleters)) settled
     (grouped_moved _ inside.shapes.items _ (inside.rows.items ++ news) _ _ c.as_slice-shapes.ensures.value rows_now refl c.recount.ensures.grouped)

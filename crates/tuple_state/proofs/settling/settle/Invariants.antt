@@ -1,6 +1,0 @@
-use Rattle.tuple_state.proofs.Settles.{AreSettledTo}
-use Rattle.tuple_state.proofs.settling.settle.Given as goal
-
--- the counts of the rows of the tables so far are settled
-abbrev pub invariant-loop-table : goal.invariant-loop-table
-invariant-loop-table l = AreSettledTo l.shapes l.rows l.children l.fn.causes l.table l.causes
