@@ -1,5 +1,5 @@
 -- Over a run: for each leaf of its key a replica knows whether it is used, and for no other.
-use Rattle.std.proofs.Common.{◌≡◌, inl, inr, ℕ, ◌<◌, ◌^◌, Bool, true, false, List, length, map, set, Some, Result, Ok, Err, refl, sym, ap, subst, ◌∙◌, arith, length-set}
+use Rattle.std.proofs.Common.{◌≡◌, inl, inr, ℕ, ◌+◌, ◌<◌, ◌^◌, Bool, true, false, List, ◌++◌, length, map, set, Some, Result, Ok, Err, refl, sym, ap, subst, ◌∙◌, arith, length-set}
 use Rattle.std.specs.Prelude.{not, ◌==◌, slice_get}
 use Rattle.std.proofs.lemmas.List.{length-map, length-replicate}
 use Rattle.std.proofs.lemmas.List.Quantifiers.{position-Some}
@@ -18,9 +18,9 @@ use Rattle.update_model.specs.declared.update_id.UpdateId.{UpdateId}
 use Rattle.world_rules.specs.declared.event.Event.{Event}
 use Rattle.world_rules.specs.declared.event.Event.TheVariants.{Make, Start, Carry, Cut, Feed, Stop, Restart}
 use Rattle.world_rules.specs.declared.event.Stepped.{Stepped}
-use Rattle.world_rules.specs.Happens.{HappensTo, IsNew, Restarts, ending, has_failed, is_store}
+use Rattle.world_rules.specs.Happens.{HappensTo, IsNew, Restarts, ending, has_failed, is_store, met_by}
 use Rattle.world_rules.specs.Meetings.{seen_from}
-use Rattle.world_rules.specs.Worlds.{SiteData, WorldData, site_at}
+use Rattle.world_rules.specs.Worlds.{SiteData, WorldData, cut_with, held_by, site_at}
 use Rattle.world_rules.proofs.Places.{set_cases}
 
 -- a place for each leaf
@@ -97,7 +97,7 @@ long_ending w mid false r new same long new_long = long_one w (ending false r ne
 pub event_long : (ask : Meaning) (w w' : WorldData) (found : Bool) (event : Event) (answer : Stepped) → AreLong w → HappensTo found ask w event answer w' → AreLong w'
 event_long ask w w' false event answer long h = subst AreLong (sym h.1) long
 event_long ask w w' true (Make r ops) answer long h =
-    subst AreLong (sym h.is) (long_ending w _ (has_failed h.result) r (record h.site { store = h.store; key = h.key }) refl long
+    subst AreLong (sym h.is) (long_ending w (record w { signed = w.signed ++ h.signs }) (has_failed h.result) r (record h.site { store = h.store; key = h.key }) refl long
     (long_after h.result h.site.key h.key h.makes.key_after (long r h.site h.there)))
 event_long ask w w' true (Start s first second) answer long h = long_none w w' (ap (λ (x : WorldData). x.sites) h.is) long
 event_long ask w w' true (Carry s forward) answer long h =
@@ -108,7 +108,8 @@ event_long ask w w' true (Feed s bytes) answer long h =
     subst AreLong (sym h.is) (long_ending w _ (is_store h.next.ended) h.one.first (record h.site { store = h.store }) refl long (long h.one.first h.site h.reads))
 event_long ask w w' true (Stop r calls) answer long h = long_none w w' (ap (λ (x : WorldData). x.sites) h.is) long
 event_long ask w w' true (Restart r choice) answer long h =
-    subst AreLong (sym h.is) (long_one w _ r h.new refl long (restart_long ask h.site h.new h.restarts))
+    let next = record w { sites = set w.sites r h.new; sessions = map (cut_with r) w.sessions; met = w.met ++ met_by w.event (held_by h.new); event = w.event + 1 } in
+    subst AreLong (sym h.is) (long_one w next r h.new refl long (restart_long ask h.site h.new h.restarts))
 
 -- ---- the beginning
 
