@@ -5,9 +5,9 @@ ghost use Rattle.expression_text.specs.Machine.{step as after_token, step_begun 
 ghost use Rattle.row_check.specs.Trees.{tree_of};
 ghost use Rattle.expression_text.specs.Views.{reading_of, frames_of};
 
-use crate::Token;
 use crate::pending::{Pending, closed, completed, joined, opened};
 use crate::progress::Progress;
+use crate::{MAX_WORDS, Token};
 use row_check::Expr;
 use std::alloc::{AllocError, Global};
 use update_model::TextValue;
@@ -16,7 +16,7 @@ use update_model::TextValue;
 ///
 /// [`crate::is_expression`], [`crate::are_known`] and [`crate::are_row_texts`] tell what it needs.
 pub fn build(alloc: Global, tokens: &[Token], names: &[TextValue]) -> Result<Expr, AllocError>
-    requires short { length tokens.now ≤ 256 }
+    requires short { length tokens.now ≤ MAX_WORDS }
     requires few { length names.now ≤ 256 }
     requires expression { IsExpression tokens.now }
     requires known { All (IsKnown names.now) tokens.now }

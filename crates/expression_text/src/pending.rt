@@ -37,16 +37,19 @@ pub(crate) fn completed(
 ) -> Result<Progress, AllocError>
     ensures { IfOk result (λ progress. (reading_of progress, frames_of pending.new.items) ≡ complete (tree_of expr) (frames_of pending.old.items)) }
 {
-    match pending.pop() {
-        None => Ok(Progress::Finished(expr)),
-        Some(Pending::Not) => {
-            let inner = boxed(alloc, expr)?;
-            completed(alloc, Expr::Not(inner), pending)
-        }
-        Some(Pending::And(left)) => both(alloc, left, expr),
-        Some(other) => {
-            pending.push(other).unwrap();
-            Ok(Progress::Finished(expr))
+    let mut whole = expr;
+    loop {
+        match pending.pop() {
+            None => return Ok(Progress::Finished(whole)),
+            Some(Pending::Not) => {
+                let inner = boxed(alloc, whole)?;
+                whole = Expr::Not(inner);
+            }
+            Some(Pending::And(left)) => return both(alloc, left, whole),
+            Some(other) => {
+                pending.push(other).unwrap();
+                return Ok(Progress::Finished(whole));
+            }
         }
     }
 }
