@@ -19,7 +19,7 @@ use Rattle.query.specs.declared.stop.Stop.{Stop}
 use Rattle.query.specs.declared.stop.Stop.TheVariants as stop
 use Rattle.query.specs.declared.stop.Wrong.{Wrong}
 use Rattle.query.specs.Columns.{kind_named, names_of, slots_of, seen_kinds}
-use Rattle.query.specs.Conditions.{misfit_in}
+use Rattle.query.specs.Conditions.{wrong_in}
 use Rattle.query.specs.Data.{ConditionData}
 use Rattle.query.specs.Grammar.{condition_in, condition_place, has_condition, keys_in, keys_place, stop_of, wrong_at}
 use Rattle.query.specs.Outcome.{Answers, HasCause, IsHead, IsStop, data_of, error_of, fault_at}
@@ -33,17 +33,17 @@ stop_for P Q stop.Memory f h = tt
 -- ---- a condition
 
 -- an expression of the right kinds is a condition
-pub reads_typed : (tables : List TableDef) (table at : ℕ) (words : List Token) (tree : Tree) → misfit_in (kind_named tables table) at words ≡ None
-    → Parses (column_in (names_of words)) Disjunction words tree → HasKinds (seen_kinds (slots_of tables table words)) tree
-    → ReadsCondition tables table at words (Ok (record { tree = tree; slots = slots_of tables table words }))
+pub reads_typed : (tables : List TableDef) (table at : ℕ) (words : List Token) (tree : Tree) → wrong_in (kind_named tables table) at words ≡ None
+    → Parses (column_in (names_of words)) Disjunction words tree → HasKinds (seen_kinds (slots_of tables table (names_of words))) tree
+    → ReadsCondition tables table at words (Ok (record { tree = tree; slots = slots_of tables table (names_of words) }))
 reads_typed tables table at words tree none parses kinds =
-    let read : ConditionRead = Ok (record { tree = tree; slots = slots_of tables table words }) in
+    let read : ConditionRead = Ok (record { tree = tree; slots = slots_of tables table (names_of words) }) in
     subst (λ (m : Option Wrong). MatchOption m
     ((t : Tree) × Parses (column_in (names_of words)) Disjunction words t × IsTyped tables table at words t read)
     (λ wrong. read ≡ Err wrong)) (sym none) (tree, parses, inl (kinds, refl))
 
-pub reads_untyped : (tables : List TableDef) (table at : ℕ) (words : List Token) (tree : Tree) → misfit_in (kind_named tables table) at words ≡ None
-    → Parses (column_in (names_of words)) Disjunction words tree → (¬ HasKinds (seen_kinds (slots_of tables table words)) tree)
+pub reads_untyped : (tables : List TableDef) (table at : ℕ) (words : List Token) (tree : Tree) → wrong_in (kind_named tables table) at words ≡ None
+    → Parses (column_in (names_of words)) Disjunction words tree → (¬ HasKinds (seen_kinds (slots_of tables table (names_of words))) tree)
     → ReadsCondition tables table at words (Err (wrong_at TypesDiffer (at + length words)))
 reads_untyped tables table at words tree none parses kinds =
     let read : ConditionRead = Err (wrong_at TypesDiffer (at + length words)) in
@@ -51,9 +51,9 @@ reads_untyped tables table at words tree none parses kinds =
     ((t : Tree) × Parses (column_in (names_of words)) Disjunction words t × IsTyped tables table at words t read)
     (λ wrong. read ≡ Err wrong)) (sym none) (tree, parses, inr (kinds, refl))
 
-pub reads_misfit : (tables : List TableDef) (table at : ℕ) (words : List Token) (wrong : Wrong) → misfit_in (kind_named tables table) at words ≡ Some wrong
+pub reads_wrong : (tables : List TableDef) (table at : ℕ) (words : List Token) (wrong : Wrong) → wrong_in (kind_named tables table) at words ≡ Some wrong
     → ReadsCondition tables table at words (Err wrong)
-reads_misfit tables table at words wrong e =
+reads_wrong tables table at words wrong e =
     let read : ConditionRead = Err wrong in
     subst (λ (m : Option Wrong). MatchOption m
     ((t : Tree) × Parses (column_in (names_of words)) Disjunction words t × IsTyped tables table at words t read)

@@ -13,7 +13,7 @@ use Rattle.query.specs.declared.fault.QueryKind.{QueryKind}
 use Rattle.query.specs.declared.stop.Spot.{Spot}
 use Rattle.query.specs.declared.stop.Wrong.{Wrong}
 use Rattle.query.specs.Columns.{kind_named, names_of}
-use Rattle.query.specs.Conditions.{misfit_in}
+use Rattle.query.specs.Conditions.{wrong_in}
 use Rattle.query.specs.Data.{ConditionData}
 use Rattle.query.specs.Grammar.{condition_in, condition_place, has_condition}
 use Rattle.query.specs.Pieces.{pieces_of, spot_after}
@@ -55,7 +55,7 @@ reads_one alone tables table at words a b x y =
       | Some wrong ↦ λ p q. p ∙ sym q
       | None ↦ λ p q. meant_one alone tables table at words a b p q
     ] in
-    step (misfit_in (kind_named tables table) at words) x y
+    step (wrong_in (kind_named tables table) at words) x y
 
 -- what the condition comes to, where there is one
 abbrev Found : List TableDef → List Token → Result (Option ConditionData) Wrong → Type 0

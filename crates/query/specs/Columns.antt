@@ -1,6 +1,6 @@
 -- Columns of a table by their names, those of the rows that its references name included.
-use Rattle.std.specs.Prelude.{ℕ, ◌+◌, ◌==◌, Bool, true, false, List, [], ◌∷◌, ◌++◌, map, take, drop, position, slice_get, Option, Some, None, option_and_then, option_map, option_to_list, if◌then◌else◌, codes}
-use Rattle.std.specs.List.{flat_map}
+use Rattle.std.specs.Prelude.{ℕ, ◌+◌, ◌==◌, Bool, true, false, not, ◌&&◌, List, [], ◌∷◌, ◌++◌, map, take, drop, position, slice_get, Option, Some, None, option_and_then, option_map, option_to_list, if◌then◌else◌, codes, bytes_eq}
+use Rattle.std.specs.List.{flat_map, list_any}
 use Rattle.row_check.specs.declared.kind.Kind.{Kind}
 use Rattle.row_check.specs.declared.kind.Kind.TheVariants as kind
 use Rattle.expression_text.specs.declared.token.Token.{Token}
@@ -124,20 +124,29 @@ keys_of tables table (word ∷ words) = keys_by tables table word (mark_of word)
 
 -- ---- what a condition sees
 
-abbrev pub names_at : Token → List (List ℕ)
-names_at (token.Column name) = if is_text name then name ∷ [] else []
-names_at _ = []
+-- whether a name is one of these
+abbrev pub is_among : List (List ℕ) → List ℕ → Bool
+is_among names name = list_any (bytes_eq name) names
 
--- the columns that a condition names, in order
+-- these names and, if it is new, the one that a word names
+abbrev pub with_name : List (List ℕ) → Token → List (List ℕ)
+with_name names (token.Column name) = if is_text name && not (is_among names name) then names ++ name ∷ [] else names
+with_name names _ = names
+
+abbrev pub with_names : List (List ℕ) → List Token → List (List ℕ)
+with_names names [] = names
+with_names names (word ∷ words) = with_names (with_name names word) words
+
+-- the columns that a condition names, each once, in the order in which they are first named
 abbrev pub names_of : List Token → List (List ℕ)
-names_of words = flat_map names_at words
+names_of words = with_names [] words
 
-abbrev pub slots_at : List TableDef → ℕ → Token → List Slot
-slots_at tables table (token.Column name) = option_to_list (slot_of tables table name)
-slots_at tables table _ = []
+abbrev pub slots_at : List TableDef → ℕ → List ℕ → List Slot
+slots_at tables table name = option_to_list (slot_of tables table name)
 
-abbrev pub slots_of : List TableDef → ℕ → List Token → List Slot
-slots_of tables table words = flat_map (slots_at tables table) words
+-- what these columns are, in the same order
+abbrev pub slots_of : List TableDef → ℕ → List (List ℕ) → List Slot
+slots_of tables table names = flat_map (slots_at tables table) names
 
 -- The kind that a condition sees of a column: of a reference it sees whether it is there, which is a flag that is true or
 -- null.

@@ -1,6 +1,6 @@
 -- Where the words of a condition are at fault: they are no expression, or read columns that are not there or not of the
--- kind that is wanted.
-use Rattle.std.specs.Prelude.{ℕ, zero, suc, ◌+◌, ◌-◌, ◌≤◌, Bool, true, false, not, nat_le, List, [], ◌∷◌, length, Option, Some, None, is_some, unwrap_or, if◌then◌else◌, All}
+-- kind that is wanted, or too many of them.
+use Rattle.std.specs.Prelude.{ℕ, zero, suc, ◌+◌, ◌-◌, ◌≤◌, Bool, true, false, not, nat_le, List, [], ◌∷◌, length, Option, Some, None, is_some, unwrap_or, nat_lt, if◌then◌else◌, All}
 use Rattle.row_check.specs.declared.kind.Kind.{Kind}
 use Rattle.row_check.specs.declared.kind.Kind.TheVariants as kind
 use Rattle.expression_text.specs.declared.token.Token.{Token}
@@ -10,11 +10,12 @@ use Rattle.expression_text.specs.Grammar.{IsExpression}
 use Rattle.expression_text.specs.Numbers.{small_number}
 use Rattle.query.specs.declared.fault.QueryKind.{QueryKind}
 use Rattle.query.specs.declared.fault.QueryKind.TheVariants as fault
-use Rattle.query.specs.declared.limits.TheConstants.{MAX_CONDITION_WORDS}
+use Rattle.query.specs.declared.limits.TheConstants.{MAX_CONDITION_COLUMNS, MAX_CONDITION_WORDS}
 use Rattle.query.specs.declared.stop.Wrong.{Wrong}
 use Rattle.query.specs.declared.turn.Turn.{Turn}
 use Rattle.query.specs.declared.turn.Turn.TheVariants as turn
 use Rattle.query.specs.declared.turn.Stand.{Stand}
+use Rattle.query.specs.Columns.{names_of}
 use Rattle.query.specs.Grammar.{wrong_at}
 
 -- A condition: an expression of not too many words, whose texts may stand in rows.
@@ -218,3 +219,13 @@ misfit_from kinds stand left at (word ∷ words) =
 
 abbrev pub misfit_in : (List ℕ → Option Kind) → ℕ → List Token → Option Wrong
 misfit_in kinds at words = misfit_from kinds begun None at words
+
+-- ---- how many columns there are
+
+-- A condition that names too many different columns is too long, at its end.
+abbrev pub crowded_at : ℕ → List Token → Option Wrong
+crowded_at at words = if nat_lt MAX_CONDITION_COLUMNS (length (names_of words)) then Some (wrong_at fault.TooLong (at + length words)) else None
+
+-- what is wrong with the words of an expression, which number from here: a word of them, or they name too many columns
+abbrev pub wrong_in : (List ℕ → Option Kind) → ℕ → List Token → Option Wrong
+wrong_in kinds at words = or_else (misfit_in kinds at words) (crowded_at at words)

@@ -8,7 +8,7 @@ use Rattle.query.specs.contracts.source.Slot as slot
 use Rattle.query.specs.declared.source.Slot.{Slot}
 use Rattle.query.specs.Columns.{seen_kinds}
 
--- a condition: a question about the columns that it names, which number in the order in which they are named
+-- a condition: a question about the columns that it names, which number in the order in which they are first named
 pub record ConditionData : Type 0 where
   pub tree : Tree
   pub slots : List Slot

@@ -20,7 +20,7 @@ use Rattle.query.specs.declared.parts.Part.TheVariants as part
 use Rattle.query.specs.declared.stop.Spot.{Spot}
 use Rattle.query.specs.declared.stop.Wrong.{Wrong}
 use Rattle.query.specs.Columns.{kind_named, names_of, slots_of, seen_kinds, items_of, keys_of}
-use Rattle.query.specs.Conditions.{IsCondition, stuck_at, misfit_in, is_unknown}
+use Rattle.query.specs.Conditions.{IsCondition, stuck_at, wrong_in, is_unknown}
 use Rattle.query.specs.Data.{ConditionData}
 use Rattle.query.specs.Grammar.{wrong_at, mark_of, stop_of, place_of, columns_in, table_place, condition_place, condition_in, has_condition, keys_place, keys_in, limit_in}
 use Rattle.query.specs.Pieces.{pieces_of, spot_after, start_spot}
@@ -45,13 +45,13 @@ condition_data condition = Ok condition
 -- An expression is a condition where it fits the kinds that it sees; else its types differ at its end.
 abbrev pub IsTyped : List TableDef → ℕ → ℕ → List Token → Tree → ConditionRead → Type 0
 IsTyped tables table at words tree read =
-    (HasKinds (seen_kinds (slots_of tables table words)) tree × (read ≡ Ok (record { tree = tree; slots = slots_of tables table words })))
-    ⊎ ((¬ HasKinds (seen_kinds (slots_of tables table words)) tree) × (read ≡ Err (wrong_at fault.TypesDiffer (at + length words))))
+    (HasKinds (seen_kinds (slots_of tables table (names_of words))) tree × (read ≡ Ok (record { tree = tree; slots = slots_of tables table (names_of words) })))
+    ⊎ ((¬ HasKinds (seen_kinds (slots_of tables table (names_of words))) tree) × (read ≡ Err (wrong_at fault.TypesDiffer (at + length words))))
 
--- What the words of an expression, which number from here, come to as a condition: a word of them is at fault, or they
--- are this expression over the columns that they name.
+-- What the words of an expression, which number from here, come to as a condition: they are at fault, or they are this
+-- expression over the columns that they name.
 abbrev pub ReadsCondition : List TableDef → ℕ → ℕ → List Token → ConditionRead → Type 0
-ReadsCondition tables table at words read = MatchOption (misfit_in (kind_named tables table) at words)
+ReadsCondition tables table at words read = MatchOption (wrong_in (kind_named tables table) at words)
     ((tree : Tree) × Parses (column_in (names_of words)) Disjunction words tree × IsTyped tables table at words tree read)
     (λ wrong. read ≡ Err wrong)
 

@@ -1,12 +1,10 @@
 //! Conditions.
 
-ghost use Rattle.std.specs.Prelude.{◌≡◌, ◌↔◌, ◌≤◌, ◌^◌, All, Err, option_to_list, IfOk, IfErr, IsTrue};
-ghost use Rattle.expression_text.specs.Columns.{IsKnown};
-ghost use Rattle.expression_text.specs.Grammar.{IsReading};
+ghost use Rattle.std.specs.Prelude.{◌≡◌, ◌↔◌, ◌≤◌, ◌^◌, Err, None, IfOk, IfErr, IsTrue, OnOk};
 ghost use Rattle.row_check.specs.Kinds.{FitsKinds, HasKinds};
 ghost use Rattle.row_check.specs.Trees.{holds_tree, tree_of};
-ghost use Rattle.query.specs.Columns.{names_of, names_at, slots_of, slots_at, seen_kind as kind_for, seen_kinds, kind_named};
-ghost use Rattle.query.specs.Conditions.{IsCondition, stuck_at, refused, misfit_in, misfit, misfits, misfits_named, is_unknown, is_reference, is_of_text, are_alike, kind_of, left_after, place_seen};
+ghost use Rattle.query.specs.Columns.{names_of, with_name, is_among, slots_of, seen_kind as kind_for, seen_kinds, kind_named};
+ghost use Rattle.query.specs.Conditions.{IsCondition, stuck_at, refused, crowded_at, wrong_in, misfit_in, misfit, misfits, misfits_named, is_unknown, is_reference, is_of_text, are_alike, kind_of, left_after, place_seen};
 ghost use Rattle.query.specs.Outcome.{IsStop};
 ghost use Rattle.query.specs.Queries.{ReadsCondition, condition_data};
 
@@ -14,7 +12,7 @@ use crate::pieces::is_text;
 use crate::source::{Slot, slot_of};
 use crate::stop::{Stop, Wrong};
 use crate::turn::{Stand, Turn};
-use crate::{MAX_CONDITION_WORDS, QueryKind};
+use crate::{MAX_CONDITION_COLUMNS, MAX_CONDITION_WORDS, QueryKind};
 use expression_text::{Token, are_row_texts, build, has_kinds, is_expression};
 use row_check::{Checks, Expr, Kind, Native, Relation, eval, kinds_fit_rows, trees_hold};
 use schema::Schema;
@@ -22,7 +20,7 @@ use std::alloc::{AllocError, Global};
 use std::marker::Model;
 use update_model::{TextValue, Value};
 
-/// A condition: an expression over the columns that it names, which number in the order in which they are named.
+/// A condition: an expression over the columns that it names, which number in the order in which they are first named.
 ///
 /// It may be asked of any values of the kinds that it sees. Of a reference it sees whether it is there: TRUE or null.
 #[derive(Drop)]
@@ -45,7 +43,7 @@ impl Model for Condition {
 }
 
 impl Condition {
-    /// The columns that the condition names, in the order in which they number.
+    /// The columns that the condition names, each once, in the order in which they number.
     pub fn slots(&self) -> &[Slot]
         ensures { result.now ≡ self.now.slots }
     {
@@ -257,29 +255,51 @@ fn misfit_in(schema: &Schema, table: u8, at: usize, words: &[Token]) -> Option<W
     None
 }
 
-/// The columns that a condition names, in order.
+/// The columns that a condition names, each once, in the order in which they are first named.
 fn names_of(alloc: Global, words: &[Token]) -> Result<Vec<TextValue>, AllocError>
     ensures { IfOk result (λ names. names.items ≡ names_of words.now) }
 {
     let mut names = Vec::new(alloc);
     for word in words {
-        if let Some(name) = name_at(alloc, word)? {
-            names.push(name)?;
-        }
+        push_name(alloc, &mut names, word)?;
     }
     Ok(names)
 }
 
-/// The column that a word names.
-fn name_at(alloc: Global, word: &Token) -> Result<Option<TextValue>, AllocError>
-    ensures { IfOk result (λ name. option_to_list name ≡ names_at word.now) }
+/// Adds the column that a word names, if it is new.
+fn push_name(alloc: Global, names: &mut Vec<TextValue>, word: &Token) -> Result<(), AllocError>
+    ensures { OnOk result (names.new.items ≡ with_name names.old.items word.now) }
 {
     match word {
-        Token::Column(name) if is_text(name.as_slice()) => Ok(Some(TextValue::from_vec(
-            Vec::from_slice(alloc, name.as_slice())?,
-        ))),
-        _ => Ok(None),
+        Token::Column(name)
+            if is_text(name.as_slice()) && !is_among(names.as_slice(), name.as_slice()) => {
+            let bytes = Vec::from_slice(alloc, name.as_slice())?;
+            Ok(names.push(TextValue::from_vec(bytes))?)
+        }
+        _ => Ok(()),
     }
+}
+
+/// Whether a name is one of these.
+fn is_among(names: &[TextValue], name: &[u8]) -> bool
+    ensures { result ≡ is_among names.now name.now }
+{
+    names.iter().any(|other| name == other.as_slice())
+}
+
+/// What is wrong with words, which number from here, that name these columns: there are too many columns.
+fn crowded_at(at: usize, words: &[Token], names: &[TextValue]) -> Option<Wrong>
+    requires few { at ≤ 2 ^ 63 }
+    requires names { names.now ≡ names_of words.now }
+    ensures { result ≡ crowded_at at words.now }
+{
+    if names.len() <= MAX_CONDITION_COLUMNS {
+        return None;
+    }
+    Some(Wrong {
+        kind: QueryKind::TooLong,
+        at: at + words.len(),
+    })
 }
 
 /// What these columns are, in the same order.
@@ -287,26 +307,17 @@ fn slots_of(
     alloc: Global,
     schema: &Schema,
     table: u8,
-    words: &[Token],
+    names: &[TextValue],
 ) -> Result<Vec<Slot>, AllocError>
-    ensures { IfOk result (λ slots. slots.items ≡ slots_of schema.now.tables table words.now) }
+    ensures { IfOk result (λ slots. slots.items ≡ slots_of schema.now.tables table names.now) }
 {
     let mut slots = Vec::new(alloc);
-    for word in words {
-        if let Some(slot) = slot_at(schema, table, word) {
+    for name in names {
+        if let Some(slot) = slot_of(schema, table, name.as_slice()) {
             slots.push(slot)?;
         }
     }
     Ok(slots)
-}
-
-fn slot_at(schema: &Schema, table: u8, word: &Token) -> Option<Slot>
-    ensures { option_to_list result ≡ slots_at schema.now.tables table word.now }
-{
-    match word {
-        Token::Column(name) => slot_of(schema, table, name.as_slice()),
-        _ => None,
-    }
 }
 
 /// The kinds that a condition sees.
@@ -345,8 +356,31 @@ pub(crate) fn read_condition(
     if let Some(wrong) = misfit_in(schema, table, at, words) {
         return Err(Stop::Fault(wrong));
     }
-    let slots = slots_of(alloc, schema, table, words)?;
-    let expr = expr_of(alloc, words)?;
+    let names = names_of(alloc, words)?;
+    if let Some(wrong) = crowded_at(at, words, names.as_slice()) {
+        return Err(Stop::Fault(wrong));
+    }
+    read_over(alloc, schema, table, at, words, names.as_slice())
+}
+
+/// The same, where nothing is wrong with the words, which name these columns.
+fn read_over(
+    alloc: Global,
+    schema: &Schema,
+    table: u8,
+    at: usize,
+    words: &[Token],
+    names: &[TextValue],
+) -> Result<Condition, Stop>
+    requires few { at ≤ 2 ^ 63 }
+    requires condition { IsCondition words.now }
+    requires names { names.now ≡ names_of words.now }
+    requires right { wrong_in (kind_named schema.now.tables table) at words.now ≡ None }
+    ensures found { IfOk result (λ condition. ReadsCondition schema.now.tables table at words.now (condition_data condition)) }
+    ensures wrong { IfErr result (λ stop. IsStop stop (λ wrong. ReadsCondition schema.now.tables table at words.now (Err wrong))) }
+{
+    let slots = slots_of(alloc, schema, table, names)?;
+    let expr = build(alloc, words, names)?;
     if !sees_kinds(alloc, &expr, slots.as_slice())? {
         return Err(Stop::Fault(Wrong {
             kind: QueryKind::TypesDiffer,
@@ -354,16 +388,6 @@ pub(crate) fn read_condition(
         }));
     }
     Ok(Condition { expr, slots })
-}
-
-/// The expression that these words are over the columns that they name.
-fn expr_of(alloc: Global, words: &[Token]) -> Result<Expr, AllocError>
-    requires condition { IsCondition words.now }
-    requires known { All (IsKnown (names_of words.now)) words.now }
-    ensures { IfOk result (λ expr. IsReading (names_of words.now) words.now expr) }
-{
-    let names = names_of(alloc, words)?;
-    build(alloc, words, names.as_slice())
 }
 
 /// Whether an expression fits the kinds that are seen in these columns.

@@ -20,7 +20,7 @@ pub enum QueryKind {
     TypesDiffer,
     /// A byte that is not UTF-8.
     NotUtf8,
-    /// A text of too many bytes, or a condition of too many words.
+    /// A text of too many bytes, a condition of too many words, or the end of one that names too many columns.
     TooLong,
 }
 

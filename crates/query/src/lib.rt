@@ -37,7 +37,7 @@ pub use condition::Condition;
 pub use fault::{QueryError, QueryFault, QueryKind};
 pub use item::{Item, Key};
 pub use laws::{no_fault, one_fault, one_query};
-pub use limits::{MAX_CONDITION_WORDS, MAX_QUERY_BYTES};
+pub use limits::{MAX_CONDITION_COLUMNS, MAX_CONDITION_WORDS, MAX_QUERY_BYTES};
 pub use query::Query;
 pub use reading::read_query;
 pub use source::{Slot, Source};

@@ -27,9 +27,9 @@ use std::str;
 
 /// The query that a text is, over the tables of a schema.
 ///
-/// A fault is the first one: a text of more than [`MAX_QUERY_BYTES`] is TooLong at 1:1, then a byte that is not UTF-8, then
-/// what may not stand where it stands, then the table, then names and kinds of columns from left to right. The time is
-/// linear in the text.
+/// A fault is the first one: a text of more than [`MAX_QUERY_BYTES`] is TooLong at 1:1, then a byte that is not UTF-8,
+/// then what may not stand where it stands, then the table, then names and kinds of columns from left to right. A
+/// condition that names too many columns is at fault at its end, behind them. The time is linear in the text.
 pub fn read_query(alloc: Global, schema: &Schema, text: &[u8]) -> Result<Query, QueryError>
     ensures found { IfOk result (λ query. Reads schema.now text.now (data_of query)) }
     ensures only { (query : QueryData) → Reads schema.now text.now query → Answers result query }

@@ -345,6 +345,16 @@ SELECT title FROM task WHERE list = 1\n\
 SELECT nothing FROM nowhere WHERE prio >\n\
 ! 1:41: unknown word\n";
 
+/// Words of a condition that are repeated, how often they are, what stands behind them, and the lines of the answer.
+const LONG: &[(&str, usize, &str, &str)] = &[
+    ("NOT ", 297, "prio = 5", "\"Zip\"\n"),
+    ("NOT ", 4093, "prio = 5", "\"Zip\"\n"),
+    ("NOT ", 4094, "prio = 5", "! 1:16413: too long\n"),
+    ("NOT ", 4096, "SELECT", "! 1:16414: too long\n"),
+    ("prio = 5 AND ", 1023, "title = \"Cook\"", "\"Cook\"\n"),
+    ("prio = 1 OR ", 300, "title = )", "! 1:3638: unknown word\n"),
+];
+
 /// A name that rises with the number.
 fn name_of(number: u8) -> RowName {
     RowName {
@@ -411,9 +421,9 @@ fn answered(
     schema: &Schema,
     native: &Native<Luhn, Luhn>,
     tables: &[ShownRowList],
-    query: &str,
+    query: &[u8],
 ) -> Result<(Vec<u8>, Vec<u8>), QueryError> {
-    let query = read_query(alloc, schema, query.as_bytes())?;
+    let query = read_query(alloc, schema, query)?;
     let answer = match answer_lists(alloc, native, &query, tables) {
         Ok(answer) => answer,
         Err(_) => return Err(QueryError::Memory),
@@ -430,7 +440,7 @@ fn told(
     schema: &Schema,
     native: &Native<Luhn, Luhn>,
     tables: &[ShownRowList],
-    query: &str,
+    query: &[u8],
 ) -> Result<Vec<u8>, QueryError> {
     match answered(alloc, schema, native, tables, query) {
         Ok((lines, _json)) => Ok(lines),
@@ -450,7 +460,7 @@ fn queries_are_answered(rt: HostRuntime) -> Result<(), Fail> {
     let tables = lists(alloc)?;
     for case in ANSWERS.split(";\n") {
         let (query, wanted) = case.split_once('\n').unwrap_or((case, ""));
-        let lines = told(alloc, &schema, &native, tables.as_slice(), query)?;
+        let lines = told(alloc, &schema, &native, tables.as_slice(), query.as_bytes())?;
         assert_eq!(rt; lines.as_slice(), wanted.as_bytes(), "at {query}");
     }
     Ok(())
@@ -463,9 +473,86 @@ fn answers_are_json(rt: HostRuntime) -> Result<(), Fail> {
     let schema = read_schema(alloc, TASKS.as_bytes(), &native)?;
     let tables = lists(alloc)?;
     let query = "SELECT title, prio, after FROM task WHERE prio < 5";
-    let (_lines, json) = answered(alloc, &schema, &native, tables.as_slice(), query)?;
+    let (_lines, json) = answered(alloc, &schema, &native, tables.as_slice(), query.as_bytes())?;
     let wanted =
         "{\"columns\":[\"title\",\"prio\",\"after\"],\"rows\":[[\"Zip\",1,\"0404040404040404040404040404040404040404040404040404040404040404:0\"]]}\n";
     assert_eq!(rt; json.as_slice(), wanted.as_bytes());
+    Ok(())
+}
+
+/// A query with a long condition.
+fn long_query(alloc: Global, piece: &str, count: usize, back: &str) -> Result<Vec<u8>, AllocError> {
+    let mut query = Vec::from_slice(alloc, b"SELECT title FROM task WHERE ")?;
+    for _ in 0..count {
+        query.extend_from_slice(piece.as_bytes())?;
+    }
+    query.extend_from_slice(back.as_bytes())?;
+    Ok(query)
+}
+
+#[test]
+fn long_conditions_are_asked(rt: HostRuntime) -> Result<(), Fail> {
+    let alloc = rt.alloc();
+    let native: Native<Luhn, Luhn> = Native::new(Luhn);
+    let schema = read_schema(alloc, TASKS.as_bytes(), &native)?;
+    let tables = lists(alloc)?;
+    for (piece, count, back, wanted) in LONG {
+        let query = long_query(alloc, piece, *count, back)?;
+        let lines = told(alloc, &schema, &native, tables.as_slice(), query.as_slice())?;
+        assert_eq!(rt;
+            lines.as_slice(),
+            wanted.as_bytes(),
+            "at {count} {piece}{back}"
+        );
+    }
+    Ok(())
+}
+
+/// A table of 16 columns, and one of 16 references to it.
+fn wide_schema(alloc: Global) -> Result<Vec<u8>, AllocError> {
+    let mut text = Vec::from_slice(alloc, b"DATABASE wide\nTABLE far DELETABLE\n")?;
+    for n in 0..16u8 {
+        let line = format!(in alloc; "COLUMN c{n} INT 0 9\n")?;
+        text.extend_from_slice(line.as_bytes())?;
+    }
+    text.extend_from_slice(b"SAMPLE 0 0 0 0 0 0 0 0 0 0 0 0 0 0 0 0\nTABLE near DELETABLE\n")?;
+    for n in 0..16u8 {
+        let line = format!(in alloc; "REF r{n} far SETNULL NULL\n")?;
+        text.extend_from_slice(line.as_bytes())?;
+    }
+    text.extend_from_slice(b"SAMPLE\n")?;
+    Ok(text)
+}
+
+/// A query whose condition names so many columns: 16 references, and then columns of the rows that they name.
+fn wide_query(alloc: Global, count: usize) -> Result<Vec<u8>, AllocError> {
+    let mut query = Vec::from_slice(alloc, b"SELECT r0 FROM near WHERE r0 IS NULL")?;
+    for n in 1..count {
+        let words = if n < 16 {
+            format!(in alloc; " AND r{n} IS NULL")?
+        } else {
+            let reference = (n - 16) / 16;
+            let column = n % 16;
+            format!(in alloc; " AND r{reference}.c{column} IS NULL")?
+        };
+        query.extend_from_slice(words.as_bytes())?;
+    }
+    Ok(query)
+}
+
+#[test]
+fn conditions_name_at_most_256_columns(rt: HostRuntime) -> Result<(), Fail> {
+    let alloc = rt.alloc();
+    let native: Native<Luhn, Luhn> = Native::new(Luhn);
+    let text = wide_schema(alloc)?;
+    let schema = read_schema(alloc, text.as_slice(), &native)?;
+    let few = wide_query(alloc, 256)?;
+    let lines = told(alloc, &schema, &native, &[], few.as_slice())?;
+    assert_eq!(rt; lines.as_slice(), b"");
+    let many = wide_query(alloc, 257)?;
+    let lines = told(alloc, &schema, &native, &[], many.as_slice())?;
+    let end = many.len().saturating_add(1);
+    let wanted = format!(in alloc; "! 1:{end}: too long\n")?;
+    assert_eq!(rt; lines.as_slice(), wanted.as_bytes());
     Ok(())
 }
