@@ -44,6 +44,6 @@ returns g c =
     c.requires.next in
     IfOk-weaker c.judge.result _ _
     (λ verdict is. is (effects (filter (λ j. ancestor_of (judged rules nodes) draft j.node.id) (judged rules nodes)))
-    (c.in_ok-rows.ensures rules nodes draft (all_state g.L.Relation.answer c.args.schema.now graph c.args.views.now c.requires.views) past)
+    (c.in_ok-rows.ensures.answers rules nodes draft (all_state g.L.Relation.answer c.args.schema.now graph c.args.views.now c.requires.views) past)
     ∙ sym (c.verdict_is_on_ancestors.ensures rules (judged rules nodes) draft))
     c.judge.ensures

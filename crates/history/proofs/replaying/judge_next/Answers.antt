@@ -32,6 +32,6 @@ returns g c =
     (λ next are. c.arrivals_are_closed.ensures (map entry_of (take (i + 1) graph)) next are (front_closed graph (i + 1) c.len.ensures.closed))
     c.len-2.ensures.lower c.requires.places in
     IfOk-weaker c.judge.result _ _
-    (λ verdict is. is (effects (filter (λ j. ancestor_of (judged rules nodes) node j.node.id) (judged rules nodes))) (c.in_ok-rows.ensures rules nodes node c.requires.state past)
+    (λ verdict is. is (effects (filter (λ j. ancestor_of (judged rules nodes) node j.node.id) (judged rules nodes))) (c.in_ok-rows.ensures.answers rules nodes node c.requires.state past)
     ∙ sym (c.verdict_is_on_ancestors.ensures rules (judged rules nodes) node))
     c.judge.ensures
