@@ -141,7 +141,7 @@ module _ (state : State) (node : NodeData) (places : BTreeMap RowName ℕ) (caus
       let c = length-map {B = Option ℕ × ℕ} (parents_from (rules_of_state state) 0 state.inserted) (λ (d : Dropped). (place_of state.inserted d.name, d.position)) in
       omega (arith, a, b, c)
 
-  ended_next : (more_ends : List ℕ) → more_ends ≡ ends_from (rules_of_state state) (length children.links) news → ends ++ more_ends ≡ ends_from (rules_of_state state) 0 whole
+  pub ended_next : (more_ends : List ℕ) → more_ends ≡ ends_from (rules_of_state state) (length children.links) news → ends ++ more_ends ≡ ends_from (rules_of_state state) 0 whole
   ended_next more_ends so =
       let from : length children.links ≡ 0 + length (parents_from (rules_of_state state) 0 state.inserted) = omega (arith, links_len) in
       (λ i. kept.ended i ++ (so ∙ ap (λ n. ends_from (rules_of_state state) n news) from) i) ∙ sym (ends-append (rules_of_state state) 0 0 state.inserted news)
