@@ -25,7 +25,7 @@ use Rattle.tuple_state.specs.Least.{AreGrouped, AreLevel, AreSettled, is_free}
 use Rattle.tuple_state.specs.Links.{Linked, are_inside, is_of}
 use Rattle.tuple_state.specs.declared.links.Link.{Link}
 use Rattle.tuple_state.specs.Past.{IsNextVerdict}
-use Rattle.tuple_state.specs.State.{IsHeld, IsStateOf, State, after, done_in, dropped_at, inserted_at, keep_any, rules_of_state, state_of}
+use Rattle.tuple_state.specs.State.{IsStateOf, State, after, done_in, dropped_at, inserted_at, keep_any, rules_of_state, state_of}
 use Rattle.tuple_state.proofs.Adding.{NamesRise, all_rise, names_found, news_rise, parents-append, rising_inside, rising_links}
 use Rattle.tuple_state.proofs.Fronts.{bounded_next, dated_next}
 use Rattle.tuple_state.proofs.Deleting.{deleted_next, drops_found, links_inside}

@@ -1,8 +1,8 @@
 -- The links of each row, which stand together.
-use Rattle.std.proofs.Common.{◌≡◌, ◌≢◌, ℕ, zero, suc, ◌+◌, ◌-◌, ◌<◌, ◌≤◌, ◌==◌, Bool, true, false, not, ◌&&◌, cond, List, [], ◌∷◌, ◌++◌, length, get_or, map, take, drop, length-append, refl, sym, subst, ap, ◌∙◌, Option, Some, None, arith}
+use Rattle.std.proofs.Common.{◌≡◌, ◌≢◌, ℕ, zero, suc, ◌+◌, ◌-◌, ◌<◌, ◌≤◌, ◌==◌, Bool, true, false, not, ◌&&◌, cond, List, [], ◌∷◌, ◌++◌, length, get_or, map, take, drop, length-append, refl, sym, subst, ap, ◌∙◌, Option, Some, arith}
 use Rattle.std.specs.Prelude.{count_by, filter, slice_get}
 use Rattle.std.proofs.Math.Seq.{drop-append_seam, drop-append-add, take-append_seam}
-use Rattle.std.proofs.lemmas.Bool.{both_ways, eq-eqb, eqb-true, false_from_ne_true}
+use Rattle.std.proofs.lemmas.Bool.{eq-eqb, eqb-true, false_from_ne_true}
 use Rattle.std.proofs.lemmas.List.{drop-map, length-map, length-take-le, take-append-drop, take-map}
 use Rattle.std.proofs.lemmas.List.Elements.{filter-append}
 use Rattle.update_model.specs.declared.row_name.RowName.{RowName}
@@ -18,7 +18,7 @@ use Rattle.tuple_state.proofs.Deleting.{pair_parts}
 use Rattle.tuple_state.proofs.Dropping.{row_there}
 use Rattle.tuple_state.proofs.Lookups.{get_or_from}
 use Rattle.tuple_state.proofs.Marking.{slice_get_below}
-use Rattle.tuple_state.proofs.Raising.{rising_at, rising_there}
+use Rattle.tuple_state.proofs.Raising.{rising_at}
 use Rattle.tuple_state.proofs.Settles.{absent_agree}
 use Rattle.tuple_state.proofs.Spans.{before, begin_first, begin_later, end_is, ends-length, few, names_of, next_is, rises}
 

@@ -1,18 +1,13 @@
-use Rattle.std.proofs.Common.{◌≡◌, ◌+◌, ◌++◌, ◌==◌, ℕ, Bool, List, true, drop, take, map, reverse, length, get_or, ap, sym, subst, ◌∙◌, Some, arith}
-use Rattle.std.specs.Prelude.{count_by, slice_get}
+use Rattle.std.proofs.Common.{◌==◌, ℕ, Bool, List, drop, length, get_or, ap, sym, subst, ◌∙◌}
 use Rattle.std.proofs.lemmas.List.{take_at}
-use Rattle.std.proofs.lemmas.List.Sums.{count_by-le-length}
 use Rattle.tuple_state.specs.Causes.{AreRising}
 use Rattle.tuple_state.specs.Kept.{IsKept, place_of}
 use Rattle.tuple_state.specs.Causes.{parents_from}
-use Rattle.tuple_state.specs.Least.{AreGrouped, AreLevel}
 use Rattle.tuple_state.specs.Past.{done_then}
-use Rattle.tuple_state.specs.State.{State, keep_any, rules_of_state}
+use Rattle.tuple_state.specs.State.{State, rules_of_state}
 use Rattle.tuple_state.specs.declared.inserted.Inserted.{Inserted}
 use Rattle.tuple_state.specs.declared.links.Link.{Link}
-use Rattle.tuple_state.specs.declared.shape.Shape.{Shape}
 use Rattle.tuple_state.proofs.Adding.{all_rise, rising_links}
-use Rattle.tuple_state.proofs.Grouping.{grouped_moved}
 use Rattle.tuple_state.proofs.Layers.{grounded_is}
 use Rattle.tuple_state.proofs.Leasts.{settled_shift}
 use Rattle.tuple_state.proofs.Levels.{level_moved, level_now}
