@@ -25,7 +25,7 @@ use Rattle.tuple_state.specs.Least.{AreGrouped, AreLevel, AreSettled, is_free}
 use Rattle.tuple_state.specs.Links.{Linked, are_inside, is_of}
 use Rattle.tuple_state.specs.declared.links.Link.{Link}
 use Rattle.tuple_state.specs.Past.{IsNextVerdict}
-use Rattle.tuple_state.specs.State.{IsHeld, IsStateOf, State, after, done_in, dropped_at, inserted_at, keep_any, rules_of_state, state_of}
+use Rattle.tuple_state.specs.State.{IsStateOf, State, after, done_in, dropped_at, inserted_at, keep_any, rules_of_state, state_of}
 use Rattle.tuple_state.proofs.Adding.{NamesRise, all_rise, names_found, news_rise, parents-append, rising_inside, rising_links}
 use Rattle.tuple_state.proofs.Fronts.{bounded_next, dated_next}
 use Rattle.tuple_state.proofs.Deleting.{deleted_next, drops_found, links_inside}
@@ -141,7 +141,7 @@ module _ (state : State) (node : NodeData) (places : BTreeMap RowName ℕ) (caus
       let c = length-map {B = Option ℕ × ℕ} (parents_from (rules_of_state state) 0 state.inserted) (λ (d : Dropped). (place_of state.inserted d.name, d.position)) in
       omega (arith, a, b, c)
 
-  ended_next : (more_ends : List ℕ) → more_ends ≡ ends_from (rules_of_state state) (length children.links) news → ends ++ more_ends ≡ ends_from (rules_of_state state) 0 whole
+  pub ended_next : (more_ends : List ℕ) → more_ends ≡ ends_from (rules_of_state state) (length children.links) news → ends ++ more_ends ≡ ends_from (rules_of_state state) 0 whole
   ended_next more_ends so =
       let from : length children.links ≡ 0 + length (parents_from (rules_of_state state) 0 state.inserted) = omega (arith, links_len) in
       (λ i. kept.ended i ++ (so ∙ ap (λ n. ends_from (rules_of_state state) n news) from) i) ∙ sym (ends-append (rules_of_state state) 0 0 state.inserted news)

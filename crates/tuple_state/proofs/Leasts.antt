@@ -16,7 +16,7 @@ use Rattle.tuple_state.specs.declared.shape.Shape.{Shape}
 use Rattle.tuple_state.specs.declared.links.Link.{Link}
 use Rattle.tuple_state.specs.Links.{is_of}
 use Rattle.tuple_state.specs.Causes.{absent_times}
-use Rattle.tuple_state.specs.Least.{AreGrouped, AreLeast, AreSettled, IsFirst, IsLeastOf, NoneStands, any_from, are_equal, is_behind, is_first, is_first_at, is_lesser, is_lesser_at, is_free, is_in, is_passed, is_passed_in, is_standing, passed_by}
+use Rattle.tuple_state.specs.Least.{AreGrouped, AreLeast, AreSettled, IsLeastOf, any_from, are_equal, is_behind, is_first, is_first_at, is_lesser, is_lesser_at, is_free, is_in, is_passed, is_passed_in, is_standing, passed_by}
 use Rattle.tuple_state.specs.State.{keep_any, row_of, rules_over}
 use Rattle.tuple_state.proofs.Layers.{plain_shapes}
 use Rattle.tuple_state.proofs.Grouping.{group_same, last_or}

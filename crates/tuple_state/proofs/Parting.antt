@@ -1,8 +1,8 @@
 -- The links of each row, which stand together.
-use Rattle.std.proofs.Common.{◌≡◌, ◌≢◌, ℕ, zero, suc, ◌+◌, ◌-◌, ◌<◌, ◌≤◌, ◌==◌, Bool, true, false, not, ◌&&◌, cond, List, [], ◌∷◌, ◌++◌, length, get_or, map, take, drop, length-append, refl, sym, ap, ◌∙◌, Option, Some, None, arith}
+use Rattle.std.proofs.Common.{◌≡◌, ◌≢◌, ℕ, zero, suc, ◌+◌, ◌-◌, ◌<◌, ◌≤◌, ◌==◌, Bool, true, false, not, ◌&&◌, cond, List, [], ◌∷◌, ◌++◌, length, get_or, map, take, drop, length-append, refl, sym, subst, ap, ◌∙◌, Option, Some, arith}
 use Rattle.std.specs.Prelude.{count_by, filter, slice_get}
 use Rattle.std.proofs.Math.Seq.{drop-append_seam, drop-append-add, take-append_seam}
-use Rattle.std.proofs.lemmas.Bool.{both_ways, eq-eqb, eqb-true, false_from_ne_true}
+use Rattle.std.proofs.lemmas.Bool.{eq-eqb, eqb-true, false_from_ne_true}
 use Rattle.std.proofs.lemmas.List.{drop-map, length-map, length-take-le, take-append-drop, take-map}
 use Rattle.std.proofs.lemmas.List.Elements.{filter-append}
 use Rattle.update_model.specs.declared.row_name.RowName.{RowName}
@@ -18,9 +18,9 @@ use Rattle.tuple_state.proofs.Deleting.{pair_parts}
 use Rattle.tuple_state.proofs.Dropping.{row_there}
 use Rattle.tuple_state.proofs.Lookups.{get_or_from}
 use Rattle.tuple_state.proofs.Marking.{slice_get_below}
-use Rattle.tuple_state.proofs.Raising.{rising_at, rising_there}
+use Rattle.tuple_state.proofs.Raising.{rising_at}
 use Rattle.tuple_state.proofs.Settles.{absent_agree}
-use Rattle.tuple_state.proofs.Spans.{before, begin_first, begin_later, end_is, few, names_of, next_is, rises}
+use Rattle.tuple_state.proofs.Spans.{before, begin_first, begin_later, end_is, ends-length, few, names_of, next_is, rises}
 
 -- whether a link has this number
 abbrev has : ℕ → Link → Bool
@@ -119,10 +119,17 @@ begins : (rules : Rules) (rows : List Inserted) (ends : List ℕ) → ends ≡ e
 begins rules rows ends ended zero below = begin_first rules rows 0 refl
 begins rules rows ends ended (suc k) below = begin_later rules rows ends (suc k) (get_or ends k 0) 0 ended below (λ e. omega (arith, e)) (ap (λ n. get_or ends n 0) (let e : k ≡ suc k - 1 = omega arith in e))
 
+pub ends_each : (rules : Rules) (rows : List Inserted) (ends : List ℕ) → ends ≡ ends_from rules 0 rows → length ends ≡ length rows
+ends_each rules rows ends ended = ap length ended ∙ ends-length rules 0 rows
+
+pub parted_moved : (links names : List Link) (ends more : List ℕ) → links ≡ names → ends ≡ more → AreParted links ends → AreParted names more
+parted_moved links names ends more a b h = subst (λ (l : List Link). AreParted l more) a (subst (λ (e : List ℕ). AreParted links e) b h)
+
 -- links that lead to rows from those that they name stand row by row
-pub parted : (rules : Rules) (place : RowName → Option ℕ) (rows : List Inserted) (links : List Link) (ends : List ℕ) → pairs_of links ≡ deletes_at place (parents_from rules 0 rows) → ends ≡ ends_from rules 0 rows → length ends ≡ length rows → AreParted links ends
-parted rules place rows links ends named ended len = record {
+pub parted : (rules : Rules) (place : RowName → Option ℕ) (rows : List Inserted) (links : List Link) (ends : List ℕ) → pairs_of links ≡ deletes_at place (parents_from rules 0 rows) → ends ≡ ends_from rules 0 rows → AreParted links ends
+parted rules place rows links ends named ended = record {
   rises = λ k low.
+      let len = ends_each rules rows ends ended in
       let below : k < length rows = omega (arith, low, len) in
       let row = row_there rows k below in
       let a = begins rules rows ends ended k (omega (arith, below)) in
@@ -130,12 +137,14 @@ parted rules place rows links ends named ended len = record {
       let r = rises rules place rows links named k row.0 row.1 in
       omega (arith, a, b, r);
   few = λ k low.
+      let len = ends_each rules rows ends ended in
       let below : k < length rows = omega (arith, low, len) in
       let row = row_there rows k below in
       let b = end_is rules rows ends k (get_or ends k 0) 0 ended below refl in
       let f = few rules place rows links named k row.0 row.1 in
       omega (arith, b, f);
   own = λ k low.
+      let len = ends_each rules rows ends ended in
       let below : k < length rows = omega (arith, low, len) in
       let row = row_there rows k below in
       let a = begins rules rows ends ended k (omega (arith, below)) in

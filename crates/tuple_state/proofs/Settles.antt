@@ -1,7 +1,7 @@
 -- Counts that are settled table by table.
-use Rattle.std.proofs.Common.{◌≡◌, ◌≢◌, ℕ, zero, suc, ◌+◌, ◌<◌, ◌≤◌, ◌==◌, Bool, true, false, cond, not, ◌&&◌, ◌||◌, nat_lt, List, [], ◌∷◌, ◌++◌, length, get_or, refl, sym, ap, ◌∙◌, subst, Option, Some, None, is_none, arith, inl, inr}
-use Rattle.std.specs.Prelude.{count_by, is_some, slice_get}
-use Rattle.std.proofs.lemmas.Bool.{and_from, and_parts, both_ways, cases_Bool, eq-eqb, eqb-true, false_from_ne_true, ltb-true, or_cases}
+use Rattle.std.proofs.Common.{◌≡◌, ◌≢◌, ℕ, zero, suc, ◌+◌, ◌<◌, ◌≤◌, ◌==◌, Bool, true, false, cond, not, ◌&&◌, nat_lt, List, [], ◌∷◌, ◌++◌, length, get_or, refl, sym, ap, ◌∙◌, subst, Option, Some, None, is_none, arith, inl, inr}
+use Rattle.std.specs.Prelude.{is_some, slice_get}
+use Rattle.std.proofs.lemmas.Bool.{and_parts, both_ways, cases_Bool, eq-eqb, eqb-true, false_from_ne_true, ltb-true, or_cases}
 use Rattle.std.proofs.lemmas.Bool.Decides.{nat_tests}
 use Rattle.table_model.specs.Counts.{one_where}
 use Rattle.table_model.specs.Visible.{goes_before, kept_of}
@@ -14,7 +14,6 @@ use Rattle.tuple_state.specs.State.{row_of, rules_over}
 use Rattle.tuple_state.proofs.Dropping.{row_there}
 use Rattle.tuple_state.proofs.Grouping.{below_or, last_or}
 use Rattle.tuple_state.proofs.Leasts.{any_alike, behind_is}
-use Rattle.tuple_state.proofs.Linking.{link_at}
 use Rattle.tuple_state.proofs.Marking.{slice_get_below}
 use Rattle.tuple_state.proofs.Raising.{absent_fewer, rising_at, rising_there, unit}
 use Rattle.tuple_state.proofs.Meaning.{count_cons}
@@ -81,35 +80,6 @@ pub record AreSettledTo (shapes : List Shape) (rows : List Inserted) (links : Li
 pub cond_low : (b : Bool) (n : ℕ) → cond b n 0 ≤ n
 cond_low true n = omega arith
 cond_low false n = omega arith
-
-module _ (table : ℕ) (rows : List Inserted) (number k x old : ℕ) where
-  -- a link that is counted
-  pub counted_then : (a b : ℕ) → is_in table (slice_get rows number) ≡ true → x ≡ old + cond (is_in table (slice_get rows k)) a 0 → b ≡ a + one_at number k
-      → x + one_at number k ≡ old + cond (is_in table (slice_get rows k)) b 0
-  counted_then a b inside before more =
-      let step : (c : Bool) → is_in table (slice_get rows k) ≡ c → x ≡ old + cond c a 0 → x + one_at number k ≡ old + cond c b 0 = elim [
-        | true ↦ λ e h. omega (arith, h, more)
-        | false ↦ λ e h.
-            let apart : (number == k) ≡ false = false_from_ne_true _ (λ s. both_ways _ e (ap (λ n. is_in table (slice_get rows n)) (sym (eqb-true number k s)) ∙ inside)) in
-            let none : one_at number k ≡ 0 = ap (λ c. unit c) apart in
-            omega (arith, h, none)
-      ] in
-      step (is_in table (slice_get rows k)) refl before
-
-  -- and one that is not
-  pub counted_else : (a b : ℕ) (gone : Bool) → (is_in table (slice_get rows number) && gone) ≡ false → x ≡ old + cond (is_in table (slice_get rows k)) a 0 → b ≡ a + unit (gone && (number == k))
-      → x ≡ old + cond (is_in table (slice_get rows k)) b 0
-  counted_else a b gone not_so before more =
-      let step : (c : Bool) → is_in table (slice_get rows k) ≡ c → x ≡ old + cond c a 0 → x ≡ old + cond c b 0 = elim [
-        | true ↦ λ e h.
-            let none : (gone && (number == k)) ≡ false = false_from_ne_true _ (λ s.
-            let parts = and_parts gone _ s in
-            both_ways _ not_so (and_from _ _ (ap (λ n. is_in table (slice_get rows n)) (eqb-true number k parts.1) ∙ e) parts.0)) in
-            let zero_is : unit (gone && (number == k)) ≡ 0 = ap (λ c. unit c) none in
-            omega (arith, h, more, zero_is)
-        | false ↦ λ e h. h
-      ] in
-      step (is_in table (slice_get rows k)) refl before
 
 pub count_more : (rows : List Inserted) (links : List Link) (table k new old : ℕ) (causes : List ℕ) → new ≡ old + cond (is_in table (slice_get rows k)) (absent_times links causes k) 0 → new ≤ old + times_in links k
 count_more rows links table k new old causes is =

@@ -1,5 +1,5 @@
 -- What tables keep after the later updates are taken back.
-use Rattle.std.proofs.Common.{◌≡◌, ℕ, zero, suc, ◌+◌, ◌-◌, ◌<◌, ◌≤◌, true, false, cond, not, List, [], ◌∷◌, ◌++◌, length, get_or, map, reverse, take, drop, refl, sym, ap, ◌∙◌, subst, length-append, zero-add, Option, Some, None, nat_lt, arith}
+use Rattle.std.proofs.Common.{◌≡◌, ℕ, zero, suc, ◌+◌, ◌-◌, ◌<◌, ◌≤◌, true, false, cond, not, List, [], ◌∷◌, ◌++◌, length, map, reverse, take, drop, refl, sym, ap, ◌∙◌, subst, length-append, zero-add, Option, Some, None, nat_lt, arith}
 use Rattle.std.specs.Prelude.{count_by, is_some, slice_get}
 use Rattle.std.specs.List.{list_all}
 use Rattle.std.specs.BTreeMap.{get, BTreeMap}
@@ -238,6 +238,11 @@ module _ (rules : Rules) (newer older : List NodeData) (state : State) (len : �
     pub children_inside : are_inside rows (take n children) ≡ true
     children_inside = rising_inside 0 rows (take n children) rising_old
 
+  pub ended_old : (rows : ℕ) (ends : List ℕ) → ends ≡ ends_from (rules_of_state state) 0 state.inserted → rows ≡ count_by (λ (it : Inserted). nat_lt it.position len) state.inserted → take rows ends ≡ ends_from (rules_of_state old) 0 old.inserted
+  ended_old rows ends ended is =
+      ap (take rows) ended ∙ ends-take (rules_of_state state) 0 rows state.inserted
+      ∙ (λ i. ends_from (rules_over (shapes_stay i)) 0 (rows_taken rows is i))
+
   pub kept_old : (places after_places : BTreeMap RowName ℕ) (causes after_causes : List ℕ) (children deleters : Linked) (ends groups after_groups : List ℕ) (least after_least : List (Option ℕ)) (nexts after_nexts : List ℕ) (rows names n : ℕ) → IsKept state places causes children deleters ends groups least nexts
       → rows ≡ count_by (λ (it : Inserted). nat_lt it.position len) state.inserted → names ≡ count_by (λ (it : Dropped). nat_lt it.position len) state.dropped
       → n ≡ count_by (λ (l : Link). nat_lt l.number rows) children.links
@@ -263,9 +268,7 @@ module _ (rules : Rules) (newer older : List NodeData) (state : State) (len : �
     threaded = threaded;
     homes = rows_len rows is;
     named = named_old children.links rows n kept.named is refs;
-    ended =
-        ap (take rows) kept.ended ∙ ends-take (rules_of_state state) 0 rows state.inserted
-        ∙ (λ i. ends_from (rules_over (shapes_stay i)) 0 (rows_taken rows is i));
+    ended = ended_old rows ends kept.ended is;
     rooms = rows_len rows is;
     few_children = let l = take_fewer n children.links in omega (arith, l, kept.few_children);
     few_deleters = let l = take_fewer names deleters.links in omega (arith, l, kept.few_deleters);

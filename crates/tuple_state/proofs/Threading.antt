@@ -6,7 +6,6 @@ use Rattle.std.proofs.lemmas.Bool.Decides.{nat_tests}
 use Rattle.tuple_state.specs.declared.inserted.Inserted.{Inserted}
 use Rattle.tuple_state.specs.Least.{IsLeastOf, is_behind, is_in, is_lesser, is_standing}
 use Rattle.tuple_state.specs.Threads.{AreThreads, IsNextOf, IsThread}
-use Rattle.tuple_state.proofs.Dropping.{row_there}
 use Rattle.tuple_state.proofs.Grouping.{below_or}
 use Rattle.tuple_state.proofs.Marking.{slice_get_below}
 

@@ -1,5 +1,5 @@
 -- What tables keep beside their state, so that look-ups are quick.
-use Rattle.std.specs.Prelude.{◌≡◌, ℕ, ◌+◌, ◌*◌, ◌≤◌, ◌==◌, Bool, true, not, ◌&&◌, ◌||◌, List, [], ◌∷◌, length, map, count_by, nat_lt, Option, Some, is_none}
+use Rattle.std.specs.Prelude.{◌≡◌, ℕ, ◌*◌, ◌≤◌, ◌==◌, Bool, true, not, ◌&&◌, ◌||◌, List, [], ◌∷◌, length, map, count_by, nat_lt, Option, Some, is_none}
 use Rattle.std.specs.List.{list_any, list_all, position_from}
 use Rattle.std.specs.BTreeMap.{get, BTreeMap}
 use Rattle.update_model.specs.declared.row_name.RowName.{RowName}

@@ -173,7 +173,7 @@ impl Links {
 }
 
 /// Leaves nothing at each place.
-pub(crate) fn forget(newest: &mut [Option<usize>])
+fn forget(newest: &mut [Option<usize>])
     ensures { (place : ℕ) → slice_index_or newest.new place None ≡ None }
 {
     for last in newest.iter_mut() {

@@ -19,7 +19,7 @@ ghost use Rattle.tuple_state.specs.declared.inserted.Inserted.{Inserted as Row};
 use crate::causes::{clear, count_places};
 use crate::grounds::Grounds;
 use crate::groups::Groups;
-use crate::links::{Link, Links, forget};
+use crate::links::{Link, Links};
 use crate::shapes::keep_any;
 use crate::threads::{Members, TABLES, members_of, thread};
 use crate::{Inserted, Tables};

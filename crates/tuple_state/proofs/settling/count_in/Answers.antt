@@ -2,7 +2,7 @@ use Rattle.std.proofs.Common.{◌≡◌, ◌+◌, ◌<◌, ◌≤◌, ◌==◌, 
 use Rattle.std.specs.Prelude.{count_by, slice_get}
 use Rattle.std.proofs.lemmas.List.Sums.{length-filter}
 use Rattle.table_model.proofs.Standing.{all_filtered}
-use Rattle.tuple_state.specs.Causes.{absent_times, is_absent, times_in}
+use Rattle.tuple_state.specs.Causes.{absent_times, is_absent}
 use Rattle.tuple_state.specs.Least.{is_in}
 use Rattle.tuple_state.specs.Links.{are_inside}
 use Rattle.tuple_state.specs.declared.links.Link.{Link}

@@ -1,8 +1,7 @@
-use Rattle.std.proofs.Common.{◌≡◌, ◌+◌, ◌<◌, ◌≤◌, ◌==◌, ◌&&◌, ℕ, List, Option, None, true, get_or, length, sym, subst, ap, ◌∙◌, arith}
-use Rattle.std.specs.Prelude.{slice_get}
+use Rattle.std.proofs.Common.{◌+◌, ◌<◌, ◌==◌, ◌&&◌, ℕ, List, Option, None, get_or, length, sym, subst, ap, ◌∙◌, arith}
 use Rattle.tuple_state.specs.Least.{IsLeastOf, is_first, is_standing}
 use Rattle.tuple_state.proofs.Dropping.{row_there}
-use Rattle.tuple_state.proofs.Leasts.{least_else, least_end, least_then}
+use Rattle.tuple_state.proofs.Leasts.{least_else, least_then}
 use Rattle.tuple_state.proofs.Threading.{least_onward, standing_others, table_is}
 use Rattle.tuple_state.proofs.settling.find_least.Goals as goal
 use Rattle.tuple_state.proofs.settling.find_least.Goals.{then-is_better, else-is_better}

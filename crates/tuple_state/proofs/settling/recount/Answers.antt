@@ -1,6 +1,5 @@
-use Rattle.std.proofs.Common.{◌≡◌, ◌+◌, ℕ, List, get_or, ap, subst, arith}
+use Rattle.std.proofs.Common.{◌≡◌, ℕ, List, get_or, ap, arith}
 use Rattle.std.specs.Prelude.{count_by}
-use Rattle.tuple_state.specs.Least.{AreSettled}
 use Rattle.tuple_state.specs.Links.{is_of}
 use Rattle.tuple_state.specs.declared.links.Link.{Link}
 use Rattle.tuple_state.proofs.Leasts.{settled_based}

@@ -1,4 +1,4 @@
-use Rattle.std.proofs.Common.{◌≡◌, ℕ, ◌≤◌, length}
+use Rattle.std.proofs.Common.{◌≡◌, ◌≤◌, length}
 use Rattle.tuple_state.specs.Threads.{AreThreads}
 use Rattle.tuple_state.proofs.threads.thread.Given as goal
 

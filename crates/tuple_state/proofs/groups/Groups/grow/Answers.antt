@@ -1,4 +1,4 @@
-use Rattle.std.proofs.Common.{◌≡◌, ◌++◌, ◌∷◌, ℕ, List, [], ap, length, length-append, sym, subst, ◌∙◌, arith}
+use Rattle.std.proofs.Common.{◌++◌, ◌∷◌, ℕ, List, [], ap, length, length-append, sym, subst, ◌∙◌, arith}
 use Rattle.tuple_state.specs.Least.{AreGrouped}
 use Rattle.tuple_state.proofs.groups.Groups.grow.Goals as goal
 

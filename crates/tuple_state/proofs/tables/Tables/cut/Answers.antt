@@ -3,7 +3,7 @@ use Rattle.std.specs.Prelude.{count_by}
 use Rattle.std.proofs.lemmas.List.{length-take-le, take_at}
 use Rattle.update_model.specs.Node.{NodeData}
 use Rattle.table_model.specs.Visible.{Rules}
-use Rattle.tuple_state.specs.Causes.{AreRising, absent_times}
+use Rattle.tuple_state.specs.Causes.{AreRising, absent_times, ends_from}
 use Rattle.tuple_state.specs.Kept.{IsKept, are_layered, place_of}
 use Rattle.tuple_state.specs.Links.{Linked, are_inside, is_of}
 use Rattle.tuple_state.specs.State.{IsStateOf, State, keep_any, row_of, rules_of_state, state_of}
@@ -13,12 +13,13 @@ use Rattle.tuple_state.specs.declared.links.Link.{Link}
 use Rattle.tuple_state.specs.declared.voided.Voided.{Voided}
 use Rattle.tuple_state.proofs.Fronts.{closed_back}
 use Rattle.tuple_state.proofs.Marks.{fresh_layered}
+use Rattle.tuple_state.proofs.Parting.{ends_each, parted, parted_moved}
 use Rattle.tuple_state.proofs.Grouping.{front_len, grouped_front, grouped_moved, take_same}
 use Rattle.tuple_state.proofs.Leasts.{plain_settled, settled_moved}
 use Rattle.tuple_state.proofs.Levels.{level_moved}
 use Rattle.tuple_state.specs.Least.{AreSettled}
 use Rattle.std.proofs.lemmas.Bool.{cases_Bool}
-use Rattle.tuple_state.proofs.Shortening.{children_inside, shapes_stay, count_old, inside_old, kept_old, level_old, names_taken, parts_back, rising_old, rows_few, rows_len, rows_taken, voids_taken}
+use Rattle.tuple_state.proofs.Shortening.{children_inside, shapes_stay, count_old, ended_old, inside_old, kept_old, level_old, named_old, names_taken, parts_back, rising_old, rows_few, rows_len, rows_taken, voids_taken}
 use Rattle.tuple_state.proofs.tables.Tables.cut.Goals as goal
 
 pub remove_places-requires-clause-fresh : goal.remove_places-requires-clause-fresh
@@ -91,12 +92,12 @@ recount-requires-clause-rising c =
     let names_is = c.names_before-names.ensures ∙ ap (count_by (λ (x : Dropped). nat_lt x.position c.args.len)) c.as_slice-2.ensures.value in
     let few = rows_few it.rules it.newer it.older state c.args.len held it.at c.rows_before-rows.result rows_is in
     let n = c.rows_before-rows.result in
-    let rows_now : c.as_slice-6.result.now ≡ take n inside.rows.items = c.as_slice-6.ensures.value ∙ c.truncate.ensures.items in
-    let size : length c.as_slice-6.result.now ≡ n = ap length rows_now ∙ length-take-le n inside.rows.items few in
-    let refs_now : c.cut-2.new.self.links ≡ take c.numbers_before-parents.result inside.children.links = ap (λ (d : Linked). d.links) c.cut-2.ensures in
+    let rows_now : c.new-grounds.result.rows.now ≡ take n inside.rows.items = c.new-grounds.ensures.rows ∙ c.truncate.ensures.items in
+    let size : length c.new-grounds.result.rows.now ≡ n = ap length rows_now ∙ length-take-le n inside.rows.items few in
+    let refs_now : c.new-grounds.result.children.now ≡ take c.numbers_before-parents.result inside.children.links = c.new-grounds.ensures.children ∙ ap (λ (d : Linked). d.links) c.cut-2.ensures in
     let gone_now : c.cut.new.self.links ≡ take c.names_before-names.result inside.deleters.links = ap (λ (d : Linked). d.links) c.cut.ensures in
     let rising = rising_old it.rules it.newer it.older state c.args.len held it.at inside.children.links n c.numbers_before-parents.result c.self.invariant.named rows_is refs_is in
-    subst (λ (l : List Link). AreRising 0 (length c.as_slice-6.result.now) l) (sym refs_now) (subst (λ m. AreRising 0 m (take c.numbers_before-parents.result inside.children.links)) (sym size) rising)
+    subst (λ (l : List Link). AreRising 0 (length c.new-grounds.result.rows.now) l) (sym refs_now) (subst (λ m. AreRising 0 m (take c.numbers_before-parents.result inside.children.links)) (sym size) rising)
 
 pub recount-requires-clause-level : goal.recount-requires-clause-level
 recount-requires-clause-level c =
@@ -109,14 +110,50 @@ recount-requires-clause-level c =
     let names_is = c.names_before-names.ensures ∙ ap (count_by (λ (x : Dropped). nat_lt x.position c.args.len)) c.as_slice-2.ensures.value in
     let few = rows_few it.rules it.newer it.older state c.args.len held it.at c.rows_before-rows.result rows_is in
     let n = c.rows_before-rows.result in
-    let rows_now : c.as_slice-6.result.now ≡ take n inside.rows.items = c.as_slice-6.ensures.value ∙ c.truncate.ensures.items in
-    let size : length c.as_slice-6.result.now ≡ n = ap length rows_now ∙ length-take-le n inside.rows.items few in
-    let refs_now : c.cut-2.new.self.links ≡ take c.numbers_before-parents.result inside.children.links = ap (λ (d : Linked). d.links) c.cut-2.ensures in
+    let rows_now : c.new-grounds.result.rows.now ≡ take n inside.rows.items = c.new-grounds.ensures.rows ∙ c.truncate.ensures.items in
+    let size : length c.new-grounds.result.rows.now ≡ n = ap length rows_now ∙ length-take-le n inside.rows.items few in
+    let refs_now : c.new-grounds.result.children.now ≡ take c.numbers_before-parents.result inside.children.links = c.new-grounds.ensures.children ∙ ap (λ (d : Linked). d.links) c.cut-2.ensures in
     let gone_now : c.cut.new.self.links ≡ take c.names_before-names.result inside.deleters.links = ap (λ (d : Linked). d.links) c.cut.ensures in
     let old : State = state_of it.rules it.older in
-    level_moved old.shapes _ old.inserted _ (take c.numbers_before-parents.result inside.children.links) _ (sym (c.as_slice-7.ensures.value ∙ shapes_stay it.rules it.newer it.older state c.args.len held it.at))
+    level_moved old.shapes _ old.inserted _ (take c.numbers_before-parents.result inside.children.links) _ (sym ((c.new-grounds.ensures.shapes ∙ c.as_slice-shapes.ensures.value) ∙ shapes_stay it.rules it.newer it.older state c.args.len held it.at))
     (sym (rows_now ∙ rows_taken it.rules it.newer it.older state c.args.len held it.at n rows_is)) (sym refs_now)
     (level_old it.rules it.newer it.older state c.args.len held it.at inside.children.links n c.numbers_before-parents.result c.self.invariant.named rows_is refs_is)
+
+pub recount-requires-clause-ends : goal.recount-requires-clause-ends
+recount-requires-clause-ends c =
+    let inside = c.self.inside in
+    let state : State = record { shapes = inside.shapes.items; count = inside.count; inserted = inside.rows.items; dropped = inside.dropped.items; voids = inside.voids.items } in
+    let it = c.requires in
+    let held = subst (λ (s : State). IsStateOf it.rules (it.newer ++ it.older) s) (sym c.self.view_is) it.is in
+    let rows_is = c.rows_before-rows.ensures ∙ ap (count_by (λ (x : Inserted). nat_lt x.position c.args.len)) c.as_slice.ensures.value in
+    let refs_is = c.numbers_before-parents.ensures ∙ ap (count_by (λ (x : Link). nat_lt x.number c.rows_before-rows.result)) c.links.ensures.links in
+    let few = rows_few it.rules it.newer it.older state c.args.len held it.at c.rows_before-rows.result rows_is in
+    let n = c.rows_before-rows.result in
+    let rows_now : c.new-grounds.result.rows.now ≡ take n inside.rows.items = c.new-grounds.ensures.rows ∙ c.truncate.ensures.items in
+    let refs_now : c.new-grounds.result.children.now ≡ take c.numbers_before-parents.result inside.children.links = c.new-grounds.ensures.children ∙ ap (λ (d : Linked). d.links) c.cut-2.ensures in
+    let old : State = state_of it.rules it.older in
+    let ends_are : c.new-grounds.result.ends.now ≡ ends_from (rules_of_state old) 0 old.inserted =
+    c.new-grounds.ensures.ends ∙ c.truncate-5.ensures.items ∙ ended_old it.rules it.newer it.older state c.args.len held it.at n inside.ends.items c.self.invariant.ended rows_is in
+    ends_each (rules_of_state old) old.inserted _ ends_are ∙ sym (ap length (rows_now ∙ rows_taken it.rules it.newer it.older state c.args.len held it.at n rows_is))
+
+pub recount-requires-clause-parted : goal.recount-requires-clause-parted
+recount-requires-clause-parted c =
+    let inside = c.self.inside in
+    let state : State = record { shapes = inside.shapes.items; count = inside.count; inserted = inside.rows.items; dropped = inside.dropped.items; voids = inside.voids.items } in
+    let it = c.requires in
+    let held = subst (λ (s : State). IsStateOf it.rules (it.newer ++ it.older) s) (sym c.self.view_is) it.is in
+    let rows_is = c.rows_before-rows.ensures ∙ ap (count_by (λ (x : Inserted). nat_lt x.position c.args.len)) c.as_slice.ensures.value in
+    let refs_is = c.numbers_before-parents.ensures ∙ ap (count_by (λ (x : Link). nat_lt x.number c.rows_before-rows.result)) c.links.ensures.links in
+    let few = rows_few it.rules it.newer it.older state c.args.len held it.at c.rows_before-rows.result rows_is in
+    let n = c.rows_before-rows.result in
+    let rows_now : c.new-grounds.result.rows.now ≡ take n inside.rows.items = c.new-grounds.ensures.rows ∙ c.truncate.ensures.items in
+    let refs_now : c.new-grounds.result.children.now ≡ take c.numbers_before-parents.result inside.children.links = c.new-grounds.ensures.children ∙ ap (λ (d : Linked). d.links) c.cut-2.ensures in
+    let old : State = state_of it.rules it.older in
+    let ends_are : c.new-grounds.result.ends.now ≡ ends_from (rules_of_state old) 0 old.inserted =
+    c.new-grounds.ensures.ends ∙ c.truncate-5.ensures.items ∙ ended_old it.rules it.newer it.older state c.args.len held it.at n inside.ends.items c.self.invariant.ended rows_is in
+    parted_moved (take c.numbers_before-parents.result inside.children.links) _ (ends_from (rules_of_state old) 0 old.inserted) _ (sym refs_now) (sym ends_are)
+    (parted (rules_of_state old) (place_of old.inserted) old.inserted (take c.numbers_before-parents.result inside.children.links) (ends_from (rules_of_state old) 0 old.inserted)
+    (named_old it.rules it.newer it.older state c.args.len held it.at inside.children.links n c.numbers_before-parents.result c.self.invariant.named rows_is refs_is) refl)
 
 pub recount-requires-clause-inside : goal.recount-requires-clause-inside
 recount-requires-clause-inside c =
@@ -129,12 +166,12 @@ recount-requires-clause-inside c =
     let names_is = c.names_before-names.ensures ∙ ap (count_by (λ (x : Dropped). nat_lt x.position c.args.len)) c.as_slice-2.ensures.value in
     let few = rows_few it.rules it.newer it.older state c.args.len held it.at c.rows_before-rows.result rows_is in
     let n = c.rows_before-rows.result in
-    let rows_now : c.as_slice-6.result.now ≡ take n inside.rows.items = c.as_slice-6.ensures.value ∙ c.truncate.ensures.items in
-    let size : length c.as_slice-6.result.now ≡ n = ap length rows_now ∙ length-take-le n inside.rows.items few in
-    let refs_now : c.cut-2.new.self.links ≡ take c.numbers_before-parents.result inside.children.links = ap (λ (d : Linked). d.links) c.cut-2.ensures in
+    let rows_now : c.new-grounds.result.rows.now ≡ take n inside.rows.items = c.new-grounds.ensures.rows ∙ c.truncate.ensures.items in
+    let size : length c.new-grounds.result.rows.now ≡ n = ap length rows_now ∙ length-take-le n inside.rows.items few in
+    let refs_now : c.new-grounds.result.children.now ≡ take c.numbers_before-parents.result inside.children.links = c.new-grounds.ensures.children ∙ ap (λ (d : Linked). d.links) c.cut-2.ensures in
     let gone_now : c.cut.new.self.links ≡ take c.names_before-names.result inside.deleters.links = ap (λ (d : Linked). d.links) c.cut.ensures in
     let within = inside_old it.rules it.newer it.older state c.args.len held it.at n c.names_before-names.result inside.deleters.links rows_is names_is c.self.invariant.deleted in
-    subst (λ (l : List Link). are_inside (length c.as_slice-6.result.now) l ≡ true) (sym gone_now) (subst (λ m. are_inside m (take c.names_before-names.result inside.deleters.links) ≡ true) (sym size) within)
+    subst (λ (l : List Link). are_inside (length c.new-grounds.result.rows.now) l ≡ true) (sym gone_now) (subst (λ m. are_inside m (take c.names_before-names.result inside.deleters.links) ≡ true) (sym size) within)
 
 pub recount-requires-clause-grouped : goal.recount-requires-clause-grouped
 recount-requires-clause-grouped c =
@@ -147,11 +184,11 @@ recount-requires-clause-grouped c =
     let names_is = c.names_before-names.ensures ∙ ap (count_by (λ (x : Dropped). nat_lt x.position c.args.len)) c.as_slice-2.ensures.value in
     let few = rows_few it.rules it.newer it.older state c.args.len held it.at c.rows_before-rows.result rows_is in
     let n = c.rows_before-rows.result in
-    let rows_now : c.as_slice-6.result.now ≡ take n inside.rows.items = c.as_slice-6.ensures.value ∙ c.truncate.ensures.items in
-    let size : length c.as_slice-6.result.now ≡ n = ap length rows_now ∙ length-take-le n inside.rows.items few in
-    let refs_now : c.cut-2.new.self.links ≡ take c.numbers_before-parents.result inside.children.links = ap (λ (d : Linked). d.links) c.cut-2.ensures in
+    let rows_now : c.new-grounds.result.rows.now ≡ take n inside.rows.items = c.new-grounds.ensures.rows ∙ c.truncate.ensures.items in
+    let size : length c.new-grounds.result.rows.now ≡ n = ap length rows_now ∙ length-take-le n inside.rows.items few in
+    let refs_now : c.new-grounds.result.children.now ≡ take c.numbers_before-parents.result inside.children.links = c.new-grounds.ensures.children ∙ ap (λ (d : Linked). d.links) c.cut-2.ensures in
     let gone_now : c.cut.new.self.links ≡ take c.names_before-names.result inside.deleters.links = ap (λ (d : Linked). d.links) c.cut.ensures in
-    grouped_moved inside.shapes.items _ (take n inside.rows.items) _ (take n inside.groups.numbers.items) _ (sym c.as_slice-7.ensures.value) (sym rows_now) (sym c.cut-3.ensures.numbers)
+    grouped_moved inside.shapes.items _ (take n inside.rows.items) _ (take n inside.groups.numbers.items) _ (sym (c.new-grounds.ensures.shapes ∙ c.as_slice-shapes.ensures.value)) (sym rows_now) (sym c.cut-3.ensures.numbers)
     (grouped_front inside.shapes.items inside.rows.items inside.groups.numbers.items n c.self.invariant.grouped)
 
 pub recount-requires-clause-spare : goal.recount-requires-clause-spare
@@ -170,9 +207,9 @@ recount-requires-clause-old c keeps =
     let names_is = c.names_before-names.ensures ∙ ap (count_by (λ (x : Dropped). nat_lt x.position c.args.len)) c.as_slice-2.ensures.value in
     let few = rows_few it.rules it.newer it.older state c.args.len held it.at c.rows_before-rows.result rows_is in
     let n = c.rows_before-rows.result in
-    let rows_now : c.as_slice-6.result.now ≡ take n inside.rows.items = c.as_slice-6.ensures.value ∙ c.truncate.ensures.items in
-    let size : length c.as_slice-6.result.now ≡ n = ap length rows_now ∙ length-take-le n inside.rows.items few in
-    let refs_now : c.cut-2.new.self.links ≡ take c.numbers_before-parents.result inside.children.links = ap (λ (d : Linked). d.links) c.cut-2.ensures in
+    let rows_now : c.new-grounds.result.rows.now ≡ take n inside.rows.items = c.new-grounds.ensures.rows ∙ c.truncate.ensures.items in
+    let size : length c.new-grounds.result.rows.now ≡ n = ap length rows_now ∙ length-take-le n inside.rows.items few in
+    let refs_now : c.new-grounds.result.children.now ≡ take c.numbers_before-parents.result inside.children.links = c.new-grounds.ensures.children ∙ ap (λ (d : Linked). d.links) c.cut-2.ensures in
     let gone_now : c.cut.new.self.links ≡ take c.names_before-names.result inside.deleters.links = ap (λ (d : Linked). d.links) c.cut.ensures in
     let short = front_len n inside.groups.numbers.items in
     let len = ap length c.cut-3.ensures.numbers in
@@ -189,12 +226,12 @@ recount-requires-clause-room c keeps =
     let names_is = c.names_before-names.ensures ∙ ap (count_by (λ (x : Dropped). nat_lt x.position c.args.len)) c.as_slice-2.ensures.value in
     let few = rows_few it.rules it.newer it.older state c.args.len held it.at c.rows_before-rows.result rows_is in
     let n = c.rows_before-rows.result in
-    let rows_now : c.as_slice-6.result.now ≡ take n inside.rows.items = c.as_slice-6.ensures.value ∙ c.truncate.ensures.items in
-    let size : length c.as_slice-6.result.now ≡ n = ap length rows_now ∙ length-take-le n inside.rows.items few in
-    let refs_now : c.cut-2.new.self.links ≡ take c.numbers_before-parents.result inside.children.links = ap (λ (d : Linked). d.links) c.cut-2.ensures in
+    let rows_now : c.new-grounds.result.rows.now ≡ take n inside.rows.items = c.new-grounds.ensures.rows ∙ c.truncate.ensures.items in
+    let size : length c.new-grounds.result.rows.now ≡ n = ap length rows_now ∙ length-take-le n inside.rows.items few in
+    let refs_now : c.new-grounds.result.children.now ≡ take c.numbers_before-parents.result inside.children.links = c.new-grounds.ensures.children ∙ ap (λ (d : Linked). d.links) c.cut-2.ensures in
     let gone_now : c.cut.new.self.links ≡ take c.names_before-names.result inside.deleters.links = ap (λ (d : Linked). d.links) c.cut.ensures in
     let v = c.cut-3.new.self.numbers in
-    let sized = c.self.invariant.sized (sym (ap keep_any c.as_slice-7.ensures.value) ∙ keeps) in
+    let sized = c.self.invariant.sized (sym (ap keep_any (c.new-grounds.ensures.shapes ∙ c.as_slice-shapes.ensures.value)) ∙ keeps) in
     let len = ap length c.cut-3.ensures.numbers ∙ length-take-le n inside.groups.numbers.items (omega (arith, few, sized)) in
     omega (arith, len, size, v.ok.0, v.ok.1)
 
@@ -209,12 +246,12 @@ recount-requires-clause-space c keeps =
     let names_is = c.names_before-names.ensures ∙ ap (count_by (λ (x : Dropped). nat_lt x.position c.args.len)) c.as_slice-2.ensures.value in
     let few = rows_few it.rules it.newer it.older state c.args.len held it.at c.rows_before-rows.result rows_is in
     let n = c.rows_before-rows.result in
-    let rows_now : c.as_slice-6.result.now ≡ take n inside.rows.items = c.as_slice-6.ensures.value ∙ c.truncate.ensures.items in
-    let size : length c.as_slice-6.result.now ≡ n = ap length rows_now ∙ length-take-le n inside.rows.items few in
-    let refs_now : c.cut-2.new.self.links ≡ take c.numbers_before-parents.result inside.children.links = ap (λ (d : Linked). d.links) c.cut-2.ensures in
+    let rows_now : c.new-grounds.result.rows.now ≡ take n inside.rows.items = c.new-grounds.ensures.rows ∙ c.truncate.ensures.items in
+    let size : length c.new-grounds.result.rows.now ≡ n = ap length rows_now ∙ length-take-le n inside.rows.items few in
+    let refs_now : c.new-grounds.result.children.now ≡ take c.numbers_before-parents.result inside.children.links = c.new-grounds.ensures.children ∙ ap (λ (d : Linked). d.links) c.cut-2.ensures in
     let gone_now : c.cut.new.self.links ≡ take c.names_before-names.result inside.deleters.links = ap (λ (d : Linked). d.links) c.cut.ensures in
     let v = c.cut-3.new.self.least in
-    let sized = c.self.invariant.sized (sym (ap keep_any c.as_slice-7.ensures.value) ∙ keeps) in
+    let sized = c.self.invariant.sized (sym (ap keep_any (c.new-grounds.ensures.shapes ∙ c.as_slice-shapes.ensures.value)) ∙ keeps) in
     let len = ap length c.cut-3.ensures.least ∙ length-take-le n inside.groups.least.items (omega (arith, few, sized, c.self.invariant.spare)) in
     omega (arith, len, size, v.ok.0, v.ok.1)
 
@@ -268,12 +305,12 @@ invariant_of-self c =
     let e = ap (λ (l : List Link). count_by (is_of k) l) links2 in
     let f = ap (λ (l : List Link). absent_times l c.count_numbers.new.causes k) links3 in
     omega (arith, a, b, d, e, f) in
-    let shapes_now : c.as_slice-7.result.now ≡ old.shapes = c.as_slice-7.ensures.value ∙ shapes_stay it.rules it.newer it.older state c.args.len held it.at in
-    let rows_now : c.as_slice-6.result.now ≡ old.inserted = c.as_slice-6.ensures.value ∙ c.truncate.ensures.items ∙ rows_taken it.rules it.newer it.older state c.args.len held it.at n rows_is in
+    let shapes_now : c.new-grounds.result.shapes.now ≡ old.shapes = (c.new-grounds.ensures.shapes ∙ c.as_slice-shapes.ensures.value) ∙ shapes_stay it.rules it.newer it.older state c.args.len held it.at in
+    let rows_now : c.new-grounds.result.rows.now ≡ old.inserted = c.new-grounds.ensures.rows ∙ c.truncate.ensures.items ∙ rows_taken it.rules it.newer it.older state c.args.len held it.at n rows_is in
     let settled : AreSettled old.shapes old.inserted (take c.numbers_before-parents.result inside.children.links) (λ k. count_by (is_of k) (take c.names_before-names.result inside.deleters.links)) c.recount.new.causes =
     elim (cases_Bool (keep_any old.shapes)) [
       | inl keeps ↦
-          settled_moved _ old.shapes _ old.inserted _ _ _ _ c.recount.new.causes shapes_now rows_now (ap (λ (d : Linked). d.links) c.cut-2.ensures) (ap (λ (d : Linked). d.links) c.cut.ensures)
+          settled_moved _ old.shapes _ old.inserted _ _ _ _ c.recount.new.causes shapes_now rows_now (c.new-grounds.ensures.children ∙ ap (λ (d : Linked). d.links) c.cut-2.ensures) (ap (λ (d : Linked). d.links) c.cut.ensures)
           (c.recount.ensures.counted (ap keep_any shapes_now ∙ keeps))
       | inr plain ↦
           plain_settled old.shapes old.inserted (take c.numbers_before-parents.result inside.children.links) (λ k. count_by (is_of k) (take c.names_before-names.result inside.deleters.links)) c.recount.new.causes plain
@@ -287,4 +324,4 @@ invariant_of-self c =
     (kept_old it.rules it.newer it.older state c.args.len held it.at inside.places c.remove_places.new.places inside.causes.items c.recount.new.causes inside.children inside.deleters inside.ends.items inside.groups.numbers.items c.recount.new.groups.numbers.items inside.groups.least.items c.recount.new.groups.least.items inside.groups.nexts.items c.recount.new.groups.nexts.items
     n c.names_before-names.result c.numbers_before-parents.result
     c.self.invariant rows_is names_is refs_is placed (c.recount.auto.causes ∙ c.count_numbers.auto.causes ∙ size ∙ len_old) settled (grouped_moved _ old.shapes _ old.inserted _ _ shapes_now rows_now refl c.recount.ensures.grouped)
-    (λ keeps. c.recount.ensures.all (ap keep_any shapes_now ∙ keeps) ∙ ap length rows_now) c.recount.ensures.spare))
+    (λ keeps. c.recount.ensures.all (ap keep_any shapes_now ∙ keeps) ∙ ap length rows_now) c.recount.ensures.spare c.recount.ensures.threaded))

@@ -21,7 +21,8 @@ use Rattle.tuple_state.specs.Links.{are_inside}
 use Rattle.tuple_state.proofs.Grouping.{grouped_more, grouped_moved}
 use Rattle.tuple_state.proofs.Leasts.{plain_settled, settled_moved}
 use Rattle.tuple_state.proofs.Levels.{level_moved}
-use Rattle.tuple_state.proofs.Keeping.{deleters_next, drops_there, kept_next, known_inside, layered_next, level_next, news_few, padded_counts, padded_few, parents_found, refs_rising, rising_next}
+use Rattle.tuple_state.proofs.Keeping.{deleters_next, drops_there, ended_next, kept_next, known_inside, layered_next, level_next, named_next, news_few, padded_counts, padded_few, parents_found, refs_rising, rising_next}
+use Rattle.tuple_state.proofs.Parting.{ends_each, parted, parted_moved}
 use Rattle.tuple_state.proofs.Adding.{rising_lower}
 use Rattle.tuple_state.proofs.Raising.{absent_fewer}
 use Rattle.tuple_state.proofs.Lookups.{row_found}
@@ -56,16 +57,16 @@ add_places-requires-clause-fresh c =
     let node = changes.node in
     let next = changes.next in
     let news = map (inserted_at inside.count) (reverse (effects_of node).inserted) in
-    rw (c.as_slice-2.ensures.value, c.reserve.ensures.items, c.as_slice-3.ensures.value, changes.rows)
+    rw (c.as_slice-2.ensures.value, c.reserve_rows.ensures.rows, c.as_slice-3.ensures.value, changes.rows)
     (fresh_layered _ inside.rows.items _ (layered_next state node inside.places inside.causes.items inside.children inside.deleters inside.ends.items inside.groups.numbers.items inside.groups.least.items inside.groups.nexts.items c.self.invariant next))
 
 pub invariant_of-self-in_err-add_places : goal.invariant_of-self-in_err-add_places
 invariant_of-self-in_err-add_places c =
     let inside = c.self.inside in
     let state : State = record { shapes = inside.shapes.items; count = inside.count; inserted = inside.rows.items; dropped = inside.dropped.items; voids = inside.voids.items } in
-    rw (c.reserve.ensures.items, c.reserve-2.ensures.items, c.reserve-4.ensures.items, c.reserve-3.ensures.items, c.reserve-5.ensures.numbers, c.reserve-5.ensures.least)
+    rw (c.reserve_rows.ensures.rows, c.reserve_rows.ensures.causes, c.reserve.ensures.items, c.reserve_rows.ensures.ends, c.reserve-2.ensures.numbers, c.reserve-2.ensures.least, c.reserve-2.ensures.nexts)
     (kept_places state inside.places c.add_places.new.places inside.causes.items inside.children inside.children inside.deleters inside.deleters inside.ends.items inside.groups.numbers.items inside.groups.least.items inside.groups.nexts.items c.self.invariant
-    (rw (c.as_slice-2.ensures.value, c.reserve.ensures.items) at c.in_err-add_places.ensures.err) refl refl)
+    (rw (c.as_slice-2.ensures.value, c.reserve_rows.ensures.rows) at c.in_err-add_places.ensures.err) refl refl)
 
 pub grow_links-requires-clause-named : goal.grow_links-requires-clause-named
 grow_links-requires-clause-named c =
@@ -76,7 +77,7 @@ grow_links-requires-clause-named c =
     let next = changes.next in
     let news = map (inserted_at inside.count) (reverse (effects_of node).inserted) in
     let first : c.len-first.result ≡ length inside.rows.items = omega (arith, c.len-first.ensures) in
-    let placed = rw (c.as_slice-2.ensures.value, c.reserve.ensures.items, c.as_slice-3.ensures.value, changes.rows) at c.in_ok-add_places.ensures.ok in
+    let placed = rw (c.as_slice-2.ensures.value, c.reserve_rows.ensures.rows, c.as_slice-3.ensures.value, changes.rows) at c.in_ok-add_places.ensures.ok in
     let parents_are : c.in_ok-parents.parents.names.items ≡ parents_from (rules_of_state state) (length inside.rows.items) news =
     c.in_ok-parents.ensures.names ∙ (λ i. parents_from (rules_over (c.as_slice-shapes.ensures.value i)) (first i) ((c.as_slice.ensures.value ∙ changes.rows) i)) in
     rw (c.as_slice-4.ensures.value, parents_are)
@@ -90,7 +91,7 @@ grow_links-requires-clause-found c =
     let node = changes.node in
     let next = changes.next in
     let news = map (inserted_at inside.count) (reverse (effects_of node).inserted) in
-    let placed = rw (c.as_slice-2.ensures.value, c.reserve.ensures.items, c.as_slice-3.ensures.value, changes.rows) at c.in_ok-add_places.ensures.ok in
+    let placed = rw (c.as_slice-2.ensures.value, c.reserve_rows.ensures.rows, c.as_slice-3.ensures.value, changes.rows) at c.in_ok-add_places.ensures.ok in
     rw (c.as_slice-5.ensures.value, changes.names)
     (all_same placed (map (dropped_at inside.count) (reverse (effects_of node).deleted)) ∙ drops_there state node inside.places inside.causes.items inside.children inside.deleters inside.ends.items inside.groups.numbers.items inside.groups.least.items inside.groups.nexts.items c.self.invariant next)
 
@@ -103,7 +104,7 @@ grow_links-requires-clause-inside c name place at =
     let next = changes.next in
     let news = map (inserted_at inside.count) (reverse (effects_of node).inserted) in
     let first : c.len-first.result ≡ length inside.rows.items = omega (arith, c.len-first.ensures) in
-    let placed = rw (c.as_slice-2.ensures.value, c.reserve.ensures.items, c.as_slice-3.ensures.value, changes.rows) at c.in_ok-add_places.ensures.ok in
+    let placed = rw (c.as_slice-2.ensures.value, c.reserve_rows.ensures.rows, c.as_slice-3.ensures.value, changes.rows) at c.in_ok-add_places.ensures.ok in
     let row = row_found (inside.rows.items ++ news) name place (sym (placed name) ∙ at) in
     let len = length-append inside.rows.items news in
     let more = ap length changes.rows in
@@ -118,16 +119,16 @@ add_causes-requires-clause-rising c =
     let next = changes.next in
     let news = map (inserted_at inside.count) (reverse (effects_of node).inserted) in
     let first : c.len-first.result ≡ length inside.rows.items = omega (arith, c.len-first.ensures) in
-    let placed = rw (c.as_slice-2.ensures.value, c.reserve.ensures.items, c.as_slice-3.ensures.value, changes.rows) at c.in_ok-add_places.ensures.ok in
+    let placed = rw (c.as_slice-2.ensures.value, c.reserve_rows.ensures.rows, c.as_slice-3.ensures.value, changes.rows) at c.in_ok-add_places.ensures.ok in
     let parents_are : c.in_ok-parents.parents.names.items ≡ parents_from (rules_of_state state) (length inside.rows.items) news =
     c.in_ok-parents.ensures.names ∙ (λ i. parents_from (rules_over (c.as_slice-shapes.ensures.value i)) (first i) ((c.as_slice.ensures.value ∙ changes.rows) i)) in
     let refs = c.in-Ok.added.parents.items in
     let refs_are : pairs_of refs ≡ deletes_at (place_of (inside.rows.items ++ news)) (parents_from (rules_of_state state) (length inside.rows.items) news) =
     c.in-Ok.ensures.parents ∙ ap (deletes_at (get name_cmp c.add_places.new.places)) (c.as_slice-4.ensures.value ∙ parents_are) ∙ pairs_same placed (parents_from (rules_of_state state) (length inside.rows.items) news) in
     let news_len : length c.args.inserted.now.items ≡ length news = ap length changes.rows in
-    let room_len = ap length c.reserve-2.ensures.items in
-    let marks = rw (c.unwrap.ensures, c.reserve-2.ensures.items) at c.resize.ensures.items in
-    let more : c.len-first.result + c.len-more.result - vec_len c.reserve-2.new.self ≡ length news = omega (arith, first, c.len-more.ensures, c.self.invariant.each, news_len, room_len) in
+    let room_len = ap length c.reserve_rows.ensures.causes in
+    let marks = rw (c.unwrap.ensures, c.reserve_rows.ensures.causes) at c.resize.ensures.items in
+    let more : c.len-first.result + c.len-more.result - vec_len c.reserve_rows.new.causes ≡ length news = omega (arith, first, c.len-more.ensures, c.self.invariant.each, news_len, room_len) in
     let whole : c.as_mut_slice-causes.result.now ≡ inside.causes.items ++ replicate (length news) 0 =
     c.as_mut_slice-causes.ensures.value ∙ marks ∙ (λ i. take_all (c.len-first.result + c.len-more.result) inside.causes.items (omega (arith, first, c.self.invariant.each)) i ++ replicate (more i) 0) in
     let len : length c.as_mut_slice-causes.result.now ≡ length (inside.rows.items ++ news) =
@@ -146,16 +147,16 @@ add_causes-requires-clause-parents c =
     let next = changes.next in
     let news = map (inserted_at inside.count) (reverse (effects_of node).inserted) in
     let first : c.len-first.result ≡ length inside.rows.items = omega (arith, c.len-first.ensures) in
-    let placed = rw (c.as_slice-2.ensures.value, c.reserve.ensures.items, c.as_slice-3.ensures.value, changes.rows) at c.in_ok-add_places.ensures.ok in
+    let placed = rw (c.as_slice-2.ensures.value, c.reserve_rows.ensures.rows, c.as_slice-3.ensures.value, changes.rows) at c.in_ok-add_places.ensures.ok in
     let parents_are : c.in_ok-parents.parents.names.items ≡ parents_from (rules_of_state state) (length inside.rows.items) news =
     c.in_ok-parents.ensures.names ∙ (λ i. parents_from (rules_over (c.as_slice-shapes.ensures.value i)) (first i) ((c.as_slice.ensures.value ∙ changes.rows) i)) in
     let refs = c.in-Ok.added.parents.items in
     let refs_are : pairs_of refs ≡ deletes_at (place_of (inside.rows.items ++ news)) (parents_from (rules_of_state state) (length inside.rows.items) news) =
     c.in-Ok.ensures.parents ∙ ap (deletes_at (get name_cmp c.add_places.new.places)) (c.as_slice-4.ensures.value ∙ parents_are) ∙ pairs_same placed (parents_from (rules_of_state state) (length inside.rows.items) news) in
     let news_len : length c.args.inserted.now.items ≡ length news = ap length changes.rows in
-    let room_len = ap length c.reserve-2.ensures.items in
-    let marks = rw (c.unwrap.ensures, c.reserve-2.ensures.items) at c.resize.ensures.items in
-    let more : c.len-first.result + c.len-more.result - vec_len c.reserve-2.new.self ≡ length news = omega (arith, first, c.len-more.ensures, c.self.invariant.each, news_len, room_len) in
+    let room_len = ap length c.reserve_rows.ensures.causes in
+    let marks = rw (c.unwrap.ensures, c.reserve_rows.ensures.causes) at c.resize.ensures.items in
+    let more : c.len-first.result + c.len-more.result - vec_len c.reserve_rows.new.causes ≡ length news = omega (arith, first, c.len-more.ensures, c.self.invariant.each, news_len, room_len) in
     let whole : c.as_mut_slice-causes.result.now ≡ inside.causes.items ++ replicate (length news) 0 =
     c.as_mut_slice-causes.ensures.value ∙ marks ∙ (λ i. take_all (c.len-first.result + c.len-more.result) inside.causes.items (omega (arith, first, c.self.invariant.each)) i ++ replicate (more i) 0) in
     let len : length c.as_mut_slice-causes.result.now ≡ length (inside.rows.items ++ news) =
@@ -173,15 +174,15 @@ add_causes-requires-clause-dropped c =
     let next = changes.next in
     let news = map (inserted_at inside.count) (reverse (effects_of node).inserted) in
     let first : c.len-first.result ≡ length inside.rows.items = omega (arith, c.len-first.ensures) in
-    let placed = rw (c.as_slice-2.ensures.value, c.reserve.ensures.items, c.as_slice-3.ensures.value, changes.rows) at c.in_ok-add_places.ensures.ok in
+    let placed = rw (c.as_slice-2.ensures.value, c.reserve_rows.ensures.rows, c.as_slice-3.ensures.value, changes.rows) at c.in_ok-add_places.ensures.ok in
     let names = c.in-Ok.added.dropped.items in
     let drops = map (dropped_at inside.count) (reverse (effects_of node).deleted) in
     let names_are : pairs_of names ≡ deletes_at (place_of (inside.rows.items ++ news)) drops =
     c.in-Ok.ensures.dropped ∙ ap (deletes_at (get name_cmp c.add_places.new.places)) (c.as_slice-5.ensures.value ∙ changes.names) ∙ pairs_same placed drops in
     let news_len : length c.args.inserted.now.items ≡ length news = ap length changes.rows in
-    let room_len = ap length c.reserve-2.ensures.items in
-    let marks = rw (c.unwrap.ensures, c.reserve-2.ensures.items) at c.resize.ensures.items in
-    let more : c.len-first.result + c.len-more.result - vec_len c.reserve-2.new.self ≡ length news = omega (arith, first, c.len-more.ensures, c.self.invariant.each, news_len, room_len) in
+    let room_len = ap length c.reserve_rows.ensures.causes in
+    let marks = rw (c.unwrap.ensures, c.reserve_rows.ensures.causes) at c.resize.ensures.items in
+    let more : c.len-first.result + c.len-more.result - vec_len c.reserve_rows.new.causes ≡ length news = omega (arith, first, c.len-more.ensures, c.self.invariant.each, news_len, room_len) in
     let whole : c.as_mut_slice-causes.result.now ≡ inside.causes.items ++ replicate (length news) 0 =
     c.as_mut_slice-causes.ensures.value ∙ marks ∙ (λ i. take_all (c.len-first.result + c.len-more.result) inside.causes.items (omega (arith, first, c.self.invariant.each)) i ++ replicate (more i) 0) in
     let len : length c.as_mut_slice-causes.result.now ≡ length (inside.rows.items ++ news) =
@@ -199,15 +200,15 @@ add_causes-requires-clause-room c =
     let next = changes.next in
     let news = map (inserted_at inside.count) (reverse (effects_of node).inserted) in
     let first : c.len-first.result ≡ length inside.rows.items = omega (arith, c.len-first.ensures) in
-    let placed = rw (c.as_slice-2.ensures.value, c.reserve.ensures.items, c.as_slice-3.ensures.value, changes.rows) at c.in_ok-add_places.ensures.ok in
+    let placed = rw (c.as_slice-2.ensures.value, c.reserve_rows.ensures.rows, c.as_slice-3.ensures.value, changes.rows) at c.in_ok-add_places.ensures.ok in
     let names = c.in-Ok.added.dropped.items in
     let drops = map (dropped_at inside.count) (reverse (effects_of node).deleted) in
     let names_are : pairs_of names ≡ deletes_at (place_of (inside.rows.items ++ news)) drops =
     c.in-Ok.ensures.dropped ∙ ap (deletes_at (get name_cmp c.add_places.new.places)) (c.as_slice-5.ensures.value ∙ changes.names) ∙ pairs_same placed drops in
     let news_len : length c.args.inserted.now.items ≡ length news = ap length changes.rows in
-    let room_len = ap length c.reserve-2.ensures.items in
-    let marks = rw (c.unwrap.ensures, c.reserve-2.ensures.items) at c.resize.ensures.items in
-    let more : c.len-first.result + c.len-more.result - vec_len c.reserve-2.new.self ≡ length news = omega (arith, first, c.len-more.ensures, c.self.invariant.each, news_len, room_len) in
+    let room_len = ap length c.reserve_rows.ensures.causes in
+    let marks = rw (c.unwrap.ensures, c.reserve_rows.ensures.causes) at c.resize.ensures.items in
+    let more : c.len-first.result + c.len-more.result - vec_len c.reserve_rows.new.causes ≡ length news = omega (arith, first, c.len-more.ensures, c.self.invariant.each, news_len, room_len) in
     let whole : c.as_mut_slice-causes.result.now ≡ inside.causes.items ++ replicate (length news) 0 =
     c.as_mut_slice-causes.ensures.value ∙ marks ∙ (λ i. take_all (c.len-first.result + c.len-more.result) inside.causes.items (omega (arith, first, c.self.invariant.each)) i ++ replicate (more i) 0) in
     let len : length c.as_mut_slice-causes.result.now ≡ length (inside.rows.items ++ news) =
@@ -233,9 +234,9 @@ add_causes-requires-clause-few c k =
     let news = map (inserted_at inside.count) (reverse (effects_of node).inserted) in
     let first : c.len-first.result ≡ length inside.rows.items = omega (arith, c.len-first.ensures) in
     let news_len : length c.args.inserted.now.items ≡ length news = ap length changes.rows in
-    let room_len = ap length c.reserve-2.ensures.items in
-    let marks = rw (c.unwrap.ensures, c.reserve-2.ensures.items) at c.resize.ensures.items in
-    let more : c.len-first.result + c.len-more.result - vec_len c.reserve-2.new.self ≡ length news = omega (arith, first, c.len-more.ensures, c.self.invariant.each, news_len, room_len) in
+    let room_len = ap length c.reserve_rows.ensures.causes in
+    let marks = rw (c.unwrap.ensures, c.reserve_rows.ensures.causes) at c.resize.ensures.items in
+    let more : c.len-first.result + c.len-more.result - vec_len c.reserve_rows.new.causes ≡ length news = omega (arith, first, c.len-more.ensures, c.self.invariant.each, news_len, room_len) in
     let whole : c.as_mut_slice-causes.result.now ≡ inside.causes.items ++ replicate (length news) 0 =
     c.as_mut_slice-causes.ensures.value ∙ marks ∙ (λ i. take_all (c.len-first.result + c.len-more.result) inside.causes.items (omega (arith, first, c.self.invariant.each)) i ++ replicate (more i) 0) in
     let len : length c.as_mut_slice-causes.result.now ≡ length (inside.rows.items ++ news) =
@@ -267,16 +268,16 @@ remove_places-requires-clause-fresh c =
     let node = changes.node in
     let next = changes.next in
     let news = map (inserted_at inside.count) (reverse (effects_of node).inserted) in
-    rw (c.as_slice-in-Err.ensures.value, c.reserve.ensures.items, c.as_slice-in-Err-2.ensures.value, changes.rows)
+    rw (c.as_slice-in-Err.ensures.value, c.reserve_rows.ensures.rows, c.as_slice-in-Err-2.ensures.value, changes.rows)
     (fresh_layered _ inside.rows.items _ (layered_next state node inside.places inside.causes.items inside.children inside.deleters inside.ends.items inside.groups.numbers.items inside.groups.least.items inside.groups.nexts.items c.self.invariant next))
 
 pub invariant_of-self-in-Err : goal.invariant_of-self-in-Err
 invariant_of-self-in-Err c =
     let inside = c.self.inside in
     let state : State = record { shapes = inside.shapes.items; count = inside.count; inserted = inside.rows.items; dropped = inside.dropped.items; voids = inside.voids.items } in
-    rw (c.reserve.ensures.items, c.reserve-2.ensures.items, c.reserve-4.ensures.items, c.reserve-3.ensures.items, c.reserve-5.ensures.numbers, c.reserve-5.ensures.least)
+    rw (c.reserve_rows.ensures.rows, c.reserve_rows.ensures.causes, c.reserve.ensures.items, c.reserve_rows.ensures.ends, c.reserve-2.ensures.numbers, c.reserve-2.ensures.least, c.reserve-2.ensures.nexts)
     (kept_places state inside.places c.remove_places.new.places inside.causes.items inside.children c.grow_links.new.children inside.deleters c.grow_links.new.deleters inside.ends.items inside.groups.numbers.items inside.groups.least.items inside.groups.nexts.items c.self.invariant
-    (rw (c.as_slice-in-Err.ensures.value, c.reserve.ensures.items) at c.remove_places.ensures) c.in-Err.ensures.children c.in-Err.ensures.deleters)
+    (rw (c.as_slice-in-Err.ensures.value, c.reserve_rows.ensures.rows) at c.remove_places.ensures) c.in-Err.ensures.children c.in-Err.ensures.deleters)
 
 pub recount-requires-clause-rising : goal.recount-requires-clause-rising
 recount-requires-clause-rising c =
@@ -287,7 +288,7 @@ recount-requires-clause-rising c =
     let next = changes.next in
     let news = map (inserted_at inside.count) (reverse (effects_of node).inserted) in
     let first : c.len-first.result ≡ length inside.rows.items = omega (arith, c.len-first.ensures) in
-    let placed = rw (c.as_slice-2.ensures.value, c.reserve.ensures.items, c.as_slice-3.ensures.value, changes.rows) at c.in_ok-add_places.ensures.ok in
+    let placed = rw (c.as_slice-2.ensures.value, c.reserve_rows.ensures.rows, c.as_slice-3.ensures.value, changes.rows) at c.in_ok-add_places.ensures.ok in
     let parents_are : c.in_ok-parents.parents.names.items ≡ parents_from (rules_of_state state) (length inside.rows.items) news =
     c.in_ok-parents.ensures.names ∙ (λ i. parents_from (rules_over (c.as_slice-shapes.ensures.value i)) (first i) ((c.as_slice.ensures.value ∙ changes.rows) i)) in
     let refs = c.in-Ok.added.parents.items in
@@ -297,13 +298,13 @@ recount-requires-clause-rising c =
     let drops = map (dropped_at inside.count) (reverse (effects_of node).deleted) in
     let names_are : pairs_of names ≡ deletes_at (place_of (inside.rows.items ++ news)) drops =
     c.in-Ok.ensures.dropped ∙ ap (deletes_at (get name_cmp c.add_places.new.places)) (c.as_slice-5.ensures.value ∙ changes.names) ∙ pairs_same placed drops in
-    let children_are : c.grow_links.new.children.links ≡ inside.children.links ++ refs = ap (λ (d : Linked). d.links) c.in-Ok.ensures.children in
+    let children_are : c.new-grounds.result.children.now ≡ inside.children.links ++ refs = c.new-grounds.ensures.children ∙ ap (λ (d : Linked). d.links) c.in-Ok.ensures.children in
     let deleters_are : c.grow_links.new.deleters.links ≡ inside.deleters.links ++ names = ap (λ (d : Linked). d.links) c.in-Ok.ensures.deleters in
-    let rows = rw (c.unwrap-2.ensures, c.reserve.ensures.items, changes.rows) at c.append.ensures.items in
-    let rows_now : c.as_slice-6.result.now ≡ inside.rows.items ++ news = c.as_slice-6.ensures.value ∙ rows in
+    let rows = rw (c.unwrap-2.ensures, c.reserve_rows.ensures.rows, changes.rows) at c.append.ensures.items in
+    let rows_now : c.new-grounds.result.rows.now ≡ inside.rows.items ++ news = c.new-grounds.ensures.rows ∙ rows in
     let all_len = length-append inside.rows.items news in
     let size = ap length rows_now in
-    subst (λ (l : List Link). AreRising 0 (length c.as_slice-6.result.now) l) (sym children_are)
+    subst (λ (l : List Link). AreRising 0 (length c.new-grounds.result.rows.now) l) (sym children_are)
     (subst (λ m. AreRising 0 m (inside.children.links ++ refs)) (sym size) (rising_next state node inside.places inside.causes.items inside.children inside.deleters inside.ends.items inside.groups.numbers.items inside.groups.least.items inside.groups.nexts.items c.self.invariant next refs refs_are))
 
 pub recount-requires-clause-level : goal.recount-requires-clause-level
@@ -315,7 +316,7 @@ recount-requires-clause-level c =
     let next = changes.next in
     let news = map (inserted_at inside.count) (reverse (effects_of node).inserted) in
     let first : c.len-first.result ≡ length inside.rows.items = omega (arith, c.len-first.ensures) in
-    let placed = rw (c.as_slice-2.ensures.value, c.reserve.ensures.items, c.as_slice-3.ensures.value, changes.rows) at c.in_ok-add_places.ensures.ok in
+    let placed = rw (c.as_slice-2.ensures.value, c.reserve_rows.ensures.rows, c.as_slice-3.ensures.value, changes.rows) at c.in_ok-add_places.ensures.ok in
     let parents_are : c.in_ok-parents.parents.names.items ≡ parents_from (rules_of_state state) (length inside.rows.items) news =
     c.in_ok-parents.ensures.names ∙ (λ i. parents_from (rules_over (c.as_slice-shapes.ensures.value i)) (first i) ((c.as_slice.ensures.value ∙ changes.rows) i)) in
     let refs = c.in-Ok.added.parents.items in
@@ -325,13 +326,13 @@ recount-requires-clause-level c =
     let drops = map (dropped_at inside.count) (reverse (effects_of node).deleted) in
     let names_are : pairs_of names ≡ deletes_at (place_of (inside.rows.items ++ news)) drops =
     c.in-Ok.ensures.dropped ∙ ap (deletes_at (get name_cmp c.add_places.new.places)) (c.as_slice-5.ensures.value ∙ changes.names) ∙ pairs_same placed drops in
-    let children_are : c.grow_links.new.children.links ≡ inside.children.links ++ refs = ap (λ (d : Linked). d.links) c.in-Ok.ensures.children in
+    let children_are : c.new-grounds.result.children.now ≡ inside.children.links ++ refs = c.new-grounds.ensures.children ∙ ap (λ (d : Linked). d.links) c.in-Ok.ensures.children in
     let deleters_are : c.grow_links.new.deleters.links ≡ inside.deleters.links ++ names = ap (λ (d : Linked). d.links) c.in-Ok.ensures.deleters in
-    let rows = rw (c.unwrap-2.ensures, c.reserve.ensures.items, changes.rows) at c.append.ensures.items in
-    let rows_now : c.as_slice-6.result.now ≡ inside.rows.items ++ news = c.as_slice-6.ensures.value ∙ rows in
+    let rows = rw (c.unwrap-2.ensures, c.reserve_rows.ensures.rows, changes.rows) at c.append.ensures.items in
+    let rows_now : c.new-grounds.result.rows.now ≡ inside.rows.items ++ news = c.new-grounds.ensures.rows ∙ rows in
     let all_len = length-append inside.rows.items news in
     let size = ap length rows_now in
-    level_moved inside.shapes.items _ (inside.rows.items ++ news) _ (inside.children.links ++ refs) _ (sym c.as_slice-shapes.ensures.value) (sym rows_now) (sym children_are) (level_next state node inside.places inside.causes.items inside.children inside.deleters inside.ends.items inside.groups.numbers.items inside.groups.least.items inside.groups.nexts.items c.self.invariant next refs refs_are)
+    level_moved inside.shapes.items _ (inside.rows.items ++ news) _ (inside.children.links ++ refs) _ (sym (c.new-grounds.ensures.shapes ∙ c.as_slice-shapes.ensures.value)) (sym rows_now) (sym children_are) (level_next state node inside.places inside.causes.items inside.children inside.deleters inside.ends.items inside.groups.numbers.items inside.groups.least.items inside.groups.nexts.items c.self.invariant next refs refs_are)
 
 pub recount-requires-clause-inside : goal.recount-requires-clause-inside
 recount-requires-clause-inside c =
@@ -342,7 +343,7 @@ recount-requires-clause-inside c =
     let next = changes.next in
     let news = map (inserted_at inside.count) (reverse (effects_of node).inserted) in
     let first : c.len-first.result ≡ length inside.rows.items = omega (arith, c.len-first.ensures) in
-    let placed = rw (c.as_slice-2.ensures.value, c.reserve.ensures.items, c.as_slice-3.ensures.value, changes.rows) at c.in_ok-add_places.ensures.ok in
+    let placed = rw (c.as_slice-2.ensures.value, c.reserve_rows.ensures.rows, c.as_slice-3.ensures.value, changes.rows) at c.in_ok-add_places.ensures.ok in
     let parents_are : c.in_ok-parents.parents.names.items ≡ parents_from (rules_of_state state) (length inside.rows.items) news =
     c.in_ok-parents.ensures.names ∙ (λ i. parents_from (rules_over (c.as_slice-shapes.ensures.value i)) (first i) ((c.as_slice.ensures.value ∙ changes.rows) i)) in
     let refs = c.in-Ok.added.parents.items in
@@ -352,13 +353,13 @@ recount-requires-clause-inside c =
     let drops = map (dropped_at inside.count) (reverse (effects_of node).deleted) in
     let names_are : pairs_of names ≡ deletes_at (place_of (inside.rows.items ++ news)) drops =
     c.in-Ok.ensures.dropped ∙ ap (deletes_at (get name_cmp c.add_places.new.places)) (c.as_slice-5.ensures.value ∙ changes.names) ∙ pairs_same placed drops in
-    let children_are : c.grow_links.new.children.links ≡ inside.children.links ++ refs = ap (λ (d : Linked). d.links) c.in-Ok.ensures.children in
+    let children_are : c.new-grounds.result.children.now ≡ inside.children.links ++ refs = c.new-grounds.ensures.children ∙ ap (λ (d : Linked). d.links) c.in-Ok.ensures.children in
     let deleters_are : c.grow_links.new.deleters.links ≡ inside.deleters.links ++ names = ap (λ (d : Linked). d.links) c.in-Ok.ensures.deleters in
-    let rows = rw (c.unwrap-2.ensures, c.reserve.ensures.items, changes.rows) at c.append.ensures.items in
-    let rows_now : c.as_slice-6.result.now ≡ inside.rows.items ++ news = c.as_slice-6.ensures.value ∙ rows in
+    let rows = rw (c.unwrap-2.ensures, c.reserve_rows.ensures.rows, changes.rows) at c.append.ensures.items in
+    let rows_now : c.new-grounds.result.rows.now ≡ inside.rows.items ++ news = c.new-grounds.ensures.rows ∙ rows in
     let all_len = length-append inside.rows.items news in
     let size = ap length rows_now in
-    subst (λ (l : List Link). are_inside (length c.as_slice-6.result.now) l ≡ true) (sym deleters_are)
+    subst (λ (l : List Link). are_inside (length c.new-grounds.result.rows.now) l ≡ true) (sym deleters_are)
     (subst (λ m. are_inside m (inside.deleters.links ++ names) ≡ true) (sym size) (deleters_next state node inside.places inside.causes.items inside.children inside.deleters inside.ends.items inside.groups.numbers.items inside.groups.least.items inside.groups.nexts.items c.self.invariant next refs refs_are names names_are))
 
 pub recount-requires-clause-grouped : goal.recount-requires-clause-grouped
@@ -370,7 +371,7 @@ recount-requires-clause-grouped c =
     let next = changes.next in
     let news = map (inserted_at inside.count) (reverse (effects_of node).inserted) in
     let first : c.len-first.result ≡ length inside.rows.items = omega (arith, c.len-first.ensures) in
-    let placed = rw (c.as_slice-2.ensures.value, c.reserve.ensures.items, c.as_slice-3.ensures.value, changes.rows) at c.in_ok-add_places.ensures.ok in
+    let placed = rw (c.as_slice-2.ensures.value, c.reserve_rows.ensures.rows, c.as_slice-3.ensures.value, changes.rows) at c.in_ok-add_places.ensures.ok in
     let parents_are : c.in_ok-parents.parents.names.items ≡ parents_from (rules_of_state state) (length inside.rows.items) news =
     c.in_ok-parents.ensures.names ∙ (λ i. parents_from (rules_over (c.as_slice-shapes.ensures.value i)) (first i) ((c.as_slice.ensures.value ∙ changes.rows) i)) in
     let refs = c.in-Ok.added.parents.items in
@@ -380,17 +381,17 @@ recount-requires-clause-grouped c =
     let drops = map (dropped_at inside.count) (reverse (effects_of node).deleted) in
     let names_are : pairs_of names ≡ deletes_at (place_of (inside.rows.items ++ news)) drops =
     c.in-Ok.ensures.dropped ∙ ap (deletes_at (get name_cmp c.add_places.new.places)) (c.as_slice-5.ensures.value ∙ changes.names) ∙ pairs_same placed drops in
-    let children_are : c.grow_links.new.children.links ≡ inside.children.links ++ refs = ap (λ (d : Linked). d.links) c.in-Ok.ensures.children in
+    let children_are : c.new-grounds.result.children.now ≡ inside.children.links ++ refs = c.new-grounds.ensures.children ∙ ap (λ (d : Linked). d.links) c.in-Ok.ensures.children in
     let deleters_are : c.grow_links.new.deleters.links ≡ inside.deleters.links ++ names = ap (λ (d : Linked). d.links) c.in-Ok.ensures.deleters in
-    let rows = rw (c.unwrap-2.ensures, c.reserve.ensures.items, changes.rows) at c.append.ensures.items in
-    let rows_now : c.as_slice-6.result.now ≡ inside.rows.items ++ news = c.as_slice-6.ensures.value ∙ rows in
+    let rows = rw (c.unwrap-2.ensures, c.reserve_rows.ensures.rows, changes.rows) at c.append.ensures.items in
+    let rows_now : c.new-grounds.result.rows.now ≡ inside.rows.items ++ news = c.new-grounds.ensures.rows ∙ rows in
     let all_len = length-append inside.rows.items news in
     let size = ap length rows_now in
-    grouped_moved inside.shapes.items _ (inside.rows.items ++ news) _ inside.groups.numbers.items _ (sym c.as_slice-shapes.ensures.value) (sym rows_now) (sym c.reserve-5.ensures.numbers)
+    grouped_moved inside.shapes.items _ (inside.rows.items ++ news) _ inside.groups.numbers.items _ (sym (c.new-grounds.ensures.shapes ∙ c.as_slice-shapes.ensures.value)) (sym rows_now) (sym c.reserve-2.ensures.numbers)
     (grouped_more inside.shapes.items inside.rows.items news inside.groups.numbers.items c.self.invariant.sized c.self.invariant.grouped)
 
 pub recount-requires-clause-spare : goal.recount-requires-clause-spare
-recount-requires-clause-spare c = ap length c.reserve-5.ensures.least ∙ c.self.invariant.spare ∙ sym (ap length c.reserve-5.ensures.numbers)
+recount-requires-clause-spare c = ap length c.reserve-2.ensures.least ∙ c.self.invariant.spare ∙ sym (ap length c.reserve-2.ensures.numbers)
 
 pub recount-requires-clause-old : goal.recount-requires-clause-old
 recount-requires-clause-old c keeps =
@@ -401,7 +402,7 @@ recount-requires-clause-old c keeps =
     let next = changes.next in
     let news = map (inserted_at inside.count) (reverse (effects_of node).inserted) in
     let first : c.len-first.result ≡ length inside.rows.items = omega (arith, c.len-first.ensures) in
-    let placed = rw (c.as_slice-2.ensures.value, c.reserve.ensures.items, c.as_slice-3.ensures.value, changes.rows) at c.in_ok-add_places.ensures.ok in
+    let placed = rw (c.as_slice-2.ensures.value, c.reserve_rows.ensures.rows, c.as_slice-3.ensures.value, changes.rows) at c.in_ok-add_places.ensures.ok in
     let parents_are : c.in_ok-parents.parents.names.items ≡ parents_from (rules_of_state state) (length inside.rows.items) news =
     c.in_ok-parents.ensures.names ∙ (λ i. parents_from (rules_over (c.as_slice-shapes.ensures.value i)) (first i) ((c.as_slice.ensures.value ∙ changes.rows) i)) in
     let refs = c.in-Ok.added.parents.items in
@@ -411,14 +412,14 @@ recount-requires-clause-old c keeps =
     let drops = map (dropped_at inside.count) (reverse (effects_of node).deleted) in
     let names_are : pairs_of names ≡ deletes_at (place_of (inside.rows.items ++ news)) drops =
     c.in-Ok.ensures.dropped ∙ ap (deletes_at (get name_cmp c.add_places.new.places)) (c.as_slice-5.ensures.value ∙ changes.names) ∙ pairs_same placed drops in
-    let children_are : c.grow_links.new.children.links ≡ inside.children.links ++ refs = ap (λ (d : Linked). d.links) c.in-Ok.ensures.children in
+    let children_are : c.new-grounds.result.children.now ≡ inside.children.links ++ refs = c.new-grounds.ensures.children ∙ ap (λ (d : Linked). d.links) c.in-Ok.ensures.children in
     let deleters_are : c.grow_links.new.deleters.links ≡ inside.deleters.links ++ names = ap (λ (d : Linked). d.links) c.in-Ok.ensures.deleters in
-    let rows = rw (c.unwrap-2.ensures, c.reserve.ensures.items, changes.rows) at c.append.ensures.items in
-    let rows_now : c.as_slice-6.result.now ≡ inside.rows.items ++ news = c.as_slice-6.ensures.value ∙ rows in
+    let rows = rw (c.unwrap-2.ensures, c.reserve_rows.ensures.rows, changes.rows) at c.append.ensures.items in
+    let rows_now : c.new-grounds.result.rows.now ≡ inside.rows.items ++ news = c.new-grounds.ensures.rows ∙ rows in
     let all_len = length-append inside.rows.items news in
     let size = ap length rows_now in
-    let sized = c.self.invariant.sized (sym (ap keep_any c.as_slice-shapes.ensures.value) ∙ keeps) in
-    let len = ap length c.reserve-5.ensures.numbers in
+    let sized = c.self.invariant.sized (sym (ap keep_any (c.new-grounds.ensures.shapes ∙ c.as_slice-shapes.ensures.value)) ∙ keeps) in
+    let len = ap length c.reserve-2.ensures.numbers in
     omega (arith, size, all_len, sized, len)
 
 pub recount-requires-clause-room : goal.recount-requires-clause-room
@@ -430,7 +431,7 @@ recount-requires-clause-room c keeps =
     let next = changes.next in
     let news = map (inserted_at inside.count) (reverse (effects_of node).inserted) in
     let first : c.len-first.result ≡ length inside.rows.items = omega (arith, c.len-first.ensures) in
-    let placed = rw (c.as_slice-2.ensures.value, c.reserve.ensures.items, c.as_slice-3.ensures.value, changes.rows) at c.in_ok-add_places.ensures.ok in
+    let placed = rw (c.as_slice-2.ensures.value, c.reserve_rows.ensures.rows, c.as_slice-3.ensures.value, changes.rows) at c.in_ok-add_places.ensures.ok in
     let parents_are : c.in_ok-parents.parents.names.items ≡ parents_from (rules_of_state state) (length inside.rows.items) news =
     c.in_ok-parents.ensures.names ∙ (λ i. parents_from (rules_over (c.as_slice-shapes.ensures.value i)) (first i) ((c.as_slice.ensures.value ∙ changes.rows) i)) in
     let refs = c.in-Ok.added.parents.items in
@@ -440,14 +441,14 @@ recount-requires-clause-room c keeps =
     let drops = map (dropped_at inside.count) (reverse (effects_of node).deleted) in
     let names_are : pairs_of names ≡ deletes_at (place_of (inside.rows.items ++ news)) drops =
     c.in-Ok.ensures.dropped ∙ ap (deletes_at (get name_cmp c.add_places.new.places)) (c.as_slice-5.ensures.value ∙ changes.names) ∙ pairs_same placed drops in
-    let children_are : c.grow_links.new.children.links ≡ inside.children.links ++ refs = ap (λ (d : Linked). d.links) c.in-Ok.ensures.children in
+    let children_are : c.new-grounds.result.children.now ≡ inside.children.links ++ refs = c.new-grounds.ensures.children ∙ ap (λ (d : Linked). d.links) c.in-Ok.ensures.children in
     let deleters_are : c.grow_links.new.deleters.links ≡ inside.deleters.links ++ names = ap (λ (d : Linked). d.links) c.in-Ok.ensures.deleters in
-    let rows = rw (c.unwrap-2.ensures, c.reserve.ensures.items, changes.rows) at c.append.ensures.items in
-    let rows_now : c.as_slice-6.result.now ≡ inside.rows.items ++ news = c.as_slice-6.ensures.value ∙ rows in
+    let rows = rw (c.unwrap-2.ensures, c.reserve_rows.ensures.rows, changes.rows) at c.append.ensures.items in
+    let rows_now : c.new-grounds.result.rows.now ≡ inside.rows.items ++ news = c.new-grounds.ensures.rows ∙ rows in
     let all_len = length-append inside.rows.items news in
     let size = ap length rows_now in
-    let sized = c.self.invariant.sized (sym (ap keep_any c.as_slice-shapes.ensures.value) ∙ keeps) in
-    let room = c.in_ok-reserve-5.ensures.room keeps in
+    let sized = c.self.invariant.sized (sym (ap keep_any (c.new-grounds.ensures.shapes ∙ c.as_slice-shapes.ensures.value)) ∙ keeps) in
+    let room = c.in_ok-reserve-2.ensures.room (sym (ap keep_any c.new-grounds.ensures.shapes) ∙ keeps) in
     let news_len : length c.args.inserted.now.items ≡ length news = ap length changes.rows in
     omega (arith, size, all_len, sized, room, news_len, c.len-more.ensures)
 
@@ -460,7 +461,7 @@ recount-requires-clause-space c keeps =
     let next = changes.next in
     let news = map (inserted_at inside.count) (reverse (effects_of node).inserted) in
     let first : c.len-first.result ≡ length inside.rows.items = omega (arith, c.len-first.ensures) in
-    let placed = rw (c.as_slice-2.ensures.value, c.reserve.ensures.items, c.as_slice-3.ensures.value, changes.rows) at c.in_ok-add_places.ensures.ok in
+    let placed = rw (c.as_slice-2.ensures.value, c.reserve_rows.ensures.rows, c.as_slice-3.ensures.value, changes.rows) at c.in_ok-add_places.ensures.ok in
     let parents_are : c.in_ok-parents.parents.names.items ≡ parents_from (rules_of_state state) (length inside.rows.items) news =
     c.in_ok-parents.ensures.names ∙ (λ i. parents_from (rules_over (c.as_slice-shapes.ensures.value i)) (first i) ((c.as_slice.ensures.value ∙ changes.rows) i)) in
     let refs = c.in-Ok.added.parents.items in
@@ -470,16 +471,70 @@ recount-requires-clause-space c keeps =
     let drops = map (dropped_at inside.count) (reverse (effects_of node).deleted) in
     let names_are : pairs_of names ≡ deletes_at (place_of (inside.rows.items ++ news)) drops =
     c.in-Ok.ensures.dropped ∙ ap (deletes_at (get name_cmp c.add_places.new.places)) (c.as_slice-5.ensures.value ∙ changes.names) ∙ pairs_same placed drops in
-    let children_are : c.grow_links.new.children.links ≡ inside.children.links ++ refs = ap (λ (d : Linked). d.links) c.in-Ok.ensures.children in
+    let children_are : c.new-grounds.result.children.now ≡ inside.children.links ++ refs = c.new-grounds.ensures.children ∙ ap (λ (d : Linked). d.links) c.in-Ok.ensures.children in
     let deleters_are : c.grow_links.new.deleters.links ≡ inside.deleters.links ++ names = ap (λ (d : Linked). d.links) c.in-Ok.ensures.deleters in
-    let rows = rw (c.unwrap-2.ensures, c.reserve.ensures.items, changes.rows) at c.append.ensures.items in
-    let rows_now : c.as_slice-6.result.now ≡ inside.rows.items ++ news = c.as_slice-6.ensures.value ∙ rows in
+    let rows = rw (c.unwrap-2.ensures, c.reserve_rows.ensures.rows, changes.rows) at c.append.ensures.items in
+    let rows_now : c.new-grounds.result.rows.now ≡ inside.rows.items ++ news = c.new-grounds.ensures.rows ∙ rows in
     let all_len = length-append inside.rows.items news in
     let size = ap length rows_now in
-    let sized = c.self.invariant.sized (sym (ap keep_any c.as_slice-shapes.ensures.value) ∙ keeps) in
-    let room = c.in_ok-reserve-5.ensures.space keeps in
+    let sized = c.self.invariant.sized (sym (ap keep_any (c.new-grounds.ensures.shapes ∙ c.as_slice-shapes.ensures.value)) ∙ keeps) in
+    let room = c.in_ok-reserve-2.ensures.space (sym (ap keep_any c.new-grounds.ensures.shapes) ∙ keeps) in
     let news_len : length c.args.inserted.now.items ≡ length news = ap length changes.rows in
     omega (arith, size, all_len, sized, c.self.invariant.spare, room, news_len, c.len-more.ensures)
+
+pub recount-requires-clause-ends : goal.recount-requires-clause-ends
+recount-requires-clause-ends c =
+    let inside = c.self.inside in
+    let state : State = record { shapes = inside.shapes.items; count = inside.count; inserted = inside.rows.items; dropped = inside.dropped.items; voids = inside.voids.items } in
+    let changes = subst (λ (s : State). AreNextChanges s c.args.inserted.now.items c.args.dropped.now.items) (sym c.self.view_is) c.requires.next in
+    let node = changes.node in
+    let next = changes.next in
+    let news = map (inserted_at inside.count) (reverse (effects_of node).inserted) in
+    let first : c.len-first.result ≡ length inside.rows.items = omega (arith, c.len-first.ensures) in
+    let placed = rw (c.as_slice-2.ensures.value, c.reserve_rows.ensures.rows, c.as_slice-3.ensures.value, changes.rows) at c.in_ok-add_places.ensures.ok in
+    let parents_are : c.in_ok-parents.parents.names.items ≡ parents_from (rules_of_state state) (length inside.rows.items) news =
+    c.in_ok-parents.ensures.names ∙ (λ i. parents_from (rules_over (c.as_slice-shapes.ensures.value i)) (first i) ((c.as_slice.ensures.value ∙ changes.rows) i)) in
+    let refs = c.in-Ok.added.parents.items in
+    let refs_are : pairs_of refs ≡ deletes_at (place_of (inside.rows.items ++ news)) (parents_from (rules_of_state state) (length inside.rows.items) news) =
+    c.in-Ok.ensures.parents ∙ ap (deletes_at (get name_cmp c.add_places.new.places)) (c.as_slice-4.ensures.value ∙ parents_are) ∙ pairs_same placed (parents_from (rules_of_state state) (length inside.rows.items) news) in
+    let children_are : c.new-grounds.result.children.now ≡ inside.children.links ++ refs = c.new-grounds.ensures.children ∙ ap (λ (d : Linked). d.links) c.in-Ok.ensures.children in
+    let rows = rw (c.unwrap-2.ensures, c.reserve_rows.ensures.rows, changes.rows) at c.append.ensures.items in
+    let rows_now : c.new-grounds.result.rows.now ≡ inside.rows.items ++ news = c.new-grounds.ensures.rows ∙ rows in
+    let ended = rw (c.unwrap-4.ensures, c.reserve_rows.ensures.ends) at c.append-3.ensures.items in
+    let more_ends : c.in_ok-parents.parents.ends.items ≡ ends_from (rules_of_state state) (length inside.children.links) news =
+    c.in_ok-parents.ensures.ends ∙ (λ i. ends_from (rules_over (c.as_slice-shapes.ensures.value i)) (c.len-len.ensures.len i) ((c.as_slice.ensures.value ∙ changes.rows) i)) in
+    let ends_are : c.new-grounds.result.ends.now ≡ ends_from (rules_of_state state) 0 (inside.rows.items ++ news) =
+    c.new-grounds.ensures.ends ∙ ended
+    ∙ ended_next state node inside.places inside.causes.items inside.children inside.deleters inside.ends.items inside.groups.numbers.items inside.groups.least.items inside.groups.nexts.items c.self.invariant next c.in_ok-parents.parents.ends.items more_ends in
+    ends_each (rules_of_state state) (inside.rows.items ++ news) c.new-grounds.result.ends.now ends_are ∙ sym (ap length rows_now)
+
+pub recount-requires-clause-parted : goal.recount-requires-clause-parted
+recount-requires-clause-parted c =
+    let inside = c.self.inside in
+    let state : State = record { shapes = inside.shapes.items; count = inside.count; inserted = inside.rows.items; dropped = inside.dropped.items; voids = inside.voids.items } in
+    let changes = subst (λ (s : State). AreNextChanges s c.args.inserted.now.items c.args.dropped.now.items) (sym c.self.view_is) c.requires.next in
+    let node = changes.node in
+    let next = changes.next in
+    let news = map (inserted_at inside.count) (reverse (effects_of node).inserted) in
+    let first : c.len-first.result ≡ length inside.rows.items = omega (arith, c.len-first.ensures) in
+    let placed = rw (c.as_slice-2.ensures.value, c.reserve_rows.ensures.rows, c.as_slice-3.ensures.value, changes.rows) at c.in_ok-add_places.ensures.ok in
+    let parents_are : c.in_ok-parents.parents.names.items ≡ parents_from (rules_of_state state) (length inside.rows.items) news =
+    c.in_ok-parents.ensures.names ∙ (λ i. parents_from (rules_over (c.as_slice-shapes.ensures.value i)) (first i) ((c.as_slice.ensures.value ∙ changes.rows) i)) in
+    let refs = c.in-Ok.added.parents.items in
+    let refs_are : pairs_of refs ≡ deletes_at (place_of (inside.rows.items ++ news)) (parents_from (rules_of_state state) (length inside.rows.items) news) =
+    c.in-Ok.ensures.parents ∙ ap (deletes_at (get name_cmp c.add_places.new.places)) (c.as_slice-4.ensures.value ∙ parents_are) ∙ pairs_same placed (parents_from (rules_of_state state) (length inside.rows.items) news) in
+    let children_are : c.new-grounds.result.children.now ≡ inside.children.links ++ refs = c.new-grounds.ensures.children ∙ ap (λ (d : Linked). d.links) c.in-Ok.ensures.children in
+    let rows = rw (c.unwrap-2.ensures, c.reserve_rows.ensures.rows, changes.rows) at c.append.ensures.items in
+    let rows_now : c.new-grounds.result.rows.now ≡ inside.rows.items ++ news = c.new-grounds.ensures.rows ∙ rows in
+    let ended = rw (c.unwrap-4.ensures, c.reserve_rows.ensures.ends) at c.append-3.ensures.items in
+    let more_ends : c.in_ok-parents.parents.ends.items ≡ ends_from (rules_of_state state) (length inside.children.links) news =
+    c.in_ok-parents.ensures.ends ∙ (λ i. ends_from (rules_over (c.as_slice-shapes.ensures.value i)) (c.len-len.ensures.len i) ((c.as_slice.ensures.value ∙ changes.rows) i)) in
+    let ends_are : c.new-grounds.result.ends.now ≡ ends_from (rules_of_state state) 0 (inside.rows.items ++ news) =
+    c.new-grounds.ensures.ends ∙ ended
+    ∙ ended_next state node inside.places inside.causes.items inside.children inside.deleters inside.ends.items inside.groups.numbers.items inside.groups.least.items inside.groups.nexts.items c.self.invariant next c.in_ok-parents.parents.ends.items more_ends in
+    parted_moved (inside.children.links ++ refs) _ (ends_from (rules_of_state state) 0 (inside.rows.items ++ news)) _ (sym children_are) (sym ends_are)
+    (parted (rules_of_state state) (place_of (inside.rows.items ++ news)) (inside.rows.items ++ news) (inside.children.links ++ refs) (ends_from (rules_of_state state) 0 (inside.rows.items ++ news))
+    (named_next state node inside.places inside.causes.items inside.children inside.deleters inside.ends.items inside.groups.numbers.items inside.groups.least.items inside.groups.nexts.items c.self.invariant next refs refs_are) refl)
 
 pub invariant_of-self-2 : goal.invariant_of-self-2
 invariant_of-self-2 c =
@@ -491,7 +546,7 @@ invariant_of-self-2 c =
     let news = map (inserted_at inside.count) (reverse (effects_of node).inserted) in
     let small = changes.small in
     let first : c.len-first.result ≡ length inside.rows.items = omega (arith, c.len-first.ensures) in
-    let placed = rw (c.as_slice-2.ensures.value, c.reserve.ensures.items, c.as_slice-3.ensures.value, changes.rows) at c.in_ok-add_places.ensures.ok in
+    let placed = rw (c.as_slice-2.ensures.value, c.reserve_rows.ensures.rows, c.as_slice-3.ensures.value, changes.rows) at c.in_ok-add_places.ensures.ok in
     let parents_are : c.in_ok-parents.parents.names.items ≡ parents_from (rules_of_state state) (length inside.rows.items) news =
     c.in_ok-parents.ensures.names ∙ (λ i. parents_from (rules_over (c.as_slice-shapes.ensures.value i)) (first i) ((c.as_slice.ensures.value ∙ changes.rows) i)) in
     let refs = c.in-Ok.added.parents.items in
@@ -502,9 +557,9 @@ invariant_of-self-2 c =
     let names_are : pairs_of names ≡ deletes_at (place_of (inside.rows.items ++ news)) drops =
     c.in-Ok.ensures.dropped ∙ ap (deletes_at (get name_cmp c.add_places.new.places)) (c.as_slice-5.ensures.value ∙ changes.names) ∙ pairs_same placed drops in
     let news_len : length c.args.inserted.now.items ≡ length news = ap length changes.rows in
-    let room_len = ap length c.reserve-2.ensures.items in
-    let marks = rw (c.unwrap.ensures, c.reserve-2.ensures.items) at c.resize.ensures.items in
-    let more : c.len-first.result + c.len-more.result - vec_len c.reserve-2.new.self ≡ length news = omega (arith, first, c.len-more.ensures, c.self.invariant.each, news_len, room_len) in
+    let room_len = ap length c.reserve_rows.ensures.causes in
+    let marks = rw (c.unwrap.ensures, c.reserve_rows.ensures.causes) at c.resize.ensures.items in
+    let more : c.len-first.result + c.len-more.result - vec_len c.reserve_rows.new.causes ≡ length news = omega (arith, first, c.len-more.ensures, c.self.invariant.each, news_len, room_len) in
     let whole : c.as_mut_slice-causes.result.now ≡ inside.causes.items ++ replicate (length news) 0 =
     c.as_mut_slice-causes.ensures.value ∙ marks ∙ (λ i. take_all (c.len-first.result + c.len-more.result) inside.causes.items (omega (arith, first, c.self.invariant.each)) i ++ replicate (more i) 0) in
     let len : length c.as_mut_slice-causes.result.now ≡ length (inside.rows.items ++ news) =
@@ -512,8 +567,8 @@ invariant_of-self-2 c =
     omega (arith, a, b, d, e, c.self.invariant.each)) in
     let children_are : c.grow_links.new.children.links ≡ inside.children.links ++ refs = ap (λ (d : Linked). d.links) c.in-Ok.ensures.children in
     let deleters_are : c.grow_links.new.deleters.links ≡ inside.deleters.links ++ names = ap (λ (d : Linked). d.links) c.in-Ok.ensures.deleters in
-    let rows = rw (c.unwrap-2.ensures, c.reserve.ensures.items, changes.rows) at c.append.ensures.items in
-    let gone = rw (c.unwrap-3.ensures, c.reserve-4.ensures.items, changes.names) at c.append-2.ensures.items in
+    let rows = rw (c.unwrap-2.ensures, c.reserve_rows.ensures.rows, changes.rows) at c.append.ensures.items in
+    let gone = rw (c.unwrap-3.ensures, c.reserve.ensures.items, changes.names) at c.append-2.ensures.items in
     let front : take c.resize.new.self.len (c.add_causes.new.causes ++ drop (length c.add_causes.new.causes) c.resize.new.self.items) ≡ c.add_causes.new.causes =
     take_at c.add_causes.new.causes (drop (length c.add_causes.new.causes) c.resize.new.self.items) c.resize.new.self.len (c.add_causes.auto.causes ∙ c.as_mut_slice-causes.ensures.len) in
     let before : keep_any inside.shapes.items ≡ false → (k : ℕ) → get_or c.as_mut_slice-causes.result.now k 0 ≡ count_by (is_of k) inside.deleters.links + absent_times inside.children.links c.as_mut_slice-causes.result.now k =
@@ -526,35 +581,37 @@ invariant_of-self-2 c =
     ∙ ap (λ (l : List Link). count_by (is_of k) (inside.deleters.links ++ names) + absent_times l c.add_causes.new.causes k) children_are in
     let added : List ℕ = take c.resize.new.self.len (c.add_causes.new.causes ++ drop (length c.add_causes.new.causes) c.resize.new.self.items) in
     let last : take c.resize.new.self.len (c.recount.new.causes ++ drop (length c.recount.new.causes) added) ≡ c.recount.new.causes =
-    take_at c.recount.new.causes (drop (length c.recount.new.causes) added) c.resize.new.self.len (c.recount.auto.causes ∙ c.as_mut_slice.ensures.len) in
-    let rows_now : c.as_slice-6.result.now ≡ inside.rows.items ++ news = c.as_slice-6.ensures.value ∙ rows in
+    take_at c.recount.new.causes (drop (length c.recount.new.causes) added) c.resize.new.self.len (c.recount.auto.causes ∙ c.as_mut_slice-causes-2.ensures.len) in
+    let rows_now : c.new-grounds.result.rows.now ≡ inside.rows.items ++ news = c.new-grounds.ensures.rows ∙ rows in
+    let shapes_now = c.new-grounds.ensures.shapes ∙ c.as_slice-shapes.ensures.value in
     let settled : AreSettled inside.shapes.items (inside.rows.items ++ news) (inside.children.links ++ refs) (λ k. count_by (is_of k) (inside.deleters.links ++ names)) c.recount.new.causes =
     elim (cases_Bool (keep_any inside.shapes.items)) [
       | inl keeps ↦
-          settled_moved _ inside.shapes.items _ (inside.rows.items ++ news) _ (inside.children.links ++ refs) _ (inside.deleters.links ++ names) c.recount.new.causes c.as_slice-shapes.ensures.value rows_now children_are deleters_are
-          (c.recount.ensures.counted (ap keep_any c.as_slice-shapes.ensures.value ∙ keeps))
+          settled_moved _ inside.shapes.items _ (inside.rows.items ++ news) _ (inside.children.links ++ refs) _ (inside.deleters.links ++ names) c.recount.new.causes shapes_now rows_now (c.new-grounds.ensures.children ∙ children_are) deleters_are
+          (c.recount.ensures.counted (ap keep_any shapes_now ∙ keeps))
       | inr plain ↦
-          let stays : c.recount.new.causes ≡ c.add_causes.new.causes = c.recount.ensures.plain (ap keep_any c.as_slice-shapes.ensures.value ∙ plain) ∙ c.as_mut_slice.ensures.value ∙ front in
+          let stays : c.recount.new.causes ≡ c.add_causes.new.causes = c.recount.ensures.plain (ap keep_any shapes_now ∙ plain) ∙ c.as_mut_slice-causes-2.ensures.value ∙ front in
           plain_settled inside.shapes.items (inside.rows.items ++ news) (inside.children.links ++ refs) (λ k. count_by (is_of k) (inside.deleters.links ++ names)) c.recount.new.causes plain
           (subst (λ (l : List ℕ). (k : ℕ) → get_or l k 0 ≡ count_by (is_of k) (inside.deleters.links ++ names) + absent_times (inside.children.links ++ refs) l k) (sym stays) (counts plain))
     ] in
     let all_len = length-append inside.rows.items news in
     let child_len = ap length children_are in
     let gone_len = ap length deleters_are in
-    let ended = rw (c.unwrap-4.ensures, c.reserve-3.ensures.items) at c.append-3.ensures.items in
+    let ended = rw (c.unwrap-4.ensures, c.reserve_rows.ensures.ends) at c.append-3.ensures.items in
     let more_ends : c.in_ok-parents.parents.ends.items ≡ ends_from (rules_of_state state) (length inside.children.links) news =
     c.in_ok-parents.ensures.ends ∙ (λ i. ends_from (rules_over (c.as_slice-shapes.ensures.value i)) (c.len-len.ensures.len i) ((c.as_slice.ensures.value ∙ changes.rows) i)) in
     rw (rows, gone, last, ended, c.in-Ok.ensures.children, c.in-Ok.ensures.deleters)
     (kept_next state node inside.places inside.causes.items inside.children inside.deleters inside.ends.items inside.groups.numbers.items inside.groups.least.items inside.groups.nexts.items c.self.invariant next refs refs_are small c.add_places.new.places (c.len-first.result + c.len-more.result) c.recount.new.causes c.in_ok-parents.parents.ends.items
     c.recount.new.groups.numbers.items c.recount.new.groups.least.items c.recount.new.groups.nexts.items names placed names_are more_ends
-    (omega (arith, first, c.len-more.ensures, news_len, all_len)) (c.recount.auto.causes ∙ ap length (c.as_mut_slice.ensures.value ∙ front) ∙ c.add_causes.auto.causes ∙ len)
+    (omega (arith, first, c.len-more.ensures, news_len, all_len)) (c.recount.auto.causes ∙ ap length (c.as_mut_slice-causes-2.ensures.value ∙ front) ∙ c.add_causes.auto.causes ∙ len)
     (omega (arith, child_len, c.grow_links.ensures.few_children)) (omega (arith, gone_len, c.grow_links.ensures.few_deleters)) settled
-    (grouped_moved _ inside.shapes.items _ (inside.rows.items ++ news) _ _ c.as_slice-shapes.ensures.value rows_now refl c.recount.ensures.grouped)
-    (λ keeps. c.recount.ensures.all (ap keep_any c.as_slice-shapes.ensures.value ∙ keeps) ∙ ap length rows_now) c.recount.ensures.spare)
+    (grouped_moved _ inside.shapes.items _ (inside.rows.items ++ news) _ _ shapes_now rows_now refl c.recount.ensures.grouped)
+    (λ keeps. c.recount.ensures.all (ap keep_any shapes_now ∙ keeps) ∙ ap length rows_now) c.recount.ensures.spare c.recount.ensures.threaded)
 
 pub unwrap-requires-4 : goal.unwrap-requires-4
 unwrap-requires-4 c =
     let inside = c.self.inside in
     let long = ap length c.in_ok-parents.ensures.ends ∙ ends-length (rules_over c.as_slice-shapes.result.now) c.len-len.result c.as_slice.result.now in
     let news = ap length (c.as_slice.ensures.value) in
-    c.append-3.ensures.succeeds (omega (arith, long, news, c.len-more.ensures, c.in_ok-reserve-3.ensures.ok))
+    let kept = ap length c.reserve_rows.ensures.ends in
+    c.append-3.ensures.succeeds (omega (arith, long, news, kept, c.len-more.ensures, c.in_ok-reserve_rows.ensures.end_room))
