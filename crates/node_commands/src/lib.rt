@@ -20,8 +20,8 @@
 //! ```
 //!
 //! What is told of each is an answer in specs/; that an input has one answer are the laws [`one_answer`],
-//! [`one_answer_of_parts`], [`one_answer_of_makers`] and [`one_answer_of_merge`]. How a bundle is read stands here for other
-//! programs too: [`bundle_schema`] and [`read_graph`]; and so does how notes are put in order: [`note_of`] and [`in_order`].
+//! [`one_answer_of_parts`], [`one_answer_of_makers`] and [`one_answer_of_merge`]. How a bundle is read and notes are put in order
+//! stands here for other programs too: [`bundle_schema`], [`read_graph`], [`note_of`] and [`in_order`].
 //!
 //! It waits for nobody but its source, and opens nothing by itself.
 #![tactic(auto)]
