@@ -548,7 +548,7 @@ fn conditions_name_at_most_256_columns(rt: HostRuntime) -> Result<(), Fail> {
     let schema = read_schema(alloc, text.as_slice(), &native)?;
     let few = wide_query(alloc, 256)?;
     let lines = told(alloc, &schema, &native, &[], few.as_slice())?;
-    assert_eq!(rt; lines.as_slice(), b"");
+    assert_eq!(rt; lines.as_slice(), "".as_bytes());
     let many = wide_query(alloc, 257)?;
     let lines = told(alloc, &schema, &native, &[], many.as_slice())?;
     let end = many.len().saturating_add(1);
