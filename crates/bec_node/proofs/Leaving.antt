@@ -1,5 +1,6 @@
--- What a run of a family leaves.
-use Rattle.std.proofs.Common.{◌≡◌, ◌⊎◌, inl, inr, ℕ, List, refl, sym, ap, subst, ◌∙◌, Option, Some, None, Ok, Err, IsTrue, arith}
+-- What a run of a family or of a net leaves.
+use Rattle.std.proofs.Common.{◌≡◌, ◌⊎◌, inl, inr, ℕ, List, refl, sym, ap, subst, ◌∙◌, Option, Some, None, Ok, Err, IsTrue, String, arith}
+use Rattle.std.specs.declared.alloc.Global.{Global}
 use Rattle.bec_bytes.specs.Causes.{Rose}
 use Rattle.bec_disk.specs.Shelf.{ShelfState}
 use Rattle.bec_links.specs.Nets.{NetState}
@@ -35,9 +36,10 @@ use Rattle.outcomes.specs.Told.{EndsTold, Told, told_status}
 use Rattle.watch_command.specs.Ending.{HasCause, Says}
 use Rattle.watch_command.specs.declared.stop.Stop.{Stop}
 use Rattle.watch_command.specs.declared.stop.Stop.TheVariants.{Refused, Unwritten}
-use Rattle.bec_node.specs.Families.{AuditComes, FamilyText, SealComes, TellsSeals, ViewComes, WorldComes, from_seal, told_as}
+use Rattle.bec_node.specs.Beside.{DoesBeside, RunsBeside, asked, of_keys, over_seals, over_views, over_worlds}
+use Rattle.bec_node.specs.Families.{AuditComes, BesideText, IsBesideCommand, SealComes, TellsSeals, ViewComes, WorldComes, from_seal, told_as}
 use Rattle.bec_node.specs.Own.{EndsOf, IsOfStore}
-use Rattle.bec_node.specs.Run.{DoesAsked, DoesOver, Leaves, NetSeen, of_keys, over_net, over_seals, over_views, over_worlds}
+use Rattle.bec_node.specs.Run.{DoesOver, Leaves, NetSeen}
 use Rattle.bec_node.proofs.Ends.{of_store, printing_only, source_ends, store_ends}
 use Rattle.bec_node.proofs.Faults.{as_outcome, ended_store, ended_stream, refusal_store, refusal_stream, same_refusal, source_or_sink, source_rose, store_rose}
 use Rattle.bec_node.proofs.Home.{IsSeen, same_home}
@@ -217,7 +219,42 @@ watched_stream old new text store store_new source source_new (Some (Refused ref
 watched_stream old new text store store_new source source_new (Some (Refused refusal)) status cause (inl (inr front)) e = inr front.1
 watched_stream old new text store store_new source source_new (Some (Refused refusal)) status cause (inr lacked) e = absurd (let own = lacked.0 in omega (arith, e, own))
 
--- ---- requests of families
+-- ---- requests of families without a net
+
+module _ {S H R : Type 0} (before after : Outside S H R) (sink sink_new : SinkState) (status : ℕ) where
+  view_blames : (request : WatchText) → ViewComes request before after sink sink_new status → Blames before after sink sink_new status
+  view_blames (watch dir text every) comes = (
+    watched_store sink sink_new comes.watches.text before.shelf_faults after.shelf_faults before.source_faults after.source_faults comes.watches.stop status comes.watches.cause comes.watches.said,
+    watched_stream sink sink_new comes.watches.text before.shelf_faults after.shelf_faults before.source_faults after.source_faults comes.watches.stop status comes.watches.cause comes.watches.said,
+  )
+
+  view_home : (request : WatchText) → ViewComes request before after sink sink_new status → IsTrue before.store.tells → IsHome after.store
+  view_home (watch dir text every) comes = comes.watches.home
+
+  world_blames : (request : WorldText) → WorldComes request before after sink sink_new status → Blames before after sink sink_new status
+  world_blames (world audited) comes = (λ e. absurd (world_store sink sink_new status audited _ _ comes.tells e), world_stream sink sink_new status audited _ _ comes.tells)
+  world_blames (demo number count) comes = (λ e. absurd (demo_store sink sink_new status number count comes.tells.0 e), demo_stream sink sink_new status number count comes.tells.0)
+
+  beside_blames : {request : BesideText} → DoesBeside before after sink sink_new status request → Blames before after sink sink_new status
+  beside_blames (over_seals request answered) = seal_blames before after sink sink_new status request answered.outcome answered.comes answered.said
+  beside_blames (of_keys request answered) = audit_blames before after sink sink_new status request answered.outcome answered.comes answered.said
+  beside_blames (over_views request comes) = view_blames request comes
+  beside_blames (over_worlds request comes) = world_blames request comes
+
+  beside_home : (IsTrue before.store.tells → IsHome before.store) → IsSeen before after → {request : BesideText} → DoesBeside before after sink sink_new status request
+      → IsTrue before.store.tells → IsHome after.store
+  beside_home home seen (over_seals request answered) = seal_home before after sink sink_new status home seen request answered.outcome answered.comes
+  beside_home home seen (of_keys request answered) = audit_home before after sink sink_new status home seen request answered.outcome answered.comes
+  beside_home home seen (over_views request comes) = view_home request comes
+  beside_home home seen (over_worlds request comes) = same_home before after home seen comes.shelf
+
+  pub runs_asked : (words : List (String Global)) → (IsTrue before.store.tells → IsHome before.store) → IsSeen before after → (request : BesideText) → IsBesideCommand request words
+      → DoesBeside before after sink sink_new status request → RunsBeside words before after sink sink_new status
+  runs_asked words home seen request asks comes =
+      let blames = beside_blames comes in
+      record { does = asked request asks comes; store_fault = blames.0; stream_fault = blames.1; home = beside_home home seen comes }
+
+-- ---- requests of a net
 
 -- a stream fault of the source or the sink
 pub beside_net : {A B C : Type 0} → A ⊎ C → A ⊎ (B ⊎ C)
@@ -225,54 +262,21 @@ beside_net (inl a) = inl a
 beside_net (inr c) = inr (inr c)
 
 module _ {S H R N : Type 0} (before after : Outside S H R) (net net_new : NetSeen N) (sink sink_new : SinkState) (status : ℕ) where
-  -- what needs no net leaves it as it was
-  netless : Blames before after sink sink_new status → net_new ≡ net → Leaves before after net net_new sink sink_new status
-  netless blames same = record { links = ap (λ (n : NetSeen N). n.state.out) same; store_fault = blames.0; stream_fault = λ e. beside_net (blames.1 e) }
-
-  meets : (request : NetText) (told : Told)
+  pub net_leaves : (request : NetText) (told : Told)
       → DoesOver request before.store after.store net.state net_new.state before.shelf_faults after.shelf_faults net.faults net_new.faults told
       → EndsTold sink.faults sink_new.faults sink.held sink_new.held told status → Leaves before after net net_new sink sink_new status
-  meets (sync dir address) told does said = record {
+  net_leaves (sync dir address) told does said = record {
     links = dials_out net.state net_new.state does.dials;
     store_fault = λ e. does.store_fault (told_store sink.faults sink_new.faults sink.held sink_new.held told status said e);
     stream_fault = λ e. inr (source_or_sink does.stream_fault (told_stream sink.faults sink_new.faults sink.held sink_new.held told status said e));
   }
-  meets (serve dir address sessions) told does said = record {
+  net_leaves (serve dir address sessions) told does said = record {
     links = does.out;
     store_fault = λ e. does.store_fault (told_store sink.faults sink_new.faults sink.held sink_new.held told status said e);
     stream_fault = λ e. inr (source_or_sink does.stream_fault (told_stream sink.faults sink_new.faults sink.held sink_new.held told status said e));
   }
 
-  meets_home : (request : NetText) (told : Told)
+  pub net_home : (request : NetText) (told : Told)
       → DoesOver request before.store after.store net.state net_new.state before.shelf_faults after.shelf_faults net.faults net_new.faults told → IsTrue before.store.tells → IsHome after.store
-  meets_home (sync dir address) told does = does.home
-  meets_home (serve dir address sessions) told does = does.home
-
-  views : (request : WatchText) → ViewComes request before after sink sink_new status → net_new ≡ net → Leaves before after net net_new sink sink_new status
-  views (watch dir text every) comes same =
-      netless (
-        watched_store sink sink_new comes.watches.text before.shelf_faults after.shelf_faults before.source_faults after.source_faults comes.watches.stop status comes.watches.cause comes.watches.said,
-        watched_stream sink sink_new comes.watches.text before.shelf_faults after.shelf_faults before.source_faults after.source_faults comes.watches.stop status comes.watches.cause comes.watches.said,
-      ) same
-
-  views_home : (request : WatchText) → ViewComes request before after sink sink_new status → IsTrue before.store.tells → IsHome after.store
-  views_home (watch dir text every) comes = comes.watches.home
-
-  worlds : (request : WorldText) → WorldComes request before after sink sink_new status → net_new ≡ net → Leaves before after net net_new sink sink_new status
-  worlds (world audited) comes same = netless (λ e. absurd (world_store sink sink_new status audited _ _ comes.tells e), world_stream sink sink_new status audited _ _ comes.tells) same
-  worlds (demo number count) comes same = netless (λ e. absurd (demo_store sink sink_new status number count comes.tells.0 e), demo_stream sink sink_new status number count comes.tells.0) same
-
-  pub asked_leaves : {request : FamilyText} → DoesAsked before after net net_new sink sink_new status request → Leaves before after net net_new sink sink_new status
-  asked_leaves (over_net request comes) = meets request comes.told comes.does comes.said
-  asked_leaves (over_seals request answered same) = netless (seal_blames before after sink sink_new status request answered.outcome answered.comes answered.said) same
-  asked_leaves (of_keys request answered same) = netless (audit_blames before after sink sink_new status request answered.outcome answered.comes answered.said) same
-  asked_leaves (over_views request comes same) = views request comes same
-  asked_leaves (over_worlds request comes same) = worlds request comes same
-
-  pub asked_home : (IsTrue before.store.tells → IsHome before.store) → IsSeen before after → {request : FamilyText} → DoesAsked before after net net_new sink sink_new status request
-      → IsTrue before.store.tells → IsHome after.store
-  asked_home home seen (over_net request comes) = meets_home request comes.told comes.does
-  asked_home home seen (over_seals request answered same) = seal_home before after sink sink_new status home seen request answered.outcome answered.comes
-  asked_home home seen (of_keys request answered same) = audit_home before after sink sink_new status home seen request answered.outcome answered.comes
-  asked_home home seen (over_views request comes same) = views_home request comes
-  asked_home home seen (over_worlds request comes same) = same_home before after home seen comes.shelf
+  net_home (sync dir address) told does = does.home
+  net_home (serve dir address sessions) told does = does.home

@@ -1,13 +1,12 @@
--- The families of commands beside those of a run alone: over a net, over seals, audits of keys, views of queries, and worlds.
-use Rattle.std.specs.Prelude.{◌≡◌, ℕ, ◌<◌, List, map, IsErrOf, IsTrue, String, Ok, Err}
+-- The families of commands without a net beside those of a run alone: over seals, audits of keys, views of queries, and worlds.
+use Rattle.std.specs.Prelude.{◌≡◌, ℕ, List, map, IsErrOf, IsTrue, String, Ok, Err}
 use Rattle.std.specs.declared.alloc.Global.{Global}
 use Rattle.std.specs.String.{string_bytes}
 use Rattle.bec_bytes.specs.Causes.{Rose}
 use Rattle.bec_disk.specs.Shelf.{ShelfState}
 use Rattle.command_words.specs.AuditRequests.{AsksAudit, AuditText, audit, confirm}
-use Rattle.command_words.specs.NetRequests.{AsksNet, NetText, sync, serve}
 use Rattle.command_words.specs.SealRequests.{AsksSeal, SealText, hsskey, seal, unseal}
-use Rattle.command_words.specs.Seen.{audit_seen, net_seen, seal_seen, watch_seen, world_seen}
+use Rattle.command_words.specs.Seen.{audit_seen, seal_seen, watch_seen, world_seen}
 use Rattle.command_words.specs.WatchRequests.{AsksWatch, WatchText, watch}
 use Rattle.command_words.specs.WorldRequests.{AsksWorld, WorldText, demo, world}
 use Rattle.key_directory.specs.Parts.{IsHome}
@@ -31,41 +30,29 @@ use Rattle.schema_verdict.specs.Written.{SinkState}
 use Rattle.watch_command.specs.Runs.{WatchesIn}
 use Rattle.world_commands.specs.Answers.{TellsWorld}
 use Rattle.world_commands.specs.Demos.{TellsDemo}
-use Rattle.bec_node.specs.declared.families.FamilyRequest.{FamilyRequest}
-use Rattle.bec_node.specs.declared.families.FamilyRequest.TheVariants.{Net, Seals, Audits, Views, Worlds}
+use Rattle.bec_node.specs.declared.families.BesideRequest.{BesideRequest}
+use Rattle.bec_node.specs.declared.families.BesideRequest.TheVariants.{Seals, Audits, Views, Worlds}
 
 -- a request of one of these families
-pub data FamilyText : Type 0 where
-  of_net : NetText → FamilyText
-  of_seals : SealText → FamilyText
-  of_audits : AuditText → FamilyText
-  of_views : WatchText → FamilyText
-  of_worlds : WorldText → FamilyText
+pub data BesideText : Type 0 where
+  of_seals : SealText → BesideText
+  of_audits : AuditText → BesideText
+  of_views : WatchText → BesideText
+  of_worlds : WorldText → BesideText
 
 -- what a contract sees of one
-abbrev pub family_seen : FamilyRequest → FamilyText
-family_seen (Net request) = of_net (net_seen request)
-family_seen (Seals request) = of_seals (seal_seen request)
-family_seen (Audits request) = of_audits (audit_seen request)
-family_seen (Views request) = of_views (watch_seen request)
-family_seen (Worlds request) = of_worlds (world_seen request)
+abbrev pub beside_seen : BesideRequest → BesideText
+beside_seen (Seals request) = of_seals (seal_seen request)
+beside_seen (Audits request) = of_audits (audit_seen request)
+beside_seen (Views request) = of_views (watch_seen request)
+beside_seen (Worlds request) = of_worlds (world_seen request)
 
 -- the words ask for this
-abbrev pub IsFamilyCommand : FamilyText → List (String Global) → Type 0
-IsFamilyCommand (of_net request) words = AsksNet (map string_bytes words) request
-IsFamilyCommand (of_seals request) words = AsksSeal (map string_bytes words) request
-IsFamilyCommand (of_audits request) words = AsksAudit (map string_bytes words) request
-IsFamilyCommand (of_views request) words = AsksWatch (map string_bytes words) request
-IsFamilyCommand (of_worlds request) words = AsksWorld (map string_bytes words) request
-
--- Where a request asks for sessions, it asks for one at least.
-abbrev pub AsksForSome : FamilyText → Type 0
-AsksForSome (of_net (sync dir address)) = Unit {0}
-AsksForSome (of_net (serve dir address sessions)) = 0 < sessions
-AsksForSome (of_seals request) = Unit {0}
-AsksForSome (of_audits request) = Unit {0}
-AsksForSome (of_views request) = Unit {0}
-AsksForSome (of_worlds request) = Unit {0}
+abbrev pub IsBesideCommand : BesideText → List (String Global) → Type 0
+IsBesideCommand (of_seals request) words = AsksSeal (map string_bytes words) request
+IsBesideCommand (of_audits request) words = AsksAudit (map string_bytes words) request
+IsBesideCommand (of_views request) words = AsksWatch (map string_bytes words) request
+IsBesideCommand (of_worlds request) words = AsksWorld (map string_bytes words) request
 
 -- A command is done, or refused: what it comes to is said, and each answer that it has to what stands outside comes with its status.
 pub record IsAnswered {S H R : Type 0} (Comes : Outside S H R → Outside S H R → Outcome → Type 0) (Only : ℕ → Type 0) (before after : Outside S H R) (sink sink_new : SinkState) (status : ℕ) : Type 0 where

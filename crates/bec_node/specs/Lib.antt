@@ -1,3 +1,4 @@
+pub mod Beside
 pub mod Families
 pub mod Own
 pub mod Run

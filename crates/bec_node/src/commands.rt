@@ -2,10 +2,12 @@
 
 ghost use Rattle.std.specs.Prelude.{IsTrue, codes};
 ghost use Rattle.outcomes.specs.Outside.{outside};
+ghost use Rattle.bec_node.specs.Beside.{RunsBeside};
 ghost use Rattle.bec_node.specs.RunAlone.{HasFirstWord, Runs};
 ghost use Rattle.key_directory.specs.Parts.{IsHome};
 
 use crate::alone::run_alone;
+use crate::beside::run_beside;
 use bec_bytes::{Sink, Source};
 use bec_disk::Shelf;
 use rand_core::Rng;
@@ -254,4 +256,182 @@ pub fn command_notes<V: Verifier, H: Shelf, R: Rng, S: Source, K: Sink>(
         (record { held = K.held out.old; faults = K.faults out.old }) (record { held = K.held out.new; faults = K.faults out.new }) result }
 {
     run_alone(verifier, alloc, words, shelf, random, input, out)
+}
+
+/// The command `hsskey DIR [--height 5,10] [--width 1,2,4,8]`: draws a key of two levels for a directory that has none,
+/// and prints its public key in lower-case hexadecimal. The first word has to be `hsskey`.
+///
+/// Its clause is that of [`run_beside`] for these words.
+pub fn command_hsskey<V: Verifier, H: Shelf, R: Rng, S: Source, K: Sink>(
+    verifier: &V,
+    alloc: Global,
+    words: &[String],
+    shelf: &mut H,
+    random: &mut R,
+    input: &mut S,
+    out: &mut K,
+) -> u8
+    requires first { HasFirstWord (codes "hsskey") words.now }
+    requires home { IsTrue (H.state shelf.old).tells → IsHome (H.state shelf.old) }
+    ensures { RunsBeside words.now
+        (outside S.left S.faults H.state H.faults R.stream input.old shelf.old random.old) (outside S.left S.faults H.state H.faults R.stream input.new shelf.new random.new)
+        (record { held = K.held out.old; faults = K.faults out.old }) (record { held = K.held out.new; faults = K.faults out.new }) result }
+{
+    run_beside(verifier, alloc, words, shelf, random, input, out)
+}
+
+/// The command `seal DIR`: seals what it reads by the two-level key of the directory, and prints the seal in lower-case
+/// hexadecimal; or the line for what is refused. The first word has to be `seal`.
+///
+/// Its clause is that of [`run_beside`] for these words.
+pub fn command_seal<V: Verifier, H: Shelf, R: Rng, S: Source, K: Sink>(
+    verifier: &V,
+    alloc: Global,
+    words: &[String],
+    shelf: &mut H,
+    random: &mut R,
+    input: &mut S,
+    out: &mut K,
+) -> u8
+    requires first { HasFirstWord (codes "seal") words.now }
+    requires home { IsTrue (H.state shelf.old).tells → IsHome (H.state shelf.old) }
+    ensures { RunsBeside words.now
+        (outside S.left S.faults H.state H.faults R.stream input.old shelf.old random.old) (outside S.left S.faults H.state H.faults R.stream input.new shelf.new random.new)
+        (record { held = K.held out.old; faults = K.faults out.old }) (record { held = K.held out.new; faults = K.faults out.new }) result }
+{
+    run_beside(verifier, alloc, words, shelf, random, input, out)
+}
+
+/// The command `unseal KEY SIG`: reads what was sealed, and prints `good` where the signature is a seal of it by this
+/// key, or the line for what is refused. The first word has to be `unseal`.
+///
+/// Its clause is that of [`run_beside`] for these words.
+pub fn command_unseal<V: Verifier, H: Shelf, R: Rng, S: Source, K: Sink>(
+    verifier: &V,
+    alloc: Global,
+    words: &[String],
+    shelf: &mut H,
+    random: &mut R,
+    input: &mut S,
+    out: &mut K,
+) -> u8
+    requires first { HasFirstWord (codes "unseal") words.now }
+    requires home { IsTrue (H.state shelf.old).tells → IsHome (H.state shelf.old) }
+    ensures { RunsBeside words.now
+        (outside S.left S.faults H.state H.faults R.stream input.old shelf.old random.old) (outside S.left S.faults H.state H.faults R.stream input.new shelf.new random.new)
+        (record { held = K.held out.old; faults = K.faults out.old }) (record { held = K.held out.new; faults = K.faults out.new }) result }
+{
+    run_beside(verifier, alloc, words, shelf, random, input, out)
+}
+
+/// The command `audit DIR`: prints a line for each key and index that signed two updates of the directory's store with
+/// different messages, or nothing where there are none; or the line for what is refused. The first word has to be
+/// `audit`.
+///
+/// Its clause is that of [`run_beside`] for these words.
+pub fn command_audit<V: Verifier, H: Shelf, R: Rng, S: Source, K: Sink>(
+    verifier: &V,
+    alloc: Global,
+    words: &[String],
+    shelf: &mut H,
+    random: &mut R,
+    input: &mut S,
+    out: &mut K,
+) -> u8
+    requires first { HasFirstWord (codes "audit") words.now }
+    requires home { IsTrue (H.state shelf.old).tells → IsHome (H.state shelf.old) }
+    ensures { RunsBeside words.now
+        (outside S.left S.faults H.state H.faults R.stream input.old shelf.old random.old) (outside S.left S.faults H.state H.faults R.stream input.new shelf.new random.new)
+        (record { held = K.held out.old; faults = K.faults out.old }) (record { held = K.held out.new; faults = K.faults out.new }) result }
+{
+    run_beside(verifier, alloc, words, shelf, random, input, out)
+}
+
+/// The command `confirm`: reads two records, and prints `doubled` with the key and the index where one key signed both
+/// under one index with different messages, or the line for what is refused. The first word has to be `confirm`.
+///
+/// Its clause is that of [`run_beside`] for these words.
+pub fn command_confirm<V: Verifier, H: Shelf, R: Rng, S: Source, K: Sink>(
+    verifier: &V,
+    alloc: Global,
+    words: &[String],
+    shelf: &mut H,
+    random: &mut R,
+    input: &mut S,
+    out: &mut K,
+) -> u8
+    requires first { HasFirstWord (codes "confirm") words.now }
+    requires home { IsTrue (H.state shelf.old).tells → IsHome (H.state shelf.old) }
+    ensures { RunsBeside words.now
+        (outside S.left S.faults H.state H.faults R.stream input.old shelf.old random.old) (outside S.left S.faults H.state H.faults R.stream input.new shelf.new random.new)
+        (record { held = K.held out.old; faults = K.faults out.old }) (record { held = K.held out.new; faults = K.faults out.new }) result }
+{
+    run_beside(verifier, alloc, words, shelf, random, input, out)
+}
+
+/// The command `watch DIR TEXT [--every N]`: prints the answer of a query over the directory's store, and then, while
+/// the records that it reads are added to the store, what they change in it, block by block; or the line for what is
+/// refused. The first word has to be `watch`.
+///
+/// Its clause is that of [`run_beside`] for these words.
+pub fn command_watch<V: Verifier, H: Shelf, R: Rng, S: Source, K: Sink>(
+    verifier: &V,
+    alloc: Global,
+    words: &[String],
+    shelf: &mut H,
+    random: &mut R,
+    input: &mut S,
+    out: &mut K,
+) -> u8
+    requires first { HasFirstWord (codes "watch") words.now }
+    requires home { IsTrue (H.state shelf.old).tells → IsHome (H.state shelf.old) }
+    ensures { RunsBeside words.now
+        (outside S.left S.faults H.state H.faults R.stream input.old shelf.old random.old) (outside S.left S.faults H.state H.faults R.stream input.new shelf.new random.new)
+        (record { held = K.held out.old; faults = K.faults out.old }) (record { held = K.held out.new; faults = K.faults out.new }) result }
+{
+    run_beside(verifier, alloc, words, shelf, random, input, out)
+}
+
+/// The command `world [--audit]`: reads the script of a world, and prints the report of the world that it comes to, or
+/// the lines for what is refused. The first word has to be `world`.
+///
+/// Its clause is that of [`run_beside`] for these words.
+pub fn command_world<V: Verifier, H: Shelf, R: Rng, S: Source, K: Sink>(
+    verifier: &V,
+    alloc: Global,
+    words: &[String],
+    shelf: &mut H,
+    random: &mut R,
+    input: &mut S,
+    out: &mut K,
+) -> u8
+    requires first { HasFirstWord (codes "world") words.now }
+    requires home { IsTrue (H.state shelf.old).tells → IsHome (H.state shelf.old) }
+    ensures { RunsBeside words.now
+        (outside S.left S.faults H.state H.faults R.stream input.old shelf.old random.old) (outside S.left S.faults H.state H.faults R.stream input.new shelf.new random.new)
+        (record { held = K.held out.old; faults = K.faults out.old }) (record { held = K.held out.new; faults = K.faults out.new }) result }
+{
+    run_beside(verifier, alloc, words, shelf, random, input, out)
+}
+
+/// The command `demo NUMBER COUNT`: makes at most COUNT updates of the demonstration, by the keys that NUMBER draws,
+/// and prints five counts of what its replicas come to. The first word has to be `demo`.
+///
+/// Its clause is that of [`run_beside`] for these words.
+pub fn command_demo<V: Verifier, H: Shelf, R: Rng, S: Source, K: Sink>(
+    verifier: &V,
+    alloc: Global,
+    words: &[String],
+    shelf: &mut H,
+    random: &mut R,
+    input: &mut S,
+    out: &mut K,
+) -> u8
+    requires first { HasFirstWord (codes "demo") words.now }
+    requires home { IsTrue (H.state shelf.old).tells → IsHome (H.state shelf.old) }
+    ensures { RunsBeside words.now
+        (outside S.left S.faults H.state H.faults R.stream input.old shelf.old random.old) (outside S.left S.faults H.state H.faults R.stream input.new shelf.new random.new)
+        (record { held = K.held out.old; faults = K.faults out.old }) (record { held = K.held out.new; faults = K.faults out.new }) result }
+{
+    run_beside(verifier, alloc, words, shelf, random, input, out)
 }

@@ -1,19 +1,17 @@
-//! What the words of a command line ask for of the families of commands that a run alone does not have.
+//! What the words of a command line ask for without a net, of the families of commands that a run alone does not have.
 
 ghost use Rattle.std.specs.Prelude.{IfOk, MatchOption};
-ghost use Rattle.bec_node.specs.Families.{FamilyText, IsFamilyCommand, family_seen};
+ghost use Rattle.bec_node.specs.Families.{BesideText, IsBesideCommand, beside_seen};
 
 use command_words::{
-    AuditRequest, NetRequest, SealRequest, WatchRequest, WorldRequest, audit_request_in,
-    net_request_in, seal_request_in, watch_request_in, world_request_in,
+    AuditRequest, SealRequest, WatchRequest, WorldRequest, audit_request_in, seal_request_in,
+    watch_request_in, world_request_in,
 };
 use std::alloc::{AllocError, Global};
 
 /// A request of one of these families.
 #[derive(Drop)]
-pub(crate) enum FamilyRequest<'a> {
-    /// Over a net.
-    Net(NetRequest<'a>),
+pub(crate) enum BesideRequest<'a> {
     /// About seals.
     Seals(SealRequest<'a>),
     /// About keys that signed twice by one index.
@@ -26,27 +24,24 @@ pub(crate) enum FamilyRequest<'a> {
 
 /// What these words ask for of one of these families, or `None` where they ask for nothing of them. The one error is want of
 /// memory, after which nothing is known of the words.
-pub(crate) fn family_request_in<'a>(
+pub(crate) fn beside_request_in<'a>(
     alloc: Global,
     words: &'a [String],
-) -> Result<Option<FamilyRequest<'a>>, AllocError>
-    ensures { IfOk result (λ found. MatchOption found ((request : FamilyText) → IsFamilyCommand request words.entry.now → ⊥)
-        (λ request. IsFamilyCommand (family_seen request) words.entry.now)) }
+) -> Result<Option<BesideRequest<'a>>, AllocError>
+    ensures { IfOk result (λ found. MatchOption found ((request : BesideText) → IsBesideCommand request words.entry.now → ⊥)
+        (λ request. IsBesideCommand (beside_seen request) words.entry.now)) }
 {
-    if let Some(request) = net_request_in(alloc, words)? {
-        return Ok(Some(FamilyRequest::Net(request)));
-    }
     if let Some(request) = seal_request_in(alloc, words)? {
-        return Ok(Some(FamilyRequest::Seals(request)));
+        return Ok(Some(BesideRequest::Seals(request)));
     }
     if let Some(request) = audit_request_in(alloc, words)? {
-        return Ok(Some(FamilyRequest::Audits(request)));
+        return Ok(Some(BesideRequest::Audits(request)));
     }
     if let Some(request) = watch_request_in(alloc, words)? {
-        return Ok(Some(FamilyRequest::Views(request)));
+        return Ok(Some(BesideRequest::Views(request)));
     }
     match world_request_in(alloc, words)? {
-        Some(request) => Ok(Some(FamilyRequest::Worlds(request))),
+        Some(request) => Ok(Some(BesideRequest::Worlds(request))),
         None => Ok(None),
     }
 }

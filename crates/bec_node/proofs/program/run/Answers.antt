@@ -1,10 +1,11 @@
-use Rattle.std.proofs.Common.{ap, refl, arith}
+use Rattle.std.proofs.Common.{map, refl, arith}
+use Rattle.std.specs.String.{string_bytes}
+use Rattle.command_words.specs.Seen.{net_seen}
 use Rattle.outcomes.specs.Outside.{outside}
 use Rattle.schema_verdict.specs.Written.{SinkState}
-use Rattle.bec_node.specs.Families.{family_seen}
-use Rattle.bec_node.specs.Run.{NetSeen, alone, asked, unread}
+use Rattle.bec_node.specs.Run.{NetSeen, beside, over_net, unread}
 use Rattle.bec_node.proofs.Asking.{appends_none, asks_for_some}
-use Rattle.bec_node.proofs.Leaving.{asked_home, asked_leaves, beside_net}
+use Rattle.bec_node.proofs.Leaving.{beside_net, net_home, net_leaves}
 use Rattle.bec_node.proofs.program.run.Goals as goal
 
 pub returns-in_default : goal.returns-in_default
@@ -16,24 +17,28 @@ returns-in_default g c = record {
 
 pub returns-in_default-asked : goal.returns-in_default-asked
 returns-in_default-asked g c = record {
-  runs = alone (rw c.in_default-asked.is at c.in-Ok.ensures) c.run_alone.ensures refl;
-  leaves = record { links = refl; store_fault = c.run_alone.ensures.store_fault; stream_fault = λ e. beside_net (c.run_alone.ensures.stream_fault e) };
-  home = c.run_alone.ensures.home;
+  runs = beside (rw c.in_default-asked.is at c.in-Ok.ensures) c.run_beside.ensures refl;
+  leaves = record { links = refl; store_fault = c.run_beside.ensures.store_fault; stream_fault = λ e. beside_net (c.run_beside.ensures.stream_fault e) };
+  home = c.run_beside.ensures.home;
 }
 
-pub run_asked-requires-clause-some : goal.run_asked-requires-clause-some
-run_asked-requires-clause-some g c κs lives = asks_for_some c.args.words.now (family_seen c.in-Some.request) (rw c.in-Some.is at c.in-Ok.ensures)
+pub meet_others-told-requires-clause-some : goal.meet_others-told-requires-clause-some
+meet_others-told-requires-clause-some g c κs lives =
+    asks_for_some (map string_bytes c.args.words.now) (net_seen c.in-Some.request) (rw c.in-Some.is at c.in-Ok.ensures)
 
 pub returns : goal.returns
 returns g c =
     let seen = outside g.S.Source.left g.S.Counted.faults g.H.Shelf.state g.H.Counted.faults g.R.Rng.stream c.args.input.now c.args.shelf.now c.args.random.now in
-    let then = outside g.S.Source.left g.S.Counted.faults g.H.Shelf.state g.H.Counted.faults g.R.Rng.stream c.run_asked.new.input c.run_asked.new.shelf c.run_asked.new.random in
+    let then = outside g.S.Source.left g.S.Counted.faults g.H.Shelf.state g.H.Counted.faults g.R.Rng.stream c.args.input.now c.meet_others-told.new.shelf c.args.random.now in
     let net : NetSeen _ = record { net = c.args.net.now; state = g.N.Net.state c.args.net.now; faults = g.N.Counted.faults c.args.net.now } in
-    let net_new : NetSeen _ = record { net = c.run_asked.new.net; state = g.N.Net.state c.run_asked.new.net; faults = g.N.Counted.faults c.run_asked.new.net } in
+    let net_new : NetSeen _ = record { net = c.meet_others-told.new.net; state = g.N.Net.state c.meet_others-told.new.net; faults = g.N.Counted.faults c.meet_others-told.new.net } in
     let sink : SinkState = record { held = g.K.Sink.held c.args.out.now; faults = g.K.Counted.faults c.args.out.now } in
-    let sink_new : SinkState = record { held = g.K.Sink.held c.run_asked.new.out; faults = g.K.Counted.faults c.run_asked.new.out } in
+    let sink_new : SinkState = record { held = g.K.Sink.held c.end.new.out; faults = g.K.Counted.faults c.end.new.out } in
+    let request = net_seen c.in-Some.request in
+    let told = c.meet_others-told.result in
+    let does = c.meet_others-told.ensures in
     record {
-      runs = asked (family_seen c.in-Some.request) (rw c.in-Some.is at c.in-Ok.ensures) c.run_asked.ensures;
-      leaves = asked_leaves seen then net net_new sink sink_new c.run_asked.result c.run_asked.ensures;
-      home = asked_home seen then net net_new sink sink_new c.run_asked.result c.requires (λ same. (ap g.H.Shelf.state same, ap g.H.Counted.faults same)) c.run_asked.ensures;
+      runs = over_net request (rw c.in-Some.is at c.in-Ok.ensures) (record { told = told; does = does; source = refl; random = refl; said = c.end.ensures });
+      leaves = net_leaves seen then net net_new sink sink_new c.end.result request told does c.end.ensures;
+      home = net_home seen then net net_new sink sink_new c.end.result request told does;
     }

@@ -1,23 +1,18 @@
 use Rattle.std.proofs.Common.{refl}
 use Rattle.command_words.specs.AuditRequests.{audit, confirm}
-use Rattle.command_words.specs.Seen.{net_seen, seal_seen, watch_seen}
+use Rattle.command_words.specs.Seen.{seal_seen, watch_seen}
 use Rattle.command_words.specs.WorldRequests.{demo, world}
 use Rattle.schema_verdict.specs.Written.{SinkState}
 use Rattle.audit_commands.specs.Audits.{ShowsDoubled}
 use Rattle.audit_commands.specs.Confirming.{ConfirmAnswer}
 use Rattle.outcomes.specs.Outside.{outside}
 use Rattle.outcomes.specs.StoreAnswers.{Printing}
-use Rattle.bec_node.specs.Run.{of_keys, over_net, over_seals, over_views, over_worlds}
+use Rattle.bec_node.specs.Beside.{of_keys, over_seals, over_views, over_worlds}
 use Rattle.bec_node.proofs.Answered.{source_answered, store_answered}
-use Rattle.bec_node.proofs.program.run_asked.Goals as goal
-
-pub returns-in-Net : goal.returns-in-Net
-returns-in-Net g c =
-    rw c.in-Net.is
-    (over_net (net_seen c.in-Net.request) (record { told = c.meet_others-told.result; does = c.meet_others-told.ensures; source = refl; random = refl; said = c.end.ensures }))
+use Rattle.bec_node.proofs.beside.run_asked.Goals as goal
 
 pub returns-in-Seals : goal.returns-in-Seals
-returns-in-Seals g c = rw c.in-Seals.is (over_seals (seal_seen c.in-Seals.request) c.run_seals.ensures refl)
+returns-in-Seals g c = rw c.in-Seals.is (over_seals (seal_seen c.in-Seals.request) c.run_seals.ensures)
 
 pub returns-in-Audits-Audit : goal.returns-in-Audits-Audit
 returns-in-Audits-Audit g c =
@@ -29,7 +24,7 @@ returns-in-Audits-Audit g c =
     let which = rw c.in-Audits-Audit.is at c.in-Audits-Audit.field-0-is in
     rw (c.in-Audits-Audit.is, which)
     (of_keys (audit dir) (store_answered seen then sink sink_new c.finish.result (Printing ShowsDoubled) c.one_answer_of_audits.ensures.audit dir c.audit_in-outcome.result
-    (record { runs = c.audit_in-outcome.ensures; source = refl; random = refl }) c.finish.ensures) refl)
+    (record { runs = c.audit_in-outcome.ensures; source = refl; random = refl }) c.finish.ensures))
 
 pub returns-in-Audits-Confirm : goal.returns-in-Audits-Confirm
 returns-in-Audits-Confirm g c =
@@ -40,21 +35,21 @@ returns-in-Audits-Confirm g c =
     let which = rw c.in-Audits-Confirm.is at c.in-Audits-Confirm.field-0-is in
     rw (c.in-Audits-Confirm.is, which)
     (of_keys confirm (source_answered seen then sink sink_new c.finish-in-Audits-Confirm.result ConfirmAnswer c.one_answer_of_audits.ensures.confirm c.confirm_in-outcome.result
-    (record { comes = c.confirm_in-outcome.ensures; shelf = refl; random = refl }) c.finish-in-Audits-Confirm.ensures) refl)
+    (record { comes = c.confirm_in-outcome.ensures; shelf = refl; random = refl }) c.finish-in-Audits-Confirm.ensures))
 
 pub returns-in-Views : goal.returns-in-Views
 returns-in-Views g c =
     rw c.in-Views.is
-    (over_views (watch_seen c.in-Views.request) (record { watches = c.watch_in.ensures; random = refl }) refl)
+    (over_views (watch_seen c.in-Views.request) (record { watches = c.watch_in.ensures; random = refl }))
 
 pub returns-in-Worlds-World : goal.returns-in-Worlds-World
 returns-in-Worlds-World g c =
     let which = rw c.in-Worlds-World.is at c.in-Worlds-World.field-0-is in
     rw (c.in-Worlds-World.is, which)
-    (over_worlds (world c.in-Worlds-World.audit) (record { tells = c.tell_world.ensures; shelf = refl; random = refl }) refl)
+    (over_worlds (world c.in-Worlds-World.audit) (record { tells = c.tell_world.ensures; shelf = refl; random = refl }))
 
 pub returns-in-Worlds-Demo : goal.returns-in-Worlds-Demo
 returns-in-Worlds-Demo g c =
     let which = rw c.in-Worlds-Demo.is at c.in-Worlds-Demo.field-0-is in
     rw (c.in-Worlds-Demo.is, which)
-    (over_worlds (demo c.in-Worlds-Demo.number c.in-Worlds-Demo.count) (record { tells = (c.tell_demo.ensures, refl); shelf = refl; random = refl }) refl)
+    (over_worlds (demo c.in-Worlds-Demo.number c.in-Worlds-Demo.count) (record { tells = (c.tell_demo.ensures, refl); shelf = refl; random = refl }))

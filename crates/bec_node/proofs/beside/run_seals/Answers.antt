@@ -6,7 +6,7 @@ use Rattle.outcomes.specs.Outside.{outside}
 use Rattle.bec_node.specs.Families.{from_seal}
 use Rattle.bec_node.proofs.Answered.{source_answered}
 use Rattle.bec_node.proofs.Unsealing.{unsealed_once}
-use Rattle.bec_node.proofs.program.run_seals.Goals as goal
+use Rattle.bec_node.proofs.beside.run_seals.Goals as goal
 
 pub returns-in-Hsskey : goal.returns-in-Hsskey
 returns-in-Hsskey g c =

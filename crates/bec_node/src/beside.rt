@@ -1,0 +1,129 @@
+//! The commands without a net of all families, by the words of a command line.
+
+ghost use Rattle.std.specs.Prelude.{IsTrue};
+ghost use Rattle.command_words.specs.Seen.{seal_seen};
+ghost use Rattle.outcomes.specs.Outside.{outside};
+ghost use Rattle.key_directory.specs.Parts.{IsHome};
+ghost use Rattle.bec_node.specs.Families.{IsAnswered, SealAnswersOnly, SealComes, beside_seen};
+ghost use Rattle.bec_node.specs.Beside.{DoesBeside, RunsBeside};
+
+use crate::alone::run_alone;
+use crate::families::{BesideRequest, beside_request_in};
+use crate::seals::{drawn_hss, sealed, unsealed};
+use audit_commands::{audit_in, confirm_in, one_answer_of_audits};
+use bec_bytes::{Sink, Source};
+use bec_disk::Shelf;
+use command_words::{AuditRequest, SealRequest, WorldRequest};
+use outcomes::finish;
+use outcomes::status::OUT_OF_MEMORY;
+use rand_core::Rng;
+use record_check::Verifier;
+use std::alloc::Global;
+use watch_command::{Watch, watch_in};
+use world_commands::{tell_demo, tell_world};
+
+/// Does what the words of a command line ask for without a net, of all families, over a shelf of directories, a
+/// generator of random words, a source and a sink, and answers the exit status. No part of the shelf may be handed out,
+/// and none is afterwards. Words that ask for something over a net are no command here.
+///
+/// Words that ask for something about seals, audits of keys, views of queries or worlds come to what that comes to;
+/// other words come to what [`run_alone`] says. A fault of the store is told only where the shelf counted one, and a
+/// fault of a stream only where the source or the sink did.
+pub fn run_beside<V: Verifier, H: Shelf, R: Rng, S: Source, K: Sink>(
+    verifier: &V,
+    alloc: Global,
+    words: &[String],
+    shelf: &mut H,
+    random: &mut R,
+    input: &mut S,
+    out: &mut K,
+) -> u8
+    requires { IsTrue (H.state shelf.old).tells → IsHome (H.state shelf.old) }
+    ensures { RunsBeside words.now
+        (outside S.left S.faults H.state H.faults R.stream input.old shelf.old random.old) (outside S.left S.faults H.state H.faults R.stream input.new shelf.new random.new)
+        (record { held = K.held out.old; faults = K.faults out.old }) (record { held = K.held out.new; faults = K.faults out.new }) result }
+{
+    let Ok(asked) = beside_request_in(alloc, words) else {
+        return OUT_OF_MEMORY;
+    };
+    let Some(request) = asked else {
+        return run_alone(verifier, alloc, words, shelf, random, input, out);
+    };
+    run_asked(verifier, alloc, &request, shelf, random, input, out)
+}
+
+/// Does what a request of a family asks for.
+fn run_asked<V: Verifier, H: Shelf, R: Rng, S: Source, K: Sink>(
+    verifier: &V,
+    alloc: Global,
+    request: &BesideRequest,
+    shelf: &mut H,
+    random: &mut R,
+    input: &mut S,
+    out: &mut K,
+) -> u8
+    requires { IsTrue (H.state shelf.old).tells → IsHome (H.state shelf.old) }
+    ensures { DoesBeside
+        (outside S.left S.faults H.state H.faults R.stream input.old shelf.old random.old) (outside S.left S.faults H.state H.faults R.stream input.new shelf.new random.new)
+        (record { held = K.held out.old; faults = K.faults out.old }) (record { held = K.held out.new; faults = K.faults out.new }) result (beside_seen request.now) }
+{
+    one_answer_of_audits();
+    match request {
+        BesideRequest::Seals(request) => run_seals(alloc, request, shelf, random, input, out),
+        BesideRequest::Audits(AuditRequest::Audit { directory }) => {
+            let outcome = audit_in(verifier, alloc, shelf, directory);
+            finish(alloc, out, outcome)
+        }
+        BesideRequest::Audits(AuditRequest::Confirm) => {
+            let outcome = confirm_in(alloc, input);
+            finish(alloc, out, outcome)
+        }
+        BesideRequest::Views(request) => {
+            let what = Watch {
+                text: request.text,
+                every: request.every,
+            };
+            watch_in(verifier, alloc, shelf, request.directory, &what, input, out)
+        }
+        BesideRequest::Worlds(WorldRequest::World { audit }) => {
+            tell_world(alloc, *audit, input, out)
+        }
+        BesideRequest::Worlds(WorldRequest::Demo { number, count }) => {
+            tell_demo(alloc, *number, *count, out)
+        }
+    }
+}
+
+/// Does what a request about seals asks for.
+fn run_seals<H: Shelf, R: Rng, S: Source, K: Sink>(
+    alloc: Global,
+    request: &SealRequest,
+    shelf: &mut H,
+    random: &mut R,
+    input: &mut S,
+    out: &mut K,
+) -> u8
+    requires { IsTrue (H.state shelf.old).tells → IsHome (H.state shelf.old) }
+    ensures { IsAnswered (SealComes (seal_seen request.now)) (SealAnswersOnly (seal_seen request.now) (outside S.left S.faults H.state H.faults R.stream input.old shelf.old random.old))
+        (outside S.left S.faults H.state H.faults R.stream input.old shelf.old random.old) (outside S.left S.faults H.state H.faults R.stream input.new shelf.new random.new)
+        (record { held = K.held out.old; faults = K.faults out.old }) (record { held = K.held out.new; faults = K.faults out.new }) result }
+{
+    match request {
+        SealRequest::Hsskey {
+            directory,
+            height,
+            width,
+        } => {
+            let outcome = drawn_hss(alloc, shelf, directory, *height, *width, random);
+            finish(alloc, out, outcome)
+        }
+        SealRequest::Seal { directory } => {
+            let outcome = sealed(alloc, shelf, directory, random, input);
+            finish(alloc, out, outcome)
+        }
+        SealRequest::Unseal { key, signature } => {
+            let outcome = unsealed(alloc, key, signature, input);
+            finish(alloc, out, outcome)
+        }
+    }
+}
