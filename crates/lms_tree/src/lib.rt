@@ -7,26 +7,33 @@
 //!
 //! ```rust
 //! use lm_ots::OtsType;
-//! use lms_tree::{LmsType, make_secret, verify};
+//! use lms_tree::{KeySeed, LmsType, ManyThreads, make_secret, verify};
 //!
-//! let secret = make_secret(rt.alloc(), LmsType::H5, OtsType::W8, ident, seed)?;
+//! let seed = KeySeed { lms: LmsType::H5, ots: OtsType::W8, ident, start };
+//! let secret = make_secret(&ManyThreads::new(rt), rt.alloc(), &seed)?;
 //! let mut sig = [0u8; 1292];
 //! secret.sign_at(7, &c, b"abc", &mut sig);
 //! assert!(rt; verify(&secret.public(), b"abc", &sig));
 //! ```
 //!
 //! It has no two-level keys and none of the heights 20 and 25, and draws no random bytes. `verify` and
-//! `sign_at` take no memory; `make_secret` keeps all nodes of the tree, 2 MiB at height 15.
+//! `sign_at` take no memory; `make_secret` keeps all nodes of the tree, 2 MiB at height 15. A [`LeafGenerator`]
+//! says which threads compute the leaves, which takes nearly all of its time: [`OneThread`] starts none, and
+//! [`ManyThreads`] starts one for each processor.
 #![tactic(auto)]
 
 mod laws;
+mod leaves;
 mod lms_type;
 mod nodes;
 mod secret;
+mod seed;
 mod tree;
 mod verifying;
 
 pub use laws::{made_is_signed, signed_has_length};
+pub use leaves::{LeafGenerator, ManyThreads, OneThread};
 pub use lms_type::LmsType;
 pub use secret::{Secret, make_secret};
+pub use seed::KeySeed;
 pub use verifying::verify;

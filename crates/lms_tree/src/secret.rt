@@ -6,9 +6,11 @@ ghost use Rattle.lms_tree.specs.SecretKey.{path_of, public_key, signature_by};
 ghost use Rattle.lms_tree.specs.Signature.{Signed};
 ghost use Rattle.update_model.specs.Form.{IsKnownKey, signature_length};
 
+use crate::leaves::LeafGenerator;
 use crate::lms_type::LmsType;
 use crate::nodes::sibling;
-use crate::tree::{write_inner_nodes, write_leaves};
+use crate::seed::KeySeed;
+use crate::tree::write_inner_nodes;
 use byteorder::{BigEndian, ByteOrder};
 use lm_ots::{OtsType, sign};
 use std::alloc::{AllocError, Global};
@@ -38,26 +40,25 @@ impl Model for Secret {
     ghost invariant = { λ s. IsTree s.ident (λ q. public_value s.ots s.ident q s.start) (leaf_count s.lms) s.nodes.items };
 }
 
-/// The secret key of these types, from the identifier I and the seed SEED (RFC 8554, Appendix A). It
+/// The secret key that is made from this (RFC 8554, Appendix A), its leaves computed by the generator. It
 /// makes the whole tree, in the time of all one-time public keys. The only error is want of memory.
-pub fn make_secret(
+pub fn make_secret<G: LeafGenerator>(
+    generator: &G,
     alloc: Global,
-    lms: LmsType,
-    ots: OtsType,
-    ident: [u8; 16],
-    start: [u8; 32],
+    seed: &KeySeed,
 ) -> Result<Secret, AllocError>
-    ensures { IfOk result (λ s. s ≡ record { lms = lms; ots = ots; ident = ident; start = start }) }
+    ensures { IfOk result (λ secret. secret ≡ seed.now) }
 {
-    let leaves = lms.leaf_count();
-    let mut nodes = vec![in alloc; [0; 32]; 2 * leaves as usize]?;
-    write_leaves(leaves, ots, &ident, &start, &mut nodes);
-    write_inner_nodes(leaves, &ident, &mut nodes);
+    let count = seed.lms.leaf_count();
+    let mut leaves = generator.all_leaves(alloc, seed)?;
+    let mut nodes = vec![in alloc; [0; 32]; count as usize]?;
+    nodes.append(&mut leaves)?;
+    write_inner_nodes(count, &seed.ident, &mut nodes);
     Ok(Secret {
-        lms,
-        ots,
-        ident,
-        start,
+        lms: seed.lms,
+        ots: seed.ots,
+        ident: seed.ident,
+        start: seed.start,
         nodes,
     })
 }

@@ -7,24 +7,6 @@ ghost use Rattle.lms_tree.specs.Tree.{inner_node, leaf_node};
 use crate::nodes::{inner_node, leaf_node};
 use lm_ots::{OtsType, public_of};
 
-/// Writes the leaves' values, at the places from the number of leaves on.
-pub fn write_leaves(
-    leaves: u32,
-    ots: OtsType,
-    ident: &[u8; 16],
-    start: &[u8; 32],
-    nodes: &mut [[u8; 32]],
-)
-    requires few { leaves ≤ 2 ^ 15 }
-    requires len { length nodes.old ≡ 2 * leaves }
-    ensures { (q : ℕ) → q < leaves → slice_index_or nodes.new (leaves + q) [] ≡ leaf_node ident.now (leaves + q) (public_value ots ident.now q start.now) }
-{
-    for q in 0..leaves {
-        let leaf = leaves + q;
-        nodes[leaf as usize] = leaf_node(ident, leaf, &public_of(ots, ident, q, start));
-    }
-}
-
 /// Writes the other nodes' values from those of the leaves, from the last of them down to the root.
 pub fn write_inner_nodes(leaves: u32, ident: &[u8; 16], nodes: &mut [[u8; 32]])
     requires few { leaves ≤ 2 ^ 15 }
