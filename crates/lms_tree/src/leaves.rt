@@ -82,11 +82,11 @@ fn leaves_on<R: Threads>(
     let others = threads - 1;
     let (second, rest) = (first + front, count - front);
     let theirs = move || -> Result<Vec<[u8; 32]>, AllocError>
-        requires { first + front ≤ leaf_count seed.entry.now.lms }
+        requires { first + front ≤ leaf_count seed.now.lms }
         ensures { IfOk result (λ values. AreLeaves seed.entry.now first front values.items) }
     { leaves_here(alloc, seed, first, front) };
     let mine = move || -> Result<Vec<[u8; 32]>, AllocError>
-        requires { second + rest ≤ leaf_count seed.entry.now.lms }
+        requires { second + rest ≤ leaf_count seed.now.lms }
         ensures { IfOk result (λ values. AreLeaves seed.entry.now second rest values.items) }
     { leaves_on(rt, alloc, others, seed, second, rest) };
     let (values, behind) = join(rt, theirs, mine);
