@@ -11,4 +11,5 @@
 
 mod verifier;
 
-pub use verifier::{Answer, ManyThreads, OneThread, Verifier};
+pub use lms_tree::{ManyThreads, OneThread};
+pub use verifier::{Answer, Verifier};

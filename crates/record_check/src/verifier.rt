@@ -6,15 +6,17 @@ ghost use Rattle.update_model.specs.Rule.{RuleData};
 ghost use Rattle.record_check.specs.Records.{AreAnswers, IsAnswer, IsCheckedFront, answer_of, bytes_of};
 
 use std::alloc::{AllocError, Global};
-use std::thread::{Threads, available_parallelism, join};
+use lms_tree::{LeafGenerator, ManyThreads, OneThread};
+use std::thread::{Threads, join};
 use update_check::{CheckError, CheckFault, Checked, check, no_cause};
 use update_model::DbRule;
 
 /// What the check of updates says of a record: the update, or the fault for which it is refused.
 pub type Answer = Result<Checked, CheckFault>;
 
-/// Whoever checks records: which threads do it is its own affair.
-pub trait Verifier {
+/// Whoever checks records, and computes the leaves of keys: which threads do it is its own affair. [`OneThread`] starts none, and
+/// [`ManyThreads`] starts one for each processor, and checks all itself where no thread can be started.
+pub trait Verifier: LeafGenerator {
     /// What the check of updates says of each record under the rule, in order. It takes the records over.
     fn check_each(
         &self,
@@ -37,10 +39,6 @@ pub trait Verifier {
     }
 }
 
-/// Checks records on the thread that asks.
-#[derive(Clone, Copy, Debug)]
-pub struct OneThread;
-
 impl Verifier for OneThread {
     fn check_each(
         &self,
@@ -52,19 +50,6 @@ impl Verifier for OneThread {
     }
 }
 
-/// Checks records on as many threads as there are processors. Where no thread can be started, the one that asks does all.
-#[derive(Drop)]
-pub struct ManyThreads<'a, R: Threads> {
-    rt: &'a R,
-}
-
-impl<'a, R: Threads> ManyThreads<'a, R> {
-    /// Over the threads that a runtime starts.
-    pub fn new(rt: &'a R) -> Self {
-        ManyThreads { rt }
-    }
-}
-
 impl<'a, R: Threads> Verifier for ManyThreads<'a, R> {
     fn check_each(
         &self,
@@ -72,11 +57,7 @@ impl<'a, R: Threads> Verifier for ManyThreads<'a, R> {
         rule: &DbRule,
         records: Vec<Vec<u8>>,
     ) -> Result<Vec<Answer>, AllocError> {
-        let processors = match available_parallelism(self.rt) {
-            Ok(count) => count.get(),
-            Err(_) => 1,
-        };
-        each_on(self.rt, alloc, rule, processors, records)
+        each_on(self.runtime(), alloc, rule, self.thread_count(), records)
     }
 }
 
