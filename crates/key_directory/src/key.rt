@@ -12,10 +12,12 @@ ghost use Rattle.key_directory.specs.Parts.{part_in, reading};
 use crate::key_refusal::KeyRefusal;
 use bec_disk::{Gated, Part, Shelf, read_gated};
 use key_index::{KeyFault, KeyStore};
+use lms_tree::LeafGenerator;
 use std::alloc::Global;
 
-/// Takes the key of a directory from the shelf and opens it. Where it is refused, every part is in its place again, and nothing was written.
-pub fn take_key<H: Shelf>(
+/// Takes the key of a directory from the shelf and opens it; the generator computes its leaves. Where it is refused, every part is in its place again, and nothing was written.
+pub fn take_key<G: LeafGenerator, H: Shelf>(
+    generator: &G,
     alloc: Global,
     shelf: &mut H,
     dir: &str,
@@ -38,7 +40,7 @@ pub fn take_key<H: Shelf>(
             return Err(why);
         }
     };
-    match KeyStore::open_key(alloc, key, used) {
+    match KeyStore::open_key(generator, alloc, key, used) {
         Ok(store) => Ok(store),
         Err(fault) => {
             let KeyFault { why, key, used } = fault;

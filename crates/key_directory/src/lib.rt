@@ -4,7 +4,7 @@
 //! key is refused, every part is in its place again. [`new_key`] makes a key where there is none. [`find_or_make`] is for one part of any kind.
 //!
 //! ```text
-//! let mut key = take_key(alloc, shelf, dir)?;
+//! let mut key = take_key(&OneThread, alloc, shelf, dir)?;
 //! let signed = key.sign(&c, msg, &mut signature);
 //! put_key(shelf, dir, key);
 //! ```

@@ -17,26 +17,25 @@ ghost use Rattle.key_directory.specs.Keys.{IsNewKeyCause, MakesKey};
 use crate::finding::find_or_make;
 use bec_disk::{DiskError, Gated, Part, Shelf, read_gated};
 use key_index::{CreateKey, CreateKeyKind, KeyStore};
-use lm_ots::OtsType;
-use lms_tree::LmsType;
+use lms_tree::{KeyTypes, LeafGenerator};
 use rand_core::Rng;
 use std::alloc::Global;
 
-/// Makes a key of these types in a directory, where the part Key is absent. Its identifier is the next 16 bytes of `random`, and its seed the 32
+/// Makes a key of these types in a directory, where the part Key is absent. The generator computes its leaves. Its identifier is the next 16 bytes of `random`, and its seed the 32
 /// bytes after them. Parts that are not there are made. Where it is refused, every part is in its place again; one that was asked for may then
 /// stand there with nothing in it.
-pub fn new_key<H: Shelf, R: Rng>(
+pub fn new_key<G: LeafGenerator, H: Shelf, R: Rng>(
+    generator: &G,
     alloc: Global,
     shelf: &mut H,
     dir: &str,
-    lms: LmsType,
-    ots: OtsType,
+    types: KeyTypes,
     random: &mut R,
 ) -> Result<KeyStore<H::D>, CreateKeyKind>
     requires key_in { IsTrue (H.state shelf.old).tells → part_in (H.state shelf.old) dir.now Key ≢ out }
     requires used_in { IsTrue (H.state shelf.old).tells → part_in (H.state shelf.old) dir.now Used ≢ out }
-    ensures makes { IfOk result (λ key. MakesKey (drawn_key lms ots (R.stream random.old)) (H.state shelf.old) dir.now key (H.state shelf.new)) }
-    ensures lets_go { IfErr result (λ _. LetsNewGo Key Used (payload_of (drawn_key lms ots (R.stream random.old))) (none_used (leaf_count lms)) (H.state shelf.old) dir.now (H.state shelf.new)) }
+    ensures makes { IfOk result (λ key. MakesKey (drawn_key types.lms types.ots (R.stream random.old)) (H.state shelf.old) dir.now key (H.state shelf.new)) }
+    ensures lets_go { IfErr result (λ _. LetsNewGo Key Used (payload_of (drawn_key types.lms types.ots (R.stream random.old))) (none_used (leaf_count types.lms)) (H.state shelf.old) dir.now (H.state shelf.new)) }
     ensures refused { IfErr result (λ why. IsTrue (H.state shelf.old).tells → IsNewKeyCause (reading (part_in (H.state shelf.old) dir.now Key)) why) }
     ensures drawn { OnOk result (R.stream random.new ≡ after_draw (R.stream random.old)) }
     ensures may_draw { (R.stream random.new ≡ R.stream random.old) ⊎ (R.stream random.new ≡ after_draw (R.stream random.old)) }
@@ -53,7 +52,7 @@ pub fn new_key<H: Shelf, R: Rng>(
             return Err(why);
         }
     };
-    match KeyStore::create(alloc, key, used, lms, ots, random) {
+    match KeyStore::create(generator, alloc, key, used, types, random) {
         Ok(store) => Ok(store),
         Err(refused) => {
             let CreateKey { why, key, used } = refused;

@@ -1,25 +1,23 @@
 -- Over a life, an index that each crash leaves used stays so and signs nothing more.
 use Rattle.std.proofs.Common.{◌≡◌, ◌⊎◌, inl, inr, ℕ, List, [], ◌∷◌, ◌++◌, sym, ◌∙◌, ap, subst, IsTrue, Result, Ok, Err, length, arith, refl}
-use Rattle.std.specs.Prelude.{◌≢◌, ◌+◌, ◌≤◌, ◌==◌, Bool, true, false, if◌then◌else◌, take, drop, MatchOption, Option, Some, None}
+use Rattle.std.specs.Prelude.{◌+◌, ◌≤◌, ◌==◌, Bool, true, false, if◌then◌else◌, take, drop, MatchOption, Option, Some, None}
 use Rattle.byteorder.specs.Endian.{big_bytes, big_number}
 use Rattle.std.proofs.Common.{append_assoc, append-nil}
 use Rattle.std.proofs.lemmas.List.{append_cancel_right}
 use Rattle.std.proofs.lemmas.Bool.Decides.{nat_tests}
-use Rattle.bec_disk.specs.Disk.{Moment, DiskState, EveryImage, AllImages, IsImage, IsSameDisk, IsSettled, LeavesOnly, moments, synced_at}
+use Rattle.bec_disk.specs.Disk.{Moment, DiskState, EveryImage, AllImages, IsImage, IsSameDisk, IsSettled, LeavesOnly, moments}
 use Rattle.bec_disk.specs.Gated.{gated_of, whole_of}
-use Rattle.bec_disk.specs.declared.gated.Gated.{Gated}
 use Rattle.bec_disk.specs.declared.gated.Gated.TheVariants.{Absent, Damaged, Whole}
 use Rattle.bec_disk.proofs.Images.{settled_image, synced-image}
 use Rattle.bec_disk.proofs.Moments.{leaves_now, stays, told}
-use Rattle.key_index.specs.Creating.{CreatesKey, Creating}
+use Rattle.key_index.specs.Creating.{Creating}
 use Rattle.key_index.specs.KeyState.{AreSame, AreSettled, AreTold, KeyParts, KeyState}
-use Rattle.key_index.specs.Opening.{OpensKey}
 use Rattle.key_index.specs.Payload.{payload_of}
 use Rattle.key_index.specs.Reserving.{Reserves, Tries}
 use Rattle.key_index.specs.Used.{IsUsed, least_unused}
 use Rattle.key_index.specs.declared.reserve.Reserve.{Reserve}
 use Rattle.lms_tree.specs.SecretKey.{SecretData}
-use Rattle.key_index.specs.Lives.{MayLeave, SomeImage, Acts, Calls, Histories, acted, came_whole, cut_between, cut_within, no_call, then_call, AreApart, AreHandedOut, AreLeft, Closed, Has, IsHandedOut, IsLeft, IsOpen, IsThere, Life, Message, Open, Runs, Steps, created, ends, failed, goes_on, handed_out, opened, parts_in, put_back, refused, signed, stopped_between, stopped_within}
+use Rattle.key_index.specs.Lives.{MayLeave, SomeImage, Acts, Calls, Histories, acted, came_whole, cut_between, cut_within, no_call, then_call, AreApart, AreLeft, Closed, Has, IsHandedOut, IsLeft, IsOpen, IsThere, Life, Message, Open, Runs, Steps, created, ends, failed, goes_on, handed_out, opened, parts_in, put_back, refused, signed, stopped_between, stopped_within}
 
 -- ---- images
 

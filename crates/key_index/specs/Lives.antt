@@ -1,11 +1,11 @@
 -- The life of the parts Key and Used of a directory, from before there is a key.
-use Rattle.std.specs.Prelude.{◌≡◌, ◌≢◌, ◌⊎◌, ℕ, List, [], ◌∷◌, ◌++◌, Result, Ok, Err, IsTrue}
+use Rattle.std.specs.Prelude.{◌≡◌, ◌≢◌, ◌⊎◌, ℕ, List, [], ◌∷◌, ◌++◌, Ok, Err, IsTrue}
 use Rattle.bec_disk.specs.Disk.{Moment, DiskState, IsImage, IsSettled, moments}
 use Rattle.bec_disk.specs.Gated.{gated_of}
 use Rattle.bec_disk.specs.declared.gated.Gated.TheVariants.{Absent}
 use Rattle.lms_tree.specs.SecretKey.{SecretData}
 use Rattle.key_index.specs.Creating.{CreatesKey, Creating}
-use Rattle.key_index.specs.KeyState.{AreSettled, AreTold, KeyParts, KeyState}
+use Rattle.key_index.specs.KeyState.{AreSettled, KeyParts, KeyState}
 use Rattle.key_index.specs.Opening.{OpensKey}
 use Rattle.key_index.specs.Reserving.{Reserves}
 use Rattle.key_index.specs.declared.reserve.Reserve.{Reserve}

@@ -8,11 +8,12 @@
 //! index only. [`KeyStore::create`] draws a key where there is none, and [`KeyStore::open_key`] opens it.
 //!
 //! ```text
-//! let mut store = KeyStore::create(alloc, key, used, LmsType::H10, OtsType::W8, &mut random)?;
+//! let types = KeyTypes { lms: LmsType::H10, ots: OtsType::W8 };
+//! let mut store = KeyStore::create(&OneThread, alloc, key, used, types, &mut random)?;
 //! let mut signature = vec![in alloc; 0; signature_len(&store.public()) as usize]?;
 //! let index = store.sign(&c, b"message", &mut signature)?;
 //! let (key, used) = store.into_disks();
-//! let store = KeyStore::open_key(alloc, key, used)?;   // the index stays used
+//! let store = KeyStore::open_key(&OneThread, alloc, key, used)?;   // the index stays used
 //! ```
 //!
 //! Two programs that open the same parts at once could hand an index out twice: keeping the second one
@@ -24,10 +25,10 @@ mod create;
 mod faults;
 mod indices;
 mod laws;
-mod material;
 mod open;
 mod opened;
 mod reserve;
+mod seed;
 mod store;
 
 pub use faults::{CreateKey, CreateKeyKind, KeyFault, KeyFaultKind};

@@ -8,25 +8,32 @@ ghost use Rattle.key_index.specs.Opening.{Holds, HoldsNone, OpensKey, RefusesToO
 ghost use Rattle.key_index.specs.Used.{used_in};
 
 use crate::faults::{KeyFault, KeyFaultKind};
-use crate::material::KeyMaterial;
 use crate::opened::Opened;
+use crate::seed::seed_of;
 use crate::store::KeyStore;
 use bec_disk::{Disk, DiskError, Gated, read_gated};
+use lms_tree::{KeySeed, LeafGenerator};
 use std::alloc::{AllocError, Global};
 
 impl<D: Disk> KeyStore<D> {
-    /// Opens the key of two disks that are settled. It makes the whole tree again, and writes nothing.
+    /// Opens the key of two disks that are settled. The generator computes its leaves
+    /// again, and nothing is written.
     ///
     /// It answers [`KeyFaultKind::NoKey`] exactly where the part Key is absent, and
     /// [`KeyFaultKind::BadKeyFile`] exactly where Key is there and the two parts are of no key, unless a
     /// disk fails or memory runs out first.
-    pub fn open_key(alloc: Global, mut key: D, mut used: D) -> Result<KeyStore<D>, KeyFault<D>>
+    pub fn open_key<G: LeafGenerator>(
+        generator: &G,
+        alloc: Global,
+        mut key: D,
+        mut used: D,
+    ) -> Result<KeyStore<D>, KeyFault<D>>
         requires { AreSettled (parts_of D.state D.faults key used) }
         ensures { MatchResult result
             (λ store. OpensKey (parts_of D.state D.faults key used) store)
             (λ fault. RefusesToOpen (parts_of D.state D.faults key used) fault.why (parts_of D.state D.faults fault.key fault.used)) }
     {
-        match read_parts(alloc, &mut key, &mut used) {
+        match read_parts(generator, alloc, &mut key, &mut used) {
             Ok(opened) => Ok(KeyStore::over(key, used, opened)),
             Err(why) => Err(KeyFault { why, key, used }),
         }
@@ -34,22 +41,27 @@ impl<D: Disk> KeyStore<D> {
 }
 
 /// The key that the two parts are of, and its indices that are used.
-fn read_parts<D: Disk>(alloc: Global, key: &mut D, used: &mut D) -> Result<Opened, KeyFaultKind>
+fn read_parts<G: LeafGenerator, D: Disk>(
+    generator: &G,
+    alloc: Global,
+    key: &mut D,
+    used: &mut D,
+) -> Result<Opened, KeyFaultKind>
     ensures opens { MatchResult result
         (λ opened. OpensKey (parts_of D.state D.faults key.old used.old) (store_of D.state D.faults key.new used.new opened.secret opened.indices))
         (λ why. RefusesToOpen (parts_of D.state D.faults key.old used.old) why (parts_of D.state D.faults key.new used.new)) }
     ensures size { IfOk result (λ opened. length opened.indices ≡ leaf_count opened.secret.lms) }
 {
-    let material = read_material(alloc, key)?;
-    let Some(taken) = read_taken(alloc, used, material.lms.leaf_count())? else {
+    let seed = read_seed(alloc, key)?;
+    let Some(taken) = read_taken(alloc, used, seed.lms.leaf_count())? else {
         return Err(KeyFaultKind::BadKeyFile);
     };
-    Ok(Opened::make(alloc, &material, taken)?)
+    Ok(Opened::make(generator, alloc, &seed, taken)?)
 }
 
 /// What the part Key keeps.
-fn read_material<D: Disk>(alloc: Global, key: &mut D) -> Result<KeyMaterial, KeyFaultKind>
-    ensures held { IsTrue (D.state key.old).tells → IfOk result (λ material. Holds (D.state key.old).seen material) }
+fn read_seed<D: Disk>(alloc: Global, key: &mut D) -> Result<KeySeed, KeyFaultKind>
+    ensures held { IsTrue (D.state key.old).tells → IfOk result (λ seed. Holds (D.state key.old).seen seed) }
     ensures no_key { IsTrue (D.state key.old).tells → IsErrOf result KeyFaultKind.NoKey → gated_of (D.state key.old).seen ≡ Absent }
     ensures bad_file { IsTrue (D.state key.old).tells → IsErrOf result KeyFaultKind.BadKeyFile → HoldsNone (D.state key.old).seen }
     ensures same { D.state key.new ≡ D.state key.old }
@@ -59,8 +71,8 @@ fn read_material<D: Disk>(alloc: Global, key: &mut D) -> Result<KeyMaterial, Key
     match read_gated(alloc, key)? {
         Gated::Absent => Err(KeyFaultKind::NoKey),
         Gated::Damaged => Err(KeyFaultKind::BadKeyFile),
-        Gated::Whole(payload) => match KeyMaterial::from_payload(payload.as_slice()) {
-            Some(material) => Ok(material),
+        Gated::Whole(payload) => match seed_of(payload.as_slice()) {
+            Some(seed) => Ok(seed),
             None => Err(KeyFaultKind::BadKeyFile),
         },
     }

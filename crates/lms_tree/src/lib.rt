@@ -35,5 +35,5 @@ pub use laws::{made_is_signed, signed_has_length};
 pub use leaves::{LeafGenerator, ManyThreads, OneThread};
 pub use lms_type::LmsType;
 pub use secret::{Secret, make_secret};
-pub use seed::KeySeed;
+pub use seed::{KeySeed, KeyTypes};
 pub use verifying::verify;

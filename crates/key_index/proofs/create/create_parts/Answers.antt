@@ -22,7 +22,7 @@ returns-in_err-read_gated-clause-creates g c =
     let failed = c.in_err-read_gated.ensures in
     let error = c.in_err-read_gated.field-0.0 in
     let is = same_error _ (creating_kind error) c.from_residual.ensures.0 c.from_residual.ensures.1 in
-    let secret = drawn_key c.args.lms c.args.ots (g.R.Rng.stream c.args.random.now) in
+    let secret = drawn_key c.args.types.lms c.args.types.ots (g.R.Rng.stream c.args.random.now) in
     let old = parts_of g.D.Disk.state g.D.Counted.faults c.args.key.now c.args.used.now in
     let new = parts_of g.D.Disk.state g.D.Counted.faults c.read_gated.new.disk c.args.used.now in
     subst (λ (r : Result Opened CreateKeyKind). MatchResult r (λ opened. CreatesKey secret old (store_of g.D.Disk.state g.D.Counted.faults c.read_gated.new.disk c.args.used.now opened.secret opened.indices)) (λ why. RefusesToCreate secret old why new))
@@ -33,7 +33,7 @@ returns-in_err-read_gated-clause-creates g c =
 pub returns-in_default : goal.returns-in_default
 returns-in_default g c =
     let there = c.in_ok-read_gated.ensures in
-    let secret = drawn_key c.args.lms c.args.ots (g.R.Rng.stream c.args.random.now) in
+    let secret = drawn_key c.args.types.lms c.args.types.ots (g.R.Rng.stream c.args.random.now) in
     let old = parts_of g.D.Disk.state g.D.Counted.faults c.args.key.now c.args.used.now in
     let new = parts_of g.D.Disk.state g.D.Counted.faults c.read_gated.new.disk c.args.used.now in
     let same : AreSame old new = record { key_same = there.same; used_same = refl } in
@@ -58,14 +58,14 @@ write_parts-requires-clause-settled g c = record {
 pub write_parts-requires-clause-zeros : goal.write_parts-requires-clause-zeros
 write_parts-requires-clause-zeros g c =
     let zeros = c.deref-2.ensures.value ∙ c.in_ok-fresh.ensures.unused in
-    zeros ∙ ap none_used (sym (unused_count c.deref-2.result.now (leaf_count c.draw-material.result.lms) zeros))
+    zeros ∙ ap none_used (sym (unused_count c.deref-2.result.now (leaf_count c.draw_seed-seed.result.lms) zeros))
 
 pub returns-in_err-fresh-clause-creates : goal.returns-in_err-fresh-clause-creates
 returns-in_err-fresh-clause-creates g c =
     let error = c.in_err-fresh.field-0.0 in
     let is = same_error _ (creating_kind error) c.from_residual-in_err-fresh.ensures.0 c.from_residual-in_err-fresh.ensures.1 in
     let there = c.in_ok-read_gated.ensures in
-    let secret = drawn_key c.args.lms c.args.ots (g.R.Rng.stream c.args.random.now) in
+    let secret = drawn_key c.args.types.lms c.args.types.ots (g.R.Rng.stream c.args.random.now) in
     let old = parts_of g.D.Disk.state g.D.Counted.faults c.args.key.now c.args.used.now in
     let mid = parts_of g.D.Disk.state g.D.Counted.faults c.read_gated.new.disk c.args.used.now in
     let same : AreSame old mid = record { key_same = there.same; used_same = refl } in
@@ -78,18 +78,18 @@ pub returns-in_err-fresh-clause-undrawn : goal.returns-in_err-fresh-clause-undra
 returns-in_err-fresh-clause-undrawn g c =
     let error = c.in_err-fresh.field-0.0 in
     let is = same_error _ (creating_kind error) c.from_residual-in_err-fresh.ensures.0 c.from_residual-in_err-fresh.ensures.1 in
-    subst (λ (r : Result Opened CreateKeyKind). IfErr r (λ why. why ≡ KeyThere → g.R.Rng.stream c.draw-material.new.random ≡ g.R.Rng.stream c.args.random.now)) (sym is) (λ why. absurd (not_there error why))
+    subst (λ (r : Result Opened CreateKeyKind). IfErr r (λ why. why ≡ KeyThere → g.R.Rng.stream c.draw_seed-seed.new.random ≡ g.R.Rng.stream c.args.random.now)) (sym is) (λ why. absurd (not_there error why))
 
 pub returns-in_err-write_parts-clause-creates : goal.returns-in_err-write_parts-clause-creates
 returns-in_err-write_parts-clause-creates g c =
     let is = same_error _ DiskFault c.from_residual-in_err-write_parts.ensures.0 c.from_residual-in_err-write_parts.ensures.1 in
     let there = c.in_ok-read_gated.ensures in
-    let secret = drawn_key c.args.lms c.args.ots (g.R.Rng.stream c.args.random.now) in
+    let secret = drawn_key c.args.types.lms c.args.types.ots (g.R.Rng.stream c.args.random.now) in
     let old = parts_of g.D.Disk.state g.D.Counted.faults c.args.key.now c.args.used.now in
     let mid = parts_of g.D.Disk.state g.D.Counted.faults c.read_gated.new.disk c.args.used.now in
     let same : AreSame old mid = record { key_same = there.same; used_same = refl } in
     let later : AreLater old mid = record { key_later = there.later; used_later = le_refl _ } in
-    let drawn = c.draw-material.ensures.value in
+    let drawn = c.draw_seed-seed.ensures.value in
     let absent = λ (tells : IsTrue old.key.tells). sym (there.value tells) ∙ c.in-Absent.is in
     let spelled = c.deref.ensures.value ∙ c.in_ok-fresh.ensures.payload.spelled ∙ ap payload_of drawn in
     let long = unused_count c.deref-2.result.now (leaf_count secret.lms) (c.deref-2.ensures.value ∙ c.in_ok-fresh.ensures.unused ∙ ap (λ (s : SecretData). none_used (leaf_count s.lms)) drawn) in
@@ -101,17 +101,17 @@ returns-in_err-write_parts-clause-creates g c =
 pub returns-in_err-write_parts-clause-undrawn : goal.returns-in_err-write_parts-clause-undrawn
 returns-in_err-write_parts-clause-undrawn g c =
     let is = same_error _ DiskFault c.from_residual-in_err-write_parts.ensures.0 c.from_residual-in_err-write_parts.ensures.1 in
-    subst (λ (r : Result Opened CreateKeyKind). IfErr r (λ why. why ≡ KeyThere → g.R.Rng.stream c.draw-material.new.random ≡ g.R.Rng.stream c.args.random.now)) (sym is) (λ why. absurd cc)
+    subst (λ (r : Result Opened CreateKeyKind). IfErr r (λ why. why ≡ KeyThere → g.R.Rng.stream c.draw_seed-seed.new.random ≡ g.R.Rng.stream c.args.random.now)) (sym is) (λ why. absurd cc)
 
 pub returns-clause-creates : goal.returns-clause-creates
 returns-clause-creates g c =
     let there = c.in_ok-read_gated.ensures in
-    let secret = drawn_key c.args.lms c.args.ots (g.R.Rng.stream c.args.random.now) in
+    let secret = drawn_key c.args.types.lms c.args.types.ots (g.R.Rng.stream c.args.random.now) in
     let old = parts_of g.D.Disk.state g.D.Counted.faults c.args.key.now c.args.used.now in
     let mid = parts_of g.D.Disk.state g.D.Counted.faults c.read_gated.new.disk c.args.used.now in
     let same : AreSame old mid = record { key_same = there.same; used_same = refl } in
     let later : AreLater old mid = record { key_later = there.later; used_later = le_refl _ } in
-    let drawn = c.draw-material.ensures.value in
+    let drawn = c.draw_seed-seed.ensures.value in
     let absent = λ (tells : IsTrue old.key.tells). sym (there.value tells) ∙ c.in-Absent.is in
     let spelled = c.deref.ensures.value ∙ c.in_ok-fresh.ensures.payload.spelled ∙ ap payload_of drawn in
     let long = unused_count c.deref-2.result.now (leaf_count secret.lms) (c.deref-2.ensures.value ∙ c.in_ok-fresh.ensures.unused ∙ ap (λ (s : SecretData). none_used (leaf_count s.lms)) drawn) in

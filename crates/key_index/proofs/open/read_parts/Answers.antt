@@ -9,13 +9,13 @@ use Rattle.key_index.specs.declared.opened.Opened.{Opened}
 use Rattle.key_index.proofs.OpenLaws.{same_error, same_size}
 use Rattle.key_index.proofs.open.read_parts.Goals as goal
 
-pub returns-in_err-material-clause-opens : goal.returns-in_err-material-clause-opens
-returns-in_err-material-clause-opens g c =
-    let failed = c.in_err-material.ensures in
-    let is = same_error _ c.in_err-material.field-0.0 c.from_residual.ensures.0 c.from_residual.ensures.1 in
+pub returns-in_err-seed-clause-opens : goal.returns-in_err-seed-clause-opens
+returns-in_err-seed-clause-opens g c =
+    let failed = c.in_err-seed.ensures in
+    let is = same_error _ c.in_err-seed.field-0.0 c.from_residual.ensures.0 c.from_residual.ensures.1 in
     let old = parts_of g.D.Disk.state g.D.Counted.faults c.args.key.now c.args.used.now in
-    let new = parts_of g.D.Disk.state g.D.Counted.faults c.read_material.new.key c.args.used.now in
-    subst (λ (r : Result Opened KeyFaultKind). MatchResult r (λ opened. OpensKey old (store_of g.D.Disk.state g.D.Counted.faults c.read_material.new.key c.args.used.now opened.secret opened.indices)) (λ why. RefusesToOpen old why new))
+    let new = parts_of g.D.Disk.state g.D.Counted.faults c.read_seed.new.key c.args.used.now in
+    subst (λ (r : Result Opened KeyFaultKind). MatchResult r (λ opened. OpensKey old (store_of g.D.Disk.state g.D.Counted.faults c.read_seed.new.key c.args.used.now opened.secret opened.indices)) (λ why. RefusesToOpen old why new))
     (sym is)
     record {
       same = record { key_same = failed.same; used_same = refl };
@@ -28,11 +28,11 @@ returns-in_err-material-clause-opens g c =
 
 pub returns-clause-opens : goal.returns-clause-opens
 returns-clause-opens g c =
-    let held = c.in_ok-material.ensures in
+    let held = c.in_ok-seed.ensures in
     let read = rw c.in-Some.is at c.in_ok-taken.ensures in
     let made = c.in_ok-make.ensures in
     let count : length c.in-Some.taken.items ≡ leaf_count c.in_ok-make.field-0.secret.lms =
-    sym c.in-Some.taken.ok.0 ∙ read.size ∙ c.leaf_count.ensures ∙ ap (λ (s : SecretData). leaf_count s.lms) (c.material.view_is ∙ sym made.secret) in
+    sym c.in-Some.taken.ok.0 ∙ read.size ∙ c.leaf_count.ensures ∙ ap (λ (s : SecretData). leaf_count s.lms) (c.seed.view_is ∙ sym made.secret) in
     record {
       same = record { key_same = held.same; used_same = read.same };
       later = record { key_later = held.later; used_later = read.later };

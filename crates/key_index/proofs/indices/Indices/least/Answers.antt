@@ -1,4 +1,4 @@
-use Rattle.std.proofs.Common.{ℕ, ◌≡◌, Some, arith, List, Bool, sym, ap, ◌∙◌, subst}
+use Rattle.std.proofs.Common.{◌≡◌, Some, arith, List, Bool, subst}
 use Rattle.key_index.specs.Used.{least_unused}
 use Rattle.key_index.proofs.IndexLaws.{is_least, least_at}
 use Rattle.key_index.proofs.indices.Indices.least.Goals as goal

@@ -2,7 +2,7 @@ use Rattle.std.proofs.Common.{sym, ◌∙◌, refl, arith, ap, length}
 use Rattle.std.proofs.lemmas.List.{length-take-le}
 use Rattle.bec_bytes.specs.Reading.{Reading}
 use Rattle.key_index.proofs.PayloadLaws.{read_payload}
-use Rattle.key_index.proofs.material.KeyMaterial.from_payload.Goals as goal
+use Rattle.key_index.proofs.seed.seed_of.Goals as goal
 
 pub copy_from_slice-requires-2 : goal.copy_from_slice-requires-2
 copy_from_slice-requires-2 c = sym (ap length c.in_ok-take_bytes-2.ensures.1 ∙ length-take-le 32 _ c.in_ok-take_bytes-2.ensures.0.fits)
