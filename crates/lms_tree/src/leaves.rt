@@ -55,7 +55,14 @@ impl<'a, R: Threads> ManyThreads<'a, R> {
 
 impl<'a, R: Threads> LeafGenerator for ManyThreads<'a, R> {
     fn all_leaves(&self, alloc: Global, seed: &KeySeed) -> Result<Vec<[u8; 32]>, AllocError> {
-        leaves_on(self.rt, alloc, self.thread_count(), seed, 0, seed.lms.leaf_count())
+        leaves_on(
+            self.rt,
+            alloc,
+            self.thread_count(),
+            seed,
+            0,
+            seed.lms.leaf_count(),
+        )
     }
 }
 
@@ -96,7 +103,12 @@ fn leaves_on<R: Threads>(
 }
 
 // So many leaves from one on, one after the other.
-fn leaves_here(alloc: Global, seed: &KeySeed, first: u32, count: u32) -> Result<Vec<[u8; 32]>, AllocError>
+fn leaves_here(
+    alloc: Global,
+    seed: &KeySeed,
+    first: u32,
+    count: u32,
+) -> Result<Vec<[u8; 32]>, AllocError>
     requires { first + count ≤ leaf_count seed.now.lms }
     ensures { IfOk result (λ values. AreLeaves seed.now first count values.items) }
 {

@@ -5,8 +5,8 @@ ghost use Rattle.std.specs.Vec.{vec_capacity};
 ghost use Rattle.update_model.specs.Rule.{RuleData};
 ghost use Rattle.record_check.specs.Records.{AreAnswers, IsAnswer, IsCheckedFront, answer_of, bytes_of};
 
-use std::alloc::{AllocError, Global};
 use lms_tree::{LeafGenerator, ManyThreads, OneThread};
+use std::alloc::{AllocError, Global};
 use std::thread::{Threads, join};
 use update_check::{CheckError, CheckFault, Checked, check, no_cause};
 use update_model::DbRule;
