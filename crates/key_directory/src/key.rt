@@ -15,7 +15,8 @@ use key_index::{KeyFault, KeyStore};
 use lms_tree::LeafGenerator;
 use std::alloc::Global;
 
-/// Takes the key of a directory from the shelf and opens it; the generator computes its leaves. Where it is refused, every part is in its place again, and nothing was written.
+/// Takes the key of a directory from the shelf and opens it; the generator computes its leaves. Where it is
+/// refused, every part is in its place again, and nothing was written.
 pub fn take_key<G: LeafGenerator, H: Shelf>(
     generator: &G,
     alloc: Global,

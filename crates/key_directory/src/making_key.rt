@@ -21,9 +21,10 @@ use lms_tree::{KeyTypes, LeafGenerator};
 use rand_core::Rng;
 use std::alloc::Global;
 
-/// Makes a key of these types in a directory, where the part Key is absent. The generator computes its leaves. Its identifier is the next 16 bytes of `random`, and its seed the 32
-/// bytes after them. Parts that are not there are made. Where it is refused, every part is in its place again; one that was asked for may then
-/// stand there with nothing in it.
+/// Makes a key of these types in a directory, where the part Key is absent. The generator computes its leaves.
+/// Its identifier is the next 16 bytes of `random`, and its seed the 32 bytes after them. Parts that are not
+/// there are made. Where it is refused, every part is in its place again; one that was asked for may then stand
+/// there with nothing in it.
 pub fn new_key<G: LeafGenerator, H: Shelf, R: Rng>(
     generator: &G,
     alloc: Global,
