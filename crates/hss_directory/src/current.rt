@@ -13,20 +13,21 @@ ghost use Rattle.hss_directory.specs.Values.{HasLeft, IsReadable, IsSound, IsSpe
 
 use crate::fault::HssFault;
 use crate::lower::Lower;
+use crate::maker::KeyMaker;
 use crate::making::next_lower;
 use crate::signing::signature_of;
 use bec_disk::{Disk, Shelf};
 use hss_chain::{parts_make_a_seal, seal_bytes};
 use key_directory::put_key;
 use key_index::KeyStore;
-use lms_tree::signed_has_length;
+use lms_tree::{LeafGenerator, signed_has_length};
 use rand_core::Rng;
 use std::alloc::Global;
 use update_model::AuthorKey;
 
 /// A lower key that has an index left: the current one, or where there is none or it is spent, the next one.
-pub(crate) fn ready_lower<H: Shelf, R: Rng>(
-    alloc: Global,
+pub(crate) fn ready_lower<G: LeafGenerator, H: Shelf, R: Rng>(
+    maker: &KeyMaker<G>,
     shelf: &mut H,
     dir: &str,
     top: &mut KeyStore<H::D>,
@@ -46,7 +47,7 @@ pub(crate) fn ready_lower<H: Shelf, R: Rng>(
 {
     match unspent(shelf, lower) {
         Some(kept) => Ok(kept),
-        None => next_lower(alloc, shelf, dir, top, random),
+        None => next_lower(maker, shelf, dir, top, random),
     }
 }
 

@@ -18,13 +18,13 @@ ghost use Rattle.hss_directory.specs.Values.{IsReadable, IsSound, IsSpent};
 use crate::current::{put_in, put_lower, ready_lower, seal_by};
 use crate::fault::HssFault;
 use crate::lower::{Lower, types_of};
+use crate::maker::KeyMaker;
 use crate::opening::current_lower;
 use bec_disk::{Disk, Shelf};
 use hss_chain::public_array;
 use key_directory::{new_key, put_key, take_key};
 use key_index::KeyStore;
-use lm_ots::OtsType;
-use lms_tree::LmsType;
+use lms_tree::{KeyTypes, LeafGenerator};
 use rand_core::Rng;
 use std::alloc::Global;
 use std::marker::Model;
@@ -47,19 +47,19 @@ impl<D: Disk> Model for Hss<D> {
 }
 
 /// Creates a key of two levels in a directory where the part Key is absent. Its types are the top key's and those of the lower keys that are made
-/// for it. Nothing is signed yet. Where it is refused, every part is in its place again.
-pub fn create_hss<H: Shelf, R: Rng>(
+/// for it. The generator computes its leaves. Nothing is signed yet. Where it is refused, every part is in its place again.
+pub fn create_hss<G: LeafGenerator, H: Shelf, R: Rng>(
+    generator: &G,
     alloc: Global,
     shelf: &mut H,
     dir: &str,
-    lms: LmsType,
-    ots: OtsType,
+    types: KeyTypes,
     random: &mut R,
 ) -> Result<Hss<H::D>, HssFault>
     requires { IsTrue (H.state shelf.old).tells → AreHome (H.state shelf.old) dir.now }
-    ensures creates { IfOk result (λ hss. CreatesHss (drawn_key lms ots (R.stream random.old)) (H.state shelf.old) dir.now hss (H.state shelf.new)) }
+    ensures creates { IfOk result (λ hss. CreatesHss (drawn_key types.lms types.ots (R.stream random.old)) (H.state shelf.old) dir.now hss (H.state shelf.new)) }
     ensures lets_go { IfErr result (λ _. (H.state shelf.new ≡ H.state shelf.old)
-        ⊎ LetsNewGo Key Used (payload_of (drawn_key lms ots (R.stream random.old))) (none_used (leaf_count lms)) (H.state shelf.old) dir.now (H.state shelf.new)) }
+        ⊎ LetsNewGo Key Used (payload_of (drawn_key types.lms types.ots (R.stream random.old))) (none_used (leaf_count types.lms)) (H.state shelf.old) dir.now (H.state shelf.new)) }
     ensures refused { IsErrOf result HssFault.KeyThere → IsTrue (H.state shelf.old).tells → IsNoKey (reading (part_in (H.state shelf.old) dir.now Key)) → ⊥ }
     ensures answers { IfErr result (λ why. (why ≡ HssFault.Disk) ⊎ ((why ≡ HssFault.KeyThere) ⊎ (why ≡ HssFault.Memory))) }
     ensures drawn { OnOk result (R.stream random.new ≡ after_draw (R.stream random.old)) }
@@ -69,7 +69,7 @@ pub fn create_hss<H: Shelf, R: Rng>(
     ensures failed { IsErrOf result HssFault.Disk → Rose (H.faults shelf.old) (H.faults shelf.new) }
 {
     let name = String::from_str(alloc, dir)?;
-    let top = new_key(alloc, shelf, dir, lms, ots, random)?;
+    let top = new_key(generator, alloc, shelf, dir, types, random)?;
     Ok(Hss {
         dir: name,
         top,
@@ -78,8 +78,13 @@ pub fn create_hss<H: Shelf, R: Rng>(
 }
 
 /// Opens the key of two levels of a directory, with its current lower key: that of the top index that was used last, where one was and the part
-/// Peers of that directory is not absent. It writes nothing. Where it is refused, every part is in its place again.
-pub fn open_hss<H: Shelf>(alloc: Global, shelf: &mut H, dir: &str) -> Result<Hss<H::D>, HssFault>
+/// Peers of that directory is not absent. The generator computes the leaves of both. It writes nothing. Where it is refused, every part is in its place again.
+pub fn open_hss<G: LeafGenerator, H: Shelf>(
+    generator: &G,
+    alloc: Global,
+    shelf: &mut H,
+    dir: &str,
+) -> Result<Hss<H::D>, HssFault>
     requires { IsTrue (H.state shelf.old).tells → AreHome (H.state shelf.old) dir.now }
     ensures opens { IfOk result (λ hss. OpensHss (H.state shelf.old) dir.now hss (H.state shelf.new)) }
     ensures lets_go { IfErr result (λ _. OnlyReads (H.state shelf.old) (H.state shelf.new)) }
@@ -89,8 +94,9 @@ pub fn open_hss<H: Shelf>(alloc: Global, shelf: &mut H, dir: &str) -> Result<Hss
     ensures failed { IsErrOf result HssFault.Disk → Rose (H.faults shelf.old) (H.faults shelf.new) }
 {
     let name = String::from_str(alloc, dir)?;
-    let top = take_key(alloc, shelf, dir)?;
-    match current_lower(alloc, shelf, dir, &top) {
+    let top = take_key(generator, alloc, shelf, dir)?;
+    let maker = KeyMaker { generator, alloc };
+    match current_lower(&maker, shelf, dir, &top) {
         Ok(lower) => Ok(Hss {
             dir: name,
             top,
@@ -115,14 +121,14 @@ impl<D: Disk> Hss<D> {
     pub fn top_count(&self) -> u32
         ensures { result ≡ leaf_count self.now.top.secret.lms }
     {
-        let (lms, _ots) = types_of(&self.top.public());
-        lms.leaf_count()
+        types_of(&self.top.public()).lms.leaf_count()
     }
 
     /// The seal of a message. The current lower key signs it by its least index that is not used; where there is none or it is spent, the next one
-    /// is made first, by the least top index that is not used. An index is on its disk before it signs.
-    pub fn sign<H: Shelf<D = D>, R: Rng>(
+    /// is made first, by the least top index that is not used, and the generator computes its leaves. An index is on its disk before it signs.
+    pub fn sign<G: LeafGenerator, H: Shelf<D = D>, R: Rng>(
         &mut self,
+        generator: &G,
         alloc: Global,
         shelf: &mut H,
         random: &mut R,
@@ -139,7 +145,8 @@ impl<D: Disk> Hss<D> {
         ensures failed { IsErrOf result HssFault.Disk → Rose (H.faults shelf.old) (H.faults shelf.new) ⊎ HeldRose self.old self.new }
     {
         let dir = self.dir.as_str();
-        let mut lower = ready_lower(alloc, shelf, dir, &mut self.top, self.lower.take(), random)?;
+        let maker = KeyMaker { generator, alloc };
+        let mut lower = ready_lower(&maker, shelf, dir, &mut self.top, self.lower.take(), random)?;
         let sealed = seal_by(alloc, &self.top.public(), &mut lower, random, msg);
         put_in(&mut self.lower, lower);
         sealed

@@ -5,8 +5,8 @@
 //! opens it, with its current lower key. [`Hss::sign`] makes seals, which `hss_chain::verify_hss` checks, and [`Hss::close`] puts all parts back.
 //!
 //! ```text
-//! let mut hss = open_hss(alloc, shelf, dir)?;
-//! let seal = hss.sign(alloc, shelf, random, msg);
+//! let mut hss = open_hss(&OneThread, alloc, shelf, dir)?;
+//! let seal = hss.sign(&OneThread, alloc, shelf, random, msg);
 //! hss.close(shelf);
 //! ```
 #![tactic(auto)]
@@ -16,6 +16,7 @@ mod fault;
 mod hss;
 mod laws;
 mod lower;
+mod maker;
 mod making;
 mod opening;
 mod peers;

@@ -11,7 +11,7 @@ ghost use Rattle.hss_directory.specs.Values.{low_dir};
 use bec_disk::Disk;
 use key_index::KeyStore;
 use lm_ots::OtsType;
-use lms_tree::LmsType;
+use lms_tree::{KeyTypes, LmsType};
 use std::alloc::{AllocError, Global};
 use std::marker::Model;
 use update_model::AuthorKey;
@@ -45,11 +45,11 @@ pub(crate) fn low_dir(alloc: Global, dir: &str, index: u32) -> Result<String, Al
 }
 
 /// The types of a key of known types.
-pub(crate) fn types_of(key: &AuthorKey) -> (LmsType, OtsType)
-    ensures lms { (lms : LmsType) → key.now.lms ≡ type_word lms → result.0 ≡ lms }
-    ensures ots { (ots : OtsType) → key.now.ots ≡ ots_kind.type_word ots → result.1 ≡ ots }
+pub(crate) fn types_of(key: &AuthorKey) -> KeyTypes
+    ensures lms { (lms : LmsType) → key.now.lms ≡ type_word lms → result.lms ≡ lms }
+    ensures ots { (ots : OtsType) → key.now.ots ≡ ots_kind.type_word ots → result.ots ≡ ots }
 {
     let lms = LmsType::from_type_word(key.lms).unwrap_or(LmsType::H10);
     let ots = OtsType::from_type_word(key.ots).unwrap_or(OtsType::W4);
-    (lms, ots)
+    KeyTypes { lms, ots }
 }

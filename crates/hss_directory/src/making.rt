@@ -12,6 +12,7 @@ ghost use Rattle.hss_directory.specs.Values.{HasLeft};
 
 use crate::fault::HssFault;
 use crate::lower::{Lower, low_dir, types_of};
+use crate::maker::KeyMaker;
 use crate::opening::key_has_length;
 use crate::peers::write_peers;
 use crate::signing::signature_of;
@@ -19,16 +20,15 @@ use bec_disk::Shelf;
 use hss_chain::push_key;
 use key_directory::{KeyRefusal, new_key, put_key, take_key};
 use key_index::{CreateKeyKind, KeyStore};
-use lm_ots::OtsType;
-use lms_tree::{LmsType, signed_has_length};
+use lms_tree::{KeyTypes, LeafGenerator, signed_has_length};
 use rand_core::Rng;
 use std::alloc::{AllocError, Global};
 use update_model::AuthorKey;
 
 /// Makes the lower key of the least top index that is not used: its key, which is taken where it is there, then the top key's signature of it, and
 /// then the part Peers. Where it is refused, no part of a lower key is handed out.
-pub(crate) fn next_lower<H: Shelf, R: Rng>(
-    alloc: Global,
+pub(crate) fn next_lower<G: LeafGenerator, H: Shelf, R: Rng>(
+    maker: &KeyMaker<G>,
     shelf: &mut H,
     dir: &str,
     top: &mut KeyStore<H::D>,
@@ -44,10 +44,10 @@ pub(crate) fn next_lower<H: Shelf, R: Rng>(
     let Some(index) = top.next() else {
         return Err(HssFault::Spent);
     };
-    let low = low_dir(alloc, dir, index)?;
-    let (lms, ots) = types_of(&top.public());
-    let key = open_lower(alloc, shelf, low.as_str(), lms, ots, random)?;
-    match vouch(alloc, shelf, low.as_str(), top, &key.public(), random) {
+    let low = low_dir(maker.alloc, dir, index)?;
+    let types = types_of(&top.public());
+    let key = open_lower(maker, shelf, low.as_str(), types, random)?;
+    match vouch(maker.alloc, shelf, low.as_str(), top, &key.public(), random) {
         Ok(top_sig) => Ok(Lower {
             dir: low,
             index,
@@ -62,23 +62,22 @@ pub(crate) fn next_lower<H: Shelf, R: Rng>(
 }
 
 /// Takes the key of a directory, or makes one of these types where there is none. It has an index left.
-fn open_lower<H: Shelf, R: Rng>(
-    alloc: Global,
+fn open_lower<G: LeafGenerator, H: Shelf, R: Rng>(
+    maker: &KeyMaker<G>,
     shelf: &mut H,
     dir: &str,
-    lms: LmsType,
-    ots: OtsType,
+    types: KeyTypes,
     random: &mut R,
 ) -> Result<KeyStore<H::D>, HssFault>
     requires key_in { IsTrue (H.state shelf.old).tells → part_in (H.state shelf.old) dir.now Key ≢ out }
     requires used_in { IsTrue (H.state shelf.old).tells → part_in (H.state shelf.old) dir.now Used ≢ out }
-    ensures takes { IfOk result (λ key. TakesLower lms ots (R.stream random.old) (H.state shelf.old) dir.now key (H.state shelf.new) (R.stream random.new)) }
+    ensures takes { IfOk result (λ key. TakesLower types.lms types.ots (R.stream random.old) (H.state shelf.old) dir.now key (H.state shelf.new) (R.stream random.new)) }
     ensures has_left { IfOk result (λ key. HasLeft key) }
-    ensures lets_go { IfErr result (λ why. OpensNoLower lms ots (R.stream random.old) (H.state shelf.old) dir.now why (H.state shelf.new) (R.stream random.new)) }
+    ensures lets_go { IfErr result (λ why. OpensNoLower types.lms types.ots (R.stream random.old) (H.state shelf.old) dir.now why (H.state shelf.new) (R.stream random.new)) }
     ensures later { H.faults shelf.old ≤ H.faults shelf.new }
     ensures failed { IsErrOf result HssFault.Disk → Rose (H.faults shelf.old) (H.faults shelf.new) }
 {
-    let key = take_or_make(alloc, shelf, dir, lms, ots, random)?;
+    let key = take_or_make(maker, shelf, dir, types, random)?;
     if key.next().is_some() {
         return Ok(key);
     }
@@ -87,24 +86,30 @@ fn open_lower<H: Shelf, R: Rng>(
 }
 
 /// Takes the key of a directory, or makes one of these types where there is none.
-fn take_or_make<H: Shelf, R: Rng>(
-    alloc: Global,
+fn take_or_make<G: LeafGenerator, H: Shelf, R: Rng>(
+    maker: &KeyMaker<G>,
     shelf: &mut H,
     dir: &str,
-    lms: LmsType,
-    ots: OtsType,
+    types: KeyTypes,
     random: &mut R,
 ) -> Result<KeyStore<H::D>, HssFault>
     requires key_in { IsTrue (H.state shelf.old).tells → part_in (H.state shelf.old) dir.now Key ≢ out }
     requires used_in { IsTrue (H.state shelf.old).tells → part_in (H.state shelf.old) dir.now Used ≢ out }
-    ensures takes { IfOk result (λ key. TakesLower lms ots (R.stream random.old) (H.state shelf.old) dir.now key (H.state shelf.new) (R.stream random.new)) }
-    ensures lets_go { IfErr result (λ why. LetsLowerGo lms ots (R.stream random.old) (H.state shelf.old) dir.now why (H.state shelf.new) (R.stream random.new)) }
+    ensures takes { IfOk result (λ key. TakesLower types.lms types.ots (R.stream random.old) (H.state shelf.old) dir.now key (H.state shelf.new) (R.stream random.new)) }
+    ensures lets_go { IfErr result (λ why. LetsLowerGo types.lms types.ots (R.stream random.old) (H.state shelf.old) dir.now why (H.state shelf.new) (R.stream random.new)) }
     ensures later { H.faults shelf.old ≤ H.faults shelf.new }
     ensures failed { IsErrOf result HssFault.Disk → Rose (H.faults shelf.old) (H.faults shelf.new) }
 {
-    match take_key(alloc, shelf, dir) {
+    match take_key(maker.generator, maker.alloc, shelf, dir) {
         Ok(key) => Ok(key),
-        Err(KeyRefusal::NoKey) => match new_key(alloc, shelf, dir, lms, ots, random) {
+        Err(KeyRefusal::NoKey) => match new_key(
+            maker.generator,
+            maker.alloc,
+            shelf,
+            dir,
+            types,
+            random,
+        ) {
             Ok(key) => Ok(key),
             Err(CreateKeyKind::KeyThere) => Err(HssFault::BadKey),
             Err(CreateKeyKind::DiskFault) => Err(HssFault::Disk),

@@ -14,20 +14,21 @@ ghost use Rattle.hss_directory.specs.Places.{AreLowersIn, OnlyReads};
 
 use crate::fault::HssFault;
 use crate::lower::{Lower, low_dir};
+use crate::maker::KeyMaker;
 use crate::peers::read_peers;
 use bec_disk::{Gated, Shelf};
 use byteorder::{BigEndian, ByteOrder};
 use hss_chain::public_array;
 use key_directory::{KeyRefusal, put_key, take_key};
 use key_index::KeyStore;
-use lms_tree::{signed_has_length, verify};
+use lms_tree::{LeafGenerator, signed_has_length, verify};
 use std::alloc::Global;
 use update_model::AuthorKey;
 
 /// The current lower key of this top key, by the part Peers of its directory. Where it is refused, every part is in its place, and nothing was
 /// written.
-pub(crate) fn current_lower<H: Shelf>(
-    alloc: Global,
+pub(crate) fn current_lower<G: LeafGenerator, H: Shelf>(
+    maker: &KeyMaker<G>,
     shelf: &mut H,
     dir: &str,
     top: &KeyStore<H::D>,
@@ -42,12 +43,12 @@ pub(crate) fn current_lower<H: Shelf>(
     let Some(index) = top.last() else {
         return Ok(None);
     };
-    let low = low_dir(alloc, dir, index)?;
-    match read_peers(alloc, shelf, low.as_str())? {
+    let low = low_dir(maker.alloc, dir, index)?;
+    match read_peers(maker.alloc, shelf, low.as_str())? {
         Gated::Absent => Ok(None),
         Gated::Damaged => Err(HssFault::BadKey),
         Gated::Whole(payload) => {
-            match vouched_lower(alloc, shelf, low, &top.public(), index, payload.as_slice()) {
+            match vouched_lower(maker, shelf, low, &top.public(), index, payload.as_slice()) {
                 Ok(lower) => Ok(Some(lower)),
                 Err(why) => Err(why),
             }
@@ -56,8 +57,8 @@ pub(crate) fn current_lower<H: Shelf>(
 }
 
 /// Takes the lower key of a directory, where this payload vouches for it.
-fn vouched_lower<H: Shelf>(
-    alloc: Global,
+fn vouched_lower<G: LeafGenerator, H: Shelf>(
+    maker: &KeyMaker<G>,
     shelf: &mut H,
     dir: String,
     top: &AuthorKey,
@@ -76,11 +77,11 @@ fn vouched_lower<H: Shelf>(
     ensures later { H.faults shelf.old ≤ H.faults shelf.new }
     ensures failed { IsErrOf result HssFault.Disk → Rose (H.faults shelf.old) (H.faults shelf.new) }
 {
-    let key = match take_key(alloc, shelf, dir.as_str()) {
+    let key = match take_key(maker.generator, maker.alloc, shelf, dir.as_str()) {
         Ok(key) => key,
         Err(why) => return Err(lower_fault(why)),
     };
-    match vouching_in(alloc, top, &key.public(), index, payload) {
+    match vouching_in(maker.alloc, top, &key.public(), index, payload) {
         Ok(top_sig) => Ok(Lower {
             dir,
             index,

@@ -18,8 +18,8 @@ put_key-requires-clause-key_of g c tells =
     let takes = c.in_ok-key.ensures.takes in
     let random = g.R.Rng.stream c.args.random.now in
     let left = g.R.Rng.stream c.take_or_make.new.random in
-    let t = told after.tells before.tells (sym (lower_tells c.args.lms c.args.ots random left before after c.args.dir.now c.in_ok-key.key takes)) tells in
-    let h = holds_lower c.args.lms c.args.ots random left before after c.args.dir.now c.in_ok-key.key takes t in (h.key_slot, h.key_out)
+    let t = told after.tells before.tells (sym (lower_tells c.args.types.lms c.args.types.ots random left before after c.args.dir.now c.in_ok-key.key takes)) tells in
+    let h = holds_lower c.args.types.lms c.args.types.ots random left before after c.args.dir.now c.in_ok-key.key takes t in (h.key_slot, h.key_out)
 
 pub put_key-requires-clause-used_of : goal.put_key-requires-clause-used_of
 put_key-requires-clause-used_of g c tells =
@@ -28,8 +28,8 @@ put_key-requires-clause-used_of g c tells =
     let takes = c.in_ok-key.ensures.takes in
     let random = g.R.Rng.stream c.args.random.now in
     let left = g.R.Rng.stream c.take_or_make.new.random in
-    let t = told after.tells before.tells (sym (lower_tells c.args.lms c.args.ots random left before after c.args.dir.now c.in_ok-key.key takes)) tells in
-    let h = holds_lower c.args.lms c.args.ots random left before after c.args.dir.now c.in_ok-key.key takes t in (h.used_slot, h.used_out)
+    let t = told after.tells before.tells (sym (lower_tells c.args.types.lms c.args.types.ots random left before after c.args.dir.now c.in_ok-key.key takes)) tells in
+    let h = holds_lower c.args.types.lms c.args.types.ots random left before after c.args.dir.now c.in_ok-key.key takes t in (h.used_slot, h.used_out)
 
 pub returns-clause-lets_go : goal.returns-clause-lets_go
 returns-clause-lets_go g c =
