@@ -1,6 +1,7 @@
 -- A turn, from its pass to the next.
 use Rattle.std.proofs.Common.{◌≡◌, ◌≢◌, ℕ, ◌+◌, ◌<◌, Bool, false, List, [], ◌++◌, Some, length, drop, ap, sym, ◌∙◌, subst, arith, append-nil}
 use Rattle.std.specs.Prelude.{All}
+use Rattle.std.proofs.lemmas.List.Elements.{All-weaker}
 use mathlib.Core.List.{IsPrefix}
 use Rattle.shared_replica.specs.declared.entry.Entry.{Entry}
 use Rattle.shared_replica.specs.Acts.{Grows, IsAct}
@@ -42,5 +43,8 @@ module _ (turn : Turning Entry) (old new : Story) (seat act : ℕ) (fault : Bool
     stands = subst (λ (l : List Entry). IsStoreOf l new.store) (sym (ap (λ k. k.seen) given)) grows.after;
   }
 
-pub below : (seen taken list : List Entry) (position : ℕ) → IsPrefix seen taken → list ≡ taken → position < length (updates_of seen) → position < length (updates_of list)
+below : (seen taken list : List Entry) (position : ℕ) → IsPrefix seen taken → list ≡ taken → position < length (updates_of seen) → position < length (updates_of list)
 below seen taken list position begins is less = let n : length (updates_of list) ≡ length (updates_of taken) = ap (λ l. length (updates_of l)) is in omega (arith, updates_begin seen taken begins)
+
+pub all_below : (seen taken list : List Entry) (positions : List ℕ) → IsPrefix seen taken → list ≡ taken → All (λ p. p < length (updates_of seen)) positions → All (λ p. p < length (updates_of list)) positions
+all_below seen taken list positions begins is less = All-weaker (λ p. p < length (updates_of seen)) (λ p. p < length (updates_of list)) (λ p low. below seen taken list p begins is low) positions less

@@ -1,3 +1,4 @@
 pub mod Acts
 pub mod Entries
+pub mod Pieces
 pub mod Sessions

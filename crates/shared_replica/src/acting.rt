@@ -10,6 +10,7 @@ ghost use Rattle.replica.specs.declared.make_fault.MakeFault.TheVariants.{DiskFa
 ghost use Rattle.replica.specs.Signing.{KeyAfter};
 ghost use Rattle.shared_replica.specs.Acts.{Grows, met_fault};
 ghost use Rattle.shared_replica.specs.Entries.{IsStoreOf, updates_of};
+ghost use Rattle.shared_replica.specs.Pieces.{IsPieceOf, is_full as makes_piece};
 ghost use Rattle.shared_replica.specs.Sessions.{BelongsIn, IsUnder, met_store};
 ghost use Rattle.session_rules.specs.declared.limits.TheConstants.{MAX_NEEDS};
 ghost use Rattle.sync_session.specs.Kept.{updates_in, BelongsTo, GrowsBy, StepsTo};
@@ -27,6 +28,7 @@ ghost use Rattle.update_model.specs.Graph.{AreHeads};
 ghost use Rattle.update_model.specs.Rows.{AreOps};
 
 use crate::entry::Run;
+use crate::limits::{PIECE_BYTES, PIECE_UPDATES};
 use crate::stored::{Picture, Stored};
 use bec_disk::Disk;
 use key_index::KeyStore;
@@ -95,12 +97,31 @@ impl<D: Disk> Stored<D> {
         self.replica.len()
     }
 
+    /// The bytes of the updates at the first of these positions, counted over the updates of the list: of so many as make up a piece.
+    pub fn fetch_some(&self, alloc: Global, positions: &[u32]) -> Result<Vec<ByteList>, AllocError>
+        requires { All (λ p. p < length (updates_of self.now.entries)) positions.now }
+        ensures piece { IfOk result (λ piece. IsPieceOf (updates_of self.now.entries) positions.now piece.items) }
+        ensures list { IsStoreOf self.now.entries self.now.store }
+    {
+        self.len(); // the replica is as the list says
+        let mut piece = Vec::new(alloc);
+        let mut size = 0;
+        'positions: for position in positions {
+            let update = self.fetch(alloc, *position)?;
+            size += update.as_slice().len();
+            piece.push(update)?;
+            if is_full(piece.len(), size) {
+                return Ok(piece);
+            }
+        }
+        Ok(piece)
+    }
+
     /// The bytes of the update at a position, counted over the updates of the list.
-    pub fn fetch(&self, alloc: Global, position: u32) -> Result<ByteList, AllocError>
+    fn fetch(&self, alloc: Global, position: u32) -> Result<ByteList, AllocError>
         requires { position < length (updates_of self.now.entries) }
         ensures bytes { IfOk result (λ bytes. slice_get (updates_of self.now.entries) position ≡ Some bytes) }
         ensures short { IfOk result (λ bytes. length bytes ≤ UPDATE_LIMIT) }
-        ensures list { IsStoreOf self.now.entries self.now.store }
     {
         let copy = self.replica.update_at(position).copy(alloc)?;
         Ok(ByteList::from_vec(copy.into_bytes()))
@@ -179,6 +200,13 @@ impl<D: Disk> Stored<D> {
         }
         answer
     }
+}
+
+/// Whether so many updates, of so many bytes, make up a piece.
+fn is_full(count: usize, size: usize) -> bool
+    ensures { result ≡ makes_piece count size }
+{
+    count >= PIECE_UPDATES || size >= PIECE_BYTES
 }
 
 /// Whether the log's disk failed in a step of a session.

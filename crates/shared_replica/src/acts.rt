@@ -1,5 +1,5 @@
 //! The acts of a shared replica.
-ghost use Rattle.std.specs.Prelude.{◌≡◌, ◌<◌, ◌≤◌, ℕ, All, List, Some, false, true, Err, IsTrue, IfOk, IfErr, OnErr, length, map, slice_get};
+ghost use Rattle.std.specs.Prelude.{◌≡◌, ◌<◌, ◌≤◌, ℕ, All, List, false, true, Err, IsTrue, IfOk, IfErr, OnErr, length, map};
 ghost use Rattle.std.specs.List.Sorted.{IsStrictlySortedBy};
 ghost use Rattle.history.specs.Histories.{nodes_of};
 ghost use Rattle.bec_bytes.specs.Causes.{Rose};
@@ -13,6 +13,7 @@ ghost use Rattle.replica.specs.Signing.{KeyAfter};
 ghost use Rattle.shared_replica.specs.declared.entry.Entry.{Entry};
 ghost use Rattle.shared_replica.specs.Acts.{IsAct, met_fault};
 ghost use Rattle.shared_replica.specs.Entries.{updates_of};
+ghost use Rattle.shared_replica.specs.Pieces.{IsPieceOf};
 ghost use Rattle.shared_replica.specs.Sessions.{BelongsIn, IsUnder, met_store};
 ghost use Rattle.session_rules.specs.declared.limits.TheConstants.{MAX_NEEDS};
 ghost use Rattle.sync_session.specs.Kept.{updates_in, BelongsTo, GrowsBy, StepsTo};
@@ -21,7 +22,6 @@ ghost use Rattle.row_check.specs.Checksum.{is_luhn};
 ghost use Rattle.table_model.specs.Visible.{rules_with};
 ghost use Rattle.tuple_state.specs.State.{IsStateOf};
 ghost use Rattle.update_codec.specs.Parts.{entry_of};
-ghost use Rattle.update_codec.specs.declared.limits.TheConstants.{UPDATE_LIMIT};
 ghost use Rattle.update_model.specs.declared.limits.TheConstants.{MAX_OPS};
 ghost use Rattle.update_model.specs.Batch.{store_limits};
 ghost use Rattle.update_model.specs.Entry.{id_cmp};
@@ -88,22 +88,23 @@ impl<D: Disk> Shared<D> {
         }
     }
 
-    /// The bytes of the update at a position below the number of updates that the pass has seen, at most 262,144. The error is want of memory.
-    pub fn fetch<R: Wait>(
+    /// The bytes of the updates at the first of these positions, in order, in one turn: at least of one where there is one, and no more than a piece has.
+    /// A piece ends with [`PIECE_UPDATES`](crate::PIECE_UPDATES) updates, or once it has [`PIECE_BYTES`](crate::PIECE_BYTES) bytes, so it has fewer than
+    /// 524,288. Each position is below the number of updates that the pass has seen. The error is want of memory.
+    pub fn fetch_some<R: Wait>(
         &self,
         rt: &R,
         alloc: Global,
         pass: Pass<D>,
-        position: u32,
-    ) -> Acted<D, Result<ByteList, AllocError>>
+        positions: &[u32],
+    ) -> Acted<D, Result<Vec<ByteList>, AllocError>>
         requires lock { pass.lock ≡ self.now.lock }
-        requires seen { position < length (updates_of pass.seen) }
+        requires seen { All (λ p. p < length (updates_of pass.seen)) positions.now }
         ensures { (P : List Entry) × (store : ReplicaState) × IsAct pass result.pass P store store false
-            × IfOk result.answer (λ bytes. slice_get (updates_of P) position ≡ Some bytes)
-            × IfOk result.answer (λ bytes. length bytes ≤ UPDATE_LIMIT) }
+            × IfOk result.answer (λ piece. IsPieceOf (updates_of P) positions.now piece.items) }
     {
         let (held, stored) = self.lock.take(rt, pass);
-        let answer = stored.fetch(alloc, position);
+        let answer = stored.fetch_some(alloc, positions);
         Acted {
             pass: self.lock.give(held, stored),
             answer,

@@ -8,7 +8,7 @@
 //! let (shared, first) = Shared::new(alloc, replica)?;
 //! let (first, second) = shared.split(first)?; // for another thread
 //! let acted = shared.make(rt, alloc, first, ops, &mut key, &c);
-//! let acted = shared.fetch(rt, alloc, acted.pass, 0);
+//! let acted = shared.fetch_some(rt, alloc, acted.pass, &[0]);
 //! let acted = shared.session_start(rt, alloc, acted.pass, Role::Responder, recalled);
 //! let acted = shared.session_step(rt, alloc, acted.pass, &mut session, frame);
 //! let pass = shared.meet(acted.pass, second)?;
@@ -20,10 +20,12 @@ mod acting;
 mod acts;
 mod entry;
 mod laws;
+mod limits;
 mod shared;
 mod stored;
 
 pub use entry::{Entry, Opening, Run};
 pub use laws::{acts_see_more, frames_stay, rules_stay, sessions_go_on, stores_stay};
+pub use limits::{PIECE_BYTES, PIECE_UPDATES};
 pub use shared::{Acted, Pass, Shared};
 pub use stored::{Picture, Stored};

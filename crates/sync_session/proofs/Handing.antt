@@ -10,8 +10,8 @@ use Rattle.session_rules.specs.declared.end.End.TheVariants.{Done, Peer, Full, S
 use Rattle.session_rules.specs.State.{HelloData, TurnData, FrameData, Item, Turn, SessionData, OutData}
 use Rattle.session_rules.specs.Steps.{closing, silent, Steps}
 use Rattle.session_rules.proofs.Words.{and_both}
-use Rattle.sync_session.specs.Carrying.{EndsBy, Hands, HandsOn, then_a, then_b, HasGot, on, over, Hears, IsCarried, to_turn, to_end, IsHanded, IsOnItsWay, facing}
-use Rattle.sync_session.proofs.Quiet.{goes, has_all, gives_up, Quiet, heard, stops, Same, answers_turn, quiet_hello, quiet_update}
+use Rattle.sync_session.specs.Carrying.{EndsBy, Hands, HandsOn, then_a, then_b, HasGot, on, over, Hears, IsCarried, to_turn, to_end, IsGoing, IsHanded, IsOnItsWay, facing}
+use Rattle.sync_session.proofs.Quiet.{goes, has_all, gives_up, Quiet, heard, stops, Same, answers_turn, quiet_hello, quiet_update, silent_runs}
 
 -- ---- frames that are heard
 
@@ -51,6 +51,19 @@ hears_sent limits rule s list (Some hello) es t (inr role) running h =
     let one = silent_same s h.1 list list (quiet_hello limits s h.1 list hello silent list role running step) in
     same_trans s h.1 t one (hears_updates limits rule h.1 list es t one.ended h.4)
 
+-- an end that answers nothing runs on
+hears_on : (limits : Limits) (rule : RuleData) (s : SessionData) (list : List Entry) (frames : List FrameData) (t : SessionData) → s.ended ≡ None → Hears limits rule s list frames t → t.ended ≡ None
+hears_on limits rule s list [] t running is = ap (λ (x : SessionData). x.ended) is ∙ running
+hears_on limits rule s list (frame ∷ frames) t running h = hears_on limits rule h.1 list frames t (silent_runs limits s h.1 list list running h.0 h.3) h.4
+
+-- an end whose turn is on its way runs, or is done
+sender_goes : (to from : SessionData) (sent : OutData) → IsOnItsWay to from sent → IsGoing from
+sender_goes to from sent w = by_have (from.sent_have && from.got_have) w.ended
+  where
+    by_have : (b : Bool) → from.ended ≡ (if b then Some Done else None) → IsGoing from
+    by_have true e = inr e
+    by_have false e = inl e
+
 -- ---- as a run
 
 -- What comes of carrying what the other end, `x`, handed out: the next turn is on its way back, or the session has ended.
@@ -61,11 +74,14 @@ pub data Comes (R : PairData → Type 0) (s : SessionData) (turn : TurnData) (x 
   closes : (q : PairData) (ending : End) → answer ≡ closing ending → next.ended ≡ Some ending → (ending ≡ Done → (s.sent_have && turn.have) ≡ true) → R q → q.a ≡ next → q.list_a ≡ after → q.b ≡ x → q.list_b ≡ list_x
       → Comes R s turn x list_x next answer after
 
-module _ (limits : Limits) (rule : RuleData) (R : PairData → Type 0) (extend : (q r : PairData) → R q → Hands limits rule q r → R r) (x : SessionData) (list_x : List Entry) where
-  handed : (s : SessionData) (before : List Entry) (frame : FrameData) (rest : List FrameData) (next : SessionData) (out : OutData) (after : List Entry) → IsHanded limits rule s before (Some frame) next out after
+module _ (limits : Limits) (rule : RuleData) (R : PairData → Type 0) (extend : (q r : PairData) → R q → Hands limits rule q r → R r) (x : SessionData) (list_x : List Entry) (going : IsGoing x) where
+  handed : (s : SessionData) (before : List Entry) (frame : FrameData) (rest : List FrameData) (next : SessionData) (out : OutData) (after : List Entry) → s.ended ≡ None → IsHanded limits rule s before (Some frame) next out after
       → R (facing s before x list_x (frame ∷ rest)) → R (record { a = next; list_a = after; b = x; list_b = list_x; to_a = rest; to_b = frames_of out })
-  handed s before frame rest next out after h run =
+  handed s before frame rest next out after running h run =
       extend (facing s before x list_x (frame ∷ rest)) (record { a = next; list_a = after; b = x; list_b = list_x; to_a = rest; to_b = frames_of out }) run (record {
+        running = running;
+        other = going;
+        alone = refl;
         frame = frame;
         rest = rest;
         arrived = h.0;
@@ -78,14 +94,15 @@ module _ (limits : Limits) (rule : RuleData) (R : PairData → Type 0) (extend :
         is = refl;
       })
 
-  hears_run : (s : SessionData) (list : List Entry) (frames rest : List FrameData) (t : SessionData) → Hears limits rule s list frames t → R (facing s list x list_x (frames ++ rest)) → R (facing t list x list_x rest)
-  hears_run s list [] rest t is run = subst (λ (y : SessionData). R (facing y list x list_x rest)) (sym is) run
-  hears_run s list (frame ∷ frames) rest t h run = hears_run h.1 list frames rest t h.4 (handed s list frame (frames ++ rest) h.1 silent list (h.0, h.2, h.3) run)
+  hears_run : (s : SessionData) (list : List Entry) (frames rest : List FrameData) (t : SessionData) → s.ended ≡ None → Hears limits rule s list frames t → R (facing s list x list_x (frames ++ rest)) → R (facing t list x list_x rest)
+  hears_run s list [] rest t running is run = subst (λ (y : SessionData). R (facing y list x list_x rest)) (sym is) run
+  hears_run s list (frame ∷ frames) rest t running h run =
+      hears_run h.1 list frames rest t (silent_runs limits s h.1 list list running h.0 h.3) h.4 (handed s list frame (frames ++ rest) h.1 silent list running (h.0, h.2, h.3) run)
 
   at_turn : (s t next : SessionData) (before : List Entry) (turn : TurnData) (answer : OutData) (after : List Entry) → Same s t → IsHanded limits rule t before (Some (Turn turn)) next answer after
       → R (facing t before x list_x (Turn turn ∷ [])) → Comes R s turn x list_x next answer after
   at_turn s t next before turn answer after same h run =
-      let led = handed t before (Turn turn) [] next answer after h run in
+      let led = handed t before (Turn turn) [] next answer after same.ended h run in
       elim (answers_turn limits t next before turn answer after same.ended (subst (λ (f : FrameData). Steps limits t before f next answer after) h.1 h.2)) [
         | goes own hello sent role sent_have got_have ended end unmet turns ↦
             let low = same.turns in
@@ -99,13 +116,13 @@ module _ (limits : Limits) (rule : RuleData) (R : PairData → Type 0) (extend :
   comes s next before sent turn answer after either running is (to_turn t h last) run =
       at_turn s t next before turn answer after (hears_sent limits rule s before sent.hello sent.send t either running h)
       (subst (λ (o : Option FrameData). IsHanded limits rule t before o next answer after) (ap (option_map Turn) is) last)
-      (hears_run s before (hello_frames sent.hello ++ map Item sent.send) (Turn turn ∷ []) t h (subst (λ (fs : List FrameData). R (facing s before x list_x fs)) split run))
+      (hears_run s before (hello_frames sent.hello ++ map Item sent.send) (Turn turn ∷ []) t running h (subst (λ (fs : List FrameData). R (facing s before x list_x fs)) split run))
     where
       split : frames_of sent ≡ (hello_frames sent.hello ++ map Item sent.send) ++ Turn turn ∷ []
       split = ap (λ (o : Option TurnData). hello_frames sent.hello ++ (map Item sent.send ++ turn_frames o)) is ∙ sym (append_assoc (hello_frames sent.hello) (map Item sent.send) (Turn turn ∷ []))
   comes s next before sent turn answer after either running is (to_end first rest frame t ending split h last e) run =
       closes _ ending e.says e.ended (λ done. absurd (e.undone done))
-      (handed t before frame rest next answer after last (hears_run s before first (frame ∷ rest) t h (subst (λ (fs : List FrameData). R (facing s before x list_x fs)) split run))) refl refl refl refl
+      (handed t before frame rest next answer after (hears_on limits rule s before first t running h) last (hears_run s before first (frame ∷ rest) t running h (subst (λ (fs : List FrameData). R (facing s before x list_x fs)) split run))) refl refl refl refl
 
 -- ---- from one end to the other
 
@@ -167,7 +184,7 @@ module _ (limits_a limits_b : Limits) (rule_a rule_b : RuleData) (first : PairDa
 
   module _ (a b a_next : SessionData) (list_a list_b after_a : List Entry) (out answer : OutData) (w : IsOnItsWay a b out) (carried : IsCarried limits_a rule_a a list_a out a_next answer after_a) where
     comes_a : Run (facing a list_a b list_b (frames_of out)) → Comes Run a w.turn b list_b a_next answer after_a
-    comes_a run = comes limits_a rule_a Run (λ q r before k. then_a q r before k) b list_b a a_next list_a out w.turn answer after_a w.hello w.running w.is_turn carried run
+    comes_a run = comes limits_a rule_a Run (λ q r before k. then_a q r before k) b list_b (sender_goes a b out w) a a_next list_a out w.turn answer after_a w.hello w.running w.is_turn carried run
 
     by_end : answer.turn ≡ None → Comes Run a w.turn b list_b a_next answer after_a → HasGot limits_a limits_b rule_a rule_b first a_next after_a b list_b answer
     by_end none (answers t same own hello sends role sent_have got_have ended unmet turns run) = absurd cc
@@ -191,7 +208,7 @@ module _ (limits_a limits_b : Limits) (rule_a rule_b : RuleData) (first : PairDa
       by_answer some (closes q ending says ended both run is_a is_list_a is_b is_list_b) = absurd (some (ap (λ (o : OutData). o.turn) says))
       by_answer some (answers t same own hello sends role sent_have got_have ended unmet turns run) =
           let v = turned_round a a_next b a out answer w.turn own w w.is_turn hello sends sent_have got_have ended unmet in
-          come_round v (comes limits_b rule_b RunBack (λ q r before k. then_b (swapped q) (swapped r) before k) a_next after_a b b_next list_b answer v.turn next after_b v.hello v.running v.is_turn back run)
+          come_round v (comes limits_b rule_b RunBack (λ q r before k. then_b (swapped q) (swapped r) before k) a_next after_a (sender_goes b a_next answer v) b b_next list_b answer v.turn next after_b v.hello v.running v.is_turn back run)
 
       -- the second end has answered
       pub round_goes : HasGot limits_a limits_b rule_a rule_b first a list_a b list_b out → answer.turn ≢ None → HasGot limits_a limits_b rule_a rule_b first a_next after_a b_next after_b next
@@ -206,7 +223,7 @@ Any p = Unit {0}
 pub way_back : (limits : Limits) (rule : RuleData) (a b a_next : SessionData) (list_a list_b after_a : List Entry) (out answer : OutData) (w : IsOnItsWay a b out) → IsCarried limits rule a list_a out a_next answer after_a
     → answer.turn ≢ None → IsOnItsWay b a_next answer
 way_back limits rule a b a_next list_a list_b after_a out answer w carried some =
-    by_answer (comes limits rule Any (λ q r before k. tt) b list_b a a_next list_a out w.turn answer after_a w.hello w.running w.is_turn carried tt)
+    by_answer (comes limits rule Any (λ q r before k. tt) b list_b (sender_goes a b out w) a a_next list_a out w.turn answer after_a w.hello w.running w.is_turn carried tt)
   where
     by_answer : Comes Any a w.turn b list_b a_next answer after_a → IsOnItsWay b a_next answer
     by_answer (closes q ending says ended both run is_a is_list_a is_b is_list_b) = absurd (some (ap (λ (o : OutData). o.turn) says))
@@ -216,7 +233,7 @@ way_back limits rule a b a_next list_a list_b after_a out answer w carried some 
 pub more_turns : (limits : Limits) (rule : RuleData) (a b a_next : SessionData) (list_a list_b after_a : List Entry) (out answer : OutData) (w : IsOnItsWay a b out) → IsCarried limits rule a list_a out a_next answer after_a
     → answer.turn ≢ None → a.turns < a_next.turns
 more_turns limits rule a b a_next list_a list_b after_a out answer w carried some =
-    by_answer (comes limits rule Any (λ q r before k. tt) b list_b a a_next list_a out w.turn answer after_a w.hello w.running w.is_turn carried tt)
+    by_answer (comes limits rule Any (λ q r before k. tt) b list_b (sender_goes a b out w) a a_next list_a out w.turn answer after_a w.hello w.running w.is_turn carried tt)
   where
     by_answer : Comes Any a w.turn b list_b a_next answer after_a → a.turns < a_next.turns
     by_answer (closes q ending says ended both run is_a is_list_a is_b is_list_b) = absurd (some (ap (λ (o : OutData). o.turn) says))

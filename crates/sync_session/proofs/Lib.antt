@@ -16,11 +16,16 @@ pub mod Anywhere
 pub mod Starting
 pub mod Growing
 pub mod Quiet
+pub mod Stopping
+pub mod Tidy
+pub mod Orders
 pub mod Handing
 pub mod Within
 pub mod Gains
 pub mod Keeping
 pub mod Uniting
+pub mod Repeats
+pub mod Rerunning
 pub mod Rounds
 pub mod Syncing
 pub mod Carried

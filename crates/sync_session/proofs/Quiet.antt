@@ -111,6 +111,48 @@ module _ (limits : Limits) (t next : SessionData) (before : List Entry) (turn : 
   pub answers_turn : t.ended ≡ None → Steps limits t before (Turn turn) next out after → Answers t next turn out
   answers_turn running step = by_turn_fault (turn_fault t turn) (takes_from limits t before (Turn turn) next out after running step)
 
+-- ---- an end that answers nothing runs on
+
+no_closing : (P : Type 0) (ending : End) → silent ≡ closing ending → P
+no_closing P ending is = absurd (let never = ap (λ (o : OutData). o.end) is in cc)
+
+module _ (limits : Limits) (s next : SessionData) (before after : List Entry) (running : s.ended ≡ None) where
+  unless_runs : (G : Type 0) (fault : Option PeerFault) → (G → next.ended ≡ None) → Unless fault s before next silent after G → next.ended ≡ None
+  unless_runs G None f u = f u
+  unless_runs G (Some fault) f u = no_closing (next.ended ≡ None) (Peer fault) u.1
+
+  greets_runs : (role : Role) (hello : HelloData) → Greets role s before hello next silent after → next.ended ≡ None
+  greets_runs Initiator hello g = ap (λ (x : SessionData). x.ended) g.0 ∙ running
+  greets_runs Responder hello g = absurd (let never = ap (λ (o : OutData). o.hello) g.4.1 in cc)
+
+  gathers_runs : (fits : Bool) (e : Entry) → Gathers fits s before e next silent after → next.ended ≡ None
+  gathers_runs true e g = ap (λ (x : SessionData). x.ended) g.0 ∙ running
+  gathers_runs false e g = no_closing (next.ended ≡ None) Full g.1
+
+  replies_runs : (both first : Bool) (old : SessionData) (turn own : TurnData) → Replies both first old turn own next silent → next.ended ≡ None
+  replies_runs true first old turn own r = no_closing (next.ended ≡ None) Done r.1
+  replies_runs false first old turn own r = absurd (let never = ap (λ (o : OutData). o.turn) r.6 in cc)
+
+  judges_runs : (fault : Option PeerFault) (now : SessionData) (turn own : TurnData) → Judges fault s now turn own next silent → next.ended ≡ None
+  judges_runs None now turn own j = replies_runs (s.sent_have && turn.have) (is_first s.role s.reading) now turn own j
+  judges_runs (Some fault) now turn own j = no_closing (next.ended ≡ None) (Peer fault) j.1
+
+  concludes_runs : (answer : Committed) (turn : TurnData) → Concludes answer s turn after next silent → next.ended ≡ None
+  concludes_runs (Added added waits) turn c = judges_runs (late_fault s turn c.0) (committed s turn added waits) turn c.0 c.2
+  concludes_runs TooMuch turn c = no_closing (next.ended ≡ None) Full c.1
+  concludes_runs DiskFault turn c = no_closing (next.ended ≡ None) Store c.1
+
+  takes_runs : (frame : FrameData) → Takes limits s before frame next silent after → next.ended ≡ None
+  takes_runs (Hello hello) t = unless_runs (Greets s.role s before hello next silent after) (hello_fault s hello) (greets_runs s.role hello) t
+  takes_runs OtherVersion t = no_closing (next.ended ≡ None) _ t.1
+  takes_runs (Item e) t = unless_runs (Gathers (is_within (s.waiting ++ gathers s e)) s before e next silent after) (item_fault s e) (gathers_runs (is_within (s.waiting ++ gathers s e)) e) t
+  takes_runs (BadItem why) t = no_closing (next.ended ≡ None) _ t.1
+  takes_runs (Turn turn) t = unless_runs (Settles limits s before turn next silent after) (turn_fault s turn) (λ u. concludes_runs u.0 turn u.2) t
+  takes_runs (NoFrame place) t = no_closing (next.ended ≡ None) _ t.1
+
+  pub silent_runs : (frame : FrameData) → Steps limits s before frame next silent after → next.ended ≡ None
+  silent_runs frame step = takes_runs frame (takes_from limits s before frame next silent after running step)
+
 -- ---- an end by the store comes of a commit alone
 
 abbrev pub IsPlain : FrameData → Type 0

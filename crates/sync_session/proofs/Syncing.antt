@@ -1,5 +1,5 @@
 -- The session of two holders: how it begins, what a round makes of it, and how it ends.
-use Rattle.std.proofs.Common.{◌≡◌, ◌≢◌, inr, ℕ, ◌+◌, ◌<◌, max, Bool, true, false, ◌&&◌, if◌then◌else◌, List, [], ◌∷◌, ◌++◌, All, Contains, map, Option, Some, None, option_map, refl, sym, ap, subst, ◌∙◌, arith}
+use Rattle.std.proofs.Common.{◌≡◌, ◌≢◌, inl, inr, ℕ, ◌+◌, ◌<◌, max, Bool, true, false, ◌&&◌, if◌then◌else◌, List, [], ◌∷◌, ◌++◌, All, Contains, map, Option, Some, None, option_map, refl, sym, ap, subst, ◌∙◌, arith}
 use Rattle.std.specs.List.{AllByRecursion}
 use Rattle.std.proofs.lemmas.List.{length-map}
 use Rattle.std.proofs.lemmas.List.Elements.{All-contains_itself, Contains-append_left, Contains-append_right}
@@ -66,6 +66,9 @@ module _ (start : PairStart) (limits_a limits_b : Limits) (rule_a rule_b : RuleD
 
   answered : HandsOn limits_a limits_b rule_a rule_b (first_pair start list_a list_b hello) (facing begun_a list_a b after (frames_of out))
   answered = then_b (first_pair start list_a list_b hello) (facing begun_a list_a b after (frames_of out)) (at_first (first_pair start list_a list_b hello) refl) (record {
+    running = refl;
+    other = inl refl;
+    alone = refl;
     frame = Hello hello;
     rest = [];
     arrived = Hello hello;

@@ -33,8 +33,16 @@ Arrives rule (BadItem why) arrived = arrived ≡ BadItem why
 Arrives rule (Turn turn) arrived = arrived ≡ Turn turn
 Arrives rule (NoFrame place) arrived = arrived ≡ NoFrame place
 
--- The next frame to the first end, whose holder has this rule, is handed to it.
+-- The end runs, or is done.
+abbrev pub IsGoing : SessionData → Type 0
+IsGoing s = (s.ended ≡ None) ⊎ (s.ended ≡ Some Done)
+
+-- The next frame to the first end, whose holder has this rule, is handed to it. That end runs, the other one runs or is done,
+-- and nothing is on its way to that one.
 pub record Hands (limits : Limits) (rule : RuleData) (p q : PairData) : Type 0 where
+  pub running : p.a.ended ≡ None
+  pub other : IsGoing p.b
+  pub alone : p.to_b ≡ []
   pub frame : FrameData
   pub rest : List FrameData
   pub arrived : FrameData

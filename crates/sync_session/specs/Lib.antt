@@ -7,3 +7,4 @@ pub mod Gathering
 pub mod Turns
 pub mod Starts
 pub mod Carrying
+pub mod Reruns

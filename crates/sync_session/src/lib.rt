@@ -39,7 +39,7 @@ mod step;
 mod turn;
 
 pub use checked_frame::CheckedFrame;
-pub use laws::belongs_when_grown;
+pub use laws::{a_stopped_run_is_over, belongs_when_grown, one_run_of_a_pair};
 pub use out::Out;
 pub use pair::{PairEnd, PairStart, sync_pair};
 pub use session::Session;

@@ -1,7 +1,4 @@
-use Rattle.std.proofs.Common.{List, ℕ, IfOk, refl, subst, sym}
-use Rattle.update_model.specs.Batch.{store_limits}
-use Rattle.sync_session.specs.Kept.{BelongsTo}
-use Rattle.sync_session.specs.Starts.{StartsAs}
+use Rattle.std.proofs.Common.{refl}
 use Rattle.shared_replica.proofs.Turns.{acts, gives, looks}
 use Rattle.shared_replica.proofs.shared.Shared.session_start.Goals as goal
 

@@ -1,4 +1,4 @@
-use Rattle.std.proofs.Common.{◌≡◌, ℕ, List, IfOk, ap, ◌∙◌, subst}
+use Rattle.std.proofs.Common.{ℕ, List, IfOk, ap, ◌∙◌, subst}
 use Rattle.sync_session.specs.Kept.{BelongsTo}
 use Rattle.sync_session.specs.Starts.{StartsAs}
 use Rattle.update_model.specs.Batch.{store_limits}

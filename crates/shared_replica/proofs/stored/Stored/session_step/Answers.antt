@@ -1,6 +1,5 @@
-use Rattle.std.proofs.Common.{rules, ◌≡◌, ◌+◌, ◌-◌, [], ◌∷◌, ◌++◌, length, true, false, refl, sym, ap, ◌∙◌, arith}
+use Rattle.std.proofs.Common.{rules, ◌≡◌, ◌+◌, ◌-◌, [], ◌∷◌, ◌++◌, length, true, false, refl, sym, ◌∙◌, arith}
 use Rattle.bec_disk.proofs.Moments.{same_disk}
-use Rattle.sync_session.specs.Kept.{updates_in}
 use Rattle.shared_replica.specs.declared.entry.Run.{Run}
 use Rattle.shared_replica.specs.Sessions.{met_store}
 use Rattle.shared_replica.proofs.Going.{store_then}
