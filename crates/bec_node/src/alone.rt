@@ -9,6 +9,7 @@ ghost use Rattle.key_directory.specs.Parts.{IsHome};
 use bec_bytes::{Sink, Source};
 use bec_disk::Shelf;
 use command_words::{Request, one_request, request_in};
+use lms_tree::KeyTypes;
 use node_commands::{
     Application, apply_in, bundle_tables, dump_in, export_in, heads_in, init_in, join_in,
     keygen_in, merge_in, notes_in, one_answer, one_answer_of_makers, one_answer_of_merge,
@@ -91,7 +92,13 @@ fn outcome_of<V: Verifier, H: Shelf, R: Rng, S: Source>(
             directory,
             height,
             width,
-        } => keygen_in(alloc, shelf, directory, *height, *width, random),
+        } => {
+            let types = KeyTypes {
+                lms: *height,
+                ots: *width,
+            };
+            keygen_in(verifier, alloc, shelf, directory, types, random)
+        },
         Request::Apply { directory, note } => {
             let application = Application {
                 directory,

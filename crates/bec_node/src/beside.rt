@@ -14,6 +14,8 @@ use audit_commands::{audit_in, confirm_in, one_answer_of_audits};
 use bec_bytes::{Sink, Source};
 use bec_disk::Shelf;
 use command_words::{AuditRequest, SealRequest, WorldRequest};
+use key_directory::KeyMaker;
+use lms_tree::{KeyTypes, LeafGenerator};
 use outcomes::finish;
 use outcomes::status::OUT_OF_MEMORY;
 use rand_core::Rng;
@@ -69,7 +71,13 @@ fn run_asked<V: Verifier, H: Shelf, R: Rng, S: Source, K: Sink>(
 {
     one_answer_of_audits();
     match request {
-        BesideRequest::Seals(request) => run_seals(alloc, request, shelf, random, input, out),
+        BesideRequest::Seals(request) => {
+            let maker = KeyMaker {
+                generator: verifier,
+                alloc,
+            };
+            run_seals(&maker, request, shelf, random, input, out)
+        }
         BesideRequest::Audits(AuditRequest::Audit { directory }) => {
             let outcome = audit_in(verifier, alloc, shelf, directory);
             finish(alloc, out, outcome)
@@ -95,8 +103,8 @@ fn run_asked<V: Verifier, H: Shelf, R: Rng, S: Source, K: Sink>(
 }
 
 /// Does what a request about seals asks for.
-fn run_seals<H: Shelf, R: Rng, S: Source, K: Sink>(
-    alloc: Global,
+fn run_seals<G: LeafGenerator, H: Shelf, R: Rng, S: Source, K: Sink>(
+    maker: &KeyMaker<G>,
     request: &SealRequest,
     shelf: &mut H,
     random: &mut R,
@@ -108,17 +116,22 @@ fn run_seals<H: Shelf, R: Rng, S: Source, K: Sink>(
         (outside S.left S.faults H.state H.faults R.stream input.old shelf.old random.old) (outside S.left S.faults H.state H.faults R.stream input.new shelf.new random.new)
         (record { held = K.held out.old; faults = K.faults out.old }) (record { held = K.held out.new; faults = K.faults out.new }) result }
 {
+    let (generator, alloc) = (maker.generator, maker.alloc);
     match request {
         SealRequest::Hsskey {
             directory,
             height,
             width,
         } => {
-            let outcome = drawn_hss(alloc, shelf, directory, *height, *width, random);
+            let types = KeyTypes {
+                lms: *height,
+                ots: *width,
+            };
+            let outcome = drawn_hss(generator, alloc, shelf, directory, types, random);
             finish(alloc, out, outcome)
         }
         SealRequest::Seal { directory } => {
-            let outcome = sealed(alloc, shelf, directory, random, input);
+            let outcome = sealed(generator, alloc, shelf, directory, random, input);
             finish(alloc, out, outcome)
         }
         SealRequest::Unseal { key, signature } => {

@@ -9,34 +9,34 @@ ghost use Rattle.bec_node.specs.Families.{TellsSeals, from_seal};
 
 use bec_bytes::Source;
 use bec_disk::Shelf;
-use lm_ots::OtsType;
-use lms_tree::LmsType;
+use lms_tree::{KeyTypes, LeafGenerator};
 use outcomes::Refusal;
 use rand_core::Rng;
 use seal_commands::{SealRefusal, hsskey_in, seal_in, unseal_in};
 use std::alloc::Global;
 
 /// Draws a two-level key for a directory that has none.
-pub(crate) fn drawn_hss<H: Shelf, R: Rng>(
+pub(crate) fn drawn_hss<G: LeafGenerator, H: Shelf, R: Rng>(
+    generator: &G,
     alloc: Global,
     shelf: &mut H,
     directory: &str,
-    height: LmsType,
-    width: OtsType,
+    types: KeyTypes,
     random: &mut R,
 ) -> Result<Vec<u8>, Refusal>
     requires { IsTrue (H.state shelf.old).tells → IsHome (H.state shelf.old) }
-    ensures { TellsSeals (HsskeyRun height width (R.stream random.old) directory.now (H.state shelf.old) (H.state shelf.new))
+    ensures { TellsSeals (HsskeyRun types.lms types.ots (R.stream random.old) directory.now (H.state shelf.old) (H.state shelf.new))
         (H.state shelf.old) (H.state shelf.new) (H.faults shelf.old) (H.faults shelf.new) result }
 {
-    match hsskey_in(alloc, shelf, directory, height, width, random) {
+    match hsskey_in(generator, alloc, shelf, directory, types, random) {
         Ok(text) => Ok(text),
         Err(why) => Err(seal_refusal(why)),
     }
 }
 
 /// Seals the input by the two-level key of a directory.
-pub(crate) fn sealed<H: Shelf, R: Rng, S: Source>(
+pub(crate) fn sealed<G: LeafGenerator, H: Shelf, R: Rng, S: Source>(
+    generator: &G,
     alloc: Global,
     shelf: &mut H,
     directory: &str,
@@ -47,7 +47,7 @@ pub(crate) fn sealed<H: Shelf, R: Rng, S: Source>(
     ensures { TellsSeals (SealRun directory.now (H.state shelf.old) (H.state shelf.new) (R.stream random.old) (S.left input.old) (S.left input.new) (S.faults input.old) (S.faults input.new))
         (H.state shelf.old) (H.state shelf.new) (H.faults shelf.old) (H.faults shelf.new) result }
 {
-    match seal_in(alloc, shelf, directory, random, input) {
+    match seal_in(generator, alloc, shelf, directory, random, input) {
         Ok(text) => Ok(text),
         Err(why) => Err(seal_refusal(why)),
     }

@@ -9,10 +9,11 @@ ghost use Rattle.byzantine_world.specs.Begun.{AreNone, IsNewOf, IsWorldCause, re
 use crate::talk::Talk;
 use crate::world_fault::WorldFault;
 use confluence_test::{SchemaRefusal, take_schema};
+use lms_tree::KeyTypes;
 use numbered_words::Words;
 use row_check::{Luhn, Native};
 use std::alloc::{AllocError, Global};
-use world_site::{KeyTypes, Site};
+use world_site::Site;
 
 /// The number of sessions that a world may have.
 const SESSIONS: usize = 256;

@@ -29,4 +29,3 @@ mod world_fault;
 pub use world::World;
 pub use world_fault::WorldFault;
 pub use world_rules::{Event, Stepped};
-pub use world_site::KeyTypes;

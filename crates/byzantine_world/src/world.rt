@@ -12,6 +12,7 @@ use crate::beginning::{check_text, no_talks, sites_of};
 use crate::state::State;
 use crate::world_fault::WorldFault;
 use bec_disk::MemDisk;
+use lms_tree::KeyTypes;
 use numbered_words::Words;
 use replica::Replica;
 use row_check::Luhn;
@@ -19,7 +20,6 @@ use schema_text::{declared_is_sound, one_schema};
 use std::alloc::{AllocError, Global};
 use std::marker::Model;
 use world_rules::{Event, Stepped};
-use world_site::KeyTypes;
 
 /// The number of replicas that a world may have.
 const REPLICAS: u32 = 16;

@@ -19,7 +19,7 @@ ghost use Rattle.update_model.specs.declared.update_id.UpdateId.{UpdateId as Upd
 use bec_disk::MemDisk;
 use key_index::KeyStore;
 use lm_ots::OtsType;
-use lms_tree::LmsType;
+use lms_tree::{KeyTypes, LmsType, OneThread};
 use numbered_words::Words;
 use rand_core::Rng;
 use replica::{MakeFault, Replica, create};
@@ -122,7 +122,11 @@ fn draw_key(alloc: Global, words: &mut Words) -> Result<KeyStore<MemDisk>, Alloc
 {
     let key = MemDisk::new(alloc);
     let used = MemDisk::new(alloc);
-    match KeyStore::create(alloc, key, used, LmsType::H10, OtsType::W4, words) {
+    let types = KeyTypes {
+        lms: LmsType::H10,
+        ots: OtsType::W4,
+    };
+    match KeyStore::create(&OneThread, alloc, key, used, types, words) {
         Ok(key) => Ok(key),
         Err(_) => Err(AllocError),
     }

@@ -13,12 +13,11 @@ ghost use Rattle.hss_directory.specs.Values.{HasLeft, IsReadable, IsSound, IsSpe
 
 use crate::fault::HssFault;
 use crate::lower::Lower;
-use crate::maker::KeyMaker;
 use crate::making::next_lower;
 use crate::signing::signature_of;
 use bec_disk::{Disk, Shelf};
 use hss_chain::{parts_make_a_seal, seal_bytes};
-use key_directory::put_key;
+use key_directory::{KeyMaker, put_key};
 use key_index::KeyStore;
 use lms_tree::{LeafGenerator, signed_has_length};
 use rand_core::Rng;

@@ -16,7 +16,6 @@ mod fault;
 mod hss;
 mod laws;
 mod lower;
-mod maker;
 mod making;
 mod opening;
 mod peers;

@@ -12,13 +12,12 @@ ghost use Rattle.hss_directory.specs.Values.{HasLeft};
 
 use crate::fault::HssFault;
 use crate::lower::{Lower, low_dir, types_of};
-use crate::maker::KeyMaker;
 use crate::opening::key_has_length;
 use crate::peers::write_peers;
 use crate::signing::signature_of;
 use bec_disk::Shelf;
 use hss_chain::push_key;
-use key_directory::{KeyRefusal, new_key, put_key, take_key};
+use key_directory::{KeyMaker, KeyRefusal, new_key, put_key, take_key};
 use key_index::{CreateKeyKind, KeyStore};
 use lms_tree::{KeyTypes, LeafGenerator, signed_has_length};
 use rand_core::Rng;

@@ -14,12 +14,11 @@ ghost use Rattle.hss_directory.specs.Places.{AreLowersIn, OnlyReads};
 
 use crate::fault::HssFault;
 use crate::lower::{Lower, low_dir};
-use crate::maker::KeyMaker;
 use crate::peers::read_peers;
 use bec_disk::{Gated, Shelf};
 use byteorder::{BigEndian, ByteOrder};
 use hss_chain::public_array;
-use key_directory::{KeyRefusal, put_key, take_key};
+use key_directory::{KeyMaker, KeyRefusal, put_key, take_key};
 use key_index::KeyStore;
 use lms_tree::{LeafGenerator, signed_has_length, verify};
 use std::alloc::Global;

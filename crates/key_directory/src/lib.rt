@@ -2,6 +2,7 @@
 //!
 //! A directory has a part Key and a part Used where it has a key. [`take_key`] hands them out open, and [`put_key`] puts them back; where the
 //! key is refused, every part is in its place again. [`new_key`] makes a key where there is none. [`find_or_make`] is for one part of any kind.
+//! Whoever computes the leaves of a key is given, and a [`KeyMaker`] keeps it for those who hand it on.
 //!
 //! ```text
 //! let mut key = take_key(&OneThread, alloc, shelf, dir)?;
@@ -16,10 +17,12 @@ mod finding;
 mod key;
 mod key_refusal;
 mod laws;
+mod maker;
 mod making_key;
 
 pub use finding::find_or_make;
 pub use key::{put_key, take_key};
 pub use key_refusal::KeyRefusal;
 pub use laws::{key_or_not, one_key};
+pub use maker::KeyMaker;
 pub use making_key::new_key;

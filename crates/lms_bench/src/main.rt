@@ -7,7 +7,7 @@
 
 use bec_host::hold_closed_streams;
 use lm_ots::OtsType;
-use lms_tree::{LmsType, Secret, make_secret, verify};
+use lms_tree::{KeySeed, LmsType, OneThread, Secret, make_secret, verify};
 use sha2::{Digest, Sha256};
 use std::alloc::AllocError;
 use std::process::ExitCode;
@@ -44,7 +44,7 @@ fn main(rt: HostRuntime) -> io::Result<ExitCode> {
     let [operation, pair, rounds] = words.as_slice() else {
         return Ok(ExitCode::from(2));
     };
-    let Some((lms, ots)) = types_named(pair.as_str()) else {
+    let Some(seed) = seed_named(pair.as_str()) else {
         return Ok(ExitCode::from(2));
     };
     let (Some(known), Ok(times)) = (
@@ -53,18 +53,25 @@ fn main(rt: HostRuntime) -> io::Result<ExitCode> {
     ) else {
         return Ok(ExitCode::from(2));
     };
-    let done = repeat(&rt, known, lms, ots, times)?;
+    let done = repeat(&rt, known, &seed, times)?;
     println!(rt; "{operation} {pair} {rounds}: {done}")?;
     Ok(ExitCode::from(0))
 }
 
-fn types_named(word: &str) -> Option<(LmsType, OtsType)> {
-    match word {
-        "H5/W8" => Some((LmsType::H5, OtsType::W8)),
-        "H5/W4" => Some((LmsType::H5, OtsType::W4)),
-        "H10/W4" => Some((LmsType::H10, OtsType::W4)),
-        _ => None,
-    }
+/// What the key of a pair of types is made from.
+fn seed_named(word: &str) -> Option<KeySeed> {
+    let (lms, ots) = match word {
+        "H5/W8" => (LmsType::H5, OtsType::W8),
+        "H5/W4" => (LmsType::H5, OtsType::W4),
+        "H10/W4" => (LmsType::H10, OtsType::W4),
+        _ => return None,
+    };
+    Some(KeySeed {
+        lms,
+        ots,
+        ident: IDENT,
+        start: SEED,
+    })
 }
 
 fn operation_named(word: &str) -> Option<Operation> {
@@ -81,8 +88,7 @@ fn operation_named(word: &str) -> Option<Operation> {
 fn repeat(
     rt: &impl AllocGlobal,
     operation: Operation,
-    lms: LmsType,
-    ots: OtsType,
+    seed: &KeySeed,
     times: u32,
 ) -> Result<u32, AllocError> {
     match operation {
@@ -90,13 +96,13 @@ fn repeat(
         Operation::Make => {
             let mut done = 0u32;
             for _ in 0..times {
-                let secret = make_secret(rt.alloc(), lms, ots, IDENT, SEED)?;
+                let secret = make_secret(&OneThread, rt.alloc(), seed)?;
                 done = done.saturating_add(secret.leaf_count().min(1));
             }
             Ok(done)
         }
         Operation::Sign | Operation::Verify => {
-            let secret = make_secret(rt.alloc(), lms, ots, IDENT, SEED)?;
+            let secret = make_secret(&OneThread, rt.alloc(), seed)?;
             sign_or_verify(rt, &secret, operation, times)
         }
     }

@@ -14,28 +14,27 @@ use crate::texts::hex_line;
 use bec_bytes::Source;
 use bec_disk::Shelf;
 use hss_directory::{Hss, create_hss, open_hss};
-use lm_ots::OtsType;
-use lms_tree::LmsType;
+use lms_tree::{KeyTypes, LeafGenerator};
 use rand_core::Rng;
 use std::alloc::Global;
 
 /// Draws a two-level key whose levels are of these types for a directory that has none, and answers the line of its public key.
-pub fn hsskey_in<H: Shelf, R: Rng>(
+pub fn hsskey_in<G: LeafGenerator, H: Shelf, R: Rng>(
+    generator: &G,
     alloc: Global,
     shelf: &mut H,
     dir: &str,
-    height: LmsType,
-    width: OtsType,
+    types: KeyTypes,
     random: &mut R,
 ) -> Result<Vec<u8>, SealRefusal>
     requires { IsTrue (H.state shelf.old).tells → IsHome (H.state shelf.old) }
-    ensures comes { HsskeyRun height width (R.stream random.old) dir.now (H.state shelf.old) (H.state shelf.new) result }
+    ensures comes { HsskeyRun types.lms types.ots (R.stream random.old) dir.now (H.state shelf.old) (H.state shelf.new) result }
     ensures home { IsTrue (H.state shelf.old).tells → IsHome (H.state shelf.new) }
     ensures failed { IsErrOf result SealRefusal.Store → Rose (H.faults shelf.old) (H.faults shelf.new) }
 {
-    let hss = match create_hss(alloc, shelf, dir, height, width, random) {
+    let hss = match create_hss(generator, alloc, shelf, dir, types, random) {
         Ok(hss) => hss,
-        Err(why) => return Err(refusal_of(why, height.leaf_count())),
+        Err(why) => return Err(refusal_of(why, types.lms.leaf_count())),
     };
     let public = hss.public();
     hss.close(shelf);
@@ -43,7 +42,8 @@ pub fn hsskey_in<H: Shelf, R: Rng>(
 }
 
 /// Seals the input by the two-level key of a directory, and answers the line of the seal. The input is read once the key is open.
-pub fn seal_in<H: Shelf, R: Rng, S: Source>(
+pub fn seal_in<G: LeafGenerator, H: Shelf, R: Rng, S: Source>(
+    generator: &G,
     alloc: Global,
     shelf: &mut H,
     dir: &str,
@@ -55,17 +55,18 @@ pub fn seal_in<H: Shelf, R: Rng, S: Source>(
     ensures home { IsTrue (H.state shelf.old).tells → IsHome (H.state shelf.new) }
     ensures failed { IsErrOf result SealRefusal.Store → Rose (H.faults shelf.old) (H.faults shelf.new) }
 {
-    let mut hss = match open_hss(alloc, shelf, dir) {
+    let mut hss = match open_hss(generator, alloc, shelf, dir) {
         Ok(hss) => hss,
         Err(why) => return Err(refusal_of(why, 0)),
     };
-    let sealed = seal_input(alloc, shelf, &mut hss, random, input);
+    let sealed = seal_input(generator, alloc, shelf, &mut hss, random, input);
     hss.close(shelf);
     sealed
 }
 
 /// Reads the input whole, and seals it by a key that is open.
-fn seal_input<H: Shelf, R: Rng, S: Source>(
+fn seal_input<G: LeafGenerator, H: Shelf, R: Rng, S: Source>(
+    generator: &G,
     alloc: Global,
     shelf: &mut H,
     hss: &mut Hss<H::D>,
@@ -80,11 +81,12 @@ fn seal_input<H: Shelf, R: Rng, S: Source>(
     ensures failed { IsErrOf result SealRefusal.Store → Rose (H.faults shelf.old) (H.faults shelf.new) ⊎ HeldRose hss.old hss.new }
 {
     let msg = read_input(alloc, input)?;
-    seal_message(alloc, shelf, hss, random, msg.as_slice())
+    seal_message(generator, alloc, shelf, hss, random, msg.as_slice())
 }
 
 /// Seals a message by a key that is open, and answers the line of the seal.
-fn seal_message<H: Shelf, R: Rng>(
+fn seal_message<G: LeafGenerator, H: Shelf, R: Rng>(
+    generator: &G,
     alloc: Global,
     shelf: &mut H,
     hss: &mut Hss<H::D>,
@@ -98,7 +100,7 @@ fn seal_message<H: Shelf, R: Rng>(
     ensures later { H.faults shelf.old ≤ H.faults shelf.new }
     ensures failed { IsErrOf result SealRefusal.Store → Rose (H.faults shelf.old) (H.faults shelf.new) ⊎ HeldRose hss.old hss.new }
 {
-    match hss.sign(alloc, shelf, random, msg) {
+    match hss.sign(generator, alloc, shelf, random, msg) {
         Ok(seal) => Ok(hex_line(alloc, seal.as_slice())?),
         Err(why) => Err(refusal_of(why, hss.top_count())),
     }

@@ -1,7 +1,7 @@
 //! Updates without predecessors, signed by one of two keys.
 
 use lm_ots::OtsType;
-use lms_tree::{LmsType, make_secret};
+use lms_tree::{KeySeed, LmsType, OneThread, make_secret};
 use std::alloc::{AllocError, Global};
 
 /// The database of the updates.
@@ -15,7 +15,13 @@ pub type Made = [u8; 4];
 /// The bytes of an update.
 pub fn signed(alloc: Global, made: Made) -> Result<Vec<u8>, AllocError> {
     let [seed, index, row, c] = made;
-    let secret = make_secret(alloc, LmsType::H5, OtsType::W2, [seed; 16], [seed; 32])?;
+    let made_from = KeySeed {
+        lms: LmsType::H5,
+        ots: OtsType::W2,
+        ident: [seed; 16],
+        start: [seed; 32],
+    };
+    let secret = make_secret(&OneThread, alloc, &made_from)?;
     let author = secret.public();
     let mut bytes = Vec::from_slice(alloc, &[1])?;
     bytes.extend_from_slice(&DATABASE)?;

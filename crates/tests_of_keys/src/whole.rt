@@ -1,7 +1,7 @@
 use bec_disk::MemDisk;
 use key_index::{CreateKey, KeyFault, KeyStore, Reserve};
 use lm_ots::OtsType;
-use lms_tree::{LmsType, verify};
+use lms_tree::{KeyTypes, LmsType, OneThread, verify};
 use rand_pcg::Pcg32;
 use std::alloc::Global;
 use std::test::Fail;
@@ -16,7 +16,11 @@ pub fn created(
     let key = MemDisk::stopping(alloc, key_calls);
     let used = MemDisk::stopping(alloc, used_calls);
     let mut random = Pcg32::new(42, 54);
-    KeyStore::create(alloc, key, used, LmsType::H5, OtsType::W8, &mut random)
+    let types = KeyTypes {
+        lms: LmsType::H5,
+        ots: OtsType::W8,
+    };
+    KeyStore::create(&OneThread, alloc, key, used, types, &mut random)
 }
 
 /// Opens what a crash leaves of two disks.
@@ -28,7 +32,7 @@ pub fn opened(
 ) -> Result<Result<KeyStore<MemDisk>, KeyFault<MemDisk>>, Fail> {
     let key = key.restart(choice)?;
     let used = used.restart(choice)?;
-    Ok(KeyStore::open_key(alloc, key, used))
+    Ok(KeyStore::open_key(&OneThread, alloc, key, used))
 }
 
 /// Whether the next signature is by this leaf, and verifies.

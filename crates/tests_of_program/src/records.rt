@@ -1,7 +1,7 @@
 //! Records of update streams, signed.
 
 use lm_ots::OtsType;
-use lms_tree::{LmsType, Secret, make_secret};
+use lms_tree::{KeySeed, LmsType, OneThread, Secret, make_secret};
 use std::alloc::{AllocError, Global};
 use std::test::Fail;
 use update_model::signature_len;
@@ -17,11 +17,17 @@ fn key(alloc: Global, ident_from: u8, seed_from: u8) -> Result<Secret, AllocErro
     for (step, byte) in ident.iter_mut().enumerate() {
         *byte = ident_from.wrapping_add(step as u8);
     }
-    let mut seed = [0; 32];
-    for (step, byte) in seed.iter_mut().enumerate() {
+    let mut start = [0; 32];
+    for (step, byte) in start.iter_mut().enumerate() {
         *byte = seed_from.wrapping_add(step as u8);
     }
-    make_secret(alloc, LmsType::H5, OtsType::W8, ident, seed)
+    let seed = KeySeed {
+        lms: LmsType::H5,
+        ots: OtsType::W8,
+        ident,
+        start,
+    };
+    make_secret(&OneThread, alloc, &seed)
 }
 
 /// What an author signs: an update with these predecessors, named in hexadecimal, and these operations, of which this

@@ -2,7 +2,7 @@
 
 use hss_chain::{public_bytes, push_key, seal_bytes, verify_hss};
 use lm_ots::OtsType;
-use lms_tree::{LmsType, Secret, make_secret};
+use lms_tree::{KeySeed, LmsType, OneThread, Secret, make_secret};
 use sha2::{Digest, Sha256};
 use std::alloc::{AllocError, Global};
 use std::test::Fail;
@@ -89,14 +89,20 @@ fn level_of(alloc: Global, name: &str, ots: OtsType, leaf: u32) -> Result<Level,
     let mut ident = [0; 16];
     ident.copy_from_slice(&Sha256::digest(&text)[..16]);
     let text = format!(in alloc; "{name} SEED 5 {word}")?;
-    let seed = Sha256::digest(&text);
+    let start = Sha256::digest(&text);
     let random = Sha256::new()
         .chain_update(&ident)
         .chain_update(&u32::to_be_bytes(leaf))
         .chain_update(&[0xff, 0xfd, 0xff])
-        .chain_update(&seed)
+        .chain_update(&start)
         .finalize();
-    let secret = make_secret(alloc, LmsType::H5, ots, ident, seed)?;
+    let seed = KeySeed {
+        lms: LmsType::H5,
+        ots,
+        ident,
+        start,
+    };
+    let secret = make_secret(&OneThread, alloc, &seed)?;
     Ok(Level {
         secret,
         leaf,

@@ -9,7 +9,7 @@ use crate::runs::{Answer, draw, is_good, left_of, low_leaf, seal, top_leaf};
 use bec_disk::{MemDisk, MemShelf, Part};
 use hss_directory::{Hss, HssFault, create_hss};
 use lm_ots::OtsType;
-use lms_tree::LmsType;
+use lms_tree::{KeyTypes, LmsType, OneThread};
 use rand_pcg::Pcg32;
 use std::alloc::{AllocError, Global};
 use std::test::Fail;
@@ -30,7 +30,7 @@ fn made_in_order(
 {
     let mut random = Pcg32::new(7, 54);
     'seals: for number in 0..2_000u32 {
-        match hss.sign(alloc, shelf, &mut random, b"abc") {
+        match hss.sign(&OneThread, alloc, shelf, &mut random, b"abc") {
             Ok(seal) => {
                 if seal.len() != 2_644 || !is_by(&seal, number / 32, number % 32) {
                     return Ok(number);
@@ -48,14 +48,11 @@ fn a_key_makes_1024_seals(rt: HostRuntime) -> Result<(), Fail> {
     let alloc = rt.alloc();
     let mut shelf = MemShelf::new(alloc);
     let mut random = Pcg32::new(42, 54);
-    let mut hss = create_hss(
-        alloc,
-        &mut shelf,
-        "A",
-        LmsType::H5,
-        OtsType::W8,
-        &mut random,
-    )?;
+    let types = KeyTypes {
+        lms: LmsType::H5,
+        ots: OtsType::W8,
+    };
+    let mut hss = create_hss(&OneThread, alloc, &mut shelf, "A", types, &mut random)?;
     assert_eq!(rt; made_in_order(alloc, &mut shelf, &mut hss)?, 1_024);
     Ok(())
 }

@@ -8,7 +8,7 @@ use bec_bytes::MemSource;
 use bec_disk::MemShelf;
 use hss_chain::verify_hss;
 use lm_ots::OtsType;
-use lms_tree::LmsType;
+use lms_tree::{KeyTypes, LmsType, OneThread};
 use rand_pcg::Pcg32;
 use seal_commands::{SealRefusal, hsskey_in, seal_in};
 use std::alloc::{AllocError, Global};
@@ -33,8 +33,12 @@ pub fn draw(alloc: Global, shelf: &mut MemShelf, ots: OtsType) -> Answer
     requires home { IsHome (shelf_of shelf.old) }
     ensures home { IsHome (shelf_of shelf.new) }
 {
+    let types = KeyTypes {
+        lms: LmsType::H5,
+        ots,
+    };
     let mut random = Pcg32::new(42, 54);
-    match hsskey_in(alloc, shelf, "A", LmsType::H5, ots, &mut random) {
+    match hsskey_in(&OneThread, alloc, shelf, "A", types, &mut random) {
         Ok(line) => bytes_of(alloc, &line),
         Err(why) => Err(why),
     }
@@ -50,7 +54,7 @@ pub fn seal(alloc: Global, shelf: &mut MemShelf, number: u64, msg: &[u8]) -> Ans
         return Err(SealRefusal::Memory);
     };
     let mut input = MemSource::new(bytes, Vec::new(alloc));
-    match seal_in(alloc, shelf, "A", &mut random, &mut input) {
+    match seal_in(&OneThread, alloc, shelf, "A", &mut random, &mut input) {
         Ok(line) => bytes_of(alloc, &line),
         Err(why) => Err(why),
     }

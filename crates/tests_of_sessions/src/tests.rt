@@ -12,7 +12,7 @@ ghost use Rattle.mem_holder.specs.Holders.{limits_of};
 ghost use Rattle.sync_session.specs.Kept.{BelongsTo, IsFrameUnder};
 
 use lm_ots::OtsType;
-use lms_tree::{LmsType, make_secret};
+use lms_tree::{KeySeed, LmsType, OneThread, make_secret};
 use mem_holder::MemHolder;
 use session_rules::{End, MAX_ITEMS, PeerFault, Role};
 use std::alloc::{AllocError, Global};
@@ -36,7 +36,13 @@ fn rule(alloc: Global) -> DbRule {
 
 /// An update without predecessors and operations, by a key whose own bytes are all `seed`.
 fn signed(alloc: Global, seed: u8) -> Result<Vec<u8>, AllocError> {
-    let secret = make_secret(alloc, LmsType::H5, OtsType::W2, [seed; 16], [seed; 32])?;
+    let made_from = KeySeed {
+        lms: LmsType::H5,
+        ots: OtsType::W2,
+        ident: [seed; 16],
+        start: [seed; 32],
+    };
+    let secret = make_secret(&OneThread, alloc, &made_from)?;
     let author = secret.public();
     let mut bytes = Vec::from_slice(alloc, &[1])?;
     bytes.extend_from_slice(&DATABASE)?;

@@ -7,7 +7,7 @@ ghost use Rattle.bec_disk.specs.Replay.{state_of};
 use bec_disk::MemDisk;
 use key_index::KeyStore;
 use lm_ots::OtsType;
-use lms_tree::LmsType;
+use lms_tree::{KeyTypes, LmsType, OneThread};
 use rand_pcg::Pcg32;
 use replica::{Replica, create};
 use row_check::{Luhn, Native};
@@ -39,5 +39,9 @@ pub fn key(alloc: Global, number: u64) -> Option<KeyStore<MemDisk>> {
     let key = MemDisk::new(alloc);
     let used = MemDisk::new(alloc);
     let mut random = Pcg32::new(number, 54);
-    KeyStore::create(alloc, key, used, LmsType::H5, OtsType::W8, &mut random).ok()
+    let types = KeyTypes {
+        lms: LmsType::H5,
+        ots: OtsType::W8,
+    };
+    KeyStore::create(&OneThread, alloc, key, used, types, &mut random).ok()
 }

@@ -2,7 +2,7 @@
 
 use crate::vectors::{MADE, TALL_LEAF, TALL_PATH, TALL_ROOT};
 use lm_ots::{OtsType, sign};
-use lms_tree::{LmsType, make_secret, verify};
+use lms_tree::{KeySeed, LmsType, ManyThreads, OneThread, make_secret, verify};
 use sha2::{Digest, Sha256};
 use std::alloc::Global;
 use std::test::Fail;
@@ -37,7 +37,7 @@ pub fn parts_of_key(alloc: Global, tree: u32, one_time: u32, q: u32) -> Result<P
     })
 }
 
-/// Trees are made whole, and give the same keys and signatures, which are valid.
+/// Trees are made whole, on one thread and on many, and give the same keys and signatures, which are valid.
 #[test]
 fn signatures_are_made_again(rt: HostRuntime) -> Result<(), Fail> {
     for row in &MADE {
@@ -46,9 +46,17 @@ fn signatures_are_made_again(rt: HostRuntime) -> Result<(), Fail> {
             seed,
             random,
         } = parts_of_key(rt.alloc(), 5, row.ots.type_word(), row.q)?;
-        let secret = make_secret(rt.alloc(), LmsType::H5, row.ots, ident, seed)?;
+        let made_from = KeySeed {
+            lms: LmsType::H5,
+            ots: row.ots,
+            ident,
+            start: seed,
+        };
+        let secret = make_secret(&OneThread, rt.alloc(), &made_from)?;
         let key = secret.public();
         assert_eq!(rt; key.root, row.root);
+        let many = make_secret(&ManyThreads::new(&rt), rt.alloc(), &made_from)?;
+        assert_eq!(rt; many.public().root, row.root);
         let mut sig = vec![in rt.alloc(); 0; signature_len(&key) as usize]?;
         assert!(rt; row.q < secret.leaf_count());
         secret.sign_at(row.q, &random, b"abc", &mut sig);

@@ -1,9 +1,9 @@
 use lm_ots::OtsType;
-use lms_tree::LmsType;
+use lms_tree::{KeyTypes, LmsType};
 use numbered_words::Words;
 use std::alloc::{AllocError, Global};
 use update_model::OpList;
-use world_site::{KeyTypes, Site};
+use world_site::Site;
 
 const TEXT: &[u8] = b"DATABASE tasks\nTABLE list\nCOLUMN title TEXT 1 40\nSAMPLE \"Home\"\n";
 

@@ -9,7 +9,7 @@ ghost use Rattle.update_log.specs.Log.{IsLogOf};
 use bec_disk::{Disk, MemDisk};
 use hash_graph::Graph;
 use lm_ots::OtsType;
-use lms_tree::{LmsType, make_secret};
+use lms_tree::{KeySeed, LmsType, make_secret};
 use record_check::OneThread;
 use std::alloc::{AllocError, Global};
 use std::test::Fail;
@@ -31,7 +31,13 @@ const BOTH: u64 = 9149;
 
 /// An update with what stands behind its author, whose key's own bytes are all `seed`.
 pub fn signed(alloc: Global, seed: u8, rest: &[u8]) -> Result<Vec<u8>, AllocError> {
-    let secret = make_secret(alloc, LmsType::H5, OtsType::W2, [seed; 16], [seed; 32])?;
+    let made_from = KeySeed {
+        lms: LmsType::H5,
+        ots: OtsType::W2,
+        ident: [seed; 16],
+        start: [seed; 32],
+    };
+    let secret = make_secret(&OneThread, alloc, &made_from)?;
     let author = secret.public();
     let mut bytes = Vec::from_slice(alloc, &[1])?;
     bytes.extend_from_slice(&[0xdd; 32])?;

@@ -4,7 +4,7 @@ use crate::kept::{causes_of, tables_of};
 use crate::signed::signed;
 use hash_graph::Graph;
 use lm_ots::OtsType;
-use lms_tree::{LmsType, make_secret};
+use lms_tree::{KeySeed, LmsType, OneThread, make_secret};
 use std::alloc::{AllocError, Global};
 use std::test::Fail;
 use update_check::Checked;
@@ -35,7 +35,13 @@ fn insertion(alloc: Global, before: Option<UpdateId>) -> Result<Vec<u8>, AllocEr
 fn grow(alloc: Global, graph: &mut Graph<Checked>) -> Result<Option<UpdateId>, Fail> {
     let mut last = None;
     for number in 0..KEYS {
-        let secret = make_secret(alloc, LmsType::H5, OtsType::W2, [number; 16], [7; 32])?;
+        let seed = KeySeed {
+            lms: LmsType::H5,
+            ots: OtsType::W2,
+            ident: [number; 16],
+            start: [7; 32],
+        };
+        let secret = make_secret(&OneThread, alloc, &seed)?;
         for leaf in 0..secret.leaf_count() {
             let operation = insertion(alloc, last)?;
             let update = signed(alloc, &secret, leaf, last, operation.as_slice())?;

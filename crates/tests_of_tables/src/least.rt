@@ -4,7 +4,7 @@ use crate::kept::{causes_of, tables_of};
 use crate::signed::signed;
 use hash_graph::Graph;
 use lm_ots::OtsType;
-use lms_tree::{LmsType, make_secret};
+use lms_tree::{KeySeed, LmsType, OneThread, make_secret};
 use std::alloc::{AllocError, Global};
 use std::test::Fail;
 use tuple_state::Tables;
@@ -26,7 +26,13 @@ fn row_of(update: UpdateId) -> RowName {
 /// Two updates that insert one value apart, the lesser id first; one behind the second that inserts it again; and one that
 /// deletes the row of the first.
 fn updates(alloc: Global) -> Result<Vec<Checked>, Fail> {
-    let secret = make_secret(alloc, LmsType::H5, OtsType::W2, [3; 16], [7; 32])?;
+    let seed = KeySeed {
+        lms: LmsType::H5,
+        ots: OtsType::W2,
+        ident: [3; 16],
+        start: [7; 32],
+    };
+    let secret = make_secret(&OneThread, alloc, &seed)?;
     let one = signed(alloc, &secret, 0, None, INSERTION)?;
     let other = signed(alloc, &secret, 1, None, INSERTION)?;
     let (least, next) = if one.id() < other.id() {

@@ -4,7 +4,7 @@ use crate::kept::{causes_of, tables_of};
 use crate::signed::signed;
 use hash_graph::Graph;
 use lm_ots::OtsType;
-use lms_tree::{LmsType, make_secret};
+use lms_tree::{KeySeed, LmsType, OneThread, make_secret};
 use std::alloc::{AllocError, Global};
 use std::test::Fail;
 use update_check::Checked;
@@ -27,7 +27,13 @@ fn operation(alloc: Global, front: &[u8], update: UpdateId) -> Result<Vec<u8>, A
 
 /// An update that inserts a row; and three that name it: one inserts a row of it, and two delete it.
 fn updates(alloc: Global) -> Result<Vec<Checked>, Fail> {
-    let secret = make_secret(alloc, LmsType::H5, OtsType::W2, [3; 16], [7; 32])?;
+    let seed = KeySeed {
+        lms: LmsType::H5,
+        ots: OtsType::W2,
+        ident: [3; 16],
+        start: [7; 32],
+    };
+    let secret = make_secret(&OneThread, alloc, &seed)?;
     let first = signed(alloc, &secret, 0, None, INSERTION)?;
     let id = first.id();
     let child = operation(

@@ -1,7 +1,7 @@
 //! Signed updates for tests.
 
 use lm_ots::OtsType;
-use lms_tree::{LmsType, make_secret};
+use lms_tree::{KeySeed, LmsType, OneThread, make_secret};
 use std::alloc::{AllocError, Global};
 use update_model::AuthorKey;
 
@@ -15,7 +15,13 @@ pub const DATABASE: [u8; 32] = [0xdd; 32];
 /// are 0 to 15, and whose seed has 32 bytes 7. A signature has 4,460 bytes, and verifying it is cheap.
 pub fn signed(alloc: Global, rest: &[u8]) -> Result<(Vec<u8>, AuthorKey), AllocError> {
     let ident = *b"\x00\x01\x02\x03\x04\x05\x06\x07\x08\x09\x0a\x0b\x0c\x0d\x0e\x0f";
-    let secret = make_secret(alloc, LmsType::H5, OtsType::W2, ident, [7; 32])?;
+    let seed = KeySeed {
+        lms: LmsType::H5,
+        ots: OtsType::W2,
+        ident,
+        start: [7; 32],
+    };
+    let secret = make_secret(&OneThread, alloc, &seed)?;
     let author = secret.public();
     let mut bytes = Vec::from_slice(alloc, &[1])?;
     bytes.extend_from_slice(&DATABASE)?;

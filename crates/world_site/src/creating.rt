@@ -14,21 +14,11 @@ use crate::heads::no_heads;
 use crate::site::Site;
 use bec_disk::MemDisk;
 use key_index::KeyStore;
-use lm_ots::OtsType;
-use lms_tree::LmsType;
+use lms_tree::{KeyTypes, OneThread};
 use numbered_words::Words;
 use replica::{CreateKind, create};
 use row_check::{Luhn, Native};
 use std::alloc::{AllocError, Global};
-
-/// Of which types the key of a replica is.
-#[derive(Clone, Copy)]
-pub struct KeyTypes {
-    /// The type of the tree.
-    pub lms: LmsType,
-    /// The type of its leaves.
-    pub ots: OtsType,
-}
 
 impl Site {
     /// A replica whose node has this id, whose store is of this schema and has no updates, and whose key is drawn from
@@ -81,7 +71,7 @@ fn draw_key(
 {
     let key = MemDisk::new(alloc);
     let used = MemDisk::new(alloc);
-    match KeyStore::create(alloc, key, used, types.lms, types.ots, words) {
+    match KeyStore::create(&OneThread, alloc, key, used, types, words) {
         Ok(key) => Ok(key),
         Err(_) => Err(AllocError),
     }

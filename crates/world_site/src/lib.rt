@@ -13,6 +13,5 @@ mod restarting;
 mod sessions;
 mod site;
 
-pub use creating::KeyTypes;
 pub use fault::SiteFault;
 pub use site::Site;

@@ -93,7 +93,7 @@ impl Disks {
             key,
             used,
         } = self;
-        let Ok(key) = KeyStore::open_key(alloc, key, used) else {
+        let Ok(key) = KeyStore::open_key(&OneThread, alloc, key, used) else {
             return Err(AllocError);
         };
         match open_store(&OneThread, alloc, &mut schema, updates, native) {

@@ -22,8 +22,9 @@ ghost use Rattle.txn_text.specs.Outcome.{MayStand};
 
 use bec_bytes::Source;
 use bec_disk::{Disk, Shelf};
-use key_directory::{put_key, take_key};
+use key_directory::{KeyMaker, put_key, take_key};
 use key_index::KeyStore;
+use lms_tree::LeafGenerator;
 use outcomes::{Refusal, each_stands, id_line, made_refusal, room_for_id};
 use rand_core::Rng;
 use record_check::Verifier;
@@ -64,14 +65,25 @@ pub fn apply_in<V: Verifier, H: Shelf, R: Rng, S: Source>(
     one_schema();
     let dir = application.directory;
     let mut store = take_store(verifier, alloc, shelf, dir, Native::new(Luhn))?;
-    let outcome = apply_to(alloc, shelf, application, &mut store.replica, random, input);
+    let maker = KeyMaker {
+        generator: verifier,
+        alloc,
+    };
+    let outcome = apply_to(
+        &maker,
+        shelf,
+        application,
+        &mut store.replica,
+        random,
+        input,
+    );
     put_store(shelf, dir, store);
     outcome
 }
 
 /// The same over the store, which is open.
-fn apply_to<H: Shelf, R: Rng, S: Source>(
-    alloc: Global,
+fn apply_to<G: LeafGenerator, H: Shelf, R: Rng, S: Source>(
+    maker: &KeyMaker<G>,
     shelf: &mut H,
     application: &Application<'_>,
     replica: &mut Replica<H::D, Luhn, Luhn>,
@@ -87,8 +99,15 @@ fn apply_to<H: Shelf, R: Rng, S: Source>(
 {
     each_stands(replica);
     let dir = application.directory;
-    let mut key = take_key(alloc, shelf, dir)?;
-    let outcome = apply_by(alloc, replica, &mut key, application.note, random, input);
+    let mut key = take_key(maker.generator, maker.alloc, shelf, dir)?;
+    let outcome = apply_by(
+        maker.alloc,
+        replica,
+        &mut key,
+        application.note,
+        random,
+        input,
+    );
     put_key(shelf, dir, key);
     outcome
 }

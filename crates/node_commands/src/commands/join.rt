@@ -32,13 +32,14 @@ pub fn join_in<V: Verifier, H: Shelf, R: Rng>(
 {
     one_schema();
     let mut store = take_store(verifier, alloc, shelf, dir, Native::new(Luhn))?;
-    let outcome = join_to(alloc, shelf, dir, &mut store.replica, random);
+    let outcome = join_to(verifier, alloc, shelf, dir, &mut store.replica, random);
     put_store(shelf, dir, store);
     outcome
 }
 
 /// The same over the store, which is open.
-fn join_to<H: Shelf, R: Rng>(
+fn join_to<V: Verifier, H: Shelf, R: Rng>(
+    verifier: &V,
     alloc: Global,
     shelf: &mut H,
     dir: &str,
@@ -51,7 +52,7 @@ fn join_to<H: Shelf, R: Rng>(
         dir.now (H.state shelf.old) (H.state shelf.new) (H.faults shelf.old) (H.faults shelf.new) replica.old replica.new result }
 {
     each_stands(replica);
-    let mut key = take_key(alloc, shelf, dir)?;
+    let mut key = take_key(verifier, alloc, shelf, dir)?;
     let outcome = join_by(alloc, replica, &mut key, random);
     put_key(shelf, dir, key);
     outcome

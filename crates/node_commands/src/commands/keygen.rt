@@ -5,8 +5,7 @@ ghost use Rattle.key_directory.specs.Parts.{IsHome};
 
 use bec_disk::Shelf;
 use key_directory::{new_key, put_key};
-use lm_ots::OtsType;
-use lms_tree::LmsType;
+use lms_tree::{KeyTypes, LeafGenerator};
 use outcomes::Refusal;
 use rand_core::Rng;
 use std::alloc::{AllocError, Global};
@@ -17,19 +16,19 @@ const KEY_LINE: usize = 113;
 
 /// Draws a key of these types for a directory that has none, and answers the line of its public key. Room for the line is
 /// there before anything is made.
-pub fn keygen_in<H: Shelf, R: Rng>(
+pub fn keygen_in<G: LeafGenerator, H: Shelf, R: Rng>(
+    generator: &G,
     alloc: Global,
     shelf: &mut H,
     dir: &str,
-    height: LmsType,
-    width: OtsType,
+    types: KeyTypes,
     random: &mut R,
 ) -> Result<Vec<u8>, Refusal>
     requires { IsTrue (H.state shelf.old).tells → IsHome (H.state shelf.old) }
-    ensures { DrawsKey height width (R.stream random.old) (R.stream random.new) dir.now (H.state shelf.old) (H.state shelf.new) (H.faults shelf.old) (H.faults shelf.new) result }
+    ensures { DrawsKey types.lms types.ots (R.stream random.old) (R.stream random.new) dir.now (H.state shelf.old) (H.state shelf.new) (H.faults shelf.old) (H.faults shelf.new) result }
 {
     let mut line = Vec::with_capacity(alloc, KEY_LINE)?;
-    let key = new_key(alloc, shelf, dir, height, width, random)?;
+    let key = new_key(generator, alloc, shelf, dir, types, random)?;
     let told = push_key(&mut line, &key.public());
     put_key(shelf, dir, key);
     told?;
