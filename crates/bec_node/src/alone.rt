@@ -129,5 +129,12 @@ fn drawn_key<G: LeafGenerator, H: Shelf, R: Rng>(
     ensures { DrawsKey types.0 types.1 (R.stream random.old) (R.stream random.new) directory.now (H.state shelf.old) (H.state shelf.new) (H.faults shelf.old) (H.faults shelf.new) result }
 {
     let (lms, ots) = types;
-    keygen_in(generator, alloc, shelf, directory, KeyTypes { lms, ots }, random)
+    keygen_in(
+        generator,
+        alloc,
+        shelf,
+        directory,
+        KeyTypes { lms, ots },
+        random,
+    )
 }
