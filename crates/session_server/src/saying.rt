@@ -47,7 +47,8 @@ pub(crate) fn say<R: Wait, K: Link, D: Disk>(
     (pass, told)
 }
 
-/// Says the updates at these positions. They are fetched piece by piece, each piece in a turn of its own, and are said outside of any turn.
+/// Says the updates at these positions. They are fetched piece by piece, each piece in a turn of its own, and are said
+/// outside of any turn.
 fn say_updates<R: Wait, K: Link, D: Disk>(
     rt: &R,
     alloc: Global,
