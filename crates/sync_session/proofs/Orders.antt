@@ -1,14 +1,14 @@
 -- Batches of distinct ids, committed to lists of the same members.
-use Rattle.std.proofs.Common.{◌≡◌, ◌≢◌, ◌⊎◌, inl, inr, Bool, true, false, not, ◌||◌, List, [], ◌∷◌, ◌++◌, length, map, filter, find, Contains, None, refl, sym, ap, subst, ◌∙◌, arith, append_assoc, append-nil}
-use Rattle.std.specs.List.{AllByRecursion, list_any}
+use Rattle.std.proofs.Common.{◌≡◌, ◌≢◌, inl, inr, Bool, true, false, not, ◌||◌, List, [], ◌∷◌, ◌++◌, length, filter, Contains, None, refl, sym, ap, subst, ◌∙◌, arith, append_assoc, append-nil}
+use Rattle.std.specs.List.{AllByRecursion}
 use Rattle.std.specs.List.Sorted.{IsPermutation}
 use Rattle.std.proofs.lemmas.List.Elements.{recursion_from_All, Contains-append_left, Contains-append_right, Contains-append_cases, Contains-push, Contains-push_cases}
 use Rattle.std.proofs.lemmas.List.Sorted.{IsPermutation-refl, IsPermutation-sym, IsPermutation-cons, IsPermutation-middle, IsPermutation-trans, IsPermutation-append, list_any-IsPermutation, sum_by-IsPermutation, length_permutation}
 use Rattle.update_model.specs.declared.update_id.UpdateId.{UpdateId}
-use Rattle.update_model.specs.Batch.{Adds, Limits, fits, not_held}
+use Rattle.update_model.specs.Batch.{Adds, Limits, fits}
 use Rattle.update_model.specs.Entry.{Entry, same_id}
 use Rattle.update_model.specs.Graph.{byte_count, holds, lacking, Follows, IsNext}
-use Rattle.update_model.proofs.Ids.{id_from_same, same_id-refl, same_id-symm}
+use Rattle.update_model.proofs.Ids.{same_id-refl, same_id-symm}
 use Rattle.session_rules.proofs.Held.{held_member, held_witness, holds_append, holds_front, later_differs}
 use Rattle.session_rules.proofs.Words.{cons_cases, each_member, each_weaker, filter_member, find_none, first_member, is_either, later_member, or_cases}
 
@@ -208,7 +208,7 @@ pub adds_same : (before other batch added waiting more waits : List Entry) → I
 adds_same before other batch added waiting more waits p apart one two =
     let same = same_held before other p in
     let added_same = one_in_two_orders added more (follows_apart before added one.next) (follows_apart other more two.next)
-        (added_too before other batch added waiting more waits same one two apart) (added_too other before batch more waits added waiting (λ id. sym (same id)) two one apart) in
+    (added_too before other batch added waiting more waits same one two apart) (added_too other before batch more waits added waiting (λ id. sym (same id)) two one apart) in
     let list = IsPermutation-append before other added more p added_same in
     let held = same_held (before ++ added) (other ++ more) list in
     record {

@@ -1,18 +1,17 @@
 -- What a frame does to one end over two lists of the same members: the same.
 use Rattle.std.proofs.Common.{◌≡◌, ◌≢◌, ◌⊎◌, inl, inr, ℕ, ◌+◌, Bool, true, false, not, ◌&&◌, ◌||◌, cond, if◌then◌else◌, List, [], ◌∷◌, ◌++◌, length, map, take, Option, Some, None, refl, sym, ap, ap₂, subst, ◌∙◌, bytes_eq}
-use Rattle.std.specs.List.{AllByRecursion, list_all}
-use Rattle.std.specs.List.Sorted.{IsPermutation, IsStrictlySortedBy}
+use Rattle.std.specs.List.{list_all}
+use Rattle.std.specs.List.Sorted.{IsPermutation}
 use Rattle.std.proofs.lemmas.List.Sorted.{length_permutation}
 use Rattle.bloom_summary.specs.Bloom.{AreBits, is_member}
 use Rattle.update_check.specs.Causes.{IsCause}
-use Rattle.update_check.specs.Signed.{IsChecked}
 use Rattle.update_check.specs.declared.check_error.CheckFault.{CheckFault}
 use Rattle.update_model.specs.declared.update_id.UpdateId.{UpdateId}
 use Rattle.update_model.specs.Batch.{Adds, Limits, fits}
-use Rattle.update_model.specs.Entry.{Entry, id_cmp}
-use Rattle.update_model.specs.Graph.{has, holds, names, is_within, AreHeads}
+use Rattle.update_model.specs.Entry.{Entry}
+use Rattle.update_model.specs.Graph.{has, holds, names, is_within}
 use Rattle.update_model.specs.Rule.{RuleData}
-use Rattle.update_model.specs.Since.{AreSince, Picks}
+use Rattle.update_model.specs.Since.{Picks}
 use Rattle.update_model.proofs.Heads.{sorted_same}
 use Rattle.session_rules.specs.Burst.{IsBurst, IsUnknown}
 use Rattle.session_rules.specs.Commit.{Committed, Added, TooMuch, DiskFault, Commits}
@@ -194,7 +193,7 @@ module _ (one_summary : OneSummary) (limits : Limits) (s : SessionData) (list ot
       let have : two.have ≡ own.have = b.have ∙ all_alike (holds after_two) (holds after) (λ id. sym (held id)) (heads_in s.peer) ∙ sym a.have in
       let needs_two = subst (λ (h : Bool). AreNeeds h (is_wanted (heads_in s.peer) after_two waits s.asked) two.needs) have b.needs in
       let needs = needs_alike (is_wanted (heads_in s.peer) after waits s.asked) (is_wanted (heads_in s.peer) after_two waits s.asked)
-          (λ id. ap (λ (h : Bool). (has (heads_in s.peer) id || names waits id) && (not h && (not (holds waits id) && not (has s.asked id)))) (held id)) own.have own.needs two.needs a.needs needs_two in
+      (λ id. ap (λ (h : Bool). (has (heads_in s.peer) id || names waits id) && (not h && (not (holds waits id) && not (has s.asked id)))) (held id)) own.have own.needs two.needs a.needs needs_two in
       same_turn own two have needs
 
   abbrev with_added : TurnData → ℕ → List Entry → SessionData

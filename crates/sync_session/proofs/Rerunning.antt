@@ -14,9 +14,9 @@ use Rattle.session_rules.specs.declared.end.End.{End}
 use Rattle.session_rules.specs.declared.end.End.TheVariants.{Done, Peer, Full, Store}
 use Rattle.session_rules.specs.declared.role.Role.TheVariants.{Initiator, Responder}
 use Rattle.session_rules.specs.State.{HelloData, FrameData, Hello, SessionData, OutData}
-use Rattle.session_rules.specs.Steps.{Steps, Takes}
+use Rattle.session_rules.specs.Steps.{Takes}
 use Rattle.session_rules.proofs.ItemStep.{takes_from}
-use Rattle.sync_session.specs.Carrying.{Arrives, Begins, EndsBy, Hands, HandsOn, at_first, then_a, then_b, IsGoing, Syncs}
+use Rattle.sync_session.specs.Carrying.{Arrives, EndsBy, Hands, HandsOn, at_first, then_a, then_b, IsGoing, Syncs}
 use Rattle.sync_session.specs.Reruns.{AreOneRun}
 use Rattle.sync_session.specs.declared.pair.PairStart.{PairStart}
 use Rattle.sync_session.specs.declared.pair.PairEnd.{PairEnd}
@@ -76,11 +76,11 @@ module _ (no_cause : NoCause) (one_cause : OneCause) (one_summary : OneSummary) 
       let arrives_two = subst (λ (f : FrameData). Arrives rule f l.arrived) frame l.arrives in
       let arrived : l.arrived ≡ k.arrived = arrives_alike no_cause one_cause rule k.frame k.arrived l.arrived k.arrives arrives_two in
       let taken_two = subst (λ (f : FrameData). Takes limits p.a two.list_a f l.next l.out l.after) arrived
-          (subst (λ (x : SessionData). Takes limits x two.list_a l.arrived l.next l.out l.after) s.a (taken limits rule two q_two l)) in
+      (subst (λ (x : SessionData). Takes limits x two.list_a l.arrived l.next l.out l.after) s.a (taken limits rule two q_two l)) in
       let next_is : q.a ≡ k.next = ap (λ (x : PairData). x.a) k.is in
       let next_two_is : q_two.a ≡ l.next = ap (λ (x : PairData). x.a) l.is in
       let one = takes_one one_summary limits p.a p.list_a two.list_a s.list_a tidy.apart k.running at k.next k.out k.after l.next l.out l.after
-          (λ e. no_store (ap (λ (x : SessionData). x.ended) next_is ∙ e)) (λ e. no_store_two (ap (λ (x : SessionData). x.ended) next_two_is ∙ e)) k.arrived (taken limits rule p q k) taken_two in
+      (λ e. no_store (ap (λ (x : SessionData). x.ended) next_is ∙ e)) (λ e. no_store_two (ap (λ (x : SessionData). x.ended) next_two_is ∙ e)) k.arrived (taken limits rule p q k) taken_two in
       rw (k.is, l.is) (record {
         a = one.state;
         list_a = one.list;
@@ -213,7 +213,7 @@ module _ (limits_a limits_b : Limits) (rule_a rule_b : RuleData) where
         (goes_underway limits_a rule_a p r u k) rest rest_two
     reruns p two s u (by_b p' r k rest) (by_b two' r_two l rest_two) =
         let next = hands_alike no_cause one_cause one_summary limits_b rule_b (swapped p) (swapped two) (swapped r) (swapped r_two) (turn_alike p two s) u.tidy_b (inr u.past_b) k l
-            (not_stored_b p q r ending k rest over) (not_stored_b two q_two r_two ending_two l rest_two over_two) in
+        (not_stored_b p q r ending k rest over) (not_stored_b two q_two r_two ending_two l rest_two over_two) in
         reruns r r_two (turn_alike (swapped r) (swapped r_two) next) (turn_underway (swapped r) (goes_underway limits_b rule_b (swapped p) (swapped r) (turn_underway p u) k)) rest rest_two
 
 -- ---- from the first frame on
@@ -271,7 +271,7 @@ module _ (start : PairStart) (list_a list_b : List Entry) where
         let k_first = subst (λ (x : PairData). Hands limits_b rule_b (swapped x) (swapped r)) e k in
         let l_first = subst (λ (x : PairData). Hands limits_b rule_b (swapped x) (swapped r_two)) f l in
         let next = hands_alike no_cause one_cause one_summary limits_b rule_b (swapped (first_at hello)) (swapped (first_at hello)) (swapped r) (swapped r_two) (turn_alike (first_at hello) (first_at hello) (first_alike hello)) tidy_answerer (inl refl) k_first l_first
-            (not_stored_b limits_a limits_b rule_a rule_b (first_at hello) q r ending k_first rest over) (not_stored_b limits_a limits_b rule_a rule_b (first_at hello) q_two r_two ending_two l_first rest_two over_two) in
+        (not_stored_b limits_a limits_b rule_a rule_b (first_at hello) q r ending k_first rest over) (not_stored_b limits_a limits_b rule_a rule_b (first_at hello) q_two r_two ending_two l_first rest_two over_two) in
         reruns limits_a limits_b rule_a rule_b no_cause one_cause one_summary q q_two ending ending_two over over_two r r_two (turn_alike (swapped r) (swapped r_two) next) (underway r k_first) rest rest_two
 
 -- ---- what both answer

@@ -1,5 +1,5 @@
 -- A run in which an end has ended.
-use Rattle.std.proofs.Common.{◌≡◌, ◌≢◌, inl, inr, List, [], ◌++◌, Option, Some, None, refl, sym, ap, subst, ◌∙◌, append_assoc, append-nil}
+use Rattle.std.proofs.Common.{◌≡◌, ◌≢◌, inl, inr, List, [], ◌++◌, Some, None, refl, sym, ap, subst, ◌∙◌, append_assoc, append-nil}
 use Rattle.update_model.specs.Batch.{Limits}
 use Rattle.update_model.specs.Rule.{RuleData}
 use Rattle.session_rules.specs.Pair.{PairData, frames_of, swapped}
@@ -24,7 +24,7 @@ never_hands limits rule p q s k = elim s.ended [
 ]
 
 turned : (p : PairData) → HasStopped p → HasStopped (swapped p)
-turned p s = record { ending = s.ending; undone = s.undone; ended = elim s.ended [ | inl a ↦ inr a | inr b ↦ inl b ] }
+turned p s = record { ending = s.ending; undone = s.undone; ended = elim s.ended [ inl a ↦ inr a | inr b ↦ inl b ] }
 
 module _ (limits_a limits_b : Limits) (rule_a rule_b : RuleData) (p : PairData) where
   pub stays : (q : PairData) → HandsOn limits_a limits_b rule_a rule_b p q → HasStopped p → q ≡ p

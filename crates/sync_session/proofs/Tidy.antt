@@ -1,5 +1,5 @@
 -- What an end has gathered and what waits have distinct ids, whatever frames come.
-use Rattle.std.proofs.Common.{◌≡◌, ◌≢◌, ◌⊎◌, inl, inr, ℕ, Bool, true, false, not, ◌&&◌, ◌||◌, if◌then◌else◌, List, [], ◌∷◌, ◌++◌, length, filter, take, Option, Some, None, refl, sym, ap, subst, ◌∙◌, append_assoc, append-nil, nat_lt}
+use Rattle.std.proofs.Common.{◌≡◌, ℕ, Bool, true, false, not, ◌&&◌, ◌||◌, if◌then◌else◌, List, [], ◌∷◌, ◌++◌, Option, Some, None, refl, sym, ap, subst, ◌∙◌, append_assoc, append-nil, nat_lt}
 use Rattle.std.specs.List.{AllByRecursion}
 use Rattle.std.specs.List.Sorted.{IsStrictlySortedBy}
 use Rattle.std.specs.declared.cmp.Ordering.TheVariants.{Less}
@@ -17,7 +17,7 @@ use Rattle.session_rules.specs.declared.end.End.TheVariants.{Done, Peer, Full, S
 use Rattle.session_rules.specs.declared.peer_fault.PeerFault.{PeerFault}
 use Rattle.session_rules.specs.declared.peer_fault.PeerFault.TheVariants.{OutOfTurn, Unanswered}
 use Rattle.session_rules.specs.State.{HelloData, TurnData, FrameData, Hello, OtherVersion, Item, BadItem, Turn, NoFrame, Reading, Opening, Burst, Answers, SessionData, OutData}
-use Rattle.session_rules.specs.Steps.{AreLeast, AreNeeds, IsTurn, after_item, answer_fault, committed, counted, due_fault, first_of, gathers, heads_in, hello_fault, in_burst, is_first, is_wanted, item_fault, late_fault, refused, takes_hello, takes_item, takes_turn, turn_fault, Concludes, Ends, Gathers, Greets, Judges, Replies, Settles, Takes, Unless}
+use Rattle.session_rules.specs.Steps.{AreNeeds, after_item, answer_fault, committed, due_fault, first_of, gathers, heads_in, hello_fault, in_burst, is_first, is_wanted, item_fault, late_fault, takes_hello, takes_item, takes_turn, turn_fault, Concludes, Ends, Gathers, Greets, Judges, Replies, Settles, Takes, Unless}
 use Rattle.session_rules.proofs.Held.{holds_append}
 use Rattle.session_rules.proofs.Needs.{least_passes}
 use Rattle.session_rules.proofs.Words.{and_both}

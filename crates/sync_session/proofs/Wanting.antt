@@ -1,6 +1,6 @@
 -- What is sought, and what of it is asked for.
-use Rattle.std.proofs.Common.{◌≡◌, ◌⊎◌, ◌↔◌, IsSome, arith, ℕ, ◌+◌, ◌<◌, ◌≤◌, Bool, true, false, not, cond, ◌&&◌, ◌||◌, List, [], ◌∷◌, ◌++◌, length, get_or, slice_index_or, take, map, filter, drop, is_some, Option, Some, None, Result, Ok, Err, IfOk, refl, sym, ap, subst, ◌∙◌, append_assoc, append-nil, inl, inr}
-use Rattle.std.specs.List.{list_any, HoldsAt}
+use Rattle.std.proofs.Common.{◌≡◌, ◌⊎◌, ◌↔◌, IsSome, arith, ℕ, ◌+◌, ◌<◌, ◌≤◌, Bool, true, false, not, cond, ◌&&◌, ◌||◌, List, [], ◌∷◌, ◌++◌, length, get_or, take, map, filter, drop, is_some, Option, Some, None, Result, Ok, Err, IfOk, refl, sym, ap, subst, ◌∙◌, append_assoc, inl, inr}
+use Rattle.std.specs.List.{HoldsAt}
 use Rattle.std.specs.List.Sorted.{IsSearchInRange, IsStrictlySortedBy}
 use Rattle.std.specs.Result.{is_ok}
 use Rattle.std.specs.BTreeMap.{BTreeMap, get, keys}
@@ -19,7 +19,7 @@ use Rattle.update_model.specs.Graph.{has, holds, names}
 use Rattle.update_model.proofs.Ids.{id_from_same, same_id-symm}
 use Rattle.session_rules.specs.declared.limits.TheConstants.{MAX_NEEDS}
 use Rattle.session_rules.specs.Steps.{is_wanted, AreLeast}
-use Rattle.session_rules.proofs.Words.{and_both, and_join, is_either, not_true, or_cases, or_left, or_right}
+use Rattle.session_rules.proofs.Words.{and_both, and_join, is_either, or_cases, or_left, or_right}
 use Rattle.sync_session.specs.Pending.{PendingData}
 use Rattle.sync_session.specs.Wants.{is_open, AreSought, SeeksToo, StaySought}
 use Rattle.sync_session.proofs.IdSets.{has-take_more, put_in, front_is, whole_is}

@@ -1,6 +1,5 @@
-use Rattle.std.proofs.Common.{◌∙◌, sym, map}
-use Rattle.update_codec.specs.Parts.{entry_of}
-use Rattle.update_model.specs.Graph.{has, names}
+use Rattle.std.proofs.Common.{◌∙◌, sym}
+use Rattle.update_model.specs.Graph.{has}
 use Rattle.session_rules.proofs.Words.{or_left, or_right}
 use Rattle.sync_session.proofs.Wanting.{found_by_search}
 use Rattle.sync_session.proofs.needs.is_named_still.Goals as goal

@@ -1,4 +1,4 @@
-use Rattle.std.proofs.Common.{◌≡◌, ◌∙◌, ◌<◌, true, sym, ap, subst, map, length, arith}
+use Rattle.std.proofs.Common.{◌≡◌, ◌∙◌, ◌<◌, true, sym, subst, map, length, arith}
 use Rattle.update_codec.specs.Parts.{entry_of}
 use Rattle.update_model.specs.Graph.{names}
 use Rattle.sync_session.specs.Pending.{PendingData}

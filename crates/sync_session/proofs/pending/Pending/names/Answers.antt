@@ -1,6 +1,6 @@
-use Rattle.std.proofs.Common.{◌≡◌, ◌∙◌, ◌||◌, List, ℕ, sym, ap, subst, map}
+use Rattle.std.proofs.Common.{◌∙◌, List, ℕ, sym, ap, map}
 use Rattle.update_codec.specs.Parts.{entry_of}
-use Rattle.update_model.specs.Graph.{has, names}
+use Rattle.update_model.specs.Graph.{names}
 use Rattle.sync_session.specs.Pending.{PendingData}
 use Rattle.sync_session.proofs.Wanting.{named_at, names_more}
 use Rattle.sync_session.proofs.pending.Pending.names.Goals as goal

@@ -1,9 +1,9 @@
-use Rattle.std.proofs.Common.{◌≡◌, ◌∙◌, [], List, sym, ap, subst, refl, map, take, length, ◌&&◌}
+use Rattle.std.proofs.Common.{◌∙◌, List, sym, ap, subst, map, take, length, ◌&&◌}
 use Rattle.std.proofs.lemmas.Result.{IfOk-weaker}
 use Rattle.update_codec.specs.Parts.{entry_of}
 use Rattle.session_rules.specs.Steps.{is_first, IsTurn}
 use Rattle.update_model.specs.Entry.{Entry}
-use Rattle.sync_session.specs.Kept.{Kept, late_fault_at, turn_of, whole, with_commit, with_end, IsSeeking, LeavesSought, Seeks}
+use Rattle.sync_session.specs.Kept.{Kept, late_fault_at, turn_of, whole, with_commit, LeavesSought, Seeks}
 use Rattle.sync_frames.specs.Payload.{TurnData}
 use Rattle.sync_session.specs.Turns.{RepliesTo, SettlesTo}
 use Rattle.sync_session.proofs.Settling.{seeking_ended, settled_fault, settled_done, settled_reply}
