@@ -2,6 +2,7 @@
 
 ghost use Rattle.std.specs.Prelude.{IsTrue};
 ghost use Rattle.bec_node.specs.RunAlone.{HasShortNote, NamesApart, Comes, Runs};
+ghost use Rattle.node_commands.specs.Creating.{DrawsKey};
 ghost use Rattle.outcomes.specs.Outside.{outside};
 ghost use Rattle.command_words.specs.Seen.{request_seen};
 ghost use Rattle.key_directory.specs.Parts.{IsHome};
@@ -9,7 +10,8 @@ ghost use Rattle.key_directory.specs.Parts.{IsHome};
 use bec_bytes::{Sink, Source};
 use bec_disk::Shelf;
 use command_words::{Request, one_request, request_in};
-use lms_tree::KeyTypes;
+use lm_ots::OtsType;
+use lms_tree::{KeyTypes, LeafGenerator, LmsType};
 use node_commands::{
     Application, apply_in, bundle_tables, dump_in, export_in, heads_in, init_in, join_in,
     keygen_in, merge_in, notes_in, one_answer, one_answer_of_makers, one_answer_of_merge,
@@ -92,13 +94,7 @@ fn outcome_of<V: Verifier, H: Shelf, R: Rng, S: Source>(
             directory,
             height,
             width,
-        } => {
-            let types = KeyTypes {
-                lms: *height,
-                ots: *width,
-            };
-            keygen_in(verifier, alloc, shelf, directory, types, random)
-        },
+        } => drawn_key(verifier, alloc, shelf, directory, (*height, *width), random),
         Request::Apply { directory, note } => {
             let application = Application {
                 directory,
@@ -118,4 +114,27 @@ fn outcome_of<V: Verifier, H: Shelf, R: Rng, S: Source>(
         Request::Merge { first, second } => merge_in(verifier, alloc, shelf, first, second),
         Request::Notes { directory } => notes_in(verifier, alloc, shelf, directory),
     }
+}
+
+/// Draws a key for a directory that has none. Its tree is of the one type, and its one-time keys of the other.
+fn drawn_key<G: LeafGenerator, H: Shelf, R: Rng>(
+    generator: &G,
+    alloc: Global,
+    shelf: &mut H,
+    directory: &str,
+    types: (LmsType, OtsType),
+    random: &mut R,
+) -> Result<Vec<u8>, Refusal>
+    requires { IsTrue (H.state shelf.old).tells → IsHome (H.state shelf.old) }
+    ensures { DrawsKey types.0 types.1 (R.stream random.old) (R.stream random.new) directory.now (H.state shelf.old) (H.state shelf.new) (H.faults shelf.old) (H.faults shelf.new) result }
+{
+    let (lms, ots) = types;
+    keygen_in(
+        generator,
+        alloc,
+        shelf,
+        directory,
+        KeyTypes { lms, ots },
+        random,
+    )
 }

@@ -45,8 +45,9 @@ impl<D: Disk> Model for Hss<D> {
     ghost view = { λ hss. record { dir = string_bytes hss.dir; top = hss.top; lower = hss.lower } };
 }
 
-/// Creates a key of two levels in a directory where the part Key is absent. Its types are the top key's and those of the lower keys that are made
-/// for it. The generator computes its leaves. Nothing is signed yet. Where it is refused, every part is in its place again.
+/// Creates a key of two levels in a directory where the part Key is absent. Its types are the top key's and those
+/// of the lower keys that are made for it. The generator computes its leaves. Nothing is signed yet. Where it is
+/// refused, every part is in its place again.
 pub fn create_hss<G: LeafGenerator, H: Shelf, R: Rng>(
     generator: &G,
     alloc: Global,
@@ -76,8 +77,9 @@ pub fn create_hss<G: LeafGenerator, H: Shelf, R: Rng>(
     })
 }
 
-/// Opens the key of two levels of a directory, with its current lower key: that of the top index that was used last, where one was and the part
-/// Peers of that directory is not absent. The generator computes the leaves of both. It writes nothing. Where it is refused, every part is in its place again.
+/// Opens the key of two levels of a directory, with its current lower key: that of the top index that was used
+/// last, where one was and the part Peers of that directory is not absent. The generator computes the leaves of
+/// both. It writes nothing. Where it is refused, every part is in its place again.
 pub fn open_hss<G: LeafGenerator, H: Shelf>(
     generator: &G,
     alloc: Global,
@@ -123,8 +125,9 @@ impl<D: Disk> Hss<D> {
         types_of(&self.top.public()).lms.leaf_count()
     }
 
-    /// The seal of a message. The current lower key signs it by its least index that is not used; where there is none or it is spent, the next one
-    /// is made first, by the least top index that is not used, and the generator computes its leaves. An index is on its disk before it signs.
+    /// The seal of a message. The current lower key signs it by its least index that is not used; where there is
+    /// none or it is spent, the next one is made first, by the least top index that is not used, and the generator
+    /// computes its leaves. An index is on its disk before it signs.
     pub fn sign<G: LeafGenerator, H: Shelf<D = D>, R: Rng>(
         &mut self,
         generator: &G,

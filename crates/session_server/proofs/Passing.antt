@@ -1,27 +1,26 @@
 -- Passes that go on.
-use Rattle.std.proofs.Common.{◌≡◌, ◌+◌, ◌<◌, ℕ, zero, suc, take, drop, get_or, Bool, List, [], ◌∷◌, ◌++◌, length, map, Option, Some, None, Result, Ok, Err, refl, sym, ap, subst, ◌∙◌, append_assoc, append-nil, arith}
+use Rattle.std.proofs.Common.{◌≡◌, ◌+◌, ◌-◌, ◌<◌, ◌≤◌, ℕ, zero, suc, take, drop, get_or, Bool, List, [], ◌∷◌, ◌++◌, length, map, Option, Some, None, Result, Ok, Err, refl, sym, ap, subst, ◌∙◌, append_assoc, append-nil, arith}
 use Rattle.std.specs.List.{slice_get, filter_map, cons_option}
+use Rattle.std.proofs.Math.Seq.{take-add}
 use Rattle.std.proofs.lemmas.Option.{slice_get-map}
-use Rattle.std.proofs.lemmas.List.{map-append}
-use Rattle.sync_session.proofs.Rounds.{sent_more, sent_split}
-use Rattle.std.specs.Prelude.{option_map}
-use Rattle.std.specs.Prelude.{IfOk}
-use Rattle.std.specs.declared.alloc.AllocError.{AllocError}
+use Rattle.std.proofs.lemmas.List.{length-drop, map-append, take-append-drop, take_all, take_more}
+use Rattle.std.proofs.lemmas.List.Elements.{All-drop, All-head, All-same, All-tail, All-take, All-weaker, filter_map-append}
+use Rattle.std.specs.Prelude.{All, option_map}
 use Rattle.std.specs.Io.KnownBytes.{Appends}
 use mathlib.Core.List.{IsPrefix}
 use Rattle.replica.specs.Replicas.{ReplicaState}
 use Rattle.update_codec.specs.Parts.{entry_of}
-use Rattle.update_model.specs.Entry.{Entry as GraphEntry}
 use Rattle.session_rules.specs.State.{FrameData, Item}
 use Rattle.turn_lock.specs.Seats.{Known}
 use Rattle.shared_replica.specs.declared.entry.Entry.{Entry}
 use Rattle.shared_replica.specs.Acts.{IsAct}
 use Rattle.shared_replica.specs.Entries.{entries_by, updates_of}
-use Rattle.shared_replica.proofs.Lists.{updates_more}
+use Rattle.shared_replica.specs.Pieces.{IsPieceOf}
+use Rattle.shared_replica.proofs.Lists.{updates_begin, updates_more}
 use Rattle.link_frames.specs.Hearing.{AreFrontOf}
 use Rattle.link_frames.specs.Saying.{Says}
 use Rattle.link_frames.specs.declared.saying.Halt.{Halt}
-use Rattle.link_frames.proofs.Sentences.{says_then, says_halted}
+use Rattle.link_frames.proofs.Sentences.{front_whole, says_then, says_halted}
 use Rattle.session_server.specs.Talks.{IsStill}
 
 pub prefix_then : {A : Type 0} (xs ys zs : List A) → IsPrefix xs ys → IsPrefix ys zs → IsPrefix xs zs
@@ -46,71 +45,106 @@ act_still before after P old new fault a = record {
   numbered = a.named;
 }
 
--- ---- an update that was fetched
+-- ---- updates that were fetched
 
 get_front : {A : Type 0} (xs ys : List A) (k : ℕ) → k < length xs → slice_get (xs ++ ys) k ≡ slice_get xs k
 get_front [] ys k less = absurd (omega arith)
 get_front (x ∷ xs) ys zero less = refl
 get_front (x ∷ xs) ys (suc k) less = get_front xs ys k (omega arith)
 
--- what stands there says this
-pub item_there : (seen list : List Entry) (position : ℕ) (bytes : List ℕ) → IsPrefix seen list → position < length (updates_of seen) → slice_get (updates_of list) position ≡ Some bytes
-    → map Item (filter_map (slice_get (map entry_of (updates_of seen))) (position ∷ [])) ≡ Item (entry_of bytes) ∷ []
-item_there seen list position bytes p within is =
-    let q = updates_prefix seen list p in
-    let there : slice_get (updates_of seen) position ≡ Some bytes = sym (get_front (updates_of seen) q.0 position within) ∙ ap (λ (l : List (List ℕ)). slice_get l position) q.1 ∙ is in
-    ap (λ (o : Option GraphEntry). map Item (cons_option o [])) (slice_get-map entry_of (updates_of seen) position ∙ ap (option_map entry_of) there)
+cons_map : {X Y : Type 0} (f : X → Y) (o : Option X) (rest : List X) → cons_option (option_map f o) (map f rest) ≡ map f (cons_option o rest)
+cons_map f None rest = refl
+cons_map f (Some x) rest = refl
 
--- what stands there says the same where more was seen
-pub same_here : (seen more : List Entry) (position : ℕ) → IsPrefix seen more → position < length (updates_of seen)
-    → map Item (filter_map (slice_get (map entry_of (updates_of more))) (position ∷ [])) ≡ map Item (filter_map (slice_get (map entry_of (updates_of seen))) (position ∷ []))
-same_here seen more position p within =
-    let q = updates_prefix seen more p in
-    let there : slice_get (updates_of more) position ≡ slice_get (updates_of seen) position = ap (λ (l : List (List ℕ)). slice_get l position) (sym q.1) ∙ get_front (updates_of seen) q.0 position within in
-    ap (λ (o : Option GraphEntry). map Item (cons_option o [])) (slice_get-map entry_of (updates_of more) position ∙ ap (option_map entry_of) there ∙ sym (slice_get-map entry_of (updates_of seen) position))
+-- positions of what was seen name the same in a longer list
+same_named : (seen list : List Entry) (positions : List ℕ) → IsPrefix seen list → All (λ p. p < length (updates_of seen)) positions
+    → filter_map (slice_get (map entry_of (updates_of seen))) positions ≡ map entry_of (filter_map (slice_get (updates_of list)) positions)
+same_named seen list [] p within = refl
+same_named seen list (q ∷ qs) p within =
+    let u = updates_prefix seen list p in
+    let low : q < length (updates_of seen) = All-head (λ (n : ℕ). n < length (updates_of seen)) q qs within in
+    let there : slice_get (updates_of seen) q ≡ slice_get (updates_of list) q = sym (get_front (updates_of seen) u.0 q low) ∙ ap (λ (l : List (List ℕ)). slice_get l q) u.1 in
+    let here = slice_get-map entry_of (updates_of seen) q ∙ ap (option_map entry_of) there in
+    let rest = same_named seen list qs p (All-tail (λ (n : ℕ). n < length (updates_of seen)) q qs within) in
+    (λ i. cons_option (here i) (rest i)) ∙ cons_map entry_of (slice_get (updates_of list) q) (filter_map (slice_get (updates_of list)) qs)
 
-cons_apart : {X : Type 0} (o : Option X) (rest : List X) → cons_option o rest ≡ cons_option o [] ++ rest
-cons_apart None rest = refl
-cons_apart (Some x) rest = refl
+-- what positions say
+abbrev pub items : List Entry → List ℕ → List FrameData
+items seen ps = map Item (filter_map (slice_get (map entry_of (updates_of seen))) ps)
 
--- one position more
-pub said_more : (graph : List GraphEntry) (positions : List ℕ) (i d : ℕ) → i < length positions
-    → map Item (filter_map (slice_get graph) (take (i + 1) positions)) ≡ map Item (filter_map (slice_get graph) (take i positions)) ++ map Item (filter_map (slice_get graph) (get_or positions i d ∷ []))
-said_more graph positions i d low = ap (map Item) (sent_more graph positions i d low) ∙ map-append Item (filter_map (slice_get graph) (take i positions)) (cons_option (slice_get graph (get_or positions i d)) [])
+items_apart : (seen : List Entry) (ps qs : List ℕ) → items seen (ps ++ qs) ≡ items seen ps ++ items seen qs
+items_apart seen ps qs =
+    let graph = map entry_of (updates_of seen) in
+    ap (map Item) (filter_map-append (slice_get graph) ps qs) ∙ map-append Item (filter_map (slice_get graph) ps) (filter_map (slice_get graph) qs)
 
--- the positions before, one, and those behind
-pub said_split : (graph : List GraphEntry) (positions : List ℕ) (i d : ℕ) → i < length positions
-    → map Item (filter_map (slice_get graph) positions) ≡ (map Item (filter_map (slice_get graph) (take i positions)) ++ map Item (filter_map (slice_get graph) (get_or positions i d ∷ []))) ++ map Item (filter_map (slice_get graph) (drop (i + 1) positions))
-said_split graph positions i d low =
-    let here = cons_option (slice_get graph (get_or positions i d)) [] in
-    let behind = filter_map (slice_get graph) (drop (i + 1) positions) in
-    let before = filter_map (slice_get graph) (take i positions) in
-    ap (map Item) (sent_split graph positions i d low ∙ ap (λ (l : List GraphEntry). before ++ l) (cons_apart (slice_get graph (get_or positions i d)) behind))
-    ∙ map-append Item before (here ++ behind) ∙ ap (λ (l : List FrameData). map Item before ++ l) (map-append Item here behind) ∙ sym (append_assoc (map Item before) (map Item here) (map Item behind))
+pub items_split : (seen : List Entry) (positions : List ℕ) (said : ℕ) → items seen positions ≡ items seen (take said positions) ++ items seen (drop said positions)
+items_split seen positions said = ap (items seen) (sym (take-append-drop said positions)) ∙ items_apart seen (take said positions) (drop said positions)
 
--- the update that was fetched was said
-pub update_said : (T : Type 0) (seen list : List Entry) (position : ℕ) (answer : Result (List ℕ) AllocError) (update bytes : List ℕ) (a b : Option (List ℕ)) (r : Result T Halt)
-    → IsPrefix seen list → position < length (updates_of seen) → IfOk answer (λ u. slice_get (updates_of list) position ≡ Some u) → answer ≡ Ok update → bytes ≡ update
-    → Says a b r (Item (entry_of bytes) ∷ []) → Says a b r (map Item (filter_map (slice_get (map entry_of (updates_of seen))) (position ∷ [])))
-update_said T seen list position answer update bytes a b r p within there is same said =
-    let at : slice_get (updates_of list) position ≡ Some bytes = subst (λ (w : Result (List ℕ) AllocError). IfOk w (λ u. slice_get (updates_of list) position ≡ Some u)) is there ∙ ap Some (sym same) in
-    subst (λ (l : List FrameData). Says a b r l) (sym (item_there seen list position bytes p within at)) said
+-- the positions that are left
+pub rest_is : (positions : List ℕ) (said : ℕ) → take (length positions - said) (drop said positions) ≡ drop said positions
+rest_is positions said = take_all (length positions - said) (drop said positions) (let n = length-drop said positions in omega arith)
 
--- what was said so far, and one more
-pub update_goes_on : (T : Type 0) (a b c : Option (List ℕ)) (r : Result T Halt) (t : T) (before here there all : List FrameData) → Says {T = ℕ} a b (Ok 0) before → Says b c r there → r ≡ Ok t → there ≡ here
-    → all ≡ before ++ here → Says {T = ℕ} a c (Ok 0) all
-update_goes_on T a b c r t before here there all p q is same are =
-    let one = subst (λ (w : Result T Halt). Says b c w there) is q in
-    let both = says_then {T = ℕ} {U = T} a b c 0 (Ok t) before there p one in
-    subst (λ (l : List FrameData). Says {T = ℕ} a c (Ok 0) l) (ap (λ (l : List FrameData). before ++ l) same ∙ sym are) (both.0, both.1, both.2)
+pub rest_seen : (seen more : List Entry) (positions rest : List ℕ) (said : ℕ) → rest ≡ drop said positions → IsPrefix seen more → All (λ p. p < length (updates_of seen)) positions
+    → All (λ p. p < length (updates_of more)) rest
+rest_seen seen more positions rest said is p within =
+    let wider = All-weaker (λ (n : ℕ). n < length (updates_of seen)) (λ (n : ℕ). n < length (updates_of more)) (λ n low. omega (arith, low, updates_begin seen more p)) positions within in
+    All-same (λ (n : ℕ). n < length (updates_of more)) rest (drop said positions) is (All-drop (λ (n : ℕ). n < length (updates_of more)) said positions wider)
 
--- where that one was not said whole
-pub update_halts : (T : Type 0) (a b c : Option (List ℕ)) (r : Result T Halt) (halt : Halt) (before here there behind all : List FrameData) → Says {T = ℕ} a b (Ok 0) before → Says b c r there → r ≡ Err halt → there ≡ here
-    → all ≡ (before ++ here) ++ behind → (x : List ℕ) × Appends a c x × AreFrontOf all x
-update_halts T a b c r halt before here there behind all p q is same are =
-    let one = subst (λ (w : Result T Halt). Says b c w there) is q in
-    let both = says_halted T T a c halt (before ++ there) behind (says_then {T = ℕ} {U = T} a b c 0 (Err halt) before there p one) in
-    subst (λ (l : List FrameData). (x : List ℕ) × Appends a c x × AreFrontOf l x) (ap (λ (l : List FrameData). (before ++ l) ++ behind) same ∙ sym are) (both.0, both.1, both.2)
+module _ (seen list : List Entry) (positions rest : List ℕ) (said count : ℕ) (piece : List (List ℕ)) (begins : IsPrefix seen list) (within : All (λ p. p < length (updates_of seen)) positions)
+    (rest_are : rest ≡ drop said positions) (counted : count ≡ length piece) (is : IsPieceOf (updates_of list) rest piece) where
+  -- a piece says what its positions name
+  piece_items : items seen (take count (drop said positions)) ≡ map Item (map entry_of piece)
+  piece_items =
+      let ps = take count (drop said positions) in
+      let inside = All-take (λ (n : ℕ). n < length (updates_of seen)) count (drop said positions) (All-drop (λ (n : ℕ). n < length (updates_of seen)) said positions within) in
+      let there : filter_map (slice_get (updates_of list)) ps ≡ piece = (λ i. filter_map (slice_get (updates_of list)) (take (counted i) (sym rest_are i))) ∙ is.there in
+      ap (map Item) (same_named seen list ps begins inside) ∙ ap (λ (l : List (List ℕ)). map Item (map entry_of l)) there
+
+  -- one piece more
+  pub piece_more : items seen (take (said + count) positions) ≡ items seen (take said positions) ++ map Item (map entry_of piece)
+  piece_more = ap (items seen) (take-add said count positions) ∙ items_apart seen (take said positions) (take count (drop said positions))
+      ∙ ap (λ (l : List FrameData). items seen (take said positions) ++ l) piece_items
+
+  -- the pieces before, one, and those behind
+  pub piece_split : items seen positions ≡ (items seen (take said positions) ++ map Item (map entry_of piece)) ++ items seen (drop (said + count) positions)
+  piece_split = items_split seen positions (said + count) ∙ ap (λ (l : List FrameData). l ++ items seen (drop (said + count) positions)) piece_more
+
+  pub piece_within : said ≤ length positions → said + count ≤ length positions
+  piece_within low = let w = is.within in let r = ap length rest_are in omega (arith, w, r, counted, length-drop said positions)
+
+-- one update of a piece more
+pub item_more : (piece : List (List ℕ)) (i : ℕ) (update : List ℕ) → i < length piece → update ≡ get_or piece i update
+    → map Item (map entry_of (take (i + 1) piece)) ≡ map Item (map entry_of (take i piece)) ++ Item (entry_of update) ∷ []
+item_more piece i update low is =
+    ap (λ (l : List (List ℕ)). map Item (map entry_of l)) (take_more piece i update low ∙ ap (λ (u : List ℕ). take i piece ++ u ∷ []) (sym is))
+    ∙ ap (map Item) (map-append entry_of (take i piece) (update ∷ [])) ∙ map-append Item (map entry_of (take i piece)) (entry_of update ∷ [])
+
+-- and what stands behind it
+pub item_split : (piece : List (List ℕ)) (i : ℕ) (update : List ℕ) → i < length piece → update ≡ get_or piece i update
+    → map Item (map entry_of piece) ≡ (map Item (map entry_of (take i piece)) ++ Item (entry_of update) ∷ []) ++ map Item (map entry_of (drop (i + 1) piece))
+item_split piece i update low is =
+    ap (λ (l : List (List ℕ)). map Item (map entry_of l)) (sym (take-append-drop (i + 1) piece)) ∙ ap (map Item) (map-append entry_of (take (i + 1) piece) (drop (i + 1) piece))
+    ∙ map-append Item (map entry_of (take (i + 1) piece)) (map entry_of (drop (i + 1) piece)) ∙ ap (λ (l : List FrameData). l ++ map Item (map entry_of (drop (i + 1) piece))) (item_more piece i update low is)
+
+-- what was said so far, and more
+pub said_on : (T : Type 0) (a b c : Option (List ℕ)) (r : Result T Halt) (t : T) (before more all : List FrameData) → Says {T = ℕ} a b (Ok 0) before → Says b c r more → r ≡ Ok t
+    → all ≡ before ++ more → Says {T = ℕ} a c (Ok 0) all
+said_on T a b c r t before more all p q is are =
+    let one = subst (λ (w : Result T Halt). Says b c w more) is q in
+    let both = says_then {T = ℕ} {U = T} a b c 0 (Ok t) before more p one in
+    subst (λ (l : List FrameData). Says {T = ℕ} a c (Ok 0) l) (sym are) (both.0, both.1, both.2)
+
+-- where that was not said whole
+pub said_halts : (T : Type 0) (a b c : Option (List ℕ)) (r : Result T Halt) (halt : Halt) (before more behind all : List FrameData) → Says {T = ℕ} a b (Ok 0) before → Says b c r more → r ≡ Err halt
+    → all ≡ (before ++ more) ++ behind → (x : List ℕ) × Appends a c x × AreFrontOf all x
+said_halts T a b c r halt before more behind all p q is are =
+    let one = subst (λ (w : Result T Halt). Says b c w more) is q in
+    let both = says_halted T T a c halt (before ++ more) behind (says_then {T = ℕ} {U = T} a b c 0 (Err halt) before more p one) in
+    subst (λ (l : List FrameData). (x : List ℕ) × Appends a c x × AreFrontOf l x) (sym are) (both.0, both.1, both.2)
+
+-- where no more was said
+pub said_so_far : (a b : Option (List ℕ)) (before behind all : List FrameData) → Says {T = ℕ} a b (Ok 0) before → all ≡ before ++ behind → (x : List ℕ) × Appends a b x × AreFrontOf all x
+said_so_far a b before behind all p are = (p.0, p.1, subst (λ (l : List FrameData). AreFrontOf l p.0) (sym are) (front_whole before behind p.0 p.2))
 
 -- ---- a Hello, updates and a Turn, one after the other
 

@@ -97,7 +97,8 @@ impl<D: Disk> Stored<D> {
         self.replica.len()
     }
 
-    /// The bytes of the updates at the first of these positions, counted over the updates of the list: of so many as make up a piece.
+    /// The bytes of the updates at the first of these positions, counted over the updates of the list: of so many as
+    /// make up a piece.
     pub fn fetch_some(&self, alloc: Global, positions: &[u32]) -> Result<Vec<ByteList>, AllocError>
         requires { All (λ p. p < length (updates_of self.now.entries)) positions.now }
         ensures piece { IfOk result (λ piece. IsPieceOf (updates_of self.now.entries) positions.now piece.items) }

@@ -88,9 +88,10 @@ impl<D: Disk> Shared<D> {
         }
     }
 
-    /// The bytes of the updates at the first of these positions, in order, in one turn: at least of one where there is one, and no more than a piece has.
-    /// A piece ends with [`PIECE_UPDATES`](crate::PIECE_UPDATES) updates, or once it has [`PIECE_BYTES`](crate::PIECE_BYTES) bytes, so it has fewer than
-    /// 524,288. Each position is below the number of updates that the pass has seen. The error is want of memory.
+    /// The bytes of the updates at the first of these positions, in order, in one turn: of one at least where there is
+    /// one. They end where the positions do, with [`PIECE_UPDATES`](crate::PIECE_UPDATES) updates, or once they have
+    /// [`PIECE_BYTES`](crate::PIECE_BYTES) bytes, so they have fewer than 524,288. Each position is below the number of
+    /// updates that the pass has seen. The error is want of memory.
     pub fn fetch_some<R: Wait>(
         &self,
         rt: &R,

@@ -29,7 +29,7 @@ pub fn make<R: Wait>(
 }
 
 #[test]
-fn a_made_update_is_a_head_and_is_fetched(rt: HostRuntime) -> Result<(), Fail> {
+fn updates_are_fetched_in_the_order_of_their_positions(rt: HostRuntime) -> Result<(), Fail> {
     let alloc = rt.alloc();
     let Some((shared, pass)) = shared(alloc, MemDisk::new(alloc)) else {
         panic!(rt; "no replica")
@@ -37,22 +37,27 @@ fn a_made_update_is_a_head_and_is_fetched(rt: HostRuntime) -> Result<(), Fail> {
     let Some(mut key) = key(alloc, 1) else {
         panic!(rt; "no key")
     };
-    let Acted { pass, answer } = make(&rt, alloc, &shared, pass, &mut key);
-    let Ok(id) = answer else {
-        panic!(rt; "no update")
-    };
-    let Acted { pass, answer } = shared.snapshot(&rt, alloc, pass);
+    let first = make(&rt, alloc, &shared, pass, &mut key);
+    let second = make(&rt, alloc, &shared, first.pass, &mut key);
+    let Acted { pass, answer } = shared.snapshot(&rt, alloc, second.pass);
     let Ok(picture) = answer else {
         panic!(rt; "no memory")
     };
-    assert!(rt; picture.heads.as_slice() == [id].as_slice());
+    let Ok(head) = second.answer else {
+        panic!(rt; "no update")
+    };
+    assert!(rt; picture.heads.as_slice() == [head].as_slice());
     let counted = shared.len(&rt, pass);
-    assert!(rt; counted.answer == 1);
-    let Acted { pass: _, answer } = shared.fetch(&rt, alloc, counted.pass, 0);
-    let Ok(bytes) = answer else {
+    assert!(rt; counted.answer == 2);
+    let Acted { pass: _, answer } = shared.fetch_some(&rt, alloc, counted.pass, &[1, 0]);
+    let Ok(piece) = answer else {
         panic!(rt; "no memory")
     };
-    assert!(rt; id_of(bytes.as_slice()) == id);
+    let [late, early] = piece.as_slice() else {
+        panic!(rt; "not two updates")
+    };
+    assert!(rt; id_of(late.as_slice()) == head);
+    assert!(rt; first.answer == Ok(id_of(early.as_slice())));
     Ok(())
 }
 
