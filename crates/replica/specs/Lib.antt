@@ -1,4 +1,3 @@
-pub mod Faults
 pub mod Holding
 pub mod Making
 pub mod Opening

@@ -17,7 +17,6 @@ ghost use Rattle.update_log.specs.Log.{IsClean, IsLogOf};
 ghost use Rattle.update_log.specs.Logset.{BeginsWith};
 ghost use Rattle.key_index.specs.Used.{IsUsed};
 ghost use Rattle.lms_tree.specs.SecretKey.{public_key};
-ghost use Rattle.replica.specs.Faults.{adding_fault};
 ghost use Rattle.replica.specs.Making.{AddsMade, IsAddCause, IsSignCause, body_with};
 ghost use Rattle.replica.specs.Signing.{KeyAfter};
 ghost use Rattle.replica.specs.declared.make_fault.Side.TheVariants.{Key as KeySide, Log as LogSide};
@@ -27,13 +26,13 @@ use crate::commit::write_tail;
 use crate::contents::Contents;
 use crate::make_fault::{MakeFault, Side};
 use crate::signing::sign_update;
-use bec_disk::{Disk, DiskError};
+use bec_disk::Disk;
 use history::History;
 use key_index::KeyStore;
 use row_check::{Checks, Relation};
 use std::alloc::Global;
 use table_model::Verdict;
-use update_check::Checked;
+use update_check::{Checked, CommitFault};
 use update_log::Log;
 use update_model::{IdList, MAX_PREDS, Member, UpdateId};
 
@@ -113,9 +112,9 @@ fn add_last<D: Disk, L: Relation, C: Checks<L>>(
     history.len(); // what was added is within the limits
     match write_tail(alloc, log, history, len) {
         Ok(_ids) => Ok(()),
-        Err(error) => {
+        Err(fault) => {
             history.cut(len);
-            Err(adding_fault(error))
+            Err(fault_of(fault))
         }
     }
 }
@@ -130,12 +129,13 @@ fn may_stand(has_to_be_valid: bool, verdict: Verdict) -> bool
     }
 }
 
-/// What an error over the log's disk is to an update that was signed.
-fn adding_fault(error: DiskError) -> MakeFault
-    ensures { result ≡ adding_fault error }
+/// Why an update that was signed was not added. It is not [`CommitFault::Full`], since there is room.
+fn fault_of(fault: CommitFault) -> MakeFault
+    ensures cause { IsAddCause result }
+    ensures failed { result ≡ DiskFailed LogSide → fault ≡ CommitFault.DiskFault }
 {
-    match error {
-        DiskError::DiskFault => MakeFault::DiskFault(Side::Log),
-        DiskError::Memory => MakeFault::Memory,
+    match fault {
+        CommitFault::DiskFault => MakeFault::DiskFault(Side::Log),
+        _ => MakeFault::Memory,
     }
 }

@@ -15,7 +15,6 @@ ghost use Rattle.update_codec.specs.Spelling.{message, signed_length};
 ghost use Rattle.update_check.specs.Signed.{IsChecked};
 ghost use Rattle.key_index.specs.Used.{IsUsed};
 ghost use Rattle.lms_tree.specs.SecretKey.{public_key};
-ghost use Rattle.replica.specs.Faults.{message_fault};
 ghost use Rattle.replica.specs.Making.{AreSignedBy, HasLength, HasRoom, IsBytesCause, IsMadeWith, IsMessageCause, IsNewCause, IsSignCause, IsSignedBy, body_with};
 ghost use Rattle.replica.specs.Signing.{KeyAfter};
 ghost use Rattle.replica.specs.declared.make_fault.Side.TheVariants.{Key as KeySide};
@@ -113,17 +112,8 @@ fn message_of(alloc: Global, body: &Body) -> Result<Vec<u8>, MakeFault>
 {
     match encode_body(alloc, body) {
         Ok(message) => Ok(message),
-        Err(error) => Err(message_fault(error)),
-    }
-}
-
-/// Why a body has no message is why no update is made.
-fn message_fault(error: EncodeError) -> MakeFault
-    ensures { result ≡ message_fault error }
-{
-    match error {
-        EncodeError::TooLong(refused) => MakeFault::TooLong(refused.len),
-        EncodeError::Memory => MakeFault::Memory,
+        Err(EncodeError::TooLong(refused)) => Err(MakeFault::TooLong(refused.len)),
+        Err(EncodeError::Memory) => Err(MakeFault::Memory),
     }
 }
 
