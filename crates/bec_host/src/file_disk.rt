@@ -11,8 +11,8 @@ use std::os::unix::fs::FileExt;
 /// A disk over a file. It tells nothing of what the file holds.
 ///
 /// A short read or write goes on, and one that a signal interrupted is made again. A sync makes data and length last
-/// (`fsync`). After one that failed the system may have dropped what was not written, and call the next sync a success,
-/// so the disk fails each later call.
+/// (`fsync`); where nothing was written or cut since the last one, it makes no call of the system. After one that failed
+/// the system may have dropped what was not written, and call the next sync a success, so the disk fails each later call.
 #[derive(Drop)]
 pub struct FileDisk<F: FileExt + OpenFile> {
     /// The open file.
@@ -23,6 +23,8 @@ pub struct FileDisk<F: FileExt + OpenFile> {
     faults: u64,
     /// Whether a sync failed.
     lost: bool,
+    /// Whether something may have been written or cut since the last sync.
+    changed: bool,
     /// The first error that the file gave.
     error: Option<io::Error>,
 }
@@ -37,6 +39,7 @@ impl<F: FileExt + OpenFile> FileDisk<F> {
             path,
             faults: 0,
             lost: false,
+            changed: true,
             error: None,
         }
     }
@@ -96,20 +99,24 @@ impl<F: FileExt + OpenFile> Disk for FileDisk<F> {
     }
 
     fn write_at(&mut self, at: u64, bytes: &[u8]) -> Result<(), DiskFault> {
+        self.changed |= !bytes.is_empty();
         let written = self.file.write_all_at(bytes, at);
         self.counted(written)
     }
 
     fn cut(&mut self, len: u64) -> Result<(), DiskFault> {
+        self.changed = true;
         let cut = self.file.set_len(len);
         self.counted(cut)
     }
 
     fn sync(&mut self) -> Result<(), DiskFault> {
-        let synced = self.file.sync_all();
-        if synced.is_err() {
-            self.lost = true;
+        if !self.changed {
+            return self.counted(Ok(()));
         }
+        let synced = self.file.sync_all();
+        self.lost |= synced.is_err();
+        self.changed = synced.is_err();
         self.counted(synced)
     }
 }

@@ -114,3 +114,19 @@ fn short_calls_go_on_and_a_failed_sync_ends_a_disk(rt: HostRuntime) -> Result<()
     assert_eq!(rt; disk.sync(), Err(DiskFault));
     Ok(())
 }
+
+#[test]
+fn a_sync_behind_which_nothing_was_written_makes_no_call(rt: HostRuntime) -> Result<(), Fail> {
+    // The second sync of this file fails.
+    let file = SlowFile {
+        calls: Cell::new(0),
+        syncs: Cell::new(u32::MAX),
+    };
+    let mut disk = FileDisk::new(file, String::new(rt.alloc()));
+    disk.sync()?;
+    disk.write_at(9, b"")?;
+    disk.sync()?;
+    disk.cut(3)?;
+    assert_eq!(rt; disk.sync(), Err(DiskFault));
+    Ok(())
+}
