@@ -14,7 +14,8 @@ use Rattle.confluence_test.specs.Taking.{RefusesSchema}
 use Rattle.confluence_test.specs.declared.refusal.SchemaRefusal.{SchemaRefusal}
 use Rattle.confluence_test.specs.declared.refusal.SchemaRefusal.TheVariants.{Memory, NotConfluent, Schema}
 use Rattle.bec_disk.specs.declared.gated.Gated.TheVariants.{Absent}
-use Rattle.replica.specs.Opening.{Creating, IsCreateCause, IsTextCause, refusal_kind}
+use Rattle.replica.specs.Faults.{refusal_kind}
+use Rattle.replica.specs.Opening.{Creating, IsCreateCause, IsTextCause}
 use Rattle.replica.specs.declared.create_fault.CreateKind.{CreateKind}
 use Rattle.replica.specs.declared.create_fault.CreateKind.TheVariants as creating
 

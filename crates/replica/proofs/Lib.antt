@@ -6,5 +6,6 @@ pub mod Logs
 pub mod Made
 pub mod MadeBy
 pub mod Outcomes
+pub mod Mapped
 pub mod Reserved
 pub mod Once

@@ -1,15 +1,21 @@
 -- What is made of a body that was signed.
-use Rattle.std.proofs.Common.{◌≡◌, ℕ, ◌≤◌, Bool, List, ◌++◌, length, subst, ap, ◌∙◌}
+use Rattle.std.proofs.Common.{◌≡◌, ℕ, ◌≤◌, Bool, List, ◌++◌, length, Some, Err, refl, sym, subst, ap, ◌∙◌}
 use Rattle.std.specs.Int.{w32, to_be_bytes}
 use Rattle.update_model.specs.declared.author_key.AuthorKey.{AuthorKey}
 use Rattle.update_model.specs.declared.update_id.UpdateId.{UpdateId}
 use Rattle.update_model.specs.Block.{IsBlock}
 use Rattle.update_model.specs.Form.{BodyData, IsBody, signature_length}
+use Rattle.update_model.specs.Rule.{IsListed}
+use Rattle.update_check.specs.Causes.{Takes}
+use Rattle.update_check.specs.Signed.{IsChecked}
+use Rattle.update_check.specs.declared.check_error.CheckError.{CheckError}
+use Rattle.update_check.specs.declared.check_error.CheckError.TheVariants as check_errors
 use Rattle.update_codec.specs.declared.limits.TheConstants.{UPDATE_LIMIT}
 use Rattle.update_codec.specs.Spelling.{message, signed_length}
-use Rattle.lms_tree.specs.SecretKey.{SecretData, public_key}
+use Rattle.lms_tree.specs.SecretKey.{SecretData, public_key, signature_by}
+use Rattle.lms_tree.specs.Signature.{Signed}
 use Rattle.history.specs.Histories.{HistoryData}
-use Rattle.replica.specs.Making.{AreSignedBy, HasLength, HasRoom, IsMadeWith, IsNewCause, IsSignCause, body_with}
+use Rattle.replica.specs.Making.{AreSignedBy, HasLength, HasRoom, IsMadeWith, IsNewCause, IsSignCause, body_with, update_by}
 use Rattle.replica.specs.declared.contents.Contents.{Contents}
 use Rattle.replica.specs.declared.make_fault.MakeFault.{MakeFault}
 use Rattle.replica.specs.declared.make_fault.MakeFault.TheVariants.{NotListed, TooManyHeads, Invalid, TooLong, Full, Spent, Taken, DiskFault, Memory}
@@ -57,3 +63,21 @@ new_cause history secret taken preds says c bytes Spent len made h = absurd h
 new_cause history secret taken preds says c bytes (Taken id) len made h = (len, (bytes, made, h.0, h.1))
 new_cause history secret taken preds says c bytes (DiskFault side) len made h = absurd h
 new_cause history secret taken preds says c bytes Memory len made h = tt
+
+-- they are under the rule of a database that lists the key
+pub made_checked : (history : HistoryData) (secret : SecretData) (taken : List Bool) (preds : List UpdateId) (says : Contents) (c bytes : List ℕ)
+    → IsListed history.schema.rule.authors (public_key secret) → AreSignedBy secret taken c (message (body_with history (public_key secret) preds says)) bytes
+    → IsMadeWith history secret taken preds says c bytes → IsChecked history.schema.rule bytes
+made_checked history secret taken preds says c bytes listed signed made = (
+  update_by secret made.index c (body_with history (public_key secret) preds says),
+  record { spells = made.spells; signed = subst (λ (s : List ℕ). Signed (public_key secret) (message (body_with history (public_key secret) preds says)) s) (signed.signed.made ∙ ap (λ (i : ℕ). signature_by secret i c (message (body_with history (public_key secret) preds says))) (some_index signed.signed.index made.index (sym signed.signed.least ∙ made.least))) signed.signed.valid },
+  record { database = refl; author = listed },
+)
+  where
+    some_index : (i j : ℕ) → Some i ≡ Some j → i ≡ j
+    some_index i j e = cc
+
+-- a check that takes them fails for want of memory alone
+pub memory_alone : (error : CheckError) (bytes : List ℕ) → Takes (Err error) bytes → error ≡ check_errors.Memory
+memory_alone check_errors.Memory bytes t = refl
+memory_alone (check_errors.Fault fault) bytes t = absurd t

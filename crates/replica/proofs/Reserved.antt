@@ -1,10 +1,11 @@
 -- What a reservation does to a key.
-use Rattle.std.proofs.Common.{◌≡◌, ℕ, Option, Ok, Err, subst, sym, inr}
-use Rattle.std.specs.Prelude.{MatchOption, Result}
+use Rattle.std.proofs.Common.{◌≡◌, ℕ, List, Option, Ok, Err, subst, sym, inr}
+use Rattle.std.specs.Prelude.{IfErr, MatchOption, Result}
 use Rattle.std.specs.Result.{IsErrAnd}
 use Rattle.key_index.specs.KeyState.{KeyState}
 use Rattle.key_index.specs.Reserving.{Reserves, Tries}
-use Rattle.replica.specs.Making.{IsAddCause}
+use Rattle.history.specs.Histories.{HistoryData}
+use Rattle.replica.specs.Making.{IsAddCause, IsNewCause}
 use Rattle.replica.specs.Signing.{KeyAfter, SignsAtLeast}
 use Rattle.replica.specs.declared.make_fault.MakeFault.{MakeFault}
 use Rattle.replica.specs.declared.make_fault.MakeFault.TheVariants.{NotListed, TooManyHeads, Invalid, TooLong, Full, Spent, Taken, DiskFault, Memory}
@@ -31,6 +32,20 @@ signed_in_vain T old new (Taken id) signs h = absurd h
 signed_in_vain T old new (DiskFault Key) signs h = absurd (let e : Key ≡ Log = h in cc)
 signed_in_vain T old new (DiskFault Log) signs h = signs
 signed_in_vain T old new Memory signs h = inr signs
+
+-- a key that signed, whatever is answered of the bytes then
+pub signed_bytes_checked : (T : Type 0) (old new : KeyState) (history : HistoryData) (bytes : List ℕ) (result : Result T MakeFault) → SignsAtLeast old new
+    → IfErr result (λ why. IsNewCause history bytes why) → KeyAfter {T = T} old result new
+signed_bytes_checked T old new history bytes (Ok made) signs h = signs
+signed_bytes_checked T old new history bytes (Err NotListed) signs h = absurd h
+signed_bytes_checked T old new history bytes (Err (TooManyHeads n)) signs h = absurd h
+signed_bytes_checked T old new history bytes (Err (Invalid reason operation)) signs h = absurd h
+signed_bytes_checked T old new history bytes (Err (TooLong n)) signs h = absurd h
+signed_bytes_checked T old new history bytes (Err Full) signs h = absurd h
+signed_bytes_checked T old new history bytes (Err Spent) signs h = absurd h
+signed_bytes_checked T old new history bytes (Err (Taken id)) signs h = signs
+signed_bytes_checked T old new history bytes (Err (DiskFault side)) signs h = absurd h
+signed_bytes_checked T old new history bytes (Err Memory) signs h = inr signs
 
 -- an error that is handed on says the same of the key
 pub key_handed : (T : Type 0) (old new : KeyState) (result : Result T MakeFault) (why : MakeFault) → IsErrAnd result (λ y. y ≡ why) → KeyAfter {T = T} old (Err why) new → KeyAfter {T = T} old result new

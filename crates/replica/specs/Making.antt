@@ -21,6 +21,7 @@ use Rattle.update_codec.specs.Spelling.{Spells, message, signed_length}
 use Rattle.update_check.specs.Members.{AreMembers}
 use Rattle.update_check.specs.Signed.{node_of}
 use Rattle.lms_tree.specs.SecretKey.{SecretData, public_key, signature_by}
+use Rattle.lms_tree.specs.Signature.{Signed}
 use Rattle.schema.specs.Data.{Meaning}
 use Rattle.table_model.specs.declared.verdict.Verdict.{Verdict}
 use Rattle.table_model.specs.declared.verdict.Verdict.TheVariants.{Valid, Void}
@@ -93,11 +94,12 @@ pub record IsMadeWith (history : HistoryData) (secret : SecretData) (taken : Lis
 abbrev pub IsMadeBy : HistoryData → SecretData → List Bool → List UpdateId → List Op → List ℕ → List ℕ → Type 0
 IsMadeBy history secret taken preds ops c bytes = IsMadeWith history secret taken preds (plain ops) c bytes
 
--- The signature is what a key makes of a message with C, at its least index that is not used.
+-- The signature is what a key makes of a message with C, at its least index that is not used, and it is valid.
 pub record IsSignedBy (secret : SecretData) (taken : List Bool) (c message signature : List ℕ) : Type 0 where
   pub index : ℕ
   pub least : least_unused taken ≡ Some index
   pub made : signature ≡ signature_by secret index c message
+  pub valid : Signed (public_key secret) message signature
 
 -- The bytes are a message, and behind its length a signature that a key makes of it.
 pub record AreSignedBy (secret : SecretData) (taken : List Bool) (c message bytes : List ℕ) : Type 0 where

@@ -4,10 +4,7 @@ use Rattle.bec_bytes.specs.Framed.{stream_of}
 use Rattle.bec_disk.specs.Disk.{DiskState, IsSameDisk, IsSettled, LeavesOnly}
 use Rattle.bec_disk.specs.Gated.{IsOldOrNew, gated_of, whole_of}
 use Rattle.bec_disk.specs.declared.gated.Gated.TheVariants.{Absent}
-use Rattle.bec_disk.specs.declared.disk_error.DiskError.{DiskError}
-use Rattle.bec_disk.specs.declared.disk_error.DiskError.TheVariants as disk_errors
 use Rattle.confluence_test.specs.Taking.{RefusesSchema, TakesSchema}
-use Rattle.confluence_test.specs.declared.refusal.SchemaRefusal.{SchemaRefusal}
 use Rattle.confluence_test.specs.declared.refusal.SchemaRefusal.TheVariants as refusals
 use Rattle.schema.specs.Data.{Meaning, SchemaData}
 use Rattle.update_log.specs.Log.{IsClean}
@@ -70,24 +67,6 @@ pub record Creating (schema updates : DiskState) (payload : List ℕ) (schema_ne
   pub schema_moments : LeavesOnly schema schema_new (IsOldOrNew schema.seen payload)
   pub updates_disk : IsSameDisk updates updates_new
   pub order : (schema_new ≡ schema) ⊎ (IsTrue updates.tells → IsSettled updates_new × (updates_new.seen ≡ []))
-
--- what an error of a disk is here
-abbrev pub opening_kind : DiskError → OpenKind
-opening_kind disk_errors.DiskFault = opening.DiskFault
-opening_kind disk_errors.Memory = opening.Memory
-
--- what a fault of opening is where the store is new
-abbrev pub creating_kind : OpenKind → CreateKind
-creating_kind opening.DiskFault = creating.DiskFault
-creating_kind opening.NoStore = creating.Memory
-creating_kind opening.BadSchema = creating.Memory
-creating_kind opening.Memory = creating.Memory
-
--- what a refusal of a text is here
-abbrev pub refusal_kind : SchemaRefusal → CreateKind
-refusal_kind (refusals.Schema fault) = creating.BadSchema fault
-refusal_kind (refusals.NotConfluent declared which example) = creating.NotConfluent declared which example
-refusal_kind refusals.Memory = creating.Memory
 
 -- why a text is no store's
 abbrev pub IsTextCause : Meaning → List ℕ → CreateKind → Type 0

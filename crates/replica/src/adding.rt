@@ -17,6 +17,7 @@ ghost use Rattle.update_log.specs.Log.{IsClean, IsLogOf};
 ghost use Rattle.update_log.specs.Logset.{BeginsWith};
 ghost use Rattle.key_index.specs.Used.{IsUsed};
 ghost use Rattle.lms_tree.specs.SecretKey.{public_key};
+ghost use Rattle.replica.specs.Faults.{adding_fault};
 ghost use Rattle.replica.specs.Making.{AddsMade, IsAddCause, IsSignCause, body_with};
 ghost use Rattle.replica.specs.Signing.{KeyAfter};
 ghost use Rattle.replica.specs.declared.make_fault.Side.TheVariants.{Key as KeySide, Log as LogSide};
@@ -26,13 +27,13 @@ use crate::commit::write_tail;
 use crate::contents::Contents;
 use crate::make_fault::{MakeFault, Side};
 use crate::signing::sign_update;
-use bec_disk::Disk;
+use bec_disk::{Disk, DiskError};
 use history::History;
 use key_index::KeyStore;
 use row_check::{Checks, Relation};
 use std::alloc::Global;
 use table_model::Verdict;
-use update_check::{Checked, CommitFault};
+use update_check::Checked;
 use update_log::Log;
 use update_model::{IdList, MAX_PREDS, Member, UpdateId};
 
@@ -82,6 +83,7 @@ pub fn sign_and_add<D: Disk, L: Relation, C: Checks<L>>(
 /// Adds a signed update behind all others, in memory and on the disk. Where it has to be valid and is not, it is not added: that takes an update that
 /// names its own digest, since it was judged under another id before, and the answer is as for want of memory. After an error the updates are as they
 /// were.
+#[tactic(auto, using(crate::proofs::Mapped::add_cause, crate::proofs::Mapped::add_disk))]
 fn add_last<D: Disk, L: Relation, C: Checks<L>>(
     alloc: Global,
     history: &mut History<L, C>,
@@ -112,9 +114,9 @@ fn add_last<D: Disk, L: Relation, C: Checks<L>>(
     history.len(); // what was added is within the limits
     match write_tail(alloc, log, history, len) {
         Ok(_ids) => Ok(()),
-        Err(fault) => {
+        Err(error) => {
             history.cut(len);
-            Err(fault_of(fault))
+            Err(adding_fault(error))
         }
     }
 }
@@ -129,13 +131,12 @@ fn may_stand(has_to_be_valid: bool, verdict: Verdict) -> bool
     }
 }
 
-/// Why an update that was signed was not added. It is not [`CommitFault::Full`], since there is room.
-fn fault_of(fault: CommitFault) -> MakeFault
-    ensures cause { IsAddCause result }
-    ensures failed { result ≡ DiskFailed LogSide → fault ≡ CommitFault.DiskFault }
+/// What an error over the log's disk is to an update that was signed.
+fn adding_fault(error: DiskError) -> MakeFault
+    ensures { result ≡ adding_fault error }
 {
-    match fault {
-        CommitFault::DiskFault => MakeFault::DiskFault(Side::Log),
-        _ => MakeFault::Memory,
+    match error {
+        DiskError::DiskFault => MakeFault::DiskFault(Side::Log),
+        DiskError::Memory => MakeFault::Memory,
     }
 }

@@ -10,10 +10,11 @@ ghost use Rattle.update_check.specs.Holding.{Commits};
 ghost use Rattle.update_check.specs.Signed.{IsChecked};
 ghost use Rattle.update_log.specs.Log.{IsClean, IsLogOf};
 ghost use Rattle.update_log.specs.Logset.{BeginsWith};
+ghost use Rattle.replica.specs.Faults.{batch_fault, tail_fault};
 ghost use Rattle.replica.specs.Replicas.{IsSameStore};
 
 use crate::replica::Replica;
-use bec_disk::{Disk, DiskFault};
+use bec_disk::{Disk, DiskError, DiskFault};
 use history::History;
 use ready_batch::AddFault;
 use row_check::{Checks, Relation};
@@ -29,7 +30,7 @@ impl<D: Disk, L: Relation, C: Checks<L>> Replica<D, L, C> {
     /// [`CommitFault::Full`] comes where all that can be added would pass a limit of a store, and [`CommitFault::DiskFault`] only where the
     /// count of the log's disk rose. After a refusal the updates are as they were, and the batch is given up; the disk may hold whole further
     /// records until the next call, which cuts them first.
-    #[tactic(auto, using(crate::proofs::Declaring::still_taken))]
+    #[tactic(auto, using(crate::proofs::Declaring::still_taken, crate::proofs::Mapped::commits))]
     pub fn commit(&mut self, alloc: Global, batch: Vec<Checked>) -> Result<Committed, CommitFault>
         requires { All (IsChecked self.old.history.schema.rule) batch.items }
         ensures commits { Commits store_limits self.old.history.members batch.items result self.old.log.faults self.new.log.faults self.new.history.members }
@@ -44,8 +45,7 @@ impl<D: Disk, L: Relation, C: Checks<L>> Replica<D, L, C> {
         let len = self.history.len();
         let waiting = match self.history.add_batch(alloc, batch) {
             Ok(waiting) => waiting,
-            Err(AddFault::Full) => return Err(CommitFault::Full),
-            Err(AddFault::Memory) => return Err(CommitFault::Memory),
+            Err(fault) => return Err(batch_fault(fault)),
         };
         self.history.len(); // what was added is within the limits
         match write_tail(alloc, &mut self.log, &self.history, len) {
@@ -53,11 +53,31 @@ impl<D: Disk, L: Relation, C: Checks<L>> Replica<D, L, C> {
                 added,
                 waiting: CheckedList::from_vec(waiting),
             }),
-            Err(fault) => {
+            Err(error) => {
                 self.history.cut(len);
-                Err(fault)
+                Err(tail_fault(error))
             }
         }
+    }
+}
+
+/// Why a batch was not added to a history is why it is not committed.
+fn batch_fault(fault: AddFault) -> CommitFault
+    ensures { result ≡ batch_fault fault }
+{
+    match fault {
+        AddFault::Full => CommitFault::Full,
+        AddFault::Memory => CommitFault::Memory,
+    }
+}
+
+/// What an error over the log's disk is to a batch.
+fn tail_fault(error: DiskError) -> CommitFault
+    ensures { result ≡ tail_fault error }
+{
+    match error {
+        DiskError::DiskFault => CommitFault::DiskFault,
+        DiskError::Memory => CommitFault::Memory,
     }
 }
 
@@ -68,7 +88,7 @@ pub fn write_tail<D: Disk, L: Relation, C: Checks<L>>(
     log: &mut Log<D>,
     history: &History<L, C>,
     from: u32,
-) -> Result<IdList, CommitFault>
+) -> Result<IdList, DiskError>
     requires low { from ≤ length history.now.members }
     requires log { IsLogOf (take from history.now.members) log.old }
     ensures ids { IfOk result (λ ids. ids ≡ map id_of (drop from history.now.members)) }
@@ -77,16 +97,15 @@ pub fn write_tail<D: Disk, L: Relation, C: Checks<L>>(
     ensures clean { IsTrue log.old.disk.tells → OnOk result (IsClean log.new.end log.new.disk) }
     ensures any_moment { LeavesOnly log.old.disk log.new.disk (BeginsWith (stream_of (take from history.now.members))) }
     ensures later { log.old.faults ≤ log.new.faults }
-    ensures failed { IsErrOf result CommitFault.DiskFault → Rose log.old.faults log.new.faults }
-    ensures fits { IsErrOf result CommitFault.Full → ⊥ }
+    ensures failed { IsErrOf result DiskError.DiskFault → Rose log.old.faults log.new.faults }
 {
     log.is_unsure(); // what is acknowledged stands in front
     let Ok(ids) = ids_of(alloc, history.tail(from)) else {
-        return Err(CommitFault::Memory);
+        return Err(DiskError::Memory);
     };
     match settle_and_append(log, history, from) {
         Ok(()) => Ok(ids),
-        Err(DiskFault) => Err(CommitFault::DiskFault),
+        Err(DiskFault) => Err(DiskError::DiskFault),
     }
 }
 

@@ -6,14 +6,14 @@ ghost use Rattle.bec_disk.specs.Disk.{IsSameDisk, IsSettled};
 ghost use Rattle.bec_disk.specs.Gated.{gated_of};
 ghost use Rattle.confluence_test.specs.Taking.{TakesSchema};
 ghost use Rattle.update_log.specs.Log.{IsClean};
-ghost use Rattle.replica.specs.Opening.{Creating, IsCreateCause, IsCreated, IsTextCause, WritesNothing, creating_kind, refusal_kind};
+ghost use Rattle.replica.specs.Faults.{creating_kind, refusal_kind};
+ghost use Rattle.replica.specs.Opening.{Creating, IsCreateCause, IsCreated, IsTextCause, WritesNothing};
 ghost use Rattle.replica.specs.declared.create_fault.CreateKind.TheVariants.{DiskFault as DiskFailed};
 
 use crate::create_fault::{CreateFault, CreateKind};
-use crate::open_fault::{OpenFault, OpenKind};
-use crate::opening::{Declared, open_declared};
+use crate::opening::{Declared, NotOpened, open_declared};
 use crate::replica::Replica;
-use bec_disk::{Disk, DiskError, Gated, cut_synced, read_gated, write_gated};
+use bec_disk::{Disk, DiskError, DiskFault, Gated, cut_synced, read_gated, write_gated};
 use confluence_test::{SchemaRefusal, take_schema};
 use record_check::OneThread;
 use row_check::{Checks, Native, Relation};
@@ -23,6 +23,7 @@ use update_model::ByteList;
 
 /// Creates a store without updates, where the part Schema is absent: empties the part Updates, and then writes the part Schema, which makes it a
 /// store. Both parts have to be settled.
+#[tactic(auto, using(crate::proofs::Mapped::creates))]
 pub fn create<D: Disk, L: Relation, C: Checks<L>>(
     alloc: Global,
     schema: &mut D,
@@ -58,14 +59,14 @@ pub fn create<D: Disk, L: Relation, C: Checks<L>>(
     let replica = match open_empty(alloc, declared, updates, native) {
         Ok(replica) => replica,
         Err(
-            OpenFault {
+            NotOpened {
                 why,
                 updates,
                 native,
             },
         ) => {
             return Err(CreateFault {
-                why: kind_of(why),
+                why: creating_kind(why),
                 updates,
                 native,
             });
@@ -92,6 +93,7 @@ struct Plan {
 }
 
 /// What a new store is to be, where the part Schema is absent.
+#[tactic(auto, using(crate::proofs::Mapped::create_cause, crate::proofs::Mapped::create_disk))]
 fn plan_store<D: Disk, L: Relation, C: Checks<L>>(
     alloc: Global,
     part: &mut D,
@@ -111,8 +113,7 @@ fn plan_store<D: Disk, L: Relation, C: Checks<L>>(
     match read_gated(alloc, part) {
         Ok(Gated::Absent) => plan_for(alloc, node, text, native),
         Ok(_) => Err(CreateKind::NotEmpty),
-        Err(DiskError::DiskFault) => Err(CreateKind::DiskFault),
-        Err(DiskError::Memory) => Err(CreateKind::Memory),
+        Err(error) => Err(creating_kind(error)),
     }
 }
 
@@ -130,14 +131,14 @@ fn plan_for<L: Relation, C: Checks<L>>(
 {
     let schema = match take_schema(alloc, text, native) {
         Ok(schema) => schema,
-        Err(refusal) => return Err(kind_of_refusal(refusal)),
+        Err(refusal) => return Err(refusal_kind(refusal)),
     };
     match payload_of(alloc, &node, text) {
         Ok(payload) => Ok(Plan {
             declared: Declared { node, schema },
             payload,
         }),
-        Err(_) => Err(CreateKind::Memory),
+        Err(AllocError) => Err(CreateKind::Memory),
     }
 }
 
@@ -157,7 +158,7 @@ fn open_empty<D: Disk, L: Relation, C: Checks<L>>(
     declared: Declared,
     mut updates: D,
     native: Native<L, C>,
-) -> Result<Replica<D, L, C>, OpenFault<D, L, C>>
+) -> Result<Replica<D, L, C>, NotOpened<D, L, C>>
     requires { TakesSchema L.answer declared.schema.text declared.schema }
     ensures declared { IfOk result (λ replica. (replica.node ≡ declared.node) × (replica.history.schema ≡ declared.schema)) }
     ensures members { IsTrue (D.state updates).tells → IfOk result (λ replica. replica.history.members ≡ []) }
@@ -167,15 +168,15 @@ fn open_empty<D: Disk, L: Relation, C: Checks<L>>(
     ensures disk_err { IfErr result (λ fault. IsSameDisk (D.state updates) (D.state fault.updates)) }
     ensures later { IfOk result (λ replica. D.faults updates ≤ replica.log.faults) }
     ensures later_err { IfErr result (λ fault. D.faults updates ≤ D.faults fault.updates) }
-    ensures failed { IfErr result (λ fault. fault.why ≡ OpenKind.DiskFault → Rose (D.faults updates) (D.faults fault.updates)) }
+    ensures failed { IfErr result (λ fault. fault.why ≡ DiskError.DiskFault → Rose (D.faults updates) (D.faults fault.updates)) }
 {
     one_logset();
     whole_logset();
     match cut_synced(&mut updates, 0) {
         Ok(()) => {}
-        Err(_) => {
-            return Err(OpenFault {
-                why: OpenKind::DiskFault,
+        Err(DiskFault) => {
+            return Err(NotOpened {
+                why: DiskError::DiskFault,
                 updates,
                 native,
             });
@@ -187,18 +188,18 @@ fn open_empty<D: Disk, L: Relation, C: Checks<L>>(
     }
 }
 
-/// What a fault of opening is here, where the store is new.
-fn kind_of(why: OpenKind) -> CreateKind
-    ensures { result ≡ creating_kind why }
+/// What an error over a disk is where a store is created.
+fn creating_kind(error: DiskError) -> CreateKind
+    ensures { result ≡ creating_kind error }
 {
-    match why {
-        OpenKind::DiskFault => CreateKind::DiskFault,
-        _ => CreateKind::Memory,
+    match error {
+        DiskError::DiskFault => CreateKind::DiskFault,
+        DiskError::Memory => CreateKind::Memory,
     }
 }
 
-/// What a refusal of a text is here.
-fn kind_of_refusal(refusal: SchemaRefusal) -> CreateKind
+/// What a refusal of a text is where a store is created.
+fn refusal_kind(refusal: SchemaRefusal) -> CreateKind
     ensures { result ≡ refusal_kind refusal }
 {
     match refusal {

@@ -7,7 +7,8 @@ ghost use Rattle.confluence_test.specs.Taking.{TakesSchema};
 ghost use Rattle.schema.specs.Data.{SchemaData};
 ghost use Rattle.update_log.specs.Log.{IsClean, KeepsLogset};
 ghost use Rattle.update_log.specs.Logset.{IsLogset};
-ghost use Rattle.replica.specs.Opening.{IsOpenCause, IsOpened, KeepsStore, opening_kind};
+ghost use Rattle.replica.specs.Faults.{declaring_kind, opening_kind};
+ghost use Rattle.replica.specs.Opening.{IsOpenCause, IsOpened, KeepsStore};
 ghost use Rattle.replica.specs.Payload.{DeclaresBoth, DeclaresStore};
 
 use crate::open_fault::{OpenFault, OpenKind};
@@ -24,6 +25,7 @@ use update_log::{Log, LogFault};
 
 /// Opens the store of two parts that are settled. What stands behind the longest front of records that are a closed list under the schema's
 /// rule is cut. The verifier checks the records, and each update is judged once.
+#[tactic(auto, using(crate::proofs::Mapped::open_cause, crate::proofs::Mapped::open_disk))]
 pub fn open_store<V: Verifier, D: Disk, L: Relation, C: Checks<L>>(
     verifier: &V,
     alloc: Global,
@@ -57,7 +59,20 @@ pub fn open_store<V: Verifier, D: Disk, L: Relation, C: Checks<L>>(
             });
         }
     };
-    open_declared(verifier, alloc, declared, updates, native)
+    match open_declared(verifier, alloc, declared, updates, native) {
+        Ok(replica) => Ok(replica),
+        Err(
+            NotOpened {
+                why,
+                updates,
+                native,
+            },
+        ) => Err(OpenFault {
+            why: opening_kind(why),
+            updates,
+            native,
+        }),
+    }
 }
 
 /// What the part Schema declares.
@@ -70,6 +85,7 @@ pub struct Declared {
 }
 
 /// What the part Schema declares, or why there is no store.
+#[tactic(auto, using(crate::proofs::Mapped::open_cause, crate::proofs::Mapped::open_disk))]
 fn read_declared<D: Disk, L: Relation, C: Checks<L>>(
     alloc: Global,
     part: &mut D,
@@ -86,8 +102,7 @@ fn read_declared<D: Disk, L: Relation, C: Checks<L>>(
         Ok(Gated::Absent) => Err(OpenKind::NoStore),
         Ok(Gated::Damaged) => Err(OpenKind::BadSchema),
         Ok(Gated::Whole(payload)) => declared_by(alloc, payload.as_slice(), native),
-        Err(DiskError::DiskFault) => Err(OpenKind::DiskFault),
-        Err(DiskError::Memory) => Err(OpenKind::Memory),
+        Err(error) => Err(opening_kind(error)),
     }
 }
 
@@ -110,10 +125,30 @@ fn declared_by<L: Relation, C: Checks<L>>(
     node.copy_from_slice(parts.0);
     match take_schema(alloc, parts.1, native) {
         Ok(schema) => Ok(Declared { node, schema }),
-        Err(SchemaRefusal::Memory) => Err(OpenKind::Memory),
-        Err(SchemaRefusal::Schema(_)) => Err(OpenKind::BadSchema),
-        Err(SchemaRefusal::NotConfluent { .. }) => Err(OpenKind::BadSchema),
+        Err(refusal) => Err(declaring_kind(refusal)),
     }
+}
+
+/// What a refusal of a text is where a store is opened.
+fn declaring_kind(refusal: SchemaRefusal) -> OpenKind
+    ensures { result ≡ declaring_kind refusal }
+{
+    match refusal {
+        SchemaRefusal::Schema(_) => OpenKind::BadSchema,
+        SchemaRefusal::NotConfluent { .. } => OpenKind::BadSchema,
+        SchemaRefusal::Memory => OpenKind::Memory,
+    }
+}
+
+/// A log and a history that were not opened: the disk failed or memory ran out, and what was handed over.
+#[derive(Drop)]
+pub struct NotOpened<D: Disk, L: Relation, C: Checks<L>> {
+    /// Why they were not opened.
+    pub why: DiskError,
+    /// The disk of the part Updates.
+    pub updates: D,
+    /// The native checks.
+    pub native: Native<L, C>,
 }
 
 /// Opens the log under a schema, and the history of what stands there.
@@ -124,7 +159,7 @@ pub fn open_declared<V: Verifier, D: Disk, L: Relation, C: Checks<L>>(
     declared: Declared,
     updates: D,
     native: Native<L, C>,
-) -> Result<Replica<D, L, C>, OpenFault<D, L, C>>
+) -> Result<Replica<D, L, C>, NotOpened<D, L, C>>
     requires taken { TakesSchema L.answer declared.schema.text declared.schema }
     requires updates { IsTrue (D.state updates).tells → IsSettled (D.state updates) }
     ensures declared { IfOk result (λ replica. (replica.node ≡ declared.node) × (replica.history.schema ≡ declared.schema)) }
@@ -136,8 +171,7 @@ pub fn open_declared<V: Verifier, D: Disk, L: Relation, C: Checks<L>>(
     ensures any_moment_err { IfErr result (λ fault. KeepsLogset declared.schema.rule (D.state updates) (D.state fault.updates)) }
     ensures later { IfOk result (λ replica. D.faults updates ≤ replica.log.faults) }
     ensures later_err { IfErr result (λ fault. D.faults updates ≤ D.faults fault.updates) }
-    ensures only { IfErr result (λ fault. (fault.why ≡ OpenKind.DiskFault) ⊎ (fault.why ≡ OpenKind.Memory)) }
-    ensures failed { IfErr result (λ fault. fault.why ≡ OpenKind.DiskFault → Rose (D.faults updates) (D.faults fault.updates)) }
+    ensures failed { IfErr result (λ fault. fault.why ≡ DiskError.DiskFault → Rose (D.faults updates) (D.faults fault.updates)) }
 {
     accepted_is_unlimited();
     let Declared { node, schema } = declared;
@@ -145,8 +179,8 @@ pub fn open_declared<V: Verifier, D: Disk, L: Relation, C: Checks<L>>(
         Ok(opened) => opened,
         Err(fault) => {
             let LogFault { why, disk } = fault;
-            return Err(OpenFault {
-                why: kind_of(why),
+            return Err(NotOpened {
+                why,
                 updates: disk,
                 native,
             });
@@ -154,16 +188,16 @@ pub fn open_declared<V: Verifier, D: Disk, L: Relation, C: Checks<L>>(
     };
     match History::over(alloc, schema, native, graph) {
         Ok(history) => Ok(Replica { node, history, log }),
-        Err(NoHistory { native }) => Err(OpenFault {
-            why: OpenKind::Memory,
+        Err(NoHistory { native }) => Err(NotOpened {
+            why: DiskError::Memory,
             updates: log.into_disk(),
             native,
         }),
     }
 }
 
-/// What an error of a disk is here.
-fn kind_of(error: DiskError) -> OpenKind
+/// What an error over a disk is where a store is opened.
+fn opening_kind(error: DiskError) -> OpenKind
     ensures { result ≡ opening_kind error }
 {
     match error {

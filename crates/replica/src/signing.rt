@@ -15,6 +15,7 @@ ghost use Rattle.update_codec.specs.Spelling.{message, signed_length};
 ghost use Rattle.update_check.specs.Signed.{IsChecked};
 ghost use Rattle.key_index.specs.Used.{IsUsed};
 ghost use Rattle.lms_tree.specs.SecretKey.{public_key};
+ghost use Rattle.replica.specs.Faults.{message_fault};
 ghost use Rattle.replica.specs.Making.{AreSignedBy, HasLength, HasRoom, IsBytesCause, IsMadeWith, IsMessageCause, IsNewCause, IsSignCause, IsSignedBy, body_with};
 ghost use Rattle.replica.specs.Signing.{KeyAfter};
 ghost use Rattle.replica.specs.declared.make_fault.Side.TheVariants.{Key as KeySide};
@@ -27,7 +28,7 @@ use history::History;
 use key_index::{KeyStore, Reserve};
 use row_check::{Checks, Relation};
 use std::alloc::{AllocError, Global};
-use update_check::{Checked, check};
+use update_check::{CheckError, Checked, check};
 use update_codec::{EncodeError, UPDATE_LIMIT, encode_body};
 use update_model::{
     AuthorKey, Body, IdList, MAX_BYTES, MAX_MEMBERS, MAX_PREDS, Member, UpdateId, signature_len,
@@ -105,6 +106,7 @@ fn is_id(_id: UpdateId)
 {}
 
 /// The bytes that the author of a body signs, where the update is short enough.
+#[tactic(auto, using(crate::proofs::Mapped::message_cause))]
 fn message_of(alloc: Global, body: &Body) -> Result<Vec<u8>, MakeFault>
     ensures message { IfOk result (λ out. out.items ≡ message body.now) }
     ensures short { OnOk result (signed_length body.now ≤ UPDATE_LIMIT) }
@@ -112,30 +114,48 @@ fn message_of(alloc: Global, body: &Body) -> Result<Vec<u8>, MakeFault>
 {
     match encode_body(alloc, body) {
         Ok(message) => Ok(message),
-        Err(EncodeError::TooLong(refused)) => Err(MakeFault::TooLong(refused.len)),
-        Err(EncodeError::Memory) => Err(MakeFault::Memory),
+        Err(error) => Err(message_fault(error)),
     }
 }
 
-/// Takes over bytes that were signed, where their id is not held. What was signed for the database is taken, unless memory runs out.
+/// Why a body has no message is why no update is made.
+fn message_fault(error: EncodeError) -> MakeFault
+    ensures { result ≡ message_fault error }
+{
+    match error {
+        EncodeError::TooLong(refused) => MakeFault::TooLong(refused.len),
+        EncodeError::Memory => MakeFault::Memory,
+    }
+}
+
+/// Takes over bytes that were signed for the database, where their id is not held.
 fn check_new<L: Relation, C: Checks<L>>(
     alloc: Global,
     history: &History<L, C>,
     bytes: Vec<u8>,
 ) -> Result<Checked, MakeFault>
+    requires { IsChecked history.now.schema.rule bytes.items }
     ensures same { IfOk result (λ update. update ≡ bytes.items) }
     ensures checked { IfOk result (λ update. IsChecked history.now.schema.rule update) }
     ensures new { IfOk result (λ update. holds (map entry_of history.now.members) (id_of update) ≡ false) }
     ensures refused { IfErr result (λ why. IsNewCause history.now bytes.items why) }
 {
-    let Ok(update) = check(alloc, history.schema().rule(), bytes) else {
-        return Err(MakeFault::Memory);
+    let update = match check(alloc, history.schema().rule(), bytes) {
+        Ok(update) => update,
+        Err(error) => return Err(MakeFault::from(want_of_memory(error))),
     };
     let id = update.id();
     if history.position(&id).is_some() {
         return Err(MakeFault::Taken(id));
     }
     Ok(update)
+}
+
+/// The error of a check that no fault of the bytes can be.
+fn want_of_memory(_error: CheckError) -> AllocError
+    requires { _error ≡ CheckError.Memory }
+{
+    AllocError
 }
 
 /// Whether one more update of so many bytes is within the limits of a store.

@@ -1,9 +1,21 @@
-use Rattle.std.proofs.Common.{map, ap, sym, ◌∙◌}
+use Rattle.std.proofs.Common.{◌≡◌, ℕ, List, Result, subst, map, ap, sym, ◌∙◌}
 use Rattle.std.specs.Option.{is_some}
 use Rattle.update_model.specs.Graph.{holds}
 use Rattle.update_model.proofs.Closed.{position_of-held}
 use Rattle.update_codec.specs.Parts.{entry_of, id_of}
+use Rattle.update_model.specs.Rule.{RuleData}
+use Rattle.update_check.specs.Causes.{Takes}
+use Rattle.update_check.specs.Signed.{IsChecked}
+use Rattle.update_check.specs.declared.check_error.CheckError.{CheckError}
+use Rattle.schema.specs.Data.{SchemaData}
+use Rattle.replica.proofs.MadeBy.{memory_alone}
 use Rattle.replica.proofs.signing.check_new.Goals as goal
+
+pub want_of_memory-requires : goal.want_of_memory-requires
+want_of_memory-requires g c =
+    let same : c.rule.result.now ≡ c.args.history.now.schema.rule = c.rule.ensures ∙ ap (λ (s : SchemaData). s.rule) c.schema.ensures in
+    let taken = c.check.ensures.only (subst (λ (r : RuleData). IsChecked r c.args.bytes.items) (sym same) c.requires) in
+    memory_alone c.in-Err.error c.args.bytes.items (subst (λ (r : Result (List ℕ) CheckError). Takes r c.args.bytes.items) c.in-Err.is taken)
 
 pub returns-then-is_some-clause-refused : goal.returns-then-is_some-clause-refused
 returns-then-is_some-clause-refused g c =

@@ -14,13 +14,8 @@ use Rattle.replica.proofs.replica.Replica.commit.Goals as goal
 pub add_batch-requires-after_bounds : goal.add_batch-requires-after_bounds
 add_batch-requires-after_bounds g c = λ lives outlives. subst (λ (r : ReplicaState). All (IsChecked r.history.schema.rule) c.args.batch.items) (sym c.self.view_is) c.requires
 
-pub returns-in-Err-Full-clause-any_moment : goal.returns-in-Err-Full-clause-any_moment
-returns-in-Err-Full-clause-any_moment g c =
-    subst (λ (r : ReplicaState). LeavesOnly r.log.disk c.self.inside.log.disk (BeginsWith (stream_of r.history.members))) c.self.view_is
-    (log_stays c.self.inside.history.members c.self.inside.log c.self.invariant.log c.is_unsure.ensures.kept)
-
-pub returns-in-Err-Memory-clause-any_moment : goal.returns-in-Err-Memory-clause-any_moment
-returns-in-Err-Memory-clause-any_moment g c =
+pub returns-in-Err-clause-any_moment : goal.returns-in-Err-clause-any_moment
+returns-in-Err-clause-any_moment g c =
     subst (λ (r : ReplicaState). LeavesOnly r.log.disk c.self.inside.log.disk (BeginsWith (stream_of r.history.members))) c.self.view_is
     (log_stays c.self.inside.history.members c.self.inside.log c.self.invariant.log c.is_unsure.ensures.kept)
 
