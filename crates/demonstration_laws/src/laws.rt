@@ -1,0 +1,1 @@
+//! Laws of the definitions. Each function does no work: its contract is a theorem for callers to cite.
