@@ -1,0 +1,3 @@
+pub mod Places
+pub mod Permuting
+pub mod Courses

@@ -1,3 +1,4 @@
 pub mod Plans
 pub mod Chains
 pub mod Tables
+pub mod Courses
