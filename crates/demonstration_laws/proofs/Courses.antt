@@ -62,6 +62,16 @@ all_turns count = omega arith
 pub few_turns : (count b : ℕ) → turns_of count b ≤ count
 few_turns count b = omega arith
 
+-- four chains as tables see them
+abbrev pub four_chains : (ℕ → List (List ℕ)) → List (List NodeData)
+four_chains held = map node_of (held 0) ∷ map node_of (held 1) ∷ map node_of (held 2) ∷ map node_of (held 3) ∷ []
+
+nodes_of_four : (held : ℕ → List (List ℕ)) → all_of (four_chains held) ≡ map node_of (all_four held)
+nodes_of_four held =
+    sym (map-append node_of (held 0) (held 1 ++ (held 2 ++ held 3))
+    ∙ ap (λ l. map node_of (held 0) ++ l) (map-append node_of (held 1) (held 2 ++ held 3)
+    ∙ ap (λ l. map node_of (held 1) ++ l) (map-append node_of (held 2) (held 3) ∙ ap (λ l. map node_of (held 2) ++ l) (sym (append-nil (map node_of (held 3)))))))
+
 -- ---- places
 
 module _ (made : List (List ℕ)) (count : ℕ) (chains members : ℕ → List (List ℕ)) (apart : AreApart made) (small : count < 2 ^ 32) (step : AreInStep made count chains members) where
@@ -109,38 +119,60 @@ module _ (made : List (List ℕ)) (count : ℕ) (chains members : ℕ → List (
           let parts = length-append p.0 (n ∷ p.1) in
           absurd (omega arith)
 
-  pub four_distinct : (held : ℕ → List (List ℕ)) → ((b : ℕ) → b < 4 → EndsIn (chains b) (held b)) → AreDistinct (ids_of (all_four held))
-  four_distinct held ends =
-      distinct_both (held 0) (held 1 ++ (held 2 ++ held 3)) (one 0 (omega arith))
-      (distinct_both (held 1) (held 2 ++ held 3) (one 1 (omega arith)) (distinct_both (held 2) (held 3) (one 2 (omega arith)) (one 3 (omega arith)) (λ m n c d same. differ 2 3 (omega arith) (omega arith) (omega arith) m n c d same))
-      (λ m n c d same. elim (Contains-append_cases (held 2) (held 3) n d) [
+  -- lists of some of each author's updates
+  pub four_distinct : (some : ℕ → List (List ℕ)) → ((b : ℕ) → b < 4 → AreDistinct (ids_of (some b))) → ((b : ℕ) → b < 4 → (m : List ℕ) → Contains (some b) m → Contains (chains b) m)
+      → AreDistinct (ids_of (all_four some))
+  four_distinct some one within =
+      distinct_both (some 0) (some 1 ++ (some 2 ++ some 3)) (one 0 (omega arith))
+      (distinct_both (some 1) (some 2 ++ some 3) (one 1 (omega arith)) (distinct_both (some 2) (some 3) (one 2 (omega arith)) (one 3 (omega arith)) (λ m n c d same. differ 2 3 (omega arith) (omega arith) (omega arith) m n c d same))
+      (λ m n c d same. elim (Contains-append_cases (some 2) (some 3) n d) [
         | inl here ↦ differ 1 2 (omega arith) (omega arith) (omega arith) m n c here same
         | inr last ↦ differ 1 3 (omega arith) (omega arith) (omega arith) m n c last same
       ]))
-      (λ m n c d same. elim (Contains-append_cases (held 1) (held 2 ++ held 3) n d) [
+      (λ m n c d same. elim (Contains-append_cases (some 1) (some 2 ++ some 3) n d) [
         | inl here ↦ differ 0 1 (omega arith) (omega arith) (omega arith) m n c here same
-        | inr rest ↦ elim (Contains-append_cases (held 2) (held 3) n rest) [
+        | inr rest ↦ elim (Contains-append_cases (some 2) (some 3) n rest) [
           | inl here ↦ differ 0 2 (omega arith) (omega arith) (omega arith) m n c here same
           | inr last ↦ differ 0 3 (omega arith) (omega arith) (omega arith) m n c last same
         ]
       ])
     where
-      one : (b : ℕ) → b < 4 → AreDistinct (ids_of (held b))
-      one b low = let end = ends b low in distinct_end b low end.0 (held b) end.1
-
-      differ : (b c : ℕ) → b < 4 → c < 4 → b < c → (m n : List ℕ) → Contains (held b) m → Contains (held c) n → id_of m ≡ id_of n → ⊥
+      differ : (b c : ℕ) → b < 4 → c < 4 → b < c → (m n : List ℕ) → Contains (some b) m → Contains (some c) n → id_of m ≡ id_of n → ⊥
       differ b c low_b low_c below m n d e same =
-          let is = one_author b c low_b low_c m n (end_in (chains b) (held b) m (ends b low_b) d) (end_in (chains c) (held c) n (ends c low_c) e) same in
+          let is = one_author b c low_b low_c m n (within b low_b m d) (within c low_c n e) same in
           absurd (omega arith)
+
+  pub held_distinct : (held : ℕ → List (List ℕ)) → ((b : ℕ) → b < 4 → EndsIn (chains b) (held b)) → AreDistinct (ids_of (all_four held))
+  held_distinct held ends = four_distinct held (λ b low. let end = ends b low in distinct_end b low end.0 (held b) end.1) (λ b low m c. end_in (chains b) (held b) m (ends b low) c)
 
   -- ---- members
 
   pub members_permuted : (x : ℕ) (low : x < 4) → IsPermutation (members x) (all_four (step.holds x low).held)
   members_permuted x low =
       let holds = step.holds x low in
-      permuted (members x) (all_four holds.held) (closed_distinct (members x) holds.closed) (four_distinct holds.held holds.oldest) (λ m c. in_all holds.held m (holds.each m c))
+      permuted (members x) (all_four holds.held) (closed_distinct (members x) holds.closed) (held_distinct holds.held holds.oldest) (λ m c. in_all holds.held m (holds.each m c))
       (λ m c. holds.all m (among_all holds.held m c))
 
--- four chains as tables see them
-pub four_chains : (ℕ → List (List ℕ)) → List (List NodeData)
-four_chains held = map node_of (held 0) ∷ map node_of (held 1) ∷ map node_of (held 2) ∷ map node_of (held 3) ∷ []
+  pub as_tables_see : (x : ℕ) (low : x < 4) → ArePlanned (four_chains (step.holds x low).held) (reverse (map node_of (members x)))
+  as_tables_see x low = record {
+    four = refl;
+    each = λ author below. each_chain author below;
+    same = IsPermutation-trans (reverse (map node_of (members x))) (map node_of (members x)) (all_of (four_chains held))
+        (IsPermutation-sym (map node_of (members x)) (reverse (map node_of (members x))) (IsPermutation-reverse (map node_of (members x))))
+        (subst (λ (l : List NodeData). IsPermutation (map node_of (members x)) l) (sym (nodes_of_four held)) (IsPermutation-map node_of (members x) (all_four held) (members_permuted x low)));
+  }
+    where
+      held : ℕ → List (List ℕ)
+      held = (step.holds x low).held
+
+      chain_at : (b : ℕ) → b < 4 → IsChain b (map node_of (held b))
+      chain_at b below =
+          let end = (step.holds x low).oldest b below in
+          chain_end b end.0 (held b) (subst (λ (l : List (List ℕ)). IsChain b (map node_of l)) end.1 (step.chain b below))
+
+      each_chain : (b : ℕ) → b < 4 → IsChain b (slice_index_or (four_chains held) b [])
+      each_chain zero below = chain_at 0 (omega arith)
+      each_chain (suc zero) below = chain_at 1 (omega arith)
+      each_chain (suc (suc zero)) below = chain_at 2 (omega arith)
+      each_chain (suc (suc (suc zero))) below = chain_at 3 (omega arith)
+      each_chain (suc (suc (suc (suc n)))) below = absurd (omega arith)

@@ -1,3 +1,5 @@
 pub mod Places
 pub mod Permuting
 pub mod Courses
+pub mod Heads
+pub mod Making

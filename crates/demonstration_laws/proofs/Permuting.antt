@@ -41,7 +41,7 @@ distinct_both (m ∷ one) other a b none =
       | inr there ↦ none m n (contains_first m one) there same
     ]) (distinct_both one other a.1 b (λ k n c d same. none k n (contains_later m k one c) d same))
 
-holds_id : (members : List (List ℕ)) (m : List ℕ) → holds (map entry_of members) (id_of m) ≡ has (ids_of members) (id_of m)
+pub holds_id : (members : List (List ℕ)) (m : List ℕ) → holds (map entry_of members) (id_of m) ≡ has (ids_of members) (id_of m)
 holds_id members m = any_mapped entry_of (λ (e : Entry). same_id (id_of m) e.id) members ∙ sym (any_mapped id_of (same_id (id_of m)) members)
 
 -- what follows has other ids
