@@ -3,3 +3,4 @@ pub mod Permuting
 pub mod Courses
 pub mod Heads
 pub mod Making
+pub mod Meeting

@@ -54,3 +54,7 @@ pub record AreInStep (made : List (List ℕ)) (count : ℕ) (chains members : �
 pub record AreApartSince (first met count : ℕ) (chains members : ℕ → List (List ℕ)) : Type 0 where
   pub unnamed : (k : ℕ) → first ≤ k → k < count → (m : List ℕ) (older : List (List ℕ)) → chains (k % 4) ≡ m ∷ older → (x : ℕ) → x < 4 → names (map entry_of (members x)) (id_of m) ≡ false
   pub alone : (k : ℕ) → met ≤ k → k < count → (m : List ℕ) (older : List (List ℕ)) → chains (k % 4) ≡ m ∷ older → (x : ℕ) → x < 4 → Contains (members x) m → x ≡ k % 4
+
+-- The list has all updates of so many authors.
+abbrev pub HasAll : (ℕ → List (List ℕ)) → List (List ℕ) → ℕ → Type 0
+HasAll chains members reach = (b : ℕ) → b < reach → (m : List ℕ) → Contains (chains b) m → Contains members m
