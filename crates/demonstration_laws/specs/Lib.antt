@@ -1,4 +1,3 @@
 pub mod Plans
 pub mod Chains
 pub mod Tables
-pub mod Courses

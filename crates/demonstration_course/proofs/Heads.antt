@@ -3,10 +3,10 @@ use Rattle.std.proofs.Common.{◌≡◌, ◌≢◌, ◌⊎◌, inl, inr, ℕ, ze
 use Rattle.std.proofs.lemmas.Bool.{both_ways, false_from_ne_true}
 use Rattle.std.proofs.lemmas.List.Elements.{Contains-append_right}
 use Rattle.session_rules.proofs.Pigeons.{AreDistinct, pigeons, rising_distinct}
-use Rattle.demonstration_laws.specs.Courses.{AreApart, AreApartSince, AreInStep, EndsIn, HoldsOldest, IsAmong, IsMadeAfter, all_four, turns_of}
-use Rattle.demonstration_laws.proofs.Courses.{among_all, end_in, four_distinct, in_all, length_all}
-use Rattle.demonstration_laws.proofs.Permuting.{has_id, holds_id, ids_of, of_id}
-use Rattle.demonstration_laws.proofs.Places.{parted}
+use Rattle.demonstration_course.specs.Courses.{AreApart, AreApartSince, AreInStep, EndsIn, HoldsOldest, IsAmong, IsMadeAfter, all_four, turns_of}
+use Rattle.demonstration_course.proofs.Courses.{among_all, end_in, four_distinct, in_all, length_all}
+use Rattle.demonstration_course.proofs.Permuting.{has_id, holds_id, ids_of, of_id}
+use Rattle.demonstration_course.proofs.Places.{parted}
 use Rattle.std.proofs.lemmas.List.{length-map}
 use Rattle.table_model.proofs.Members.{any_finds, any_of_contained, contains_cases, contains_first, contains_mapped, mapped_contains}
 use Rattle.update_codec.specs.Parts.{entry_of, id_of, preds_of}

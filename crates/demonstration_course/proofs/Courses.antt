@@ -6,9 +6,9 @@ use Rattle.std.proofs.lemmas.List.Elements.{Contains-append_cases, Contains-appe
 use Rattle.std.proofs.lemmas.List.Sorted.{IsPermutation-map, IsPermutation-reverse, IsPermutation-sym, IsPermutation-trans, length_permutation}
 use Rattle.session_rules.proofs.Pigeons.{AreDistinct}
 use Rattle.demonstration_laws.specs.Chains.{ArePlanned, IsChain, all_of}
-use Rattle.demonstration_laws.specs.Courses.{AreApart, AreInStep, EndsIn, HoldsOldest, IsAmong, all_four, turns_of}
-use Rattle.demonstration_laws.proofs.Permuting.{closed_distinct, distinct_both, distinct_cons, ids_of, permuted}
-use Rattle.demonstration_laws.proofs.Places.{parted, same_place}
+use Rattle.demonstration_course.specs.Courses.{AreApart, AreInStep, EndsIn, HoldsOldest, IsAmong, all_four, turns_of}
+use Rattle.demonstration_course.proofs.Permuting.{closed_distinct, distinct_both, distinct_cons, ids_of, permuted}
+use Rattle.demonstration_course.proofs.Places.{parted, same_place}
 use Rattle.table_model.proofs.Members.{contains_first, contains_later}
 use Rattle.update_check.specs.Signed.{node_of}
 use Rattle.update_codec.specs.Parts.{id_of}
