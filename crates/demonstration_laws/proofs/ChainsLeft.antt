@@ -39,6 +39,10 @@ Once nodes = (id : UpdateId) → many nodes id ≤ 1
 abbrev pub Targets : List NodeData → Type 0
 Targets nodes = (id : UpdateId) → gone nodes id ≡ true → 1 ≤ many nodes id
 
+-- how many rows nodes have that are not out, by a number for each
+abbrev pub left : (NodeData → ℕ) → (UpdateId → Bool) → List NodeData → ℕ
+left rows out nodes = weight (λ node. cond (out node.id) 0 (rows node)) nodes
+
 -- the operations that insert a list and two tasks in it
 abbrev pub inserting : ℕ → ℕ → ℕ → ℕ → List Op
 inserting author number first second =
@@ -126,36 +130,32 @@ both_targets xs ys first second id g =
 -- the rows are counted by any number for each node, which is the same for each that inserts, and 0 for one that deletes
 module _ (rows : NodeData → ℕ) (k : ℕ) (added : (node : NodeData) (author number first second : ℕ) → node.ops ≡ inserting author number first second → rows node ≡ k)
     (dropped : (node : NodeData) (name : RowName) → node.ops ≡ Delete name ∷ [] → rows node ≡ 0) where
-  -- those of nodes that are not out
-  abbrev pub left : (UpdateId → Bool) → List NodeData → ℕ
-  left out nodes = weight (λ node. cond (out node.id) 0 (rows node)) nodes
-
-  left_same : (a b : UpdateId → Bool) (nodes : List NodeData) → ((id : UpdateId) → 1 ≤ many nodes id → a id ≡ b id) → left a nodes ≡ left b nodes
+  left_same : (a b : UpdateId → Bool) (nodes : List NodeData) → ((id : UpdateId) → 1 ≤ many nodes id → a id ≡ b id) → left rows a nodes ≡ left rows b nodes
   left_same a b [] h = refl
   left_same a b (node ∷ nodes) h =
       let first : a node.id ≡ b node.id = h node.id (let one = own_one node.id in omega arith) in
       let rest = left_same a b nodes (λ id low. h id (omega arith)) in
       ap₂ (λ (c : Bool) (n : ℕ). cond c 0 (rows node) + n) first rest
 
-  left_adds : (node : NodeData) (older : List NodeData) → Targets older → Once (node ∷ older) → (effects_of node).deleted ≡ [] → rows node ≡ k → left (gone (node ∷ older)) (node ∷ older) ≡ k + left (gone older) older
+  left_adds : (node : NodeData) (older : List NodeData) → Targets older → Once (node ∷ older) → (effects_of node).deleted ≡ [] → rows node ≡ k → left rows (gone (node ∷ older)) (node ∷ older) ≡ k + left rows (gone older) older
   left_adds node older targets once none is =
       let fresh : many older node.id ≡ 0 = let one = own_one node.id in let low = once node.id in omega arith in
       let here : gone (node ∷ older) node.id ≡ false = gone_adds node older node.id none ∙ gone_none older targets node.id fresh in
       let rest = left_same (gone (node ∷ older)) (gone older) older (λ id low. gone_adds node older id none) in
-      ap₂ (λ (c : Bool) (n : ℕ). cond c 0 (rows node) + n) here rest ∙ ap (λ (n : ℕ). n + left (gone older) older) is
+      ap₂ (λ (c : Bool) (n : ℕ). cond c 0 (rows node) + n) here rest ∙ ap (λ (n : ℕ). n + left rows (gone older) older) is
 
   nothing_left : (b : Bool) (node : NodeData) → rows node ≡ 0 → cond b 0 (rows node) ≡ 0
   nothing_left true node is = refl
   nothing_left false node is = is
 
   left_drops : (node head : NodeData) (rest : List NodeData) → Targets rest → Once (node ∷ head ∷ rest) → (effects_of node).deleted ≡ first_row head.id ∷ [] → rows node ≡ 0
-      → (effects_of head).deleted ≡ [] → rows head ≡ k → left (gone (node ∷ head ∷ rest)) (node ∷ head ∷ rest) + k ≡ left (gone (head ∷ rest)) (head ∷ rest)
+      → (effects_of head).deleted ≡ [] → rows head ≡ k → left rows (gone (node ∷ head ∷ rest)) (node ∷ head ∷ rest) + k ≡ left rows (gone (head ∷ rest)) (head ∷ rest)
   left_drops node head rest targets once one is none head_is =
       let all = node ∷ head ∷ rest in
       let own = nothing_left (gone all node.id) node is in
       let hit : gone all head.id ≡ true = gone_drops node (head ∷ rest) head.id head.id one ∙ ap (λ (b : Bool). b || gone (head ∷ rest) head.id) (same_id-refl head.id) in
       let gone_head : cond (gone all head.id) 0 (rows head) ≡ 0 = ap (λ (b : Bool). cond b 0 (rows head)) hit in
-      let others : left (gone all) rest ≡ left (gone (head ∷ rest)) rest = left_same (gone all) (gone (head ∷ rest)) rest (λ id low.
+      let others : left rows (gone all) rest ≡ left rows (gone (head ∷ rest)) rest = left_same (gone all) (gone (head ∷ rest)) rest (λ id low.
       let apart : same_id id head.id ≡ false = false_from_ne_true (same_id id head.id) (λ same. let few = once id in let two = ap one_if same in omega arith) in
       gone_drops node (head ∷ rest) id head.id one ∙ ap (λ (b : Bool). b || gone (head ∷ rest) id) apart) in
       let fresh : many rest head.id ≡ 0 = let mine = own_one head.id in let low = once head.id in omega arith in
@@ -165,7 +165,7 @@ module _ (rows : NodeData → ℕ) (k : ℕ) (added : (node : NodeData) (author 
 
   -- of a chain whose newest node deletes
   left_fifth : (author : ℕ) (node : NodeData) (older : List NodeData) → IsChain author older → Once (node ∷ older) → (update : UpdateId) → last_id older ≡ Some update → length older % 5 ≡ 4
-      → node.ops ≡ Delete (first_row update) ∷ [] → left (gone older) older ≡ k * lists_left (length older) → left (gone (node ∷ older)) (node ∷ older) ≡ k * lists_left (suc (length older))
+      → node.ops ≡ Delete (first_row update) ∷ [] → left rows (gone older) older ≡ k * lists_left (length older) → left rows (gone (node ∷ older)) (node ∷ older) ≡ k * lists_left (suc (length older))
   unfolding IsChain
   left_fifth author node [] is once update last fifth ops before = absurd cc
   left_fifth author node (head ∷ rest) is once update last fifth ops before =
@@ -174,7 +174,7 @@ module _ (rows : NodeData → ℕ) (k : ℕ) (added : (node : NodeData) (author 
       elim is.0 [
         | deletes u l also o ↦ absurd (omega arith)
         | inserts first second a b never made ↦
-            times_down k (lists_left (suc (suc (length rest)))) (lists_left (suc (length rest))) (left (gone (node ∷ head ∷ rest)) (node ∷ head ∷ rest)) (left (gone (head ∷ rest)) (head ∷ rest)) (lists_down (suc (length rest)) fifth)
+            times_down k (lists_left (suc (suc (length rest)))) (lists_left (suc (length rest))) (left rows (gone (node ∷ head ∷ rest)) (node ∷ head ∷ rest)) (left rows (gone (head ∷ rest)) (head ∷ rest)) (lists_down (suc (length rest)) fifth)
             (left_drops node head rest (chain_targets author rest is.1) once one (dropped node (first_row update) ops) (deleted_none head author (length rest) first second made) (added head author (length rest) first second made)) before
       ]
 
@@ -183,7 +183,7 @@ module _ (rows : NodeData → ℕ) (k : ℕ) (added : (node : NodeData) (author 
   some_last (head ∷ rest) fifth none = absurd cc
 
   -- of a chain
-  pub chain_left : (author : ℕ) (chain : List NodeData) → IsChain author chain → Once chain → left (gone chain) chain ≡ k * lists_left (length chain)
+  pub chain_left : (author : ℕ) (chain : List NodeData) → IsChain author chain → Once chain → left rows (gone chain) chain ≡ k * lists_left (length chain)
   unfolding IsChain
   chain_left author [] is once = omega arith
   chain_left author (node ∷ older) is once =
@@ -193,13 +193,13 @@ module _ (rows : NodeData → ℕ) (k : ℕ) (added : (node : NodeData) (author 
         | deletes update last fifth ops ↦ left_fifth author node older is.1 once update last fifth ops before
         | inserts first second a b never ops ↦
             left_adds node older (chain_targets author older is.1) once (deleted_none node author (length older) first second ops) (added node author (length older) first second ops)
-            ∙ times_up k (lists_left (suc (length older))) (lists_left (length older)) (left (gone older) older) (lists_up (length older) (λ fifth. some_last older fifth (never fifth))) before
+            ∙ times_up k (lists_left (suc (length older))) (lists_left (length older)) (left rows (gone older) older) (lists_up (length older) (λ fifth. some_last older fifth (never fifth))) before
       ]
 
   -- ---- of all chains
 
   -- two parts do not delete each other's rows
-  left_parts : (xs ys : List NodeData) → Targets xs → Targets ys → Once (xs ++ ys) → left (gone (xs ++ ys)) (xs ++ ys) ≡ left (gone xs) xs + left (gone ys) ys
+  left_parts : (xs ys : List NodeData) → Targets xs → Targets ys → Once (xs ++ ys) → left rows (gone (xs ++ ys)) (xs ++ ys) ≡ left rows (gone xs) xs + left rows (gone ys) ys
   left_parts xs ys first second once =
       let both : (id : UpdateId) → gone (xs ++ ys) id ≡ (gone xs id || gone ys id) = λ id. list_any-append (λ node. list_any (same_row (first_row id)) (effects_of node).deleted) xs ys in
       let sum : (id : UpdateId) → many xs id + many ys id ≤ 1 = λ id. let few = once id in let parts = weight-append (λ (node : NodeData). one_if (same_id id node.id)) xs ys in omega arith in
@@ -212,7 +212,7 @@ module _ (rows : NodeData → ℕ) (k : ℕ) (added : (node : NodeData) (author 
       weight-append (λ (node : NodeData). cond (gone (xs ++ ys) node.id) 0 (rows node)) xs ys ∙ ap₂ (λ (m n : ℕ). m + n) here there
 
   pub chains_left : (chains : List (List NodeData)) → AllByRecursion (λ c. (author : ℕ) × IsChain author c) chains → Once (all_of chains)
-      → Targets (all_of chains) × (left (gone (all_of chains)) (all_of chains) ≡ k * all_lists_left chains)
+      → Targets (all_of chains) × (left rows (gone (all_of chains)) (all_of chains) ≡ k * all_lists_left chains)
   chains_left [] are once = (λ id g. absurd cc, omega arith)
   chains_left (chain ∷ chains) are once =
       let sum : (id : UpdateId) → many chain id + many (all_of chains) id ≤ 1 = λ id. let few = once id in let parts = weight-append (λ (node : NodeData). one_if (same_id id node.id)) chain (all_of chains) in omega arith in

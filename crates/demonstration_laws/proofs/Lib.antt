@@ -1,1 +1,3 @@
 pub mod ChainsLeft
+pub mod DemoRows
+pub mod Rows
