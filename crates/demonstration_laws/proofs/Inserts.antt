@@ -1,5 +1,5 @@
 -- An update that inserts a list and two tasks in it, by the tables of a demonstration, is valid.
-use Rattle.std.proofs.Common.{◌≡◌, ℕ, zero, suc, pos, ◌+◌, ◌<◌, ◌≤◌, ◌==◌, Bool, true, false, cond, not, ◌&&◌, ◌||◌, List, [], ◌∷◌, length, nat_le, Option, None, refl, ap, ◌∙◌, arith}
+use Rattle.std.proofs.Common.{◌≡◌, ℕ, zero, suc, pos, ltb, ◌+◌, ◌<◌, ◌≤◌, ◌==◌, Bool, true, false, cond, not, ◌&&◌, ◌||◌, List, [], ◌∷◌, ◌++◌, length, nat_le, Option, None, Some, refl, ap, ◌∙◌, arith}
 use Rattle.std.specs.Int.Signed.{le_z}
 use Rattle.std.specs.List.{list_all, list_any}
 use Rattle.std.specs.Ordering.{int_cmp, is_le, is_lt}
@@ -11,13 +11,15 @@ use Rattle.update_model.specs.declared.row_name.RowName.{RowName}
 use Rattle.update_model.specs.declared.value.Value.{Value}
 use Rattle.update_model.specs.declared.value.Value.TheVariants.{Int, Null, Own, Row, Text}
 use Rattle.update_model.specs.Node.{NodeData}
+use Rattle.row_check.specs.declared.cmp.Cmp.TheVariants.{Le}
+use Rattle.row_check.specs.Comparisons.{compares}
+use Rattle.row_check.specs.Meaning.{value_at}
 use Rattle.schema.specs.Checks.{checks_hold}
 use Rattle.schema.specs.Columns.{all_fit}
 use Rattle.table_model.specs.declared.reason.TheConstants.{NO_TABLE, MISFIT, CHECK_FALSE, NO_TARGET, MATCH_FALSE, LIMIT_BROKEN}
 use Rattle.table_model.specs.declared.verdict.Verdict.TheVariants.{Valid, Void}
-use Rattle.table_model.specs.Verdicts.{are_new, first_reason, insert_reason, is_new_in, is_unlimited, left_of, limits_hold, matches_hold, nothing, row_inserted, stands_among, verdict_after}
+use Rattle.table_model.specs.Verdicts.{are_new, first_reason, insert_reason, is_new_in, joined, left_of, limits_hold, matches_hold, nothing, row_inserted, stands_among, verdict_after}
 use Rattle.table_model.specs.Visible.{Effects, Rules, TableRow, kept_of, refs, rules_with, same_row, table_of, visible_rows}
-use Rattle.table_model.specs.Verdicts.{joined}
 use Rattle.table_model.proofs.Standing.{same_row-refl}
 use Rattle.table_model.proofs.Unlimited.{unlimited_holds}
 use Rattle.demonstration_laws.specs.Plans.{list_insert, task_insert}
@@ -84,3 +86,40 @@ module _ (title : List ℕ) (prio : ℕ) (name : RowName) (low : prio < 9) where
 
   task_checked : (ask : ℕ → List Value → Bool) → checks_hold ask task_values task_table.checks ≡ true
   task_checked ask = and_from _ _ (or_left _ _ (ap is_lt (lesser prio 9 low))) refl
+
+-- ---- the update
+
+module _ (ask : ℕ → List Value → Bool) (node : NodeData) where
+  -- the row of a list, which the update inserts first
+  abbrev pub list_row : List ℕ → TableRow
+  list_row title = row_inserted node 0 0 (Text title ∷ Int (pos 9) ∷ [])
+
+  list_passes : (beside : List TableRow) (title : List ℕ) → 1 ≤ length title → length title ≤ 40 → insert_reason (demo ask) beside (list_row title) ≡ None
+  list_passes beside title some few = passes (demo ask) beside (list_row title) refl (list_fits title some few) refl refl refl
+
+  -- where the list of a task is among these rows, the task may be inserted beside them
+  task_passes : (beside : List TableRow) (list : List ℕ) → ((p : TableRow → Bool) → p (list_row list) ≡ true → list_any p beside ≡ true)
+      → (number : ℕ) (title : List ℕ) (prio : ℕ) → 1 ≤ length title → length title ≤ 1024 → prio < 9
+      → insert_reason (demo ask) beside (row_inserted node number 1 (Text title ∷ Int (pos prio) ∷ Null ∷ Own 0 ∷ Null ∷ [])) ≡ None
+  task_passes beside list here number title prio some few low =
+      let name : RowName = record { update = node.id; index = 0 } in
+      let own = same_row-refl name in
+      let less : compares Le (Int (pos prio)) (Int (pos 9)) ≡ true = ap is_le (lesser prio 9 low) in
+      passes (demo ask) beside (row_inserted node number 1 (Text title ∷ Int (pos prio) ∷ Null ∷ Own 0 ∷ Null ∷ [])) refl (task_fits title prio name low some few) (task_checked title prio name low ask)
+      (and_from _ _ (here (λ row. same_row row.name name && (row.table == 0)) (and_from _ _ own refl)) refl)
+      (and_from _ _ (here (λ row. same_row row.name name && compares Le (Int (pos prio)) (value_at row.values 1)) (and_from _ _ own less)) refl)
+
+  -- a list and two tasks in it
+  pub inserts_valid : (past : Effects) (rows : List TableRow) (list first second : List ℕ) (p q : ℕ) → 1 ≤ length list → length list ≤ 40
+      → 1 ≤ length first → length first ≤ 1024 → 1 ≤ length second → length second ≤ 1024 → p < 9 → q < 9
+      → verdict_after (demo ask) past rows node 0 nothing (list_insert list ∷ task_insert first p ∷ task_insert second q ∷ []) ≡ Valid
+  inserts_valid past rows list first second p q list_some list_few first_some first_few second_some second_few p_low q_low =
+      let one = list_row list in
+      let two = row_inserted node 1 1 (Text first ∷ Int (pos p) ∷ Null ∷ Own 0 ∷ Null ∷ []) in
+      let three = row_inserted node 2 1 (Text second ∷ Int (pos q) ∷ Null ∷ Own 0 ∷ Null ∷ []) in
+      goes_on (demo ask) past rows node 0 nothing 0 (Text list ∷ Int (pos 9) ∷ []) (task_insert first p ∷ task_insert second q ∷ []) (list_passes rows list list_some list_few)
+      ∙ goes_on (demo ask) past rows node 1 (record { inserted = one ∷ []; deleted = [] }) 1 (Text first ∷ Int (pos p) ∷ Null ∷ Own 0 ∷ Null ∷ []) (task_insert second q ∷ [])
+      (task_passes (one ∷ rows) list (λ t h. or_left _ _ h) 1 first p first_some first_few p_low)
+      ∙ goes_on (demo ask) past rows node 2 (record { inserted = two ∷ one ∷ []; deleted = [] }) 1 (Text second ∷ Int (pos q) ∷ Null ∷ Own 0 ∷ Null ∷ []) []
+      (task_passes (two ∷ one ∷ rows) list (λ t h. or_right (t two) _ (or_left _ _ h)) 2 second q second_some second_few q_low)
+      ∙ ends ask past rows node 3 (record { inserted = three ∷ two ∷ one ∷ []; deleted = [] })
