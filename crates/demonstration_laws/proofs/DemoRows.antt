@@ -16,6 +16,7 @@ use Rattle.table_model.specs.Visible.{Effects, RowRef, Rules, TableRow, cascade_
 use Rattle.table_model.proofs.Alike.{weight, weight-append, one_if}
 use Rattle.table_model.proofs.Each.{each-append, each-left, each-right}
 use Rattle.table_model.proofs.Settled.{IsOne, shows_one}
+use Rattle.demonstration_laws.specs.Chains.{did_by}
 use Rattle.demonstration_laws.specs.Plans.{list_title, task_title}
 use Rattle.demonstration_laws.proofs.ChainsLeft.{first_row, gone, inserting, left}
 
@@ -28,11 +29,6 @@ list_row node title = row_inserted node 0 0 (Text title ∷ Int (pos 9) ∷ [])
 -- the row of a task in that list, inserted by the operation with this number
 abbrev pub task_row : NodeData → ℕ → List ℕ → ℕ → TableRow
 task_row node number title prio = row_inserted node number 1 (Text title ∷ Int (pos prio) ∷ Null ∷ Own 0 ∷ Null ∷ [])
-
--- what nodes do, if each is valid
-abbrev pub all_effects : List NodeData → Effects
-all_effects [] = nothing
-all_effects (node ∷ nodes) = joined (effects_of node) (all_effects nodes)
 
 -- A node inserts a list and two tasks in it.
 pub record Adds (node : NodeData) : Type 0 where
@@ -81,9 +77,9 @@ deleted_first : (node : NodeData) → Does node → AreFirst (effects_of node).d
 deleted_first node (inl a) = subst AreFirst (sym (names_added node a)) tt
 deleted_first node (inr d) = subst AreFirst (sym (names_dropped node d)) (refl, tt)
 
-pub all_first : (nodes : List NodeData) → AllByRecursion Does nodes → AreFirst (all_effects nodes).deleted
+pub all_first : (nodes : List NodeData) → AllByRecursion Does nodes → AreFirst (did_by nodes).deleted
 all_first [] does = tt
-all_first (node ∷ nodes) does = each-append (λ (name : RowName). name.index ≡ 0) (effects_of node).deleted (all_effects nodes).deleted (deleted_first node does.0) (all_first nodes does.1)
+all_first (node ∷ nodes) does = each-append (λ (name : RowName). name.index ≡ 0) (effects_of node).deleted (did_by nodes).deleted (deleted_first node does.0) (all_first nodes does.1)
 
 -- Where there is a row, there are two.
 abbrev pub IsLong : List TableRow → Type 0
@@ -93,16 +89,9 @@ long_after : (node : NodeData) (rows : List TableRow) → Does node → IsLong r
 long_after node rows (inl a) long = subst (λ (new : List TableRow). IsLong (new ++ rows)) (sym (rows_added node a)) (λ h. (suc (length rows), refl))
 long_after node rows (inr d) long = subst (λ (new : List TableRow). IsLong (new ++ rows)) (sym (rows_dropped node d)) long
 
-pub all_long : (nodes : List NodeData) → AllByRecursion Does nodes → IsLong (all_effects nodes).inserted
+pub all_long : (nodes : List NodeData) → AllByRecursion Does nodes → IsLong (did_by nodes).inserted
 all_long [] does = λ h. absurd cc
-all_long (node ∷ nodes) does = long_after node (all_effects nodes).inserted does.0 (all_long nodes does.1)
-
--- what is deleted
-pub all_gone : (nodes : List NodeData) (id : UpdateId) → is_deleted (all_effects nodes) (first_row id) ≡ gone nodes id
-all_gone [] id = refl
-all_gone (node ∷ nodes) id =
-    list_any-append (same_row (first_row id)) (effects_of node).deleted (all_effects nodes).deleted
-    ∙ ap₂ (λ a b. a || b) refl (all_gone nodes id)
+all_long (node ∷ nodes) does = long_after node (did_by nodes).inserted does.0 (all_long nodes does.1)
 
 -- ---- which rows are visible
 
@@ -192,11 +181,11 @@ module _ (rules : Rules) (tasks : AreTasks rules) (did : Effects) (first : AreFi
       (sym (cond_nothing (is_deleted did (first_row node.id))))
 
   -- and among those of nodes
-  pub nodes_counted : (table : ℕ) (nodes : List NodeData) → AllByRecursion Does nodes → AllByRecursion (IsOne did.inserted) (all_effects nodes).inserted
-      → weight (counted rules did table) (all_effects nodes).inserted ≡ left (rows_in table) (λ id. is_deleted did (first_row id)) nodes
+  pub nodes_counted : (table : ℕ) (nodes : List NodeData) → AllByRecursion Does nodes → AllByRecursion (IsOne did.inserted) (did_by nodes).inserted
+      → weight (counted rules did table) (did_by nodes).inserted ≡ left (rows_in table) (λ id. is_deleted did (first_row id)) nodes
   nodes_counted table [] does ones = refl
   nodes_counted table (node ∷ nodes) does ones =
       let new = (effects_of node).inserted in
-      let old = (all_effects nodes).inserted in
+      let old = (did_by nodes).inserted in
       weight-append (counted rules did table) new old
       ∙ ap₂ (λ (m n : ℕ). m + n) (node_counted table node does.0 (each-left (IsOne did.inserted) new old ones)) (nodes_counted table nodes does.1 (each-right (IsOne did.inserted) new old ones))

@@ -25,25 +25,12 @@ use Rattle.table_model.proofs.Founded.{founded_closed}
 use Rattle.table_model.proofs.Permuted.{Alike-permuted}
 use Rattle.table_model.proofs.Resting.{ones_from}
 use Rattle.table_model.proofs.Settled.{IsOne}
-use Rattle.demonstration_laws.specs.Chains.{ArePlanned, IsChain, all_lists_left, all_of}
+use Rattle.demonstration_laws.specs.Chains.{ArePlanned, AreValid, did_by, IsChain, all_lists_left, all_of}
 use Rattle.demonstration_laws.specs.Plans.AreOpsOf.{deletes, inserts}
 use Rattle.demonstration_laws.specs.Tables.{demo_tables}
 use Rattle.demonstration_laws.proofs.ChainsLeft.{Once, chains_left, first_row, gone, inserting, left, many}
-use Rattle.demonstration_laws.proofs.DemoRows.{Adds, AreTasks, Does, Drops, all_effects, all_first, all_gone, all_long, counted, nodes_counted, rows_added, rows_in}
-
--- ---- what valid nodes did
-
-effects_valid : (js : List Judged) → AllByRecursion (λ j. j.verdict ≡ Valid) js → effects js ≡ all_effects (map (λ j. j.node) js)
-unfolding effects
-effects_valid [] valid = refl
-effects_valid (j ∷ js) valid =
-    ap (λ (v : Verdict). if is_valid v then joined (effects_of j.node) (effects js) else effects js) valid.0
-    ∙ ap (joined (effects_of j.node)) (effects_valid js valid.1)
-
-judged_nodes : (rules : Rules) (nodes : List NodeData) → map (λ j. j.node) (judged rules nodes) ≡ nodes
-unfolding judged judge_next
-judged_nodes rules [] = refl
-judged_nodes rules (node ∷ older) = ap (λ (l : List NodeData). node ∷ l) (judged_nodes rules older)
+use Rattle.demonstration_laws.proofs.Done.{all_did, any_deleted}
+use Rattle.demonstration_laws.proofs.DemoRows.{Adds, AreTasks, Does, Drops, all_first, all_long, counted, nodes_counted, rows_added, rows_in}
 
 -- ---- no two nodes of a closed list have one id
 
@@ -111,19 +98,16 @@ dropped_rows : (table : ℕ) (node : NodeData) (name : RowName) → node.ops ≡
 dropped_rows table node name ops = ap (λ (os : List Op). weight (λ (row : TableRow). one_if (in_table table row)) (effects_after node 0 nothing os).inserted) ops
 
 -- what is known of all that nodes do
-module _ (rules : Rules) (tasks : AreTasks rules) (nodes : List NodeData) (closed : IsClosed nodes) (valid : AllByRecursion (λ j. j.verdict ≡ Valid) (judged rules nodes)) where
-  all_is : effects_in rules nodes ≡ all_effects nodes
-  all_is = effects_valid (judged rules nodes) valid ∙ ap all_effects (judged_nodes rules nodes)
-
-  each_one : AllByRecursion (IsOne (all_effects nodes).inserted) (all_effects nodes).inserted
-  each_one = subst (λ (did : Effects). AllByRecursion (IsOne did.inserted) did.inserted) all_is (ones_from rules (effects_in rules nodes).inserted (founded_closed rules nodes closed).founded)
+module _ (rules : Rules) (tasks : AreTasks rules) (nodes : List NodeData) (closed : IsClosed nodes) (valid : AreValid rules nodes) where
+  each_one : AllByRecursion (IsOne (did_by nodes).inserted) (did_by nodes).inserted
+  each_one = subst (λ (did : Effects). AllByRecursion (IsOne did.inserted) did.inserted) (all_did rules nodes valid) (ones_from rules (effects_in rules nodes).inserted (founded_closed rules nodes closed).founded)
 
   listed_left : AllByRecursion Does nodes → (table : ℕ) → length (listed_in rules nodes table) ≡ left (rows_in table) (gone nodes) nodes
   listed_left does table =
-      ap (λ (did : Effects). length (map listed (filter (in_table table) (shown_rows rules did)))) all_is
-      ∙ listed_count rules (all_effects nodes) table
-      ∙ nodes_counted rules tasks (all_effects nodes) (all_first nodes does) (all_long nodes does) table nodes does each_one
-      ∙ (λ i. left (rows_in table) (λ id. all_gone nodes id i) nodes)
+      ap (λ (did : Effects). length (map listed (filter (in_table table) (shown_rows rules did)))) (all_did rules nodes valid)
+      ∙ listed_count rules (did_by nodes) table
+      ∙ nodes_counted rules tasks (did_by nodes) (all_first nodes does) (all_long nodes does) table nodes does each_one
+      ∙ (λ i. left (rows_in table) (λ id. any_deleted (same_row (first_row id)) nodes i) nodes)
 
 -- the same in another order
 left_alike : (rows : NodeData → ℕ) (xs ys : List NodeData) → Alike xs ys → left rows (gone xs) xs ≡ left rows (gone ys) ys
@@ -145,7 +129,7 @@ planned_do chains nodes planned =
 
 -- how many rows of a table are left, which each list brings so many of
 pub listed_of_planned : (rules : Rules) (chains : List (List NodeData)) (nodes : List NodeData) (table k : ℕ) → AreTasks rules → IsClosed nodes → ArePlanned chains nodes
-    → AllByRecursion (λ j. j.verdict ≡ Valid) (judged rules nodes) → one_if (1 == table) + (one_if (1 == table) + (one_if (0 == table) + 0)) ≡ k
+    → AreValid rules nodes → one_if (1 == table) + (one_if (1 == table) + (one_if (0 == table) + 0)) ≡ k
     → length (listed_in rules nodes table) ≡ k * all_lists_left chains
 listed_of_planned rules chains nodes table k tasks closed planned valid is =
     let all = all_of chains in
@@ -160,7 +144,7 @@ pub demo_tasks : (ask : ℕ → List Value → Bool) → AreTasks (rules_with as
 demo_tasks ask = record { list_kept = refl; task_kept = refl; list_refs = λ node title. refl; task_refs = λ node number title prio. refl }
 
 pub lists_planned : (ask : ℕ → List Value → Bool) (chains : List (List NodeData)) (nodes : List NodeData) (lists : List ShownRow) → IsClosed nodes → ArePlanned chains nodes
-    → AllByRecursion (λ j. j.verdict ≡ Valid) (judged (rules_with ask demo_tables) nodes) → AreRowsIn (rules_with ask demo_tables) nodes 0 lists → length lists ≡ all_lists_left chains
+    → AreValid (rules_with ask demo_tables) nodes → AreRowsIn (rules_with ask demo_tables) nodes 0 lists → length lists ≡ all_lists_left chains
 lists_planned ask chains nodes lists closed planned valid are =
     let rules = rules_with ask demo_tables in
     let size = length_permutation lists (listed_in rules nodes 0) are.exact in
@@ -168,7 +152,7 @@ lists_planned ask chains nodes lists closed planned valid are =
     sym size ∙ count ∙ omega arith
 
 pub tasks_planned : (ask : ℕ → List Value → Bool) (chains : List (List NodeData)) (nodes : List NodeData) (tasks : List ShownRow) → IsClosed nodes → ArePlanned chains nodes
-    → AllByRecursion (λ j. j.verdict ≡ Valid) (judged (rules_with ask demo_tables) nodes) → AreRowsIn (rules_with ask demo_tables) nodes 1 tasks → length tasks ≡ 2 * all_lists_left chains
+    → AreValid (rules_with ask demo_tables) nodes → AreRowsIn (rules_with ask demo_tables) nodes 1 tasks → length tasks ≡ 2 * all_lists_left chains
 tasks_planned ask chains nodes tasks closed planned valid are =
     let rules = rules_with ask demo_tables in
     let size = length_permutation tasks (listed_in rules nodes 1) are.exact in

@@ -1,1 +1,31 @@
 //! Laws of the definitions. Each function does no work: its contract is a theorem for callers to cite.
+
+ghost use Rattle.std.specs.Prelude.{◌≡◌, ◌<◌, ◌*◌, ◌^◌, ℕ, List, [], length, slice_index_or};
+ghost use Rattle.row_check.specs.Checksum.{is_luhn};
+ghost use Rattle.update_model.specs.Node.{NodeData};
+ghost use Rattle.table_model.specs.declared.shown_row.ShownRow.{ShownRow};
+ghost use Rattle.table_model.specs.declared.verdict.Verdict.TheVariants.{Valid};
+ghost use Rattle.table_model.specs.Nodes.{IsClosed};
+ghost use Rattle.table_model.specs.Tables.{AreRowsIn};
+ghost use Rattle.table_model.specs.Verdicts.{effects_in, verdict_on};
+ghost use Rattle.table_model.specs.Visible.{rules_with};
+ghost use Rattle.demonstration_laws.specs.Chains.{ArePlanned, AreValid, all_lists_left, last_id};
+ghost use Rattle.demonstration_laws.specs.Plans.{AreOpsOf};
+ghost use Rattle.demonstration_laws.specs.Tables.{demo_tables};
+
+/// What one of four authors makes by plan, after all that they made, is valid, where all of that is.
+pub fn planned_is_valid()
+    ensures { (nodes : List NodeData) (chains : List (List NodeData)) (author : ℕ) (draft : NodeData) → ArePlanned chains nodes → IsClosed nodes
+        → AreValid (rules_with is_luhn demo_tables) nodes → author < 4 → length (slice_index_or chains author []) < 2 ^ 31
+        → AreOpsOf author (length (slice_index_or chains author [])) (last_id (slice_index_or chains author [])) draft.ops
+        → verdict_on (rules_with is_luhn demo_tables) (effects_in (rules_with is_luhn demo_tables) nodes) draft ≡ Valid }
+{}
+
+/// Where the updates of a closed list are those of four authors by plan, and each of them is valid, so many lists are visible as the authors leave, and two tasks in
+/// each.
+pub fn planned_rows()
+    ensures lists { (nodes : List NodeData) (chains : List (List NodeData)) (rows : List ShownRow) → ArePlanned chains nodes → IsClosed nodes
+        → AreValid (rules_with is_luhn demo_tables) nodes → AreRowsIn (rules_with is_luhn demo_tables) nodes 0 rows → length rows ≡ all_lists_left chains }
+    ensures tasks { (nodes : List NodeData) (chains : List (List NodeData)) (rows : List ShownRow) → ArePlanned chains nodes → IsClosed nodes
+        → AreValid (rules_with is_luhn demo_tables) nodes → AreRowsIn (rules_with is_luhn demo_tables) nodes 1 rows → length rows ≡ 2 * all_lists_left chains }
+{}

@@ -4,3 +4,5 @@
 #![tactic(auto)]
 
 mod laws;
+
+pub use laws::{planned_is_valid, planned_rows};
