@@ -1,7 +1,7 @@
 -- How many rows are left of chains of updates, where each fifth deletes the list that the one before it inserted.
-use Rattle.std.proofs.Common.{◌≡◌, ℕ, ◌+◌, ◌*◌, ◌%◌, ◌≤◌, suc, Bool, true, false, cond, ◌&&◌, ◌||◌, List, [], ◌∷◌, ◌++◌, length, refl, sym, ap, ap₂, ◌∙◌, subst, arith, inl, inr, Option, Some, None}
+use Rattle.std.proofs.Common.{◌≡◌, ℕ, ◌+◌, ◌*◌, ◌%◌, ◌≤◌, suc, Bool, true, false, cond, ◌&&◌, ◌||◌, List, [], ◌∷◌, ◌++◌, length, refl, sym, ap, ap₂, ◌∙◌, arith, inl, inr, Some, None}
 use Rattle.std.specs.List.{list_any, AllByRecursion}
-use Rattle.std.proofs.lemmas.Bool.{or_cases, both_ways, false_from_ne_true}
+use Rattle.std.proofs.lemmas.Bool.{or_cases, false_from_ne_true}
 use Rattle.std.proofs.lemmas.List.Folds.{list_any-append}
 use Rattle.update_model.specs.declared.op.Op.{Op}
 use Rattle.update_model.specs.declared.op.Op.TheVariants.{Delete}
@@ -14,7 +14,7 @@ use Rattle.table_model.specs.Verdicts.{effects_after, effects_of, nothing}
 use Rattle.table_model.specs.Visible.{same_row}
 use Rattle.table_model.proofs.Alike.{weight, weight-append, one_if}
 use Rattle.demonstration_laws.specs.Chains.{IsChain, all_lists_left, all_of, last_id, lists_left}
-use Rattle.demonstration_laws.specs.Plans.{AreOpsOf, list_insert, list_title, task_insert, task_title}
+use Rattle.demonstration_laws.specs.Plans.{list_insert, list_title, task_insert, task_title}
 use Rattle.demonstration_laws.specs.Plans.AreOpsOf.{deletes, inserts}
 
 -- ---- words
@@ -218,6 +218,7 @@ module _ (rows : NodeData → ℕ) (k : ℕ) (added : (node : NodeData) (author 
       let sum : (id : UpdateId) → many chain id + many (all_of chains) id ≤ 1 = λ id. let few = once id in let parts = weight-append (λ (node : NodeData). one_if (same_id id node.id)) chain (all_of chains) in omega arith in
       let own = chain_targets are.0.0 chain are.0.1 in
       let mine = chain_left are.0.0 chain are.0.1 (λ id. let few = sum id in omega arith) in
-      let others = chains_left chains are.1 (λ id. let few = sum id in omega arith) in
-      (both_targets chain (all_of chains) own others.0,
-        left_parts chain (all_of chains) own others.0 once ∙ ap₂ (λ (m n : ℕ). m + n) mine others.1 ∙ times_sum k (lists_left (length chain)) (all_lists_left chains))
+      let others = chains_left chains are.1 (λ id. let few = sum id in omega arith) in (
+        both_targets chain (all_of chains) own others.0,
+        left_parts chain (all_of chains) own others.0 once ∙ ap₂ (λ (m n : ℕ). m + n) mine others.1 ∙ times_sum k (lists_left (length chain)) (all_lists_left chains),
+      )

@@ -2,7 +2,6 @@
 use Rattle.std.proofs.Common.{◌≡◌, ◌≢◌, ℕ, ◌+◌, ◌==◌, suc, Bool, true, false, cond, not, ◌&&◌, ◌||◌, List, [], ◌∷◌, ◌++◌, length, refl, sym, ap, ap₂, ◌∙◌, subst, arith, ◌⊎◌, inl, inr, None, pos}
 use Rattle.std.specs.List.{list_any, list_all, AllByRecursion}
 use Rattle.std.proofs.lemmas.Bool.{ne_eqb}
-use Rattle.std.proofs.lemmas.List.Folds.{list_any-append}
 use Rattle.update_model.specs.declared.op.Op.{Op}
 use Rattle.update_model.specs.declared.op.Op.TheVariants.{Delete}
 use Rattle.update_model.specs.declared.row_name.RowName.{RowName}
@@ -11,14 +10,14 @@ use Rattle.update_model.specs.declared.value.Value.TheVariants.{Int, Null, Own, 
 use Rattle.update_model.specs.Entry.{same_id}
 use Rattle.update_model.specs.Node.{NodeData}
 use Rattle.schema.specs.declared.action.Action.TheVariants.{Cascade}
-use Rattle.table_model.specs.Verdicts.{effects_after, effects_of, in_table, joined, nothing, row_inserted}
+use Rattle.table_model.specs.Verdicts.{effects_after, effects_of, in_table, nothing, row_inserted}
 use Rattle.table_model.specs.Visible.{Effects, RowRef, Rules, TableRow, cascade_refs, is_deleted, is_least_in, is_visible, kept_of, same_row, visible_to}
 use Rattle.table_model.proofs.Alike.{weight, weight-append, one_if}
 use Rattle.table_model.proofs.Each.{each-append, each-left, each-right}
 use Rattle.table_model.proofs.Settled.{IsOne, shows_one}
 use Rattle.demonstration_laws.specs.Chains.{did_by}
 use Rattle.demonstration_laws.specs.Plans.{list_title, task_title}
-use Rattle.demonstration_laws.proofs.ChainsLeft.{first_row, gone, inserting, left}
+use Rattle.demonstration_laws.proofs.ChainsLeft.{first_row, inserting, left}
 
 -- ---- rows
 

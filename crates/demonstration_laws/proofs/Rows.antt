@@ -1,5 +1,5 @@
 -- How many lists and tasks the authors of a demonstration leave.
-use Rattle.std.proofs.Common.{◌≡◌, ℕ, ◌+◌, ◌*◌, ◌<◌, ◌≤◌, ◌==◌, zero, suc, Bool, true, false, cond, ◌||◌, List, [], ◌∷◌, ◌++◌, length, map, filter, refl, sym, ap, ap₂, ◌∙◌, subst, arith, inl, inr, if◌then◌else◌, slice_index_or}
+use Rattle.std.proofs.Common.{◌≡◌, ℕ, ◌+◌, ◌*◌, ◌<◌, ◌≤◌, ◌==◌, zero, suc, Bool, true, false, cond, List, [], ◌∷◌, length, map, filter, refl, sym, ap, ◌∙◌, subst, arith, inl, inr, slice_index_or}
 use Rattle.std.specs.List.{list_any, AllByRecursion}
 use Rattle.std.proofs.lemmas.Bool.{or_parts}
 use Rattle.std.proofs.lemmas.List.Elements.{All-from_recursion, recursion_from_All}
@@ -14,11 +14,9 @@ use Rattle.update_model.specs.Node.{NodeData}
 use Rattle.update_model.proofs.Ids.{id_from_same}
 use Rattle.table_model.specs.Nodes.{IsClosed, holds}
 use Rattle.table_model.specs.Tables.{AreRowsIn, listed, listed_in}
-use Rattle.table_model.specs.Verdicts.{Judged, effects, effects_after, effects_in, effects_of, in_table, is_valid, joined, judge_next, judged, nothing}
-use Rattle.table_model.specs.Visible.{Effects, Rules, TableRow, is_deleted, is_visible, rules_with, same_row, shown, shown_rows}
+use Rattle.table_model.specs.Verdicts.{effects_after, effects_in, effects_of, in_table, nothing}
+use Rattle.table_model.specs.Visible.{Effects, Rules, TableRow, is_visible, rules_with, same_row, shown, shown_rows}
 use Rattle.table_model.specs.declared.shown_row.ShownRow.{ShownRow}
-use Rattle.table_model.specs.declared.verdict.Verdict.{Verdict}
-use Rattle.table_model.specs.declared.verdict.Verdict.TheVariants.{Valid}
 use Rattle.table_model.proofs.Alike.{Alike, same_any, weight, one_if}
 use Rattle.table_model.proofs.Each.{each-append}
 use Rattle.table_model.proofs.Founded.{founded_closed}
@@ -30,7 +28,7 @@ use Rattle.demonstration_laws.specs.Plans.AreOpsOf.{deletes, inserts}
 use Rattle.demonstration_laws.specs.Tables.{demo_tables}
 use Rattle.demonstration_laws.proofs.ChainsLeft.{Once, chains_left, first_row, gone, inserting, left, many}
 use Rattle.demonstration_laws.proofs.Done.{all_did, any_deleted}
-use Rattle.demonstration_laws.proofs.DemoRows.{Adds, AreTasks, Does, Drops, all_first, all_long, counted, nodes_counted, rows_added, rows_in}
+use Rattle.demonstration_laws.proofs.DemoRows.{AreTasks, Does, all_first, all_long, counted, nodes_counted, rows_added, rows_in}
 
 -- ---- no two nodes of a closed list have one id
 
@@ -57,12 +55,12 @@ chain_does : (author : ℕ) (chain : List NodeData) → IsChain author chain →
 unfolding IsChain
 chain_does author [] is = tt
 chain_does author (node ∷ older) is = (
-    elim is.0 [
-      | deletes update last fifth ops ↦ inr (record { update = update; is = ops })
-      | inserts first second a b never ops ↦ inl (record { author = author; number = length older; first = first; second = second; is = ops })
-    ],
-    chain_does author older is.1,
-  )
+  elim is.0 [
+    | deletes update last fifth ops ↦ inr (record { update = update; is = ops })
+    | inserts first second a b never ops ↦ inl (record { author = author; number = length older; first = first; second = second; is = ops })
+  ],
+  chain_does author older is.1,
+)
 
 chains_do : (chains : List (List NodeData)) → AllByRecursion (λ c. (author : ℕ) × IsChain author c) chains → AllByRecursion Does (all_of chains)
 chains_do [] are = tt

@@ -21,8 +21,8 @@ pub fn planned_is_valid()
         → verdict_on (rules_with is_luhn demo_tables) (effects_in (rules_with is_luhn demo_tables) nodes) draft ≡ Valid }
 {}
 
-/// Where the updates of a closed list are those of four authors by plan, and each of them is valid, so many lists are visible as the authors leave, and two tasks in
-/// each.
+/// Where the updates of a closed list are those of four authors by plan, and each of them is valid, so many lists are
+/// visible as the authors leave, and twice as many tasks.
 pub fn planned_rows()
     ensures lists { (nodes : List NodeData) (chains : List (List NodeData)) (rows : List ShownRow) → ArePlanned chains nodes → IsClosed nodes
         → AreValid (rules_with is_luhn demo_tables) nodes → AreRowsIn (rules_with is_luhn demo_tables) nodes 0 rows → length rows ≡ all_lists_left chains }
