@@ -1,3 +1,4 @@
+pub mod Chained
 pub mod Deletes
 pub mod Done
 pub mod Inserts
