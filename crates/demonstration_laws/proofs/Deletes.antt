@@ -1,5 +1,5 @@
 -- An update that deletes a list, by the tables of a demonstration, is valid where the list is there.
-use Rattle.std.proofs.Common.{◌≡◌, ◌⊎◌, inl, inr, ℕ, zero, suc, ◌+◌, ◌==◌, Bool, true, false, not, ◌&&◌, ◌||◌, List, [], ◌∷◌, ◌++◌, length, filter, Option, None, Some, refl, sym, ap, ◌∙◌, arith}
+use Rattle.std.proofs.Common.{◌≡◌, ℕ, zero, suc, Bool, true, false, not, ◌&&◌, ◌||◌, List, [], ◌∷◌, length, Option, None, Some, refl, sym, ap, ◌∙◌, arith}
 use Rattle.std.specs.List.{list_all, list_any}
 use Rattle.std.proofs.lemmas.Bool.{and_from, and_left, and_parts, or_from}
 use Rattle.std.proofs.lemmas.List.Folds.{list_any-append}
@@ -18,11 +18,11 @@ use Rattle.schema.specs.Numbers.{no_table}
 use Rattle.table_model.specs.declared.reason.TheConstants.{NOT_DELETABLE, NOT_OWNER, RESTRICTED}
 use Rattle.table_model.specs.declared.verdict.Verdict.TheVariants.{Valid, Void}
 use Rattle.table_model.specs.Verdicts.{delete_reason, first_reason, nothing, same_author, verdict_after}
-use Rattle.table_model.specs.Visible.{Effects, RowRef, Rules, TableRow, is_candidate, is_deleted, is_least, is_visible, ref_in, ref_to, refs, refs_in, same_row, shows, table_of, visible_rows, visible_to}
+use Rattle.table_model.specs.Visible.{Effects, RowRef, TableRow, is_candidate, is_deleted, is_least, is_visible, ref_in, ref_to, refs, refs_in, same_row, shows, table_of, visible_rows, visible_to}
 use Rattle.table_model.proofs.Members.{any_of_kept}
 use Rattle.table_model.proofs.Standing.{same_row-refl}
-use Rattle.demonstration_laws.specs.Tables.{demo_tables, list_table, task_table}
-use Rattle.demonstration_laws.proofs.Inserts.{demo, ends, list_row, none_kept}
+use Rattle.demonstration_laws.specs.Tables.{list_table, task_table}
+use Rattle.demonstration_laws.proofs.Inserts.{demo, ends, list_row}
 
 none_of : {X : Type 0} (p : X → Bool) → ((x : X) → p x ≡ false) → (xs : List X) → list_any p xs ≡ false
 none_of p none [] = refl
@@ -107,7 +107,7 @@ module _ (ask : ℕ → List Value → Bool) where
 
   module _ (past : Effects) (node : NodeData) (title : List ℕ) where
     abbrev row : TableRow
-    row = list_row ask node title
+    row = list_row node title
 
     module _ (here : (p : TableRow → Bool) → p row ≡ true → list_any p past.inserted ≡ true) (kept : is_deleted past row.name ≡ false) where
       list_shows : (seen : RowName → Bool) → shows (demo ask) past seen row.name ≡ true

@@ -1,5 +1,5 @@
 -- What updates do that are all valid.
-use Rattle.std.proofs.Common.{◌≡◌, true, cond, ◌||◌, List, [], ◌∷◌, Bool, refl, ap, ◌∙◌}
+use Rattle.std.proofs.Common.{◌≡◌, cond, ◌||◌, List, [], ◌∷◌, Bool, refl, ap, ◌∙◌}
 use Rattle.std.specs.List.{list_any}
 use Rattle.std.proofs.lemmas.List.Folds.{list_any-append}
 use Rattle.update_model.specs.declared.row_name.RowName.{RowName}

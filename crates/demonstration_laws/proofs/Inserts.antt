@@ -1,6 +1,5 @@
 -- An update that inserts a list and two tasks in it, by the tables of a demonstration, is valid.
-use Rattle.std.proofs.Common.{◌≡◌, ℕ, zero, suc, pos, ltb, ◌+◌, ◌<◌, ◌≤◌, ◌==◌, Bool, true, false, cond, not, ◌&&◌, ◌||◌, List, [], ◌∷◌, ◌++◌, length, nat_le, Option, None, Some, refl, ap, ◌∙◌, arith}
-use Rattle.std.specs.Int.Signed.{le_z}
+use Rattle.std.proofs.Common.{◌≡◌, ℕ, zero, suc, pos, ltb, ◌+◌, ◌<◌, ◌≤◌, ◌==◌, Bool, true, false, cond, not, ◌&&◌, List, [], ◌∷◌, ◌++◌, length, nat_le, Option, None, Some, refl, ap, ◌∙◌, arith}
 use Rattle.std.specs.List.{list_all, list_any}
 use Rattle.std.specs.Ordering.{int_cmp, is_le, is_lt}
 use Rattle.std.specs.declared.cmp.Ordering.TheVariants.{Greater, Equal, Less}
@@ -18,12 +17,12 @@ use Rattle.schema.specs.Checks.{checks_hold}
 use Rattle.schema.specs.Columns.{all_fit}
 use Rattle.table_model.specs.declared.reason.TheConstants.{NO_TABLE, MISFIT, CHECK_FALSE, NO_TARGET, MATCH_FALSE, LIMIT_BROKEN}
 use Rattle.table_model.specs.declared.verdict.Verdict.TheVariants.{Valid, Void}
-use Rattle.table_model.specs.Verdicts.{are_new, first_reason, insert_reason, is_new_in, joined, left_of, limits_hold, matches_hold, nothing, row_inserted, stands_among, verdict_after}
+use Rattle.table_model.specs.Verdicts.{are_new, first_reason, insert_reason, is_new_in, joined, left_of, matches_hold, nothing, row_inserted, stands_among, verdict_after}
 use Rattle.table_model.specs.Visible.{Effects, Rules, TableRow, kept_of, refs, rules_with, same_row, table_of, visible_rows}
 use Rattle.table_model.proofs.Standing.{same_row-refl}
 use Rattle.table_model.proofs.Unlimited.{unlimited_holds}
 use Rattle.demonstration_laws.specs.Plans.{list_insert, task_insert}
-use Rattle.demonstration_laws.specs.Tables.{demo_tables, list_columns, list_table, task_columns, task_table}
+use Rattle.demonstration_laws.specs.Tables.{demo_tables, list_columns, task_columns, task_table}
 
 -- ---- operation by operation
 
@@ -38,7 +37,7 @@ passes rules beside row known fits checked referred matched = λ i. first_reason
 goes_on : (rules : Rules) (past : Effects) (rows : List TableRow) (node : NodeData) (number : ℕ) (did : Effects) (table : ℕ) (values : List Value) (ops : List Op)
     → insert_reason rules (did.inserted ++ rows) (row_inserted node number table values) ≡ None
     → verdict_after rules past rows node number did (Insert table values ∷ ops)
-        ≡ verdict_after rules past rows node (number + 1) (record did { inserted = row_inserted node number table values ∷ did.inserted }) ops
+    ≡ verdict_after rules past rows node (number + 1) (record did { inserted = row_inserted node number table values ∷ did.inserted }) ops
 goes_on rules past rows node number did table values ops none =
     ap (λ (o : Option ℕ). elim o [
       | Some reason ↦ Void reason number
@@ -89,16 +88,16 @@ module _ (title : List ℕ) (prio : ℕ) (name : RowName) (low : prio < 9) where
 
 -- ---- the update
 
-module _ (ask : ℕ → List Value → Bool) (node : NodeData) where
-  -- the row of a list, which the update inserts first
-  abbrev pub list_row : List ℕ → TableRow
-  list_row title = row_inserted node 0 0 (Text title ∷ Int (pos 9) ∷ [])
+-- the row of a list, which the update inserts first
+abbrev pub list_row : NodeData → List ℕ → TableRow
+list_row node title = row_inserted node 0 0 (Text title ∷ Int (pos 9) ∷ [])
 
-  list_passes : (beside : List TableRow) (title : List ℕ) → 1 ≤ length title → length title ≤ 40 → insert_reason (demo ask) beside (list_row title) ≡ None
-  list_passes beside title some few = passes (demo ask) beside (list_row title) refl (list_fits title some few) refl refl refl
+module _ (ask : ℕ → List Value → Bool) (node : NodeData) where
+  list_passes : (beside : List TableRow) (title : List ℕ) → 1 ≤ length title → length title ≤ 40 → insert_reason (demo ask) beside (list_row node title) ≡ None
+  list_passes beside title some few = passes (demo ask) beside (list_row node title) refl (list_fits title some few) refl refl refl
 
   -- where the list of a task is among these rows, the task may be inserted beside them
-  task_passes : (beside : List TableRow) (list : List ℕ) → ((p : TableRow → Bool) → p (list_row list) ≡ true → list_any p beside ≡ true)
+  task_passes : (beside : List TableRow) (list : List ℕ) → ((p : TableRow → Bool) → p (list_row node list) ≡ true → list_any p beside ≡ true)
       → (number : ℕ) (title : List ℕ) (prio : ℕ) → 1 ≤ length title → length title ≤ 1024 → prio < 9
       → insert_reason (demo ask) beside (row_inserted node number 1 (Text title ∷ Int (pos prio) ∷ Null ∷ Own 0 ∷ Null ∷ [])) ≡ None
   task_passes beside list here number title prio some few low =
@@ -114,7 +113,7 @@ module _ (ask : ℕ → List Value → Bool) (node : NodeData) where
       → 1 ≤ length first → length first ≤ 1024 → 1 ≤ length second → length second ≤ 1024 → p < 9 → q < 9
       → verdict_after (demo ask) past rows node 0 nothing (list_insert list ∷ task_insert first p ∷ task_insert second q ∷ []) ≡ Valid
   inserts_valid past rows list first second p q list_some list_few first_some first_few second_some second_few p_low q_low =
-      let one = list_row list in
+      let one = list_row node list in
       let two = row_inserted node 1 1 (Text first ∷ Int (pos p) ∷ Null ∷ Own 0 ∷ Null ∷ []) in
       let three = row_inserted node 2 1 (Text second ∷ Int (pos q) ∷ Null ∷ Own 0 ∷ Null ∷ []) in
       goes_on (demo ask) past rows node 0 nothing 0 (Text list ∷ Int (pos 9) ∷ []) (task_insert first p ∷ task_insert second q ∷ []) (list_passes rows list list_some list_few)
