@@ -75,15 +75,15 @@ line_2 : (draft next : Draft) → Leads is_luhn 2 draft (line 2) next → next �
 unfolding form_at plain_form after_check check_form first_word words_within
 line_2 draft next h = added 2 draft next refl refl h
 
-lines_1_and_2 : (first next : Draft) → Leads is_luhn 1 start (line 1) first → Leads is_luhn 2 first (line 2) next → next ≡ list_begun
+pub lines_1_and_2 : (first next : Draft) → Leads is_luhn 1 start (line 1) first → Leads is_luhn 2 first (line 2) next → next ≡ list_begun
 unfolding form_at plain_form after_check check_form first_word words_within
 lines_1_and_2 first next h k = line_2 first next k ∙ ap (λ (d : Draft). with_table d (codes "list") true false) (added 1 start first refl refl h)
 
-line_3 : (next : Draft) → Leads is_luhn 3 list_begun (line 3) next → next ≡ list_titled
+pub line_3 : (next : Draft) → Leads is_luhn 3 list_begun (line 3) next → next ≡ list_titled
 unfolding form_at plain_form after_check check_form first_word words_within
 line_3 next h = added 3 list_begun next refl refl h
 
-line_4 : (next : Draft) → Leads is_luhn 4 list_titled (line 4) next → next ≡ list_capped
+pub line_4 : (next : Draft) → Leads is_luhn 4 list_titled (line 4) next → next ≡ list_capped
 unfolding form_at plain_form after_check check_form first_word words_within
 line_4 next h = added 4 list_titled next refl refl h
 
@@ -120,34 +120,34 @@ line_6 : (draft next : Draft) → Leads is_luhn 6 draft (line 6) next → next �
 unfolding form_at plain_form after_check check_form first_word words_within
 line_6 draft next h = added 6 draft next refl refl h
 
-lines_5_and_6 : (first next : Draft) → Leads is_luhn 5 list_capped (line 5) first → Leads is_luhn 6 first (line 6) next → next ≡ task_begun
+pub lines_5_and_6 : (first next : Draft) → Leads is_luhn 5 list_capped (line 5) first → Leads is_luhn 6 first (line 6) next → next ≡ task_begun
 unfolding form_at plain_form after_check check_form first_word words_within text_within
 lines_5_and_6 first next h k = line_6 first next k ∙ ap (λ (d : Draft). with_table d (codes "task") true false) (added 5 list_capped first refl refl h)
 
-line_7 : (next : Draft) → Leads is_luhn 7 task_begun (line 7) next → next ≡ task_titled
+pub line_7 : (next : Draft) → Leads is_luhn 7 task_begun (line 7) next → next ≡ task_titled
 unfolding form_at plain_form after_check check_form first_word words_within
 line_7 next h = added 7 task_begun next refl refl h
 
-line_8 : (next : Draft) → Leads is_luhn 8 task_titled (line 8) next → next ≡ task_ranked
+pub line_8 : (next : Draft) → Leads is_luhn 8 task_titled (line 8) next → next ≡ task_ranked
 unfolding form_at plain_form after_check check_form first_word words_within
 line_8 next h = added 8 task_titled next refl refl h
 
-line_9 : (next : Draft) → Leads is_luhn 9 task_ranked (line 9) next → next ≡ task_carded
+pub line_9 : (next : Draft) → Leads is_luhn 9 task_ranked (line 9) next → next ≡ task_carded
 unfolding form_at plain_form after_check check_form first_word words_within
 line_9 next h = added 9 task_ranked next refl refl h
 
-line_10 : (next : Draft) → Leads is_luhn 10 task_carded (line 10) next → next ≡ task_listed
+pub line_10 : (next : Draft) → Leads is_luhn 10 task_carded (line 10) next → next ≡ task_listed
 unfolding form_at plain_form after_check check_form first_word words_within
 line_10 next h = added 10 task_carded next refl refl h
 
-line_11 : (next : Draft) → Leads is_luhn 11 task_listed (line 11) next → next ≡ task_ordered
+pub line_11 : (next : Draft) → Leads is_luhn 11 task_listed (line 11) next → next ≡ task_ordered
 unfolding form_at plain_form after_check check_form first_word words_within
 line_11 next h = added 11 task_listed next refl refl h
 
-line_14 : (next : Draft) → Leads is_luhn 14 task_rechecked (line 14) next → next ≡ task_matched
+pub line_14 : (next : Draft) → Leads is_luhn 14 task_rechecked (line 14) next → next ≡ task_matched
 unfolding form_at plain_form after_check check_form first_word words_within
 line_14 next h = added 14 task_rechecked next refl refl h
 
-line_15 : (next : Draft) → Leads is_luhn 15 task_matched (line 15) next → next.tables ≡ demo_tables
+pub line_15 : (next : Draft) → Leads is_luhn 15 task_matched (line 15) next → (next.tables ≡ demo_tables) × (next.authors ≡ [])
 unfolding form_at plain_form after_check check_form first_word words_within text_within
-line_15 next h = ap (λ (d : Draft). d.tables) (added 15 task_matched next refl refl h)
+line_15 next h = let after = added 15 task_matched next refl refl h in (ap (λ (d : Draft). d.tables) after, ap (λ (d : Draft). d.authors) after)

@@ -4,3 +4,5 @@
 #![tactic(auto)]
 
 mod laws;
+
+pub use laws::text_declares_tables;
