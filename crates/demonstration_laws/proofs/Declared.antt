@@ -1,5 +1,5 @@
 -- The text declares these tables.
-use Rattle.std.proofs.Common.{◌≡◌, ℕ, ◌+◌, List, [], ◌∷◌, true, false, refl, sym, ap, subst, ◌∙◌, inl, inr, pos, arith, drop}
+use Rattle.std.proofs.Common.{◌≡◌, ℕ, ◌+◌, List, [], ◌∷◌, refl, ap, subst, ◌∙◌, pos, arith, drop}
 use Rattle.std.specs.Prelude.{codes}
 use Rattle.text_words.specs.Lines.{lines_of}
 use Rattle.text_words.specs.Words.{first_word, words_within}
@@ -14,10 +14,10 @@ use Rattle.schema.specs.Columns.{names_of}
 use Rattle.schema.specs.Data.{SchemaData}
 use Rattle.schema_text.specs.Drafts.{start}
 use Rattle.schema_text.specs.Forms.{form_at, plain_form, after_check, check_form}
-use Rattle.schema_text.specs.Schemas.{Declares, Leads, LeadOn, schema_of}
+use Rattle.schema_text.specs.Schemas.{Declares, Leads, LeadOn}
 use Rattle.schema_text.specs.Steps.{with_check}
-use Rattle.demonstration_laws.specs.Tables.{demo_lines, demo_text, demo_tables, urgent_tree, card_tree, task_columns}
-use Rattle.demonstration_laws.proofs.LinesAdd.{Draft, line, added, lines_read, list_begun, task_begun, task_ordered, task_checked, task_rechecked, task_matched, lines_1_and_2, line_3, line_4, lines_5_and_6, line_7, line_8, line_9, line_10, line_11, line_14, line_15}
+use Rattle.demonstration_laws.specs.Tables.{demo_lines, demo_tables, urgent_tree, card_tree, task_columns}
+use Rattle.demonstration_laws.proofs.LinesAdd.{Draft, line, added, list_begun, task_begun, task_ordered, task_checked, task_rechecked, task_matched, lines_1_and_2, line_3, line_4, lines_5_and_6, line_7, line_8, line_9, line_10, line_11, line_14, line_15}
 
 -- tokens are one expression at most
 abbrev pub OneExpression : Type 0

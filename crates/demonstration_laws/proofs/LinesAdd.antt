@@ -1,24 +1,17 @@
 -- The lines of the text, and the draft that each of them leads to. The types of drafts and of forms have no names outside the crate that
 -- reads lines, so they are told by what has them.
-use Rattle.std.proofs.Common.{◌≡◌, ℕ, ◌-◌, List, [], ◌∷◌, true, false, refl, sym, ap, subst, ◌∙◌, inl, inr, Option, Some, None, pos, arith, drop}
+use Rattle.std.proofs.Common.{◌≡◌, ℕ, ◌-◌, List, [], ◌∷◌, true, false, refl, ap, subst, ◌∙◌, inl, inr, Option, Some, None}
 use Rattle.std.specs.Prelude.{codes, IsSome, slice_index_or}
 use Rattle.std.proofs.lemmas.Bool.{false≢true}
 use Rattle.text_words.specs.Lines.{lines_of}
 use Rattle.text_words.specs.Quoted.{text_within}
 use Rattle.text_words.specs.Words.{first_word, words_within, skip_blanks, passed_over}
 use Rattle.row_check.specs.Checksum.{is_luhn}
-use Rattle.row_check.specs.Trees.{Tree}
-use Rattle.row_check.specs.declared.cmp.Cmp.TheVariants.{Lt, Gt}
-use Rattle.expression_text.specs.Columns.{column_in}
-use Rattle.expression_text.specs.Grammar.{Parses, Disjunction, Conjunction, Operand, a_column, an_integer, a_length, either, conjunction, operand, comparison, absence, check_one}
-use Rattle.expression_text.specs.declared.token.Token.{Token}
-use Rattle.expression_text.specs.declared.token.Token.TheVariants as token
-use Rattle.schema.specs.Columns.{names_of}
 use Rattle.schema_text.specs.Drafts.{start, is_turn, with_column, with_rules}
 use Rattle.schema_text.specs.Forms.{form_at, plain_form, after_check, check_form}
-use Rattle.schema_text.specs.Schemas.{Leads, LeadOn}
+use Rattle.schema_text.specs.Schemas.{Leads}
 use Rattle.schema_text.specs.Steps.{IsAfter, with_check, with_table}
-use Rattle.demonstration_laws.specs.Tables.{demo_lines, demo_text, list_title_column, list_cap_column, list_table, task_title_column, task_prio_column, task_card_column, task_list_column, task_after_column, urgent_tree, urgent_check, card_tree, card_check, cap_match, task_table, demo_tables}
+use Rattle.demonstration_laws.specs.Tables.{demo_lines, demo_text, list_title_column, list_cap_column, list_table, task_title_column, task_prio_column, task_card_column, task_list_column, task_after_column, urgent_tree, card_tree, cap_match, demo_tables}
 
 -- ---- types
 
