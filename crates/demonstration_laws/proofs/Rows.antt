@@ -26,6 +26,7 @@ use Rattle.table_model.proofs.Settled.{IsOne}
 use Rattle.demonstration_laws.specs.Chains.{ArePlanned, AreValid, did_by, IsChain, all_lists_left, all_of}
 use Rattle.demonstration_laws.specs.Plans.AreOpsOf.{deletes, inserts}
 use Rattle.demonstration_laws.specs.Tables.{demo_tables}
+use Rattle.demonstration_laws.proofs.Chained.{each_chain}
 use Rattle.demonstration_laws.proofs.ChainsLeft.{Once, chains_left, first_row, gone, inserting, left, many}
 use Rattle.demonstration_laws.proofs.Done.{all_did, any_deleted}
 use Rattle.demonstration_laws.proofs.DemoRows.{AreTasks, Does, all_first, all_long, counted, nodes_counted, rows_added, rows_in}
@@ -65,10 +66,6 @@ chain_does author (node ∷ older) is = (
 chains_do : (chains : List (List NodeData)) → AllByRecursion (λ c. (author : ℕ) × IsChain author c) chains → AllByRecursion Does (all_of chains)
 chains_do [] are = tt
 chains_do (chain ∷ chains) are = each-append Does chain (all_of chains) (chain_does are.0.0 chain are.0.1) (chains_do chains are.1)
-
-each_chain : (chains : List (List NodeData)) → ((i : ℕ) → i < length chains → (author : ℕ) × IsChain author (slice_index_or chains i [])) → AllByRecursion (λ c. (author : ℕ) × IsChain author c) chains
-each_chain [] h = tt
-each_chain (chain ∷ chains) h = (h zero (omega arith), each_chain chains (λ i low. h (suc i) (omega arith)))
 
 -- ---- how many rows are listed
 

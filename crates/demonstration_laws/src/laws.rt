@@ -2,6 +2,8 @@
 
 ghost use Rattle.std.specs.Prelude.{◌≡◌, ◌<◌, ◌*◌, ◌^◌, ℕ, List, [], length, slice_index_or};
 ghost use Rattle.row_check.specs.Checksum.{is_luhn};
+ghost use Rattle.schema.specs.Data.{SchemaData};
+ghost use Rattle.schema_text.specs.Schemas.{Declares};
 ghost use Rattle.update_model.specs.Node.{NodeData};
 ghost use Rattle.table_model.specs.declared.shown_row.ShownRow.{ShownRow};
 ghost use Rattle.table_model.specs.declared.verdict.Verdict.TheVariants.{Valid};
@@ -11,7 +13,17 @@ ghost use Rattle.table_model.specs.Verdicts.{effects_in, verdict_on};
 ghost use Rattle.table_model.specs.Visible.{rules_with};
 ghost use Rattle.demonstration_laws.specs.Chains.{ArePlanned, AreValid, all_lists_left, last_id};
 ghost use Rattle.demonstration_laws.specs.Plans.{AreOpsOf};
-ghost use Rattle.demonstration_laws.specs.Tables.{demo_tables};
+ghost use Rattle.demonstration_laws.specs.Tables.{demo_tables, demo_text};
+
+use expression_text::one_expression;
+
+/// A schema that the text of a demonstration declares has these tables, and takes the updates of every author.
+pub fn text_declares_tables()
+    ensures tables { (schema : SchemaData) → Declares is_luhn demo_text schema → schema.tables ≡ demo_tables }
+    ensures authors { (schema : SchemaData) → Declares is_luhn demo_text schema → schema.rule.authors ≡ [] }
+{
+    one_expression();
+}
 
 /// What one of four authors makes by plan, after all that they made, is valid, where all of that is.
 pub fn planned_is_valid()
