@@ -18,14 +18,11 @@ use Rattle.table_model.proofs.Settled.{IsOne, shows_one}
 use Rattle.demonstration_laws.specs.Chains.{did_by}
 use Rattle.demonstration_laws.specs.Plans.{list_title, task_title}
 use Rattle.demonstration_laws.proofs.ChainsLeft.{first_row, inserting, left}
+use Rattle.demonstration_laws.proofs.Inserts.{list_row}
 
 -- ---- rows
 
--- the row of a list that a node inserts first
-abbrev pub list_row : NodeData → List ℕ → TableRow
-list_row node title = row_inserted node 0 0 (Text title ∷ Int (pos 9) ∷ [])
-
--- the row of a task in that list, inserted by the operation with this number
+-- the row of a task in the list of the same update, inserted by the operation with this number
 abbrev pub task_row : NodeData → ℕ → List ℕ → ℕ → TableRow
 task_row node number title prio = row_inserted node number 1 (Text title ∷ Int (pos prio) ∷ Null ∷ Own 0 ∷ Null ∷ [])
 

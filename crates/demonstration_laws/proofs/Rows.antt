@@ -1,5 +1,5 @@
 -- How many lists and tasks the authors of a demonstration leave.
-use Rattle.std.proofs.Common.{◌≡◌, ℕ, ◌+◌, ◌*◌, ◌<◌, ◌≤◌, ◌==◌, zero, suc, Bool, true, false, cond, List, [], ◌∷◌, length, map, filter, refl, sym, ap, ◌∙◌, subst, arith, inl, inr, slice_index_or}
+use Rattle.std.proofs.Common.{◌≡◌, ℕ, ◌+◌, ◌*◌, ◌≤◌, ◌==◌, Bool, true, false, cond, List, [], ◌∷◌, length, map, filter, refl, sym, ap, ◌∙◌, subst, arith, inl, inr}
 use Rattle.std.specs.List.{list_any, AllByRecursion}
 use Rattle.std.proofs.lemmas.Bool.{or_parts}
 use Rattle.std.proofs.lemmas.List.Elements.{All-from_recursion, recursion_from_All}
@@ -15,7 +15,7 @@ use Rattle.update_model.proofs.Ids.{id_from_same}
 use Rattle.table_model.specs.Nodes.{IsClosed, holds}
 use Rattle.table_model.specs.Tables.{AreRowsIn, listed, listed_in}
 use Rattle.table_model.specs.Verdicts.{effects_after, effects_in, effects_of, in_table, nothing}
-use Rattle.table_model.specs.Visible.{Effects, Rules, TableRow, is_visible, rules_with, same_row, shown, shown_rows}
+use Rattle.table_model.specs.Visible.{Effects, Rules, TableRow, is_visible, same_row, shown, shown_rows}
 use Rattle.table_model.specs.declared.shown_row.ShownRow.{ShownRow}
 use Rattle.table_model.proofs.Alike.{Alike, same_any, weight, one_if}
 use Rattle.table_model.proofs.Each.{each-append}
@@ -25,11 +25,11 @@ use Rattle.table_model.proofs.Resting.{ones_from}
 use Rattle.table_model.proofs.Settled.{IsOne}
 use Rattle.demonstration_laws.specs.Chains.{ArePlanned, AreValid, did_by, IsChain, all_lists_left, all_of}
 use Rattle.demonstration_laws.specs.Plans.AreOpsOf.{deletes, inserts}
-use Rattle.demonstration_laws.specs.Tables.{demo_tables}
 use Rattle.demonstration_laws.proofs.Chained.{each_chain}
 use Rattle.demonstration_laws.proofs.ChainsLeft.{Once, chains_left, first_row, gone, inserting, left, many}
 use Rattle.demonstration_laws.proofs.Done.{all_did, any_deleted}
 use Rattle.demonstration_laws.proofs.DemoRows.{AreTasks, Does, all_first, all_long, counted, nodes_counted, rows_added, rows_in}
+use Rattle.demonstration_laws.proofs.Inserts.{demo}
 
 -- ---- no two nodes of a closed list have one id
 
@@ -135,20 +135,20 @@ listed_of_planned rules chains nodes table k tasks closed planned valid is =
 
 -- ---- the demonstration's tables
 
-pub demo_tasks : (ask : ℕ → List Value → Bool) → AreTasks (rules_with ask demo_tables)
+pub demo_tasks : (ask : ℕ → List Value → Bool) → AreTasks (demo ask)
 demo_tasks ask = record { list_kept = refl; task_kept = refl; list_refs = λ node title. refl; task_refs = λ node number title prio. refl }
 
 pub lists_planned : (ask : ℕ → List Value → Bool) (chains : List (List NodeData)) (nodes : List NodeData) (lists : List ShownRow) → IsClosed nodes → ArePlanned chains nodes
-    → AreValid (rules_with ask demo_tables) nodes → AreRowsIn (rules_with ask demo_tables) nodes 0 lists → length lists ≡ all_lists_left chains
+    → AreValid (demo ask) nodes → AreRowsIn (demo ask) nodes 0 lists → length lists ≡ all_lists_left chains
 lists_planned ask chains nodes lists closed planned valid are =
-    let rules = rules_with ask demo_tables in
+    let rules = demo ask in
     let size = length_permutation lists (listed_in rules nodes 0) are.exact in
     let count = listed_of_planned rules chains nodes 0 1 (demo_tasks ask) closed planned valid refl in
     sym size ∙ count ∙ omega arith
 
 pub tasks_planned : (ask : ℕ → List Value → Bool) (chains : List (List NodeData)) (nodes : List NodeData) (tasks : List ShownRow) → IsClosed nodes → ArePlanned chains nodes
-    → AreValid (rules_with ask demo_tables) nodes → AreRowsIn (rules_with ask demo_tables) nodes 1 tasks → length tasks ≡ 2 * all_lists_left chains
+    → AreValid (demo ask) nodes → AreRowsIn (demo ask) nodes 1 tasks → length tasks ≡ 2 * all_lists_left chains
 tasks_planned ask chains nodes tasks closed planned valid are =
-    let rules = rules_with ask demo_tables in
+    let rules = demo ask in
     let size = length_permutation tasks (listed_in rules nodes 1) are.exact in
     sym size ∙ listed_of_planned rules chains nodes 1 2 (demo_tasks ask) closed planned valid refl
