@@ -36,8 +36,10 @@ pub fn planned_is_valid()
 /// Where the updates of a closed list are those of four authors by plan, and each of them is valid, so many lists are
 /// visible as the authors leave, and twice as many tasks.
 pub fn planned_rows()
-    ensures lists { (nodes : List NodeData) (chains : List (List NodeData)) (rows : List ShownRow) → ArePlanned chains nodes → IsClosed nodes
-        → AreValid (rules_with is_luhn demo_tables) nodes → AreRowsIn (rules_with is_luhn demo_tables) nodes 0 rows → length rows ≡ all_lists_left chains }
-    ensures tasks { (nodes : List NodeData) (chains : List (List NodeData)) (rows : List ShownRow) → ArePlanned chains nodes → IsClosed nodes
-        → AreValid (rules_with is_luhn demo_tables) nodes → AreRowsIn (rules_with is_luhn demo_tables) nodes 1 rows → length rows ≡ 2 * all_lists_left chains }
+    ensures lists { (nodes : List NodeData) (chains : List (List NodeData)) (rows : List ShownRow)
+        → ArePlanned chains nodes → IsClosed nodes → AreValid (rules_with is_luhn demo_tables) nodes
+        → AreRowsIn (rules_with is_luhn demo_tables) nodes 0 rows → length rows ≡ all_lists_left chains }
+    ensures tasks { (nodes : List NodeData) (chains : List (List NodeData)) (rows : List ShownRow)
+        → ArePlanned chains nodes → IsClosed nodes → AreValid (rules_with is_luhn demo_tables) nodes
+        → AreRowsIn (rules_with is_luhn demo_tables) nodes 1 rows → length rows ≡ 2 * all_lists_left chains }
 {}
