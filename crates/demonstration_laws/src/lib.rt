@@ -5,4 +5,4 @@
 
 mod laws;
 
-pub use laws::planned_is_valid;
+pub use laws::{heads_follow_all, planned_is_valid, text_declares_tables};
