@@ -1,16 +1,19 @@
-//! Laws of the definitions. Each function does no work: its contract is a theorem for callers to cite.
+//! Laws of the definitions. Each function does no work: its contract is a theorem for callers to cite. Lists of nodes stand
+//! newest first.
 
-ghost use Rattle.std.specs.Prelude.{◌≡◌, ◌<◌, ◌*◌, ◌^◌, ℕ, List, [], length, slice_index_or};
+ghost use Rattle.std.specs.Prelude.{◌≡◌, ◌<◌, ◌*◌, ◌^◌, ℕ, List, [], length, reverse, slice_index_or};
+ghost use Rattle.update_model.specs.Entry.{Entry};
+ghost use Rattle.update_model.specs.Graph.{AreHeads, Follows};
+ghost use Rattle.update_model.specs.Node.{NodeData};
 ghost use Rattle.row_check.specs.Checksum.{is_luhn};
 ghost use Rattle.schema.specs.Data.{SchemaData};
 ghost use Rattle.schema_text.specs.Schemas.{Declares};
-ghost use Rattle.update_model.specs.Node.{NodeData};
 ghost use Rattle.table_model.specs.declared.shown_row.ShownRow.{ShownRow};
 ghost use Rattle.table_model.specs.declared.verdict.Verdict.TheVariants.{Valid};
-ghost use Rattle.table_model.specs.Nodes.{IsClosed};
+ghost use Rattle.table_model.specs.Nodes.{AreNodesOf, IsClosed};
 ghost use Rattle.table_model.specs.Tables.{AreRowsIn};
-ghost use Rattle.table_model.specs.Verdicts.{effects_in, verdict_on};
-ghost use Rattle.table_model.specs.Visible.{rules_with};
+ghost use Rattle.table_model.specs.Verdicts.{effects_in, judge_next, judged, verdict_on};
+ghost use Rattle.table_model.specs.Visible.{Rules, rules_with};
 ghost use Rattle.demonstration_laws.specs.Chains.{ArePlanned, AreValid, all_lists_left, last_id};
 ghost use Rattle.demonstration_laws.specs.Plans.{AreOpsOf};
 ghost use Rattle.demonstration_laws.specs.Tables.{demo_tables, demo_text};
@@ -24,6 +27,12 @@ pub fn text_declares_tables()
 {
     one_expression();
 }
+
+/// A node that names all heads of a closed list is judged on what the valid ones of the whole list did.
+pub fn heads_follow_all()
+    ensures { (rules : Rules) (graph : List Entry) (nodes : List NodeData) (draft : NodeData) → AreNodesOf graph nodes → Follows [] graph → AreHeads graph draft.preds
+        → (judge_next rules (judged rules (reverse nodes)) draft).verdict ≡ verdict_on rules (effects_in rules (reverse nodes)) draft }
+{}
 
 /// What one of four authors makes by plan, after all that they made, is valid, where all of that is.
 pub fn planned_is_valid()

@@ -5,4 +5,4 @@
 
 mod laws;
 
-pub use laws::{planned_is_valid, planned_rows, text_declares_tables};
+pub use laws::{heads_follow_all, planned_is_valid, planned_rows, text_declares_tables};
