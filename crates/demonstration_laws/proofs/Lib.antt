@@ -1,2 +1,4 @@
+mod Checks
 mod Declared
 mod LinesAdd
+mod LinesLead
