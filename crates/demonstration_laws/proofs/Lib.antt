@@ -1,5 +1,6 @@
 pub mod Chained
 pub mod ChainsLeft
+mod Checks
 mod Declared
 pub mod Deletes
 pub mod DemoRows
@@ -9,3 +10,4 @@ pub mod Inserts
 mod LinesAdd
 pub mod Planned
 pub mod Rows
+mod LinesLead

@@ -16,7 +16,7 @@ use Rattle.demonstration_laws.specs.Tables.{demo_lines, demo_text, list_title_co
 -- ---- types
 
 -- the type of a value, and that of what a function takes
-abbrev TypeOf : {A : Type 0} → A → Type 0
+abbrev pub TypeOf : {A : Type 0} → A → Type 0
 TypeOf {A} a = A
 
 abbrev SourceOf : {A B : Type 0} → (A → B) → Type 0
@@ -25,7 +25,7 @@ SourceOf {A} f = A
 abbrev pub Draft : Type 0
 Draft = TypeOf start
 
-abbrev Form : Type 0
+abbrev pub Form : Type 0
 Form = SourceOf (is_turn start)
 
 -- ---- lines
@@ -38,7 +38,7 @@ lines_read = refl
 abbrev pub line : ℕ → List ℕ
 line number = slice_index_or demo_lines (number - 1) []
 
-abbrev found_in : {A : Type 0} (found : Option A) → IsSome found → A
+abbrev pub found_in : {A : Type 0} (found : Option A) → IsSome found → A
 found_in (Some a) is = a
 found_in None is = absurd (false≢true is)
 
