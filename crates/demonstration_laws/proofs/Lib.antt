@@ -8,6 +8,6 @@ pub mod Done
 pub mod Heads
 pub mod Inserts
 mod LinesAdd
+mod LinesLead
 pub mod Planned
 pub mod Rows
-mod LinesLead
