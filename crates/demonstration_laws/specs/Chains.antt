@@ -1,8 +1,12 @@
 -- The updates of each author of a demonstration, as tables see them.
-use Rattle.std.specs.Prelude.{◌≡◌, ℕ, ◌+◌, ◌-◌, ◌*◌, ◌/◌, ◌<◌, List, [], ◌∷◌, ◌++◌, length, map, Option, Some, None, slice_index_or}
+use Rattle.std.specs.Prelude.{◌≡◌, ℕ, ◌+◌, ◌-◌, ◌*◌, ◌/◌, ◌<◌, List, [], ◌∷◌, ◌++◌, length, Option, Some, None, slice_index_or}
+use Rattle.std.specs.List.{AllByRecursion}
 use Rattle.std.specs.List.Sorted.{IsPermutation}
 use Rattle.update_model.specs.declared.update_id.UpdateId.{UpdateId}
 use Rattle.update_model.specs.Node.{NodeData}
+use Rattle.table_model.specs.declared.verdict.Verdict.TheVariants.{Valid}
+use Rattle.table_model.specs.Verdicts.{effects_of, joined, judged, nothing}
+use Rattle.table_model.specs.Visible.{Effects, Rules}
 use Rattle.demonstration_laws.specs.Plans.{AreOpsOf}
 
 -- the id of the newest of an author's updates, which are newest first
@@ -25,6 +29,15 @@ pub record ArePlanned (chains : List (List NodeData)) (nodes : List NodeData) : 
   pub four : length chains ≡ 4
   pub each : (author : ℕ) → author < 4 → IsChain author (slice_index_or chains author [])
   pub same : IsPermutation nodes (all_of chains)
+
+-- each update of the list is valid
+abbrev pub AreValid : Rules → List NodeData → Type 0
+AreValid rules nodes = AllByRecursion (λ j. j.verdict ≡ Valid) (judged rules nodes)
+
+-- what updates do that are all valid
+abbrev pub did_by : List NodeData → Effects
+did_by [] = nothing
+did_by (node ∷ older) = joined (effects_of node) (did_by older)
 
 -- how many lists are left of so many updates of an author: of each five, four insert one and the fifth deletes one
 abbrev pub lists_left : ℕ → ℕ

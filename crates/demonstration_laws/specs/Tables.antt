@@ -1,5 +1,5 @@
 -- The schema of a demonstration: its text, and the tables that it declares.
-use Rattle.std.specs.Prelude.{ℕ, pos, true, false, None, List, [], ◌∷◌, ◌++◌, codes}
+use Rattle.std.specs.Prelude.{ℕ, pos, true, false, List, [], ◌∷◌, ◌++◌, codes}
 use Rattle.std.specs.List.{flat_map}
 use Rattle.update_model.specs.declared.value.Value.{Value}
 use Rattle.update_model.specs.declared.value.Value.TheVariants.{Null, Int, Text}

@@ -4,3 +4,5 @@
 #![tactic(auto)]
 
 mod laws;
+
+pub use laws::{heads_follow_all, planned_is_valid, planned_rows, text_declares_tables};
