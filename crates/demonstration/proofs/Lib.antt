@@ -1,4 +1,5 @@
 mod Counting
 mod Plans
 mod Sites
+mod Steps
 mod Valid

@@ -3,7 +3,7 @@ use Rattle.std.proofs.Common.{◌≡◌, ℕ, pos, w64, ◌+◌, ◌^◌, ◌<�
 use Rattle.std.specs.Fmt.{decimal}
 use Rattle.std.specs.Prelude.{FitsSigned}
 use Rattle.std.proofs.lemmas.Fmt.{length-decimal-le}
-use Rattle.demonstration.specs.Plans.{AreOpsOf, deletes, inserts, list_insert, list_title, task_insert, task_title}
+use Rattle.demonstration_laws.specs.Plans.{AreOpsOf, deletes, inserts, list_insert, list_title, task_insert, task_title}
 use Rattle.update_model.specs.declared.limits.TheConstants.{MAX_TEXT}
 use Rattle.update_model.specs.Rows.{AreOps}
 use Rattle.update_model.specs.Text.{IsText}

@@ -5,7 +5,7 @@ use Rattle.update_model.specs.Rows.{AreOps}
 use Rattle.update_model.specs.declared.op.Op.TheVariants.{Insert}
 use Rattle.update_model.specs.declared.value.Value.{Value}
 use Rattle.update_model.specs.declared.value.Value.TheVariants.{Int, Text}
-use Rattle.demonstration.specs.Plans.{inserts, list_insert, list_title, task_insert, task_title}
+use Rattle.demonstration_laws.specs.Plans.{inserts, list_insert, list_title, task_insert, task_title}
 use Rattle.demonstration.proofs.Plans.{inserts_form, short_list_title, short_task_title}
 use Rattle.demonstration.proofs.operations.inserting.Goals as goal
 

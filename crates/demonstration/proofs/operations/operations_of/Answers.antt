@@ -1,4 +1,4 @@
-use Rattle.demonstration.specs.Plans.{AreOpsOf, deletes, inserts}
+use Rattle.demonstration_laws.specs.Plans.{AreOpsOf, deletes, inserts}
 use Rattle.demonstration.proofs.Plans.{after_any}
 use Rattle.demonstration.proofs.Sites.{if_ok}
 use Rattle.demonstration.proofs.operations.operations_of.Goals as goal
