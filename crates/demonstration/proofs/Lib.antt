@@ -1,4 +1,5 @@
 mod Counting
+mod Meetings
 mod Plans
 mod Sites
 mod Steps

@@ -32,11 +32,6 @@ short_task_title author number place text is a b = subst (λ (t : List ℕ). len
 
 -- ---- operations
 
--- what an update inserts does not depend on the one before it
-pub after_any : (author number : ℕ) (last : Option UpdateId) (ops : List Op) → AreOpsOf author number None ops → AreOpsOf author number last ops
-after_any author number last ops (deletes update none fifth is) = absurd cc
-after_any author number last ops (inserts first second f s is) = inserts first second f s is
-
 small : (n : ℕ) → n < 10 → FitsSigned w64 (pos n)
 small n low = record { sfits = omega arith }
 

@@ -8,7 +8,7 @@ use Rattle.std.proofs.lemmas.Bool.{both_ways, ltb-false, ltb-true, or_left, or_r
 use Rattle.std.proofs.lemmas.Option.{same_Some}
 use Rattle.std.proofs.lemmas.List.{get_or-map, get_or-set_other, get_or-set_same, length-map, map-set}
 use Rattle.std.proofs.lemmas.List.Elements.{All-append, All-cons, All-contains, All-contains_itself, All-nil, All-set, All-weaker, Contains-append_left, Contains-push}
-use Rattle.std.proofs.lemmas.List.Sums.{passes_at_first, sum_by-set}
+use Rattle.std.proofs.lemmas.List.Sums.{passes_at_first, sum_by-cons, sum_by-set}
 use Rattle.demonstration.specs.declared.author.Author.{Author}
 use Rattle.demonstration.specs.Demos.{IsBy}
 use Rattle.demonstration.specs.Sites.{AreMakers, HasLengths, IsCourse, IsRefusal, IsSite, MakesOrNot, makes, refuses, last_at, members_at, steps, taken_at}
@@ -17,9 +17,9 @@ use Rattle.demonstration.proofs.Valid.{nodes_are, nodes_closed}
 use Rattle.demonstration_course.specs.Courses.{AreApart, AreApartSince, AreInStep, HasAll, HoldsOldest}
 use Rattle.demonstration_course.proofs.Courses.{as_tables_see, few_turns, four_chains}
 use Rattle.demonstration_course.proofs.Heads.{few_heads, names_by}
-use Rattle.demonstration_course.proofs.Making.{made_apart_since, made_in_step}
+use Rattle.demonstration_course.proofs.Making.{made_apart_since, made_in_step, same_or_not}
 use Rattle.demonstration_course.proofs.Permuting.{closed_distinct, has_id, holds_id, ids_of, no_longer, of_id}
-use Rattle.demonstration_course.proofs.Sizes.{body_low, ops_low, update_low}
+use Rattle.demonstration_course.proofs.Sizes.{body_low, id_long, ops_low, update_low}
 use Rattle.demonstration_laws.specs.Chains.{ArePlanned, AreValid, last_id}
 use Rattle.demonstration_laws.specs.Plans.{AreOpsOf}
 use Rattle.demonstration_laws.specs.Tables.{demo_tables}
@@ -34,7 +34,6 @@ use Rattle.row_check.specs.Checksum.{is_luhn}
 use Rattle.schema.specs.Data.{SchemaData}
 use Rattle.schema.specs.declared.table_def.TableDef.{TableDef}
 use Rattle.session_rules.specs.Laws.{NoCollision}
-use Rattle.sha2.proofs.Facts256.{length-sha256}
 use Rattle.table_model.specs.Nodes.{AreNodesOf, IsClosed}
 use Rattle.table_model.specs.Verdicts.{effects_in, judge_next, judged, verdict_on}
 use Rattle.table_model.specs.Visible.{Rules, rules_with}
@@ -59,16 +58,16 @@ use Rattle.update_model.proofs.Ids.{id_from_same, same_id-refl}
 -- ---- fields of authors
 
 module _ {X : Type 0} (f : Author → X) (d : X) (authors : List Author) (i : ℕ) (new : Author) where
-  at_same : i < length authors → slice_index_or (map f (set authors i new)) i d ≡ f new
+  pub at_same : i < length authors → slice_index_or (map f (set authors i new)) i d ≡ f new
   at_same low = ap (λ (l : List X). slice_index_or l i d) (map-set f authors i new) ∙ get_or-set_same (map f authors) i (f new) d (let size = length-map authors f in omega arith)
 
-  at_other : (y : ℕ) → y ≢ i → slice_index_or (map f (set authors i new)) y d ≡ slice_index_or (map f authors) y d
+  pub at_other : (y : ℕ) → y ≢ i → slice_index_or (map f (set authors i new)) y d ≡ slice_index_or (map f authors) y d
   at_other y other = ap (λ (l : List X). slice_index_or l y d) (map-set f authors i new) ∙ get_or-set_other (map f authors) i y (f new) d other
 
 pub field_at : {X : Type 0} (f : Author → X) (d : X) (authors : List Author) (i : ℕ) (one : Author) → i < length authors → slice_index_or (map f authors) i d ≡ f (slice_index_or authors i one)
 field_at f d authors i one low = get_or-map f authors i one d low
 
-abbrev members_in : Author → List (List ℕ)
+abbrev pub members_in : Author → List (List ℕ)
 members_in author = author.store.history.members
 
 -- ---- ids
@@ -130,12 +129,13 @@ FieldsLaw = ((bytes : List ℕ) (update : UpdateData) → Spells bytes update �
 pub all_low : (keys : List SecretData) (made : List (List ℕ)) → All (IsBy keys) made → (m : List ℕ) → Contains made m → length m ≤ 60000
 all_low keys made by_keys m c = let by = All-contains (IsBy keys) made m by_keys c in update_low by.place by.number by.last m _ by.plan by.spells
 
-bytes_low : (members : List (List ℕ)) → ((m : List ℕ) → Contains members m → length m ≤ 60000) → byte_count (map entry_of members) ≤ 60000 * length members
+pub bytes_low : (members : List (List ℕ)) → ((m : List ℕ) → Contains members m → length m ≤ 60000) → byte_count (map entry_of members) ≤ 60000 * length members
 bytes_low [] low = omega arith
 bytes_low (m ∷ members) low =
     let rest = bytes_low members (λ n c. low n (contains_later m n members c)) in
     let one = low m (contains_first m members) in
-    omega (arith, rest, one)
+    let whole : byte_count (map entry_of (m ∷ members)) ≡ length m + byte_count (map entry_of members) = sum_by-cons (λ (e : Entry). length e.bytes) (entry_of m) (map entry_of members) in
+    omega (arith, rest, one, whole)
 
 -- the heads' ids have their lengths
 heads_long : (members : List (List ℕ)) (heads : List UpdateId) → AreHeads (map entry_of members) heads → (some : List UpdateId) → ((id : UpdateId) → has some id ≡ true → has heads id ≡ true)
@@ -152,7 +152,7 @@ heads_long members heads are (id ∷ some) within = (
         let found = any_finds (λ (x : Entry). same_id id x.id) (map entry_of members) e in
         let m = mapped_contains entry_of found.0 members found.1 in
         let called : id_of m.0 ≡ id = ap (λ (x : Entry). x.id) m.2 ∙ sym (id_from_same id found.0.id found.2) in
-        subst (λ (i : UpdateId). length i.0 ≡ 32) called (length-sha256 m.0)
+        subst (λ (i : UpdateId). length i.0 ≡ 32) called (id_long m.0)
 
 plain_note : (ops : List Op) → length (spell.note (plain ops).note) ≤ 300
 plain_note ops = elim (nat_le (length ops) 64) as (λ b. length (spell.note (cond b None (Some []))) ≤ 300) [ true ↦ omega arith | false ↦ omega arith ]
@@ -204,7 +204,7 @@ module _ (keys : List SecretData) (count since : ℕ) (authors : List Author) (d
   few_members = let fewer = no_longer members course.made (closed_distinct members history.members.closed) of_made in let few = course.few in omega arith
 
   module _ (few : count + 1 ≤ 4000) (apart : NoCollision (map entry_of course.made) (map entry_of course.made)) where
-    abbrev mine : AreMakers course.made (steps count since since 0) authors
+    abbrev pub mine : AreMakers course.made (steps count since since 0) authors
     mine = makers few apart
 
     heads_few : (heads : List UpdateId) → AreHeads (map entry_of members) heads → length heads ≤ 4
@@ -213,7 +213,7 @@ module _ (keys : List SecretData) (count since : ℕ) (authors : List Author) (d
     long_x : length (mine.chains x) ≡ count / 4
     long_x = let size = mine.in_step.long x (omega arith) in omega arith
 
-    plan_now : AreOpsOf x (length (mine.chains x)) (last_id (map node_of (mine.chains x))) ops
+    pub plan_now : AreOpsOf x (length (mine.chains x)) (last_id (map node_of (mine.chains x))) ops
     plan_now = subst (λ k. AreOpsOf x k (last_id (map node_of (mine.chains x))) ops) (sym long_x)
         (subst (λ (o : Option UpdateId). AreOpsOf x (count / 4) o ops) (sym (field_at (λ (a : Author). a.last) None authors x d low_x) ∙ mine.last x (omega arith)) plan)
 
@@ -275,3 +275,168 @@ module _ (keys : List SecretData) (count since : ℕ) (authors : List Author) (d
       let is_held : holds (map entry_of members) head.0.id ≡ true = any_of_contained (λ (e : Entry). same_id head.0.id e.id) (map entry_of members) head.0 head.1 (same_id-refl head.0.id) in
       let named = names_by members bytes head.0.id held (ap (λ (l : List UpdateId). has l head.0.id) (fields.0 bytes _ made.spells) ∙ are.exact head.0.id ∙ (λ i. is_held i && not (head.2 i))) in
       both_ways _ head.2 named
+
+-- ---- an update
+
+grown : (ℕ → List (List ℕ)) → (x : ℕ) → List ℕ → (b : ℕ) → (b ≡ x) ⊎ (b ≢ x) → List (List ℕ)
+grown chains x m b (inl same) = m ∷ chains x
+grown chains x m b (inr other) = chains b
+
+-- the chains of which one has one more update
+abbrev grown_by : (ℕ → List (List ℕ)) → ℕ → List ℕ → ℕ → List (List ℕ)
+grown_by chains x m b = grown chains x m b (same_or_not b x)
+
+grown_here : (chains : ℕ → List (List ℕ)) (x : ℕ) (m : List ℕ) (which : (x ≡ x) ⊎ (x ≢ x)) → grown chains x m x which ≡ m ∷ chains x
+unfolding grown
+grown_here chains x m (inl same) = refl
+grown_here chains x m (inr other) = absurd (other refl)
+
+grown_there : (chains : ℕ → List (List ℕ)) (x : ℕ) (m : List ℕ) (b : ℕ) → b ≢ x → (which : (b ≡ x) ⊎ (b ≢ x)) → grown chains x m b which ≡ chains b
+unfolding grown
+grown_there chains x m b other (inl same) = absurd (other same)
+grown_there chains x m b other (inr not) = refl
+
+module _ (keys : List SecretData) (count since : ℕ) (authors : List Author) (d new : Author) (ops : List Op) (valid_law : ValidLaw) (heads_law : HeadsLaw) (fields : FieldsLaw)
+    (four : length authors ≡ 4) (course : IsCourse keys (steps count since since 0) authors) (history : IsHistory (slice_index_or authors (count % 4) d).store.history)
+    (lengths : HasLengths (slice_index_or authors (count % 4) d)) (plan : AreOpsOf (count % 4) (count / 4) (slice_index_or authors (count % 4) d).last ops) (form : AreOps 0 ops) (last_four : count < since + 4) where
+  abbrev here : ℕ
+  here = count % 4
+
+  abbrev one : Author
+  one = slice_index_or authors (count % 4) d
+
+  abbrev site_one : IsSite keys course.schema course.made one
+  site_one = course.sites (count % 4) d (omega (arith, four))
+
+  low_here : here < length authors
+  low_here = omega (arith, four)
+
+  -- nothing was made, though maybe signed
+  none_more : (more : List (List ℕ)) → length more ≤ 1 → All (IsBy keys) more → new.store.history ≡ one.store.history → new.key.secret ≡ one.key.secret
+      → (count + 1 ≤ 4000 → NoCollision (map entry_of (course.made ++ more)) (map entry_of (course.made ++ more)) → ⊥) → IsCourse keys (steps (count + 1) since since 0) (set authors here new)
+  none_more more few by_keys same secret not = record {
+    schema = course.schema;
+    tables = course.tables;
+    anyone = course.anyone;
+    made = course.made ++ more;
+    few = (let whole = length-append course.made more in let before = course.few in omega arith);
+    by_keys = All-append (IsBy keys) course.made more course.by_keys by_keys;
+    sites = All-set (IsSite keys course.schema (course.made ++ more)) authors here new (site_same keys course.schema course.made more one new secret same site_one) (all_still keys course.schema course.made more authors course.sites);
+    makers = λ small apart. absurd (not small apart);
+  }
+
+  refused : (c : List ℕ) (why : MakeFault) → IsRefusal why → IsMakeCause is_luhn one.store.history one.key.secret one.key.taken ops c why → new.store.history ≡ one.store.history → new.key.secret ≡ one.key.secret
+      → IsCourse keys (steps (count + 1) since since 0) (set authors here new)
+  refused c (Taken id) refusal cause same secret =
+      let preds = cause.0 in
+      let bytes = cause.3.0 in
+      let made = cause.3.1 in
+      none_more (bytes ∷ []) (omega arith)
+      (All-cons (IsBy keys) bytes [] (by_signed keys one.key.secret (count % 4) (count / 4) one.last ops one.store.history one.key.taken preds c bytes site_one.key plan made) (All-nil (IsBy keys))) same secret
+      (λ small apart. not_taken keys count since authors d ops valid_law heads_law fields four course history lengths plan form preds c bytes cause.1.may_make.after made
+      (ap (holds (map entry_of one.store.history.members)) cause.3.2 ∙ cause.3.3) (apart_ids (course.made ++ bytes ∷ []) apart))
+  refused c NotListed refusal cause same secret =
+      none_more [] (omega arith) (All-nil (IsBy keys)) same secret
+      (λ small apart. no_cause keys count since authors d ops valid_law heads_law fields four course history lengths plan form small (fewer_apart course.made [] apart) c NotListed refusal (λ id is. absurd cc) cause)
+  refused c (TooManyHeads n) refusal cause same secret =
+      none_more [] (omega arith) (All-nil (IsBy keys)) same secret
+      (λ small apart. no_cause keys count since authors d ops valid_law heads_law fields four course history lengths plan form small (fewer_apart course.made [] apart) c (TooManyHeads n) refusal (λ id is. absurd cc) cause)
+  refused c (Invalid reason operation) refusal cause same secret =
+      none_more [] (omega arith) (All-nil (IsBy keys)) same secret
+      (λ small apart. no_cause keys count since authors d ops valid_law heads_law fields four course history lengths plan form small (fewer_apart course.made [] apart) c (Invalid reason operation) refusal (λ id is. absurd cc) cause)
+  refused c (TooLong len) refusal cause same secret =
+      none_more [] (omega arith) (All-nil (IsBy keys)) same secret
+      (λ small apart. no_cause keys count since authors d ops valid_law heads_law fields four course history lengths plan form small (fewer_apart course.made [] apart) c (TooLong len) refusal (λ id is. absurd cc) cause)
+  refused c Full refusal cause same secret =
+      none_more [] (omega arith) (All-nil (IsBy keys)) same secret
+      (λ small apart. no_cause keys count since authors d ops valid_law heads_law fields four course history lengths plan form small (fewer_apart course.made [] apart) c Full refusal (λ id is. absurd cc) cause)
+  refused c Spent refusal cause same secret =
+      none_more [] (omega arith) (All-nil (IsBy keys)) same secret
+      (λ small apart. no_cause keys count since authors d ops valid_law heads_law fields four course history lengths plan form small (fewer_apart course.made [] apart) c Spent refusal (λ id is. absurd cc) cause)
+  refused c (DiskFault side) refusal cause same secret = absurd refusal
+  refused c Memory refusal cause same secret = absurd refusal
+
+  module _ (c : List ℕ) (id : UpdateId) (makes : Makes is_luhn one.store.history one.key.secret one.key.taken ops c id new.store.history) (last : new.last ≡ Some id) (signs : SignsAtLeast one.key new.key) where
+    abbrev m : List ℕ
+    m = makes.bytes
+
+    module _ (small : count + 1 ≤ 4000) (apart : NoCollision (map entry_of (course.made ++ m ∷ [])) (map entry_of (course.made ++ m ∷ []))) where
+      abbrev before : AreMakers course.made (steps count since since 0) authors
+      before = mine keys count since authors d ops valid_law heads_law fields four course history lengths plan form small (fewer_apart course.made (m ∷ []) apart)
+
+      abbrev next : ℕ → List (List ℕ)
+      next = members_at (set authors here new)
+
+      at_here : members_at authors here ≡ one.store.history.members
+      at_here = field_at members_in [] authors here d low_here
+
+      next_here : next here ≡ members_at authors here ++ m ∷ []
+      next_here = at_same members_in [] authors here new low_here ∙ ap (λ (h : HistoryData). h.members) makes.last ∙ ap (λ l. l ++ m ∷ []) (sym at_here)
+
+      plan_here : AreOpsOf here (length (before.chains here)) (last_id (map node_of (before.chains here))) (ops_of m)
+      plan_here = subst (AreOpsOf here (length (before.chains here)) (last_id (map node_of (before.chains here)))) (sym (fields.1 m _ makes.made.spells))
+          (plan_now keys count since authors d ops valid_law heads_law fields four course history lengths plan form small (fewer_apart course.made (m ∷ []) apart))
+
+      heads_here : AreHeads (map entry_of (members_at authors here)) (preds_of m)
+      heads_here = subst (λ (l : List (List ℕ)). AreHeads (map entry_of l) (preds_of m)) (sym at_here) (subst (AreHeads (map entry_of one.store.history.members)) (sym (fields.0 m _ makes.made.spells)) makes.after)
+
+      closed_here : Follows [] (map entry_of (members_at authors here ++ m ∷ []))
+      closed_here = subst (λ (l : List (List ℕ)). Follows [] (map entry_of (l ++ m ∷ []))) (sym at_here) makes.members.closed
+
+      makers_now : AreMakers (course.made ++ m ∷ []) (steps (count + 1) since since 0) (set authors here new)
+      makers_now = record {
+        chains = grown_by before.chains here m;
+        in_step = made_in_step course.made count here m before.chains (members_at authors) (grown_by before.chains here m) next (apart_ids (course.made ++ m ∷ []) apart) (omega (arith, small)) refl before.in_step
+            (grown_here before.chains here m (same_or_not here here)) (λ b other. grown_there before.chains here m b other (same_or_not b here)) next_here (λ y other. at_other members_in [] authors here new y other)
+            heads_here plan_here closed_here;
+        since = made_apart_since course.made count here m before.chains (members_at authors) (grown_by before.chains here m) next (apart_ids (course.made ++ m ∷ []) apart) (omega (arith, small)) refl before.in_step
+            (grown_here before.chains here m (same_or_not here here)) (λ b other. grown_there before.chains here m b other (same_or_not b here)) next_here (λ y other. at_other members_in [] authors here new y other)
+            heads_here plan_here closed_here since last_four before.since;
+        reached = λ b below n c. absurd (omega arith);
+        last = last_now;
+        left = left_now;
+      }
+        where
+          last_now : (y : ℕ) → y < 4 → last_at (set authors here new) y ≡ last_id (map node_of (grown_by before.chains here m y))
+          last_now y low = elim (same_or_not y here) [
+            | inl same ↦ subst (λ k. last_at (set authors here new) k ≡ last_id (map node_of (grown_by before.chains here m k))) (sym same)
+                (at_same (λ (a : Author). a.last) None authors here new low_here ∙ last ∙ ap (λ (i : UpdateId). Some i) makes.id_is
+                ∙ ap (λ (l : List (List ℕ)). last_id (map node_of l)) (sym (grown_here before.chains here m (same_or_not here here))))
+            | inr other ↦ at_other (λ (a : Author). a.last) None authors here new y other ∙ before.last y low
+                ∙ ap (λ (l : List (List ℕ)). last_id (map node_of l)) (sym (grown_there before.chains here m y other (same_or_not y here)))
+          ]
+
+          left_now : (y : ℕ) → y < 4 → count_by not (taken_at (set authors here new) y) + length (grown_by before.chains here m y) ≡ 1024
+          left_now y low = elim (same_or_not y here) [
+            | inl same ↦ subst (λ k. count_by not (taken_at (set authors here new) k) + length (grown_by before.chains here m k) ≡ 1024) (sym same)
+                (let now = ap (count_by not) (at_same (λ (a : Author). a.key.taken) [] authors here new low_here) in
+                let set_one = ap (count_by not) signs.tries.taken in
+                let less = one_used one.key.taken signs.index signs.least in
+                let was = ap (count_by not) (field_at (λ (a : Author). a.key.taken) [] authors here d low_here) in
+                let all = before.left here (omega arith) in
+                let longer = ap length (grown_here before.chains here m (same_or_not here here)) in
+                omega (arith, now, set_one, less, was, all, longer))
+            | inr other ↦
+                let now = ap (count_by not) (at_other (λ (a : Author). a.key.taken) [] authors here new y other) in
+                let all = before.left y low in
+                let same_long = ap length (grown_there before.chains here m y other (same_or_not y here)) in
+                omega (arith, now, all, same_long)
+          ]
+
+    made_one : IsCourse keys (steps (count + 1) since since 0) (set authors here new)
+    made_one = record {
+      schema = course.schema;
+      tables = course.tables;
+      anyone = course.anyone;
+      made = course.made ++ m ∷ [];
+      few = (let whole = length-append course.made (m ∷ []) in let fewer = course.few in omega arith);
+      by_keys = All-append (IsBy keys) course.made (m ∷ []) course.by_keys
+          (All-cons (IsBy keys) m [] (by_signed keys one.key.secret (count % 4) (count / 4) one.last ops one.store.history one.key.taken makes.preds c m site_one.key plan makes.made) (All-nil (IsBy keys)));
+      sites = All-set (IsSite keys course.schema (course.made ++ m ∷ [])) authors here new (site_made keys course.schema course.made ops c id one new site_one signs.tries.secret makes)
+          (all_still keys course.schema course.made (m ∷ []) authors course.sites);
+      makers = makers_now;
+    }
+
+  pub step_made : MakesOrNot one ops new → IsCourse keys (steps (count + 1) since since 0) (set authors here new)
+  step_made (makes c id is last signs) = made_one c id is last signs
+  step_made (refuses c why refusal cause same secret) = refused c why refusal cause same secret

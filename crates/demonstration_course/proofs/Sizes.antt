@@ -4,6 +4,8 @@ use Rattle.std.specs.Int.{w16, w32, w64, to_be_bytes}
 use Rattle.std.specs.List.{AllByRecursion, flat_map}
 use Rattle.std.proofs.lemmas.Bool.Decides.{nat_tests}
 use Rattle.demonstration_laws.specs.Plans.{AreOpsOf, deletes, inserts, list_insert, list_title, task_insert, task_title}
+use Rattle.sha2.proofs.Facts256.{length-sha256}
+use Rattle.update_codec.specs.Parts.{id_of}
 use Rattle.update_codec.specs.Spelling as spell
 use Rattle.update_codec.specs.Spelling.{Spells, before_ops, message, signed_length}
 use Rattle.update_model.specs.declared.author_key.AuthorKey.{AuthorKey}
@@ -24,6 +26,9 @@ four_bytes n = refl
 
 signature_low : (key : AuthorKey) → signature_length key ≤ 9004
 signature_low key = grind (arith, nat_tests)
+
+pub id_long : (bytes : List ℕ) → length (id_of bytes).0 ≡ 32
+id_long bytes = length-sha256 bytes
 
 -- ---- operations
 
