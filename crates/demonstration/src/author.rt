@@ -89,8 +89,10 @@ impl Author {
     pub fn lengths(&self)
         ensures { HasLengths self.now }
     {
-        let _key = self.key.public();
-        let _database = self.store.schema().rule().database;
+        let key = self.key.public();
+        has_16(&key.ident);
+        has_32(&key.root);
+        has_32(&self.store.schema().rule().database);
     }
 
     /// Makes an update of these operations. The random bytes of its signature are the next words.
@@ -113,6 +115,16 @@ impl Author {
         }
     }
 }
+
+/// So many bytes, which their type keeps.
+fn has_16(bytes: &[u8; 16])
+    ensures { length bytes.now ≡ 16 }
+{}
+
+/// So many bytes, which their type keeps.
+fn has_32(bytes: &[u8; 32])
+    ensures { length bytes.now ≡ 32 }
+{}
 
 /// What a refusal is to a demonstration: an error where memory ran out, or a disk did, and else nothing.
 fn passed_over(why: MakeFault) -> Result<(), AllocError>
