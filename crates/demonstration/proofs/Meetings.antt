@@ -98,7 +98,6 @@ in_entries new one other same m either = back ((same (entry_of m)).1 (elim eithe
 
 module _ (keys : List SecretData) (count since met reach x y : ℕ) (authors : List Author) (d one_new other_new : Author) (four : length authors ≡ 4) (low_x : x < 4) (low_y : y < 4) (differ : x ≢ y)
     (course : IsCourse keys (steps count since met reach) authors) (meets : MeetsWith (slice_index_or authors x d) (slice_index_or authors y d) one_new other_new)
-    (closed_one : IsHistory (slice_index_or authors x d).store.history) (closed_other : IsHistory (slice_index_or authors y d).store.history)
     (site_one : IsSite keys course.schema course.made one_new) (site_other : IsSite keys course.schema course.made other_new) where
   abbrev one : Author
   one = slice_index_or authors x d
@@ -169,8 +168,8 @@ module _ (keys : List SecretData) (count since met reach x y : ℕ) (authors : L
     abbrev united : HaveSameMembers (map entry_of one_new.store.history.members) (map entry_of one.store.history.members ++ map entry_of other.store.history.members)
         × HaveSameMembers (map entry_of other_new.store.history.members) (map entry_of one.store.history.members ++ map entry_of other.store.history.members)
     united = meets.unites (site_x.schema_is ∙ sym site_y.schema_is) apart_two
-        (room course.made one.store.history.members other.store.history.members few_made low_made closed_one.members.closed closed_other.members.closed of_one of_other)
-        (room course.made other.store.history.members one.store.history.members few_made low_made closed_other.members.closed closed_one.members.closed of_other of_one)
+        (room course.made one.store.history.members other.store.history.members few_made low_made meets.was.members.closed meets.was_other.members.closed of_one of_other)
+        (room course.made other.store.history.members one.store.history.members few_made low_made meets.was_other.members.closed meets.was.members.closed of_other of_one)
 
     abbrev was : ℕ → List (List ℕ)
     was = members_at authors

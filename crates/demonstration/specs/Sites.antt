@@ -112,6 +112,8 @@ pub record MeetsWith (one other one_new other_new : Author) : Type 0 where
   pub key_other : other_new.key ≡ other.key
   pub last : one_new.last ≡ one.last
   pub last_other : other_new.last ≡ other.last
+  pub was : IsHistory one.store.history
+  pub was_other : IsHistory other.store.history
   pub closed : IsHistory one_new.store.history
   pub closed_other : IsHistory other_new.store.history
   pub unites : one.store.history.schema ≡ other.store.history.schema → NoCollision (map entry_of one.store.history.members) (map entry_of other.store.history.members)
