@@ -1,8 +1,9 @@
 -- The meetings of a demonstration.
-use Rattle.std.proofs.Common.{◌≡◌, ◌≢◌, ◌⊎◌, inl, inr, ℕ, zero, suc, ◌+◌, ◌*◌, ◌^◌, ◌<◌, ◌≤◌, List, [], ◌∷◌, ◌++◌, All, Contains, Bool, true, false, not, cond, ◌&&◌, Option, None, filter, slice_index_or, length, length-append, map, set, refl, sym, ap, subst, ◌∙◌, arith}
+use Rattle.std.proofs.Common.{◌≡◌, ◌≢◌, ◌⊎◌, inl, inr, ℕ, zero, suc, ◌+◌, ◌-◌, ◌*◌, ◌^◌, ◌<◌, ◌≤◌, List, [], ◌∷◌, ◌++◌, All, Contains, Bool, true, false, not, cond, ◌&&◌, Option, None, filter, slice_index_or, length, length-append, map, set, refl, sym, ap, subst, ◌∙◌, arith}
 use Rattle.std.specs.Prelude.{count_by, nat_le}
 use Rattle.std.proofs.lemmas.Bool.{both_ways, le-leb}
-use Rattle.std.proofs.lemmas.List.{length-map, length-set, map-append}
+use Rattle.std.proofs.Math.ListN.{get_or-append}
+use Rattle.std.proofs.lemmas.List.{get_or-append-add, get_or_default, length-map, length-set, map-append, set-append_left, set-append_right}
 use Rattle.std.proofs.lemmas.List.Elements.{All-contains, All-set, Contains-append_cases, Contains-append_left, Contains-append_right}
 use Rattle.demonstration.specs.declared.author.Author.{Author}
 use Rattle.demonstration.specs.Sites.{AreMakers, IsCourse, IsSite, MeetsWith, last_at, members_at, steps, taken_at}
@@ -235,3 +236,34 @@ module _ (keys : List SecretData) (count since met reach x y : ℕ) (authors : L
 
   pub met_reaches : x ≡ 0 → reach ≡ y → IsCourse keys (steps count since count (y + 1)) authors_now
   met_reaches first is = course_with (y + 1) (λ small apart. makers_now small apart (y + 1) (more_reach small apart first is))
+
+-- ---- two parts of a list
+
+-- one who stands in front met the first of those behind
+module _ (keys : List SecretData) (count since met reach x y : ℕ) (authors front back : List Author) (d e one_new other_new : Author) (parts : authors ≡ front ++ back) (size : length front ≡ y) (four : length authors ≡ 4)
+    (before : x < y) (low : y < 4) (course : IsCourse keys (steps count since met reach) authors) (meets : MeetsWith (slice_index_or front x d) (slice_index_or back 0 e) one_new other_new)
+    (site_one : IsSite keys course.schema course.made one_new) (site_other : IsSite keys course.schema course.made other_new) where
+  there : slice_index_or authors x d ≡ slice_index_or front x d
+  there = ap (λ (l : List Author). slice_index_or l x d) parts ∙ get_or-append front back d x (omega (arith, size))
+
+  behind : slice_index_or authors y d ≡ slice_index_or back 0 e
+  behind = ap (λ (l : List Author). slice_index_or l y d) parts ∙ ap (λ n. slice_index_or (front ++ back) n d) (omega (arith, size) : y ≡ length front + 0) ∙ get_or-append-add front back 0 d
+      ∙ get_or_default back 0 d e (let whole = ap length parts in let both = length-append front back in omega (arith, whole, both, size, four))
+
+  met_them : MeetsWith (slice_index_or authors x d) (slice_index_or authors y d) one_new other_new
+  met_them = subst (λ (a : Author). MeetsWith a (slice_index_or authors y d) one_new other_new) (sym there) (subst (λ (b : Author). MeetsWith (slice_index_or front x d) b one_new other_new) (sym behind) meets)
+
+  sets : set (set authors x one_new) y other_new ≡ set front x one_new ++ set back 0 other_new
+  sets =
+      let long = length-set front x one_new in
+      let none : y - y ≡ 0 = omega arith in
+      ap (λ (l : List Author). set (set l x one_new) y other_new) parts ∙ ap (λ (l : List Author). set l y other_new) (set-append_left front back x one_new (omega (arith, size)))
+      ∙ set-append_right (set front x one_new) back y y other_new (long ∙ size) (omega arith) ∙ ap (λ n. set front x one_new ++ set back n other_new) none
+
+  pub front_meets : IsCourse keys (steps count since count reach) (set front x one_new ++ set back 0 other_new)
+  front_meets = subst (IsCourse keys (steps count since count reach)) sets
+      (met_course keys count since met reach x y authors d one_new other_new four (omega arith) low (λ same. absurd (omega (arith, same))) course met_them site_one site_other)
+
+  pub front_reaches : x ≡ 0 → reach ≡ y → IsCourse keys (steps count since count (y + 1)) (set front x one_new ++ set back 0 other_new)
+  front_reaches first is = subst (IsCourse keys (steps count since count (y + 1))) sets
+      (met_reaches keys count since met reach x y authors d one_new other_new four (omega arith) low (λ same. absurd (omega (arith, same))) course met_them site_one site_other first is)
