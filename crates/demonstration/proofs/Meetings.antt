@@ -247,7 +247,9 @@ module _ (keys : List SecretData) (count since met reach x y : ℕ) (authors fro
   there = ap (λ (l : List Author). slice_index_or l x d) parts ∙ get_or-append front back d x (omega (arith, size))
 
   behind : slice_index_or authors y d ≡ slice_index_or back 0 e
-  behind = ap (λ (l : List Author). slice_index_or l y d) parts ∙ ap (λ n. slice_index_or (front ++ back) n d) (omega (arith, size) : y ≡ length front + 0) ∙ get_or-append-add front back 0 d
+  behind =
+      let at : y ≡ length front + 0 = omega (arith, size) in
+      ap (λ (l : List Author). slice_index_or l y d) parts ∙ ap (λ n. slice_index_or (front ++ back) n d) at ∙ get_or-append-add front back 0 d
       ∙ get_or_default back 0 d e (let whole = ap length parts in let both = length-append front back in omega (arith, whole, both, size, four))
 
   met_them : MeetsWith (slice_index_or authors x d) (slice_index_or authors y d) one_new other_new

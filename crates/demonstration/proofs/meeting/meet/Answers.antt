@@ -33,3 +33,6 @@ returns-then-first-second-clause-reaches c = λ keys count since met first cours
     on_three c.sync.result (c.sync.ensures.one keys course.schema course.made at_one at_other) (c.sync.ensures.other keys course.schema course.made at_one at_other) c.sync.ensures.meets
     (λ p q m. front_reaches keys count since met c.args.second c.args.first c.args.second authors front back one other c.sync.new.one c.sync.new.other parts.ensures.value parts.ensures.front_len c.requires.four c.if-first-second.true
     c.requires.second course m p q first refl)
+
+pub returns-else-first-second-clause-course : goal.returns-else-first-second-clause-course
+returns-else-first-second-clause-course c = ?
