@@ -150,31 +150,6 @@ grown keys schema made from a b new key site other closed_a closed_b closed same
       | inr added ↦ of_from m (All-contains (Contains from) grows.added m grows.of added)
     ]
 
--- ---- the beginning
-
--- the key that is drawn at this place, from 0, is among the four
-drawn_at : (random : Stream) (n : ℕ) → n < 4 → Contains (drawn_from random) (drawn_key H10 W4 (draws n random))
-drawn_at random zero low = (0, omega arith, refl)
-drawn_at random (suc zero) low = (1, omega arith, refl)
-drawn_at random (suc (suc zero)) low = (2, omega arith, refl)
-drawn_at random (suc (suc (suc zero))) low = (3, omega arith, refl)
-drawn_at random (suc (suc (suc (suc n)))) low = absurd (omega arith)
-
-pub draws_more : (n : ℕ) (random : Stream) → draws (n + 1) random ≡ after_draw (draws n random)
-draws_more n random = let more : n + 1 ≡ suc n = omega arith in ap (λ (k : ℕ). draws k random) more
-
--- one more author was created
-pub one_fresh : (text : List ℕ) (first random : Stream) (n : ℕ) (authors : List Author) (author : Author) → n < 4 → random ≡ draws n first → All (IsFresh text (drawn_from first)) authors
-    → author.key.secret ≡ drawn_key H10 W4 random → TakesSchema is_luhn text author.store.history.schema → author.store.history.members ≡ [] → author.key.taken ≡ replicate 1024 false → author.last ≡ None
-    → All (IsFresh text (drawn_from first)) (authors ++ author ∷ [])
-one_fresh text first random n authors author low at before key taken empty unused nothing = All-push (IsFresh text (drawn_from first)) authors author before (record {
-  key = subst (Contains (drawn_from first)) (sym (key ∙ ap (λ (r : Stream). drawn_key H10 W4 r) at)) (drawn_at first n low);
-  taken = taken;
-  empty = empty;
-  unused = unused;
-  nothing = nothing;
-})
-
 -- ---- a meeting
 
 -- what is so of the authors of two parts
