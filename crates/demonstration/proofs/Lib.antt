@@ -2,6 +2,7 @@ mod Beginning
 mod Counting
 mod Meetings
 mod Plans
+mod Reach
 mod Sites
 mod Steps
 mod Valid
