@@ -1,21 +1,19 @@
 -- The meetings of a demonstration.
-use Rattle.std.proofs.Common.{◌≡◌, ◌≢◌, ◌⊎◌, inl, inr, ℕ, zero, suc, ◌+◌, ◌-◌, ◌*◌, ◌^◌, ◌<◌, ◌≤◌, List, [], ◌∷◌, ◌++◌, All, Contains, Bool, true, false, not, cond, ◌&&◌, Option, None, filter, slice_index_or, length, length-append, map, set, refl, sym, ap, subst, ◌∙◌, arith}
-use Rattle.std.specs.Prelude.{count_by, nat_le}
+use Rattle.std.proofs.Common.{◌≡◌, ◌≢◌, ◌⊎◌, inl, inr, ℕ, ◌+◌, ◌-◌, ◌<◌, ◌≤◌, List, [], ◌∷◌, ◌++◌, Contains, Bool, true, false, not, cond, ◌&&◌, None, filter, slice_index_or, length, length-append, map, set, refl, sym, ap, subst, ◌∙◌, arith}
+use Rattle.std.specs.Prelude.{count_by}
 use Rattle.std.proofs.lemmas.Bool.{both_ways, le-leb}
 use Rattle.std.proofs.Math.ListN.{get_or-append}
 use Rattle.std.proofs.lemmas.List.{get_or-append-add, get_or_default, length-map, length-set, map-append, set-append_left, set-append_right}
 use Rattle.std.proofs.lemmas.List.Elements.{All-contains, All-set, Contains-append_cases, Contains-append_left, Contains-append_right}
 use Rattle.demonstration.specs.declared.author.Author.{Author}
-use Rattle.demonstration.specs.Sites.{AreMakers, IsCourse, IsSite, MeetsWith, last_at, members_at, steps, taken_at}
-use Rattle.demonstration.proofs.Steps.{all_low, apart_ids, at_other, at_same, bytes_low, field_at, members_in}
+use Rattle.demonstration.specs.Sites.{AreMakers, IsCourse, IsSite, MeetsWith, members_at, steps}
+use Rattle.demonstration.proofs.Steps.{all_low, at_other, at_same, bytes_low, field_at, members_in}
 use Rattle.demonstration_course.specs.Courses.{HasAll, HoldsOldest}
 use Rattle.demonstration_course.proofs.Meeting.{met_apart_since, met_has_more, met_in_step, met_keeps_all}
 use Rattle.demonstration_course.proofs.Permuting.{closed_distinct, distinct_both, distinct_cons, has_id, holds_id, ids_of, no_longer}
 use Rattle.demonstration_course.proofs.Making.{same_or_not}
-use Rattle.history.specs.Histories.{IsHistory}
 use Rattle.key_index.specs.KeyState.{KeyState}
 use Rattle.lms_tree.specs.SecretKey.{SecretData}
-use Rattle.schema.specs.Data.{SchemaData}
 use Rattle.session_rules.specs.Laws.{NoCollision}
 use Rattle.session_rules.specs.Pair.{missing}
 use Rattle.session_rules.proofs.Pigeons.{AreDistinct}
@@ -23,7 +21,7 @@ use Rattle.sync_session.specs.Carrying.{HasRoom}
 use Rattle.table_model.proofs.Members.{contains_cases, contains_first, contains_later, contains_mapped, mapped_contains}
 use Rattle.update_codec.specs.Parts.{entry_of, id_of}
 use Rattle.update_model.proofs.Ids.{same_id-symm}
-use Rattle.update_model.specs.Batch.{fits, not_held, store_limits}
+use Rattle.update_model.specs.Batch.{fits, store_limits}
 use Rattle.update_model.specs.Entry.{Entry}
 use Rattle.update_model.specs.declared.update_id.UpdateId.{UpdateId}
 use Rattle.update_model.specs.Graph.{Follows, HaveSameMembers, byte_count, has, holds}
@@ -38,7 +36,7 @@ lacked_entries : (own other : List (List ℕ)) → missing (map entry_of own) (m
 lacked_entries own [] = refl
 lacked_entries own (m ∷ other) = let rest = lacked_entries own other in
     elim (holds (map entry_of own) (id_of m)) as (λ b. cond (not b) (entry_of m ∷ missing (map entry_of own) (map entry_of other)) (missing (map entry_of own) (map entry_of other))
-        ≡ map entry_of (cond (not b) (m ∷ lacked own other) (lacked own other))) [ true ↦ rest | false ↦ ap (λ l. entry_of m ∷ l) rest ]
+    ≡ map entry_of (cond (not b) (m ∷ lacked own other) (lacked own other))) [ true ↦ rest | false ↦ ap (λ l. entry_of m ∷ l) rest ]
 
 lacked_in : (own other : List (List ℕ)) (n : List ℕ) → Contains (lacked own other) n → Contains other n × (holds (map entry_of own) (id_of n) ≡ false)
 lacked_in own [] n c = absurd (let low = c.1 in omega arith)

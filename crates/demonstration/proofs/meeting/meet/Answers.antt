@@ -1,4 +1,4 @@
-use Rattle.std.proofs.Common.{◌<◌, ◌≡◌, length, arith, refl}
+use Rattle.std.proofs.Common.{◌<◌, arith, refl}
 use Rattle.demonstration.specs.Sites.{IsSite}
 use Rattle.demonstration.proofs.Meetings.{exchanged, front_meets, front_reaches}
 use Rattle.demonstration.proofs.Sites.{in_back, in_front, on_three}
