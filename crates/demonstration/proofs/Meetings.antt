@@ -1,28 +1,27 @@
 -- The meetings of a demonstration.
-use Rattle.std.proofs.Common.{◌≡◌, ◌≢◌, ◌⊎◌, inl, inr, ℕ, zero, suc, ◌+◌, ◌-◌, ◌*◌, ◌^◌, ◌<◌, ◌≤◌, List, [], ◌∷◌, ◌++◌, All, Contains, Bool, true, false, not, cond, ◌&&◌, Option, None, filter, slice_index_or, length, length-append, map, set, refl, sym, ap, subst, ◌∙◌, arith}
-use Rattle.std.specs.Prelude.{count_by, nat_le}
+use Rattle.std.proofs.Common.{◌≡◌, ◌≢◌, ◌⊎◌, inl, inr, ℕ, ◌+◌, ◌-◌, ◌<◌, ◌≤◌, List, [], ◌∷◌, ◌++◌, Contains, Bool, true, false, not, cond, ◌&&◌, None, filter, slice_index_or, length, length-append, map, set, refl, sym, ap, subst, ◌∙◌, arith}
+use Rattle.std.specs.Prelude.{count_by}
 use Rattle.std.proofs.lemmas.Bool.{both_ways, le-leb}
 use Rattle.std.proofs.Math.ListN.{get_or-append}
 use Rattle.std.proofs.lemmas.List.{get_or-append-add, get_or_default, length-map, length-set, map-append, set-append_left, set-append_right}
 use Rattle.std.proofs.lemmas.List.Elements.{All-contains, All-set, Contains-append_cases, Contains-append_left, Contains-append_right}
 use Rattle.demonstration.specs.declared.author.Author.{Author}
-use Rattle.demonstration.specs.Sites.{AreMakers, IsCourse, IsSite, MeetsWith, last_at, members_at, steps, taken_at}
-use Rattle.demonstration.proofs.Steps.{all_low, apart_ids, at_other, at_same, bytes_low, field_at, members_in}
-use Rattle.demonstration_course.specs.Courses.{HasAll}
+use Rattle.demonstration.specs.Sites.{AreMakers, IsCourse, IsSite, MeetsWith, members_at, steps}
+use Rattle.demonstration.proofs.Steps.{all_low, at_other, at_same, bytes_low, field_at, members_in}
+use Rattle.demonstration_course.specs.Courses.{HasAll, HoldsOldest}
 use Rattle.demonstration_course.proofs.Meeting.{met_apart_since, met_has_more, met_in_step, met_keeps_all}
 use Rattle.demonstration_course.proofs.Permuting.{closed_distinct, distinct_both, distinct_cons, has_id, holds_id, ids_of, no_longer}
 use Rattle.demonstration_course.proofs.Making.{same_or_not}
-use Rattle.history.specs.Histories.{IsHistory}
 use Rattle.key_index.specs.KeyState.{KeyState}
 use Rattle.lms_tree.specs.SecretKey.{SecretData}
-use Rattle.schema.specs.Data.{SchemaData}
 use Rattle.session_rules.specs.Laws.{NoCollision}
 use Rattle.session_rules.specs.Pair.{missing}
 use Rattle.session_rules.proofs.Pigeons.{AreDistinct}
 use Rattle.sync_session.specs.Carrying.{HasRoom}
 use Rattle.table_model.proofs.Members.{contains_cases, contains_first, contains_later, contains_mapped, mapped_contains}
 use Rattle.update_codec.specs.Parts.{entry_of, id_of}
-use Rattle.update_model.specs.Batch.{fits, not_held, store_limits}
+use Rattle.update_model.proofs.Ids.{same_id-symm}
+use Rattle.update_model.specs.Batch.{fits, store_limits}
 use Rattle.update_model.specs.Entry.{Entry}
 use Rattle.update_model.specs.declared.update_id.UpdateId.{UpdateId}
 use Rattle.update_model.specs.Graph.{Follows, HaveSameMembers, byte_count, has, holds}
@@ -37,7 +36,7 @@ lacked_entries : (own other : List (List ℕ)) → missing (map entry_of own) (m
 lacked_entries own [] = refl
 lacked_entries own (m ∷ other) = let rest = lacked_entries own other in
     elim (holds (map entry_of own) (id_of m)) as (λ b. cond (not b) (entry_of m ∷ missing (map entry_of own) (map entry_of other)) (missing (map entry_of own) (map entry_of other))
-        ≡ map entry_of (cond (not b) (m ∷ lacked own other) (lacked own other))) [ true ↦ rest | false ↦ ap (λ l. entry_of m ∷ l) rest ]
+    ≡ map entry_of (cond (not b) (m ∷ lacked own other) (lacked own other))) [ true ↦ rest | false ↦ ap (λ l. entry_of m ∷ l) rest ]
 
 lacked_in : (own other : List (List ℕ)) (n : List ℕ) → Contains (lacked own other) n → Contains other n × (holds (map entry_of own) (id_of n) ≡ false)
 lacked_in own [] n c = absurd (let low = c.1 in omega arith)
@@ -269,3 +268,84 @@ module _ (keys : List SecretData) (count since met reach x y : ℕ) (authors fro
   pub front_reaches : x ≡ 0 → reach ≡ y → IsCourse keys (steps count since count (y + 1)) (set front x one_new ++ set back 0 other_new)
   front_reaches first is = subst (IsCourse keys (steps count since count (y + 1))) sets
       (met_reaches keys count since met reach x y authors d one_new other_new four (omega arith) low (λ same. absurd (omega (arith, same))) course met_them site_one site_other first is)
+
+-- ---- the same authors after other steps
+
+course_by : (keys : List SecretData) (count since met reach since_now met_now reach_now : ℕ) (authors : List Author) (course : IsCourse keys (steps count since met reach) authors)
+    → (AreMakers course.made (steps count since met reach) authors → AreMakers course.made (steps count since_now met_now reach_now) authors) → IsCourse keys (steps count since_now met_now reach_now) authors
+course_by keys count since met reach since_now met_now reach_now authors course moved = record {
+  schema = course.schema;
+  tables = course.tables;
+  anyone = course.anyone;
+  made = course.made;
+  few = course.few;
+  by_keys = course.by_keys;
+  sites = course.sites;
+  makers = λ small apart. moved (course.makers small apart);
+}
+
+makers_by : (made : List (List ℕ)) (count since met reach reach_now : ℕ) (authors : List Author) (before : AreMakers made (steps count since met reach) authors)
+    → HasAll before.chains (members_at authors 0) reach_now → AreMakers made (steps count since met reach_now) authors
+makers_by made count since met reach reach_now authors before all = record {
+  chains = before.chains;
+  in_step = before.in_step;
+  since = before.since;
+  reached = all;
+  last = before.last;
+  left = before.left;
+}
+
+-- no step is left since which anything is said
+pub forgets : (keys : List SecretData) (count since met reach : ℕ) (authors : List Author) → IsCourse keys (steps count since met reach) authors → IsCourse keys (steps count count count reach) authors
+forgets keys count since met reach authors course = course_by keys count since met reach count count reach authors course (λ before. record {
+  chains = before.chains;
+  in_step = before.in_step;
+  since = record {
+    unnamed = λ k from to m older is x low. absurd (omega (arith, from, to));
+    alone = λ k from to m older is x low holds. absurd (omega (arith, from, to));
+  };
+  reached = before.reached;
+  last = before.last;
+  left = before.left;
+})
+
+-- the first author has its own updates
+pub reaches_own : (keys : List SecretData) (count since met reach : ℕ) (authors : List Author) → IsCourse keys (steps count since met reach) authors → IsCourse keys (steps count since met 1) authors
+reaches_own keys count since met reach authors course = course_by keys count since met reach since met 1 authors course (λ before. makers_by course.made count since met reach 1 authors before
+    (own before.chains (before.in_step.holds 0 (omega arith))))
+  where
+    own : (chains : ℕ → List (List ℕ)) → HoldsOldest chains 0 (members_at authors 0) → HasAll chains (members_at authors 0) 1
+    own chains holds b low m c =
+        let first : b ≡ 0 = omega (arith, low) in
+        holds.all m (0, omega arith, subst (λ (l : List (List ℕ)). Contains l m) (sym holds.own) (subst (λ k. Contains (chains k) m) first c))
+
+-- nothing is said of what the first author has
+pub reaches_none : (keys : List SecretData) (count since met reach : ℕ) (authors : List Author) → IsCourse keys (steps count since met reach) authors → IsCourse keys (steps count since met 0) authors
+reaches_none keys count since met reach authors course = course_by keys count since met reach since met 0 authors course (λ before. makers_by course.made count since met reach 0 authors before
+    (λ b low m c. absurd (omega (arith, low))))
+
+-- the two sides exchanged
+pub exchanged : (a b a_new b_new : Author) → MeetsWith a b a_new b_new → MeetsWith b a b_new a_new
+exchanged a b a_new b_new meets = record {
+  key = meets.key_other;
+  key_other = meets.key;
+  last = meets.last_other;
+  last_other = meets.last;
+  was = meets.was_other;
+  was_other = meets.was;
+  closed = meets.closed_other;
+  closed_other = meets.closed;
+  unites = λ same apart room room_other.
+      let both = meets.unites (sym same) (λ m n c d is. sym (apart n m d c (same_id-symm n.id m.id ∙ is))) room_other room in
+      (swapped (map entry_of b_new.store.history.members) both.1, swapped (map entry_of a_new.store.history.members) both.0);
+}
+  where
+    across : (l k : List Entry) (e : Entry) → Contains (l ++ k) e → Contains (k ++ l) e
+    across l k e c = elim (Contains-append_cases l k e c) [ inl first ↦ Contains-append_right k l e first | inr second ↦ Contains-append_left k l e second ]
+
+    swapped : (new : List Entry) → HaveSameMembers new (map entry_of a.store.history.members ++ map entry_of b.store.history.members)
+        → HaveSameMembers new (map entry_of b.store.history.members ++ map entry_of a.store.history.members)
+    swapped new same e = (
+      λ c. across (map entry_of a.store.history.members) (map entry_of b.store.history.members) e ((same e).0 c),
+      λ c. (same e).1 (across (map entry_of b.store.history.members) (map entry_of a.store.history.members) e c),
+    )
