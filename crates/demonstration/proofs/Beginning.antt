@@ -1,12 +1,12 @@
 -- The authors of a demonstration before they make updates.
-use Rattle.std.proofs.Common.{◌≡◌, ℕ, zero, suc, ◌+◌, ◌*◌, ◌/◌, ◌<◌, ◌≤◌, List, [], ◌∷◌, ◌++◌, All, Contains, Bool, cond, false, not, Option, None, slice_index_or, length, length-append, map, replicate, refl, sym, ap, subst, ◌∙◌, arith}
+use Rattle.std.proofs.Common.{◌≡◌, ℕ, zero, suc, ◌+◌, ◌<◌, List, [], ◌∷◌, ◌++◌, All, Contains, Bool, cond, false, not, None, slice_index_or, length, length-append, map, replicate, refl, sym, ap, subst, ◌∙◌, arith}
 use Rattle.std.specs.Prelude.{count_by}
 use Rattle.std.proofs.lemmas.List.Elements.{All-head, All-nil, All-push, All-weaker}
 use Rattle.std.proofs.lemmas.List.Folds.{sum_by-replicate}
 use Rattle.confluence_test.specs.Taking.{TakesSchema}
 use Rattle.demonstration.specs.declared.author.Author.{Author}
 use Rattle.demonstration.specs.Demos.{IsBy, drawn_from}
-use Rattle.demonstration.specs.Sites.{AreMakers, IsCourse, IsFresh, IsSite, draws, last_at, members_at, steps, taken_at}
+use Rattle.demonstration.specs.Sites.{AreMakers, IsCourse, IsFresh, IsSite, draws, members_at, steps}
 use Rattle.demonstration.proofs.Sites.{new_site}
 use Rattle.demonstration.proofs.Steps.{field_at, members_in}
 use Rattle.demonstration_course.specs.Courses.{AreInStep, HoldsOldest}
@@ -20,9 +20,7 @@ use Rattle.rand_core.specs.Stream.{Stream}
 use Rattle.row_check.specs.Checksum.{is_luhn}
 use Rattle.schema.specs.Data.{Meaning, SchemaData}
 use Rattle.schema_text.specs.Schemas.{Declares}
-use Rattle.update_check.specs.Signed.{node_of}
 use Rattle.update_codec.specs.Parts.{entry_of}
-use Rattle.update_model.specs.declared.update_id.UpdateId.{UpdateId}
 use Rattle.update_model.specs.Graph.{Follows}
 
 -- the key that is drawn at this place, from 0, is among the four

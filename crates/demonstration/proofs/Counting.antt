@@ -1,5 +1,5 @@
 -- What the counts of a demonstration are.
-use Rattle.std.proofs.Common.{◌≡◌, ℕ, false, ◌+◌, ◌-◌, ◌*◌, ◌/◌, ◌%◌, ◌^◌, ◌<◌, ◌≤◌, List, [], ◌∷◌, ◌++◌, All, Contains, length, map, reverse, slice_index_or, refl, sym, ap, subst, ◌∙◌, arith, length-append}
+use Rattle.std.proofs.Common.{◌≡◌, ℕ, false, ◌+◌, ◌-◌, ◌*◌, ◌%◌, ◌^◌, ◌<◌, ◌≤◌, List, [], ◌∷◌, Contains, length, map, slice_index_or, refl, sym, ap, subst, ◌∙◌, arith, length-append}
 use Rattle.std.proofs.lemmas.List.{length-map}
 use Rattle.std.proofs.lemmas.List.Elements.{All-contains}
 use Rattle.std.proofs.lemmas.List.Sorted.{length_permutation}
@@ -15,7 +15,7 @@ use Rattle.demonstration_course.proofs.Heads.{four_heads}
 use Rattle.demonstration_course.proofs.Permuting.{closed_distinct, no_longer}
 use Rattle.demonstration_laws.specs.Chains.{ArePlanned, AreValid, all_lists_left, lists_left}
 use Rattle.demonstration_laws.specs.Tables.{demo_tables}
-use Rattle.history.specs.Histories.{HistoryData, nodes_of}
+use Rattle.history.specs.Histories.{nodes_of}
 use Rattle.row_check.specs.Checksum.{is_luhn}
 use Rattle.schema.specs.Data.{SchemaData}
 use Rattle.schema.specs.declared.table_def.TableDef.{TableDef}

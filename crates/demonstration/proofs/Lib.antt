@@ -2,7 +2,6 @@ mod Beginning
 mod Counting
 mod Meetings
 mod Plans
-mod Reach
 mod Sites
 mod Steps
 mod Valid

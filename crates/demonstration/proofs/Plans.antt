@@ -1,14 +1,12 @@
 -- What the updates of a demonstration do.
-use Rattle.std.proofs.Common.{◌≡◌, ℕ, pos, w64, ◌+◌, ◌^◌, ◌<◌, ◌≤◌, List, [], ◌∷◌, ◌++◌, length, Option, None, ap, subst, sym, arith, length-append}
+use Rattle.std.proofs.Common.{◌≡◌, ℕ, pos, w64, ◌+◌, ◌^◌, ◌<◌, ◌≤◌, List, [], ◌∷◌, ◌++◌, length, subst, sym, arith, length-append}
 use Rattle.std.specs.Fmt.{decimal}
 use Rattle.std.specs.Prelude.{FitsSigned}
 use Rattle.std.proofs.lemmas.Fmt.{length-decimal-le}
-use Rattle.demonstration_laws.specs.Plans.{AreOpsOf, deletes, inserts, list_insert, list_title, task_insert, task_title}
+use Rattle.demonstration_laws.specs.Plans.{list_insert, list_title, task_insert, task_title}
 use Rattle.update_model.specs.declared.limits.TheConstants.{MAX_TEXT}
 use Rattle.update_model.specs.Rows.{AreOps}
 use Rattle.update_model.specs.Text.{IsText}
-use Rattle.update_model.specs.declared.op.Op.{Op}
-use Rattle.update_model.specs.declared.update_id.UpdateId.{UpdateId}
 
 -- ---- titles
 

@@ -1,20 +1,15 @@
 -- What the authors of a demonstration have, as they make updates and meet.
-use Rattle.std.proofs.Common.{◌≡◌, IfOk, ◌⊎◌, inl, inr, ℕ, zero, suc, ◌<◌, ◌≤◌, ◌+◌, List, [], ◌∷◌, ◌++◌, All, Contains, Bool, Option, Result, Ok, Err, OnOk, slice_index_or, length, length-append, map, set, refl, sym, ap, subst, ◌∙◌, arith, append-nil, None, Some, false, replicate}
+use Rattle.std.proofs.Common.{◌≡◌, IfOk, ◌⊎◌, inl, inr, ℕ, ◌<◌, List, [], ◌∷◌, ◌++◌, All, Contains, Bool, Option, Result, Ok, Err, OnOk, slice_index_or, length, map, refl, sym, ap, subst, ◌∙◌}
 use Rattle.std.proofs.lemmas.List.{map-append}
-use Rattle.std.proofs.lemmas.List.Elements.{All-append, All-cons, All-contains, All-contains_itself, All-head, All-nil, All-push, All-set, All-weaker, Contains-append_cases, Contains-append_left, Contains-append_right, Contains-push, Contains-push_cases}
+use Rattle.std.proofs.lemmas.List.Elements.{All-contains, All-contains_itself, All-nil, All-weaker, Contains-append_cases, Contains-append_left, Contains-append_right, Contains-push, Contains-push_cases}
 use Rattle.demonstration.specs.declared.author.Author.{Author}
-use Rattle.confluence_test.specs.Taking.{TakesSchema}
-use Rattle.demonstration.specs.Demos.{IsBy, drawn_from}
+use Rattle.demonstration.specs.Demos.{IsBy}
 use Rattle.demonstration_laws.specs.Chains.{AreValid}
 use Rattle.demonstration_laws.specs.Plans.{AreOpsOf}
-use Rattle.demonstration.specs.Sites.{IsCourse, IsFresh, IsSite, draws}
+use Rattle.demonstration.specs.Sites.{IsSite}
 use Rattle.demonstration.proofs.Valid.{both_valid, none_valid, one_more_valid}
 use Rattle.history.specs.Histories.{HistoryData, IsHistory, nodes_of}
-use Rattle.key_index.specs.Creating.{after_draw, drawn_key}
-use Rattle.lm_ots.specs.declared.ots_type.OtsType.TheVariants.{W4}
 use Rattle.lms_tree.specs.SecretKey.{SecretData, public_key}
-use Rattle.lms_tree.specs.declared.lms_type.LmsType.TheVariants.{H10}
-use Rattle.rand_core.specs.Stream.{Stream}
 use Rattle.key_index.specs.KeyState.{KeyState}
 use Rattle.replica.specs.Making.{IsMadeWith, Makes, body_with, plain}
 use Rattle.replica.specs.Signing.{KeyAfter}
@@ -22,12 +17,11 @@ use Rattle.replica.specs.declared.make_fault.MakeFault.{MakeFault}
 use Rattle.replica.specs.declared.make_fault.Side.TheVariants.{Key, Log}
 use Rattle.replica.specs.declared.make_fault.MakeFault.TheVariants.{NotListed, TooManyHeads, Invalid, TooLong, Full, Spent, Taken, DiskFault, Memory}
 use Rattle.row_check.specs.Checksum.{is_luhn}
-use Rattle.schema.specs.Data.{Meaning, SchemaData}
-use Rattle.schema_text.specs.Schemas.{Declares}
+use Rattle.schema.specs.Data.{SchemaData}
 use Rattle.session_rules.specs.Laws.{NoCollision}
 use Rattle.sync_session.specs.Kept.{GrowsBy}
 use Rattle.table_model.specs.Verdicts.{judge_next, judged}
-use Rattle.table_model.specs.Visible.{Rules, rules_with}
+use Rattle.table_model.specs.Visible.{rules_with}
 use Rattle.table_model.specs.declared.verdict.Verdict.TheVariants.{Valid}
 use Rattle.update_check.specs.Signed.{node_of}
 use Rattle.update_codec.specs.Parts.{entry_of}

@@ -1,5 +1,5 @@
 -- The steps of a demonstration.
-use Rattle.std.proofs.Common.{◌≡◌, ◌≢◌, ◌⊎◌, inl, inr, IfOk, ℕ, zero, suc, ◌+◌, ◌*◌, ◌/◌, ◌%◌, ◌^◌, ◌<◌, ◌≤◌, List, [], ◌∷◌, ◌++◌, All, Contains, Bool, true, false, not, Option, None, Some, Result, Ok, Err, OnOk, slice_index_or, length, length-append, map, set, reverse, refl, sym, ap, subst, ◌∙◌, arith, append-nil}
+use Rattle.std.proofs.Common.{◌≡◌, ◌≢◌, ◌⊎◌, inl, inr, ℕ, zero, suc, ◌+◌, ◌*◌, ◌/◌, ◌%◌, ◌^◌, ◌<◌, ◌≤◌, List, [], ◌∷◌, ◌++◌, All, Contains, Bool, true, false, not, Option, None, Some, slice_index_or, length, length-append, map, set, reverse, refl, sym, ap, subst, ◌∙◌, arith}
 use Rattle.std.specs.Prelude.{count_by}
 use Rattle.std.specs.List.{AllByRecursion}
 use Rattle.std.specs.Prelude.{cond, get_or, nat_le, nat_lt, ◌&&◌}
@@ -7,18 +7,18 @@ use Rattle.std.specs.List.{position_or_len}
 use Rattle.std.proofs.lemmas.Bool.{both_ways, ltb-false, ltb-true, or_left, or_right}
 use Rattle.std.proofs.lemmas.Option.{same_Some}
 use Rattle.std.proofs.lemmas.List.{get_or-map, get_or-set_other, get_or-set_same, length-map, map-set}
-use Rattle.std.proofs.lemmas.List.Elements.{All-append, All-cons, All-contains, All-contains_itself, All-nil, All-set, All-weaker, Contains-append_left, Contains-push}
+use Rattle.std.proofs.lemmas.List.Elements.{All-append, All-cons, All-contains, All-nil, All-set, Contains-append_left, Contains-push}
 use Rattle.std.proofs.lemmas.List.Sums.{passes_at_first, sum_by-cons, sum_by-set}
 use Rattle.demonstration.specs.declared.author.Author.{Author}
 use Rattle.demonstration.specs.Demos.{IsBy}
 use Rattle.demonstration.specs.Sites.{AreMakers, HasLengths, IsCourse, IsRefusal, IsSite, MakesOrNot, makes, refuses, last_at, members_at, steps, taken_at}
 use Rattle.demonstration.proofs.Sites.{all_still, by_signed, fewer_apart, site_made, site_same}
 use Rattle.demonstration.proofs.Valid.{nodes_are, nodes_closed}
-use Rattle.demonstration_course.specs.Courses.{AreApart, AreApartSince, AreInStep, HasAll, HoldsOldest}
-use Rattle.demonstration_course.proofs.Courses.{as_tables_see, few_turns, four_chains}
+use Rattle.demonstration_course.specs.Courses.{AreApart}
+use Rattle.demonstration_course.proofs.Courses.{as_tables_see, four_chains}
 use Rattle.demonstration_course.proofs.Heads.{few_heads, names_by}
 use Rattle.demonstration_course.proofs.Making.{made_apart_since, made_in_step, same_or_not}
-use Rattle.demonstration_course.proofs.Permuting.{closed_distinct, has_id, holds_id, ids_of, no_longer, of_id}
+use Rattle.demonstration_course.proofs.Permuting.{closed_distinct, holds_id, no_longer, of_id}
 use Rattle.demonstration_course.proofs.Sizes.{body_low, id_long, ops_low, update_low}
 use Rattle.demonstration_laws.specs.Chains.{ArePlanned, AreValid, last_id}
 use Rattle.demonstration_laws.specs.Plans.{AreOpsOf}
@@ -26,7 +26,7 @@ use Rattle.demonstration_laws.specs.Tables.{demo_tables}
 use Rattle.history.specs.Histories.{HistoryData, IsHistory, nodes_of, verdict_after}
 use Rattle.key_index.specs.Used.{least_unused}
 use Rattle.lms_tree.specs.SecretKey.{SecretData, public_key}
-use Rattle.replica.specs.Making.{HasRoom, IsJudged, IsMadeWith, IsMakeCause, Makes, body_with, plain}
+use Rattle.replica.specs.Making.{HasRoom, IsMadeWith, IsMakeCause, Makes, body_with, plain}
 use Rattle.replica.specs.Signing.{SignsAtLeast}
 use Rattle.replica.specs.declared.make_fault.MakeFault.{MakeFault}
 use Rattle.replica.specs.declared.make_fault.MakeFault.TheVariants.{NotListed, TooManyHeads, Invalid, TooLong, Full, Spent, Taken, DiskFault, Memory}
@@ -37,7 +37,6 @@ use Rattle.session_rules.specs.Laws.{NoCollision}
 use Rattle.table_model.specs.Nodes.{AreNodesOf, IsClosed}
 use Rattle.table_model.specs.Verdicts.{effects_in, judge_next, judged, verdict_on}
 use Rattle.table_model.specs.Visible.{Rules, rules_with}
-use Rattle.table_model.specs.declared.verdict.Verdict.{Verdict}
 use Rattle.table_model.specs.declared.verdict.Verdict.TheVariants.{Valid, Void}
 use Rattle.table_model.proofs.Members.{any_finds, any_of_contained, contains_first, contains_later, contains_mapped, mapped_contains}
 use Rattle.update_check.specs.Signed.{node_of}
@@ -46,7 +45,6 @@ use Rattle.update_codec.specs.Spelling as spell
 use Rattle.update_codec.specs.Spelling.{Spells, signed_length}
 use Rattle.update_model.specs.Entry.{Entry, same_id}
 use Rattle.update_model.specs.Form.{UpdateData}
-use Rattle.update_model.specs.declared.limits.TheConstants.{MAX_BYTES}
 use Rattle.update_model.specs.declared.op.Op.{Op}
 use Rattle.update_model.specs.declared.update_id.UpdateId.{UpdateId}
 use Rattle.update_model.specs.Graph.{AreHeads, Follows, byte_count, has, holds, names}

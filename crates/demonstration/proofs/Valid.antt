@@ -1,14 +1,12 @@
 -- Closed lists of updates that are all valid.
-use Rattle.std.proofs.Common.{◌≡◌, ◌⊎◌, inl, inr, ℕ, Bool, true, false, not, cond, ◌||◌, List, [], ◌∷◌, ◌++◌, map, filter, reverse, refl, sym, ap, subst, ◌∙◌, Contains, arith}
+use Rattle.std.proofs.Common.{◌≡◌, ◌⊎◌, inl, inr, ℕ, Bool, true, false, not, cond, List, [], ◌∷◌, ◌++◌, map, filter, reverse, refl, sym, ap, subst, ◌∙◌, Contains}
 use Rattle.std.specs.List.{AllByRecursion}
 use Rattle.std.proofs.lemmas.Bool.{both_ways}
 use Rattle.std.proofs.lemmas.List.{map-append, reverse-append}
-use Rattle.confluence_laws.proofs.SameTables.{PassesOn, permuted_on}
+use Rattle.confluence_laws.proofs.SameTables.{permuted_on}
 use Rattle.confluence_laws.proofs.Union.{union_closed, union_same}
 use Rattle.history.specs.Histories.{nodes_of}
-use Rattle.table_model.specs.declared.verdict.Verdict.{Verdict}
-use Rattle.table_model.specs.declared.verdict.Verdict.TheVariants.{Valid, Void}
-use Rattle.table_model.specs.declared.void_line.VoidLine.{VoidLine}
+use Rattle.table_model.specs.declared.verdict.Verdict.TheVariants.{Valid}
 use Rattle.session_rules.specs.Laws.{NoCollision}
 use Rattle.table_model.specs.Nodes.{Agree, AreNodesOf, IsClosed, holds, union}
 use Rattle.table_model.specs.Tables.{void_line, void_lines}

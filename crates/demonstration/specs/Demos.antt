@@ -25,7 +25,6 @@ use Rattle.update_codec.specs.Parts.{entry_of}
 use Rattle.update_codec.specs.Spelling.{Spells}
 use Rattle.update_model.specs.Form.{BodyData}
 use Rattle.update_model.specs.Graph.{AreHeads}
-use Rattle.update_model.specs.Node.{NodeData}
 use Rattle.update_model.specs.declared.update_id.UpdateId.{UpdateId}
 
 -- The counts are those of this closed list of updates, of a database whose schema is taken: how many they are, their heads, the visible rows of both tables, and

@@ -1,5 +1,5 @@
-use Rattle.std.proofs.Common.{◌≡◌, ◌≤◌, List, [], ◌∷◌, length, pos, refl, ap, subst, sym, ◌∙◌, arith}
-use Rattle.std.specs.Prelude.{IsUtf8, string_bytes}
+use Rattle.std.proofs.Common.{◌≡◌, List, [], ◌∷◌, pos, refl, ap, subst, sym, ◌∙◌, arith}
+use Rattle.std.specs.Prelude.{IsUtf8}
 use Rattle.std.proofs.lemmas.Str.{IsUtf8-string_bytes}
 use Rattle.update_model.specs.Rows.{AreOps}
 use Rattle.update_model.specs.declared.op.Op.TheVariants.{Insert}

@@ -1,5 +1,4 @@
-use Rattle.std.proofs.Common.{arith}
-use Rattle.demonstration_laws.specs.Plans.{AreOpsOf, deletes}
+use Rattle.demonstration_laws.specs.Plans.{deletes}
 use Rattle.demonstration.proofs.Sites.{if_ok}
 use Rattle.demonstration.proofs.operations.operations_of.Goals as goal
 

@@ -1,7 +1,7 @@
 use Rattle.std.proofs.Common.{◌≡◌, ◌+◌, ◌∷◌, [], ◌++◌, Bool, List, ℕ, All, length, sym, ap, subst, ◌∙◌, arith, length-append}
 use Rattle.std.specs.Prelude.{if◌then◌else◌, not}
 use Rattle.demonstration.specs.Demos.{drawn_from}
-use Rattle.demonstration.specs.Sites.{IsFresh, draws}
+use Rattle.demonstration.specs.Sites.{IsFresh}
 use Rattle.key_index.specs.Creating.{after_draw}
 use Rattle.numbered_words.specs.Numbered.{word_steps}
 use Rattle.rand_core.specs.Steps.{stream_of}

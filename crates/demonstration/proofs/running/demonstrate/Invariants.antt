@@ -1,4 +1,4 @@
-use Rattle.std.proofs.Common.{ℕ, ◌-◌, ◌≡◌, length, min}
+use Rattle.std.proofs.Common.{◌-◌, ◌≡◌, length, min}
 use Rattle.demonstration.specs.Demos.{keys_of}
 use Rattle.demonstration.specs.Sites.{IsCourse, steps}
 use Rattle.demonstration.proofs.running.demonstrate.Given as goal

@@ -1,4 +1,3 @@
-use Rattle.std.proofs.Common.{◌%◌, arith}
 use Rattle.demonstration.proofs.Sites.{on_ok}
 use Rattle.demonstration.proofs.Steps.{step_made}
 use Rattle.demonstration.proofs.running.make_one.Goals as goal
