@@ -1,4 +1,7 @@
+mod Beginning
 mod Counting
+mod Meetings
 mod Plans
 mod Sites
+mod Steps
 mod Valid

@@ -1,14 +1,12 @@
 -- Closed lists of updates that are all valid.
-use Rattle.std.proofs.Common.{◌≡◌, ◌⊎◌, inl, inr, ℕ, Bool, true, false, not, cond, ◌||◌, List, [], ◌∷◌, ◌++◌, map, filter, reverse, refl, sym, ap, subst, ◌∙◌, Contains, arith}
+use Rattle.std.proofs.Common.{◌≡◌, ◌⊎◌, inl, inr, ℕ, Bool, true, false, not, cond, List, [], ◌∷◌, ◌++◌, map, filter, reverse, refl, sym, ap, subst, ◌∙◌, Contains}
 use Rattle.std.specs.List.{AllByRecursion}
 use Rattle.std.proofs.lemmas.Bool.{both_ways}
 use Rattle.std.proofs.lemmas.List.{map-append, reverse-append}
-use Rattle.confluence_laws.proofs.SameTables.{PassesOn, permuted_on}
+use Rattle.confluence_laws.proofs.SameTables.{permuted_on}
 use Rattle.confluence_laws.proofs.Union.{union_closed, union_same}
 use Rattle.history.specs.Histories.{nodes_of}
-use Rattle.table_model.specs.declared.verdict.Verdict.{Verdict}
-use Rattle.table_model.specs.declared.verdict.Verdict.TheVariants.{Valid, Void}
-use Rattle.table_model.specs.declared.void_line.VoidLine.{VoidLine}
+use Rattle.table_model.specs.declared.verdict.Verdict.TheVariants.{Valid}
 use Rattle.session_rules.specs.Laws.{NoCollision}
 use Rattle.table_model.specs.Nodes.{Agree, AreNodesOf, IsClosed, holds, union}
 use Rattle.table_model.specs.Tables.{void_line, void_lines}
@@ -24,7 +22,7 @@ use Rattle.update_model.specs.Entry.{Entry, same_id}
 use Rattle.update_model.specs.Graph.{Follows}
 use Rattle.update_model.specs.Node.{NodeData}
 use Rattle.update_model.proofs.Ids.{id_from_same, same_id-refl}
-use Rattle.demonstration.specs.Demos.{AreValid}
+use Rattle.demonstration_laws.specs.Chains.{AreValid}
 
 -- ---- what each judged node of a list is
 
@@ -87,7 +85,7 @@ valid_within rules ys zs here there agree valid =
 
 -- ---- members
 
-nodes_are : (members : List (List ℕ)) → AreNodesOf (map entry_of members) (map node_of members)
+pub nodes_are : (members : List (List ℕ)) → AreNodesOf (map entry_of members) (map node_of members)
 nodes_are [] = tt
 nodes_are (m ∷ ms) = (refl, refl, nodes_are ms)
 

@@ -1,11 +1,11 @@
-use Rattle.std.proofs.Common.{◌≡◌, ◌+◌, ◌∷◌, [], ◌++◌, Bool, All, length, sym, ap, subst, ◌∙◌, arith, length-append}
+use Rattle.std.proofs.Common.{◌≡◌, ◌+◌, ◌∷◌, [], ◌++◌, Bool, List, ℕ, All, length, sym, ap, subst, ◌∙◌, arith, length-append}
 use Rattle.std.specs.Prelude.{if◌then◌else◌, not}
 use Rattle.demonstration.specs.Demos.{drawn_from}
-use Rattle.demonstration.specs.Sites.{IsFresh, draws}
+use Rattle.demonstration.specs.Sites.{IsFresh}
 use Rattle.key_index.specs.Creating.{after_draw}
 use Rattle.numbered_words.specs.Numbered.{word_steps}
 use Rattle.rand_core.specs.Steps.{stream_of}
-use Rattle.demonstration.proofs.Sites.{all_fresh, draws_more, one_fresh}
+use Rattle.demonstration.proofs.Beginning.{all_fresh, draws_more, one_fresh}
 use Rattle.demonstration.proofs.running.begun.Goals as goal
 
 pub authors-preserved : goal.authors-preserved
@@ -20,10 +20,12 @@ authors-preserved c =
       ap length items ∙ length-append authors (author ∷ []) ∙ ap (λ n. n + 1) c.authors.invariant.0,
       created.drawn ∙ ap after_draw c.authors.invariant.1 ∙ sym (draws_more c.authors.number first),
       subst (All (IsFresh text (drawn_from first))) (sym items)
-          (one_fresh text first (stream_of word_steps c.authors.words) c.authors.number authors author (omega arith) c.authors.invariant.1 c.authors.invariant.2 created.key created.taken created.empty),
+          (one_fresh text first (stream_of word_steps c.authors.words) c.authors.number authors author (omega arith) c.authors.invariant.1 c.authors.invariant.2 created.key created.taken created.empty created.unused created.nothing),
     )
 
 pub returns-clause-course : goal.returns-clause-course
 returns-clause-course c =
     let four : length c.authors.authors.items ≡ 4 = omega (arith, c.authors.invariant.0) in
-    all_fresh c.declared_text-text.result.now (drawn_from (stream_of word_steps c.args.words.now)) c.authors.authors.items c.one_schema.ensures four c.authors.invariant.2
+    let keys = drawn_from (stream_of word_steps c.args.words.now) in
+    all_fresh keys c.authors.authors.items c.one_schema.ensures c.text_declares_tables.ensures.tables c.text_declares_tables.ensures.authors four
+    (subst (λ (t : List ℕ). All (IsFresh t keys) c.authors.authors.items) c.declared_text-text.ensures c.authors.invariant.2)
