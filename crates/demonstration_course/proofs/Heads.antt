@@ -76,8 +76,12 @@ module _ (made : List (List ℕ)) (count : ℕ) (chains members : ℕ → List (
           let held : (step.holds x low).held b ≡ last.0 ++ last.1 ∷ m ∷ older = is ∙ ap (λ l. l ++ m ∷ older) last.2 ∙ append_assoc last.0 (last.1 ∷ []) (m ∷ older) in
           let whole : chains b ≡ (end.0 ++ last.0) ++ last.1 ∷ m ∷ older = end.1 ∙ ap (λ l. end.0 ++ l) held ∙ sym (append_assoc end.0 last.0 (last.1 ∷ m ∷ older)) in
           let after = step.after b below (end.0 ++ last.0) (m ∷ older) last.1 whole in
-          let there : Contains (members x) last.1 = (step.holds x low).all last.1 (b, below, subst (λ (l : List (List ℕ)). Contains l last.1) (sym held)
-              (parted_in last.0 last.1 (m ∷ older))) in
+          let there : Contains (members x) last.1 = (step.holds x low).all last.1 (
+            b,
+            below,
+            subst (λ (l : List (List ℕ)). Contains l last.1) (sym held)
+                (parted_in last.0 last.1 (m ∷ older)),
+          ) in
           absurd (both_ways _ unnamed (known_named members x low (m ∷ older) last.1 m after there (after.own m (contains_first m older))))
         where
           parted_in : (front : List (List ℕ)) (k : List ℕ) (back : List (List ℕ)) → Contains (front ++ k ∷ back) k

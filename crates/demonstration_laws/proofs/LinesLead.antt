@@ -110,20 +110,24 @@ unfolding form_at plain_form after_check check_form first_word words_within text
 lead_12 =
     let limits = each HasShortName urgent_tokens (refl, (tt, (tt, (tt, (tt, (refl, (tt, (tt, tt)))))))) in
     let known = each (IsKnown (names_of task_columns)) urgent_tokens ((1, lit< tt, refl), (tt, (tt, (tt, (tt, ((0, lit< tt, refl), (tt, (tt, tt)))))))) in
-    leads 12 task_ordered task_checked refl (line 12, (refl, refl)) refl
-    (((urgent_by (λ name. 0), urgent_parses (λ name. 0)), each HasUtf8Text urgent_tokens (tt, (tt, (tt, (tt, (tt, (tt, (tt, (tt, tt))))))))), refl,
-    record { limits = (lit< tt, (lit≤ tt, each HasShortText urgent_tokens (tt, (tt, (tt, (tt, (tt, (tt, (tt, (tt, tt)))))))), limits)); names = known; target = tt; types = (urgent_tree, urgent_parses task_column, ((refl, refl), (refl, refl))); matchable = tt; sample = tt },
-    (urgent_tree, urgent_parses task_column, refl))
+    leads 12 task_ordered task_checked refl (line 12, (refl, refl)) refl (
+      ((urgent_by (λ name. 0), urgent_parses (λ name. 0)), each HasUtf8Text urgent_tokens (tt, (tt, (tt, (tt, (tt, (tt, (tt, (tt, tt))))))))),
+      refl,
+      record { limits = (lit< tt, (lit≤ tt, each HasShortText urgent_tokens (tt, (tt, (tt, (tt, (tt, (tt, (tt, (tt, tt)))))))), limits)); names = known; target = tt; types = (urgent_tree, urgent_parses task_column, ((refl, refl), (refl, refl))); matchable = tt; sample = tt },
+      (urgent_tree, urgent_parses task_column, refl),
+    )
 
 pub lead_13 : Leads is_luhn 13 task_checked (line 13) task_rechecked
 unfolding form_at plain_form after_check check_form first_word words_within text_within encode_utf8
 lead_13 =
     let limits = each HasShortName card_tokens (refl, (tt, (tt, (tt, (tt, (tt, (refl, tt))))))) in
     let known = each (IsKnown (names_of task_columns)) card_tokens ((2, lit< tt, refl), (tt, (tt, (tt, (tt, (tt, ((2, lit< tt, refl), tt))))))) in
-    leads 13 task_checked task_rechecked refl (line 13, (refl, refl)) refl
-    (((card_by (λ name. 0), card_parses (λ name. 0)), each HasUtf8Text card_tokens (tt, (tt, (tt, (tt, (tt, (tt, (tt, tt)))))))), refl,
-    record { limits = (lit< tt, (lit≤ tt, each HasShortText card_tokens (tt, (tt, (tt, (tt, (tt, (tt, (tt, tt))))))), limits)); names = known; target = tt; types = (card_tree, card_parses task_column, (refl, each (λ (column : ℕ). IsSome (plain_kind (kinds_of task_columns) column)) (2 ∷ []) (refl, tt))); matchable = tt; sample = tt },
-    (card_tree, card_parses task_column, refl))
+    leads 13 task_checked task_rechecked refl (line 13, (refl, refl)) refl (
+      ((card_by (λ name. 0), card_parses (λ name. 0)), each HasUtf8Text card_tokens (tt, (tt, (tt, (tt, (tt, (tt, (tt, tt)))))))),
+      refl,
+      record { limits = (lit< tt, (lit≤ tt, each HasShortText card_tokens (tt, (tt, (tt, (tt, (tt, (tt, (tt, tt))))))), limits)); names = known; target = tt; types = (card_tree, card_parses task_column, (refl, each (λ (column : ℕ). IsSome (plain_kind (kinds_of task_columns) column)) (2 ∷ []) (refl, tt))); matchable = tt; sample = tt },
+      (card_tree, card_parses task_column, refl),
+    )
 
 pub lead_14 : Leads is_luhn 14 task_rechecked (line 14) task_matched
 unfolding form_at plain_form after_check check_form first_word words_within text_within encode_utf8
