@@ -1,10 +1,10 @@
 -- The heads of a replica in the course of a demonstration.
-use Rattle.std.proofs.Common.{◌≡◌, ◌≢◌, ◌⊎◌, inl, inr, ℕ, zero, suc, ◌+◌, ◌^◌, ◌<◌, ◌≤◌, Bool, true, false, not, ◌&&◌, List, [], ◌∷◌, ◌++◌, length, map, Contains, refl, sym, ap, subst, ◌∙◌, arith, append_assoc, length-append}
-use Rattle.std.proofs.lemmas.Bool.{both_ways, false_from_ne_true}
+use Rattle.std.proofs.Common.{◌≡◌, inl, inr, ℕ, ◌^◌, ◌<◌, ◌≤◌, Bool, true, false, not, ◌&&◌, List, [], ◌∷◌, ◌++◌, length, map, Contains, refl, sym, ap, subst, ◌∙◌, arith, append_assoc, length-append}
+use Rattle.std.proofs.lemmas.Bool.{both_ways}
 use Rattle.std.proofs.lemmas.List.Elements.{Contains-append_right}
 use Rattle.session_rules.proofs.Pigeons.{AreDistinct, pigeons, rising_distinct}
-use Rattle.demonstration_course.specs.Courses.{AreApart, AreApartSince, AreInStep, EndsIn, HoldsOldest, IsAmong, IsMadeAfter, all_four, turns_of}
-use Rattle.demonstration_course.proofs.Courses.{among_all, end_in, four_distinct, in_all, length_all}
+use Rattle.demonstration_course.specs.Courses.{AreApart, AreInStep, IsAmong, IsMadeAfter, all_four}
+use Rattle.demonstration_course.proofs.Courses.{among_all, four_distinct, in_all, length_all}
 use Rattle.demonstration_course.proofs.Permuting.{has_id, holds_id, ids_of, of_id}
 use Rattle.demonstration_course.proofs.Places.{parted}
 use Rattle.std.proofs.lemmas.List.{length-map}
@@ -76,8 +76,12 @@ module _ (made : List (List ℕ)) (count : ℕ) (chains members : ℕ → List (
           let held : (step.holds x low).held b ≡ last.0 ++ last.1 ∷ m ∷ older = is ∙ ap (λ l. l ++ m ∷ older) last.2 ∙ append_assoc last.0 (last.1 ∷ []) (m ∷ older) in
           let whole : chains b ≡ (end.0 ++ last.0) ++ last.1 ∷ m ∷ older = end.1 ∙ ap (λ l. end.0 ++ l) held ∙ sym (append_assoc end.0 last.0 (last.1 ∷ m ∷ older)) in
           let after = step.after b below (end.0 ++ last.0) (m ∷ older) last.1 whole in
-          let there : Contains (members x) last.1 = (step.holds x low).all last.1 (b, below, subst (λ (l : List (List ℕ)). Contains l last.1) (sym held)
-              (parted_in last.0 last.1 (m ∷ older))) in
+          let there : Contains (members x) last.1 = (step.holds x low).all last.1 (
+            b,
+            below,
+            subst (λ (l : List (List ℕ)). Contains l last.1) (sym held)
+                (parted_in last.0 last.1 (m ∷ older)),
+          ) in
           absurd (both_ways _ unnamed (known_named members x low (m ∷ older) last.1 m after there (after.own m (contains_first m older))))
         where
           parted_in : (front : List (List ℕ)) (k : List ℕ) (back : List (List ℕ)) → Contains (front ++ k ∷ back) k

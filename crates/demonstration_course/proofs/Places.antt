@@ -1,5 +1,5 @@
 -- Each update of a demonstration has one place: its author's, and how many that author made before it.
-use Rattle.std.proofs.Common.{◌≡◌, ◌⊎◌, inl, inr, ℕ, suc, ◌+◌, ◌^◌, ◌<◌, List, [], ◌∷◌, ◌++◌, length, map, Option, Some, Contains, refl, sym, ap, subst, ◌∙◌, arith}
+use Rattle.std.proofs.Common.{◌≡◌, ◌⊎◌, inl, inr, ℕ, suc, ◌+◌, ◌^◌, ◌<◌, List, [], ◌∷◌, ◌++◌, length, map, Option, Some, Contains, sym, ap, subst, ◌∙◌, arith}
 use Rattle.std.specs.Fmt.{decimal}
 use Rattle.std.proofs.lemmas.Fmt.{decimal_digit, decimal_injective}
 use Rattle.std.proofs.lemmas.List.{length-map}
@@ -66,7 +66,7 @@ same_place a b m (x ∷ older) (y ∷ others) low_a low_b short short_too one ot
     let size = length-map (x ∷ older) node_of in
     let size_too = length-map (y ∷ others) node_of in
     elim (same_plan a b (length (map node_of (x ∷ older))) (length (map node_of (y ∷ others))) (last_id (map node_of (x ∷ older))) (last_id (map node_of (y ∷ others))) (ops_of m) low_a low_b
-        (omega (arith, size)) (omega (arith, size_too)) one.0 other.0) [
+    (omega (arith, size)) (omega (arith, size_too)) one.0 other.0) [
       | inl same ↦ (same.0, sym size ∙ same.1 ∙ size_too)
       | inr named ↦
           let is = named.1 in
