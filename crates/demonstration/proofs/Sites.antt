@@ -161,14 +161,6 @@ pub on_ok : {T E : Type 0} {P Q : Type 0} (r : Result T E) → OnOk r P → (P �
 on_ok (Ok x) p f = f p
 on_ok (Err e) p f = tt
 
-pub on_both : {T E : Type 0} {P Q R : Type 0} (r : Result T E) → OnOk r P → OnOk r Q → (P → Q → R) → OnOk r R
-on_both (Ok x) p q f = f p q
-on_both (Err e) p q f = tt
-
-pub any_ok : {T E : Type 0} {P : Type 0} (r : Result T E) → P → OnOk r P
-any_ok (Ok x) p = p
-any_ok (Err e) p = tt
-
 pub if_ok : {T E : Type 0} {P Q : T → Type 0} (r : Result T E) → IfOk r P → ((x : T) → P x → Q x) → IfOk r Q
 if_ok (Ok x) p f = f x p
 if_ok (Err e) p f = tt

@@ -47,8 +47,7 @@ taken_at authors x = slice_index_or (map (λ (author : Author). author.key.taken
 abbrev pub last_at : List Author → ℕ → Option UpdateId
 last_at authors x = slice_index_or (map (λ (author : Author). author.last) authors) x None
 
--- The steps of a demonstration: how many there were; since when nobody names the updates that the authors made last, and since when nobody has met; and of how many
--- authors the replica of the first one has all updates.
+-- The steps so far: how many; since which no newest update is named; since which nobody met; and of how many authors the first one's replica has all.
 pub record Steps : Type 0 where
   pub count : ℕ
   pub first : ℕ

@@ -1,12 +1,12 @@
 -- What the members of a replica are in the course of a demonstration.
-use Rattle.std.proofs.Common.{◌≡◌, ◌≢◌, ◌⊎◌, inl, inr, ℕ, zero, suc, ◌+◌, ◌-◌, ◌/◌, ◌^◌, ◌<◌, ◌≤◌, List, [], ◌∷◌, ◌++◌, length, map, reverse, slice_index_or, Contains, refl, sym, ap, subst, ◌∙◌, arith, append_assoc, append-nil, length-append}
+use Rattle.std.proofs.Common.{◌≡◌, inl, inr, ℕ, zero, suc, ◌+◌, ◌^◌, ◌<◌, ◌≤◌, List, [], ◌∷◌, ◌++◌, length, map, reverse, slice_index_or, Contains, refl, sym, ap, subst, ◌∙◌, arith, append_assoc, append-nil, length-append}
 use Rattle.std.specs.List.Sorted.{IsPermutation}
-use Rattle.std.proofs.lemmas.List.{length-map, map-append}
+use Rattle.std.proofs.lemmas.List.{map-append}
 use Rattle.std.proofs.lemmas.List.Elements.{Contains-append_cases, Contains-append_left, Contains-append_right}
-use Rattle.std.proofs.lemmas.List.Sorted.{IsPermutation-map, IsPermutation-reverse, IsPermutation-sym, IsPermutation-trans, length_permutation}
+use Rattle.std.proofs.lemmas.List.Sorted.{IsPermutation-map, IsPermutation-reverse, IsPermutation-sym, IsPermutation-trans}
 use Rattle.session_rules.proofs.Pigeons.{AreDistinct}
 use Rattle.demonstration_laws.specs.Chains.{ArePlanned, IsChain, all_of}
-use Rattle.demonstration_course.specs.Courses.{AreApart, AreInStep, EndsIn, HoldsOldest, IsAmong, all_four, turns_of}
+use Rattle.demonstration_course.specs.Courses.{AreApart, AreInStep, EndsIn, IsAmong, all_four, turns_of}
 use Rattle.demonstration_course.proofs.Permuting.{closed_distinct, distinct_both, distinct_cons, ids_of, permuted}
 use Rattle.demonstration_course.proofs.Places.{parted, same_place}
 use Rattle.table_model.proofs.Members.{contains_first, contains_later}

@@ -1,10 +1,10 @@
 -- The heads of a replica in the course of a demonstration.
-use Rattle.std.proofs.Common.{◌≡◌, ◌≢◌, ◌⊎◌, inl, inr, ℕ, zero, suc, ◌+◌, ◌^◌, ◌<◌, ◌≤◌, Bool, true, false, not, ◌&&◌, List, [], ◌∷◌, ◌++◌, length, map, Contains, refl, sym, ap, subst, ◌∙◌, arith, append_assoc, length-append}
-use Rattle.std.proofs.lemmas.Bool.{both_ways, false_from_ne_true}
+use Rattle.std.proofs.Common.{◌≡◌, inl, inr, ℕ, ◌^◌, ◌<◌, ◌≤◌, Bool, true, false, not, ◌&&◌, List, [], ◌∷◌, ◌++◌, length, map, Contains, refl, sym, ap, subst, ◌∙◌, arith, append_assoc, length-append}
+use Rattle.std.proofs.lemmas.Bool.{both_ways}
 use Rattle.std.proofs.lemmas.List.Elements.{Contains-append_right}
 use Rattle.session_rules.proofs.Pigeons.{AreDistinct, pigeons, rising_distinct}
-use Rattle.demonstration_course.specs.Courses.{AreApart, AreApartSince, AreInStep, EndsIn, HoldsOldest, IsAmong, IsMadeAfter, all_four, turns_of}
-use Rattle.demonstration_course.proofs.Courses.{among_all, end_in, four_distinct, in_all, length_all}
+use Rattle.demonstration_course.specs.Courses.{AreApart, AreInStep, IsAmong, IsMadeAfter, all_four}
+use Rattle.demonstration_course.proofs.Courses.{among_all, four_distinct, in_all, length_all}
 use Rattle.demonstration_course.proofs.Permuting.{has_id, holds_id, ids_of, of_id}
 use Rattle.demonstration_course.proofs.Places.{parted}
 use Rattle.std.proofs.lemmas.List.{length-map}

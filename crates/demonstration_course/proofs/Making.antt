@@ -2,13 +2,13 @@
 use Rattle.std.proofs.Common.{◌≡◌, ◌≢◌, ◌⊎◌, inl, inr, ℕ, zero, suc, ◌+◌, ◌^◌, ◌%◌, ◌<◌, ◌≤◌, Bool, true, false, List, [], ◌∷◌, ◌++◌, length, map, Contains, refl, sym, ap, subst, ◌∙◌, arith, length-append}
 use Rattle.std.proofs.lemmas.Bool.{both_ways, false_from_ne_true}
 use Rattle.std.proofs.lemmas.List.{length-map}
-use Rattle.std.proofs.lemmas.List.Elements.{Contains-append_cases, Contains-append_left, Contains-append_right, Contains-push, Contains-push_cases}
+use Rattle.std.proofs.lemmas.List.Elements.{Contains-append_left, Contains-append_right, Contains-push, Contains-push_cases}
 use Rattle.demonstration_laws.specs.Chains.{IsChain, last_id}
 use Rattle.demonstration_course.specs.Courses.{AreApart, AreApartSince, AreInStep, EndsIn, HoldsOldest, IsAmong, IsMadeAfter, turns_of}
 use Rattle.demonstration_laws.specs.Plans.{AreOpsOf}
 use Rattle.demonstration_course.proofs.Courses.{chain_end, end_in, few_turns}
 use Rattle.demonstration_course.proofs.Heads.{names_by, who_names}
-use Rattle.demonstration_course.proofs.Permuting.{has_id, holds_id, ids_of, of_id}
+use Rattle.demonstration_course.proofs.Permuting.{holds_id, of_id}
 use Rattle.demonstration_course.proofs.Places.{parted, same_place}
 use Rattle.table_model.proofs.Members.{contains_cases, contains_first, contains_later}
 use Rattle.update_check.specs.Signed.{node_of}

@@ -1,14 +1,13 @@
 -- Two authors of a demonstration meet.
-use Rattle.std.proofs.Common.{◌≡◌, ◌≢◌, ◌⊎◌, inl, inr, ℕ, zero, suc, ◌+◌, ◌^◌, ◌%◌, ◌<◌, ◌≤◌, Bool, true, false, cond, List, [], ◌∷◌, ◌++◌, length, map, Contains, refl, sym, ap, subst, ◌∙◌, arith, length-append}
+use Rattle.std.proofs.Common.{◌≡◌, ◌≢◌, ◌⊎◌, inl, inr, ℕ, ◌+◌, ◌<◌, ◌≤◌, Bool, true, false, cond, List, [], ◌∷◌, ◌++◌, length, map, Contains, refl, sym, ap, subst, ◌∙◌, arith, length-append}
 use Rattle.std.proofs.lemmas.Bool.{both_ways, false_from_ne_true, ltb-false, ltb-true}
 use Rattle.std.specs.Prelude.{nat_lt}
-use Rattle.demonstration_course.specs.Courses.{AreApart, AreApartSince, AreInStep, EndsIn, HasAll, HoldsOldest, IsAmong, IsMadeAfter}
+use Rattle.demonstration_course.specs.Courses.{AreApartSince, AreInStep, EndsIn, HasAll, HoldsOldest, IsAmong}
 use Rattle.demonstration_course.proofs.Heads.{names_by, who_names}
 use Rattle.demonstration_course.proofs.Making.{same_or_not}
 use Rattle.std.proofs.lemmas.List.Elements.{Contains-append_right}
-use Rattle.table_model.proofs.Members.{contains_later}
 use Rattle.update_codec.specs.Parts.{entry_of, id_of}
-use Rattle.update_model.specs.Graph.{Follows, names}
+use Rattle.update_model.specs.Graph.{Follows}
 
 -- ---- two ends of one list
 
