@@ -7,7 +7,8 @@ use Rattle.std.proofs.lemmas.List.Elements.{All-contains}
 use Rattle.std.proofs.lemmas.List.Folds.{list_any-append}
 use Rattle.demonstration.specs.declared.author.Author.{Author}
 use Rattle.demonstration.specs.declared.counts.DemoCounts.{DemoCounts}
-use Rattle.demonstration.specs.Demos.{AreCountsOf, AreValid, IsBy, IsDemo, keys_of}
+use Rattle.demonstration.specs.Demos.{AreCountsOf, IsBy, IsDemo, keys_of}
+use Rattle.demonstration_laws.specs.Chains.{AreValid}
 use Rattle.demonstration.specs.Sites.{IsSite}
 use Rattle.demonstration.proofs.Valid.{no_voids}
 use Rattle.history.specs.Histories.{nodes_of}

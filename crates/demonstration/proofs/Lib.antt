@@ -1,4 +1,6 @@
 mod Counting
+mod Meetings
 mod Plans
 mod Sites
+mod Steps
 mod Valid

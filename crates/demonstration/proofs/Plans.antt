@@ -3,7 +3,7 @@ use Rattle.std.proofs.Common.{◌≡◌, ℕ, pos, w64, ◌+◌, ◌^◌, ◌<�
 use Rattle.std.specs.Fmt.{decimal}
 use Rattle.std.specs.Prelude.{FitsSigned}
 use Rattle.std.proofs.lemmas.Fmt.{length-decimal-le}
-use Rattle.demonstration.specs.Plans.{AreOpsOf, deletes, inserts, list_insert, list_title, task_insert, task_title}
+use Rattle.demonstration_laws.specs.Plans.{AreOpsOf, deletes, inserts, list_insert, list_title, task_insert, task_title}
 use Rattle.update_model.specs.declared.limits.TheConstants.{MAX_TEXT}
 use Rattle.update_model.specs.Rows.{AreOps}
 use Rattle.update_model.specs.Text.{IsText}
@@ -31,11 +31,6 @@ pub short_task_title : (author number place : ℕ) (text : List ℕ) → text �
 short_task_title author number place text is a b = subst (λ (t : List ℕ). length t ≤ MAX_TEXT) (sym is) (dashed_twice (decimal author) (decimal number) place (number_low author a) (number_low number b))
 
 -- ---- operations
-
--- what an update inserts does not depend on the one before it
-pub after_any : (author number : ℕ) (last : Option UpdateId) (ops : List Op) → AreOpsOf author number None ops → AreOpsOf author number last ops
-after_any author number last ops (deletes update none fifth is) = absurd cc
-after_any author number last ops (inserts first second f s is) = inserts first second f s is
 
 small : (n : ℕ) → n < 10 → FitsSigned w64 (pos n)
 small n low = record { sfits = omega arith }

@@ -1,11 +1,12 @@
 -- What the authors of a demonstration have, as they make updates and meet.
-use Rattle.std.proofs.Common.{◌≡◌, IfOk, ◌⊎◌, inl, inr, ℕ, zero, suc, ◌<◌, ◌≤◌, ◌+◌, List, [], ◌∷◌, ◌++◌, All, Contains, Bool, Option, Result, Ok, Err, OnOk, slice_index_or, length, length-append, map, set, refl, sym, ap, subst, ◌∙◌, arith, append-nil}
+use Rattle.std.proofs.Common.{◌≡◌, IfOk, ◌⊎◌, inl, inr, ℕ, zero, suc, ◌<◌, ◌≤◌, ◌+◌, List, [], ◌∷◌, ◌++◌, All, Contains, Bool, Option, Result, Ok, Err, OnOk, slice_index_or, length, length-append, map, set, refl, sym, ap, subst, ◌∙◌, arith, append-nil, None, Some, false, replicate}
 use Rattle.std.proofs.lemmas.List.{map-append}
 use Rattle.std.proofs.lemmas.List.Elements.{All-append, All-cons, All-contains, All-contains_itself, All-head, All-nil, All-push, All-set, All-weaker, Contains-append_cases, Contains-append_left, Contains-append_right, Contains-push, Contains-push_cases}
 use Rattle.demonstration.specs.declared.author.Author.{Author}
 use Rattle.confluence_test.specs.Taking.{TakesSchema}
-use Rattle.demonstration.specs.Demos.{AddsOne, AreValid, IsBy, drawn_from}
-use Rattle.demonstration.specs.Plans.{AreOpsOf}
+use Rattle.demonstration.specs.Demos.{IsBy, drawn_from}
+use Rattle.demonstration_laws.specs.Chains.{AreValid}
+use Rattle.demonstration_laws.specs.Plans.{AreOpsOf}
 use Rattle.demonstration.specs.Sites.{IsCourse, IsFresh, IsSite, draws}
 use Rattle.demonstration.proofs.Valid.{both_valid, none_valid, one_more_valid}
 use Rattle.history.specs.Histories.{HistoryData, IsHistory, nodes_of}
@@ -15,7 +16,7 @@ use Rattle.lms_tree.specs.SecretKey.{SecretData, public_key}
 use Rattle.lms_tree.specs.declared.lms_type.LmsType.TheVariants.{H10}
 use Rattle.rand_core.specs.Stream.{Stream}
 use Rattle.key_index.specs.KeyState.{KeyState}
-use Rattle.replica.specs.Making.{Makes, body_with, plain}
+use Rattle.replica.specs.Making.{IsMadeWith, Makes, body_with, plain}
 use Rattle.replica.specs.Signing.{KeyAfter}
 use Rattle.replica.specs.declared.make_fault.MakeFault.{MakeFault}
 use Rattle.replica.specs.declared.make_fault.Side.TheVariants.{Key, Log}
@@ -67,52 +68,41 @@ pub all_still : (keys : List SecretData) (schema : SchemaData) (made more : List
 all_still keys schema made more authors sites = All-weaker (IsSite keys schema made) (IsSite keys schema (made ++ more)) (λ author site. site_still keys schema made more author site) authors sites
 
 -- nothing was made
-pub none_made : (keys : List SecretData) (schema : SchemaData) (made : List (List ℕ)) (old new : Author) → new.key.secret ≡ old.key.secret → new.store.history ≡ old.store.history → IsSite keys schema made old → AddsOne keys (λ more. IsSite keys schema (made ++ more) new)
-none_made keys schema made old new key same site = record {
-  more = [];
-  few = omega arith;
-  by_keys = All-nil (IsBy keys);
-  so = site_still keys schema made [] new (record {
-    key = subst (Contains keys) (sym key) site.key;
-    schema_is = ap (λ (h : HistoryData). h.schema) same ∙ site.schema_is;
-    of = subst (λ (h : HistoryData). All (Contains made) h.members) (sym same) site.of;
-    valid = λ apart. subst (λ (h : HistoryData). AreValid (rules_with is_luhn schema.tables) (nodes_of h.members)) (sym same) (site.valid apart);
-  });
-}
+pub site_same : (keys : List SecretData) (schema : SchemaData) (made more : List (List ℕ)) (old new : Author) → new.key.secret ≡ old.key.secret → new.store.history ≡ old.store.history → IsSite keys schema made old → IsSite keys schema (made ++ more) new
+site_same keys schema made more old new key same site = site_still keys schema made more new (record {
+  key = subst (Contains keys) (sym key) site.key;
+  schema_is = ap (λ (h : HistoryData). h.schema) same ∙ site.schema_is;
+  of = subst (λ (h : HistoryData). All (Contains made) h.members) (sym same) site.of;
+  valid = λ apart. subst (λ (h : HistoryData). AreValid (rules_with is_luhn schema.tables) (nodes_of h.members)) (sym same) (site.valid apart);
+})
 
--- the update that was made is by the key
-by_made : (keys : List SecretData) (secret : SecretData) (place number : ℕ) (last : Option UpdateId) (ops : List Op) (old : HistoryData) (taken : List Bool) (c : List ℕ) (id : UpdateId) (new : HistoryData)
-    → Contains keys secret → AreOpsOf place number last ops → (makes : Makes is_luhn old secret taken ops c id new) → IsBy keys makes.bytes
-by_made keys secret place number last ops old taken c id new of plan makes = record {
+-- the update that was signed is by the key
+pub by_signed : (keys : List SecretData) (secret : SecretData) (place number : ℕ) (last : Option UpdateId) (ops : List Op) (old : HistoryData) (taken : List Bool) (preds : List UpdateId) (c bytes : List ℕ)
+    → Contains keys secret → AreOpsOf place number last ops → IsMadeWith old secret taken preds (plain ops) c bytes → IsBy keys bytes
+by_signed keys secret place number last ops old taken preds c bytes of plan made = record {
   secret = secret;
   of = of;
-  body = body_with old (public_key secret) makes.preds (plain ops);
+  body = body_with old (public_key secret) preds (plain ops);
   author = refl;
   place = place;
   number = number;
   last = last;
   plan = plan;
-  index = makes.made.index;
+  index = made.index;
   c = c;
-  spells = makes.made.spells;
+  spells = made.spells;
 }
 
 -- One update was made.
-pub one_made : (keys : List SecretData) (schema : SchemaData) (made : List (List ℕ)) (place number : ℕ) (last : Option UpdateId) (ops : List Op) (c : List ℕ) (id : UpdateId) (old new : Author)
-    → AreOpsOf place number last ops → IsSite keys schema made old → new.key.secret ≡ old.key.secret → Makes is_luhn old.store.history old.key.secret old.key.taken ops c id new.store.history
-    → AddsOne keys (λ more. IsSite keys schema (made ++ more) new)
-one_made keys schema made place number last ops c id old new plan site key makes = record {
-  more = makes.bytes ∷ [];
-  few = omega arith;
-  by_keys = All-cons (IsBy keys) makes.bytes [] (by_made keys old.key.secret place number last ops old.store.history old.key.taken c id new.store.history site.key plan makes) (All-nil (IsBy keys));
-  so = record {
-    key = subst (Contains keys) (sym key) site.key;
-    schema_is = ap (λ (h : HistoryData). h.schema) makes.last ∙ site.schema_is;
-    of = subst (λ (h : HistoryData). All (Contains (made ++ makes.bytes ∷ [])) h.members) (sym makes.last) (each_in (Contains (made ++ makes.bytes ∷ [])) (old.store.history.members ++ makes.bytes ∷ []) here);
-    valid = λ apart. subst (λ (h : HistoryData). AreValid (rules_with is_luhn schema.tables) (nodes_of h.members)) (sym makes.last)
-        (one_more_valid (rules_with is_luhn schema.tables) old.store.history.members makes.bytes (site.valid (fewer_apart made (makes.bytes ∷ []) apart))
-        (subst (λ (s : SchemaData). (judge_next (rules_with is_luhn s.tables) (judged (rules_with is_luhn s.tables) (nodes_of old.store.history.members)) (node_of makes.bytes)).verdict ≡ Valid) site.schema_is makes.valid));
-  };
+pub site_made : (keys : List SecretData) (schema : SchemaData) (made : List (List ℕ)) (ops : List Op) (c : List ℕ) (id : UpdateId) (old new : Author) → IsSite keys schema made old → new.key.secret ≡ old.key.secret
+    → (makes : Makes is_luhn old.store.history old.key.secret old.key.taken ops c id new.store.history) → IsSite keys schema (made ++ makes.bytes ∷ []) new
+site_made keys schema made ops c id old new site key makes = record {
+  key = subst (Contains keys) (sym key) site.key;
+  schema_is = ap (λ (h : HistoryData). h.schema) makes.last ∙ site.schema_is;
+  of = subst (λ (h : HistoryData). All (Contains (made ++ makes.bytes ∷ [])) h.members) (sym makes.last) (each_in (Contains (made ++ makes.bytes ∷ [])) (old.store.history.members ++ makes.bytes ∷ []) here);
+  valid = λ apart. subst (λ (h : HistoryData). AreValid (rules_with is_luhn schema.tables) (nodes_of h.members)) (sym makes.last)
+      (one_more_valid (rules_with is_luhn schema.tables) old.store.history.members makes.bytes (site.valid (fewer_apart made (makes.bytes ∷ []) apart))
+      (subst (λ (s : SchemaData). (judge_next (rules_with is_luhn s.tables) (judged (rules_with is_luhn s.tables) (nodes_of old.store.history.members)) (node_of makes.bytes)).verdict ≡ Valid) site.schema_is makes.valid));
 }
   where
     here : (m : List ℕ) → Contains (old.store.history.members ++ makes.bytes ∷ []) m → Contains (made ++ makes.bytes ∷ []) m
@@ -175,41 +165,15 @@ draws_more n random = let more : n + 1 ≡ suc n = omega arith in ap (λ (k : �
 
 -- one more author was created
 pub one_fresh : (text : List ℕ) (first random : Stream) (n : ℕ) (authors : List Author) (author : Author) → n < 4 → random ≡ draws n first → All (IsFresh text (drawn_from first)) authors
-    → author.key.secret ≡ drawn_key H10 W4 random → TakesSchema is_luhn text author.store.history.schema → author.store.history.members ≡ []
+    → author.key.secret ≡ drawn_key H10 W4 random → TakesSchema is_luhn text author.store.history.schema → author.store.history.members ≡ [] → author.key.taken ≡ replicate 1024 false → author.last ≡ None
     → All (IsFresh text (drawn_from first)) (authors ++ author ∷ [])
-one_fresh text first random n authors author low at before key taken empty = All-push (IsFresh text (drawn_from first)) authors author before (record {
+one_fresh text first random n authors author low at before key taken empty unused nothing = All-push (IsFresh text (drawn_from first)) authors author before (record {
   key = subst (Contains (drawn_from first)) (sym (key ∙ ap (λ (r : Stream). drawn_key H10 W4 r) at)) (drawn_at first n low);
   taken = taken;
   empty = empty;
+  unused = unused;
+  nothing = nothing;
 })
-
--- All are of the schema of the first one.
-pub all_fresh : (text : List ℕ) (keys : List SecretData) (authors : List Author)
-    → ((relation : Meaning) (text : List ℕ) (schema other : SchemaData) → Declares relation text schema → Declares relation text other → schema ≡ other)
-    → length authors ≡ 4 → All (IsFresh text keys) authors → IsCourse keys 0 authors
-all_fresh text keys [] one four fresh = absurd (omega arith)
-all_fresh text keys (a ∷ authors) one four fresh = record {
-  schema = a.store.history.schema;
-  made = [];
-  few = omega arith;
-  by_keys = All-nil (IsBy keys);
-  sites = All-weaker (IsFresh text keys) (IsSite keys a.store.history.schema [])
-      (λ author f. new_site keys a.store.history.schema author f.key
-      (one is_luhn text author.store.history.schema a.store.history.schema f.taken.declares (All-head (IsFresh text keys) a authors fresh).taken.declares) f.empty) (a ∷ authors) fresh;
-}
-
--- ---- a step
-
--- one of the authors made an update, or none
-pub step_made : (keys : List SecretData) (count i : ℕ) (authors : List Author) (new : Author) → (course : IsCourse keys count authors)
-    → AddsOne keys (λ more. IsSite keys course.schema (course.made ++ more) new) → IsCourse keys (count + 1) (set authors i new)
-step_made keys count i authors new course adds = record {
-  schema = course.schema;
-  made = course.made ++ adds.more;
-  few = (let whole = length-append course.made adds.more in let before = course.few in let now = adds.few in omega arith);
-  by_keys = All-append (IsBy keys) course.made adds.more course.by_keys adds.by_keys;
-  sites = All-set (IsSite keys course.schema (course.made ++ adds.more)) authors i new adds.so (all_still keys course.schema course.made adds.more authors course.sites);
-}
 
 -- ---- a meeting
 
@@ -221,30 +185,6 @@ in_front P authors front back i d parts low all =
 pub in_back : (P : Author → Type 0) (authors front back : List Author) (i : ℕ) (d : Author) → authors ≡ front ++ back → i < length back → All P authors → P (slice_index_or back i d)
 in_back P authors front back i d parts low all =
     All-weaker (Contains back) P (λ author c. All-contains P (front ++ back) author (subst (All P) parts all) (Contains-append_right front back author c)) back (All-contains_itself back) i d low
-
--- two authors met, who stand in two parts of a list
-pub met : (keys : List SecretData) (count : ℕ) (authors front back : List Author) (i j : ℕ) (one other : Author) → (course : IsCourse keys count authors) → authors ≡ front ++ back
-    → IsSite keys course.schema course.made one → IsSite keys course.schema course.made other → IsCourse keys count (set front i one ++ set back j other)
-met keys count authors front back i j one other course parts site_one site_other = record {
-  schema = course.schema;
-  made = course.made;
-  few = course.few;
-  by_keys = course.by_keys;
-  sites = All-append P (set front i one) (set back j other) (All-set P front i one site_one (All-weaker (Contains front) P (λ author c. from_front author c) front (All-contains_itself front)))
-      (All-set P back j other site_other (All-weaker (Contains back) P (λ author c. from_back author c) back (All-contains_itself back)));
-}
-  where
-    P : Author → Type 0
-    P author = IsSite keys course.schema course.made author
-
-    all : All P (front ++ back)
-    all = subst (All P) parts course.sites
-
-    from_front : (author : Author) → Contains front author → P author
-    from_front author c = All-contains P (front ++ back) author all (Contains-append_left front back author c)
-
-    from_back : (author : Author) → Contains back author → P author
-    from_back author c = All-contains P (front ++ back) author all (Contains-append_right front back author c)
 
 -- ---- answers
 

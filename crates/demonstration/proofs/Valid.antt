@@ -24,7 +24,7 @@ use Rattle.update_model.specs.Entry.{Entry, same_id}
 use Rattle.update_model.specs.Graph.{Follows}
 use Rattle.update_model.specs.Node.{NodeData}
 use Rattle.update_model.proofs.Ids.{id_from_same, same_id-refl}
-use Rattle.demonstration.specs.Demos.{AreValid}
+use Rattle.demonstration_laws.specs.Chains.{AreValid}
 
 -- ---- what each judged node of a list is
 
@@ -87,7 +87,7 @@ valid_within rules ys zs here there agree valid =
 
 -- ---- members
 
-nodes_are : (members : List (List ℕ)) → AreNodesOf (map entry_of members) (map node_of members)
+pub nodes_are : (members : List (List ℕ)) → AreNodesOf (map entry_of members) (map node_of members)
 nodes_are [] = tt
 nodes_are (m ∷ ms) = (refl, refl, nodes_are ms)
 

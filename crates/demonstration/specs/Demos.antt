@@ -1,9 +1,10 @@
 -- What a demonstration comes to.
-use Rattle.std.specs.Prelude.{◌≡◌, ◌≤◌, ℕ, List, [], ◌∷◌, All, Contains, Option, length, map}
-use Rattle.std.specs.List.{AllByRecursion}
+use Rattle.std.specs.Prelude.{◌≡◌, ◌+◌, ◌*◌, ◌≤◌, ℕ, List, [], ◌∷◌, All, Contains, Option, length, map}
 use Rattle.confluence_test.specs.Taking.{TakesSchema}
 use Rattle.demonstration.specs.declared.counts.DemoCounts.{DemoCounts}
-use Rattle.demonstration.specs.Plans.{AreOpsOf}
+use Rattle.demonstration_course.specs.Courses.{turns_of}
+use Rattle.demonstration_laws.specs.Chains.{lists_left}
+use Rattle.demonstration_laws.specs.Plans.{AreOpsOf}
 use Rattle.history.specs.Histories.{HistoryData, IsHistory, nodes_of}
 use Rattle.key_index.specs.Creating.{after_draw, drawn_key}
 use Rattle.lm_ots.specs.declared.ots_type.OtsType.TheVariants.{W4}
@@ -17,10 +18,8 @@ use Rattle.row_check.specs.Checksum.{is_luhn}
 use Rattle.schema.specs.Data.{Meaning}
 use Rattle.session_rules.specs.Laws.{NoCollision}
 use Rattle.table_model.specs.Tables.{AreRowsIn, AreVoidsIn}
-use Rattle.table_model.specs.Verdicts.{judged}
-use Rattle.table_model.specs.Visible.{Rules, rules_with}
+use Rattle.table_model.specs.Visible.{rules_with}
 use Rattle.table_model.specs.declared.shown_row.ShownRow.{ShownRow}
-use Rattle.table_model.specs.declared.verdict.Verdict.TheVariants.{Valid}
 use Rattle.table_model.specs.declared.void_line.VoidLine.{VoidLine}
 use Rattle.update_codec.specs.Parts.{entry_of}
 use Rattle.update_codec.specs.Spelling.{Spells}
@@ -52,10 +51,6 @@ pub record AreCountsOf (ask : Meaning) (history : HistoryData) (counts : DemoCou
 abbrev pub IsCounted : Meaning → DemoCounts → Type 0
 IsCounted ask counts = (history : HistoryData) × AreCountsOf ask history counts
 
--- each update of the list is valid
-abbrev pub AreValid : Rules → List NodeData → Type 0
-AreValid rules nodes = AllByRecursion (λ j. j.verdict ≡ Valid) (judged rules nodes)
-
 -- ---- the updates that are made
 
 -- the keys that four authors draw, one after the other
@@ -86,15 +81,22 @@ pub record IsBy (keys : List SecretData) (bytes : List ℕ) : Type 0 where
   pub c : List ℕ
   pub spells : Spells bytes (update_by secret index c body)
 
--- This is so of one more update by these keys, or of none.
-pub record AddsOne (keys : List SecretData) (P : List (List ℕ) → Type 0) : Type 0 where
-  pub more : List (List ℕ)
-  pub few : length more ≤ 1
-  pub by_keys : All (IsBy keys) more
-  pub so : P more
+-- ---- the counts
+
+-- how many lists four authors leave that make so many updates by turns
+abbrev pub all_left : ℕ → ℕ
+all_left count = lists_left (turns_of count 0) + lists_left (turns_of count 1) + lists_left (turns_of count 2) + lists_left (turns_of count 3)
+
+-- So many updates, of which the four last made are heads, as many lists as the authors leave, two tasks in each, and none that does nothing.
+pub record AreAsPlanned (count : ℕ) (counts : DemoCounts) : Type 0 where
+  pub updates : counts.updates ≡ count
+  pub heads : counts.heads ≡ 4
+  pub lists : counts.lists ≡ all_left count
+  pub tasks : counts.tasks ≡ 2 * all_left count
+  pub voids : counts.voids ≡ 0
 
 -- The counts are those of a closed list of updates, each of which is one of those that were made by the keys of this number: so many at most. Where no two of these
--- share an id, none is void.
+-- share an id, none is void; and of 4 to 4,000 the counts are those that the plan leaves, which the number does not move.
 pub record IsDemo (number count : ℕ) (counts : DemoCounts) : Type 0 where
   pub history : HistoryData
   pub counted : AreCountsOf is_luhn history counts
@@ -104,3 +106,4 @@ pub record IsDemo (number count : ℕ) (counts : DemoCounts) : Type 0 where
   pub of : All (Contains made) history.members
   pub no_more : counts.updates ≤ length made
   pub none_void : NoCollision (map entry_of made) (map entry_of made) → counts.voids ≡ 0
+  pub planned : 4 ≤ count → count ≤ 4000 → NoCollision (map entry_of made) (map entry_of made) → AreAsPlanned count counts

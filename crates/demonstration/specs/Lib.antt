@@ -1,3 +1,2 @@
 pub mod Demos
-pub mod Plans
 pub mod Sites

@@ -1,20 +1,16 @@
 //! The authors of a demonstration.
 
-ghost use Rattle.std.specs.Prelude.{◌≡◌, ◌≤◌, ◌++◌, [], ℕ, List, Option, IfOk, OnOk, length};
+ghost use Rattle.std.specs.Prelude.{◌≡◌, ◌≤◌, [], false, None, IfOk, OnOk, length, replicate};
 ghost use Rattle.confluence_test.specs.Taking.{TakesSchema};
-ghost use Rattle.demonstration.specs.Demos.{AddsOne};
-ghost use Rattle.demonstration.specs.Plans.{AreOpsOf};
-ghost use Rattle.demonstration.specs.Sites.{IsSite};
+ghost use Rattle.demonstration.specs.Sites.{HasLengths, IsRefusal, MakesOrNot};
+ghost use Rattle.demonstration_laws.specs.Tables.{demo_text};
 ghost use Rattle.key_index.specs.Creating.{after_draw, drawn_key};
 ghost use Rattle.lm_ots.specs.declared.ots_type.OtsType.TheVariants.{W4};
-ghost use Rattle.lms_tree.specs.SecretKey.{SecretData};
 ghost use Rattle.lms_tree.specs.declared.lms_type.LmsType.TheVariants.{H10};
 ghost use Rattle.numbered_words.specs.Numbered.{word_steps};
 ghost use Rattle.rand_core.specs.Steps.{stream_of};
 ghost use Rattle.row_check.specs.Checksum.{is_luhn};
-ghost use Rattle.schema.specs.Data.{SchemaData};
 ghost use Rattle.update_model.specs.Rows.{AreOps};
-ghost use Rattle.update_model.specs.declared.update_id.UpdateId.{UpdateId as UpdateIdData};
 
 use bec_disk::MemDisk;
 use key_index::KeyStore;
@@ -28,7 +24,9 @@ use std::alloc::{AllocError, Global};
 use update_model::{OpList, UpdateId};
 
 /// The text of the schema of a demonstration: lists, and tasks in them.
-pub(crate) fn declared_text() -> &'static [u8] {
+pub(crate) fn declared_text() -> &'static [u8]
+    ensures { result.now ≡ demo_text }
+{
     b"DATABASE tasks
 TABLE list DELETABLE
 COLUMN title TEXT 1 40
@@ -68,6 +66,8 @@ impl Author {
         ensures key { IfOk result (λ author. author.key.secret ≡ drawn_key H10 W4 (stream_of word_steps words.old)) }
         ensures drawn { OnOk result (stream_of word_steps words.new ≡ after_draw (stream_of word_steps words.old)) }
         ensures empty { IfOk result (λ author. author.store.history.members ≡ []) }
+        ensures unused { IfOk result (λ author. author.key.taken ≡ replicate 1024 false) }
+        ensures nothing { IfOk result (λ author. author.last ≡ None) }
     {
         let key = draw_key(alloc, words)?;
         let mut schema = MemDisk::new(alloc);
@@ -85,6 +85,14 @@ impl Author {
         }
     }
 
+    /// The lengths of its key and of the id of its database, which their types keep.
+    pub fn lengths(&self)
+        ensures { HasLengths self.now }
+    {
+        let _key = self.key.public();
+        let _database = self.store.schema().rule().database;
+    }
+
     /// Makes an update of these operations. The random bytes of its signature are the next words.
     ///
     /// The one error is want of memory, of a disk too. Where the update is refused, as with digests that collide or a
@@ -92,8 +100,7 @@ impl Author {
     pub fn make(&mut self, alloc: Global, ops: OpList, words: &mut Words) -> Result<(), AllocError>
         requires few { length ops ≤ 3 }
         requires form { AreOps 0 ops }
-        ensures { (keys : List SecretData) (schema : SchemaData) (made : List (List ℕ)) (author number : ℕ) (last : Option UpdateIdData) → AreOpsOf author number last ops
-            → IsSite keys schema made self.old → OnOk result (AddsOne keys (λ more. IsSite keys schema (made ++ more) self.new)) }
+        ensures { OnOk result (MakesOrNot self.old ops self.new) }
     {
         let mut c = [0; 32];
         words.fill_bytes(&mut c);
@@ -108,7 +115,9 @@ impl Author {
 }
 
 /// What a refusal is to a demonstration: an error where memory ran out, or a disk did, and else nothing.
-fn passed_over(why: MakeFault) -> Result<(), AllocError> {
+fn passed_over(why: MakeFault) -> Result<(), AllocError>
+    ensures { OnOk result (IsRefusal why) }
+{
     match why {
         MakeFault::Memory | MakeFault::DiskFault(_) => Err(AllocError),
         _ => Ok(()),
@@ -119,6 +128,7 @@ fn passed_over(why: MakeFault) -> Result<(), AllocError> {
 fn draw_key(alloc: Global, words: &mut Words) -> Result<KeyStore<MemDisk>, AllocError>
     ensures key { IfOk result (λ key. key.secret ≡ drawn_key H10 W4 (stream_of word_steps words.old)) }
     ensures drawn { OnOk result (stream_of word_steps words.new ≡ after_draw (stream_of word_steps words.old)) }
+    ensures unused { IfOk result (λ key. key.taken ≡ replicate 1024 false) }
 {
     let key = MemDisk::new(alloc);
     let used = MemDisk::new(alloc);

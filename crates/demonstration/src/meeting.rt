@@ -1,7 +1,7 @@
 //! Two authors meet.
 
-ghost use Rattle.std.specs.Prelude.{◌≡◌, ◌≢◌, ◌<◌, ℕ, List, OnOk, length};
-ghost use Rattle.demonstration.specs.Sites.{IsCourse, IsSite};
+ghost use Rattle.std.specs.Prelude.{◌≡◌, ◌≢◌, ◌+◌, ◌<◌, ℕ, List, OnOk, length};
+ghost use Rattle.demonstration.specs.Sites.{IsCourse, IsSite, MeetsWith, steps};
 ghost use Rattle.lms_tree.specs.SecretKey.{SecretData};
 ghost use Rattle.schema.specs.Data.{SchemaData};
 
@@ -18,11 +18,13 @@ pub(crate) fn meet(
     first: usize,
     second: usize,
 ) -> Result<(), AllocError>
-    requires first { first < length authors.old }
-    requires second { second < length authors.old }
+    requires four { length authors.old ≡ 4 }
+    requires first { first < 4 }
+    requires second { second < 4 }
     requires differ { first ≢ second }
-    ensures many { length authors.new ≡ length authors.old }
-    ensures course { (keys : List SecretData) (count : ℕ) → IsCourse keys count authors.old → OnOk result (IsCourse keys count authors.new) }
+    ensures four { length authors.new ≡ 4 }
+    ensures course { (keys : List SecretData) (count since met reach : ℕ) → IsCourse keys (steps count since met reach) authors.old → OnOk result (IsCourse keys (steps count since count reach) authors.new) }
+    ensures reaches { (keys : List SecretData) (count since met : ℕ) → first ≡ 0 → IsCourse keys (steps count since met second) authors.old → OnOk result (IsCourse keys (steps count since count (second + 1)) authors.new) }
 {
     if first < second {
         let (front, back) = authors.split_at_mut(second);
@@ -38,6 +40,7 @@ pub(crate) fn meet(
 fn sync(alloc: Global, one: &mut Author, other: &mut Author) -> Result<(), AllocError>
     ensures one { (keys : List SecretData) (schema : SchemaData) (made : List (List ℕ)) → IsSite keys schema made one.old → IsSite keys schema made other.old → OnOk result (IsSite keys schema made one.new) }
     ensures other { (keys : List SecretData) (schema : SchemaData) (made : List (List ℕ)) → IsSite keys schema made one.old → IsSite keys schema made other.old → OnOk result (IsSite keys schema made other.new) }
+    ensures meets { OnOk result (MeetsWith one.old other.old one.new other.new) }
 {
     one.store.len(); // what every replica keeps
     other.store.len(); // the same
@@ -53,7 +56,10 @@ fn sync(alloc: Global, one: &mut Author, other: &mut Author) -> Result<(), Alloc
     let ended = sync_pair(alloc, &mut one.store, &mut other.store, start)?;
     one.store.len(); // what every replica keeps
     other.store.len(); // the same
-    if matches!(ended.a, End::Store) || one.store.starved() || other.store.starved() {
+    if let End::Store = ended.a {
+        return Err(AllocError);
+    }
+    if one.store.starved() || other.store.starved() {
         return Err(AllocError);
     }
     Ok(())

@@ -1,7 +1,8 @@
 //! The operations of the updates of a demonstration.
 
-ghost use Rattle.std.specs.Prelude.{◌≡◌, ◌<◌, ◌≤◌, ◌%◌, ◌∷◌, [], ℕ, None, IfOk, length, string_bytes};
-ghost use Rattle.demonstration.specs.Plans.{AreOpsOf, task_insert};
+ghost use Rattle.update_model.specs.declared.update_id.UpdateId.{UpdateId as Id};
+ghost use Rattle.std.specs.Prelude.{Option, ◌≡◌, ◌<◌, ◌≤◌, ◌%◌, ◌∷◌, [], ℕ, None, IfOk, length, string_bytes};
+ghost use Rattle.demonstration_laws.specs.Plans.{AreOpsOf, task_insert};
 ghost use Rattle.update_model.specs.declared.limits.TheConstants.{MAX_TEXT};
 ghost use Rattle.update_model.specs.declared.op.Op.TheVariants.{Delete as Deletes};
 ghost use Rattle.update_model.specs.declared.value.Value.TheVariants.{Text as TextOf};
@@ -25,9 +26,13 @@ pub(crate) fn operations_of(
     ensures few { IfOk result (λ ops. length ops ≤ 3) }
     ensures form { IfOk result (λ ops. AreOps 0 ops) }
 {
-    match last {
-        Some(update) if number % 5 == 4 => deleting(alloc, update),
-        _ => inserting(alloc, author, number, words),
+    let Some(update) = last else {
+        return inserting(alloc, author, number, words);
+    };
+    if number % 5 == 4 {
+        deleting(alloc, update)
+    } else {
+        inserting(alloc, author, number, words)
     }
 }
 
@@ -47,7 +52,7 @@ fn inserting(
     number: u32,
     words: &mut Words,
 ) -> Result<OpList, AllocError>
-    ensures plan { IfOk result (λ ops. AreOpsOf author number None ops) }
+    ensures plan { IfOk result (λ ops. (last : Option Id) → (number % 5 ≡ 4 → last ≡ None) → AreOpsOf author number last ops) }
     ensures few { IfOk result (λ ops. length ops ≤ 3) }
     ensures form { IfOk result (λ ops. AreOps 0 ops) }
 {

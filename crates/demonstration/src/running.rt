@@ -1,8 +1,8 @@
 //! The run of a demonstration.
 
-ghost use Rattle.std.specs.Prelude.{◌≡◌, ◌+◌, ℕ, List, IfOk, OnOk, length};
+ghost use Rattle.std.specs.Prelude.{◌≡◌, ◌+◌, ◌-◌, ◌<◌, ℕ, List, IfOk, OnOk, length};
 ghost use Rattle.demonstration.specs.Demos.{IsCounted, IsDemo, drawn_from, keys_of};
-ghost use Rattle.demonstration.specs.Sites.{IsCourse};
+ghost use Rattle.demonstration.specs.Sites.{IsCourse, steps};
 ghost use Rattle.lms_tree.specs.SecretKey.{SecretData};
 ghost use Rattle.numbered_words.specs.Numbered.{word_steps};
 ghost use Rattle.rand_core.specs.Steps.{stream_of};
@@ -12,9 +12,11 @@ use crate::author::{Author, declared_text};
 use crate::counts::{DemoCounts, counts_of};
 use crate::meeting::meet;
 use crate::operations::operations_of;
+use demonstration_laws::{heads_follow_all, planned_is_valid, planned_rows, text_declares_tables};
 use numbered_words::Words;
 use schema_text::one_schema;
 use std::alloc::{AllocError, Global};
+use update_codec::fields_of_spelling;
 
 /// How many authors there are.
 const AUTHORS: u32 = 4;
@@ -42,8 +44,9 @@ pub fn demonstrate(alloc: Global, number: u64, count: u32) -> Result<DemoCounts,
 fn ended(alloc: Global, authors: &mut [Author]) -> Result<DemoCounts, AllocError>
     requires { length authors.old ≡ 4 }
     ensures counted { IfOk result (λ counts. IsCounted is_luhn counts) }
-    ensures made { (number count : ℕ) → IsCourse (keys_of number) count authors.old → IfOk result (λ counts. IsDemo number count counts) }
+    ensures made { (number count : ℕ) → IsCourse (keys_of number) (steps count (count - 4) (count - 4) 0) authors.old → IfOk result (λ counts. IsDemo number count counts) }
 {
+    planned_rows();
     meet_all(alloc, authors)?;
     meet_all(alloc, authors)?;
     counts_of(alloc, &authors[0])
@@ -52,9 +55,10 @@ fn ended(alloc: Global, authors: &mut [Author]) -> Result<DemoCounts, AllocError
 /// The four authors, who have made nothing.
 fn begun(alloc: Global, words: &mut Words) -> Result<Vec<Author>, AllocError>
     ensures four { IfOk result (λ authors. length authors.items ≡ 4) }
-    ensures course { IfOk result (λ authors. IsCourse (drawn_from (stream_of word_steps words.old)) 0 authors.items) }
+    ensures course { IfOk result (λ authors. IsCourse (drawn_from (stream_of word_steps words.old)) (steps 0 0 0 0) authors.items) }
 {
     one_schema();
+    text_declares_tables();
     let text = declared_text();
     let mut authors = Vec::new(alloc);
     'authors: for number in 0..AUTHORS {
@@ -75,11 +79,16 @@ fn make_one(
 ) -> Result<(), AllocError>
     requires { length authors.old ≡ 4 }
     ensures four { length authors.new ≡ 4 }
-    ensures course { (keys : List SecretData) (count : ℕ) → IsCourse keys count authors.old → OnOk result (IsCourse keys (count + 1) authors.new) }
+    ensures course { (keys : List SecretData) (since : ℕ) → k < since + 4 → IsCourse keys (steps k since since 0) authors.old → OnOk result (IsCourse keys (steps (k + 1) since since 0) authors.new) }
 {
+    heads_follow_all();
+    planned_is_valid();
+    fields_of_spelling();
     let author = k % AUTHORS;
     let one = &mut authors[author as usize];
     let ops = operations_of(alloc, author, k / AUTHORS, one.last, words)?;
+    one.store.len(); // what every replica keeps
+    one.lengths(); // what its types keep
     one.make(alloc, ops, words)
 }
 
@@ -91,7 +100,7 @@ fn meet_by_chance(
 ) -> Result<(), AllocError>
     requires { length authors.old ≡ 4 }
     ensures four { length authors.new ≡ 4 }
-    ensures course { (keys : List SecretData) (count : ℕ) → IsCourse keys count authors.old → OnOk result (IsCourse keys count authors.new) }
+    ensures course { (keys : List SecretData) (count since met : ℕ) → IsCourse keys (steps count since met 0) authors.old → OnOk result (IsCourse keys (steps count count count 0) authors.new) }
 {
     let word = words.word();
     if word % 4 != 0 {
@@ -106,7 +115,7 @@ fn meet_by_chance(
 fn meet_all(alloc: Global, authors: &mut [Author]) -> Result<(), AllocError>
     requires { length authors.old ≡ 4 }
     ensures four { length authors.new ≡ 4 }
-    ensures course { (keys : List SecretData) (count : ℕ) → IsCourse keys count authors.old → OnOk result (IsCourse keys count authors.new) }
+    ensures course { (keys : List SecretData) (count since met : ℕ) → IsCourse keys (steps count since met 0) authors.old → OnOk result (IsCourse keys (steps count since count 4) authors.new) }
 {
     meet(alloc, authors, 0, 1)?;
     meet(alloc, authors, 0, 2)?;

@@ -5,7 +5,7 @@ use Rattle.update_model.specs.Rows.{AreOps}
 use Rattle.update_model.specs.declared.op.Op.TheVariants.{Insert}
 use Rattle.update_model.specs.declared.value.Value.{Value}
 use Rattle.update_model.specs.declared.value.Value.TheVariants.{Int, Text}
-use Rattle.demonstration.specs.Plans.{inserts, list_insert, list_title, task_insert, task_title}
+use Rattle.demonstration_laws.specs.Plans.{inserts, list_insert, list_title, task_insert, task_title}
 use Rattle.demonstration.proofs.Plans.{inserts_form, short_list_title, short_task_title}
 use Rattle.demonstration.proofs.operations.inserting.Goals as goal
 
@@ -27,7 +27,7 @@ returns-clause-plan c =
     let two = c.in_ok-second.ensures in
     let first : c.in_ok-first.first ≡ task_insert (task_title c.args.author c.args.number 0) one.0 = one.2 ∙ ap (λ (b : List _). task_insert b one.0) c.in_ok-format-2.ensures.ok in
     let second : c.in_ok-second.second ≡ task_insert (task_title c.args.author c.args.number 1) two.0 = two.2 ∙ ap (λ (b : List _). task_insert b two.0) c.in_ok-format-3.ensures.ok in
-    inserts one.0 two.0 one.1 two.1 (c.from_vec-2.ensures ∙ c.in_ok-vec-2.ensures.items ∙ (λ i. Insert 0 (values i) ∷ first i ∷ second i ∷ []))
+    λ last fifth. inserts one.0 two.0 one.1 two.1 fifth (c.from_vec-2.ensures ∙ c.in_ok-vec-2.ensures.items ∙ (λ i. Insert 0 (values i) ∷ first i ∷ second i ∷ []))
 
 pub returns-clause-form : goal.returns-clause-form
 returns-clause-form c =

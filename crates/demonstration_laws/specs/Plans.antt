@@ -1,5 +1,5 @@
 -- What the updates of a demonstration do.
-use Rattle.std.specs.Prelude.{◌≡◌, ◌+◌, ◌<◌, ◌%◌, ℕ, pos, List, [], ◌∷◌, ◌++◌, Option, Some, decimal}
+use Rattle.std.specs.Prelude.{◌≡◌, ◌+◌, ◌<◌, ◌%◌, ℕ, pos, List, [], ◌∷◌, ◌++◌, Option, Some, None, decimal}
 use Rattle.update_model.specs.declared.op.Op.{Op}
 use Rattle.update_model.specs.declared.op.Op.TheVariants.{Delete, Insert}
 use Rattle.update_model.specs.declared.update_id.UpdateId.{UpdateId}
@@ -25,6 +25,6 @@ task_insert title prio = Insert 1 (Text title ∷ Int (pos prio) ∷ Null ∷ Ow
 -- one does; or it inserts a list and two tasks in it.
 pub data AreOpsOf (author number : ℕ) (last : Option UpdateId) (ops : List Op) : Type 0 where
   deletes : (update : UpdateId) → last ≡ Some update → number % 5 ≡ 4 → ops ≡ Delete (record { update = update; index = 0 }) ∷ [] → AreOpsOf author number last ops
-  inserts : (first second : ℕ) → first < 9 → second < 9
+  inserts : (first second : ℕ) → first < 9 → second < 9 → (number % 5 ≡ 4 → last ≡ None)
       → ops ≡ list_insert (list_title author number) ∷ task_insert (task_title author number 0) first ∷ task_insert (task_title author number 1) second ∷ []
       → AreOpsOf author number last ops
