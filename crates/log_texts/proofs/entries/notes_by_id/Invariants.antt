@@ -4,7 +4,7 @@ use Rattle.std.specs.Option.{option_copied}
 use Rattle.update_model.specs.declared.update_id.UpdateId.{UpdateId}
 use Rattle.update_model.specs.Entry.{id_cmp}
 use Rattle.graph_drawing.specs.Boxes.{note_of}
-use Rattle.graph_drawing.proofs.logs.notes_by_id.Given as goal
+use Rattle.log_texts.proofs.entries.notes_by_id.Given as goal
 
 -- the notes from here on
 abbrev pub invariant-loop-position : goal.invariant-loop-position

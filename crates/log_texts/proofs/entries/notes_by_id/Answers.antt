@@ -1,5 +1,5 @@
-use Rattle.graph_drawing.proofs.Marks.{notes_next}
-use Rattle.graph_drawing.proofs.logs.notes_by_id.Goals as goal
+use Rattle.log_texts.proofs.Marks.{notes_next}
+use Rattle.log_texts.proofs.entries.notes_by_id.Goals as goal
 
 pub loop-position-preserved : goal.loop-position-preserved
 loop-position-preserved c =

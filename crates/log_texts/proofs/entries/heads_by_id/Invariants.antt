@@ -4,7 +4,7 @@ use Rattle.std.specs.Option.{is_some}
 use Rattle.update_model.specs.declared.update_id.UpdateId.{UpdateId}
 use Rattle.update_model.specs.Entry.{id_cmp}
 use Rattle.graph_drawing.specs.Boxes.{is_head}
-use Rattle.graph_drawing.proofs.logs.heads_by_id.Given as goal
+use Rattle.log_texts.proofs.entries.heads_by_id.Given as goal
 
 -- the heads from here on
 abbrev pub invariant-loop-position : goal.invariant-loop-position

@@ -1,6 +1,6 @@
 use Rattle.std.proofs.Common.{[]}
-use Rattle.graph_drawing.proofs.Marks.{heads_next}
-use Rattle.graph_drawing.proofs.logs.heads_by_id.Goals as goal
+use Rattle.log_texts.proofs.Marks.{heads_next}
+use Rattle.log_texts.proofs.entries.heads_by_id.Goals as goal
 
 pub loop-position-preserved : goal.loop-position-preserved
 loop-position-preserved c =

@@ -1,0 +1,7 @@
+pub mod Differing
+pub mod Digits
+pub mod Entries
+pub mod Finding
+pub mod Json
+pub mod Lines
+pub mod Logs
