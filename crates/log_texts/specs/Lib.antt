@@ -1,4 +1,3 @@
-pub mod Differing
 pub mod Digits
 pub mod Entries
 pub mod Finding

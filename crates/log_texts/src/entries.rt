@@ -60,10 +60,7 @@ pub(crate) fn ids_of(alloc: Global, entries: &[Entry]) -> Result<Vec<UpdateId>, 
 }
 
 /// The heads as a set of ids.
-pub(crate) fn heads_by_id(
-    alloc: Global,
-    heads: &[UpdateId],
-) -> Result<BTreeMap<UpdateId, ()>, AllocError>
+fn heads_by_id(alloc: Global, heads: &[UpdateId]) -> Result<BTreeMap<UpdateId, ()>, AllocError>
     ensures { IfOk result (λ known. (id : Id) → is_some (get id_cmp known id) ≡ is_head heads.now id) }
 {
     let mut known = BTreeMap::new(alloc);

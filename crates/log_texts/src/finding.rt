@@ -1,6 +1,6 @@
 //! One update of a log, and one row, each found by how its name begins.
 
-ghost use Rattle.std.specs.Prelude.{◌≡◌, ◌≤◌, ◌∷◌, ◌++◌, IfOk, OnOk, bytes_eq, length, option_copied, option_map, take};
+ghost use Rattle.std.specs.Prelude.{◌≡◌, ◌≤◌, ◌∷◌, ◌++◌, IfOk, OnOk, bytes_eq, filter, length, option_copied, option_map, take};
 ghost use Rattle.std.specs.Fmt.{decimal};
 ghost use Rattle.std.specs.List.{flat_map};
 ghost use Rattle.table_text.specs.Names.{id_text};
@@ -145,7 +145,13 @@ fn found_text(
 fn keep_named(word: &[u8], entries: &mut Vec<Entry>)
     ensures { entries.new.items ≡ named_so word.now entries.old.items }
 {
-    let digits = digits_in(word);
+    keep_so(digits_in(word), entries);
+}
+
+/// Leaves the entries whose ids begin with these digits.
+fn keep_so(digits: &[u8], entries: &mut Vec<Entry>)
+    ensures { entries.new.items ≡ filter (begins_so digits.now) entries.old.items }
+{
     entries.retain(|entry| begins_so(digits, entry));
 }
 
