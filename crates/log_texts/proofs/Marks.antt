@@ -1,16 +1,23 @@
 -- Maps that are filled from the end of a list.
-use Rattle.std.proofs.Common.{◌≡◌, Bor, ℕ, suc, ◌<◌, ◌≤◌, ◌-◌, Bool, true, false, cond, ◌||◌, List, ◌∷◌, length, drop, get_or, refl, sym, ◌∙◌, ap, arith, Some, option_map, find}
+use Rattle.std.proofs.Common.{◌≡◌, Bor, ℕ, suc, ◌<◌, ◌≤◌, ◌-◌, Bool, true, false, cond, ◌||◌, List, ◌∷◌, length, drop, get_or, refl, sym, ◌∙◌, ap, arith, Some, option_map, find, take, Vec}
+use Rattle.std.specs.declared.alloc.Global.{Global}
 use Rattle.std.specs.BTreeMap.{get, BTreeMap, Updates}
+use Rattle.std.specs.Cmp.Lexicographic.{slice_cmp}
+use Rattle.std.specs.List.{list_any}
+use Rattle.std.specs.declared.cmp.Ordering.{Ordering}
+use Rattle.std.specs.Ordering.{is_eq, nat_cmp}
 use Rattle.std.specs.Option.{is_some, option_copied}
 use Rattle.std.proofs.Math.Seq.{drop-cons}
 use Rattle.update_model.specs.declared.update_id.UpdateId.{UpdateId}
 use Rattle.update_model.specs.Entry.{id_cmp, same_id}
 use Rattle.table_model.specs.declared.void_line.VoidLine.{VoidLine}
 use Rattle.graph_drawing.specs.declared.note_line.NoteLine.{NoteLine}
+use Rattle.table_text.specs.Names.{id_text}
+use Rattle.log_texts.specs.Digits.{starts_as}
 use Rattle.graph_drawing.specs.Boxes.{is_head, note_of, reason_of}
 
 -- what is left of a list, one step further to its front
-from_before : {X : Type 0} (l : List X) (p : ℕ) (d : X) → 0 < p → p ≤ length l → drop (p - 1) l ≡ get_or l (p - 1) d ∷ drop p l
+pub from_before : {X : Type 0} (l : List X) (p : ℕ) (d : X) → 0 < p → p ≤ length l → drop (p - 1) l ≡ get_or l (p - 1) d ∷ drop p l
 from_before l p d some within =
     let low : p - 1 < length l = omega (arith, some, within) in
     let next : suc (p - 1) ≡ p = omega (arith, some) in
@@ -49,3 +56,19 @@ notes_next notes p line before after text some within at known updates is id =
     by : (b : Bool) → option_copied (cond b (Some text) (get id_cmp before id)) ≡ option_map (λ (found : NoteLine). found.text) (cond b (Some line) (find (λ (other : NoteLine). same_id other.id id) (drop p notes)))
     by true = ap Some is
     by false = known id
+
+-- the order of texts
+abbrev pub text_cmp : Vec ℕ Global → Vec ℕ Global → Ordering
+text_cmp a b = slice_cmp nat_cmp a.items b.items
+
+-- one more start of an id is known
+pub starts_next : (digits : ℕ) (ids : List UpdateId) (p : ℕ) (d : UpdateId) (before after : BTreeMap (Vec ℕ Global) (Unit {0})) (start : Vec ℕ Global) → 0 < p → p ≤ length ids
+    → start.items ≡ take digits (id_text (get_or ids (p - 1) d)) → ((text : Vec ℕ Global) → is_some (get text_cmp before text) ≡ list_any (starts_as digits text.items) (drop p ids)) → Updates text_cmp before after start (Some tt)
+    → (text : Vec ℕ Global) → is_some (get text_cmp after text) ≡ list_any (starts_as digits text.items) (drop (p - 1) ids)
+starts_next digits ids p d before after start some within is known updates text =
+    ap is_some (updates.0 text) ∙ by (is_eq (text_cmp start text)) ∙ (λ i. is_eq (slice_cmp nat_cmp (is i) text.items) || list_any (starts_as digits text.items) (drop p ids))
+    ∙ sym (ap (list_any (starts_as digits text.items)) (from_before ids p d some within))
+  where
+    by : (b : Bool) → is_some (cond b (Some tt) (get text_cmp before text)) ≡ (b || list_any (starts_as digits text.items) (drop p ids))
+    by true = refl
+    by false = known text

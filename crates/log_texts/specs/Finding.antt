@@ -12,14 +12,14 @@ use Rattle.log_texts.specs.declared.manner.Manner.{Manner}
 use Rattle.log_texts.specs.declared.manner.Manner.TheVariants.{Lines, Json}
 use Rattle.log_texts.specs.declared.style.Style.{Style}
 use Rattle.log_texts.specs.Entries.{id_of, ids_of}
-use Rattle.log_texts.specs.Json.{entry_json}
+use Rattle.log_texts.specs.Json.{update_json}
 use Rattle.log_texts.specs.Lines.{lines_text}
 use Rattle.log_texts.specs.Logs.{manner_of}
 
 -- one entry with this note and these operations
 abbrev pub found_in : Manner → List TableDef → Option (List ℕ) → List Op → Entry → List ℕ
 found_in (Lines names) tables note ops entry = lines_text names tables note ops entry
-found_in Json tables note ops entry = codes "{\"updates\":[" ++ (entry_json tables note ops entry ++ codes "]}\n")
+found_in Json tables note ops entry = update_json tables note ops entry
 
 -- the digits of a word, which may have two dots behind them
 abbrev pub digits_in : List ℕ → List ℕ
@@ -43,9 +43,12 @@ named_so word entries = filter (begins_so (digits_in word)) entries
 abbrev pub show_text : Style → List TableDef → List ℕ → List Entry → Option (List ℕ)
 show_text style tables word entries = option_map (λ entry. found_in (manner_of style (ids_of entries)) tables entry.note entry.placed.node.ops entry) (single (named_so word entries))
 
+abbrev pub is_colon : ℕ → Bool
+is_colon byte = byte == 58
+
 -- where the first colon of a word stands, or else its end
 abbrev pub colon_of : List ℕ → ℕ
-colon_of word = unwrap_or (position (λ byte. byte == 58) word) (length word)
+colon_of word = unwrap_or (position is_colon word) (length word)
 
 -- an operation, where it inserts a row
 abbrev pub inserting : Op → Option Op

@@ -43,14 +43,34 @@ note_json (Some text) = codes ",\"note\":\"" ++ (flat_map note_marked text ++ 34
 unfoldable pub operation_json : List TableDef → Op → List ℕ
 operation_json tables op = 34 ∷ (flat_map marked (operation_text tables Full op) ++ 34 ∷ [])
 
+-- the member of these operations
+unfoldable pub list_json : List TableDef → Op → List Op → List ℕ
+list_json tables op ops = operations_begin ++ (operation_json tables op ++ (flat_map (λ next. 44 ∷ operation_json tables next) ops ++ codes "]"))
+
 -- the member of operations, where there are any
 abbrev pub operations_json : List TableDef → List Op → List ℕ
 operations_json tables [] = []
-operations_json tables (op ∷ ops) = codes ",\"operations\":[" ++ (operation_json tables op ++ (flat_map (λ next. 44 ∷ operation_json tables next) ops ++ codes "]"))
+operations_json tables (op ∷ ops) = list_json tables op ops
+
+-- what begins texts
+unfoldable pub author_begin : List ℕ
+author_begin = codes "\",\"author\":\""
+
+unfoldable pub depth_begin : List ℕ
+depth_begin = codes "\",\"depth\":"
+
+unfoldable pub operations_begin : List ℕ
+operations_begin = codes ",\"operations\":["
+
+unfoldable pub updates_begin : List ℕ
+updates_begin = codes "{\"updates\":["
 
 -- the members that each entry has
+unfoldable pub names_json : Placed → List ℕ
+names_json placed = codes "{\"id\":\"" ++ (id_text placed.node.id ++ (author_begin ++ key_digits placed.node.author))
+
 unfoldable pub front_json : Placed → List ℕ
-front_json placed = codes "{\"id\":\"" ++ (id_text placed.node.id ++ (codes "\",\"author\":\"" ++ (key_digits placed.node.author ++ (codes "\",\"depth\":" ++ decimal placed.depth))))
+front_json placed = names_json placed ++ (depth_begin ++ decimal placed.depth)
 
 unfoldable pub marks_json : Entry → List ℕ
 marks_json entry = codes ",\"head\":" ++ (head_json entry.head ++ (codes ",\"void\":" ++ void_json entry.reason))
@@ -67,3 +87,11 @@ whole_json rows tables entry = entry_json tables entry.note (asked_ops rows entr
 abbrev pub entries_json : Bool → List TableDef → List Entry → List ℕ
 entries_json rows tables [] = []
 entries_json rows tables (entry ∷ entries) = whole_json rows tables entry ++ flat_map (λ next. 44 ∷ whole_json rows tables next) entries
+
+-- one object with these entries
+unfoldable pub updates_json : Bool → List TableDef → List Entry → List ℕ
+updates_json rows tables entries = updates_begin ++ (entries_json rows tables entries ++ codes "]}\n")
+
+-- one object with one entry, with this note and these operations
+unfoldable pub update_json : List TableDef → Option (List ℕ) → List Op → Entry → List ℕ
+update_json tables note ops entry = updates_begin ++ (entry_json tables note ops entry ++ codes "]}\n")

@@ -1,5 +1,5 @@
 -- The log of a graph, whole, with ids and keys cut, or as one JSON object.
-use Rattle.std.specs.Prelude.{◌≡◌, ℕ, Bool, List, ◌++◌, codes}
+use Rattle.std.specs.Prelude.{◌≡◌, ℕ, Bool, List}
 use Rattle.std.specs.List.{flat_map}
 use Rattle.update_model.specs.declared.update_id.UpdateId.{UpdateId}
 use Rattle.update_model.specs.Node.{NodeData}
@@ -13,7 +13,7 @@ use Rattle.log_texts.specs.declared.style.Style.{Style}
 use Rattle.log_texts.specs.declared.style.Style.TheVariants as styles
 use Rattle.log_texts.specs.Digits.{digits_of}
 use Rattle.log_texts.specs.Entries.{AreEntries, ids_of}
-use Rattle.log_texts.specs.Json.{entries_json}
+use Rattle.log_texts.specs.Json.{updates_json}
 use Rattle.log_texts.specs.Lines.{asked_ops, lines_text}
 
 -- how entries are written, where these are the ids of the whole log
@@ -25,7 +25,7 @@ manner_of styles.Json ids = Json
 -- all entries, with what the updates do or without
 abbrev pub log_in : Manner → Bool → List TableDef → List Entry → List ℕ
 log_in (Lines names) rows tables entries = flat_map (λ entry. lines_text names tables entry.note (asked_ops rows entry) entry) entries
-log_in Json rows tables entries = codes "{\"updates\":[" ++ (entries_json rows tables entries ++ codes "]}\n")
+log_in Json rows tables entries = updates_json rows tables entries
 
 -- the log of these entries
 abbrev pub log_text : Style → Bool → List TableDef → List Entry → List ℕ

@@ -124,7 +124,7 @@ fn marked(alloc: Global, marks: &Marks, placed: Placed) -> Result<Entry, AllocEr
 
 /// A copy of a note, if there is one.
 fn copy_note(alloc: Global, note: Option<&[u8]>) -> Result<Option<ByteString>, AllocError>
-    ensures { IfOk result (λ copy. copy ≡ option_copied note) }
+    ensures { IfOk result (λ copy. copy ≡ option_copied note.entry) }
 {
     match note {
         Some(text) => Ok(Some(ByteString::from_vec(Vec::from_slice(alloc, text)?))),

@@ -1,13 +1,13 @@
 //! One update of a log, and one row, each found by how its name begins.
 
-ghost use Rattle.std.specs.Prelude.{◌≡◌, ◌≤◌, ◌∷◌, ◌++◌, IfOk, OnOk, bytes_eq, filter, length, option_copied, option_map, take};
+ghost use Rattle.std.specs.Prelude.{◌≡◌, ◌≤◌, ◌∷◌, ◌++◌, IfOk, OnOk, bytes_eq, filter, length, option_copied, option_map, position, take, unwrap_or};
 ghost use Rattle.std.specs.Fmt.{decimal};
 ghost use Rattle.std.specs.List.{flat_map};
 ghost use Rattle.table_text.specs.Names.{id_text};
-ghost use Rattle.log_texts.specs.Finding.{begins_so, colon_of, digits_in, found_in, insert_in, inserting, inserts_so, named_id, named_line, named_lines, named_so, show_text, who_text};
+ghost use Rattle.log_texts.specs.Finding.{begins_so, colon_of, digits_in, found_in, insert_in, inserting, inserts_so, is_colon, named_id, named_line, named_lines, named_so, show_text, who_text};
 
 use crate::entry::Entry;
-use crate::json::push_entry_json;
+use crate::json::push_update_json;
 use crate::lines::push_lines;
 use crate::logs::manner_of;
 use crate::manner::Manner;
@@ -132,11 +132,7 @@ fn found_text(
     let mut text = Vec::new(alloc);
     match manner {
         Manner::Lines(names) => push_lines(&mut text, names, schema, note, ops, entry)?,
-        Manner::Json => {
-            text.extend_from_slice(b"{\"updates\":[")?;
-            push_entry_json(alloc, &mut text, schema, note, ops, entry)?;
-            text.extend_from_slice(b"]}\n")?;
-        }
+        Manner::Json => push_update_json(alloc, &mut text, schema, note, ops, entry)?,
     }
     Ok(text)
 }
@@ -195,9 +191,18 @@ fn colon_of(word: &[u8]) -> usize
     ensures within { result ≤ length word.now }
     ensures place { result ≡ colon_of word.now }
 {
-    word.iter()
-        .position(|byte| *byte == b':')
-        .unwrap_or(word.len())
+    match place_of_colon(word) {
+        Some(place) => place,
+        None => word.len(),
+    }
+}
+
+/// Where the first colon of a word stands.
+fn place_of_colon(word: &[u8]) -> Option<usize>
+    ensures within { unwrap_or result (length word.now) ≤ length word.now }
+    ensures place { result ≡ position is_colon word.now }
+{
+    word.iter().position(|byte| *byte == b':')
 }
 
 /// A line for each of these entries with its id, for standard error, if there are several.

@@ -4,7 +4,7 @@ ghost use Rattle.std.specs.Prelude.{◌≡◌, [], ◌∷◌, ◌++◌, OnOk, dr
 ghost use Rattle.std.specs.List.{flat_map};
 ghost use Rattle.hex.specs.Hex.{encode_lower};
 ghost use Rattle.graph_drawing.specs.Words.{reason_words};
-ghost use Rattle.log_texts.specs.Json.{entries_json, entry_json, front_json, head_json, marked, marks_json, note_json, note_marked, operation_json, operations_json, void_json, whole_json};
+ghost use Rattle.log_texts.specs.Json.{author_begin, depth_begin, entries_json, entry_json, front_json, head_json, list_json, marked, marks_json, names_json, note_json, note_marked, operation_json, operations_begin, operations_json, update_json, updates_begin, updates_json, void_json, whole_json};
 
 use crate::entry::Entry;
 use crate::lines::asked_ops;
@@ -15,8 +15,41 @@ use table_text::{NameStyle, push_operation};
 use text_words::ByteString;
 use update_model::Op;
 
+/// Adds one object with these entries.
+#[tactic(auto, unfolding(crate::specs::Json::updates_json))]
+pub(crate) fn push_updates_json(
+    alloc: Global,
+    out: &mut Vec<u8>,
+    rows: bool,
+    schema: &Schema,
+    entries: &[Entry],
+) -> Result<(), AllocError>
+    ensures { OnOk result (out.new.items ≡ out.old.items ++ updates_json rows schema.now.tables entries.now) }
+{
+    out.extend_from_slice(updates_begin())?;
+    push_entries_json(alloc, out, rows, schema, entries)?;
+    out.extend_from_slice(b"]}\n")
+}
+
+/// Adds one object with one entry, with this note and these operations.
+#[tactic(auto, unfolding(crate::specs::Json::update_json))]
+pub(crate) fn push_update_json(
+    alloc: Global,
+    out: &mut Vec<u8>,
+    schema: &Schema,
+    note: &Option<ByteString>,
+    ops: &[Op],
+    entry: &Entry,
+) -> Result<(), AllocError>
+    ensures { OnOk result (out.new.items ≡ out.old.items ++ update_json schema.now.tables note.now ops.now entry.now) }
+{
+    out.extend_from_slice(updates_begin())?;
+    push_entry_json(alloc, out, schema, note, ops, entry)?;
+    out.extend_from_slice(b"]}\n")
+}
+
 /// Adds entries with commas between them.
-pub(crate) fn push_entries_json(
+fn push_entries_json(
     alloc: Global,
     out: &mut Vec<u8>,
     rows: bool,
@@ -73,7 +106,7 @@ fn push_whole_json(
 
 /// Adds an entry with this note and these operations.
 #[tactic(auto, unfolding(crate::specs::Json::entry_json))]
-pub(crate) fn push_entry_json(
+fn push_entry_json(
     alloc: Global,
     out: &mut Vec<u8>,
     schema: &Schema,
@@ -95,12 +128,20 @@ pub(crate) fn push_entry_json(
 fn push_front_json(out: &mut Vec<u8>, placed: &Placed) -> Result<(), AllocError>
     ensures { OnOk result (out.new.items ≡ out.old.items ++ front_json placed.now) }
 {
+    push_names_json(out, placed)?;
+    out.extend_from_slice(depth_begin())?;
+    push_number(out, u64::from(placed.depth))
+}
+
+/// Adds the id and the author.
+#[tactic(auto, unfolding(crate::specs::Json::names_json))]
+fn push_names_json(out: &mut Vec<u8>, placed: &Placed) -> Result<(), AllocError>
+    ensures { OnOk result (out.new.items ≡ out.old.items ++ names_json placed.now) }
+{
     out.extend_from_slice(b"{\"id\":\"")?;
     push_id(out, &placed.node.id)?;
-    out.extend_from_slice(b"\",\"author\":\"")?;
-    push_key(out, &placed.node.author)?;
-    out.extend_from_slice(b"\",\"depth\":")?;
-    push_number(out, u64::from(placed.depth))
+    out.extend_from_slice(author_begin())?;
+    push_key(out, &placed.node.author)
 }
 
 /// Adds whether an update is a head, and why it does nothing.
@@ -199,13 +240,25 @@ fn push_operations_json(
 {
     match ops {
         [] => Ok(()),
-        [op, others @ ..] => {
-            out.extend_from_slice(b",\"operations\":[")?;
-            push_operation_json(alloc, out, schema, op)?;
-            push_further_operations(alloc, out, schema, others)?;
-            out.extend_from_slice(b"]")
-        }
+        [op, others @ ..] => push_list_json(alloc, out, schema, op, others),
     }
+}
+
+/// Adds the member of these operations.
+#[tactic(auto, unfolding(crate::specs::Json::list_json))]
+fn push_list_json(
+    alloc: Global,
+    out: &mut Vec<u8>,
+    schema: &Schema,
+    op: &Op,
+    ops: &[Op],
+) -> Result<(), AllocError>
+    ensures { OnOk result (out.new.items ≡ out.old.items ++ list_json schema.now.tables op.now ops.now) }
+{
+    out.extend_from_slice(operations_begin())?;
+    push_operation_json(alloc, out, schema, op)?;
+    push_further_operations(alloc, out, schema, ops)?;
+    out.extend_from_slice(b"]")
 }
 
 /// Adds operations, each behind a comma.
@@ -260,4 +313,36 @@ fn push_marked(out: &mut Vec<u8>, byte: u8) -> Result<(), AllocError>
         b'\\' => out.extend_from_slice(b"\\\\"),
         _ => out.extend_from_slice(&[byte]),
     }
+}
+
+/// What begins an author.
+#[tactic(auto, unfolding(crate::specs::Json::author_begin))]
+fn author_begin() -> &'static [u8]
+    ensures { result.now ≡ author_begin }
+{
+    b"\",\"author\":\""
+}
+
+/// What begins a depth.
+#[tactic(auto, unfolding(crate::specs::Json::depth_begin))]
+fn depth_begin() -> &'static [u8]
+    ensures { result.now ≡ depth_begin }
+{
+    b"\",\"depth\":"
+}
+
+/// What begins operations.
+#[tactic(auto, unfolding(crate::specs::Json::operations_begin))]
+fn operations_begin() -> &'static [u8]
+    ensures { result.now ≡ operations_begin }
+{
+    b",\"operations\":["
+}
+
+/// What begins updates.
+#[tactic(auto, unfolding(crate::specs::Json::updates_begin))]
+fn updates_begin() -> &'static [u8]
+    ensures { result.now ≡ updates_begin }
+{
+    b"{\"updates\":["
 }

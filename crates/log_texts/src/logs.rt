@@ -10,7 +10,7 @@ ghost use Rattle.log_texts.specs.Logs.{log_in, log_text, manner_of};
 use crate::digits::digits_of;
 use crate::entries::ids_of;
 use crate::entry::Entry;
-use crate::json::push_entries_json;
+use crate::json::push_updates_json;
 use crate::lines::{asked_ops, push_lines};
 use crate::manner::Manner;
 use crate::names::Names;
@@ -71,11 +71,7 @@ fn push_log(
 {
     match manner {
         Manner::Lines(names) => push_all(out, names, rows, schema, entries),
-        Manner::Json => {
-            out.extend_from_slice(b"{\"updates\":[")?;
-            push_entries_json(alloc, out, rows, schema, entries)?;
-            out.extend_from_slice(b"]}\n")
-        }
+        Manner::Json => push_updates_json(alloc, out, rows, schema, entries),
     }
 }
 
