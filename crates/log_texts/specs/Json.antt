@@ -13,6 +13,19 @@ use Rattle.graph_drawing.specs.Words.{key_digits, reason_words}
 use Rattle.log_texts.specs.declared.entry.Entry.{Entry}
 use Rattle.log_texts.specs.Lines.{asked_ops}
 
+-- what begins texts
+unfoldable pub author_begin : List ℕ
+author_begin = codes "\",\"author\":\""
+
+unfoldable pub depth_begin : List ℕ
+depth_begin = codes "\",\"depth\":"
+
+unfoldable pub operations_begin : List ℕ
+operations_begin = codes ",\"operations\":["
+
+unfoldable pub updates_begin : List ℕ
+updates_begin = codes "{\"updates\":["
+
 -- One byte of a text: escaped where it is a quote or a backslash, and else as it is.
 abbrev pub marked : ℕ → List ℕ
 marked byte = if byte == 34 then 92 ∷ 34 ∷ [] else if byte == 92 then 92 ∷ 92 ∷ [] else byte ∷ []
@@ -51,19 +64,6 @@ list_json tables op ops = operations_begin ++ (operation_json tables op ++ (flat
 abbrev pub operations_json : List TableDef → List Op → List ℕ
 operations_json tables [] = []
 operations_json tables (op ∷ ops) = list_json tables op ops
-
--- what begins texts
-unfoldable pub author_begin : List ℕ
-author_begin = codes "\",\"author\":\""
-
-unfoldable pub depth_begin : List ℕ
-depth_begin = codes "\",\"depth\":"
-
-unfoldable pub operations_begin : List ℕ
-operations_begin = codes ",\"operations\":["
-
-unfoldable pub updates_begin : List ℕ
-updates_begin = codes "{\"updates\":["
 
 -- the members that each entry has
 unfoldable pub names_json : Placed → List ℕ
