@@ -1,0 +1,3 @@
+pub mod Bundles
+pub mod Questions
+pub mod Words
