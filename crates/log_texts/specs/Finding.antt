@@ -1,5 +1,5 @@
 -- One update of a log, and one row, each found by how its name begins. A colon is the byte 58.
-use Rattle.std.specs.Prelude.{ℕ, ◌+◌, ◌-◌, ◌==◌, ◌&&◌, nat_le, Bool, cond, List, [], ◌∷◌, ◌++◌, length, take, drop, filter, position, codes, bytes_eq, Option, Some, None, option_and_then, option_map, unwrap_or}
+use Rattle.std.specs.Prelude.{ℕ, ◌+◌, ◌-◌, ◌==◌, ◌&&◌, nat_le, min, Bool, not, cond, List, [], ◌∷◌, ◌++◌, length, take, drop, filter, position, codes, bytes_eq, Option, Some, None, option_and_then, option_map, unwrap_or}
 use Rattle.std.specs.Fmt.{decimal}
 use Rattle.std.specs.List.{flat_map}
 use Rattle.update_model.specs.declared.op.Op.{Op}
@@ -55,14 +55,30 @@ abbrev pub inserting : Op → Option Op
 inserting (Insert table values) = Some (Insert table values)
 inserting (Delete row) = None
 
--- the operation that inserts the row whose name ends so, of operations that begin with this number
+abbrev pub is_no_zero : ℕ → Bool
+is_no_zero byte = not (byte == 48)
+
+-- how many zeros digits begin with
+abbrev pub zeros_of : List ℕ → ℕ
+zeros_of digits = unwrap_or (position is_no_zero digits) (length digits)
+
+-- digits without the zeros that they begin with, but for the last one
+abbrev pub without_zeros : List ℕ → List ℕ
+without_zeros digits = drop (min (zeros_of digits) (length digits - 1)) digits
+
+-- The number that the end of a row's name has behind its colon, as it is printed. Without a colon it is that of the first operation.
+abbrev pub number_in : List ℕ → List ℕ
+number_in [] = codes "0"
+number_in (colon ∷ digits) = without_zeros digits
+
+-- the operation that inserts the row whose number is printed so, of operations that begin with this number
 abbrev pub inserts_so : List ℕ → ℕ → List Op → Option Op
-inserts_so ending number [] = None
-inserts_so ending number (op ∷ ops) = cond (bytes_eq (58 ∷ decimal number) ending) (inserting op) (inserts_so ending (number + 1) ops)
+inserts_so digits number [] = None
+inserts_so digits number (op ∷ ops) = cond (bytes_eq (decimal number) digits) (inserting op) (inserts_so digits (number + 1) ops)
 
 -- an entry with the operation that inserts the row whose name ends so
 abbrev pub insert_in : Manner → List TableDef → List ℕ → Entry → Option (List ℕ)
-insert_in manner tables ending entry = option_map (λ op. found_in manner tables None (op ∷ []) entry) (inserts_so ending 0 entry.placed.node.ops)
+insert_in manner tables ending entry = option_map (λ op. found_in manner tables None (op ∷ []) entry) (inserts_so (number_in ending) 0 entry.placed.node.ops)
 
 -- the one update whose id begins as the name of this row does, with the operation that inserts the row
 abbrev pub who_text : Style → List TableDef → List ℕ → List Entry → Option (List ℕ)

@@ -1,6 +1,6 @@
 -- The lines of an entry: one of the update; behind it one of its note, where it has one; and behind these, where they are asked for, what the update does. A blank
 -- is the byte 32. Ids and keys are written whole, or cut.
-use Rattle.std.specs.Prelude.{ℕ, Bool, cond, if◌then◌else◌, List, [], ◌∷◌, ◌++◌, take, codes, Option, Some, None}
+use Rattle.std.specs.Prelude.{ℕ, Bool, cond, if◌then◌else◌, List, [], ◌∷◌, ◌++◌, codes, Option, Some, None}
 use Rattle.std.specs.Fmt.{decimal}
 use Rattle.std.specs.List.{flat_map}
 use Rattle.update_model.specs.declared.author_key.AuthorKey.{AuthorKey}

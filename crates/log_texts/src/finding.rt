@@ -4,7 +4,7 @@ ghost use Rattle.std.specs.Prelude.{◌≡◌, ◌≤◌, ◌∷◌, ◌++◌, I
 ghost use Rattle.std.specs.Fmt.{decimal};
 ghost use Rattle.std.specs.List.{flat_map};
 ghost use Rattle.table_text.specs.Names.{id_text};
-ghost use Rattle.log_texts.specs.Finding.{begins_so, colon_of, digits_in, found_in, insert_in, inserting, inserts_so, is_colon, named_id, named_line, named_lines, named_so, show_text, who_text};
+ghost use Rattle.log_texts.specs.Finding.{begins_so, colon_of, digits_in, found_in, insert_in, inserting, inserts_so, is_colon, is_no_zero, named_id, named_line, named_lines, named_so, number_in, show_text, who_text, without_zeros, zeros_of};
 
 use crate::entry::Entry;
 use crate::json::push_update_json;
@@ -77,7 +77,7 @@ fn insert_text(
 ) -> Result<Option<Vec<u8>>, AllocError>
     ensures { IfOk result (λ found. option_map (λ text. text.items) found ≡ insert_in manner schema.now.tables ending.now entry.now) }
 {
-    match inserts_so(alloc, ending, entry.placed.node.ops.as_slice())? {
+    match inserts_so(alloc, number_in(ending), entry.placed.node.ops.as_slice())? {
         Some(op) => {
             let text = found_text(alloc, manner, schema, &None, slice::from_ref(op), entry)?;
             Ok(Some(text))
@@ -86,26 +86,60 @@ fn insert_text(
     }
 }
 
-/// The operation that inserts the row whose name ends so.
-fn inserts_so<'a>(alloc: Global, ending: &[u8], ops: &'a [Op]) -> Result<Option<&'a Op>, AllocError>
-    ensures { IfOk result (λ found. option_copied found ≡ inserts_so ending.now 0 ops.now) }
+/// The operation that inserts the row whose number is printed so.
+fn inserts_so<'a>(alloc: Global, digits: &[u8], ops: &'a [Op]) -> Result<Option<&'a Op>, AllocError>
+    ensures { IfOk result (λ found. option_copied found ≡ inserts_so digits.now 0 ops.now) }
 {
     for number in 0..ops.len() {
-        if is_ending(alloc, ending, number)? {
+        if is_number(alloc, digits, number)? {
             return Ok(inserting(&ops[number]));
         }
     }
     Ok(None)
 }
 
-/// Whether the name of a row ends so that is inserted by the operation with this number.
-fn is_ending(alloc: Global, ending: &[u8], number: usize) -> Result<bool, AllocError>
-    ensures { IfOk result (λ is. is ≡ bytes_eq (58 ∷ decimal number) ending.now) }
+/// Whether a number is printed so.
+fn is_number(alloc: Global, digits: &[u8], number: usize) -> Result<bool, AllocError>
+    ensures { IfOk result (λ is. is ≡ bytes_eq (decimal number) digits.now) }
 {
     let mut text = Vec::new(alloc);
-    text.push(b':')?;
     push_number(&mut text, number as u64)?;
-    Ok(text.as_slice() == ending)
+    Ok(text.as_slice() == digits)
+}
+
+/// The number that the end of a row's name has behind its colon, as it is printed. Without a colon it is that of the first operation.
+fn number_in(ending: &[u8]) -> &[u8]
+    ensures { result.now ≡ number_in ending.now }
+{
+    match ending {
+        [] => b"0",
+        [_colon, digits @ ..] => without_zeros(digits),
+    }
+}
+
+/// Digits without the zeros that they begin with, but for the last one.
+fn without_zeros(digits: &[u8]) -> &[u8]
+    ensures { result.now ≡ without_zeros digits.now }
+{
+    let zeros = zeros_of(digits);
+    &digits[zeros.min(digits.len().saturating_sub(1))..]
+}
+
+/// How many zeros digits begin with.
+fn zeros_of(digits: &[u8]) -> usize
+    ensures { result ≡ zeros_of digits.now }
+{
+    match place_of_more(digits) {
+        Some(zeros) => zeros,
+        None => digits.len(),
+    }
+}
+
+/// Where the first digit stands that is no zero.
+fn place_of_more(digits: &[u8]) -> Option<usize>
+    ensures { result ≡ position is_no_zero digits.now }
+{
+    digits.iter().position(|digit| *digit != b'0')
 }
 
 /// An operation, if it inserts a row.

@@ -6,4 +6,4 @@ use Rattle.log_texts.proofs.finding.inserts_so.Goals as goal
 pub loop-number-preserved : goal.loop-number-preserved
 loop-number-preserved c =
     c.loop-number.invariant
-    ∙ inserts_later c.args.ending.now c.args.ops.now c.loop-number.number (Delete (record { update = record { 0 = [] }; index = 0 })) (search) (sym c.in_ok-is_ending.ensures ∙ c.if-branch.false)
+    ∙ inserts_later c.args.digits.now c.args.ops.now c.loop-number.number (Delete (record { update = record { 0 = [] }; index = 0 })) (search) (sym c.in_ok-is_number.ensures ∙ c.if-branch.false)
