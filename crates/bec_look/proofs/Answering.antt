@@ -1,6 +1,5 @@
 -- From what the parts of looking answer to what it comes to.
-use Rattle.std.proofs.Common.{◌≡◌, ◌⊎◌, inl, inr, ℕ, ◌≤◌, List, refl, ap, subst, Option, Some, Ok, Err, Vec}
-use Rattle.std.specs.declared.alloc.Global.{Global}
+use Rattle.std.proofs.Common.{◌≡◌, ◌⊎◌, inl, inr, ℕ, ◌≤◌, List, refl, sym, ap, subst, Option, Some, Ok, Err}
 use Rattle.update_model.specs.Rule.{RuleData}
 use Rattle.update_stream.specs.declared.reading.Reading.TheVariants.{Whole}
 use Rattle.update_stream.specs.Told.{Reads}
@@ -11,9 +10,10 @@ use Rattle.confluence_test.specs.declared.refusal.SchemaRefusal.TheVariants as t
 use Rattle.schema.specs.Data.{SchemaData}
 use Rattle.bec_look.specs.Questions.{Question}
 use Rattle.outcomes.specs.declared.refusal.Refusal.{Refusal}
+use Rattle.outcomes.specs.declared.refusal.Refusal.TheVariants.{Memory}
 use Rattle.node_commands.specs.Bundle.{HoldsText, LacksText}
 use Rattle.node_commands.specs.Heads.{StopsAt}
-use Rattle.outcomes.specs.Outcome.{ComesTo, IsFault, from_taking}
+use Rattle.outcomes.specs.Outcome.{ComesTo, IsFault, Outcome, from_taking}
 use Rattle.outcomes.proofs.Saying.{rose_later}
 use Rattle.bec_look.specs.Bundles.{BundleShown, ShowsMembers, holds, lacks, stopped, taken, refused as text_refused, whole}
 
@@ -35,7 +35,14 @@ shown_stopped asked before mid after old between new declared schema given r hel
     by (inr (inl memory)) = inr (inl memory)
     by (inr (inr failed)) = inr (inr (failed.0, rose_later old between new later failed.1))
 
-pub shown_done : (asked : Question) (before mid after : Option (List ℕ)) (declared : List ℕ) (schema : SchemaData) (given : Option RuleData) (members : List (List ℕ)) (text : Vec ℕ Global) → HoldsText before mid declared
-    → TakesSchema is_luhn declared schema → given ≡ Some schema.rule → Reads given mid after (Whole members) → ShowsMembers asked schema members text.items → BundleShown asked before after (Ok text)
-shown_done asked before mid after declared schema given members text held takes is reads draws =
-    holds declared mid held (taken schema takes (whole members text.items (subst (λ (g : Option RuleData). Reads g mid after (Whole members)) is reads) draws refl))
+-- an answer is one of the things that may come
+comes : (asked : Question) (before after : Option (List ℕ)) (old new : ℕ) (outcome : Outcome) → BundleShown asked before after outcome → ComesTo (BundleShown asked) before after old new outcome
+comes asked before after old new (Ok text) is = is
+comes asked before after old new (Err refusal) is = inl is
+
+pub shown_done : (asked : Question) (before mid after : Option (List ℕ)) (old new : ℕ) (declared : List ℕ) (schema : SchemaData) (given : Option RuleData) (members : List (List ℕ)) (outcome : Outcome) → HoldsText before mid declared
+    → TakesSchema is_luhn declared schema → given ≡ Some schema.rule → Reads given mid after (Whole members) → ShowsMembers asked schema members outcome ⊎ (outcome ≡ Err Memory) → ComesTo (BundleShown asked) before after old new outcome
+shown_done asked before mid after old new declared schema given members outcome held takes is reads (inl shows) =
+    comes asked before after old new outcome (holds declared mid held (taken schema takes (whole members (subst (λ (g : Option RuleData). Reads g mid after (Whole members)) is reads) shows)))
+shown_done asked before mid after old new declared schema given members outcome held takes is reads (inr memory) =
+    subst (λ (o : Outcome). ComesTo (BundleShown asked) before after old new o) (sym memory) (inr (inl refl))

@@ -2,7 +2,7 @@
 
 ghost use Rattle.std.specs.Prelude.{◌≡◌, IfOk, filter, map};
 ghost use Rattle.node_commands.specs.Notes.{is_noted};
-ghost use Rattle.bec_look.specs.Bundles.{AreNotesOf, note_line_of};
+ghost use Rattle.bec_look.specs.Telling.{AreNotesOf, note_line_of};
 
 use graph_drawing::NoteLine;
 use hash_graph::Graph;

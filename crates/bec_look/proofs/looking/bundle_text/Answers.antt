@@ -30,6 +30,7 @@ returns-in_err-graph g c =
 pub returns : goal.returns
 returns g c =
     let P : List ℕ → Type 0 = λ w. HoldsText (g.S.Source.left c.args.input.now) (g.S.Source.left c.bundle_schema.new.input) w in
-    shown_done (seen c.args.asked) (g.S.Source.left c.args.input.now) (g.S.Source.left c.bundle_schema.new.input) (g.S.Source.left c.read_graph.new.input) c.deref.result.now c.in_ok-schema.schema
-    (Some c.in_ok-copy.field-0) c.in_ok-graph.graph c.in_ok-text.text (subst P (sym c.deref.ensures.value) c.in_ok-declared.ensures.text) c.in_ok-schema.ensures.taken
-    (ap Some (c.in_ok-copy.ensures ∙ c.rule.ensures)) c.in_ok-graph.ensures.whole c.in_ok-text.ensures
+    shown_done (seen c.args.asked) (g.S.Source.left c.args.input.now) (g.S.Source.left c.bundle_schema.new.input) (g.S.Source.left c.read_graph.new.input)
+    (g.S.Counted.faults c.args.input.now) (g.S.Counted.faults c.read_graph.new.input) c.deref.result.now c.in_ok-schema.schema
+    (Some c.in_ok-copy.field-0) c.in_ok-graph.graph c.shown.result (subst P (sym c.deref.ensures.value) c.in_ok-declared.ensures.text) c.in_ok-schema.ensures.taken
+    (ap Some (c.in_ok-copy.ensures ∙ c.rule.ensures)) c.in_ok-graph.ensures.whole c.shown.ensures

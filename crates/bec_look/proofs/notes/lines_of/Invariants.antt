@@ -1,5 +1,5 @@
 use Rattle.std.proofs.Common.{◌≡◌, map, take}
-use Rattle.bec_look.specs.Bundles.{note_line_of}
+use Rattle.bec_look.specs.Telling.{note_line_of}
 use Rattle.bec_look.proofs.notes.lines_of.Given as goal
 
 -- the notes so far

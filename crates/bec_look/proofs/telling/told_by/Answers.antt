@@ -1,22 +1,17 @@
 use Rattle.std.proofs.Common.{List, map, sym, subst}
-use Rattle.graph_drawing.specs.Depths.{nodes_of}
-use Rattle.outcomes.specs.Rules.{rules_of}
+use Rattle.outcomes.specs.Rules.{nodes_of}
 use Rattle.table_model.specs.declared.void_line.VoidLine.{VoidLine}
 use Rattle.table_model.specs.Tables.{AreVoidsIn}
 use Rattle.update_codec.specs.Parts.{entry_of}
 use Rattle.update_model.specs.declared.update_id.UpdateId.{UpdateId}
 use Rattle.update_model.specs.Graph.{AreHeads}
-use Rattle.bec_look.proofs.looking.told_of.Goals as goal
-
-pub replay-requires-after_bounds : goal.replay-requires-after_bounds
-replay-requires-after_bounds c κs = c.accepted_is_unlimited.ensures (rules_of c.args.schema.now) c.requires
+use Rattle.bec_look.proofs.telling.told_by.Goals as goal
 
 pub returns : goal.returns
-returns c =
+returns c = λ rules is.
     let graph = c.args.graph.now in
-    let rules = rules_of c.args.schema.now in
     record {
       heads = subst (λ (l : List UpdateId). AreHeads (map entry_of graph) l) (sym c.in_ok-heads.ensures.items) c.in_ok-found.ensures;
-      voids = subst (λ (l : List VoidLine). AreVoidsIn rules (nodes_of graph) l) (sym c.into_vec-voids.ensures) (c.in_ok-voids.ensures rules (nodes_of graph) c.in_ok-tables.ensures);
+      voids = subst (λ (l : List VoidLine). AreVoidsIn rules (nodes_of graph) l) (sym c.into_vec-voids.ensures) (c.in_ok-voids.ensures rules (nodes_of graph) is);
       notes = c.in_ok-notes.ensures;
     }
