@@ -74,4 +74,4 @@ lacks_one asked outcome = false
 
 -- the exit status of what is said with this one: where one update is asked for and it is not there, nothing is said, and that is refused
 abbrev pub status_with : Bool → ℕ → ℕ
-status_with lacks status = if lacks && (status == DONE) then REFUSED else status
+status_with lacking status = if lacking && (status == DONE) then REFUSED else status
