@@ -1,5 +1,5 @@
 -- What words ask for. Options may stand anywhere behind the command.
-use Rattle.std.specs.Prelude.{ℕ, ◌==◌, ◌||◌, Bool, not, List, [], ◌∷◌, if◌then◌else◌, codes, bytes_eq, count_by, find, Option, None, Some, option_map, String}
+use Rattle.std.specs.Prelude.{ℕ, ◌||◌, Bool, not, List, [], ◌∷◌, if◌then◌else◌, codes, bytes_eq, Option, None, Some, option_map, String}
 use Rattle.std.specs.List.{list_all, list_any}
 use Rattle.std.specs.String.{string_bytes}
 use Rattle.std.specs.declared.alloc.Global.{Global}

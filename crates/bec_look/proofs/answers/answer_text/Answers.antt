@@ -1,4 +1,4 @@
-use Rattle.std.proofs.Common.{◌≡◌, ◌∙◌, inl, inr, Err, ap}
+use Rattle.std.proofs.Common.{◌∙◌, inl, Err, ap}
 use Rattle.std.proofs.lemmas.Result.{err_from_is_err_and}
 use Rattle.query.specs.Outcome.{data_of as query_data}
 use Rattle.query_answer.specs.Answers.{data_of}
