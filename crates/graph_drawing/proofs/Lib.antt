@@ -3,7 +3,6 @@ pub mod Below
 pub mod Columns
 pub mod DepthFacts
 pub mod Greatest
-pub mod Marks
 pub mod Ranks
 pub mod Rising
 pub mod SamePictures

@@ -1,5 +1,5 @@
 -- A picture is of the set of updates.
-use Rattle.std.proofs.Common.{◌≡◌, ℕ, Bool, List, sym, ◌∙◌, ap, subst, Some}
+use Rattle.std.proofs.Common.{◌≡◌, ℕ, List, sym, ◌∙◌, ap, subst, Some}
 use Rattle.std.proofs.lemmas.List.Sorted.{IsPermutation-sym}
 use Rattle.schema.specs.declared.table_def.TableDef.{TableDef}
 use Rattle.update_model.specs.Node.{NodeData}
@@ -8,7 +8,6 @@ use Rattle.confluence_laws.proofs.SameTables.{PassesOn, permuted_on}
 use Rattle.graph_drawing.specs.declared.form.Form.{Form}
 use Rattle.graph_drawing.specs.declared.placed.Placed.{Placed}
 use Rattle.graph_drawing.specs.Depths.{AreInOrder, depth_in, placed_in, rank, rank_cmp}
-use Rattle.graph_drawing.specs.Logs.{IsLog, log_text}
 use Rattle.graph_drawing.specs.Pictures.{IsPicture, text_in_order}
 use Rattle.graph_drawing.specs.Told.{Told}
 use Rattle.graph_drawing.proofs.DepthFacts.{at_node, found_held, from_nodes, same_depth}
@@ -31,7 +30,7 @@ placed_on xs ys c d same = record {
 }
 
 -- the nodes of one set are in one order
-same_order : (xs ys : List NodeData) → IsClosed xs → IsClosed ys → IsSameSet xs ys → (placed others : List Placed) → AreInOrder xs placed → AreInOrder ys others → placed ≡ others
+pub same_order : (xs ys : List NodeData) → IsClosed xs → IsClosed ys → IsSameSet xs ys → (placed others : List Placed) → AreInOrder xs placed → AreInOrder ys others → placed ≡ others
 same_order xs ys c d same placed others a b =
     let one = placed_in xs in
     let two = placed_in ys in
@@ -43,8 +42,3 @@ pub same_picture : (form : Form) (tables : List TableDef) (xs ys : List NodeData
     → IsClosed xs → IsClosed ys → IsSameSet xs ys → IsPicture form tables xs told text → IsPicture form tables ys told other → text ≡ other
 same_picture form tables xs ys told text other c d same a b =
     a.2 ∙ ap (text_in_order form tables told) (same_order xs ys c d same a.0 b.0 a.1 b.1) ∙ sym b.2
-
-pub same_log : (rows : Bool) (tables : List TableDef) (xs ys : List NodeData) (told : Told) (text other : List ℕ)
-    → IsClosed xs → IsClosed ys → IsSameSet xs ys → IsLog rows tables xs told text → IsLog rows tables ys told other → text ≡ other
-same_log rows tables xs ys told text other c d same a b =
-    a.2 ∙ ap (log_text rows tables told) (same_order xs ys c d same a.0 b.0 a.1 b.1) ∙ sym b.2

@@ -7,7 +7,7 @@ use Rattle.text_words.specs.Printing.{quoted}
 use Rattle.schema.specs.declared.table_def.TableDef.{TableDef}
 use Rattle.graph_drawing.specs.declared.form.Form.{Form}
 use Rattle.graph_drawing.specs.declared.form.Form.TheVariants.{Svg, Dot}
-use Rattle.graph_drawing.specs.declared.limits.TheConstants.{MAX_CHARACTERS, MAX_LINES}
+use Rattle.graph_drawing.specs.declared.limits.TheConstants.{ID_DIGITS, MAX_CHARACTERS, MAX_LINES}
 use Rattle.graph_drawing.specs.declared.spot.Spot.{Spot}
 use Rattle.graph_drawing.specs.Words.{clipped, key_end, reason_words, short_id, short_operation}
 
@@ -25,7 +25,7 @@ line form text = line_begin form ++ (text ++ line_end form)
 
 -- the id and the author
 abbrev pub title : Spot → List ℕ
-title spot = short_id spot.node.id ++ (codes " by .." ++ key_end spot.node.author)
+title spot = short_id ID_DIGITS spot.node.id ++ (codes " by .." ++ key_end spot.node.author)
 
 -- the line of a note, in quotes
 abbrev pub note_line : Form → Option (List ℕ) → List ℕ
@@ -34,7 +34,7 @@ note_line form (Some text) = line form (clipped (quoted text) MAX_CHARACTERS)
 
 -- the line of an operation
 abbrev pub operation_line : Form → List TableDef → Op → List ℕ
-operation_line form tables op = line form (clipped (short_operation tables op) MAX_CHARACTERS)
+operation_line form tables op = line form (clipped (short_operation ID_DIGITS tables op) MAX_CHARACTERS)
 
 -- how many operations are not told
 abbrev pub more_line : Form → ℕ → List ℕ

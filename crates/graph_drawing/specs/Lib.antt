@@ -2,7 +2,6 @@ pub mod Boxes
 pub mod Depths
 pub mod Dot
 pub mod Labels
-pub mod Logs
 pub mod Pictures
 pub mod Svg
 pub mod Told

@@ -21,9 +21,9 @@ use Rattle.table_text.specs.Values.{value_text}
 unfoldable pub around : List ℕ → ℕ → List ℕ → List ℕ
 around before number after = before ++ (decimal number ++ after)
 
--- the first eight digits of an id
-abbrev pub short_id : UpdateId → List ℕ
-short_id id = encode_lower (take 4 id.0)
+-- the first digits of an id, so many
+abbrev pub short_id : ℕ → UpdateId → List ℕ
+short_id digits id = take digits (encode_lower id.0)
 
 -- a key in 112 digits, as `keygen` prints it: its types, its identifier and its root
 unfoldable pub key_digits : AuthorKey → List ℕ
@@ -33,23 +33,23 @@ key_digits key = encode_lower (to_be_bytes w32 key.lms) ++ (encode_lower (to_be_
 abbrev pub key_end : AuthorKey → List ℕ
 key_end key = encode_lower (take 4 (drop 28 key.root))
 
--- the name of a row, with a short id
-abbrev pub short_name : RowName → List ℕ
-short_name name = short_id name.update ++ 58 ∷ decimal name.index
+-- the name of a row, with so many digits of its id
+abbrev pub short_name : ℕ → RowName → List ℕ
+short_name digits name = short_id digits name.update ++ 58 ∷ decimal name.index
 
 -- a value as in a transaction, where rows have short names
-abbrev pub short_value : Value → List ℕ
-short_value Null = value_text Full Null
-short_value (Int n) = value_text Full (Int n)
-short_value (Text text) = value_text Full (Text text)
-short_value (Flag flag) = value_text Full (Flag flag)
-short_value (Row name) = short_name name
-short_value (Own index) = value_text Full (Own index)
+abbrev pub short_value : ℕ → Value → List ℕ
+short_value digits Null = value_text Full Null
+short_value digits (Int n) = value_text Full (Int n)
+short_value digits (Text text) = value_text Full (Text text)
+short_value digits (Flag flag) = value_text Full (Flag flag)
+short_value digits (Row name) = short_name digits name
+short_value digits (Own index) = value_text Full (Own index)
 
 -- an operation as in a transaction, where rows have short names
-abbrev pub short_operation : List TableDef → Op → List ℕ
-short_operation tables (Insert table values) = codes "INSERT " ++ table_word tables table ++ flat_map (λ value. 32 ∷ short_value value) values
-short_operation tables (Delete row) = codes "DELETE " ++ short_name row
+abbrev pub short_operation : ℕ → List TableDef → Op → List ℕ
+short_operation digits tables (Insert table values) = codes "INSERT " ++ table_word tables table ++ flat_map (λ value. 32 ∷ short_value digits value) values
+short_operation digits tables (Delete row) = codes "DELETE " ++ short_name digits row
 
 -- whether a byte goes on with a character that began before it
 abbrev pub goes_on : ℕ → Bool

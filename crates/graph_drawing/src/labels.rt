@@ -6,7 +6,7 @@ ghost use Rattle.graph_drawing.specs.Labels.{box_lines, line, line_begin, line_e
 ghost use Rattle.graph_drawing.specs.Words.{clipped};
 
 use crate::form::Form;
-use crate::limits::{MAX_CHARACTERS, MAX_LINES};
+use crate::limits::{ID_DIGITS, MAX_CHARACTERS, MAX_LINES};
 use crate::spot::Spot;
 use crate::words::{
     push_clipped, push_key_end, push_number, push_short_id, push_short_operation, reason_words,
@@ -67,7 +67,7 @@ fn push_title(out: &mut Vec<u8>, form: Form, spot: &Spot) -> Result<(), AllocErr
     ensures { OnOk result (out.new.items ≡ out.old.items ++ line form (title spot.now)) }
 {
     out.extend_from_slice(line_begin(form))?;
-    push_short_id(out, &spot.node.id)?;
+    push_short_id(out, ID_DIGITS, &spot.node.id)?;
     out.extend_from_slice(b" by ..")?;
     push_key_end(out, &spot.node.author)?;
     out.extend_from_slice(line_end(form))
@@ -131,7 +131,7 @@ fn push_operation_line(
     ensures { OnOk result (out.new.items ≡ out.old.items ++ operation_line form schema.now.tables op.now) }
 {
     let mut words = Vec::new(alloc);
-    push_short_operation(&mut words, schema, op)?;
+    push_short_operation(&mut words, ID_DIGITS, schema, op)?;
     push_clipped_line(out, form, &words)
 }
 

@@ -1,6 +1,6 @@
 //! Laws of pictures. Each function does nothing: its contract is a theorem for callers to cite. Lists of nodes stand newest first.
 
-ghost use Rattle.std.specs.Prelude.{◌≡◌, ◌<◌, Bool, List, ℕ, true, Contains};
+ghost use Rattle.std.specs.Prelude.{◌≡◌, ◌<◌, List, ℕ, true, Contains};
 ghost use Rattle.schema.specs.declared.table_def.TableDef.{TableDef};
 ghost use Rattle.table_model.specs.Nodes.{IsClosed, IsSameSet};
 ghost use Rattle.update_model.specs.Graph.{has};
@@ -10,7 +10,6 @@ ghost use Rattle.graph_drawing.specs.declared.placed.Placed.{Placed};
 ghost use Rattle.graph_drawing.specs.declared.spot.Spot.{Spot};
 ghost use Rattle.graph_drawing.specs.Boxes.{arranged, drawn};
 ghost use Rattle.graph_drawing.specs.Depths.{AreInOrder};
-ghost use Rattle.graph_drawing.specs.Logs.{IsLog};
 ghost use Rattle.graph_drawing.specs.Pictures.{IsPicture};
 ghost use Rattle.graph_drawing.specs.Told.{Told};
 
@@ -18,12 +17,6 @@ ghost use Rattle.graph_drawing.specs.Told.{Told};
 pub fn same_set_same_picture()
     ensures { (form : Written) (tables : List TableDef) (xs ys : List NodeData) (told : Told) (text other : List ℕ)
         → IsClosed xs → IsClosed ys → IsSameSet xs ys → IsPicture form tables xs told text → IsPicture form tables ys told other → text ≡ other }
-{}
-
-/// A log is a function of the set of updates, in whatever order they came.
-pub fn same_set_same_log()
-    ensures { (rows : Bool) (tables : List TableDef) (xs ys : List NodeData) (told : Told) (text other : List ℕ)
-        → IsClosed xs → IsClosed ys → IsSameSet xs ys → IsLog rows tables xs told text → IsLog rows tables ys told other → text ≡ other }
 {}
 
 /// Each box lies in a lower row than those of its predecessors that are drawn.

@@ -11,8 +11,8 @@
 //!
 //! At most [`MAX_DRAWN`] updates are drawn, the last ones in the order of depth and id.
 //!
-//! [`log`] answers the log of a graph: a line for each update, the newest first. It is a function of the set too: [`same_set_same_log`].
-//! What both tell of updates beside themselves comes as [`Told`].
+//! [`place_in_order`] answers the updates of a graph in the order of depth and id, for whoever lists them, and the functions that begin with `push` add what they
+//! name to a text. What is told of updates beside themselves comes as [`Told`].
 #![tactic(auto)]
 
 mod boxes;
@@ -23,7 +23,6 @@ mod ids;
 mod labels;
 mod laws;
 mod limits;
-mod logs;
 mod note_line;
 mod pictures;
 mod placed;
@@ -34,11 +33,13 @@ mod told;
 mod words;
 
 pub use form::Form;
-pub use laws::{
-    boxes_lie_below, columns_have_one_author, same_set_same_log, same_set_same_picture,
-};
+pub use laws::{boxes_lie_below, columns_have_one_author, same_set_same_picture};
 pub use limits::MAX_DRAWN;
-pub use logs::log;
 pub use note_line::NoteLine;
 pub use pictures::{draw, omitted};
+pub use placed::Placed;
+pub use sorting::place_in_order;
 pub use told::Told;
+pub use words::{
+    push_id, push_key, push_key_end, push_number, push_short_id, push_short_operation, reason_words,
+};

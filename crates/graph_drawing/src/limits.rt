@@ -9,6 +9,9 @@ pub(crate) const MAX_LINES: usize = 3;
 /// How many characters of an operation are told.
 pub(crate) const MAX_CHARACTERS: usize = 36;
 
+/// How many digits of an id are told.
+pub(crate) const ID_DIGITS: usize = 8;
+
 /// Where the first column begins.
 pub(crate) const LEFT: u64 = 40;
 

@@ -12,10 +12,7 @@ use table_model::arrivals_are_closed;
 use update_check::Checked;
 
 /// The members of a graph in order of depth and id.
-pub(crate) fn place_in_order(
-    alloc: Global,
-    graph: &Graph<Checked>,
-) -> Result<Vec<Placed>, AllocError>
+pub fn place_in_order(alloc: Global, graph: &Graph<Checked>) -> Result<Vec<Placed>, AllocError>
     ensures { IfOk result (λ placed. AreInOrder (nodes_of graph.now) placed.items) }
 {
     arrivals_are_closed();

@@ -19,7 +19,7 @@ use table_text::{NameStyle, push_value};
 use update_model::{AuthorKey, Op, RowName, UpdateId, Value};
 
 /// Adds a number in decimal.
-pub(crate) fn push_number(out: &mut Vec<u8>, number: u64) -> Result<(), AllocError>
+pub fn push_number(out: &mut Vec<u8>, number: u64) -> Result<(), AllocError>
     ensures { OnOk result (out.new.items ≡ out.old.items ++ decimal number) }
 {
     let mut buffer = Buffer::new();
@@ -42,7 +42,7 @@ pub(crate) fn push_around(
 }
 
 /// Adds an id in 64 digits.
-pub(crate) fn push_id(out: &mut Vec<u8>, id: &UpdateId) -> Result<(), AllocError>
+pub fn push_id(out: &mut Vec<u8>, id: &UpdateId) -> Result<(), AllocError>
     ensures { OnOk result (out.new.items ≡ out.old.items ++ id_text id.now) }
 {
     let mut digits = [0u8; 64];
@@ -50,18 +50,18 @@ pub(crate) fn push_id(out: &mut Vec<u8>, id: &UpdateId) -> Result<(), AllocError
     out.extend_from_slice(&digits)
 }
 
-/// Adds the first eight digits of an id.
-pub(crate) fn push_short_id(out: &mut Vec<u8>, id: &UpdateId) -> Result<(), AllocError>
-    ensures { OnOk result (out.new.items ≡ out.old.items ++ short_id id.now) }
+/// Adds the first digits of an id, so many.
+pub fn push_short_id(out: &mut Vec<u8>, digits: usize, id: &UpdateId) -> Result<(), AllocError>
+    ensures { OnOk result (out.new.items ≡ out.old.items ++ short_id digits id.now) }
 {
-    let mut digits = [0u8; 8];
-    let _ = hex::encode_to_slice(&id.0[..4], &mut digits);
-    out.extend_from_slice(&digits)
+    let mut all = [0u8; 64];
+    let _ = hex::encode_to_slice(id.0, &mut all);
+    out.extend_from_slice(&all[..digits.min(64)])
 }
 
 /// Adds a key in 112 digits: its types, its identifier and its root.
 #[tactic(auto, unfolding(crate::specs::Words::key_digits))]
-pub(crate) fn push_key(out: &mut Vec<u8>, key: &AuthorKey) -> Result<(), AllocError>
+pub fn push_key(out: &mut Vec<u8>, key: &AuthorKey) -> Result<(), AllocError>
     ensures { OnOk result (out.new.items ≡ out.old.items ++ key_digits key.now) }
 {
     push_word(out, key.lms)?;
@@ -98,7 +98,7 @@ fn push_root(out: &mut Vec<u8>, root: &[u8; 32]) -> Result<(), AllocError>
 }
 
 /// Adds the last eight digits of a key.
-pub(crate) fn push_key_end(out: &mut Vec<u8>, key: &AuthorKey) -> Result<(), AllocError>
+pub fn push_key_end(out: &mut Vec<u8>, key: &AuthorKey) -> Result<(), AllocError>
     ensures { OnOk result (out.new.items ≡ out.old.items ++ key_end key.now) }
 {
     let mut digits = [0u8; 8];
@@ -106,53 +106,54 @@ pub(crate) fn push_key_end(out: &mut Vec<u8>, key: &AuthorKey) -> Result<(), All
     out.extend_from_slice(&digits)
 }
 
-/// Adds the name of a row, with a short id.
-fn push_short_name(out: &mut Vec<u8>, name: &RowName) -> Result<(), AllocError>
-    ensures { OnOk result (out.new.items ≡ out.old.items ++ short_name name.now) }
+/// Adds the name of a row, with so many digits of its id.
+fn push_short_name(out: &mut Vec<u8>, digits: usize, name: &RowName) -> Result<(), AllocError>
+    ensures { OnOk result (out.new.items ≡ out.old.items ++ short_name digits name.now) }
 {
-    push_short_id(out, &name.update)?;
+    push_short_id(out, digits, &name.update)?;
     out.push(b':')?;
     push_number(out, u64::from(name.index))
 }
 
 /// Adds a value, where rows have short names.
-fn push_short_value(out: &mut Vec<u8>, value: &Value) -> Result<(), AllocError>
-    ensures { OnOk result (out.new.items ≡ out.old.items ++ short_value value.now) }
+fn push_short_value(out: &mut Vec<u8>, digits: usize, value: &Value) -> Result<(), AllocError>
+    ensures { OnOk result (out.new.items ≡ out.old.items ++ short_value digits value.now) }
 {
     match value {
-        Value::Row(name) => push_short_name(out, name),
+        Value::Row(name) => push_short_name(out, digits, name),
         _ => push_value(out, NameStyle::Full, value),
     }
 }
 
 /// Adds values, each after a blank.
-fn push_short_values(out: &mut Vec<u8>, values: &[Value]) -> Result<(), AllocError>
-    ensures { OnOk result (out.new.items ≡ out.old.items ++ flat_map (λ value. 32 ∷ short_value value) values.now) }
+fn push_short_values(out: &mut Vec<u8>, digits: usize, values: &[Value]) -> Result<(), AllocError>
+    ensures { OnOk result (out.new.items ≡ out.old.items ++ flat_map (λ value. 32 ∷ short_value digits value) values.now) }
 {
     for value in values {
         out.push(b' ')?;
-        push_short_value(out, value)?;
+        push_short_value(out, digits, value)?;
     }
     Ok(())
 }
 
-/// Adds an operation, where rows have short names.
-pub(crate) fn push_short_operation(
+/// Adds an operation as it stands in a transaction, where the names of rows have so many digits of their ids.
+pub fn push_short_operation(
     out: &mut Vec<u8>,
+    digits: usize,
     schema: &Schema,
     op: &Op,
 ) -> Result<(), AllocError>
-    ensures { OnOk result (out.new.items ≡ out.old.items ++ short_operation schema.now.tables op.now) }
+    ensures { OnOk result (out.new.items ≡ out.old.items ++ short_operation digits schema.now.tables op.now) }
 {
     match op {
         Op::Insert { table, values } => {
             out.extend_from_slice(b"INSERT ")?;
             push_table_word(out, schema, *table)?;
-            push_short_values(out, values.as_slice())
+            push_short_values(out, digits, values.as_slice())
         }
         Op::Delete { row } => {
             out.extend_from_slice(b"DELETE ")?;
-            push_short_name(out, row)
+            push_short_name(out, digits, row)
         }
     }
 }
@@ -209,7 +210,7 @@ fn push_marked(out: &mut Vec<u8>, byte: u8) -> Result<(), AllocError>
 }
 
 /// Why an update does nothing.
-pub(crate) fn reason_words(reason: u8) -> &'static [u8]
+pub fn reason_words(reason: u8) -> &'static [u8]
     ensures { result.now ≡ reason_words reason }
 {
     match reason {

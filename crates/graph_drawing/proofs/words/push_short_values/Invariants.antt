@@ -5,4 +5,4 @@ use Rattle.graph_drawing.proofs.words.push_short_values.Given as goal
 
 -- the values so far
 abbrev pub invariant-loop-value : goal.invariant-loop-value
-invariant-loop-value l = l.out.items ≡ l.fn.out.items ++ flat_map (λ value. 32 ∷ short_value value) (take l.value-index l.values)
+invariant-loop-value l = l.out.items ≡ l.fn.out.items ++ flat_map (λ value. 32 ∷ short_value l.digits value) (take l.value-index l.values)

@@ -1,0 +1,154 @@
+//! Looking at a bundle.
+
+ghost use Rattle.std.specs.Prelude.{◌≡◌, ◌⊎◌, Err, IfOk, IsTrue, ℕ, option_map};
+ghost use Rattle.confluence_laws.specs.Confluence.{are_accepted};
+ghost use Rattle.table_model.specs.Invariants.{invariants_of};
+ghost use Rattle.outcomes.specs.Outcome.{ComesTo, Ends, Outcome};
+ghost use Rattle.outcomes.specs.Rules.{rules_of};
+ghost use Rattle.outcomes.specs.declared.refusal.Refusal.TheVariants.{Memory};
+ghost use Rattle.bec_look.specs.Bundles.{BundleShown, IsListing, IsOverview, ShowsAsked, ShowsMembers, lacks_one, status_with};
+ghost use Rattle.bec_look.specs.Questions.{listed, seen};
+ghost use Rattle.bec_look.specs.Words.{asked_by};
+
+use crate::answers::answer_text;
+use crate::asked::{Asked, Listing, Overview};
+use crate::asking::asked_by;
+use crate::members::Members;
+use crate::telling::{tables_of, told_by, told_of};
+use crate::texts::{text_of, text_of_all};
+use bec_bytes::{Sink, Source};
+use confluence_test::take_schema;
+use node_commands::{bundle_schema, read_graph};
+use outcomes::status::{DONE, REFUSED};
+use outcomes::{Refusal, finish};
+use query_answer::shown_lists;
+use row_check::{Luhn, Native};
+use std::alloc::{AllocError, Global};
+
+/// Shows the bundle of a source: writes what the words ask for, or the lines of what is refused. Answers the exit status, and a text for standard error, which may
+/// be empty.
+pub fn run<S: Source, K: Sink>(
+    alloc: Global,
+    words: &[String],
+    input: &mut S,
+    out: &mut K,
+) -> (u8, Vec<u8>)
+    ensures { (outcome : Outcome) × (status : ℕ) × ShowsAsked S.left S.faults (asked_by words.now) input.old input.new outcome
+        × Ends (K.faults out.old) (K.faults out.new) (K.held out.old) (K.held out.new) outcome status × (result.0 ≡ status_with (lacks_one (asked_by words.now) outcome) status) }
+{
+    let mut beside = Vec::new(alloc);
+    let asked = asked_by(words);
+    let outcome = show_asked(alloc, asked, input, &mut beside);
+    let lacks = lacks_one(asked, &outcome);
+    let status = finish(alloc, out, outcome);
+    (status_with(lacks, status), beside)
+}
+
+/// Shows the bundle of a source as it is asked.
+fn show_asked<S: Source>(
+    alloc: Global,
+    asked: Option<Asked>,
+    input: &mut S,
+    beside: &mut Vec<u8>,
+) -> Result<Vec<u8>, Refusal>
+    ensures { ShowsAsked S.left S.faults (option_map seen asked.entry) input.old input.new result }
+{
+    match asked {
+        Some(asked) => bundle_text(alloc, asked, input, beside),
+        None => Err(Refusal::Words),
+    }
+}
+
+/// Whether one update is asked for, and none fits or several do.
+fn lacks_one(asked: Option<Asked>, outcome: &Result<Vec<u8>, Refusal>) -> bool
+    ensures { result ≡ lacks_one (option_map seen asked.entry) outcome.now }
+{
+    match (asked, outcome) {
+        (Some(Asked::Updates(Listing::Show(_, _))), Ok(text)) => text.is_empty(),
+        (Some(Asked::Updates(Listing::Who(_, _))), Ok(text)) => text.is_empty(),
+        _ => false,
+    }
+}
+
+/// The exit status of what is said with this one.
+fn status_with(lacks: bool, status: u8) -> u8
+    ensures { result ≡ status_with lacks status }
+{
+    if lacks && status == DONE {
+        REFUSED
+    } else {
+        status
+    }
+}
+
+/// What is asked of a bundle.
+fn bundle_text<S: Source>(
+    alloc: Global,
+    asked: Asked,
+    input: &mut S,
+    beside: &mut Vec<u8>,
+) -> Result<Vec<u8>, Refusal>
+    ensures { ComesTo (BundleShown (seen asked.entry)) (S.left input.old) (S.left input.new) (S.faults input.old) (S.faults input.new) result }
+{
+    let native = Native::new(Luhn);
+    let declared = bundle_schema(alloc, input)?;
+    let schema = take_schema(alloc, &declared, &native)?;
+    let rule = Some(schema.rule().copy(alloc)?);
+    let graph = read_graph(alloc, &rule, input)?;
+    let members = Members {
+        schema: &schema,
+        native: &native,
+        graph: &graph,
+    };
+    shown(alloc, asked, members, beside)
+}
+
+/// What is asked of members.
+fn shown(
+    alloc: Global,
+    asked: Asked,
+    members: Members,
+    beside: &mut Vec<u8>,
+) -> Result<Vec<u8>, Refusal>
+    requires { IsTrue (are_accepted (rules_of members.schema.now) (invariants_of (rules_of members.schema.now))) }
+    ensures { ShowsMembers (seen asked.entry) members.entry.schema.now members.entry.graph.now result ⊎ (result ≡ Err Memory) }
+{
+    match asked {
+        Asked::Updates(listing) => Ok(listing_text(alloc, listing, members, beside)?),
+        Asked::All(overview) => Ok(overview_text(alloc, overview, members, beside)?),
+        Asked::Schema => Ok(Vec::from_slice(alloc, members.schema.text())?),
+        Asked::Csv(text) => answer_text(alloc, text, members),
+    }
+}
+
+/// What is asked of the updates.
+fn listing_text(
+    alloc: Global,
+    asked: Listing,
+    members: Members,
+    beside: &mut Vec<u8>,
+) -> Result<Vec<u8>, AllocError>
+    requires { IsTrue (are_accepted (rules_of members.schema.now) (invariants_of (rules_of members.schema.now))) }
+    ensures { IfOk result (λ text. IsListing (listed asked.entry) members.entry.schema.now members.entry.graph.now text.items) }
+{
+    let told = told_of(alloc, members)?;
+    let text = text_of(alloc, asked, members.schema, members.graph, &told, beside)?;
+    Ok(text)
+}
+
+/// What is asked of all.
+fn overview_text(
+    alloc: Global,
+    asked: Overview,
+    members: Members,
+    beside: &mut Vec<u8>,
+) -> Result<Vec<u8>, AllocError>
+    requires { IsTrue (are_accepted (rules_of members.schema.now) (invariants_of (rules_of members.schema.now))) }
+    ensures { IfOk result (λ text. IsOverview asked members.entry.schema.now members.entry.graph.now text.items) }
+{
+    let tables = tables_of(alloc, members)?;
+    let told = told_by(alloc, members.graph, &tables)?;
+    let lists = shown_lists(alloc, members.schema, &tables)?;
+    let text = text_of_all(alloc, asked, members, &told, lists.as_slice(), beside)?;
+    Ok(text)
+}

@@ -1,0 +1,45 @@
+//! The program `bec_look`: it shows a bundle, for the commands `draw`, `log`, `show`, `who`, `page`, `csv`, `status` and `schema` of the launcher.
+//!
+//! It reads a bundle from standard input and prints its picture as SVG, or as DOT with `--dot`; its log, with `--rows` and with what each update did; or the one
+//! update whose id begins so, or that inserted a row. Ids and keys are cut, whole with `--full`, and with `--json` these texts are one JSON object. `page` prints a
+//! page of HTML, `status` how much there is, `schema` the text of the schema, and `csv QUERY` an answer as comma-separated values. Refusals and
+//! statuses are those of `bec dump`, and of a query those of `bec query`; where none fits or several do nothing is printed, and the status is 1. If there are more
+//! updates than are drawn, or several fit, it says so on standard error.
+#![tactic(auto)]
+
+mod answers;
+mod asked;
+mod asking;
+mod looking;
+mod members;
+mod notes;
+mod telling;
+mod texts;
+
+use crate::looking::run;
+use bec_bytes::write_all_of;
+use bec_host::{HostSink, HostSource, hold_closed_streams, words};
+use outcomes::status::{OUT_OF_MEMORY, STREAM_FAULT};
+use std::process::ExitCode;
+
+fn main(rt: HostRuntime) -> ExitCode {
+    let Ok(_held) = hold_closed_streams(&rt) else {
+        return ExitCode::from(STREAM_FAULT);
+    };
+    let Ok(words) = words(&rt) else {
+        return ExitCode::from(OUT_OF_MEMORY);
+    };
+    let Ok(mut input) = HostSource::new(rt.alloc(), rt.stdin()) else {
+        return ExitCode::from(OUT_OF_MEMORY);
+    };
+    let mut output = HostSink::new(rt.stdout());
+    let mut errors = HostSink::new(rt.stderr());
+    let (status, beside) = run(rt.alloc(), &words, &mut input, &mut output);
+    if beside.is_empty() {
+        return ExitCode::from(status);
+    }
+    match write_all_of(&mut errors, &beside) {
+        Ok(()) => ExitCode::from(status),
+        Err(_failed) => ExitCode::from(STREAM_FAULT),
+    }
+}

@@ -1,0 +1,17 @@
+//! Answers of queries as comma-separated values.
+//!
+//! [`csv`] answers the text: a header with the names of the columns, and a line for each row. A text stands in quotes, and what is null
+//! is empty, so the two are told apart.
+//!
+//! ```text
+//! let answer = answer(alloc, native, schema, &query, tables)?;
+//! let text = csv(alloc, &answer)?;
+//! // name,place
+//! // "a ""red"" box",5c6f..:0
+//! ```
+#![tactic(auto)]
+
+mod tables;
+mod values;
+
+pub use tables::csv;

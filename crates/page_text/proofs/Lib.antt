@@ -1,0 +1,3 @@
+mod Listed
+mod Named
+mod Unmarked

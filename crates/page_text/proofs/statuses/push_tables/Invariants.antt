@@ -1,0 +1,8 @@
+use Rattle.std.proofs.Common.{◌≡◌, ◌++◌, take}
+use Rattle.page_text.specs.Parts.{each_listed}
+use Rattle.page_text.specs.Statuses.{rows_line}
+use Rattle.page_text.proofs.statuses.push_tables.Given as goal
+
+-- the tables so far
+abbrev pub invariant-loop-number : goal.invariant-loop-number
+invariant-loop-number l = l.out.items ≡ l.fn.out.items ++ each_listed rows_line (take l.number l.schema.tables) l.lists

@@ -1,0 +1,6 @@
+pub mod Cells
+pub mod Marks
+pub mod Naming
+pub mod Pages
+pub mod Parts
+pub mod Statuses
