@@ -10,6 +10,8 @@
 mod answers;
 mod asked;
 mod asking;
+mod both;
+mod bundle;
 mod looking;
 mod members;
 mod notes;
