@@ -1,5 +1,5 @@
 -- From what the parts of looking answer to what it comes to.
-use Rattle.std.proofs.Common.{◌≡◌, ◌⊎◌, absurd, inl, inr, ℕ, ◌≤◌, List, refl, sym, ap, subst, Option, Some, Ok, Err}
+use Rattle.std.proofs.Common.{◌≡◌, ◌⊎◌, arith, inl, inr, ℕ, ◌≤◌, List, refl, sym, ap, subst, Option, Some, Ok, Err}
 use Rattle.update_model.specs.Rule.{RuleData}
 use Rattle.update_stream.specs.declared.reading.Reading.TheVariants.{Whole}
 use Rattle.update_stream.specs.Told.{Reads}
@@ -20,10 +20,6 @@ use Rattle.node_commands.specs.Heads.{StopsAt}
 use Rattle.outcomes.specs.Outcome.{ComesTo, IsFault, Outcome, from_taking}
 use Rattle.outcomes.proofs.Saying.{rose_later}
 use Rattle.bec_look.specs.Bundles.{AreEntriesOf, BothShown, BundleHeld, BundleRefused, BundleShown, HoldsFirst, LacksFirst, ShowsMembers, cut, differ, first, held, lacks, refused, refuses, second, shows, stopped}
-
-pub refused_lacks : (before after : Option (List ℕ)) (old new : ℕ) (r : Refusal) → LacksText before after r ⊎ IsFault old new r → BundleRefused before after r ⊎ IsFault old new r
-refused_lacks before after old new r (inl none) = inl (lacks none)
-refused_lacks before after old new r (inr fault) = inr fault
 
 pub refused_text : (before after : Option (List ℕ)) (old new : ℕ) (declared : List ℕ) (why : SchemaRefusal) → HoldsText before after declared → RefusesSchema is_luhn declared why ⊎ (why ≡ taking.Memory)
     → BundleRefused before after (from_taking why) ⊎ IsFault old new (from_taking why)
@@ -58,13 +54,7 @@ shown_done asked before after old new schema members outcome holds (inl is) = co
 shown_done asked before after old new schema members outcome holds (inr memory) =
     subst (λ (o : Outcome). ComesTo (BundleShown asked) before after old new o) (sym memory) (inr (inl refl))
 
--- of two bundles, there is no first one
-pub both_cut : (style : Style) (before after : Option (List ℕ)) (old new : ℕ) (r : Refusal) → (LacksFirst before after × (r ≡ CutSchema)) ⊎ IsFault old new r
-    → ComesTo (BothShown style) before after old new (Err r)
-both_cut style before after old new r (inl is) = inl (cut is.0 (ap (λ (x : Refusal). Err x) is.1))
-both_cut style before after old new r (inr fault) = inr fault
-
--- the first one is refused, whose source never fails
+-- of two bundles, the first one is refused, whose source never fails
 pub both_first : (style : Style) (before after left : Option (List ℕ)) (old new : ℕ) (bundle : List ℕ) (r : Refusal) → HoldsFirst before after bundle
     → BundleRefused (Some bundle) left r ⊎ IsFault 0 0 r → ComesTo (BothShown style) before after old new (Err r)
 both_first style before after left old new bundle r holds (inl is) = inl (first bundle left r holds is refl)
