@@ -8,18 +8,15 @@ use Rattle.confluence_test.specs.Taking.{RefusesSchema, TakesSchema}
 use Rattle.confluence_test.specs.declared.refusal.SchemaRefusal.{SchemaRefusal}
 use Rattle.confluence_test.specs.declared.refusal.SchemaRefusal.TheVariants as taking
 use Rattle.schema.specs.Data.{SchemaData}
-use Rattle.schema_verdict.specs.Verdict.{Prints}
-use Rattle.log_texts.specs.declared.entry.Entry.{Entry}
 use Rattle.log_texts.specs.declared.style.Style.{Style}
-use Rattle.log_texts.specs.Differing.{diff_text}
 use Rattle.bec_look.specs.Questions.{Question}
 use Rattle.outcomes.specs.declared.refusal.Refusal.{Refusal}
-use Rattle.outcomes.specs.declared.refusal.Refusal.TheVariants.{CutSchema, Memory}
-use Rattle.node_commands.specs.Bundle.{HoldsText, LacksText}
+use Rattle.outcomes.specs.declared.refusal.Refusal.TheVariants.{Memory}
+use Rattle.node_commands.specs.Bundle.{HoldsText}
 use Rattle.node_commands.specs.Heads.{StopsAt}
 use Rattle.outcomes.specs.Outcome.{ComesTo, IsFault, Outcome, from_taking}
 use Rattle.outcomes.proofs.Saying.{rose_later}
-use Rattle.bec_look.specs.Bundles.{AreEntriesOf, BothShown, BundleHeld, BundleRefused, BundleShown, HoldsFirst, LacksFirst, ShowsMembers, cut, differ, first, held, lacks, refused, refuses, second, shows, stopped}
+use Rattle.bec_look.specs.Bundles.{BothShown, BundleHeld, BundleRefused, BundleShown, HoldsFirst, ShowsMembers, first, held, refused, refuses, second, shows, stopped}
 
 pub refused_text : (before after : Option (List ℕ)) (old new : ℕ) (declared : List ℕ) (why : SchemaRefusal) → HoldsText before after declared → RefusesSchema is_luhn declared why ⊎ (why ≡ taking.Memory)
     → BundleRefused before after (from_taking why) ⊎ IsFault old new (from_taking why)

@@ -48,11 +48,7 @@ pub(crate) fn manner_of(
 }
 
 /// How entries are written, where these ids are to be told apart.
-pub(crate) fn manner_by(
-    alloc: Global,
-    style: Style,
-    ids: &[UpdateId],
-) -> Result<Manner, AllocError>
+pub(crate) fn manner_by(alloc: Global, style: Style, ids: &[UpdateId]) -> Result<Manner, AllocError>
     ensures { IfOk result (λ manner. manner ≡ manner_of style ids.now) }
 {
     match style {
