@@ -1,10 +1,17 @@
 -- What looking at a bundle comes to: a text of its updates, a text of all of it, the text of its schema, or the answer of a query.
-use Rattle.std.specs.Prelude.{◌≡◌, ℕ, ◌&&◌, ◌==◌, Bool, false, List, length, if◌then◌else◌, Option, None, Some, Ok, Err}
+use Rattle.std.specs.Prelude.{◌≡◌, ◌⊎◌, ℕ, ◌&&◌, ◌==◌, Bool, false, List, [], drop, length, if◌then◌else◌, Option, None, Some, Ok, Err}
+use Rattle.bec_bytes.specs.Framed.{HoldsPiece, IsCut, IsTooLong}
+use Rattle.bec_bytes.specs.Moved.{IfTold}
+use Rattle.log_texts.specs.declared.entry.Entry.{Entry}
+use Rattle.log_texts.specs.declared.style.Style.{Style}
+use Rattle.log_texts.specs.Differing.{diff_text}
+use Rattle.log_texts.specs.Entries.{AreEntries}
+use Rattle.bec_look.specs.declared.both.TheConstants.{MAX_FIRST_BYTES}
 use Rattle.row_check.specs.Checksum.{is_luhn}
 use Rattle.confluence_test.specs.Taking.{RefusesSchema, TakesSchema}
 use Rattle.confluence_test.specs.declared.refusal.SchemaRefusal.{SchemaRefusal}
 use Rattle.bec_look.specs.declared.asked.Overview.{Overview}
-use Rattle.bec_look.specs.Questions.{ListingData, Question, Show, Who, Updates, All, Schema, Csv}
+use Rattle.bec_look.specs.Questions.{ListingData, Question, Wanted, Show, Who, Updates, All, Schema, Csv, One, Both}
 use Rattle.bec_look.specs.Queries.{AnswersQuery}
 use Rattle.bec_look.specs.Telling.{IsToldOf}
 use Rattle.bec_look.specs.Texts.{IsTextOf, IsTextOfAll}
@@ -14,7 +21,7 @@ use Rattle.graph_drawing.specs.Depths.{nodes_of}
 use Rattle.graph_drawing.specs.Told.{Told}
 use Rattle.node_commands.specs.Bundle.{HoldsText, LacksText}
 use Rattle.outcomes.specs.declared.refusal.Refusal.{Refusal}
-use Rattle.outcomes.specs.declared.refusal.Refusal.TheVariants.{Record, Words}
+use Rattle.outcomes.specs.declared.refusal.Refusal.TheVariants.{CutSchema, Record, Words}
 use Rattle.outcomes.specs.Outcome.{ComesTo, Outcome, from_taking}
 use Rattle.schema_verdict.specs.declared.status.TheConstants.{DONE, REFUSED}
 use Rattle.schema_verdict.specs.Verdict.{Prints}
@@ -45,31 +52,58 @@ ShowsMembers (All asked) schema members outcome = (text : List ℕ) × IsOvervie
 ShowsMembers Schema schema members outcome = Prints outcome schema.text
 ShowsMembers (Csv text) schema members outcome = AnswersQuery text schema members outcome
 
--- What follows a schema is a stream under its rule, whose graph is shown; or a record of it is refused.
-pub data RecordsShown (asked : Question) (schema : SchemaData) (before after : Option (List ℕ)) (outcome : Outcome) : Type 0 where
-  whole : (members : List (List ℕ)) → Reads (Some schema.rule) before after (Whole members) → ShowsMembers asked schema members outcome
-      → RecordsShown asked schema before after outcome
-  stopped : (n : ℕ) (fault : RecordFault) → Reads (Some schema.rule) before after (Refused n fault) → outcome ≡ Err (Record n fault) → RecordsShown asked schema before after outcome
+-- A bundle declares this schema, and what follows it is a stream under its rule, whose graph has these members.
+pub data BundleHeld (before after : Option (List ℕ)) (schema : SchemaData) (members : List (List ℕ)) : Type 0 where
+  held : (declared : List ℕ) (mid : Option (List ℕ)) → HoldsText before mid declared → TakesSchema is_luhn declared schema → Reads (Some schema.rule) mid after (Whole members)
+      → BundleHeld before after schema members
 
--- The text of a schema is taken, and what follows is shown; or it is refused, and no more is read.
-pub data TextShown (asked : Question) (declared : List ℕ) (before after : Option (List ℕ)) (outcome : Outcome) : Type 0 where
-  taken : (schema : SchemaData) → TakesSchema is_luhn declared schema → RecordsShown asked schema before after outcome → TextShown asked declared before after outcome
-  refused : (why : SchemaRefusal) → RefusesSchema is_luhn declared why → after ≡ before → outcome ≡ Err (from_taking why) → TextShown asked declared before after outcome
+-- A bundle lacks the text of a schema; or that is refused, and no more is read; or a record behind it is refused.
+pub data BundleRefused (before after : Option (List ℕ)) (refusal : Refusal) : Type 0 where
+  lacks : LacksText before after refusal → BundleRefused before after refusal
+  refused : (declared : List ℕ) (why : SchemaRefusal) → HoldsText before after declared → RefusesSchema is_luhn declared why → refusal ≡ from_taking why → BundleRefused before after refusal
+  stopped : (declared : List ℕ) (mid : Option (List ℕ)) (schema : SchemaData) (n : ℕ) (fault : RecordFault) → HoldsText before mid declared → TakesSchema is_luhn declared schema
+      → Reads (Some schema.rule) mid after (Refused n fault) → refusal ≡ Record n fault → BundleRefused before after refusal
 
--- A bundle holds the text of a schema, and what follows it is shown; or it lacks one.
+-- The members of a bundle are shown under its schema; or it is refused.
 pub data BundleShown (asked : Question) (before after : Option (List ℕ)) (outcome : Outcome) : Type 0 where
-  holds : (declared : List ℕ) (mid : Option (List ℕ)) → HoldsText before mid declared → TextShown asked declared mid after outcome → BundleShown asked before after outcome
-  lacks : (refusal : Refusal) → LacksText before after refusal → outcome ≡ Err refusal → BundleShown asked before after outcome
+  shows : (schema : SchemaData) (members : List (List ℕ)) → BundleHeld before after schema members → ShowsMembers asked schema members outcome → BundleShown asked before after outcome
+  refuses : (refusal : Refusal) → BundleRefused before after refusal → outcome ≡ Err refusal → BundleShown asked before after outcome
 
--- The bundle of a source is shown as the words ask; or they ask for nothing, and nothing is read.
-abbrev pub ShowsAsked : {S : Type 0} → (S → Option (List ℕ)) → (S → ℕ) → Option Question → S → S → Outcome → Type 0
+-- These are the entries of members, the newest first, with what is told of them.
+abbrev pub AreEntriesOf : SchemaData → List (List ℕ) → List Entry → Type 0
+AreEntriesOf schema members entries = (told : Told) × IsToldOf (rules_of schema) members told × AreEntries (nodes_of members) told entries
+
+-- The input is this bundle behind its length, which is within the limit, and then what is left.
+abbrev pub HoldsFirst : Option (List ℕ) → Option (List ℕ) → List ℕ → Type 0
+HoldsFirst before after bundle = IfTold before after (λ input rest. HoldsPiece MAX_FIRST_BYTES input bundle rest)
+
+-- The input is empty, or it ends inside the bundle that it begins with, or that is too long, and then its length alone is read.
+abbrev pub LacksFirst : Option (List ℕ) → Option (List ℕ) → Type 0
+LacksFirst before after =
+    IfTold before after (λ input rest. (((input ≡ []) ⊎ IsCut MAX_FIRST_BYTES input) × (rest ≡ [])) ⊎ (IsTooLong MAX_FIRST_BYTES input × (rest ≡ drop 4 input)))
+
+-- Of two bundles, the first behind its length, it is shown which updates only one has; or there is no first one, which is told as of one that lacks a schema; or
+-- the first is refused, and no more is read; or the second is.
+pub data BothShown (style : Style) (before after : Option (List ℕ)) (outcome : Outcome) : Type 0 where
+  cut : LacksFirst before after → outcome ≡ Err CutSchema → BothShown style before after outcome
+  first : (bundle : List ℕ) (left : Option (List ℕ)) (refusal : Refusal) → HoldsFirst before after bundle → BundleRefused (Some bundle) left refusal → outcome ≡ Err refusal
+      → BothShown style before after outcome
+  second : (bundle : List ℕ) (left mid : Option (List ℕ)) (schema : SchemaData) (members : List (List ℕ)) (refusal : Refusal) → HoldsFirst before mid bundle
+      → BundleHeld (Some bundle) left schema members → BundleRefused mid after refusal → outcome ≡ Err refusal → BothShown style before after outcome
+  differ : (bundle : List ℕ) (left mid : Option (List ℕ)) (one other : SchemaData) (members others : List (List ℕ)) (firsts seconds : List Entry) → HoldsFirst before mid bundle
+      → BundleHeld (Some bundle) left one members → BundleHeld mid after other others → AreEntriesOf one members firsts → AreEntriesOf other others seconds
+      → Prints outcome (diff_text style firsts seconds) → BothShown style before after outcome
+
+-- What a source has is shown as the words ask; or they ask for nothing, and nothing is read.
+abbrev pub ShowsAsked : {S : Type 0} → (S → Option (List ℕ)) → (S → ℕ) → Option Wanted → S → S → Outcome → Type 0
 ShowsAsked left faults None before after outcome = (outcome ≡ Err Words) × (after ≡ before)
-ShowsAsked left faults (Some asked) before after outcome = ComesTo (BundleShown asked) (left before) (left after) (faults before) (faults after) outcome
+ShowsAsked left faults (Some (One asked)) before after outcome = ComesTo (BundleShown asked) (left before) (left after) (faults before) (faults after) outcome
+ShowsAsked left faults (Some (Both style)) before after outcome = ComesTo (BothShown style) (left before) (left after) (faults before) (faults after) outcome
 
 -- whether one update is asked for, and none fits or several do
-abbrev pub lacks_one : Option Question → Outcome → Bool
-lacks_one (Some (Updates (Show style word))) (Ok text) = length text.items == 0
-lacks_one (Some (Updates (Who style word))) (Ok text) = length text.items == 0
+abbrev pub lacks_one : Option Wanted → Outcome → Bool
+lacks_one (Some (One (Updates (Show style word)))) (Ok text) = length text.items == 0
+lacks_one (Some (One (Updates (Who style word)))) (Ok text) = length text.items == 0
 lacks_one asked outcome = false
 
 -- the exit status of what is said with this one: where one update is asked for and it is not there, nothing is said, and that is refused

@@ -1,7 +1,9 @@
--- What is asked of a bundle.
+-- What is asked of a bundle, or of two.
 use Rattle.std.specs.Prelude.{ℕ, Bool, List}
 use Rattle.bec_look.specs.declared.asked.Asked.{Asked}
 use Rattle.bec_look.specs.declared.asked.Asked.TheVariants as asked
+use Rattle.bec_look.specs.declared.asked.Asking.{Asking}
+use Rattle.bec_look.specs.declared.asked.Asking.TheVariants as asking
 use Rattle.bec_look.specs.declared.asked.Listing.{Listing}
 use Rattle.bec_look.specs.declared.asked.Listing.TheVariants as listing
 use Rattle.bec_look.specs.declared.asked.Overview.{Overview}
@@ -23,6 +25,11 @@ pub data Question : Type 0 where
   Schema : Question
   Csv : List ℕ → Question
 
+-- One bundle is asked for this; or of two it is asked which updates only one has.
+pub data Wanted : Type 0 where
+  One : Question → Wanted
+  Both : Style → Wanted
+
 -- the same of words that are lent
 abbrev pub listed : Listing → ListingData
 listed (listing.Picture form) = Picture form
@@ -35,3 +42,7 @@ seen (asked.Updates updates) = Updates (listed updates)
 seen (asked.All overview) = All overview
 seen asked.Schema = Schema
 seen (asked.Csv text) = Csv text.now
+
+abbrev pub wanted : Asking → Wanted
+wanted (asking.One asked) = One (seen asked)
+wanted (asking.Both style) = Both style

@@ -7,7 +7,7 @@ use Rattle.graph_drawing.specs.declared.form.Form.TheVariants.{Svg, Dot}
 use Rattle.log_texts.specs.declared.style.Style.{Style}
 use Rattle.log_texts.specs.declared.style.Style.TheVariants.{Whole, Short, Json}
 use Rattle.bec_look.specs.declared.asked.Overview.TheVariants.{Page, Status}
-use Rattle.bec_look.specs.Questions.{ListingData, Question, Picture, Log, Show, Who, Updates, All, Schema, Csv}
+use Rattle.bec_look.specs.Questions.{ListingData, Question, Wanted, Picture, Log, Show, Who, Updates, All, Schema, Csv, One, Both}
 
 -- whether a word is among words
 abbrev pub has_word : List (String Global) → List ℕ → Bool
@@ -83,7 +83,15 @@ abbrev pub updates_or : Option ListingData → Option Question → Option Questi
 updates_or (Some listing) other = Some (Updates listing)
 updates_or None other = other
 
+-- what a command asks of one bundle
+abbrev pub one_by : List ℕ → List (String Global) → Option Wanted
+one_by command words = option_map One (updates_or (listing_by command words) (other_by command words))
+
+-- what these words behind `diff` ask for
+abbrev pub both_by : List (String Global) → Option Wanted
+both_by words = if list_all is_style words then Some (Both (style_by words)) else None
+
 -- what these words ask for
-abbrev pub asked_by : List (String Global) → Option Question
+abbrev pub asked_by : List (String Global) → Option Wanted
 asked_by [] = None
-asked_by (command ∷ words) = updates_or (listing_by (string_bytes command) words) (other_by (string_bytes command) words)
+asked_by (command ∷ words) = if bytes_eq (string_bytes command) (codes "diff") then both_by words else one_by (string_bytes command) words

@@ -1,6 +1,15 @@
 use graph_drawing::Form;
 use log_texts::Style;
 
+/// What words ask for.
+#[derive(Clone, Copy)]
+pub enum Asking<'a> {
+    /// This of one bundle.
+    One(Asked<'a>),
+    /// Which updates only one of two bundles has.
+    Both(Style),
+}
+
 /// What is asked of a bundle.
 #[derive(Clone, Copy)]
 pub enum Asked<'a> {

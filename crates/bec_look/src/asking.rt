@@ -2,23 +2,48 @@
 
 ghost use Rattle.std.specs.Prelude.{◌≡◌, option_copied, option_map};
 ghost use Rattle.std.specs.List.{list_all};
-ghost use Rattle.bec_look.specs.Questions.{listed, seen};
-ghost use Rattle.bec_look.specs.Words.{alone, alone_named, asked_by, csv_by, has_word, is_dot, is_of_log, is_style, listing_by, log_by, named_word, other_by, picture_by, style_by};
+ghost use Rattle.bec_look.specs.Questions.{listed, seen, wanted};
+ghost use Rattle.bec_look.specs.Words.{alone, alone_named, asked_by, both_by, csv_by, has_word, is_dot, is_of_log, is_style, listing_by, log_by, named_word, one_by, other_by, picture_by, style_by};
 
-use crate::asked::{Asked, Listing, Overview};
+use crate::asked::{Asked, Asking, Listing, Overview};
 use graph_drawing::Form;
 use log_texts::Style;
 
 /// What these words ask for.
-pub(crate) fn asked_by(words: &[String]) -> Option<Asked<'_>>
-    ensures { option_map seen result ≡ asked_by words.now }
+pub(crate) fn asked_by(words: &[String]) -> Option<Asking<'_>>
+    ensures { option_map wanted result ≡ asked_by words.now }
 {
     let [command, others @ ..] = words else {
         return None;
     };
-    match listing_by(command, others) {
-        Some(listing) => Some(Asked::Updates(listing)),
-        None => other_by(command, others),
+    if command.as_str() == "diff" {
+        both_by(others)
+    } else {
+        one_by(command, others)
+    }
+}
+
+/// What these words behind `diff` ask for.
+fn both_by(words: &[String]) -> Option<Asking<'_>>
+    ensures { option_map wanted result ≡ both_by words.now }
+{
+    if are_styles(words) {
+        Some(Asking::Both(style_by(words)))
+    } else {
+        None
+    }
+}
+
+/// What a command asks of one bundle.
+fn one_by<'a>(command: &str, words: &'a [String]) -> Option<Asking<'a>>
+    ensures { option_map wanted result ≡ one_by command.now words.now }
+{
+    match listing_by(command, words) {
+        Some(listing) => Some(Asking::One(Asked::Updates(listing))),
+        None => {
+            let asked = other_by(command, words)?;
+            Some(Asking::One(asked))
+        }
     }
 }
 

@@ -7,25 +7,25 @@ ghost use Rattle.outcomes.specs.Outcome.{ComesTo, Ends, Outcome};
 ghost use Rattle.outcomes.specs.Rules.{rules_of};
 ghost use Rattle.outcomes.specs.declared.refusal.Refusal.TheVariants.{Memory};
 ghost use Rattle.bec_look.specs.Bundles.{BundleShown, IsListing, IsOverview, ShowsAsked, ShowsMembers, lacks_one, status_with};
-ghost use Rattle.bec_look.specs.Questions.{listed, seen};
+ghost use Rattle.bec_look.specs.Questions.{listed, seen, wanted};
 ghost use Rattle.bec_look.specs.Words.{asked_by};
 
 use crate::answers::answer_text;
-use crate::asked::{Asked, Listing, Overview};
+use crate::asked::{Asked, Asking, Listing, Overview};
 use crate::asking::asked_by;
+use crate::both::both_text;
+use crate::bundle::read_bundle;
 use crate::members::Members;
 use crate::telling::{tables_of, told_by, told_of};
 use crate::texts::{text_of, text_of_all};
 use bec_bytes::{Sink, Source};
-use confluence_test::take_schema;
-use node_commands::{bundle_schema, read_graph};
 use outcomes::status::{DONE, REFUSED};
 use outcomes::{Refusal, finish};
 use query_answer::shown_lists;
 use row_check::{Luhn, Native};
 use std::alloc::{AllocError, Global};
 
-/// Shows the bundle of a source: writes what the words ask for, or the lines of what is refused. Answers the exit status, and a text for standard error, which may
+/// Shows the bundle of a source, or what differs in two: writes what the words ask for, or the lines of what is refused. Answers the exit status, and a text for standard error, which may
 /// be empty.
 pub fn run<S: Source, K: Sink>(
     alloc: Global,
@@ -44,28 +44,29 @@ pub fn run<S: Source, K: Sink>(
     (status_with(lacks, status), beside)
 }
 
-/// Shows the bundle of a source as it is asked.
+/// Shows what a source has as it is asked.
 fn show_asked<S: Source>(
     alloc: Global,
-    asked: Option<Asked>,
+    asked: Option<Asking>,
     input: &mut S,
     beside: &mut Vec<u8>,
 ) -> Result<Vec<u8>, Refusal>
-    ensures { ShowsAsked S.left S.faults (option_map seen asked.entry) input.old input.new result }
+    ensures { ShowsAsked S.left S.faults (option_map wanted asked.entry) input.old input.new result }
 {
     match asked {
-        Some(asked) => bundle_text(alloc, asked, input, beside),
+        Some(Asking::One(asked)) => bundle_text(alloc, asked, input, beside),
+        Some(Asking::Both(style)) => both_text(alloc, style, input),
         None => Err(Refusal::Words),
     }
 }
 
 /// Whether one update is asked for, and none fits or several do.
-fn lacks_one(asked: Option<Asked>, outcome: &Result<Vec<u8>, Refusal>) -> bool
-    ensures { result ≡ lacks_one (option_map seen asked.entry) outcome.now }
+fn lacks_one(asked: Option<Asking>, outcome: &Result<Vec<u8>, Refusal>) -> bool
+    ensures { result ≡ lacks_one (option_map wanted asked.entry) outcome.now }
 {
     match (asked, outcome) {
-        (Some(Asked::Updates(Listing::Show(_, _))), Ok(text)) => text.is_empty(),
-        (Some(Asked::Updates(Listing::Who(_, _))), Ok(text)) => text.is_empty(),
+        (Some(Asking::One(Asked::Updates(Listing::Show(_, _)))), Ok(text)) => text.is_empty(),
+        (Some(Asking::One(Asked::Updates(Listing::Who(_, _)))), Ok(text)) => text.is_empty(),
         _ => false,
     }
 }
@@ -91,14 +92,11 @@ fn bundle_text<S: Source>(
     ensures { ComesTo (BundleShown (seen asked.entry)) (S.left input.old) (S.left input.new) (S.faults input.old) (S.faults input.new) result }
 {
     let native = Native::new(Luhn);
-    let declared = bundle_schema(alloc, input)?;
-    let schema = take_schema(alloc, &declared, &native)?;
-    let rule = Some(schema.rule().copy(alloc)?);
-    let graph = read_graph(alloc, &rule, input)?;
+    let bundle = read_bundle(alloc, &native, input)?;
     let members = Members {
-        schema: &schema,
+        schema: &bundle.schema,
         native: &native,
-        graph: &graph,
+        graph: &bundle.graph,
     };
     shown(alloc, asked, members, beside)
 }

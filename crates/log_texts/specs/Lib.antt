@@ -1,3 +1,4 @@
+pub mod Differing
 pub mod Digits
 pub mod Entries
 pub mod Finding

@@ -59,8 +59,11 @@ pub(crate) fn ids_of(alloc: Global, entries: &[Entry]) -> Result<Vec<UpdateId>, 
     Ok(ids)
 }
 
-/// The heads as a set of ids.
-fn heads_by_id(alloc: Global, heads: &[UpdateId]) -> Result<BTreeMap<UpdateId, ()>, AllocError>
+/// Ids as a set, such as those of the heads.
+pub(crate) fn heads_by_id(
+    alloc: Global,
+    heads: &[UpdateId],
+) -> Result<BTreeMap<UpdateId, ()>, AllocError>
     ensures { IfOk result (λ known. (id : Id) → is_some (get id_cmp known id) ≡ is_head heads.now id) }
 {
     let mut known = BTreeMap::new(alloc);

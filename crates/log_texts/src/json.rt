@@ -104,6 +104,17 @@ fn push_whole_json(
     )
 }
 
+/// Adds an entry with its note and without operations.
+#[tactic(auto, unfolding(crate::specs::Json::entry_json))]
+pub(crate) fn push_noted_json(out: &mut Vec<u8>, entry: &Entry) -> Result<(), AllocError>
+    ensures { OnOk result (out.new.items ≡ out.old.items ++ entry_json [] entry.now.note [] entry.now) }
+{
+    push_front_json(out, &entry.placed)?;
+    push_marks_json(out, entry)?;
+    push_note_json(out, &entry.note)?;
+    out.extend_from_slice(b"}")
+}
+
 /// Adds an entry with this note and these operations.
 #[tactic(auto, unfolding(crate::specs::Json::entry_json))]
 fn push_entry_json(

@@ -1,7 +1,7 @@
 //! The texts of a log of a hash graph.
 //!
 //! [`entries_of`] answers the updates of a graph with what is told of them, the newest first. [`log_text`] writes them, [`show_text`] the one whose id begins so, and
-//! [`who_text`] the one that wrote a row: each with whole ids and keys, with cut ones, or as JSON ([`Style`]).
+//! [`who_text`] the one that wrote a row, and [`diff_text`] those that only one of two logs has: each with whole ids and keys, with cut ones, or as JSON ([`Style`]).
 //!
 //! ```text
 //! let told = Told { heads, voids, notes };
@@ -12,6 +12,7 @@
 //! A log is a function of the set of updates, and not of their order of arrival: [`same_set_same_log`].
 #![tactic(auto)]
 
+mod differing;
 mod digits;
 mod entries;
 mod entry;
@@ -24,6 +25,7 @@ mod manner;
 mod names;
 mod style;
 
+pub use differing::diff_text;
 pub use entries::entries_of;
 pub use entry::Entry;
 pub use finding::{named_lines, show_text, who_text};

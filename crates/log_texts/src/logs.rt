@@ -2,7 +2,6 @@
 
 ghost use Rattle.std.specs.Prelude.{◌≡◌, ◌++◌, IfOk, OnOk};
 ghost use Rattle.std.specs.List.{flat_map};
-ghost use Rattle.log_texts.specs.Digits.{digits_of};
 ghost use Rattle.log_texts.specs.Entries.{ids_of};
 ghost use Rattle.log_texts.specs.Lines.{asked_ops, lines_text};
 ghost use Rattle.log_texts.specs.Logs.{log_in, log_text, manner_of};
@@ -17,6 +16,7 @@ use crate::names::Names;
 use crate::style::Style;
 use schema::Schema;
 use std::alloc::{AllocError, Global};
+use update_model::UpdateId;
 
 /// The log of these entries: of each a line with its id, its author, its depth, whether it is a head, and why it does nothing if so; behind it a line with its note,
 /// if it has one; and behind these what the update does, if `rows` says so. Or the same as one JSON object.
@@ -43,19 +43,19 @@ pub(crate) fn manner_of(
 ) -> Result<Manner, AllocError>
     ensures { IfOk result (λ manner. manner ≡ manner_of style (ids_of entries.now)) }
 {
-    match style {
-        Style::Whole => Ok(Manner::Lines(Names::Whole)),
-        Style::Short => Ok(Manner::Lines(Names::Cut(apart_by(alloc, entries)?))),
-        Style::Json => Ok(Manner::Json),
-    }
+    let ids = ids_of(alloc, entries)?;
+    manner_by(alloc, style, &ids)
 }
 
-/// How many digits tell the ids of these entries apart.
-fn apart_by(alloc: Global, entries: &[Entry]) -> Result<usize, AllocError>
-    ensures { IfOk result (λ digits. digits ≡ digits_of (ids_of entries.now)) }
+/// How entries are written, where these ids are to be told apart.
+pub(crate) fn manner_by(alloc: Global, style: Style, ids: &[UpdateId]) -> Result<Manner, AllocError>
+    ensures { IfOk result (λ manner. manner ≡ manner_of style ids.now) }
 {
-    let ids = ids_of(alloc, entries)?;
-    digits_of(alloc, &ids)
+    match style {
+        Style::Whole => Ok(Manner::Lines(Names::Whole)),
+        Style::Short => Ok(Manner::Lines(Names::Cut(digits_of(alloc, ids)?))),
+        Style::Json => Ok(Manner::Json),
+    }
 }
 
 /// Adds all entries.
