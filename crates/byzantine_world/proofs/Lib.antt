@@ -13,3 +13,4 @@ pub mod Started
 pub mod Made
 pub mod Goes
 pub mod Reported
+mod Entries

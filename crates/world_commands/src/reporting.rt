@@ -6,9 +6,8 @@ ghost use Rattle.row_check.specs.Checksum.{is_luhn};
 ghost use Rattle.world_commands.specs.Shown.{AreOfSites, Audits, CountsDoubled, IsShown};
 ghost use Rattle.world_rules.specs.Worlds.{SiteData, WorldData};
 
-use byzantine_world::World;
+use byzantine_world::{World, audit_world};
 use std::alloc::{AllocError, Global};
-use world_audit::audit_world;
 use world_report::{push_doubled, push_replicas, push_sessions};
 
 /// Adds what the replicas and the sessions of a world have come to, and, where that is asked for, how many one-time

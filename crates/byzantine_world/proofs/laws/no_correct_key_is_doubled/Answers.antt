@@ -1,6 +1,6 @@
 use Rattle.world_rules.specs.Worlds.{held_by}
-use Rattle.world_audit.proofs.Entries.{no_entry}
-use Rattle.world_audit.proofs.laws.no_correct_key_is_doubled.Goals as goal
+use Rattle.byzantine_world.proofs.Entries.{no_entry}
+use Rattle.byzantine_world.proofs.laws.no_correct_key_is_doubled.Goals as goal
 
 pub returns : goal.returns
 returns c ask schema w q r site other entries entry reached honest at_q found has at_r key =

@@ -4,7 +4,7 @@ ghost use Rattle.std.specs.Prelude.{◌≡◌, false, IfOk, MatchOption, Some, s
 ghost use Rattle.key_audit.specs.Entries.{AreFound};
 ghost use Rattle.world_rules.specs.Worlds.{SiteData, held_by, is_up};
 
-use byzantine_world::World;
+use crate::world::World;
 use key_audit::{Doubled, find};
 use std::alloc::{AllocError, Global};
 
