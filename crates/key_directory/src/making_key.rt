@@ -15,7 +15,7 @@ ghost use Rattle.key_directory.specs.Parts.{HandsOutAny, LetsNewGo, MayMakeAny, 
 ghost use Rattle.key_directory.specs.Keys.{IsNewKeyCause, MakesKey};
 
 use crate::finding::find_or_make;
-use bec_disk::{DiskError, Gated, Part, Shelf, read_gated};
+use bec_disk::{Gated, Part, Shelf, read_gated};
 use key_index::{CreateKey, CreateKeyKind, KeyStore};
 use lms_tree::{KeyTypes, LeafGenerator};
 use rand_core::Rng;
@@ -83,14 +83,9 @@ fn used_beside<H: Shelf>(
     ensures key_later { H.D.faults key.old ≤ H.D.faults key.new }
     ensures failed { IsErrOf result CreateKeyKind.DiskFault → Rose (H.faults shelf.old) (H.faults shelf.new) ⊎ Rose (H.D.faults key.old) (H.D.faults key.new) }
 {
-    match read_gated(alloc, key) {
-        Ok(Gated::Absent) => {}
-        Ok(Gated::Damaged | Gated::Whole(_)) => return Err(CreateKeyKind::KeyThere),
-        Err(DiskError::DiskFault) => return Err(CreateKeyKind::DiskFault),
-        Err(DiskError::Memory) => return Err(CreateKeyKind::Memory),
+    match read_gated(alloc, key)? {
+        Gated::Absent => {}
+        Gated::Damaged | Gated::Whole(_) => return Err(CreateKeyKind::KeyThere),
     }
-    match find_or_make(shelf, dir, Part::Used) {
-        Ok(used) => Ok(used),
-        Err(_fault) => Err(CreateKeyKind::DiskFault),
-    }
+    Ok(find_or_make(shelf, dir, Part::Used)?)
 }

@@ -1,5 +1,5 @@
 -- What taking a record does.
-use Rattle.std.proofs.Common.{◌≡◌, inl, inr, ℕ, Bool, true, false, List, [], ◌∷◌, ◌++◌, length, refl, sym, ap, ◌∙◌, map, Option, Some, None, Ok, Err}
+use Rattle.std.proofs.Common.{◌≡◌, inl, inr, ℕ, Bool, true, false, List, [], ◌∷◌, ◌++◌, length, refl, sym, ap, ◌∙◌, map, Option, Some, None, Result, Ok, Err, IfOk, IfSome, OnErr}
 use Rattle.std.specs.Bool.{OnTrue, OnFalse}
 use Rattle.std.specs.Option.{is_some}
 use Rattle.update_model.specs.declared.update_id.UpdateId.{UpdateId}
@@ -9,10 +9,14 @@ use Rattle.update_model.proofs.Closed.{position_of-held, IsNext-from_tests}
 use Rattle.update_codec.specs.Parts.{entry_of}
 use Rattle.hash_graph.specs.declared.added.Added.{Added}
 use Rattle.hash_graph.specs.declared.added.Added.TheVariants.{New, Known}
-use Rattle.hash_graph.specs.declared.refusal.Refusal.TheVariants.{Lacks, Full}
-use Rattle.hash_graph.specs.Answer.{answer_by, answer_of, list_after}
+use Rattle.hash_graph.specs.declared.refusal.Refusal.{Refusal}
+use Rattle.hash_graph.specs.declared.refusal.Refusal.TheVariants.{Lacks, Full, Memory}
+use Rattle.hash_graph.specs.Answer.{IsNew, IsRefusedBy, answer_by, answer_of, list_after}
+use Rattle.update_model.specs.Rule.{RuleData}
+use Rattle.update_check.specs.Signed.{IsChecked}
+use Rattle.update_stream.specs.Faults.{not_added}
 use Rattle.update_stream.specs.Stream.{LacksPredecessor, PassesLimit}
-use Rattle.update_stream.specs.Steps.{Adds}
+use Rattle.update_stream.specs.Steps.{Adds, Takes}
 
 pub on_true : (b : Bool) (P : Type 0) → (b ≡ true → P) → OnTrue b P
 on_true true P f = f refl
@@ -64,3 +68,21 @@ passes graph e a = by_case (position_of graph e.id) (lacking graph e) (is_within
     by_case None (Some other) fits at_p at_l at_f a = absurd cc
     by_case None None false at_p at_l at_f a = record { new = not_held graph e.id at_p; preds = at_l; over = at_f }
     by_case None None true at_p at_l at_f a = absurd cc
+
+-- why a graph does not take an update is the fault of its record
+pub takes_fault : (members : List (List ℕ)) (r : List ℕ) (after : List (List ℕ)) (why : Refusal) → IsRefusedBy why (answer_of (map entry_of members) (entry_of r))
+    → IfOk (not_added why) (λ fault. (rule : RuleData) → IsChecked rule r → Takes rule members r after fault)
+takes_fault members r after (Lacks id) is = λ rule checked. (checked, lacks (map entry_of members) (entry_of r) id is)
+takes_fault members r after Full is = λ rule checked. (checked, passes (map entry_of members) (entry_of r) is)
+takes_fault members r after Memory is = tt
+
+-- memory runs out only for a member that would stand last
+pub lacks_memory : (why : Refusal) (answer : Result Added Refusal) → IsRefusedBy why answer → OnErr (not_added why) (IsNew answer)
+lacks_memory (Lacks id) answer is = tt
+lacks_memory Full answer is = tt
+lacks_memory Memory answer is = is
+
+pub if_fault : {T E P : Type 0} (result : Result (Option T) E) → P → IfOk result (λ fault. IfSome fault (λ _. P))
+if_fault (Ok None) is = tt
+if_fault (Ok (Some fault)) is = is
+if_fault (Err e) is = tt

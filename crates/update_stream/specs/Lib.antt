@@ -1,3 +1,4 @@
 pub mod Stream
+pub mod Faults
 pub mod Steps
 pub mod Told

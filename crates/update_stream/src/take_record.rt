@@ -4,6 +4,7 @@ ghost use Rattle.update_model.specs.Rule.{RuleData};
 ghost use Rattle.update_codec.specs.Parts.{entry_of};
 ghost use Rattle.update_check.specs.Causes.{IsCause};
 ghost use Rattle.update_check.specs.Signed.{IsChecked};
+ghost use Rattle.update_stream.specs.Faults.{not_added, not_spelled};
 ghost use Rattle.update_stream.specs.Steps.{Takes, rule_for, set_after};
 
 use crate::RecordFault;
@@ -29,10 +30,7 @@ pub fn take_record(
 {
     let update = match spelled(alloc, bytes) {
         Ok(update) => update,
-        Err(DecodeError::Fault(fault)) => {
-            return Ok(Some(RecordFault::Check(CheckFault::Codec(fault))));
-        }
-        Err(DecodeError::Memory) => return Err(AllocError),
+        Err(error) => return not_spelled(error),
     };
     let checked = match check_next(alloc, given, set, update) {
         Ok(checked) => checked,
@@ -51,11 +49,28 @@ fn add_next(graph: &mut Graph<Checked>, update: Checked) -> Result<Option<Record
 {
     match graph.add(update) {
         Ok(_added) => Ok(None),
-        Err(refused) => match refused.why {
-            Refusal::Lacks(id) => Ok(Some(RecordFault::Lacks(id))),
-            Refusal::Full => Ok(Some(RecordFault::Full)),
-            Refusal::Memory => Err(AllocError),
-        },
+        Err(refused) => not_added(refused.why),
+    }
+}
+
+/// What it is to a record that its bytes are not decoded.
+fn not_spelled(error: DecodeError) -> Result<Option<RecordFault>, AllocError>
+    ensures { result ≡ not_spelled error }
+{
+    match error {
+        DecodeError::Fault(fault) => Ok(Some(RecordFault::Check(CheckFault::Codec(fault)))),
+        DecodeError::Memory => Err(AllocError),
+    }
+}
+
+/// What it is to a record that the graph does not take its update.
+fn not_added(why: Refusal) -> Result<Option<RecordFault>, AllocError>
+    ensures { result ≡ not_added why }
+{
+    match why {
+        Refusal::Lacks(id) => Ok(Some(RecordFault::Lacks(id))),
+        Refusal::Full => Ok(Some(RecordFault::Full)),
+        Refusal::Memory => Err(AllocError),
     }
 }
 

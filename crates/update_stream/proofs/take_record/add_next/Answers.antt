@@ -1,24 +1,17 @@
-use Rattle.std.proofs.Common.{map, subst}
-use Rattle.hash_graph.specs.declared.refusal.Refusal.{Refusal}
-use Rattle.hash_graph.specs.Answer.{answer_of, IsRefusedBy}
+use Rattle.std.proofs.Common.{map}
+use Rattle.hash_graph.specs.Answer.{answer_of}
 use Rattle.update_codec.specs.Parts.{entry_of}
-use Rattle.update_stream.proofs.Taken.{adds, lacks, passes}
+use Rattle.update_stream.proofs.Taken.{adds, if_fault, lacks_memory, takes_fault}
 use Rattle.update_stream.proofs.take_record.add_next.Goals as goal
 
 pub returns-in-Ok-clause-ok : goal.returns-in-Ok-clause-ok
 returns-in-Ok-clause-ok c rule checked = (checked, adds c.args.graph.now c.args.update c.add.new.self c.in-Ok._added c.in-Ok.ensures.answer c.in-Ok.ensures.list)
 
-pub returns-in-Lacks-clause-ok : goal.returns-in-Lacks-clause-ok
-returns-in-Lacks-clause-ok c rule checked =
-    let S : Refusal → Type 0 = λ w. IsRefusedBy w (answer_of (map entry_of c.args.graph.now) (entry_of c.args.update)) in
-    (checked, lacks (map entry_of c.args.graph.now) (entry_of c.args.update) c.in-Lacks.id (subst S c.in-Lacks.is c.in-Err.ensures.answer))
+pub returns-in-Err-clause-ok : goal.returns-in-Err-clause-ok
+returns-in-Err-clause-ok c = rw c.not_added.ensures (takes_fault c.args.graph.now c.args.update c.add.new.self c.in-Err.refused.why c.in-Err.ensures.answer)
 
-pub returns-in-Full-clause-ok : goal.returns-in-Full-clause-ok
-returns-in-Full-clause-ok c rule checked =
-    let S : Refusal → Type 0 = λ w. IsRefusedBy w (answer_of (map entry_of c.args.graph.now) (entry_of c.args.update)) in
-    (checked, passes (map entry_of c.args.graph.now) (entry_of c.args.update) (subst S c.in-Full.is c.in-Err.ensures.answer))
+pub returns-in-Err-clause-kept : goal.returns-in-Err-clause-kept
+returns-in-Err-clause-kept c = if_fault c.not_added.result c.in-Err.ensures.list
 
-pub returns-clause-memory : goal.returns-clause-memory
-returns-clause-memory c =
-    let S : Refusal → Type 0 = λ w. IsRefusedBy w (answer_of (map entry_of c.args.graph.now) (entry_of c.args.update)) in
-    subst S c.in-Memory.is c.in-Err.ensures.answer
+pub returns-in-Err-clause-memory : goal.returns-in-Err-clause-memory
+returns-in-Err-clause-memory c = rw c.not_added.ensures (lacks_memory c.in-Err.refused.why (answer_of (map entry_of c.args.graph.now) (entry_of c.args.update)) c.in-Err.ensures.answer)

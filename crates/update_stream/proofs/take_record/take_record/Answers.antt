@@ -14,10 +14,10 @@ all_ok (Ok None) is = is
 all_ok (Ok (Some x)) is = tt
 all_ok (Err e) is = tt
 
-pub returns-in-Err-clause-ok : goal.returns-in-Err-clause-ok
-returns-in-Err-clause-ok c =
-    let P : List ℕ → Type 0 = λ w. IsCause (rule_for c.args.given.now c.args.set.now w) w c.in-Err.fault in
-    subst P c.in-Ok.ensures.same c.in-Err.ensures.fault
+pub returns-in-Err-check_next-clause-ok : goal.returns-in-Err-check_next-clause-ok
+returns-in-Err-check_next-clause-ok c =
+    let P : List ℕ → Type 0 = λ w. IsCause (rule_for c.args.given.now c.args.set.now w) w c.in-Err-check_next.fault in
+    subst P c.in-Ok.ensures.same c.in-Err-check_next.ensures.fault
 
 pub returns-clause-ok : goal.returns-clause-ok
 returns-clause-ok c =
