@@ -36,12 +36,5 @@ fn main(rt: HostRuntime) -> ExitCode {
     };
     let mut net = TcpNet::new(sockets, rt.stderr());
     let mut output = HostSink::new(rt.stdout());
-    ExitCode::from(run(
-        &rt,
-        rt.alloc(),
-        &words,
-        &mut outside,
-        &mut net,
-        &mut output,
-    ))
+    ExitCode::from(run(&rt, rt.alloc(), &words, &mut outside, &mut net, &mut output))
 }
