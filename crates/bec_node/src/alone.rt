@@ -23,9 +23,9 @@ use rand_core::Rng;
 use record_check::Verifier;
 use std::alloc::Global;
 
-/// Does what the words of a command line ask for without a net, over what stands outside and a sink, and answers the exit
-/// status. No part of the shelf may be handed out, and none is afterwards. Words that ask for something over a net are no
-/// command here.
+/// Does what the words of a command line ask for without a net, over what stands outside and a sink, and answers the
+/// exit status. No part of the shelf may be handed out, and none is afterwards. Words that ask for something over a net
+/// are no command here.
 ///
 /// Words that ask for something come to an outcome: it is done and prints a text, or it is refused, and why is printed. Each
 /// outcome has its cause in the words, in what the source has left and in what the parts of a directory read as; only where

@@ -24,9 +24,9 @@ use std::alloc::Global;
 use watch_command::{Watch, watch_in};
 use world_commands::{tell_demo, tell_world};
 
-/// Does what the words of a command line ask for without a net, of all families, over what stands outside and a sink, and
-/// answers the exit status. No part of the shelf may be handed out, and none is afterwards. Words that ask for something
-/// over a net are no command here.
+/// Does what the words of a command line ask for without a net, of all families, over what stands outside and a sink,
+/// and answers the exit status. No part of the shelf may be handed out, and none is afterwards. Words that ask for
+/// something over a net are no command here.
 ///
 /// Words that ask for something about seals, audits of keys, views of queries or worlds come to what that comes to;
 /// other words come to what [`run_alone`] says. A fault of the store is told only where the shelf counted one, and a

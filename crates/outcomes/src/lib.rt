@@ -6,8 +6,8 @@
 //!
 //! Beside these stands what the commands over directories share: what holds of a store that is open ([`each_stands`]), what a
 //! directory remembers of peers ([`peers_of`], [`keep_peers`]), lines whose memory is taken before anything changes
-//! ([`room_for_id`], [`id_line`]); and what stands outside of a run ([`Outside`]), with what clauses see of it, what a command leaves
-//! of it, and the general forms of answers in specs/.
+//! ([`room_for_id`], [`id_line`]); what stands outside of a run ([`Outside`]); and in specs/ what clauses see of that, what a
+//! command leaves of it, and the general forms of answers.
 #![tactic(auto)]
 
 mod lines;
