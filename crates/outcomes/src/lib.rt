@@ -4,10 +4,10 @@
 //! outcome and answers its exit [`status`]; a command whose text has a status of its own comes to a [`Reply`], and [`end`] writes
 //! that. Every line that begins with `! ` stands here.
 //!
-//! Beside these stands what the commands over directories share: what holds of a store that is open ([`each_stands`]), what a
-//! directory remembers of peers ([`peers_of`], [`keep_peers`]), lines whose memory is taken before anything changes
-//! ([`room_for_id`], [`id_line`]); what stands outside of a run ([`Outside`]); and in specs/ what clauses see of that, what a
-//! command leaves of it, and the general forms of answers.
+//! Beside these stands what the commands over directories share: what holds of a store that is open ([`each_stands`]),
+//! what a directory remembers of peers ([`peers_of`], [`keep_peers`]), lines whose memory is taken before anything changes
+//! ([`room_for_id`], [`id_line`]); what stands outside of a run ([`Outside`]); and in specs/ what clauses see of that, what
+//! a command leaves of it, and the general forms of answers.
 #![tactic(auto)]
 
 mod lines;
