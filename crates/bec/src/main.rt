@@ -2,8 +2,8 @@
 #![tactic(auto)]
 
 use bec_host::{FileShelf, HashRng, HostSink, HostSource, TcpNet, hold_closed_streams, words};
-use bec_node::run;
 use bec_node::status::{OUT_OF_MEMORY, STREAM_FAULT};
+use bec_node::{Outside, run};
 use std::process::ExitCode;
 use std::random::RandomSource;
 
@@ -26,21 +26,15 @@ fn main(rt: HostRuntime) -> ExitCode {
     let Ok(sockets) = sockets else {
         return ExitCode::from(OUT_OF_MEMORY);
     };
-    let Ok(mut input) = HostSource::new(rt.alloc(), rt.stdin()) else {
+    let Ok(input) = HostSource::new(rt.alloc(), rt.stdin()) else {
         return ExitCode::from(OUT_OF_MEMORY);
     };
-    let mut random = HashRng::new(key);
-    let mut shelf = FileShelf::new(files, rt.stderr());
+    let mut outside = Outside {
+        shelf: FileShelf::new(files, rt.stderr()),
+        random: HashRng::new(key),
+        input,
+    };
     let mut net = TcpNet::new(sockets, rt.stderr());
     let mut output = HostSink::new(rt.stdout());
-    ExitCode::from(run(
-        &rt,
-        rt.alloc(),
-        &words,
-        &mut shelf,
-        &mut net,
-        &mut random,
-        &mut input,
-        &mut output,
-    ))
+    ExitCode::from(run(&rt, rt.alloc(), &words, &mut outside, &mut net, &mut output))
 }

@@ -29,6 +29,10 @@ pub record NetSeen (N : Type 0) : Type 0 where
   pub state : NetState
   pub faults : ℕ
 
+-- a net, by the members of `Net`
+abbrev pub seen_net : {N : Type 0} → record { faults : N → ℕ; state : N → NetState } → N → NetSeen N
+seen_net members net = record { net = net; state = members.state net; faults = members.faults net }
+
 -- What a request of a net comes to. It uses neither the source nor the generator.
 pub record ComesOver {S H R : Type 0} (Does : Told → Type 0) (before after : Outside S H R) (sink sink_new : SinkState) (status : ℕ) : Type 0 where
   pub told : Told

@@ -3,7 +3,7 @@
 ghost use Rattle.std.specs.Prelude.{IsTrue};
 ghost use Rattle.bec_node.specs.RunAlone.{HasShortNote, NamesApart, Comes, Runs};
 ghost use Rattle.node_commands.specs.Creating.{DrawsKey};
-ghost use Rattle.outcomes.specs.Outside.{outside};
+ghost use Rattle.outcomes.specs.Seen.{seen_outside, seen_sink};
 ghost use Rattle.command_words.specs.Seen.{request_seen};
 ghost use Rattle.key_directory.specs.Parts.{IsHome};
 
@@ -18,14 +18,14 @@ use node_commands::{
     one_answer_of_parts, query_in, stream_heads, verdict,
 };
 use outcomes::status::OUT_OF_MEMORY;
-use outcomes::{Refusal, finish, no_command};
+use outcomes::{Outside, Refusal, finish, no_command};
 use rand_core::Rng;
 use record_check::Verifier;
 use std::alloc::Global;
 
-/// Does what the words of a command line ask for without a net, over a shelf of directories, a generator of random words, a
-/// source and a sink, and answers the exit status. No part of the shelf may be handed out, and none is afterwards. Words that
-/// ask for something over a net are no command here.
+/// Does what the words of a command line ask for without a net, over what stands outside and a sink, and answers the
+/// exit status. No part of the shelf may be handed out, and none is afterwards. Words that ask for something over a net
+/// are no command here.
 ///
 /// Words that ask for something come to an outcome: it is done and prints a text, or it is refused, and why is printed. Each
 /// outcome has its cause in the words, in what the source has left and in what the parts of a directory read as; only where
@@ -35,15 +35,13 @@ pub fn run_alone<V: Verifier, H: Shelf, R: Rng, S: Source, K: Sink>(
     verifier: &V,
     alloc: Global,
     words: &[String],
-    shelf: &mut H,
-    random: &mut R,
-    input: &mut S,
+    outside: &mut Outside<H, R, S>,
     out: &mut K,
 ) -> u8
-    requires { IsTrue (H.state shelf.old).tells → IsHome (H.state shelf.old) }
+    requires { IsTrue (H.state outside.old.shelf).tells → IsHome (H.state outside.old.shelf) }
     ensures { Runs words.now
-        (outside S.left S.faults H.state H.faults R.stream input.old shelf.old random.old) (outside S.left S.faults H.state H.faults R.stream input.new shelf.new random.new)
-        (record { held = K.held out.old; faults = K.faults out.old }) (record { held = K.held out.new; faults = K.faults out.new }) result }
+        (seen_outside S.Source H.Shelf R.stream outside.old) (seen_outside S.Source H.Shelf R.stream outside.new)
+        (seen_sink K.Sink out.old) (seen_sink K.Sink out.new) result }
 {
     one_answer();
     one_answer_of_makers();
@@ -56,7 +54,7 @@ pub fn run_alone<V: Verifier, H: Shelf, R: Rng, S: Source, K: Sink>(
     let Some(request) = asked else {
         return no_command(out);
     };
-    let outcome = outcome_of(verifier, alloc, &request, shelf, random, input);
+    let outcome = outcome_of(verifier, alloc, &request, outside);
     finish(alloc, out, outcome)
 }
 
@@ -65,16 +63,19 @@ fn outcome_of<V: Verifier, H: Shelf, R: Rng, S: Source>(
     verifier: &V,
     alloc: Global,
     request: &Request,
-    shelf: &mut H,
-    random: &mut R,
-    input: &mut S,
+    outside: &mut Outside<H, R, S>,
 ) -> Result<Vec<u8>, Refusal>
-    requires home { IsTrue (H.state shelf.old).tells → IsHome (H.state shelf.old) }
+    requires home { IsTrue (H.state outside.old.shelf).tells → IsHome (H.state outside.old.shelf) }
     requires apart { NamesApart (request_seen request.now) }
     requires short { HasShortNote (request_seen request.now) }
-    ensures { Comes (request_seen request.now) (outside S.left S.faults H.state H.faults R.stream input.old shelf.old random.old)
-        (outside S.left S.faults H.state H.faults R.stream input.new shelf.new random.new) result }
+    ensures { Comes (request_seen request.now) (seen_outside S.Source H.Shelf R.stream outside.old)
+        (seen_outside S.Source H.Shelf R.stream outside.new) result }
 {
+    let Outside {
+        shelf,
+        random,
+        input,
+    } = outside;
     match request {
         Request::Heads { directory: None } => stream_heads(alloc, input),
         Request::Heads {

@@ -2,7 +2,7 @@
 
 ghost use Rattle.std.specs.Prelude.{IsTrue};
 ghost use Rattle.command_words.specs.Seen.{seal_seen};
-ghost use Rattle.outcomes.specs.Outside.{outside};
+ghost use Rattle.outcomes.specs.Seen.{seen_outside, seen_sink};
 ghost use Rattle.key_directory.specs.Parts.{IsHome};
 ghost use Rattle.bec_node.specs.Families.{IsAnswered, SealAnswersOnly, SealComes, beside_seen};
 ghost use Rattle.bec_node.specs.Beside.{DoesBeside, RunsBeside};
@@ -16,17 +16,17 @@ use bec_disk::Shelf;
 use command_words::{AuditRequest, SealRequest, WorldRequest};
 use key_directory::KeyMaker;
 use lms_tree::{KeyTypes, LeafGenerator};
-use outcomes::finish;
 use outcomes::status::OUT_OF_MEMORY;
+use outcomes::{Outside, finish};
 use rand_core::Rng;
 use record_check::Verifier;
 use std::alloc::Global;
 use watch_command::{Watch, watch_in};
 use world_commands::{tell_demo, tell_world};
 
-/// Does what the words of a command line ask for without a net, of all families, over a shelf of directories, a
-/// generator of random words, a source and a sink, and answers the exit status. No part of the shelf may be handed out,
-/// and none is afterwards. Words that ask for something over a net are no command here.
+/// Does what the words of a command line ask for without a net, of all families, over what stands outside and a sink,
+/// and answers the exit status. No part of the shelf may be handed out, and none is afterwards. Words that ask for
+/// something over a net are no command here.
 ///
 /// Words that ask for something about seals, audits of keys, views of queries or worlds come to what that comes to;
 /// other words come to what [`run_alone`] says. A fault of the store is told only where the shelf counted one, and a
@@ -35,23 +35,21 @@ pub fn run_beside<V: Verifier, H: Shelf, R: Rng, S: Source, K: Sink>(
     verifier: &V,
     alloc: Global,
     words: &[String],
-    shelf: &mut H,
-    random: &mut R,
-    input: &mut S,
+    outside: &mut Outside<H, R, S>,
     out: &mut K,
 ) -> u8
-    requires { IsTrue (H.state shelf.old).tells → IsHome (H.state shelf.old) }
+    requires { IsTrue (H.state outside.old.shelf).tells → IsHome (H.state outside.old.shelf) }
     ensures { RunsBeside words.now
-        (outside S.left S.faults H.state H.faults R.stream input.old shelf.old random.old) (outside S.left S.faults H.state H.faults R.stream input.new shelf.new random.new)
-        (record { held = K.held out.old; faults = K.faults out.old }) (record { held = K.held out.new; faults = K.faults out.new }) result }
+        (seen_outside S.Source H.Shelf R.stream outside.old) (seen_outside S.Source H.Shelf R.stream outside.new)
+        (seen_sink K.Sink out.old) (seen_sink K.Sink out.new) result }
 {
     let Ok(asked) = beside_request_in(alloc, words) else {
         return OUT_OF_MEMORY;
     };
     let Some(request) = asked else {
-        return run_alone(verifier, alloc, words, shelf, random, input, out);
+        return run_alone(verifier, alloc, words, outside, out);
     };
-    run_asked(verifier, alloc, &request, shelf, random, input, out)
+    run_asked(verifier, alloc, &request, outside, out)
 }
 
 /// Does what a request of a family asks for.
@@ -59,15 +57,13 @@ fn run_asked<V: Verifier, H: Shelf, R: Rng, S: Source, K: Sink>(
     verifier: &V,
     alloc: Global,
     request: &BesideRequest,
-    shelf: &mut H,
-    random: &mut R,
-    input: &mut S,
+    outside: &mut Outside<H, R, S>,
     out: &mut K,
 ) -> u8
-    requires { IsTrue (H.state shelf.old).tells → IsHome (H.state shelf.old) }
+    requires { IsTrue (H.state outside.old.shelf).tells → IsHome (H.state outside.old.shelf) }
     ensures { DoesBeside
-        (outside S.left S.faults H.state H.faults R.stream input.old shelf.old random.old) (outside S.left S.faults H.state H.faults R.stream input.new shelf.new random.new)
-        (record { held = K.held out.old; faults = K.faults out.old }) (record { held = K.held out.new; faults = K.faults out.new }) result (beside_seen request.now) }
+        (seen_outside S.Source H.Shelf R.stream outside.old) (seen_outside S.Source H.Shelf R.stream outside.new)
+        (seen_sink K.Sink out.old) (seen_sink K.Sink out.new) result (beside_seen request.now) }
 {
     one_answer_of_audits();
     match request {
@@ -76,14 +72,14 @@ fn run_asked<V: Verifier, H: Shelf, R: Rng, S: Source, K: Sink>(
                 generator: verifier,
                 alloc,
             };
-            run_seals(&maker, request, shelf, random, input, out)
+            run_seals(&maker, request, outside, out)
         }
         BesideRequest::Audits(AuditRequest::Audit { directory }) => {
-            let outcome = audit_in(verifier, alloc, shelf, directory);
+            let outcome = audit_in(verifier, alloc, &mut outside.shelf, directory);
             finish(alloc, out, outcome)
         }
         BesideRequest::Audits(AuditRequest::Confirm) => {
-            let outcome = confirm_in(alloc, input);
+            let outcome = confirm_in(alloc, &mut outside.input);
             finish(alloc, out, outcome)
         }
         BesideRequest::Views(request) => {
@@ -91,10 +87,18 @@ fn run_asked<V: Verifier, H: Shelf, R: Rng, S: Source, K: Sink>(
                 text: request.text,
                 every: request.every,
             };
-            watch_in(verifier, alloc, shelf, request.directory, &what, input, out)
+            watch_in(
+                verifier,
+                alloc,
+                &mut outside.shelf,
+                request.directory,
+                &what,
+                &mut outside.input,
+                out,
+            )
         }
         BesideRequest::Worlds(WorldRequest::World { audit }) => {
-            tell_world(alloc, *audit, input, out)
+            tell_world(alloc, *audit, &mut outside.input, out)
         }
         BesideRequest::Worlds(WorldRequest::Demo { number, count }) => {
             tell_demo(alloc, *number, *count, out)
@@ -106,17 +110,20 @@ fn run_asked<V: Verifier, H: Shelf, R: Rng, S: Source, K: Sink>(
 fn run_seals<G: LeafGenerator, H: Shelf, R: Rng, S: Source, K: Sink>(
     maker: &KeyMaker<G>,
     request: &SealRequest,
-    shelf: &mut H,
-    random: &mut R,
-    input: &mut S,
+    outside: &mut Outside<H, R, S>,
     out: &mut K,
 ) -> u8
-    requires { IsTrue (H.state shelf.old).tells → IsHome (H.state shelf.old) }
-    ensures { IsAnswered (SealComes (seal_seen request.now)) (SealAnswersOnly (seal_seen request.now) (outside S.left S.faults H.state H.faults R.stream input.old shelf.old random.old))
-        (outside S.left S.faults H.state H.faults R.stream input.old shelf.old random.old) (outside S.left S.faults H.state H.faults R.stream input.new shelf.new random.new)
-        (record { held = K.held out.old; faults = K.faults out.old }) (record { held = K.held out.new; faults = K.faults out.new }) result }
+    requires { IsTrue (H.state outside.old.shelf).tells → IsHome (H.state outside.old.shelf) }
+    ensures { IsAnswered (SealComes (seal_seen request.now)) (SealAnswersOnly (seal_seen request.now) (seen_outside S.Source H.Shelf R.stream outside.old))
+        (seen_outside S.Source H.Shelf R.stream outside.old) (seen_outside S.Source H.Shelf R.stream outside.new)
+        (seen_sink K.Sink out.old) (seen_sink K.Sink out.new) result }
 {
     let (generator, alloc) = (maker.generator, maker.alloc);
+    let Outside {
+        shelf,
+        random,
+        input,
+    } = outside;
     match request {
         SealRequest::Hsskey {
             directory,

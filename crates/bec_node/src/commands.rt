@@ -1,7 +1,7 @@
 //! The commands that need no net, each by a function of its own, for a caller that knows the first word.
 
 ghost use Rattle.std.specs.Prelude.{IsTrue, codes};
-ghost use Rattle.outcomes.specs.Outside.{outside};
+ghost use Rattle.outcomes.specs.Seen.{seen_outside, seen_sink};
 ghost use Rattle.bec_node.specs.Beside.{RunsBeside};
 ghost use Rattle.bec_node.specs.RunAlone.{HasFirstWord, Runs};
 ghost use Rattle.key_directory.specs.Parts.{IsHome};
@@ -10,6 +10,7 @@ use crate::alone::run_alone;
 use crate::beside::run_beside;
 use bec_bytes::{Sink, Source};
 use bec_disk::Shelf;
+use outcomes::Outside;
 use rand_core::Rng;
 use record_check::Verifier;
 use std::alloc::Global;
@@ -22,18 +23,16 @@ pub fn command_heads<V: Verifier, H: Shelf, R: Rng, S: Source, K: Sink>(
     verifier: &V,
     alloc: Global,
     words: &[String],
-    shelf: &mut H,
-    random: &mut R,
-    input: &mut S,
+    outside: &mut Outside<H, R, S>,
     out: &mut K,
 ) -> u8
     requires first { HasFirstWord (codes "heads") words.now }
-    requires home { IsTrue (H.state shelf.old).tells → IsHome (H.state shelf.old) }
+    requires home { IsTrue (H.state outside.old.shelf).tells → IsHome (H.state outside.old.shelf) }
     ensures { Runs words.now
-        (outside S.left S.faults H.state H.faults R.stream input.old shelf.old random.old) (outside S.left S.faults H.state H.faults R.stream input.new shelf.new random.new)
-        (record { held = K.held out.old; faults = K.faults out.old }) (record { held = K.held out.new; faults = K.faults out.new }) result }
+        (seen_outside S.Source H.Shelf R.stream outside.old) (seen_outside S.Source H.Shelf R.stream outside.new)
+        (seen_sink K.Sink out.old) (seen_sink K.Sink out.new) result }
 {
-    run_alone(verifier, alloc, words, shelf, random, input, out)
+    run_alone(verifier, alloc, words, outside, out)
 }
 
 /// The command `check`: reads the text of a schema, and prints `confluent` where each invariant survives merging, or the
@@ -45,18 +44,16 @@ pub fn command_check<V: Verifier, H: Shelf, R: Rng, S: Source, K: Sink>(
     verifier: &V,
     alloc: Global,
     words: &[String],
-    shelf: &mut H,
-    random: &mut R,
-    input: &mut S,
+    outside: &mut Outside<H, R, S>,
     out: &mut K,
 ) -> u8
     requires first { HasFirstWord (codes "check") words.now }
-    requires home { IsTrue (H.state shelf.old).tells → IsHome (H.state shelf.old) }
+    requires home { IsTrue (H.state outside.old.shelf).tells → IsHome (H.state outside.old.shelf) }
     ensures { Runs words.now
-        (outside S.left S.faults H.state H.faults R.stream input.old shelf.old random.old) (outside S.left S.faults H.state H.faults R.stream input.new shelf.new random.new)
-        (record { held = K.held out.old; faults = K.faults out.old }) (record { held = K.held out.new; faults = K.faults out.new }) result }
+        (seen_outside S.Source H.Shelf R.stream outside.old) (seen_outside S.Source H.Shelf R.stream outside.new)
+        (seen_sink K.Sink out.old) (seen_sink K.Sink out.new) result }
 {
-    run_alone(verifier, alloc, words, shelf, random, input, out)
+    run_alone(verifier, alloc, words, outside, out)
 }
 
 /// The command `dump [DIR] [--json]`: prints the tables of the bundle that it reads, or of the directory's store, each visible
@@ -68,18 +65,16 @@ pub fn command_dump<V: Verifier, H: Shelf, R: Rng, S: Source, K: Sink>(
     verifier: &V,
     alloc: Global,
     words: &[String],
-    shelf: &mut H,
-    random: &mut R,
-    input: &mut S,
+    outside: &mut Outside<H, R, S>,
     out: &mut K,
 ) -> u8
     requires first { HasFirstWord (codes "dump") words.now }
-    requires home { IsTrue (H.state shelf.old).tells → IsHome (H.state shelf.old) }
+    requires home { IsTrue (H.state outside.old.shelf).tells → IsHome (H.state outside.old.shelf) }
     ensures { Runs words.now
-        (outside S.left S.faults H.state H.faults R.stream input.old shelf.old random.old) (outside S.left S.faults H.state H.faults R.stream input.new shelf.new random.new)
-        (record { held = K.held out.old; faults = K.faults out.old }) (record { held = K.held out.new; faults = K.faults out.new }) result }
+        (seen_outside S.Source H.Shelf R.stream outside.old) (seen_outside S.Source H.Shelf R.stream outside.new)
+        (seen_sink K.Sink out.old) (seen_sink K.Sink out.new) result }
 {
-    run_alone(verifier, alloc, words, shelf, random, input, out)
+    run_alone(verifier, alloc, words, outside, out)
 }
 
 /// The command `init DIR`: makes a store in a directory that has none, of the schema that it reads, and prints the id of its
@@ -90,18 +85,16 @@ pub fn command_init<V: Verifier, H: Shelf, R: Rng, S: Source, K: Sink>(
     verifier: &V,
     alloc: Global,
     words: &[String],
-    shelf: &mut H,
-    random: &mut R,
-    input: &mut S,
+    outside: &mut Outside<H, R, S>,
     out: &mut K,
 ) -> u8
     requires first { HasFirstWord (codes "init") words.now }
-    requires home { IsTrue (H.state shelf.old).tells → IsHome (H.state shelf.old) }
+    requires home { IsTrue (H.state outside.old.shelf).tells → IsHome (H.state outside.old.shelf) }
     ensures { Runs words.now
-        (outside S.left S.faults H.state H.faults R.stream input.old shelf.old random.old) (outside S.left S.faults H.state H.faults R.stream input.new shelf.new random.new)
-        (record { held = K.held out.old; faults = K.faults out.old }) (record { held = K.held out.new; faults = K.faults out.new }) result }
+        (seen_outside S.Source H.Shelf R.stream outside.old) (seen_outside S.Source H.Shelf R.stream outside.new)
+        (seen_sink K.Sink out.old) (seen_sink K.Sink out.new) result }
 {
-    run_alone(verifier, alloc, words, shelf, random, input, out)
+    run_alone(verifier, alloc, words, outside, out)
 }
 
 /// The command `keygen DIR [--height 5,10,15] [--width 1,2,4,8]`: draws a key for a directory that has none, and prints its
@@ -112,18 +105,16 @@ pub fn command_keygen<V: Verifier, H: Shelf, R: Rng, S: Source, K: Sink>(
     verifier: &V,
     alloc: Global,
     words: &[String],
-    shelf: &mut H,
-    random: &mut R,
-    input: &mut S,
+    outside: &mut Outside<H, R, S>,
     out: &mut K,
 ) -> u8
     requires first { HasFirstWord (codes "keygen") words.now }
-    requires home { IsTrue (H.state shelf.old).tells → IsHome (H.state shelf.old) }
+    requires home { IsTrue (H.state outside.old.shelf).tells → IsHome (H.state outside.old.shelf) }
     ensures { Runs words.now
-        (outside S.left S.faults H.state H.faults R.stream input.old shelf.old random.old) (outside S.left S.faults H.state H.faults R.stream input.new shelf.new random.new)
-        (record { held = K.held out.old; faults = K.faults out.old }) (record { held = K.held out.new; faults = K.faults out.new }) result }
+        (seen_outside S.Source H.Shelf R.stream outside.old) (seen_outside S.Source H.Shelf R.stream outside.new)
+        (seen_sink K.Sink out.old) (seen_sink K.Sink out.new) result }
 {
-    run_alone(verifier, alloc, words, shelf, random, input, out)
+    run_alone(verifier, alloc, words, outside, out)
 }
 
 /// The command `apply DIR`: makes an update of the transaction that it reads, by the key of the directory, adds it to the
@@ -134,18 +125,16 @@ pub fn command_apply<V: Verifier, H: Shelf, R: Rng, S: Source, K: Sink>(
     verifier: &V,
     alloc: Global,
     words: &[String],
-    shelf: &mut H,
-    random: &mut R,
-    input: &mut S,
+    outside: &mut Outside<H, R, S>,
     out: &mut K,
 ) -> u8
     requires first { HasFirstWord (codes "apply") words.now }
-    requires home { IsTrue (H.state shelf.old).tells → IsHome (H.state shelf.old) }
+    requires home { IsTrue (H.state outside.old.shelf).tells → IsHome (H.state outside.old.shelf) }
     ensures { Runs words.now
-        (outside S.left S.faults H.state H.faults R.stream input.old shelf.old random.old) (outside S.left S.faults H.state H.faults R.stream input.new shelf.new random.new)
-        (record { held = K.held out.old; faults = K.faults out.old }) (record { held = K.held out.new; faults = K.faults out.new }) result }
+        (seen_outside S.Source H.Shelf R.stream outside.old) (seen_outside S.Source H.Shelf R.stream outside.new)
+        (seen_sink K.Sink out.old) (seen_sink K.Sink out.new) result }
 {
-    run_alone(verifier, alloc, words, shelf, random, input, out)
+    run_alone(verifier, alloc, words, outside, out)
 }
 
 /// The command `join DIR`: joins the heads of the directory's store by an update without operations, and prints its id, or
@@ -156,18 +145,16 @@ pub fn command_join<V: Verifier, H: Shelf, R: Rng, S: Source, K: Sink>(
     verifier: &V,
     alloc: Global,
     words: &[String],
-    shelf: &mut H,
-    random: &mut R,
-    input: &mut S,
+    outside: &mut Outside<H, R, S>,
     out: &mut K,
 ) -> u8
     requires first { HasFirstWord (codes "join") words.now }
-    requires home { IsTrue (H.state shelf.old).tells → IsHome (H.state shelf.old) }
+    requires home { IsTrue (H.state outside.old.shelf).tells → IsHome (H.state outside.old.shelf) }
     ensures { Runs words.now
-        (outside S.left S.faults H.state H.faults R.stream input.old shelf.old random.old) (outside S.left S.faults H.state H.faults R.stream input.new shelf.new random.new)
-        (record { held = K.held out.old; faults = K.faults out.old }) (record { held = K.held out.new; faults = K.faults out.new }) result }
+        (seen_outside S.Source H.Shelf R.stream outside.old) (seen_outside S.Source H.Shelf R.stream outside.new)
+        (seen_sink K.Sink out.old) (seen_sink K.Sink out.new) result }
 {
-    run_alone(verifier, alloc, words, shelf, random, input, out)
+    run_alone(verifier, alloc, words, outside, out)
 }
 
 /// The command `export DIR [--updates]`: prints the bundle of the directory's store, its schema and its updates in the order
@@ -178,18 +165,16 @@ pub fn command_export<V: Verifier, H: Shelf, R: Rng, S: Source, K: Sink>(
     verifier: &V,
     alloc: Global,
     words: &[String],
-    shelf: &mut H,
-    random: &mut R,
-    input: &mut S,
+    outside: &mut Outside<H, R, S>,
     out: &mut K,
 ) -> u8
     requires first { HasFirstWord (codes "export") words.now }
-    requires home { IsTrue (H.state shelf.old).tells → IsHome (H.state shelf.old) }
+    requires home { IsTrue (H.state outside.old.shelf).tells → IsHome (H.state outside.old.shelf) }
     ensures { Runs words.now
-        (outside S.left S.faults H.state H.faults R.stream input.old shelf.old random.old) (outside S.left S.faults H.state H.faults R.stream input.new shelf.new random.new)
-        (record { held = K.held out.old; faults = K.faults out.old }) (record { held = K.held out.new; faults = K.faults out.new }) result }
+        (seen_outside S.Source H.Shelf R.stream outside.old) (seen_outside S.Source H.Shelf R.stream outside.new)
+        (seen_sink K.Sink out.old) (seen_sink K.Sink out.new) result }
 {
-    run_alone(verifier, alloc, words, shelf, random, input, out)
+    run_alone(verifier, alloc, words, outside, out)
 }
 
 /// The command `query DIR TEXT [--json]`: prints what a query asks of the directory's store, a line for each row with its
@@ -200,18 +185,16 @@ pub fn command_query<V: Verifier, H: Shelf, R: Rng, S: Source, K: Sink>(
     verifier: &V,
     alloc: Global,
     words: &[String],
-    shelf: &mut H,
-    random: &mut R,
-    input: &mut S,
+    outside: &mut Outside<H, R, S>,
     out: &mut K,
 ) -> u8
     requires first { HasFirstWord (codes "query") words.now }
-    requires home { IsTrue (H.state shelf.old).tells → IsHome (H.state shelf.old) }
+    requires home { IsTrue (H.state outside.old.shelf).tells → IsHome (H.state outside.old.shelf) }
     ensures { Runs words.now
-        (outside S.left S.faults H.state H.faults R.stream input.old shelf.old random.old) (outside S.left S.faults H.state H.faults R.stream input.new shelf.new random.new)
-        (record { held = K.held out.old; faults = K.faults out.old }) (record { held = K.held out.new; faults = K.faults out.new }) result }
+        (seen_outside S.Source H.Shelf R.stream outside.old) (seen_outside S.Source H.Shelf R.stream outside.new)
+        (seen_sink K.Sink out.old) (seen_sink K.Sink out.new) result }
 {
-    run_alone(verifier, alloc, words, shelf, random, input, out)
+    run_alone(verifier, alloc, words, outside, out)
 }
 
 /// The command `merge DIR OTHER`: reconciles the stores of two directories, and prints how many updates each gained, and in how many turns. The first word
@@ -222,18 +205,16 @@ pub fn command_merge<V: Verifier, H: Shelf, R: Rng, S: Source, K: Sink>(
     verifier: &V,
     alloc: Global,
     words: &[String],
-    shelf: &mut H,
-    random: &mut R,
-    input: &mut S,
+    outside: &mut Outside<H, R, S>,
     out: &mut K,
 ) -> u8
     requires first { HasFirstWord (codes "merge") words.now }
-    requires home { IsTrue (H.state shelf.old).tells → IsHome (H.state shelf.old) }
+    requires home { IsTrue (H.state outside.old.shelf).tells → IsHome (H.state outside.old.shelf) }
     ensures { Runs words.now
-        (outside S.left S.faults H.state H.faults R.stream input.old shelf.old random.old) (outside S.left S.faults H.state H.faults R.stream input.new shelf.new random.new)
-        (record { held = K.held out.old; faults = K.faults out.old }) (record { held = K.held out.new; faults = K.faults out.new }) result }
+        (seen_outside S.Source H.Shelf R.stream outside.old) (seen_outside S.Source H.Shelf R.stream outside.new)
+        (seen_sink K.Sink out.old) (seen_sink K.Sink out.new) result }
 {
-    run_alone(verifier, alloc, words, shelf, random, input, out)
+    run_alone(verifier, alloc, words, outside, out)
 }
 
 /// The command `notes DIR`: prints the notes of the directory's store that are not empty, each with the id of its update, in rising order of ids; or the
@@ -244,18 +225,16 @@ pub fn command_notes<V: Verifier, H: Shelf, R: Rng, S: Source, K: Sink>(
     verifier: &V,
     alloc: Global,
     words: &[String],
-    shelf: &mut H,
-    random: &mut R,
-    input: &mut S,
+    outside: &mut Outside<H, R, S>,
     out: &mut K,
 ) -> u8
     requires first { HasFirstWord (codes "notes") words.now }
-    requires home { IsTrue (H.state shelf.old).tells → IsHome (H.state shelf.old) }
+    requires home { IsTrue (H.state outside.old.shelf).tells → IsHome (H.state outside.old.shelf) }
     ensures { Runs words.now
-        (outside S.left S.faults H.state H.faults R.stream input.old shelf.old random.old) (outside S.left S.faults H.state H.faults R.stream input.new shelf.new random.new)
-        (record { held = K.held out.old; faults = K.faults out.old }) (record { held = K.held out.new; faults = K.faults out.new }) result }
+        (seen_outside S.Source H.Shelf R.stream outside.old) (seen_outside S.Source H.Shelf R.stream outside.new)
+        (seen_sink K.Sink out.old) (seen_sink K.Sink out.new) result }
 {
-    run_alone(verifier, alloc, words, shelf, random, input, out)
+    run_alone(verifier, alloc, words, outside, out)
 }
 
 /// The command `hsskey DIR [--height 5,10] [--width 1,2,4,8]`: draws a key of two levels for a directory that has none,
@@ -266,18 +245,16 @@ pub fn command_hsskey<V: Verifier, H: Shelf, R: Rng, S: Source, K: Sink>(
     verifier: &V,
     alloc: Global,
     words: &[String],
-    shelf: &mut H,
-    random: &mut R,
-    input: &mut S,
+    outside: &mut Outside<H, R, S>,
     out: &mut K,
 ) -> u8
     requires first { HasFirstWord (codes "hsskey") words.now }
-    requires home { IsTrue (H.state shelf.old).tells → IsHome (H.state shelf.old) }
+    requires home { IsTrue (H.state outside.old.shelf).tells → IsHome (H.state outside.old.shelf) }
     ensures { RunsBeside words.now
-        (outside S.left S.faults H.state H.faults R.stream input.old shelf.old random.old) (outside S.left S.faults H.state H.faults R.stream input.new shelf.new random.new)
-        (record { held = K.held out.old; faults = K.faults out.old }) (record { held = K.held out.new; faults = K.faults out.new }) result }
+        (seen_outside S.Source H.Shelf R.stream outside.old) (seen_outside S.Source H.Shelf R.stream outside.new)
+        (seen_sink K.Sink out.old) (seen_sink K.Sink out.new) result }
 {
-    run_beside(verifier, alloc, words, shelf, random, input, out)
+    run_beside(verifier, alloc, words, outside, out)
 }
 
 /// The command `seal DIR`: seals what it reads by the two-level key of the directory, and prints the seal in lower-case
@@ -288,18 +265,16 @@ pub fn command_seal<V: Verifier, H: Shelf, R: Rng, S: Source, K: Sink>(
     verifier: &V,
     alloc: Global,
     words: &[String],
-    shelf: &mut H,
-    random: &mut R,
-    input: &mut S,
+    outside: &mut Outside<H, R, S>,
     out: &mut K,
 ) -> u8
     requires first { HasFirstWord (codes "seal") words.now }
-    requires home { IsTrue (H.state shelf.old).tells → IsHome (H.state shelf.old) }
+    requires home { IsTrue (H.state outside.old.shelf).tells → IsHome (H.state outside.old.shelf) }
     ensures { RunsBeside words.now
-        (outside S.left S.faults H.state H.faults R.stream input.old shelf.old random.old) (outside S.left S.faults H.state H.faults R.stream input.new shelf.new random.new)
-        (record { held = K.held out.old; faults = K.faults out.old }) (record { held = K.held out.new; faults = K.faults out.new }) result }
+        (seen_outside S.Source H.Shelf R.stream outside.old) (seen_outside S.Source H.Shelf R.stream outside.new)
+        (seen_sink K.Sink out.old) (seen_sink K.Sink out.new) result }
 {
-    run_beside(verifier, alloc, words, shelf, random, input, out)
+    run_beside(verifier, alloc, words, outside, out)
 }
 
 /// The command `unseal KEY SIG`: reads what was sealed, and prints `good` where the signature is a seal of it by this
@@ -310,18 +285,16 @@ pub fn command_unseal<V: Verifier, H: Shelf, R: Rng, S: Source, K: Sink>(
     verifier: &V,
     alloc: Global,
     words: &[String],
-    shelf: &mut H,
-    random: &mut R,
-    input: &mut S,
+    outside: &mut Outside<H, R, S>,
     out: &mut K,
 ) -> u8
     requires first { HasFirstWord (codes "unseal") words.now }
-    requires home { IsTrue (H.state shelf.old).tells → IsHome (H.state shelf.old) }
+    requires home { IsTrue (H.state outside.old.shelf).tells → IsHome (H.state outside.old.shelf) }
     ensures { RunsBeside words.now
-        (outside S.left S.faults H.state H.faults R.stream input.old shelf.old random.old) (outside S.left S.faults H.state H.faults R.stream input.new shelf.new random.new)
-        (record { held = K.held out.old; faults = K.faults out.old }) (record { held = K.held out.new; faults = K.faults out.new }) result }
+        (seen_outside S.Source H.Shelf R.stream outside.old) (seen_outside S.Source H.Shelf R.stream outside.new)
+        (seen_sink K.Sink out.old) (seen_sink K.Sink out.new) result }
 {
-    run_beside(verifier, alloc, words, shelf, random, input, out)
+    run_beside(verifier, alloc, words, outside, out)
 }
 
 /// The command `audit DIR`: prints a line for each key and index that signed two updates of the directory's store with
@@ -333,18 +306,16 @@ pub fn command_audit<V: Verifier, H: Shelf, R: Rng, S: Source, K: Sink>(
     verifier: &V,
     alloc: Global,
     words: &[String],
-    shelf: &mut H,
-    random: &mut R,
-    input: &mut S,
+    outside: &mut Outside<H, R, S>,
     out: &mut K,
 ) -> u8
     requires first { HasFirstWord (codes "audit") words.now }
-    requires home { IsTrue (H.state shelf.old).tells → IsHome (H.state shelf.old) }
+    requires home { IsTrue (H.state outside.old.shelf).tells → IsHome (H.state outside.old.shelf) }
     ensures { RunsBeside words.now
-        (outside S.left S.faults H.state H.faults R.stream input.old shelf.old random.old) (outside S.left S.faults H.state H.faults R.stream input.new shelf.new random.new)
-        (record { held = K.held out.old; faults = K.faults out.old }) (record { held = K.held out.new; faults = K.faults out.new }) result }
+        (seen_outside S.Source H.Shelf R.stream outside.old) (seen_outside S.Source H.Shelf R.stream outside.new)
+        (seen_sink K.Sink out.old) (seen_sink K.Sink out.new) result }
 {
-    run_beside(verifier, alloc, words, shelf, random, input, out)
+    run_beside(verifier, alloc, words, outside, out)
 }
 
 /// The command `confirm`: reads two records, and prints `doubled` with the key and the index where one key signed both
@@ -355,18 +326,16 @@ pub fn command_confirm<V: Verifier, H: Shelf, R: Rng, S: Source, K: Sink>(
     verifier: &V,
     alloc: Global,
     words: &[String],
-    shelf: &mut H,
-    random: &mut R,
-    input: &mut S,
+    outside: &mut Outside<H, R, S>,
     out: &mut K,
 ) -> u8
     requires first { HasFirstWord (codes "confirm") words.now }
-    requires home { IsTrue (H.state shelf.old).tells → IsHome (H.state shelf.old) }
+    requires home { IsTrue (H.state outside.old.shelf).tells → IsHome (H.state outside.old.shelf) }
     ensures { RunsBeside words.now
-        (outside S.left S.faults H.state H.faults R.stream input.old shelf.old random.old) (outside S.left S.faults H.state H.faults R.stream input.new shelf.new random.new)
-        (record { held = K.held out.old; faults = K.faults out.old }) (record { held = K.held out.new; faults = K.faults out.new }) result }
+        (seen_outside S.Source H.Shelf R.stream outside.old) (seen_outside S.Source H.Shelf R.stream outside.new)
+        (seen_sink K.Sink out.old) (seen_sink K.Sink out.new) result }
 {
-    run_beside(verifier, alloc, words, shelf, random, input, out)
+    run_beside(verifier, alloc, words, outside, out)
 }
 
 /// The command `watch DIR TEXT [--every N]`: prints the answer of a query over the directory's store, and then, while
@@ -378,18 +347,16 @@ pub fn command_watch<V: Verifier, H: Shelf, R: Rng, S: Source, K: Sink>(
     verifier: &V,
     alloc: Global,
     words: &[String],
-    shelf: &mut H,
-    random: &mut R,
-    input: &mut S,
+    outside: &mut Outside<H, R, S>,
     out: &mut K,
 ) -> u8
     requires first { HasFirstWord (codes "watch") words.now }
-    requires home { IsTrue (H.state shelf.old).tells → IsHome (H.state shelf.old) }
+    requires home { IsTrue (H.state outside.old.shelf).tells → IsHome (H.state outside.old.shelf) }
     ensures { RunsBeside words.now
-        (outside S.left S.faults H.state H.faults R.stream input.old shelf.old random.old) (outside S.left S.faults H.state H.faults R.stream input.new shelf.new random.new)
-        (record { held = K.held out.old; faults = K.faults out.old }) (record { held = K.held out.new; faults = K.faults out.new }) result }
+        (seen_outside S.Source H.Shelf R.stream outside.old) (seen_outside S.Source H.Shelf R.stream outside.new)
+        (seen_sink K.Sink out.old) (seen_sink K.Sink out.new) result }
 {
-    run_beside(verifier, alloc, words, shelf, random, input, out)
+    run_beside(verifier, alloc, words, outside, out)
 }
 
 /// The command `world [--audit]`: reads the script of a world, and prints the report of the world that it comes to, or
@@ -400,18 +367,16 @@ pub fn command_world<V: Verifier, H: Shelf, R: Rng, S: Source, K: Sink>(
     verifier: &V,
     alloc: Global,
     words: &[String],
-    shelf: &mut H,
-    random: &mut R,
-    input: &mut S,
+    outside: &mut Outside<H, R, S>,
     out: &mut K,
 ) -> u8
     requires first { HasFirstWord (codes "world") words.now }
-    requires home { IsTrue (H.state shelf.old).tells → IsHome (H.state shelf.old) }
+    requires home { IsTrue (H.state outside.old.shelf).tells → IsHome (H.state outside.old.shelf) }
     ensures { RunsBeside words.now
-        (outside S.left S.faults H.state H.faults R.stream input.old shelf.old random.old) (outside S.left S.faults H.state H.faults R.stream input.new shelf.new random.new)
-        (record { held = K.held out.old; faults = K.faults out.old }) (record { held = K.held out.new; faults = K.faults out.new }) result }
+        (seen_outside S.Source H.Shelf R.stream outside.old) (seen_outside S.Source H.Shelf R.stream outside.new)
+        (seen_sink K.Sink out.old) (seen_sink K.Sink out.new) result }
 {
-    run_beside(verifier, alloc, words, shelf, random, input, out)
+    run_beside(verifier, alloc, words, outside, out)
 }
 
 /// The command `demo NUMBER COUNT`: makes at most COUNT updates of the demonstration, by the keys that NUMBER draws,
@@ -422,16 +387,14 @@ pub fn command_demo<V: Verifier, H: Shelf, R: Rng, S: Source, K: Sink>(
     verifier: &V,
     alloc: Global,
     words: &[String],
-    shelf: &mut H,
-    random: &mut R,
-    input: &mut S,
+    outside: &mut Outside<H, R, S>,
     out: &mut K,
 ) -> u8
     requires first { HasFirstWord (codes "demo") words.now }
-    requires home { IsTrue (H.state shelf.old).tells → IsHome (H.state shelf.old) }
+    requires home { IsTrue (H.state outside.old.shelf).tells → IsHome (H.state outside.old.shelf) }
     ensures { RunsBeside words.now
-        (outside S.left S.faults H.state H.faults R.stream input.old shelf.old random.old) (outside S.left S.faults H.state H.faults R.stream input.new shelf.new random.new)
-        (record { held = K.held out.old; faults = K.faults out.old }) (record { held = K.held out.new; faults = K.faults out.new }) result }
+        (seen_outside S.Source H.Shelf R.stream outside.old) (seen_outside S.Source H.Shelf R.stream outside.new)
+        (seen_sink K.Sink out.old) (seen_sink K.Sink out.new) result }
 {
-    run_beside(verifier, alloc, words, shelf, random, input, out)
+    run_beside(verifier, alloc, words, outside, out)
 }

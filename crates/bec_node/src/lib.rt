@@ -1,5 +1,5 @@
-//! What the program `bec` does: [`run`] takes the words of a command line, a shelf of directories, a net, a generator of random
-//! words, a source and a sink, and answers an exit status.
+//! What the program `bec` does: [`run`] takes the words of a command line, what stands [`Outside`] (a shelf of
+//! directories, a generator of random words and a source), a net and a sink, and answers an exit status.
 //!
 //! The program itself makes the real objects and calls [`run`]; tests call it over objects in memory. What each command
 //! does is told by the crates below, one for each family: `node_commands` has those over stores and keys,
@@ -31,5 +31,5 @@ pub use commands::{
     command_merge, command_notes, command_query, command_seal, command_unseal, command_watch,
     command_world,
 };
-pub use outcomes::{Refusal, Reply, status};
+pub use outcomes::{Outside, Refusal, Reply, status};
 pub use program::run;

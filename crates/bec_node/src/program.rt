@@ -1,8 +1,8 @@
 ghost use Rattle.std.specs.Prelude.{IsTrue};
 ghost use Rattle.command_words.specs.Seen.{net_seen};
-ghost use Rattle.outcomes.specs.Outside.{outside};
+ghost use Rattle.outcomes.specs.Seen.{seen_outside, seen_sink};
 ghost use Rattle.key_directory.specs.Parts.{IsHome};
-ghost use Rattle.bec_node.specs.Run.{AsksForSome, DoesOver, Leaves, RunsOver};
+ghost use Rattle.bec_node.specs.Run.{AsksForSome, DoesOver, Leaves, RunsOver, seen_net};
 
 use crate::beside::run_beside;
 use bec_bytes::{Sink, Source};
@@ -11,16 +11,15 @@ use bec_links::Net;
 use command_words::{NetRequest, net_request_in};
 use net_commands::{serve_in, sync_in};
 use outcomes::status::OUT_OF_MEMORY;
-use outcomes::{Refusal, Reply, end};
+use outcomes::{Outside, Refusal, Reply, end};
 use rand_core::Rng;
 use record_check::ManyThreads;
 use std::alloc::Global;
 use std::sync::Wait;
 use std::thread::Threads;
 
-/// Does what the words of a command line ask for, over a shelf of directories, a net of links, a generator of random
-/// words, a source and a sink, and answers the exit status. No part of the shelf may be handed out, and none is
-/// afterwards; nor is a link of the net.
+/// Does what the words of a command line ask for, over what stands outside, a net of links and a sink, and answers the
+/// exit status. No part of the shelf may be handed out, and none is afterwards; nor is a link of the net.
 ///
 /// Words that ask for something over a net come to what that comes to; other words come to what [`run_beside`] says,
 /// and leave the net as it was. `sync` meets the node at an address, and `serve` meets those that dial; what they come
@@ -32,33 +31,31 @@ pub fn run<T: Threads + Wait + Sync, H: Shelf, N: Net, R: Rng, S: Source, K: Sin
     rt: &T,
     alloc: Global,
     words: &[String],
-    shelf: &mut H,
+    outside: &mut Outside<H, R, S>,
     net: &mut N,
-    random: &mut R,
-    input: &mut S,
     out: &mut K,
 ) -> u8
 where
     H::D: Send,
-    requires { IsTrue (H.state shelf.old).tells → IsHome (H.state shelf.old) }
+    requires { IsTrue (H.state outside.old.shelf).tells → IsHome (H.state outside.old.shelf) }
     ensures runs { RunsOver words.now
-        (outside S.left S.faults H.state H.faults R.stream input.old shelf.old random.old) (outside S.left S.faults H.state H.faults R.stream input.new shelf.new random.new)
-        (record { net = net.old; state = N.state net.old; faults = N.faults net.old }) (record { net = net.new; state = N.state net.new; faults = N.faults net.new })
-        (record { held = K.held out.old; faults = K.faults out.old }) (record { held = K.held out.new; faults = K.faults out.new }) result }
+        (seen_outside S.Source H.Shelf R.stream outside.old) (seen_outside S.Source H.Shelf R.stream outside.new)
+        (seen_net N.Net net.old) (seen_net N.Net net.new)
+        (seen_sink K.Sink out.old) (seen_sink K.Sink out.new) result }
     ensures leaves { Leaves
-        (outside S.left S.faults H.state H.faults R.stream input.old shelf.old random.old) (outside S.left S.faults H.state H.faults R.stream input.new shelf.new random.new)
-        (record { net = net.old; state = N.state net.old; faults = N.faults net.old }) (record { net = net.new; state = N.state net.new; faults = N.faults net.new })
-        (record { held = K.held out.old; faults = K.faults out.old }) (record { held = K.held out.new; faults = K.faults out.new }) result }
-    ensures home { IsTrue (H.state shelf.old).tells → IsHome (H.state shelf.new) }
+        (seen_outside S.Source H.Shelf R.stream outside.old) (seen_outside S.Source H.Shelf R.stream outside.new)
+        (seen_net N.Net net.old) (seen_net N.Net net.new)
+        (seen_sink K.Sink out.old) (seen_sink K.Sink out.new) result }
+    ensures home { IsTrue (H.state outside.old.shelf).tells → IsHome (H.state outside.new.shelf) }
 {
     let Ok(asked) = net_request_in(alloc, words) else {
         return OUT_OF_MEMORY;
     };
     let Some(request) = asked else {
         let verifier = ManyThreads::new(rt);
-        return run_beside(&verifier, alloc, words, shelf, random, input, out);
+        return run_beside(&verifier, alloc, words, outside, out);
     };
-    let told = meet_others(rt, alloc, &request, shelf, net);
+    let told = meet_others(rt, alloc, &request, &mut outside.shelf, net);
     end(alloc, out, told)
 }
 

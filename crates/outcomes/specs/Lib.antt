@@ -6,6 +6,7 @@ pub mod Outside
 pub mod Parts
 pub mod Remembering
 pub mod Rules
+pub mod Seen
 pub mod Standing
 pub mod StoreAnswers
 pub mod Texts

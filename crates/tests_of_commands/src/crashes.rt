@@ -4,7 +4,7 @@ ghost use Rattle.bec_disk.specs.Shelved.{shelf_of};
 ghost use Rattle.key_directory.specs.Parts.{IsHome};
 
 use crate::merging::{INIT_OTHER, KEYGEN_OTHER};
-use crate::steps::{Said, Step, answer, played};
+use crate::steps::{Said, Step, answer, answer_over, around, played, source_of};
 use crate::stopping::{StoppingShelf, left_of};
 use crate::texts::TASKS;
 use crate::transactions::{INIT, KEYGEN};
@@ -153,9 +153,11 @@ fn survives(
 ) -> Result<bool, AllocError>
     requires { IsHome (shelf_of base.now) }
 {
-    let mut shelf = StoppingShelf::over(alloc, left_of(base, 1)?, "A", row.part, calls);
-    let said = answer(alloc, &mut shelf, row.line, row.input.as_bytes())?;
-    let mut left = shelf.left(choice)?;
+    let input = source_of(alloc, row.input.as_bytes())?;
+    let shelf = StoppingShelf::over(alloc, left_of(base, 1)?, "A", row.part, calls);
+    let mut outside = around(shelf, input);
+    let said = answer_over(alloc, &mut outside, row.line)?;
+    let mut left = outside.shelf.left(choice)?;
     let heads = answer(alloc, &mut left, "heads A", b"")?;
     let again = answer(alloc, &mut left, row.line, row.input.as_bytes())?;
     Ok(is_stopped(calls, said.status) && is_right(row, &said, &heads, &again))
@@ -206,9 +208,10 @@ fn merge_survives(
 ) -> Result<bool, AllocError>
     requires { IsHome (shelf_of base.now) }
 {
-    let mut shelf = StoppingShelf::over(alloc, left_of(base, 1)?, place.0, place.1, calls);
-    let said = answer(alloc, &mut shelf, "merge A B", b"")?;
-    let mut left = shelf.left(choice)?;
+    let shelf = StoppingShelf::over(alloc, left_of(base, 1)?, place.0, place.1, calls);
+    let mut outside = around(shelf, source_of(alloc, b"")?);
+    let said = answer_over(alloc, &mut outside, "merge A B")?;
+    let mut left = outside.shelf.left(choice)?;
     let again = answer(alloc, &mut left, "merge A B", b"")?;
     let one = answer(alloc, &mut left, "dump A", b"")?;
     let other = answer(alloc, &mut left, "dump B", b"")?;

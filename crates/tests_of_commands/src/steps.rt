@@ -1,15 +1,16 @@
 //! Runs of the program one after another over one shelf in memory.
 
-ghost use Rattle.std.specs.Prelude.{IsTrue};
+ghost use Rattle.std.specs.Prelude.{◌≡◌, IsTrue};
 ghost use Rattle.bec_disk.specs.Shelved.{shelf_of};
 ghost use Rattle.key_directory.specs.Parts.{IsHome};
 
 use bec_bytes::{MemSink, MemSource};
 use bec_disk::{MemShelf, Shelf};
-use bec_node::run_alone;
+use bec_node::{Outside, run_alone};
 use rand_pcg::Pcg32;
 use record_check::OneThread;
 use std::alloc::{AllocError, Global};
+use std::mem;
 
 /// A run: its words, its input, and the status and the text that it answers. An answer `ID` stands for any id, which is
 /// remembered, and `#n` in later texts for the id that was remembered as number n, counted from 0. An answer `KEY` stands for any
@@ -34,31 +35,56 @@ fn words(alloc: Global, line: &str) -> Result<Vec<String>, AllocError> {
     Ok(words)
 }
 
-/// Runs the program over a shelf.
-pub fn answer<H: Shelf>(
+/// What stands outside of a run in memory over a shelf.
+pub type Around<H> = Outside<H, Pcg32, MemSource>;
+
+/// What stands outside of a run over this shelf, with this input.
+pub fn around<H>(shelf: H, input: MemSource) -> Around<H>
+    ensures { result.shelf ≡ shelf }
+{
+    Outside {
+        shelf,
+        random: Pcg32::new(42, 54),
+        input,
+    }
+}
+
+/// A source that has these bytes.
+pub fn source_of(alloc: Global, bytes: &[u8]) -> Result<MemSource, AllocError> {
+    Ok(MemSource::new(Vec::from_slice(alloc, bytes)?, Vec::new(alloc)))
+}
+
+/// Runs the program over what stands outside.
+pub fn answer_over<H: Shelf>(
     alloc: Global,
-    shelf: &mut H,
+    outside: &mut Around<H>,
+    line: &str,
+) -> Result<Said, AllocError>
+    requires home { IsTrue (H.state outside.old.shelf).tells → IsHome (H.state outside.old.shelf) }
+    ensures home { IsTrue (H.state outside.old.shelf).tells → IsHome (H.state outside.new.shelf) }
+{
+    let words = words(alloc, line)?;
+    let mut out = MemSink::new(alloc, Vec::new(alloc));
+    let status = run_alone(&OneThread, alloc, &words, outside, &mut out);
+    let bytes = out.bytes().to_vec(alloc)?;
+    Ok(Said { status, bytes })
+}
+
+/// Runs the program over a shelf.
+pub fn answer(
+    alloc: Global,
+    shelf: &mut MemShelf,
     line: &str,
     input: &[u8],
 ) -> Result<Said, AllocError>
-    requires home { IsTrue (H.state shelf.old).tells → IsHome (H.state shelf.old) }
-    ensures home { IsTrue (H.state shelf.old).tells → IsHome (H.state shelf.new) }
+    requires home { IsHome (shelf_of shelf.old) }
+    ensures home { IsHome (shelf_of shelf.new) }
 {
-    let words = words(alloc, line)?;
-    let mut random = Pcg32::new(42, 54);
-    let mut input = MemSource::new(Vec::from_slice(alloc, input)?, Vec::new(alloc));
-    let mut out = MemSink::new(alloc, Vec::new(alloc));
-    let status = run_alone(
-        &OneThread,
-        alloc,
-        &words,
-        shelf,
-        &mut random,
-        &mut input,
-        &mut out,
-    );
-    let bytes = out.bytes().to_vec(alloc)?;
-    Ok(Said { status, bytes })
+    let input = source_of(alloc, input)?;
+    let mut outside = around(mem::replace(shelf, MemShelf::new(alloc)), input);
+    let said = answer_over(alloc, &mut outside, line);
+    *shelf = outside.shelf;
+    said
 }
 
 /// Whether these are so many hexadecimal digits and the end of a line.

@@ -6,9 +6,10 @@ ghost use Rattle.key_directory.specs.Parts.{IsHome};
 use bec_bytes::{MemSink, MemSource};
 use bec_disk::MemShelf;
 use bec_links::{MemLink, MemNet, Net};
-use bec_node::run;
+use bec_node::{Outside, run};
 use rand_pcg::Pcg32;
 use std::alloc::{AllocError, Global};
+use std::mem;
 use std::sync::Wait;
 use std::thread::Threads;
 
@@ -59,19 +60,15 @@ pub fn run_over<T: Threads + Wait + Sync, N: Net>(
     ensures home { IsHome (shelf_of shelf.new) }
 {
     let words = words(alloc, line)?;
-    let mut random = Pcg32::new(42, 54);
-    let mut input = MemSource::new(Vec::from_slice(alloc, input)?, Vec::new(alloc));
+    let input = MemSource::new(Vec::from_slice(alloc, input)?, Vec::new(alloc));
+    let mut outside = Outside {
+        shelf: mem::replace(shelf, MemShelf::new(alloc)),
+        random: Pcg32::new(42, 54),
+        input,
+    };
     let mut out = MemSink::new(alloc, Vec::new(alloc));
-    let status = run(
-        rt,
-        alloc,
-        &words,
-        shelf,
-        net,
-        &mut random,
-        &mut input,
-        &mut out,
-    );
+    let status = run(rt, alloc, &words, &mut outside, net, &mut out);
+    *shelf = outside.shelf;
     Ok((status, out.bytes().to_vec(alloc)?))
 }
 

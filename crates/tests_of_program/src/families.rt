@@ -8,11 +8,12 @@ use crate::runs::words;
 use bec_bytes::{MemSink, MemSource};
 use bec_disk::MemShelf;
 use bec_links::MemNet;
-use bec_node::run;
+use bec_node::{Outside, run};
 use hss_chain::{public_bytes, push_key, seal_bytes};
 use lms_tree::Secret;
 use rand_pcg::Pcg32;
 use std::alloc::{AllocError, Global};
+use std::mem;
 use std::sync::Wait;
 use std::test::Fail;
 use std::thread::Threads;
@@ -30,20 +31,16 @@ fn said<T: Threads + Wait + Sync>(
     ensures home { IsHome (shelf_of shelf.new) }
 {
     let mut net = MemNet::new(alloc, Vec::new(alloc), Vec::new(alloc));
-    let mut random = Pcg32::new(42, 54);
-    let mut input = MemSource::new(Vec::from_slice(alloc, bytes)?, Vec::new(alloc));
-    let mut out = MemSink::new(alloc, Vec::new(alloc));
     let words = words(alloc, line)?;
-    let status = run(
-        rt,
-        alloc,
-        &words,
-        shelf,
-        &mut net,
-        &mut random,
-        &mut input,
-        &mut out,
-    );
+    let input = MemSource::new(Vec::from_slice(alloc, bytes)?, Vec::new(alloc));
+    let mut outside = Outside {
+        shelf: mem::replace(shelf, MemShelf::new(alloc)),
+        random: Pcg32::new(42, 54),
+        input,
+    };
+    let mut out = MemSink::new(alloc, Vec::new(alloc));
+    let status = run(rt, alloc, &words, &mut outside, &mut net, &mut out);
+    *shelf = outside.shelf;
     Ok((status, out.bytes().to_vec(alloc)?))
 }
 

@@ -2,7 +2,7 @@
 
 use bec_bytes::{MemSink, MemSource, Sink, Source};
 use bec_disk::MemShelf;
-use bec_node::run_alone;
+use bec_node::{Outside, run_alone};
 use rand_pcg::Pcg32;
 use record_check::OneThread;
 use std::alloc::{AllocError, Global};
@@ -25,9 +25,9 @@ pub fn answers(
     status: u8,
     text: &str,
 ) -> Result<bool, Fail> {
-    let mut input = MemSource::new(bytes, Vec::new(alloc));
+    let input = MemSource::new(bytes, Vec::new(alloc));
     let mut out = MemSink::new(alloc, Vec::new(alloc));
-    let got = run_over_nothing(alloc, &words(alloc, line)?, &mut input, &mut out);
+    let got = run_over_nothing(alloc, &words(alloc, line)?, input, &mut out);
     Ok(got == status && out.bytes() == text.as_bytes())
 }
 
@@ -35,18 +35,13 @@ pub fn answers(
 pub fn run_over_nothing<S: Source, K: Sink>(
     alloc: Global,
     words: &[String],
-    input: &mut S,
+    input: S,
     out: &mut K,
 ) -> u8 {
-    let mut shelf = MemShelf::new(alloc);
-    let mut random = Pcg32::new(42, 54);
-    run_alone(
-        &OneThread,
-        alloc,
-        words,
-        &mut shelf,
-        &mut random,
+    let mut outside = Outside {
+        shelf: MemShelf::new(alloc),
+        random: Pcg32::new(42, 54),
         input,
-        out,
-    )
+    };
+    run_alone(&OneThread, alloc, words, &mut outside, out)
 }

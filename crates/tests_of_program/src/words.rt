@@ -37,22 +37,22 @@ fn streams_that_fail(rt: HostRuntime) -> Result<(), Fail> {
     let authors = authors(alloc)?;
     let heads = words(alloc, "heads")?;
     let root = signed(alloc, &authors[0], &[0xdd; 32], &[], 0, &[])?;
-    let mut failing = MemSource::new(root.clone()?, vec![in alloc; 2]?);
+    let failing = MemSource::new(root.clone()?, vec![in alloc; 2]?);
     let mut out = MemSink::new(alloc, Vec::new(alloc));
     assert_eq!(rt;
-        run_over_nothing(alloc, &heads, &mut failing, &mut out),
+        run_over_nothing(alloc, &heads, failing, &mut out),
         status::STREAM_FAULT
     );
     assert_eq!(rt; out.bytes(), b"! stream fault\n".as_slice());
     let mut shut = MemSink::new(alloc, vec![in alloc; 1]?);
-    let mut plain = PlainSource::new(root.clone()?);
+    let plain = PlainSource::new(root.clone()?);
     assert_eq!(rt;
-        run_over_nothing(alloc, &heads, &mut plain, &mut shut),
+        run_over_nothing(alloc, &heads, plain, &mut shut),
         status::STREAM_FAULT
     );
-    let mut plain = PlainSource::new(root);
+    let plain = PlainSource::new(root);
     assert_eq!(rt;
-        run_over_nothing(alloc, &heads, &mut plain, &mut PlainSink::new()),
+        run_over_nothing(alloc, &heads, plain, &mut PlainSink::new()),
         status::DONE
     );
     Ok(())

@@ -5,10 +5,11 @@ ghost use Rattle.key_directory.specs.Parts.{IsHome};
 
 use bec_bytes::{MemSink, MemSource};
 use bec_disk::MemShelf;
-use bec_node::run_alone;
+use bec_node::{Outside, run_alone};
 use rand_pcg::Pcg32;
 use record_check::OneThread;
 use std::alloc::{AllocError, Global};
+use std::mem;
 use std::test::Fail;
 use watch_command::{Watch, watch_in};
 
@@ -163,18 +164,15 @@ fn printed(
     for word in line.split_whitespace() {
         words.push(String::from_str(alloc, word)?)?;
     }
-    let mut random = Pcg32::new(42, 54);
-    let mut input = MemSource::new(Vec::from_slice(alloc, input)?, Vec::new(alloc));
+    let input = MemSource::new(Vec::from_slice(alloc, input)?, Vec::new(alloc));
+    let mut outside = Outside {
+        shelf: mem::replace(shelf, MemShelf::new(alloc)),
+        random: Pcg32::new(42, 54),
+        input,
+    };
     let mut out = MemSink::new(alloc, Vec::new(alloc));
-    let _status = run_alone(
-        &OneThread,
-        alloc,
-        &words,
-        shelf,
-        &mut random,
-        &mut input,
-        &mut out,
-    );
+    let _status = run_alone(&OneThread, alloc, &words, &mut outside, &mut out);
+    *shelf = outside.shelf;
     out.bytes().to_vec(alloc)
 }
 

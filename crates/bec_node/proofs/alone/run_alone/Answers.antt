@@ -11,13 +11,13 @@ use Rattle.bec_node.proofs.alone.run_alone.Goals as goal
 
 pub returns-in_default : goal.returns-in_default
 returns-in_default g c =
-    let seen = outside g.S.Source.left g.S.Counted.faults g.H.Shelf.state g.H.Counted.faults g.R.Rng.stream c.args.input.now c.args.shelf.now c.args.random.now in
+    let seen = outside g.S.Source.left g.S.Counted.faults g.H.Shelf.state g.H.Counted.faults g.R.Rng.stream c.args.outside.now.input c.args.outside.now.shelf c.args.outside.now.random in
     let sink : SinkState = record { held = g.K.Sink.held c.args.out.now; faults = g.K.Counted.faults c.args.out.now } in
     runs_unread c.args.words.now seen seen sink sink 5 c.requires (λ same. (refl, refl)) (record { source = refl; shelf = refl; random = refl }) refl refl
 
 pub returns-in_default-asked : goal.returns-in_default-asked
 returns-in_default-asked g c =
-    let seen = outside g.S.Source.left g.S.Counted.faults g.H.Shelf.state g.H.Counted.faults g.R.Rng.stream c.args.input.now c.args.shelf.now c.args.random.now in
+    let seen = outside g.S.Source.left g.S.Counted.faults g.H.Shelf.state g.H.Counted.faults g.R.Rng.stream c.args.outside.now.input c.args.outside.now.shelf c.args.outside.now.random in
     let sink : SinkState = record { held = g.K.Sink.held c.args.out.now; faults = g.K.Counted.faults c.args.out.now } in
     let sink_new : SinkState = record { held = g.K.Sink.held c.no_command.new.out; faults = g.K.Counted.faults c.no_command.new.out } in
     let no_request = rw c.in_default-asked.is at c.in-Ok.ensures in
@@ -25,8 +25,8 @@ returns-in_default-asked g c =
 
 pub returns : goal.returns
 returns g c =
-    let seen = outside g.S.Source.left g.S.Counted.faults g.H.Shelf.state g.H.Counted.faults g.R.Rng.stream c.args.input.now c.args.shelf.now c.args.random.now in
-    let then = outside g.S.Source.left g.S.Counted.faults g.H.Shelf.state g.H.Counted.faults g.R.Rng.stream c.outcome_of-outcome.new.input c.outcome_of-outcome.new.shelf c.outcome_of-outcome.new.random in
+    let seen = outside g.S.Source.left g.S.Counted.faults g.H.Shelf.state g.H.Counted.faults g.R.Rng.stream c.args.outside.now.input c.args.outside.now.shelf c.args.outside.now.random in
+    let then = outside g.S.Source.left g.S.Counted.faults g.H.Shelf.state g.H.Counted.faults g.R.Rng.stream c.outcome_of-outcome.new.outside.input c.outcome_of-outcome.new.outside.shelf c.outcome_of-outcome.new.outside.random in
     let sink : SinkState = record { held = g.K.Sink.held c.args.out.now; faults = g.K.Counted.faults c.args.out.now } in
     let sink_new : SinkState = record { held = g.K.Sink.held c.finish.new.out; faults = g.K.Counted.faults c.finish.new.out } in
     let asks = rw c.in-Some.is at c.in-Ok.ensures in

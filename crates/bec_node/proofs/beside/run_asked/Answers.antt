@@ -16,8 +16,8 @@ returns-in-Seals g c = rw c.in-Seals.is (over_seals (seal_seen c.in-Seals.reques
 
 pub returns-in-Audits-Audit : goal.returns-in-Audits-Audit
 returns-in-Audits-Audit g c =
-    let seen = outside g.S.Source.left g.S.Counted.faults g.H.Shelf.state g.H.Counted.faults g.R.Rng.stream c.args.input.now c.args.shelf.now c.args.random.now in
-    let then = outside g.S.Source.left g.S.Counted.faults g.H.Shelf.state g.H.Counted.faults g.R.Rng.stream c.args.input.now c.audit_in-outcome.new.shelf c.args.random.now in
+    let seen = outside g.S.Source.left g.S.Counted.faults g.H.Shelf.state g.H.Counted.faults g.R.Rng.stream c.args.outside.now.input c.args.outside.now.shelf c.args.outside.now.random in
+    let then = outside g.S.Source.left g.S.Counted.faults g.H.Shelf.state g.H.Counted.faults g.R.Rng.stream c.args.outside.now.input c.audit_in-outcome.new.shelf c.args.outside.now.random in
     let sink : SinkState = record { held = g.K.Sink.held c.args.out.now; faults = g.K.Counted.faults c.args.out.now } in
     let sink_new : SinkState = record { held = g.K.Sink.held c.finish.new.out; faults = g.K.Counted.faults c.finish.new.out } in
     let dir = c.in-Audits-Audit.directory.now in
@@ -28,8 +28,8 @@ returns-in-Audits-Audit g c =
 
 pub returns-in-Audits-Confirm : goal.returns-in-Audits-Confirm
 returns-in-Audits-Confirm g c =
-    let seen = outside g.S.Source.left g.S.Counted.faults g.H.Shelf.state g.H.Counted.faults g.R.Rng.stream c.args.input.now c.args.shelf.now c.args.random.now in
-    let then = outside g.S.Source.left g.S.Counted.faults g.H.Shelf.state g.H.Counted.faults g.R.Rng.stream c.confirm_in-outcome.new.input c.args.shelf.now c.args.random.now in
+    let seen = outside g.S.Source.left g.S.Counted.faults g.H.Shelf.state g.H.Counted.faults g.R.Rng.stream c.args.outside.now.input c.args.outside.now.shelf c.args.outside.now.random in
+    let then = outside g.S.Source.left g.S.Counted.faults g.H.Shelf.state g.H.Counted.faults g.R.Rng.stream c.confirm_in-outcome.new.input c.args.outside.now.shelf c.args.outside.now.random in
     let sink : SinkState = record { held = g.K.Sink.held c.args.out.now; faults = g.K.Counted.faults c.args.out.now } in
     let sink_new : SinkState = record { held = g.K.Sink.held c.finish-in-Audits-Confirm.new.out; faults = g.K.Counted.faults c.finish-in-Audits-Confirm.new.out } in
     let which = rw c.in-Audits-Confirm.is at c.in-Audits-Confirm.field-0-is in

@@ -25,8 +25,8 @@ returns-in_default-asked g c = record {
 
 pub returns : goal.returns
 returns g c =
-    let seen = outside g.S.Source.left g.S.Counted.faults g.H.Shelf.state g.H.Counted.faults g.R.Rng.stream c.args.input.now c.args.shelf.now c.args.random.now in
-    let then = outside g.S.Source.left g.S.Counted.faults g.H.Shelf.state g.H.Counted.faults g.R.Rng.stream c.run_asked.new.input c.run_asked.new.shelf c.run_asked.new.random in
+    let seen = outside g.S.Source.left g.S.Counted.faults g.H.Shelf.state g.H.Counted.faults g.R.Rng.stream c.args.outside.now.input c.args.outside.now.shelf c.args.outside.now.random in
+    let then = outside g.S.Source.left g.S.Counted.faults g.H.Shelf.state g.H.Counted.faults g.R.Rng.stream c.run_asked.new.outside.input c.run_asked.new.outside.shelf c.run_asked.new.outside.random in
     let sink : SinkState = record { held = g.K.Sink.held c.args.out.now; faults = g.K.Counted.faults c.args.out.now } in
     let sink_new : SinkState = record { held = g.K.Sink.held c.run_asked.new.out; faults = g.K.Counted.faults c.run_asked.new.out } in
     runs_asked seen then sink sink_new c.run_asked.result c.args.words.now c.requires (λ same. (ap g.H.Shelf.state same, ap g.H.Counted.faults same)) (beside_seen c.in-Some.request)

@@ -17,8 +17,8 @@ returns-in-Seal g c = rw c.in-Seal.is (record { outcome = c.sealed-outcome.resul
 
 pub returns-in-Unseal : goal.returns-in-Unseal
 returns-in-Unseal g c =
-    let seen = outside g.S.Source.left g.S.Counted.faults g.H.Shelf.state g.H.Counted.faults g.R.Rng.stream c.args.input.now c.args.shelf.now c.args.random.now in
-    let then = outside g.S.Source.left g.S.Counted.faults g.H.Shelf.state g.H.Counted.faults g.R.Rng.stream c.unsealed-outcome.new.input c.args.shelf.now c.args.random.now in
+    let seen = outside g.S.Source.left g.S.Counted.faults g.H.Shelf.state g.H.Counted.faults g.R.Rng.stream c.args.outside.now.input c.args.outside.now.shelf c.args.outside.now.random in
+    let then = outside g.S.Source.left g.S.Counted.faults g.H.Shelf.state g.H.Counted.faults g.R.Rng.stream c.unsealed-outcome.new.input c.args.outside.now.shelf c.args.outside.now.random in
     let sink : SinkState = record { held = g.K.Sink.held c.args.out.now; faults = g.K.Counted.faults c.args.out.now } in
     let sink_new : SinkState = record { held = g.K.Sink.held c.finish-in-Unseal.new.out; faults = g.K.Counted.faults c.finish-in-Unseal.new.out } in
     let key = c.in-Unseal.key in

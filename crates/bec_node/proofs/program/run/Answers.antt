@@ -28,8 +28,8 @@ meet_others-told-requires-clause-some g c κs lives =
 
 pub returns : goal.returns
 returns g c =
-    let seen = outside g.S.Source.left g.S.Counted.faults g.H.Shelf.state g.H.Counted.faults g.R.Rng.stream c.args.input.now c.args.shelf.now c.args.random.now in
-    let then = outside g.S.Source.left g.S.Counted.faults g.H.Shelf.state g.H.Counted.faults g.R.Rng.stream c.args.input.now c.meet_others-told.new.shelf c.args.random.now in
+    let seen = outside g.S.Source.left g.S.Counted.faults g.H.Shelf.state g.H.Counted.faults g.R.Rng.stream c.args.outside.now.input c.args.outside.now.shelf c.args.outside.now.random in
+    let then = outside g.S.Source.left g.S.Counted.faults g.H.Shelf.state g.H.Counted.faults g.R.Rng.stream c.args.outside.now.input c.meet_others-told.new.shelf c.args.outside.now.random in
     let net : NetSeen _ = record { net = c.args.net.now; state = g.N.Net.state c.args.net.now; faults = g.N.Counted.faults c.args.net.now } in
     let net_new : NetSeen _ = record { net = c.meet_others-told.new.net; state = g.N.Net.state c.meet_others-told.new.net; faults = g.N.Counted.faults c.meet_others-told.new.net } in
     let sink : SinkState = record { held = g.K.Sink.held c.args.out.now; faults = g.K.Counted.faults c.args.out.now } in
