@@ -12,13 +12,13 @@ ghost use Rattle.audit_commands.specs.Audits.{ShowsDoubled};
 use audit_text::entries_text;
 use bec_disk::{Disk, Shelf};
 use key_audit::find;
-use outcomes::{Refusal, each_stands};
+use outcomes::Refusal;
 use record_check::Verifier;
 use replica::Replica;
-use row_check::{Luhn, Native};
+use row_check::Luhn;
 use schema_text::one_schema;
 use std::alloc::{AllocError, Global};
-use store_directory::{put_store, take_store};
+use store_directory::{Needs, close, each_stands, open};
 
 /// The one-time keys that signed two messages in the store of a directory, as they are printed.
 pub fn audit_in<V: Verifier, H: Shelf>(
@@ -32,10 +32,10 @@ pub fn audit_in<V: Verifier, H: Shelf>(
         (H.state shelf.old) (H.state shelf.new) (H.faults shelf.old) (H.faults shelf.new) result }
 {
     one_schema();
-    let store = take_store(verifier, alloc, shelf, dir, Native::new(Luhn))?;
-    each_stands(&store.replica);
-    let text = audited(alloc, &store.replica);
-    put_store(shelf, dir, store);
+    let opened = open(verifier, alloc, shelf, dir, Needs::Store)?;
+    each_stands(&opened.store.replica);
+    let text = audited(alloc, &opened.store.replica);
+    close(shelf, dir, opened);
     Ok(text?)
 }
 

@@ -11,7 +11,7 @@ use Rattle.node_commands.specs.Creating.{DrawsKeyOnly, InitAnswer, IsInitFault, 
 use Rattle.node_commands.specs.Heads.{HeadsAnswer}
 use Rattle.node_commands.specs.Verdict.{CheckAnswer}
 use Rattle.node_commands.specs.Merging.{IsSureOfMerge, MayMerge, MergeAnswer, Merges}
-use Rattle.outcomes.specs.Remembering.{memory_in}
+use Rattle.store_directory.specs.Remembering.{memory_in}
 use Rattle.outcomes.specs.Outcome.{Outcome, status_of}
 use Rattle.outcomes.specs.Outside.{Outside}
 use Rattle.bec_node.specs.RunAlone.{AnswersOnly, Comes, SignOnly}

@@ -10,12 +10,12 @@ ghost use Rattle.key_directory.specs.Parts.{IsHome};
 use bec_bytes::{Sink, Source};
 use bec_disk::Shelf;
 use command_words::{Request, one_request, request_in};
+use key_directory::KeyMaker;
 use lm_ots::OtsType;
 use lms_tree::{KeyTypes, LeafGenerator, LmsType};
 use node_commands::{
-    Application, apply_in, bundle_tables, dump_in, export_in, heads_in, init_in, join_in,
-    keygen_in, merge_in, notes_in, one_answer, one_answer_of_makers, one_answer_of_merge,
-    one_answer_of_parts, query_in, stream_heads, verdict,
+    Work, bundle_tables, init_in, keygen_in, merge_in, one_answer, one_answer_of_makers,
+    one_answer_of_merge, one_answer_of_parts, stream_heads, verdict, work_in,
 };
 use outcomes::status::OUT_OF_MEMORY;
 use outcomes::{Outside, Refusal, finish, no_command};
@@ -76,11 +76,15 @@ fn outcome_of<V: Verifier, H: Shelf, R: Rng, S: Source>(
         random,
         input,
     } = outside;
+    let maker = &KeyMaker {
+        generator: verifier,
+        alloc,
+    };
     match request {
         Request::Heads { directory: None } => stream_heads(alloc, input),
         Request::Heads {
             directory: Some(directory),
-        } => heads_in(verifier, alloc, shelf, directory),
+        } => work_in(maker, shelf, directory, &Work::Heads, random, input),
         Request::Check => verdict(alloc, input),
         Request::Dump {
             directory: None,
@@ -89,7 +93,10 @@ fn outcome_of<V: Verifier, H: Shelf, R: Rng, S: Source>(
         Request::Dump {
             directory: Some(directory),
             json,
-        } => dump_in(verifier, alloc, shelf, directory, *json),
+        } => {
+            let work = Work::Dump { json: *json };
+            work_in(maker, shelf, directory, &work, random, input)
+        }
         Request::Init { directory } => init_in(alloc, shelf, directory, random, input),
         Request::Keygen {
             directory,
@@ -97,23 +104,28 @@ fn outcome_of<V: Verifier, H: Shelf, R: Rng, S: Source>(
             width,
         } => drawn_key(verifier, alloc, shelf, directory, (*height, *width), random),
         Request::Apply { directory, note } => {
-            let application = Application {
-                directory,
-                note: *note,
-            };
-            apply_in(verifier, alloc, shelf, &application, random, input)
+            let work = Work::Apply { note: *note };
+            work_in(maker, shelf, directory, &work, random, input)
         }
-        Request::Join { directory } => join_in(verifier, alloc, shelf, directory, random),
-        Request::Export { directory, updates } => export_in(
-            verifier, alloc, shelf, directory, *updates,
-        ),
+        Request::Join { directory } => {
+            work_in(maker, shelf, directory, &Work::Join, random, input)
+        }
+        Request::Export { directory, updates } => {
+            let work = Work::Export { updates: *updates };
+            work_in(maker, shelf, directory, &work, random, input)
+        }
         Request::Query {
             directory,
             text,
             json,
-        } => query_in(verifier, alloc, shelf, directory, text, *json),
+        } => {
+            let work = Work::Query { text, json: *json };
+            work_in(maker, shelf, directory, &work, random, input)
+        }
         Request::Merge { first, second } => merge_in(verifier, alloc, shelf, first, second),
-        Request::Notes { directory } => notes_in(verifier, alloc, shelf, directory),
+        Request::Notes { directory } => {
+            work_in(maker, shelf, directory, &Work::Notes, random, input)
+        }
     }
 }
 

@@ -26,16 +26,17 @@ use Rattle.session_server.specs.Serving.{Ran}
 use Rattle.session_server.specs.Sessions.{IsSession}
 use Rattle.outcomes.specs.declared.refusal.Refusal.{Refusal}
 use Rattle.outcomes.specs.declared.refusal.Refusal.TheVariants as refusals
-use Rattle.outcomes.specs.Comes.{readings}
-use Rattle.outcomes.specs.Remembering.{IsPeersFault, KeepsPeers, RemembersIn, memory_in, touched}
+use Rattle.outcomes.specs.Comes.{IsDiskRefusal, readings}
+use Rattle.store_directory.specs.Remembering.{KeepsPeers, RemembersIn, memory_in, touched}
 use Rattle.outcomes.specs.OpenStores.{opened_store}
 use Rattle.outcomes.specs.Outcome.{from_store}
-use Rattle.outcomes.specs.Standing.{Stands}
+use Rattle.store_directory.specs.Standing.{Stands}
 use Rattle.outcomes.specs.StoreAnswers.{bad_store, no_store}
 use Rattle.outcomes.proofs.Around.{closing_told, of_peers, of_store, opened_told, places_around, same_memory}
 use Rattle.net_commands.specs.Meetings.{Concluded, Dials, HandsNone, MeetingOf, SyncAnswer, SyncsStore, handed, kept, met, no_meeting, not_asked, not_dialled as undialled, not_kept, not_read as unread, not_taken, opened as of_open, refused}
 use Rattle.outcomes.specs.Told.{Told, told_done}
-use Rattle.net_commands.specs.Open.{Concludes, HoldsSession, KeepsGrowing, MeetsBy, MeetsOpen, SyncsOpen, held, no_memory, not_dialled}
+use Rattle.store_directory.specs.Settling.{KeepsGrowing}
+use Rattle.net_commands.specs.Open.{Concludes, HoldsSession, MeetsBy, MeetsOpen, SyncsOpen, held, no_memory, not_dialled}
 use Rattle.net_commands.proofs.Sharing.{grows_none, grows_then, holds_grown, passes_by}
 
 -- ---- the part Peers
@@ -87,7 +88,7 @@ module _ (dir address : List ℕ) (before after : ShelfState) (net net_new : Net
 
 -- what is remembered of peers was not read
 pub open_stopped : (dir address : List ℕ) (before after : ShelfState) (net : NetState) (faults faults_new net_faults : ℕ) (replica : ReplicaState) (refusal : Refusal) → KeepsPeers dir before after → faults ≤ faults_new → Stands replica
-    → IsPeersFault faults faults_new refusal → SyncsOpen dir address before after net net faults faults_new net_faults net_faults replica replica (Err refusal)
+    → IsDiskRefusal faults faults_new refusal → SyncsOpen dir address before after net net faults faults_new net_faults net_faults replica replica (Err refusal)
 open_stopped dir address before after net faults faults_new net_faults replica refusal keeps later stands (inl memory) =
     subst (λ (r : Refusal). SyncsOpen dir address before after net net faults faults_new net_faults net_faults replica replica (Err r)) (sym memory)
     (open_memory dir address before after net net faults faults_new net_faults net_faults replica keeps later replica (not_asked refl) (grows_none replica) stands)

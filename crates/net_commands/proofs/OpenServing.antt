@@ -22,18 +22,18 @@ use Rattle.store_directory.proofs.Working.{held_run, holds_run, read_before, sto
 use Rattle.outcomes.specs.declared.refusal.Refusal.{Refusal}
 use Rattle.outcomes.specs.declared.refusal.Refusal.TheVariants as refusals
 use Rattle.schema_verdict.specs.declared.status.TheConstants.{DONE, FULL, OUT_OF_MEMORY, PEER, STORE_FAULT, STREAM_FAULT}
-use Rattle.outcomes.specs.Comes.{readings}
-use Rattle.outcomes.specs.Remembering.{IsPeersFault, KeepsPeers, memory_in, touched}
+use Rattle.outcomes.specs.Comes.{IsDiskRefusal, readings}
+use Rattle.store_directory.specs.Remembering.{KeepsPeers, memory_in, touched}
 use Rattle.outcomes.specs.OpenStores.{opened_store}
 use Rattle.outcomes.specs.Outcome.{from_store}
-use Rattle.outcomes.specs.Standing.{Stands}
+use Rattle.store_directory.specs.Standing.{Stands}
 use Rattle.outcomes.specs.StoreAnswers.{bad_store, no_store}
 use Rattle.outcomes.proofs.Around.{closing_told, of_peers, of_store, opened_told, places_around, same_memory}
 use Rattle.session_server.specs.declared.served.Served.{Served}
 use Rattle.net_commands.specs.declared.serve.Met.{Met}
 use Rattle.net_commands.specs.Meetings.{RemembersSessions, ServeAnswer, ServesStore, ServingOf, not_read as unread, not_served, not_taken, opened as of_open, served}
 use Rattle.outcomes.specs.Told.{Told, told_done}
-use Rattle.net_commands.specs.Open.{KeepsGrowing}
+use Rattle.store_directory.specs.Settling.{KeepsGrowing}
 use Rattle.net_commands.specs.OpenServing.{ConcludesAll, ConcludesAllAs, HasFailed, HoldsSessions, KeepsSessions, ServesOpen}
 use Rattle.net_commands.specs.Words.{has_status, serve_status, serve_text}
 use Rattle.outcomes.specs.declared.reply.Reply.{Reply}
@@ -166,7 +166,7 @@ module _ (dir : List ℕ) (asked : ℕ) (before after : ShelfState) (net net_new
 
 -- what is remembered of peers was not read
 pub serving_stopped : (dir : List ℕ) (asked : ℕ) (before after : ShelfState) (net : NetState) (faults faults_new net_faults : ℕ) (old : ReplicaState) → KeepsPeers dir before after → faults ≤ faults_new → (refusal : Refusal) → Stands old
-    → IsPeersFault faults faults_new refusal → ServesOpen dir asked before after net net faults faults_new net_faults net_faults old old (Err refusal)
+    → IsDiskRefusal faults faults_new refusal → ServesOpen dir asked before after net net faults faults_new net_faults net_faults old old (Err refusal)
 serving_stopped dir asked before after net faults faults_new net_faults old keeps later refusal stands (inl memory) =
     subst (λ (r : Refusal). ServesOpen dir asked before after net net faults faults_new net_faults net_faults old old (Err r)) (sym memory)
     (serving_memory dir asked before after net net faults faults_new net_faults net_faults old old keeps later refl (grows_none old) stands)

@@ -21,7 +21,8 @@ use Rattle.session_server.specs.Serving.{IsResponse, IsTold, IsWithin, Ran, Serv
 use Rattle.shared_replica.proofs.Going.{updates_stay}
 use Rattle.schema_verdict.specs.declared.status.TheConstants.{OUT_OF_MEMORY, STORE_FAULT, STREAM_FAULT}
 use Rattle.net_commands.specs.declared.serve.Met.{Met}
-use Rattle.net_commands.specs.Open.{KeepsGrowing, opening_list}
+use Rattle.store_directory.specs.Settling.{KeepsGrowing}
+use Rattle.net_commands.specs.Open.{opening_list}
 use Rattle.net_commands.specs.OpenServing.{HoldsSessions, ServesPeersOpen}
 use Rattle.net_commands.specs.Words.{has_status, status_by}
 use Rattle.net_commands.proofs.Sharing.{broken_rose, grown, grows_none, met_counted, prefix_then, store_met}

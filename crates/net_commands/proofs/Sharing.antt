@@ -19,9 +19,10 @@ use Rattle.session_server.specs.declared.served.Served.{Served}
 use Rattle.session_server.specs.Sessions.{HasCause, HasMetFault, IsSession}
 use Rattle.store_directory.specs.Holding.{HoldsOn}
 use Rattle.update_log.specs.Log.{IsClean}
-use Rattle.outcomes.specs.Standing.{Stands}
+use Rattle.store_directory.specs.Standing.{Stands}
 use Rattle.net_commands.specs.Meetings.{Passes}
-use Rattle.net_commands.specs.Open.{KeepsGrowing, opening_list}
+use Rattle.store_directory.specs.Settling.{KeepsGrowing}
+use Rattle.net_commands.specs.Open.{opening_list}
 use Rattle.outcomes.specs.OpenStores.{opened_store}
 
 -- ---- why a session ended so

@@ -27,7 +27,7 @@ use Rattle.outcomes.specs.declared.refusal.Refusal.{Refusal}
 use Rattle.outcomes.specs.declared.refusal.Refusal.TheVariants as refusals
 use Rattle.schema_verdict.specs.declared.status.TheConstants.{DONE, OUT_OF_MEMORY, STORE_FAULT, STREAM_FAULT}
 use Rattle.outcomes.specs.Comes.{readings}
-use Rattle.outcomes.specs.Remembering.{RemembersIn, memory_in, touched}
+use Rattle.store_directory.specs.Remembering.{RemembersIn, memory_in, touched}
 use Rattle.outcomes.specs.StoreAnswers.{HasStore, Readings, RefusesStore}
 use Rattle.net_commands.specs.Words.{has_status, serve_status, serve_text, status_by, sync_text}
 use Rattle.outcomes.specs.Told.{Told, told_status, told_done, Tells}

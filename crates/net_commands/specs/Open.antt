@@ -10,6 +10,7 @@ use Rattle.session_rules.specs.declared.role.Role.TheVariants.{Initiator}
 use Rattle.peer_memory.specs.declared.peer.Peer.{Peer as PeerEntry}
 use Rattle.replica.specs.Replicas.{IsSameStore, ReplicaState}
 use Rattle.store_directory.specs.Holding.{HoldsOn}
+use Rattle.store_directory.specs.Settling.{KeepsGrowing}
 use Rattle.shared_replica.specs.declared.entry.Entry.{Entry}
 use Rattle.shared_replica.specs.declared.entry.Entry.TheVariants.{First, Opened}
 use Rattle.shared_replica.specs.Entries.{opening_of, updates_of}
@@ -20,22 +21,11 @@ use Rattle.session_server.specs.Sessions.{IsSession}
 use Rattle.outcomes.specs.declared.refusal.Refusal.{Refusal}
 use Rattle.outcomes.specs.declared.refusal.Refusal.TheVariants as refusals
 use Rattle.schema_verdict.specs.declared.status.TheConstants.{STORE_FAULT, STREAM_FAULT}
-use Rattle.outcomes.specs.Remembering.{KeepsPeers, RemembersIn, memory_in}
+use Rattle.store_directory.specs.Remembering.{KeepsPeers, RemembersIn, memory_in}
 use Rattle.outcomes.specs.OpenStores.{opened_store}
 use Rattle.net_commands.specs.Meetings.{Concluded, Dials, HandsNone, HandsOver, MeetingOf}
 use Rattle.outcomes.specs.Told.{Tells, Told, told_done, told_status}
 use Rattle.net_commands.specs.Words.{status_by, sync_text}
-
--- It is the same store on the same disk, and its list grew behind.
-pub record KeepsGrowing (old now : ReplicaState) : Type 0 where
-  pub store : IsSameStore old now
-  pub disk : IsSameDisk old.log.disk now.log.disk
-  pub added : List (List ℕ)
-  pub members : now.history.members ≡ old.history.members ++ added
-
--- Why the log of a store is not settled: memory ran out, or its disk failed.
-abbrev pub IsSettleFault : ReplicaState → Refusal → Type 0
-IsSettleFault now refusal = (refusal ≡ refusals.Memory) ⊎ ((refusal ≡ refusals.StoreFault) × (0 < now.log.faults))
 
 -- the list of a shared replica as it opens
 abbrev pub opening_list : ReplicaState → List Entry

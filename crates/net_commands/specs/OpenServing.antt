@@ -17,12 +17,13 @@ use Rattle.session_server.specs.Serving.{Serves}
 use Rattle.outcomes.specs.declared.refusal.Refusal.{Refusal}
 use Rattle.outcomes.specs.declared.refusal.Refusal.TheVariants as refusals
 use Rattle.schema_verdict.specs.declared.status.TheConstants.{OUT_OF_MEMORY, STORE_FAULT, STREAM_FAULT}
-use Rattle.outcomes.specs.Remembering.{KeepsPeers, memory_in}
+use Rattle.store_directory.specs.Remembering.{KeepsPeers, memory_in}
 use Rattle.outcomes.specs.OpenStores.{opened_store}
 use Rattle.net_commands.specs.declared.serve.Met.{Met}
 use Rattle.net_commands.specs.Meetings.{RemembersSessions, ServingOf}
 use Rattle.outcomes.specs.Told.{Tells, Told, told_done, told_status}
-use Rattle.net_commands.specs.Open.{KeepsGrowing, opening_list}
+use Rattle.store_directory.specs.Settling.{KeepsGrowing}
+use Rattle.net_commands.specs.Open.{opening_list}
 use Rattle.net_commands.specs.Words.{has_status, serve_status, serve_text}
 
 -- The peers that dialled were served. A fault that a session met is counted.

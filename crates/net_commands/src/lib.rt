@@ -9,7 +9,6 @@
 #![tactic(auto)]
 
 mod serve;
-mod settling;
 mod sync;
 mod words;
 

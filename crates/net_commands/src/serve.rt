@@ -7,12 +7,11 @@ ghost use Rattle.net_commands.specs.Meetings.{RemembersAll, ServesStore};
 ghost use Rattle.net_commands.specs.OpenServing.{ConcludesAll, HasFailed, KeepsSessions, ServesOpen, ServesPeersOpen};
 ghost use Rattle.key_directory.specs.Parts.{IsHome, part_in};
 
-use crate::settling::settle;
 use crate::words::{has_status, serve_status, serve_text};
 use bec_disk::{Disk, Shelf};
 use bec_links::Net;
 use outcomes::status::{DONE, OUT_OF_MEMORY};
-use outcomes::{Refusal, Reply, each_stands, peers_of};
+use outcomes::{Refusal, Reply};
 use peer_memory::Peers;
 use record_check::ManyThreads;
 use replica::Replica;
@@ -23,7 +22,7 @@ use shared_replica::Shared;
 use std::alloc::{AllocError, Global};
 use std::sync::Wait;
 use std::thread::Threads;
-use store_directory::{OpenStore, put_store, take_store, write_memory};
+use store_directory::{OpenStore, each_stands, peers_of, put_store, settle, take_store, write_memory};
 use update_model::DbRule;
 
 /// Serves so many sessions at an address, and tells how each ended.
@@ -71,7 +70,7 @@ where
     each_stands(&replica);
     let peers = match peers_of(alloc, shelf, directory) {
         Ok(peers) => peers,
-        Err(refusal) => return (replica, Err(refusal)),
+        Err(error) => return (replica, Err(Refusal::from(error))),
     };
     let rule = match replica.schema().rule().copy(alloc) {
         Ok(rule) => rule,

@@ -7,11 +7,10 @@ ghost use Rattle.net_commands.specs.Meetings.{SyncsStore};
 ghost use Rattle.net_commands.specs.Open.{Concludes, Keeps, MeetsOpen, SyncsOpen};
 ghost use Rattle.key_directory.specs.Parts.{IsHome, part_in};
 
-use crate::settling::settle;
 use crate::words::{status_by, sync_text};
 use bec_disk::{Disk, Shelf};
 use bec_links::Net;
-use outcomes::{Refusal, Reply, each_stands, keep_peers, peers_of};
+use outcomes::{Refusal, Reply};
 use peer_memory::Peers;
 use record_check::ManyThreads;
 use replica::Replica;
@@ -24,7 +23,7 @@ use shared_replica::Shared;
 use std::alloc::Global;
 use std::sync::Wait;
 use std::thread::Threads;
-use store_directory::{OpenStore, put_store, take_store};
+use store_directory::{OpenStore, each_stands, keep_peers, peers_of, put_store, settle, take_store};
 use update_model::DbRule;
 
 /// Meets the node at an address, and tells what the store of a directory gained.
@@ -64,7 +63,7 @@ fn sync_open<T: Threads + Wait, H: Shelf, N: Net>(
     each_stands(&replica);
     let peers = match peers_of(alloc, shelf, directory) {
         Ok(peers) => peers,
-        Err(refusal) => return (replica, Err(refusal)),
+        Err(error) => return (replica, Err(Refusal::from(error))),
     };
     let rule = match replica.schema().rule().copy(alloc) {
         Ok(rule) => rule,
@@ -158,7 +157,8 @@ fn keep<H: Shelf>(
     match served.ending {
         Ending::Done => {
             settle(alloc, replica)?;
-            keep_peers(alloc, shelf, directory, peers, name, &served.heads)
+            keep_peers(alloc, shelf, directory, peers, name, &served.heads)?;
+            Ok(())
         }
         Ending::Memory => Err(Refusal::Memory),
         _ => Ok(()),

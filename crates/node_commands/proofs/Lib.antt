@@ -16,3 +16,4 @@ pub mod PartsOnce
 pub mod Records
 pub mod Signs
 pub mod Tables
+pub mod Works

@@ -3,6 +3,9 @@ use Rattle.std.proofs.Common.{◌≡◌, ◌≢◌, ◌⊎◌, inl, inr, ℕ, �
 use Rattle.std.specs.Prelude.{Contains}
 use Rattle.std.proofs.lemmas.Bool.{true≢false}
 use Rattle.std.proofs.lemmas.List.Elements.{All-nil}
+use Rattle.bec_bytes.specs.Causes.{Rose}
+use Rattle.bec_disk.specs.declared.disk_error.DiskError.{DiskError}
+use Rattle.bec_disk.specs.declared.disk_error.DiskError.TheVariants as disk_errors
 use Rattle.bec_disk.specs.declared.part.Part.TheVariants.{Peers}
 use Rattle.bec_disk.specs.Shelf.{PartState, ShelfState}
 use Rattle.bec_disk.specs.Slot.{slot}
@@ -24,10 +27,10 @@ use Rattle.store_directory.specs.Holding.{WorksOn}
 use Rattle.outcomes.specs.declared.refusal.Refusal.{Refusal}
 use Rattle.outcomes.specs.Comes.{IsRefused, is_done}
 use Rattle.node_commands.specs.Merging.{AreUnremembered, IfStoreFault, IsMergeEnd, IsMergeFault, IsStopped, held, unheld, KeepsAllButIn, Meets, MergesOpen, TellsEnd, start_of}
-use Rattle.outcomes.specs.Remembering.{IsPeersFault, KeepsPeers, RemembersIn, memory_in}
+use Rattle.store_directory.specs.Remembering.{KeepsPeers, RemembersIn, memory_in}
 use Rattle.outcomes.specs.OpenStores.{WorksFrom, opened_store}
-use Rattle.outcomes.specs.Outcome.{Outcome}
-use Rattle.outcomes.specs.Standing.{Stands}
+use Rattle.outcomes.specs.Outcome.{Outcome, from_disk}
+use Rattle.store_directory.specs.Standing.{Stands}
 use Rattle.node_commands.proofs.Merging.{away_from, if_fault}
 use Rattle.outcomes.proofs.Around.{same_memory}
 use Rattle.key_directory.specs.Parts.{IsUntouched, KeepsPlaces, part_in}
@@ -66,9 +69,9 @@ module _ (first second : List ℕ) (before : ShelfState) (faults : ℕ) where
     }
 
 -- why the peers of a directory were not read or kept, in place of an answer
-pub peers_fault : (old mid new : ℕ) (one other one_new other_new : ReplicaState) (refusal : Refusal) → old ≤ mid → IsPeersFault mid new refusal → IsMergeFault old new one other one_new other_new (Err refusal)
-peers_fault old mid new one other one_new other_new refusal later (inl memory) = inl (ap Err memory)
-peers_fault old mid new one other one_new other_new refusal later (inr (is, rose)) = inr (ap Err is, inl (omega (arith, later, rose)))
+pub peers_fault : (old mid new : ℕ) (one other one_new other_new : ReplicaState) (error : DiskError) → old ≤ mid → (error ≡ disk_errors.DiskFault → Rose mid new) → IsMergeFault old new one other one_new other_new (Err (from_disk error))
+peers_fault old mid new one other one_new other_new disk_errors.Memory later failed = inl refl
+peers_fault old mid new one other one_new other_new disk_errors.DiskFault later failed = let rose = failed refl in inr (refl, inl (omega (arith, later, rose)))
 
 -- What both directories remember is read.
 pub record ReadsBoth (first second : List ℕ) (before after : ShelfState) (faults faults_new : ℕ) (peers peers_other : List PeerEntry) : Type 0 where

@@ -14,21 +14,26 @@ use Rattle.replica.specs.Replicas.{ReplicaState}
 use Rattle.store_directory.specs.Holding.{IsStoreCause, LetsGo, OpenData, PutsStore, TakesStore}
 use Rattle.store_directory.specs.Stores.{IsStore, KeepsList, StoreData, StoreRun, with_added}
 use Rattle.key_directory.specs.Parts.{IsHome, IsUntouched, part_in, reading}
+use Rattle.store_directory.specs.Opening.{LetsAllGo, Refuses}
+use Rattle.store_directory.specs.declared.open_refusal.OpenRefusal.{OpenRefusal}
+use Rattle.store_directory.specs.declared.open_refusal.OpenRefusal.TheVariants as open_refusals
+use Rattle.store_directory.specs.declared.opening.Needs.TheVariants as needed
 use Rattle.store_directory.specs.declared.store_refusal.StoreRefusal.{StoreRefusal}
 use Rattle.store_directory.specs.declared.store_refusal.StoreRefusal.TheVariants as store_refusals
 use Rattle.key_directory.proofs.Handing.{untouched_by}
 use Rattle.store_directory.proofs.Handing.{list_as_it_was}
 use Rattle.key_directory.proofs.Places.{same_place}
+use Rattle.store_directory.proofs.Opening.{no_store_taken}
 use Rattle.store_directory.proofs.Readings.{OneSchema, same_store}
 use Rattle.store_directory.proofs.Working.{read_before, store_of, worked_run}
 use Rattle.outcomes.specs.declared.refusal.Refusal.{Refusal}
 use Rattle.outcomes.specs.declared.refusal.Refusal.TheVariants as refusals
 use Rattle.outcomes.specs.Comes.{IsShelfFault, is_done, readings}
 use Rattle.node_commands.specs.Merging.{BesideAnswer, IfStoreFault, IsBesideFault, IsMergeEnd, IsMergeFault, IsStopped, IsWithin, unheld, KeepsAllButIn, Meets, MergeAnswer, MergesBeside, MergesOpen, MergesStores, with_both, with_it, without, without_first, without_second}
-use Rattle.outcomes.specs.Remembering.{memory_in, touched}
+use Rattle.store_directory.specs.Remembering.{memory_in, touched}
 use Rattle.outcomes.specs.OpenStores.{opened_store, WorksFrom}
-use Rattle.outcomes.specs.Outcome.{Outcome, from_store}
-use Rattle.outcomes.specs.Standing.{Stands}
+use Rattle.outcomes.specs.Outcome.{Outcome, from_open, from_store}
+use Rattle.store_directory.specs.Standing.{Stands}
 use Rattle.outcomes.specs.StoreAnswers.{bad_store, no_store}
 use Rattle.outcomes.proofs.Working.{works_not}
 use Rattle.outcomes.proofs.Around.{of_store, of_peers, same_memory, opened_told, closing_told, tells_still, places_around, whole_before}
@@ -363,3 +368,18 @@ merge_without_memory first second before after old new refusal merges = record {
   others = merges.others;
   home = merges.home;
 }
+
+-- ---- a directory that is not opened
+
+module _ (first second : List ℕ) (differ : first ≢ second) (before after : ShelfState) (old new : ℕ) where
+  pub merges_unopened : (why : OpenRefusal) → (IsTrue before.tells → IsHome before) → LetsAllGo needed.Store before first after → Refuses why needed.Store before first
+      → (why ≡ open_refusals.Store store_refusals.DiskFault → Rose old new) → MergesStores first second before after old new (Err (from_open why))
+  merges_unopened (open_refusals.Store why) home lets cause failed =
+      merges_none first second differ before after old new why home (no_store_taken before after first lets) cause (λ is. failed (ap open_refusals.Store is))
+  merges_unopened (open_refusals.Key why) home lets cause failed = absurd cause
+
+  pub beside_unopened : (one : ReplicaState) (why : OpenRefusal) → Stands one → LetsAllGo needed.Store before second after → Refuses why needed.Store before second
+      → (why ≡ open_refusals.Store store_refusals.DiskFault → Rose old new) → old ≤ new → MergesBeside first second before after old new one one (Err (from_open why))
+  beside_unopened one (open_refusals.Store why) stands lets cause failed later =
+      beside_none first second differ before after old new one one why stands refl (no_store_taken before after second lets) cause (λ is. failed (ap open_refusals.Store is)) later
+  beside_unopened one (open_refusals.Key why) stands lets cause failed later = absurd cause

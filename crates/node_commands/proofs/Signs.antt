@@ -1,16 +1,15 @@
 -- Commands that make an update by the key of a directory.
 use Rattle.std.proofs.Common.{◌≡◌, ◌≢◌, ◌⊎◌, inl, inr, ℕ, ◌<◌, ◌≤◌, Bool, true, false, List, [], ◌∷◌, ◌++◌, append-nil, length, take, length-take, refl, sym, ap, subst, ◌∙◌, IsTrue, Option, Some, None, Ok, Err, Vec, arith, nat_lt}
 use Rattle.std.specs.declared.alloc.Global.{Global}
-use Rattle.std.specs.Prelude.{◌||◌, IfNone, IfSome, MatchOption}
+use Rattle.std.specs.Prelude.{IfNone, IfSome, MatchOption}
 use Rattle.std.specs.List.{list_any}
 use Rattle.std.proofs.lemmas.List.{take_all}
-use Rattle.std.proofs.lemmas.Bool.{true≢false}
 use Rattle.std.proofs.lemmas.Bool.Decides.{nat_tests}
 use Rattle.rand_core.specs.Stream.{Stream}
 use Rattle.row_check.specs.Checksum.{is_luhn}
 use Rattle.bec_bytes.specs.Causes.{Rose}
 use Rattle.bec_bytes.specs.Framed.{stream_of}
-use Rattle.bec_disk.specs.Disk.{DiskState, EveryImage, IsImage, LeavesOnly, LeavesSince, handed_out}
+use Rattle.bec_disk.specs.Disk.{DiskState, EveryImage, IsImage, LeavesOnly, LeavesSince}
 use Rattle.bec_disk.specs.declared.part.Part.TheVariants.{Schema, Updates, Key, Used}
 use Rattle.bec_disk.specs.Shelf.{PartState, ShelfState, absent, moments_of, out, stands as standing}
 use Rattle.bec_disk.specs.Slot.{Slot, same_slot, slot}
@@ -32,20 +31,22 @@ use Rattle.replica.specs.declared.contents.Contents.{Contents}
 use Rattle.replica.specs.Making.{HasNoneToJoin, IsJoinCause, IsMakeCauseWith, Joins, JoinsTo, MakesWith}
 use Rattle.replica.specs.Replicas.{ReplicaState}
 use Rattle.replica.specs.Signing.{KeyAfter, KeyAfterJoin, SignsAtLeast, TriesLeast}
-use Rattle.store_directory.specs.Holding.{IsStoreCause, LetsGo, OpenData, PutsStore, TakesStore}
-use Rattle.key_directory.specs.Keys.{IsKeyCause, KeepsUsed, LetsKeyGo, PutsKey, TakesKey, WorksWith}
+use Rattle.store_directory.specs.Holding.{OpenData, PutsStore, TakesStore}
+use Rattle.store_directory.specs.Opening.{LetsAllGo, Refuses}
+use Rattle.store_directory.specs.declared.open_refusal.OpenRefusal.{OpenRefusal}
+use Rattle.store_directory.specs.declared.open_refusal.OpenRefusal.TheVariants as open_refusals
+use Rattle.store_directory.specs.declared.opening.Needs.TheVariants as needed
+use Rattle.key_directory.specs.Keys.{KeepsUsed, PutsKey, TakesKey, WorksWith}
 use Rattle.key_directory.specs.Parts.{IfStands, IsHome, IsUntouched, KeepsAllBut, part_in, reading}
 use Rattle.store_directory.specs.Stores.{StoreRun}
-use Rattle.key_directory.specs.declared.key_refusal.KeyRefusal.{KeyRefusal}
 use Rattle.key_directory.specs.declared.key_refusal.KeyRefusal.TheVariants as key_refusals
-use Rattle.store_directory.specs.declared.store_refusal.StoreRefusal.{StoreRefusal}
 use Rattle.store_directory.specs.declared.store_refusal.StoreRefusal.TheVariants as store_refusals
-use Rattle.key_directory.proofs.Handing.{untouched_by}
 use Rattle.key_directory.proofs.Places.{home_again, keeps_through, stands-not-out}
 use Rattle.key_directory.proofs.Putting.{slot_of, told}
 use Rattle.store_directory.proofs.Readings.{OneSchema}
 use Rattle.key_directory.proofs.Signing.{keeps_key, keeps_used}
 use Rattle.node_commands.proofs.KeyUse.{signs_at_least, tries_least, untouched_used}
+use Rattle.store_directory.proofs.Opening.{of_four_first, of_four_last}
 use Rattle.store_directory.proofs.Working.{home_after_store, read_before, store_of, worked_run}
 use Rattle.txn_text.specs.Transactions.{FirstFault, Reads}
 use Rattle.txn_text.specs.declared.fault.TextError.{TextError}
@@ -57,11 +58,11 @@ use Rattle.outcomes.specs.declared.refusal.Refusal.{Refusal}
 use Rattle.outcomes.specs.declared.refusal.Refusal.TheVariants as refusals
 use Rattle.outcomes.specs.Comes.{IsShelfFault, is_done, readings, IsSourceFault}
 use Rattle.schema_verdict.specs.Inputs.{ReadsText}
-use Rattle.outcomes.specs.Outcome.{Outcome, from_key, from_make, from_store, from_text}
+use Rattle.outcomes.specs.Outcome.{Outcome, from_make, from_open, from_text}
 use Rattle.node_commands.specs.Signing.{ApplyAnswer, IsInnerFault, IsNoStop, IsOpenFault, JoinAnswer, KeyedAnswer, MakeAnswer, MakesUpdate, SignAnswer, SignsIn, SignsOpen, StopsReading, StoreAnswer, TakesText, UsesKey, UsesKeyIn, AnswersSomeKey, DrawsFor, answered, by_fault, unopened, asked, bad_text, history_of, joined, made, none, not_joined, not_made, saying, taken_of, with_key, with_store, without_key, without_store}
 use Rattle.outcomes.specs.OpenStores.{WorksFrom}
 use Rattle.outcomes.specs.StoreAnswers.{after_bytes, bad_key, bad_store, next_bytes, no_key, no_store}
-use Rattle.outcomes.specs.Standing.{Stands}
+use Rattle.store_directory.specs.Standing.{Stands}
 use Rattle.outcomes.specs.Texts.{line_of}
 use Rattle.outcomes.proofs.Working.{works_failed, works_not, works_on}
 
@@ -369,14 +370,6 @@ apply_asked note before after stream stream_new old new replica key replica_new 
 
 -- ---- the key of a directory
 
--- a part that was at most read is in its place if it was
-in_place : (old new : PartState) → IsUntouched old new → old ≢ out → new ≢ out
-in_place (standing old) (standing new) same place = stands-not-out (standing new) new refl
-in_place (standing old) absent same place = absurd same
-in_place (standing old) out same place = absurd same
-in_place absent new same place = λ e. place (sym same ∙ e)
-in_place out new same place = absurd (place refl)
-
 -- a part that was at most read keeps what it has used
 keeps_untouched : (old new : PartState) → IsUntouched old new → KeepsUsed old new
 keeps_untouched old new same = record { reads = inl same; used = λ index is. by old new same index is }
@@ -412,53 +405,6 @@ key_disks before opened dir taken now takes works tells =
     used_kept (inr tries) = tries.1.only.disk.slot
 
 module _ (Unused : Type 0) (Answer : SignAnswer) (Stops : Outcome → Type 0) (stream stream_new : Stream) (dir : List ℕ) (before after : ShelfState) (faults faults_new : ℕ) where
-  -- where no key was taken
-  pub signs_keyless : (replica : ReplicaState) (why : KeyRefusal) → (IsTrue before.tells → part_in before dir Key ≢ out) → (IsTrue before.tells → part_in before dir Used ≢ out) → Stands replica → Unused → LetsKeyGo before dir after → (IsTrue before.tells → IsKeyCause before dir why) → (why ≡ key_refusals.DiskFault → Rose faults faults_new)
-      → faults ≤ faults_new → stream_new ≡ stream
-      → SignsIn Unused Answer Stops stream stream_new dir before after faults faults_new replica replica (Err (from_key why))
-  signs_keyless replica why key_in used_in_its stands unused lets cause rose later same = record {
-    added = [];
-    comes = by why cause rose;
-    ends = some why rose;
-    draws = undrawn why;
-    works = works_not replica false stands;
-    tells = lets.tells;
-    key = lets.key_part;
-    used = λ tells. keeps_untouched (part_in before dir Used) (part_in after dir Used) (lets.used_part tells);
-    uses = λ tells. uses_none why (lets.used_part tells);
-    key_home = λ tells. in_place (part_in before dir Key) (part_in after dir Key) (lets.key_part tells) (key_in tells);
-    used_home = λ tells. in_place (part_in before dir Used) (part_in after dir Used) (lets.used_part tells) (used_in_its tells);
-    others = lets.others;
-    later = later;
-    log_later = omega arith;
-  }
-    where
-      uses_none : (why : KeyRefusal) → IsUntouched (part_in before dir Used) (part_in after dir Used) → UsesKeyIn (part_in before dir Used) (part_in after dir Used) [] (Err (from_key why))
-      uses_none key_refusals.NoKey kept = kept
-      uses_none key_refusals.BadKey kept = kept
-      uses_none key_refusals.DiskFault kept = inl kept
-      uses_none key_refusals.Memory kept = inl kept
-
-      by : (why : KeyRefusal) → (IsTrue before.tells → IsKeyCause before dir why) → (why ≡ key_refusals.DiskFault → Rose faults faults_new)
-          → (IsTrue before.tells → KeyedAnswer Unused Answer (reading (part_in before dir Key)) (reading (part_in before dir Used)) replica.history [] (Err (from_key why)))
-          ⊎ (IsInnerFault Stops faults faults_new replica replica (Err (from_key why)) × (nothing ≡ []))
-      by key_refusals.NoKey so f = inl (λ tells. without_key refusals.NoKey (no_key (so tells) refl) unused refl refl)
-      by key_refusals.BadKey so f = inl (λ tells. without_key refusals.BadKey (bad_key (so tells) refl) unused refl refl)
-      by key_refusals.DiskFault so f = inr (inr (inr (refl, inl (f refl))), refl)
-      by key_refusals.Memory so f = inr (inl refl, refl)
-
-      undrawn : (why : KeyRefusal) → DrawsFor stream stream_new (Err (from_key why))
-      undrawn key_refusals.NoKey = same
-      undrawn key_refusals.BadKey = same
-      undrawn key_refusals.DiskFault = inl same
-      undrawn key_refusals.Memory = inl same
-
-      some : (why : KeyRefusal) → (why ≡ key_refusals.DiskFault → Rose faults faults_new) → AnswersSomeKey Answer (IsInnerFault Stops faults faults_new replica replica) [] (Err (from_key why))
-      some key_refusals.NoKey f = unopened tt refl
-      some key_refusals.BadKey f = unopened tt refl
-      some key_refusals.DiskFault f = by_fault (inr (inr (refl, inl (f refl)))) refl
-      some key_refusals.Memory f = by_fault (inl refl) refl
-
   -- where one was taken and put back
   pub signs_keyed : (opened : ShelfState) (opened_faults : ℕ) (old new : ReplicaState) (taken now : KeyState) (outcome : Outcome) → TakesKey before dir taken opened
       → SignsOpen Answer Stops stream stream_new old taken new now outcome → PutsKey opened dir now.parts after → (IsTrue now.parts.used.tells → IsImage now.parts.used.now now.parts.used.seen)
@@ -524,39 +470,6 @@ module _ (Unused : Type 0) (Answer : SignAnswer) (Stops : Outcome → Type 0) (s
 
 -- ---- the store of a directory
 
--- the disks of a store that was taken are those of its parts, whatever was done to its list
-pub store_disks : (before opened closing : ShelfState) (dir : List ℕ) (taken : OpenData) (new : ReplicaState) (added : List (List ℕ)) (done : Bool) → TakesStore is_luhn before dir taken opened
-    → closing.tells ≡ opened.tells → (IsTrue opened.tells → KeepsAllBut (Key ∷ Used ∷ []) dir opened closing) → WorksFrom taken.replica new added done → IsTrue closing.tells
-    → ((taken.schema.slot ≡ Some (slot dir Schema)) × (part_in closing dir Schema ≡ out)) × ((new.log.disk.slot ≡ Some (slot dir Updates)) × (part_in closing dir Updates ≡ out))
-store_disks before opened closing dir taken new added done takes same others works tells =
-    let opened_tells : IsTrue opened.tells = told closing.tells opened.tells (sym same) tells in
-    let before_tells : IsTrue before.tells = told opened.tells before.tells (sym takes.tells) opened_tells in
-    let s = takes.schema before_tells in
-    let u = takes.updates before_tells in
-    let works_on_it = works (λ told_log. u.2.clean refl) taken refl in (
-      (slot_of (slot dir Schema) s.0 taken.schema s.2, others opened_tells (slot dir Schema) refl ∙ takes.schema_out before_tells),
-      (works_on_it.any_moment.disk.slot ∙ u.3.disk.slot ∙ slot_of (slot dir Updates) u.0 (handed_out (slot dir Updates) u.0) refl, others opened_tells (slot dir Updates) refl ∙ takes.updates_out before_tells),
-    )
-
--- a place that is none of four is none of the first two, and none of the last two
-first_two : (a b c d : Bool) → a || (b || (c || (d || false))) ≡ false → a || (b || false) ≡ false
-first_two true b c d e = absurd (true≢false e)
-first_two false true c d e = absurd (true≢false e)
-first_two false false c d e = refl
-
-last_two : (a b c d : Bool) → a || (b || (c || (d || false))) ≡ false → c || (d || false) ≡ false
-last_two true b c d e = absurd (true≢false e)
-last_two false true c d e = absurd (true≢false e)
-last_two false false c d e = e
-
-of_four_first : (dir : List ℕ) (other : Slot) → list_any (λ part. same_slot (slot dir part) other) (Schema ∷ Updates ∷ Key ∷ Used ∷ []) ≡ false
-    → list_any (λ part. same_slot (slot dir part) other) (Schema ∷ Updates ∷ []) ≡ false
-of_four_first dir other = first_two (same_slot (slot dir Schema) other) (same_slot (slot dir Updates) other) (same_slot (slot dir Key) other) (same_slot (slot dir Used) other)
-
-of_four_last : (dir : List ℕ) (other : Slot) → list_any (λ part. same_slot (slot dir part) other) (Schema ∷ Updates ∷ Key ∷ Used ∷ []) ≡ false
-    → list_any (λ part. same_slot (slot dir part) other) (Key ∷ Used ∷ []) ≡ false
-of_four_last dir other = last_two (same_slot (slot dir Schema) other) (same_slot (slot dir Updates) other) (same_slot (slot dir Key) other) (same_slot (slot dir Used) other)
-
 abbrev picked : Bool → DiskState → PartState → PartState
 picked true disk part = standing disk
 picked false disk part = part
@@ -579,48 +492,67 @@ home_but dir disk shelf key used rest other away =
         by false e = rest place e far
 
 module _ (Unused : Type 0) (Answer : SignAnswer) (Stops : Outcome → Type 0) (stream stream_new : Stream) (dir : List ℕ) (before after : ShelfState) (old new : ℕ) where
-  -- where no store was taken
-  pub signs_storeless : (why : StoreRefusal) → (IsTrue before.tells → IsHome before) → Unused → LetsGo is_luhn before dir after → (IsTrue before.tells → IsStoreCause is_luhn before dir why)
-      → (why ≡ store_refusals.DiskFault → Rose old new) → stream_new ≡ stream → MakesUpdate Unused Answer Stops stream stream_new dir before after old new (Err (from_store why))
-  signs_storeless why home unused lets cause rose same = record {
+  -- where nothing was opened
+  pub signs_unopened : (why : OpenRefusal) → (IsTrue before.tells → IsHome before) → Unused → LetsAllGo needed.StoreAndKey before dir after → Refuses why needed.StoreAndKey before dir
+      → (why ≡ open_refusals.Store store_refusals.DiskFault → Rose old new) → (why ≡ open_refusals.Key key_refusals.DiskFault → Rose old new) → stream_new ≡ stream
+      → MakesUpdate Unused Answer Stops stream stream_new dir before after old new (Err (from_open why))
+  signs_unopened why home unused lets cause store_rose key_rose same = record {
     runs = record {
       added = [];
-      comes = by why cause rose;
+      comes = by why cause store_rose key_rose;
       run = lets.run;
-      others = λ tells other away. lets.others tells other (of_four_first dir other away);
+      others = lets.others;
       home = λ tells place. lets.places tells place (home tells place);
     };
-    key = λ tells. untouched_by (part_in before dir Key) (part_in after dir Key) (lets.others tells (slot dir Key) refl);
-    used = λ tells. keeps_untouched (part_in before dir Used) (part_in after dir Used) (untouched_by (part_in before dir Used) (part_in after dir Used) (lets.others tells (slot dir Used) refl));
-    uses = λ tells. not_used why (untouched_by (part_in before dir Used) (part_in after dir Used) (lets.others tells (slot dir Used) refl));
-    ends = some why rose;
+    key = lets.key;
+    used = λ tells. keeps_untouched (part_in before dir Used) (part_in after dir Used) (lets.used tells);
+    uses = λ tells. not_used why (lets.used tells);
+    ends = some why store_rose key_rose;
     draws = undrawn why;
   }
     where
-      undrawn : (why : StoreRefusal) → DrawsFor stream stream_new (Err (from_store why))
-      undrawn store_refusals.NoStore = same
-      undrawn store_refusals.BadStore = same
-      undrawn store_refusals.DiskFault = inl same
-      undrawn store_refusals.Memory = inl same
+      undrawn : (why : OpenRefusal) → DrawsFor stream stream_new (Err (from_open why))
+      undrawn (open_refusals.Store store_refusals.NoStore) = same
+      undrawn (open_refusals.Store store_refusals.BadStore) = same
+      undrawn (open_refusals.Store store_refusals.DiskFault) = inl same
+      undrawn (open_refusals.Store store_refusals.Memory) = inl same
+      undrawn (open_refusals.Key key_refusals.NoKey) = same
+      undrawn (open_refusals.Key key_refusals.BadKey) = same
+      undrawn (open_refusals.Key key_refusals.DiskFault) = inl same
+      undrawn (open_refusals.Key key_refusals.Memory) = inl same
 
-      some : (why : StoreRefusal) → (why ≡ store_refusals.DiskFault → Rose old new) → AnswersSomeKey Answer (λ given. IsShelfFault old new given ⊎ Stops given) [] (Err (from_store why))
-      some store_refusals.NoStore f = unopened tt refl
-      some store_refusals.BadStore f = unopened tt refl
-      some store_refusals.DiskFault f = by_fault (inl (inr (refl, f refl))) refl
-      some store_refusals.Memory f = by_fault (inl (inl refl)) refl
+      some : (why : OpenRefusal) → (why ≡ open_refusals.Store store_refusals.DiskFault → Rose old new) → (why ≡ open_refusals.Key key_refusals.DiskFault → Rose old new)
+          → AnswersSomeKey Answer (λ given. IsShelfFault old new given ⊎ Stops given) [] (Err (from_open why))
+      some (open_refusals.Store store_refusals.NoStore) f k = unopened tt refl
+      some (open_refusals.Store store_refusals.BadStore) f k = unopened tt refl
+      some (open_refusals.Store store_refusals.DiskFault) f k = by_fault (inl (inr (refl, f refl))) refl
+      some (open_refusals.Store store_refusals.Memory) f k = by_fault (inl (inl refl)) refl
+      some (open_refusals.Key key_refusals.NoKey) f k = unopened tt refl
+      some (open_refusals.Key key_refusals.BadKey) f k = unopened tt refl
+      some (open_refusals.Key key_refusals.DiskFault) f k = by_fault (inl (inr (refl, k refl))) refl
+      some (open_refusals.Key key_refusals.Memory) f k = by_fault (inl (inl refl)) refl
 
-      not_used : (why : StoreRefusal) → IsUntouched (part_in before dir Used) (part_in after dir Used) → UsesKeyIn (part_in before dir Used) (part_in after dir Used) [] (Err (from_store why))
-      not_used store_refusals.NoStore kept = kept
-      not_used store_refusals.BadStore kept = kept
-      not_used store_refusals.DiskFault kept = inl kept
-      not_used store_refusals.Memory kept = inl kept
+      not_used : (why : OpenRefusal) → IsUntouched (part_in before dir Used) (part_in after dir Used) → UsesKeyIn (part_in before dir Used) (part_in after dir Used) [] (Err (from_open why))
+      not_used (open_refusals.Store store_refusals.NoStore) kept = kept
+      not_used (open_refusals.Store store_refusals.BadStore) kept = kept
+      not_used (open_refusals.Store store_refusals.DiskFault) kept = inl kept
+      not_used (open_refusals.Store store_refusals.Memory) kept = inl kept
+      not_used (open_refusals.Key key_refusals.NoKey) kept = kept
+      not_used (open_refusals.Key key_refusals.BadKey) kept = kept
+      not_used (open_refusals.Key key_refusals.DiskFault) kept = inl kept
+      not_used (open_refusals.Key key_refusals.Memory) kept = inl kept
 
-      by : (why : StoreRefusal) → (IsTrue before.tells → IsStoreCause is_luhn before dir why) → (why ≡ store_refusals.DiskFault → Rose old new)
-          → (IsTrue before.tells → StoreAnswer Unused Answer (readings before dir) [] (Err (from_store why))) ⊎ ((IsShelfFault old new (Err (from_store why)) ⊎ Stops (Err (from_store why))) × (nothing ≡ []))
-      by store_refusals.NoStore so f = inl (λ tells. without_store refusals.NoStore (no_store (so tells) refl) unused refl refl)
-      by store_refusals.BadStore so f = inl (λ tells. without_store refusals.BadStore (bad_store (so tells) refl) unused refl refl)
-      by store_refusals.DiskFault so f = inr (inl (inr (refl, f refl)), refl)
-      by store_refusals.Memory so f = inr (inl (inl refl), refl)
+      by : (why : OpenRefusal) → Refuses why needed.StoreAndKey before dir → (why ≡ open_refusals.Store store_refusals.DiskFault → Rose old new)
+          → (why ≡ open_refusals.Key key_refusals.DiskFault → Rose old new)
+          → (IsTrue before.tells → StoreAnswer Unused Answer (readings before dir) [] (Err (from_open why))) ⊎ ((IsShelfFault old new (Err (from_open why)) ⊎ Stops (Err (from_open why))) × (nothing ≡ []))
+      by (open_refusals.Store store_refusals.NoStore) so f k = inl (λ tells. without_store refusals.NoStore (no_store (so tells) refl) unused refl refl)
+      by (open_refusals.Store store_refusals.BadStore) so f k = inl (λ tells. without_store refusals.BadStore (bad_store (so tells) refl) unused refl refl)
+      by (open_refusals.Store store_refusals.DiskFault) so f k = inr (inl (inr (refl, f refl)), refl)
+      by (open_refusals.Store store_refusals.Memory) so f k = inr (inl (inl refl), refl)
+      by (open_refusals.Key key_refusals.NoKey) so f k = inl (λ tells. with_store (so tells).0.0 (so tells).0.1 (without_key refusals.NoKey (no_key (so tells).1 refl) unused refl refl))
+      by (open_refusals.Key key_refusals.BadKey) so f k = inl (λ tells. with_store (so tells).0.0 (so tells).0.1 (without_key refusals.BadKey (bad_key (so tells).1 refl) unused refl refl))
+      by (open_refusals.Key key_refusals.DiskFault) so f k = inr (inl (inr (refl, k refl)), refl)
+      by (open_refusals.Key key_refusals.Memory) so f k = inr (inl (inl refl), refl)
 
   -- where one was taken and put back
   pub signs_stored : OneSchema → (opened closing : ShelfState) (opened_faults closing_faults : ℕ) (taken : OpenData) (replica : ReplicaState) (outcome : Outcome) → (IsTrue before.tells → IsHome before)

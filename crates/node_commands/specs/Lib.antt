@@ -7,3 +7,4 @@ pub mod Notes
 pub mod Shows
 pub mod Signing
 pub mod Verdict
+pub mod Works

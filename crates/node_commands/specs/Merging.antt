@@ -31,7 +31,7 @@ use Rattle.outcomes.specs.Outside.{Outside}
 use Rattle.outcomes.specs.OpenStores.{WorksFrom, opened_store}
 use Rattle.outcomes.specs.StoreAnswers.{HasStore, Readings, RefusesStore}
 use Rattle.outcomes.specs.Texts.{merged_text}
-use Rattle.outcomes.specs.Remembering.{memory_in, RemembersIn, touched}
+use Rattle.store_directory.specs.Remembering.{memory_in, RemembersIn, touched}
 
 -- how the session of two stores begins: of each its database and its node, and what its directory remembers of the other
 abbrev pub start_of : StoreData → StoreData → List PeerEntry → List PeerEntry → PairStart

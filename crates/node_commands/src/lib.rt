@@ -1,5 +1,6 @@
-//! The commands of the program `bec` that need no net, each as a function over what it uses: a shelf of directories, a
-//! generator of random words, a source. Each answers the text that it prints, or why it is refused.
+//! The commands of the program `bec` that need no net, over what they use: a shelf of directories, a generator of random
+//! words, a source. Each answers the text that it prints, or why it is refused. What works over the store of one directory is
+//! a [`Work`], and [`work_in`] does it: it opens the directory once, does the work, and closes it.
 //!
 //! ```text
 //! bec heads < stream        the ids of the heads of an update stream, rising, one per line
@@ -32,19 +33,17 @@ mod graph_tables;
 mod heads;
 mod laws;
 mod stream;
+mod working;
 
 pub use bundle::bundle_schema;
-pub use commands::apply::{Application, apply_in};
 pub use commands::check::verdict;
-pub use commands::dump::{bundle_tables, dump_in};
-pub use commands::export::export_in;
-pub use commands::heads::{heads_in, stream_heads};
+pub use commands::dump::bundle_tables;
+pub use commands::heads::stream_heads;
 pub use commands::init::init_in;
-pub use commands::join::join_in;
 pub use commands::keygen::keygen_in;
 pub use commands::merge::merge_in;
-pub use commands::notes::{in_order, note_of, notes_in};
-pub use commands::query_store::query_in;
+pub use commands::notes::{in_order, note_of};
 pub use heads::heads_of;
 pub use laws::{one_answer, one_answer_of_makers, one_answer_of_merge, one_answer_of_parts};
 pub use stream::read_graph;
+pub use working::{Work, work_in};

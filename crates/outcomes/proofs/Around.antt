@@ -1,10 +1,9 @@
 -- A store that is taken and put back, with what is remembered of peers.
-use Rattle.std.proofs.Common.{◌≡◌, ◌≢◌, ℕ, Bool, true, false, List, [], ◌∷◌, refl, sym, ap, subst, ◌∙◌, IsTrue, Some}
+use Rattle.std.proofs.Common.{◌≡◌, ◌≢◌, ℕ, Bool, true, false, List, [], ◌∷◌, refl, sym, ap, subst, ◌∙◌, IsTrue}
 use Rattle.std.specs.Prelude.{◌||◌}
 use Rattle.std.specs.List.{list_any}
 use Rattle.std.proofs.lemmas.Bool.{true≢false}
 use Rattle.row_check.specs.Checksum.{is_luhn}
-use Rattle.bec_disk.specs.Disk.{handed_out}
 use Rattle.bec_disk.specs.declared.part.Part.TheVariants.{Schema, Updates, Peers}
 use Rattle.bec_disk.specs.Shelf.{PartState, ShelfState, out}
 use Rattle.bec_disk.specs.Slot.{Slot, same_slot, slot}
@@ -14,8 +13,8 @@ use Rattle.store_directory.specs.Holding.{OpenData, PutsStore, TakesStore}
 use Rattle.store_directory.specs.Memory.{remembered_in}
 use Rattle.key_directory.specs.Parts.{KeepsPlaces, part_in, reading}
 use Rattle.key_directory.proofs.Places.{place_again, stands-not-out}
-use Rattle.key_directory.proofs.Putting.{slot_of, told}
-use Rattle.outcomes.specs.Remembering.{memory_in, touched}
+use Rattle.key_directory.proofs.Putting.{told}
+use Rattle.store_directory.specs.Remembering.{memory_in, touched}
 
 three : (x y z : Bool) → x || (y || (z || false)) ≡ false → (x || (y || false) ≡ false) × (z || false ≡ false)
 three true y z e = absurd (true≢false e)
@@ -33,20 +32,6 @@ of_peers dir other away = (three (same_slot (slot dir Schema) other) (same_slot 
 -- the peers of a directory whose part Peers is as it was
 pub same_memory : (old new : ShelfState) (dir : List ℕ) → part_in new dir Peers ≡ part_in old dir Peers → memory_in new dir ≡ memory_in old dir
 same_memory old new dir same = ap (λ (p : PartState). remembered_in (reading p)) same
-
--- the disks of a store that is taken are those of its parts, whatever was done to other parts
-pub disks_of : (dir : List ℕ) (before opened closing : ShelfState) (taken : OpenData) (now : ReplicaState) → TakesStore is_luhn before dir taken opened → closing.tells ≡ opened.tells
-    → now.log.disk.slot ≡ taken.replica.log.disk.slot
-    → (IsTrue opened.tells → (part_in closing dir Schema ≡ part_in opened dir Schema) × (part_in closing dir Updates ≡ part_in opened dir Updates)) → IsTrue closing.tells
-    → ((taken.schema.slot ≡ Some (slot dir Schema)) × (part_in closing dir Schema ≡ out)) × ((now.log.disk.slot ≡ Some (slot dir Updates)) × (part_in closing dir Updates ≡ out))
-disks_of dir before opened closing taken now takes same same_slot_now kept tells =
-    let opened_tells : IsTrue opened.tells = told closing.tells opened.tells (sym same) tells in
-    let before_tells : IsTrue before.tells = told opened.tells before.tells (sym takes.tells) opened_tells in
-    let s = takes.schema before_tells in
-    let u = takes.updates before_tells in (
-      (slot_of (slot dir Schema) s.0 taken.schema s.2, (kept opened_tells).0 ∙ takes.schema_out before_tells),
-      (same_slot_now ∙ u.3.disk.slot ∙ slot_of (slot dir Updates) u.0 (handed_out (slot dir Updates) u.0) refl, (kept opened_tells).1 ∙ takes.updates_out before_tells),
-    )
 
 -- What holds while the store of one directory is taken, something is done to other parts, and it is put back.
 module _ (dir : List ℕ) (before opened closing after : ShelfState) (taken : OpenData) (now : ReplicaState) (takes : TakesStore is_luhn before dir taken opened)

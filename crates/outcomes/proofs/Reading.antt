@@ -1,45 +1,36 @@
 -- Commands that only read the store of a directory.
-use Rattle.std.proofs.Common.{Bool, Err, IsTrue, List, None, Some, [], append-nil, arith, false, inl, inr, length-append, refl, subst, sym, ℕ, ◌++◌, ◌∙◌, ◌∷◌, ◌≡◌, ◌≢◌, ◌⊎◌}
+use Rattle.std.proofs.Common.{Bool, Err, IfSome, IsTrue, List, None, Option, Some, [], ap, arith, false, inl, inr, length-append, refl, subst, sym, ℕ, ◌++◌, ◌∷◌, ◌≡◌, ◌≢◌, ◌⊎◌}
 use Rattle.bec_bytes.specs.Framed.{stream_of}
 use Rattle.row_check.specs.Checksum.{is_luhn}
 use Rattle.bec_bytes.specs.Causes.{Rose}
-use Rattle.bec_disk.specs.Disk.{handed_out}
 use Rattle.bec_disk.specs.declared.part.Part.TheVariants.{Schema, Updates}
 use Rattle.bec_disk.specs.Shelf.{ShelfState, out}
-use Rattle.bec_disk.specs.Slot.{slot}
 use Rattle.bec_disk.proofs.Gates.{gated-whole}
 use Rattle.bec_disk.specs.Gated.{whole_of}
-use Rattle.bec_disk.proofs.Moments as moments
-use Rattle.update_log.specs.Logset.{BeginsWith}
 use Rattle.update_log.proofs.Logsets.{records_logset}
+use Rattle.key_index.specs.KeyState.{KeyState}
 use Rattle.replica.specs.Replicas.{ReplicaState}
-use Rattle.store_directory.specs.Holding.{IsStoreCause, LetsGo, OpenData, PutsStore, TakesStore, WorksOn}
-use Rattle.key_directory.specs.Parts.{IsHome, KeepsAllBut, part_in}
+use Rattle.store_directory.specs.Holding.{IsStoreCause, LetsGo, OpenData, PutsStore, TakesStore}
+use Rattle.key_directory.specs.Parts.{IsHome, KeepsAllBut}
 use Rattle.store_directory.specs.Stores.{StoreData, StoreRun}
+use Rattle.store_directory.specs.Opening.{Closes, IsKeyOut, IsStoreOut, LetsAllGo, Opens, Refuses}
+use Rattle.store_directory.specs.declared.open_refusal.OpenRefusal.{OpenRefusal}
+use Rattle.store_directory.specs.declared.open_refusal.OpenRefusal.TheVariants as open_refusals
+use Rattle.store_directory.specs.declared.opening.Needs.TheVariants as needed
 use Rattle.store_directory.specs.declared.store_refusal.StoreRefusal.{StoreRefusal}
 use Rattle.store_directory.specs.declared.store_refusal.StoreRefusal.TheVariants.{NoStore, BadStore, DiskFault, Memory}
 use Rattle.key_directory.proofs.Places.{keeps_through}
-use Rattle.key_directory.proofs.Putting.{slot_of, told}
+use Rattle.key_directory.proofs.Putting.{told}
 use Rattle.key_directory.proofs.Readings.{whole-not-absent}
 use Rattle.store_directory.proofs.Readings.{OneSchema}
-use Rattle.store_directory.proofs.Working.{home_after_store, read_before, store_of, worked_run}
+use Rattle.store_directory.proofs.Opening.{disks_of, no_store_taken, unworked_run}
+use Rattle.store_directory.proofs.Working.{home_after_store, read_before, store_of}
 use Rattle.outcomes.specs.declared.refusal.Refusal.{Refusal}
 use Rattle.outcomes.specs.declared.refusal.Refusal.TheVariants as refusals
 use Rattle.outcomes.specs.Comes.{AnswersSome, IsShelfFault, ReadsShelf, is_done, readings}
-use Rattle.outcomes.specs.Outcome.{Outcome, from_store}
-use Rattle.outcomes.specs.Standing.{Stands}
+use Rattle.outcomes.specs.Outcome.{Outcome, from_open, from_store}
+use Rattle.store_directory.specs.Standing.{Stands}
 use Rattle.outcomes.specs.StoreAnswers.{HasStore, Readings, ReadsStore, answered, bad_store, no_store, refused}
-
--- the disks of a store that was taken are those of its parts
-pub put_slots : (before opened : ShelfState) (dir : List ℕ) (taken : OpenData) → TakesStore is_luhn before dir taken opened → IsTrue opened.tells
-    → ((taken.schema.slot ≡ Some (slot dir Schema)) × (part_in opened dir Schema ≡ out)) × ((taken.replica.log.disk.slot ≡ Some (slot dir Updates)) × (part_in opened dir Updates ≡ out))
-put_slots before opened dir taken takes tells =
-    let before_tells : IsTrue before.tells = told opened.tells before.tells (sym takes.tells) tells in
-    let s = takes.schema before_tells in
-    let u = takes.updates before_tells in (
-      (slot_of (slot dir Schema) s.0 taken.schema s.2, takes.schema_out before_tells),
-      (u.3.disk.slot ∙ slot_of (slot dir Updates) u.0 (handed_out (slot dir Updates) u.0) refl, takes.updates_out before_tells),
-    )
 
 abbrev no_updates : List (List ℕ)
 no_updates = []
@@ -100,23 +91,11 @@ module _ (Answers : StoreData → Outcome → Type 0) (dir : List ℕ) (before a
   -- where one was taken, read and put back
   module _ (one : OneSchema) (opened : ShelfState) (taken : OpenData) (home : IsTrue before.tells → IsHome before) (takes : TakesStore is_luhn before dir taken opened)
       (puts : PutsStore opened dir taken.schema taken.replica.log.disk after) (stands : Stands taken.replica) where
-    works : (done : Bool) → IsTrue before.tells → WorksOn taken taken.replica [] done
-    works done tells =
-        let members = taken.replica.history.members in record {
-          schema = refl;
-          members = sym (append-nil members);
-          closed = stands.history_is.members;
-          any_moment = moments.stays taken.replica.log.disk taken.replica.log.disk (BeginsWith (stream_of members)) refl stands.on_disk;
-          on_disk = stands.on_disk;
-          log = λ is_done. stands.log_is;
-          clean = λ is_done log_tells. (takes.updates tells).2.clean refl;
-        }
-
     opened_tells : IsTrue before.tells → IsTrue opened.tells
     opened_tells tells = told before.tells opened.tells takes.tells tells
 
     runs : (done : Bool) → IsTrue before.tells → StoreRun is_luhn before after dir [] done
-    runs done tells = worked_run one is_luhn before opened opened after dir taken taken.replica [] done tells (opened_tells tells) takes (works done tells) puts
+    runs done tells = unworked_run one before opened opened after dir taken done tells (opened_tells tells) takes stands puts
 
     others : IsTrue before.tells → KeepsAllBut (Schema ∷ Updates ∷ []) dir before after
     others tells = keeps_through (Schema ∷ Updates ∷ []) dir before opened after takes.others (puts.others (opened_tells tells))
@@ -139,6 +118,29 @@ module _ (Answers : StoreData → Outcome → Type 0) (dir : List ℕ) (before a
 
     pub read_lacked : ReadsShelf (ReadsStore Answers) dir before after old new (Err refusals.Memory)
     read_lacked = record { runs = record { added = []; comes = inr (inl refl, refl); run = runs false; others = others; home = home_again }; ends = inr (inl refl) }
+
+-- ---- a directory that is opened for its store alone
+
+-- what was opened is out
+pub opened_out : (before opened : ShelfState) (dir : List ℕ) (store : OpenData) (key : Option KeyState) → Opens needed.Store before dir store key opened → IsTrue opened.tells
+    → IsStoreOut opened dir store.schema store.replica × IfSome key (IsKeyOut opened dir)
+opened_out before opened dir store None takes tells =
+    let disks = disks_of dir before opened opened store store.replica takes refl refl (λ opened_tells. (refl, refl)) tells in (record { schema_of = disks.0; updates_of = disks.1 }, tt)
+opened_out before opened dir store (Some key) takes tells = absurd takes
+
+module _ (Answers : StoreData → Outcome → Type 0) (dir : List ℕ) (before after : ShelfState) (old new : ℕ) where
+  pub open_refused : (why : OpenRefusal) → (IsTrue before.tells → IsHome before) → LetsAllGo needed.Store before dir after → Refuses why needed.Store before dir
+      → (why ≡ open_refusals.Store DiskFault → Rose old new) → ReadsShelf (ReadsStore Answers) dir before after old new (Err (from_open why))
+  open_refused (open_refusals.Store why) home lets cause failed =
+      read_refused Answers dir before after old new why home (no_store_taken before after dir lets) cause (λ is. failed (ap open_refusals.Store is))
+  open_refused (open_refusals.Key why) home lets cause failed = absurd cause
+
+  pub open_answered : OneSchema → (opened : ShelfState) (counted : ℕ) (store : OpenData) (key : Option KeyState) (outcome : Outcome) → (IsTrue before.tells → IsHome before) → Opens needed.Store before dir store key opened
+      → Closes opened counted dir store key after new → Stands store.replica → Answers (store_of store.replica) outcome ⊎ (outcome ≡ Err refusals.Memory) → ReadsShelf (ReadsStore Answers) dir before after old new outcome
+  open_answered one opened counted store None outcome home takes closes stands (inl answers) = read_answered Answers dir before after old new one opened store home takes closes.puts stands outcome answers
+  open_answered one opened counted store None outcome home takes closes stands (inr memory) =
+      subst (λ (o : Outcome). ReadsShelf (ReadsStore Answers) dir before after old new o) (sym memory) (read_lacked Answers dir before after old new one opened store home takes closes.puts stands)
+  open_answered one opened counted store (Some key) outcome home takes closes stands answers = absurd takes
 
 -- ---- want of memory in place of a refusal
 

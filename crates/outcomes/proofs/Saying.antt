@@ -1,9 +1,12 @@
 -- What is said of a refusal.
-use Rattle.std.proofs.Common.{◌≡◌, ◌≢◌, ℕ, ◌≤◌, List, refl, subst, Option, Err, arith}
+use Rattle.std.proofs.Common.{◌≡◌, ◌≢◌, ℕ, ◌≤◌, List, inl, inr, refl, subst, Option, Err, arith}
 use Rattle.bec_bytes.specs.Causes.{Rose}
+use Rattle.bec_disk.specs.declared.disk_error.DiskError.{DiskError}
+use Rattle.bec_disk.specs.declared.disk_error.DiskError.TheVariants as disk_errors
+use Rattle.outcomes.specs.Comes.{IsDiskRefusal}
 use Rattle.outcomes.specs.declared.refusal.Refusal.{Refusal}
 use Rattle.outcomes.specs.declared.refusal.Refusal.TheVariants.{Memory}
-use Rattle.outcomes.specs.Outcome.{Says, status_for, text_for}
+use Rattle.outcomes.specs.Outcome.{Says, from_disk, status_for, text_for}
 use Rattle.schema_verdict.specs.Written.{Puts}
 
 -- a count that rose since a later moment rose since an earlier one
@@ -21,3 +24,8 @@ says_refused old new held held_new refusal own text status is_own line put =
     by : (r : Refusal) → r ≢ Memory → Puts old new held held_new (status_for r) (text_for r) status → Says old new held held_new (Err r) status
     by Memory not said = absurd (not refl)
     by r not said = said
+
+-- why a disk was not read or written, as a command tells it
+pub disk_refusal : (old new : ℕ) (error : DiskError) → (error ≡ disk_errors.DiskFault → Rose old new) → IsDiskRefusal old new (from_disk error)
+disk_refusal old new disk_errors.DiskFault failed = inr (refl, failed refl)
+disk_refusal old new disk_errors.Memory failed = inl refl

@@ -10,7 +10,7 @@ use Rattle.history.specs.Histories.{HistoryData}
 use Rattle.replica.specs.Replicas.{ReplicaState}
 use Rattle.store_directory.specs.Holding.{WorksOn}
 use Rattle.outcomes.specs.OpenStores.{WorksFrom}
-use Rattle.outcomes.specs.Standing.{Stands}
+use Rattle.store_directory.specs.Standing.{Stands}
 
 pub works_on : (old new : ReplicaState) (added : List (List ℕ)) (done : Bool) → new.history ≡ record { schema = old.history.schema; members = old.history.members ++ added }
     → LeavesOnly old.log.disk new.log.disk (BeginsWith (stream_of old.history.members)) → Stands new

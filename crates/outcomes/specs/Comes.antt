@@ -5,6 +5,7 @@ use Rattle.bec_bytes.specs.Causes.{Rose}
 use Rattle.bec_disk.specs.declared.part.Part.{Part}
 use Rattle.bec_disk.specs.declared.part.Part.TheVariants.{Schema, Updates, Key, Used}
 use Rattle.bec_disk.specs.Shelf.{ShelfState}
+use Rattle.outcomes.specs.declared.refusal.Refusal.{Refusal}
 use Rattle.outcomes.specs.declared.refusal.Refusal.TheVariants.{Memory, StoreFault, Stream}
 use Rattle.outcomes.specs.Outcome.{ComesTo, Outcome}
 use Rattle.outcomes.specs.Outside.{Outside}
@@ -20,6 +21,10 @@ readings shelf dir = record { schema = reading (part_in shelf dir Schema); updat
 abbrev pub is_done : Outcome → Bool
 is_done (Ok text) = true
 is_done (Err refusal) = false
+
+-- A refusal by the shelf: memory ran out, or a disk failed, and the count of faults rose.
+abbrev pub IsDiskRefusal : ℕ → ℕ → Refusal → Type 0
+IsDiskRefusal old new refusal = (refusal ≡ Memory) ⊎ ((refusal ≡ StoreFault) × Rose old new)
 
 -- What may come in place of an answer: memory ran out, or the shelf failed, whose count of faults rose.
 abbrev pub IsShelfFault : ℕ → ℕ → Outcome → Type 0

@@ -4,10 +4,8 @@ pub mod OpenStores
 pub mod Outcome
 pub mod Outside
 pub mod Parts
-pub mod Remembering
 pub mod Rules
 pub mod Seen
-pub mod Standing
 pub mod StoreAnswers
 pub mod Texts
 pub mod Told

@@ -13,6 +13,8 @@ use Rattle.key_index.specs.declared.faults.CreateKeyKind.{CreateKeyKind}
 use Rattle.key_index.specs.declared.faults.CreateKeyKind.TheVariants as creating_key
 use Rattle.replica.specs.declared.create_fault.CreateKind.{CreateKind}
 use Rattle.replica.specs.declared.create_fault.CreateKind.TheVariants as creating
+use Rattle.store_directory.specs.declared.open_refusal.OpenRefusal.{OpenRefusal}
+use Rattle.store_directory.specs.declared.open_refusal.OpenRefusal.TheVariants as open_refusals
 use Rattle.store_directory.specs.declared.store_refusal.StoreRefusal.{StoreRefusal}
 use Rattle.store_directory.specs.declared.store_refusal.StoreRefusal.TheVariants as store_refusals
 use Rattle.lms_tree.specs.LmsKind.{leaf_count}
@@ -130,6 +132,10 @@ from_key key_refusals.NoKey = NoKey
 from_key key_refusals.BadKey = BadKey
 from_key key_refusals.DiskFault = StoreFault
 from_key key_refusals.Memory = Memory
+
+abbrev pub from_open : OpenRefusal → Refusal
+from_open (open_refusals.Store why) = from_store why
+from_open (open_refusals.Key why) = from_key why
 
 abbrev pub from_query : QueryError → Refusal
 from_query (query_errors.Fault fault) = Query fault

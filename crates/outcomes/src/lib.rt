@@ -4,8 +4,7 @@
 //! outcome and answers its exit [`status`]; a command whose text has a status of its own comes to a [`Reply`], and [`end`] writes
 //! that. Every line that begins with `! ` stands here.
 //!
-//! Beside these stands what the commands over directories share: what holds of a store that is open ([`each_stands`]),
-//! what a directory remembers of peers ([`peers_of`], [`keep_peers`]), lines whose memory is taken before anything changes
+//! Beside these stands what the commands over directories share: lines whose memory is taken before anything changes
 //! ([`room_for_id`], [`id_line`]); what stands outside of a run ([`Outside`]); and in specs/ what clauses see of that, what
 //! a command leaves of it, and the general forms of answers.
 #![tactic(auto)]
@@ -14,15 +13,11 @@ mod lines;
 mod outside;
 mod printed_lines;
 mod refusal;
-mod remembering;
 mod reply;
-mod standing;
 
 pub use lines::{peer_line, refuse};
 pub use outside::Outside;
 pub use printed_lines::{ID_LINE, id_line, room_for_id};
 pub use refusal::{Refusal, made_refusal};
-pub use remembering::{keep_peers, peers_of};
 pub use reply::{Reply, end, finish};
 pub use schema_verdict::{no_command, put, status};
-pub use standing::each_stands;

@@ -1,6 +1,6 @@
 ghost use Rattle.std.specs.Prelude.{◌≡◌};
 ghost use Rattle.outcomes.specs.declared.refusal.Refusal.TheVariants.{Memory};
-ghost use Rattle.outcomes.specs.Outcome.{status_for, from_creating, from_creating_key, from_disk, from_key, from_make, from_query, from_reading, from_store, from_taking, from_text, from_verdict};
+ghost use Rattle.outcomes.specs.Outcome.{status_for, from_creating, from_creating_key, from_disk, from_key, from_make, from_open, from_query, from_reading, from_store, from_taking, from_text, from_verdict};
 ghost use Rattle.lms_tree.specs.LmsKind.{leaf_count};
 
 use bec_bytes::ReadError;
@@ -19,7 +19,7 @@ use schema_verdict::status::{
 };
 use session_rules::PeerFault;
 use std::alloc::AllocError;
-use store_directory::StoreRefusal;
+use store_directory::{OpenRefusal, StoreRefusal};
 use table_model::{Counterexample, Invariant};
 use txn_text::{TextError, TextFault};
 use update_stream::RecordFault;
@@ -242,6 +242,17 @@ impl From<KeyRefusal> for Refusal {
             KeyRefusal::BadKey => Refusal::BadKey,
             KeyRefusal::DiskFault => Refusal::StoreFault,
             KeyRefusal::Memory => Refusal::Memory,
+        }
+    }
+}
+
+impl From<OpenRefusal> for Refusal {
+    ghost from_gives = { λ refused refusal. refusal ≡ from_open refused };
+
+    fn from(refused: OpenRefusal) -> Refusal {
+        match refused {
+            OpenRefusal::Store(why) => Refusal::from(why),
+            OpenRefusal::Key(why) => Refusal::from(why),
         }
     }
 }

@@ -1,5 +1,9 @@
 pub mod Holding
 pub mod Making
-pub mod Refusals
-pub mod Stores
 pub mod Memory
+pub mod Opening
+pub mod Refusals
+pub mod Remembering
+pub mod Settling
+pub mod Standing
+pub mod Stores

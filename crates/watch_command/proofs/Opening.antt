@@ -8,7 +8,7 @@ use Rattle.replica.specs.Replicas.{ReplicaState}
 use Rattle.schema_verdict.specs.Written.{SinkState}
 use Rattle.store_directory.specs.Holding.{WorksOn}
 use Rattle.outcomes.specs.OpenStores.{WorksFrom, opened_store}
-use Rattle.outcomes.specs.Standing.{Stands}
+use Rattle.store_directory.specs.Standing.{Stands}
 use Rattle.outcomes.specs.declared.refusal.Refusal.{Refusal}
 use Rattle.outcomes.specs.declared.refusal.Refusal.TheVariants as refusals
 use Rattle.watch_command.specs.Blocks.{block}

@@ -13,14 +13,14 @@ use crate::stop::{Stop, end};
 use bec_bytes::{Sink, Source, write_all_of};
 use bec_disk::{Disk, Shelf};
 use live_view::{AtLeast, LiveView, WatchError, When, watch};
-use outcomes::{Refusal, each_stands};
+use outcomes::Refusal;
 use query::{no_fault, one_fault, one_query, read_query};
 use record_check::Verifier;
 use replica::Replica;
 use row_check::{Luhn, Native};
 use schema_text::one_schema;
 use std::alloc::Global;
-use store_directory::{one_store, put_store, store_or_not, take_store};
+use store_directory::{each_stands, one_store, put_store, store_or_not, take_store};
 
 /// What is watched of a store.
 #[derive(Clone, Copy)]

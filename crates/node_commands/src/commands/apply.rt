@@ -1,10 +1,8 @@
-ghost use Rattle.std.specs.Prelude.{◌≡◌, ◌≢◌, ◌≤◌, ℕ, Err, IfErr, IfOk, IfSome, IsTrue, OnErr, OnOk, length, option_map};
+ghost use Rattle.std.specs.Prelude.{◌≡◌, ◌≤◌, ℕ, Err, IfErr, IfOk, IfSome, IsTrue, OnErr, OnOk, length, option_map};
 ghost use Rattle.row_check.specs.Checksum.{is_luhn};
 ghost use Rattle.bec_bytes.specs.Causes.{Rose};
 ghost use Rattle.bec_bytes.specs.Framed.{stream_of};
 ghost use Rattle.bec_disk.specs.Disk.{EveryImage, LeavesOnly};
-ghost use Rattle.bec_disk.specs.Shelf.{out};
-ghost use Rattle.bec_disk.specs.declared.part.Part.TheVariants.{Key, Used};
 ghost use Rattle.update_model.specs.declared.limits.TheConstants.{MAX_NOTE};
 ghost use Rattle.update_log.specs.Log.{IsClean};
 ghost use Rattle.update_log.specs.Logset.{BeginsWith};
@@ -13,107 +11,28 @@ ghost use Rattle.replica.specs.Making.{IsMakeCauseWith, MakesWith};
 ghost use Rattle.replica.specs.Signing.{KeyAfter};
 ghost use Rattle.replica.specs.declared.make_fault.Side.TheVariants.{Key as KeySide, Log as LogSide};
 ghost use Rattle.replica.specs.declared.make_fault.MakeFault.TheVariants.{DiskFault as DiskFailed};
-ghost use Rattle.outcomes.specs.Outside.{outside};
-ghost use Rattle.node_commands.specs.Signing.{Applies, ApplyAnswer, IsNoStop, MakeAnswer, SignsIn, SignsOpen, StopsReading, TakesText, saying};
+ghost use Rattle.node_commands.specs.Signing.{ApplyAnswer, IsNoStop, MakeAnswer, SignsOpen, StopsReading, TakesText, saying};
 ghost use Rattle.outcomes.specs.Comes.{IsSourceFault};
 ghost use Rattle.outcomes.specs.StoreAnswers.{next_bytes};
-ghost use Rattle.key_directory.specs.Parts.{IsHome, part_in};
 ghost use Rattle.txn_text.specs.Outcome.{MayStand};
 
 use bec_bytes::Source;
-use bec_disk::{Disk, Shelf};
-use key_directory::{KeyMaker, put_key, take_key};
+use bec_disk::Disk;
 use key_index::KeyStore;
-use lms_tree::LeafGenerator;
-use outcomes::{Refusal, each_stands, id_line, made_refusal, room_for_id};
+use outcomes::{Refusal, id_line, made_refusal, room_for_id};
 use rand_core::Rng;
-use record_check::Verifier;
 use replica::{MakeFault, Replica};
-use row_check::{Luhn, Native};
+use row_check::Luhn;
 use schema::Schema;
-use schema_text::one_schema;
 use schema_verdict::read_text;
 use std::alloc::{AllocError, Global};
-use store_directory::{put_store, take_store};
+use store_directory::each_stands;
 use txn_text::{MAX_TRANSACTION_BYTES, read_txn};
 use update_model::{OpList, TextValue, UpdateId};
 
-/// Where a transaction is applied, and what its author says of it.
-#[derive(Clone, Copy)]
-pub struct Application<'a> {
-    /// The directory of the store and of the key.
-    pub directory: &'a str,
-    /// The note of the update, of at most 256 bytes, or none.
-    pub note: Option<&'a str>,
-}
-
-/// Makes an update in the store of a directory, by its key, with a note or without one, and answers the line of its id.
-pub fn apply_in<V: Verifier, H: Shelf, R: Rng, S: Source>(
-    verifier: &V,
-    alloc: Global,
-    shelf: &mut H,
-    application: &Application<'_>,
-    random: &mut R,
-    input: &mut S,
-) -> Result<Vec<u8>, Refusal>
-    requires home { IsTrue (H.state shelf.old).tells → IsHome (H.state shelf.old) }
-    requires short { IfSome application.now.note (λ note. length note.now ≤ MAX_NOTE) }
-    ensures { Applies application.now.directory.now (option_map (λ note. note.now) application.now.note)
-        (outside S.left S.faults H.state H.faults R.stream input.old shelf.old random.old)
-        (outside S.left S.faults H.state H.faults R.stream input.new shelf.new random.new) result }
-{
-    one_schema();
-    let dir = application.directory;
-    let mut store = take_store(verifier, alloc, shelf, dir, Native::new(Luhn))?;
-    let maker = KeyMaker {
-        generator: verifier,
-        alloc,
-    };
-    let outcome = apply_to(
-        &maker,
-        shelf,
-        application,
-        &mut store.replica,
-        random,
-        input,
-    );
-    put_store(shelf, dir, store);
-    outcome
-}
-
-/// The same over the store, which is open.
-fn apply_to<G: LeafGenerator, H: Shelf, R: Rng, S: Source>(
-    maker: &KeyMaker<G>,
-    shelf: &mut H,
-    application: &Application<'_>,
-    replica: &mut Replica<H::D, Luhn, Luhn>,
-    random: &mut R,
-    input: &mut S,
-) -> Result<Vec<u8>, Refusal>
-    requires key_in { IsTrue (H.state shelf.old).tells → part_in (H.state shelf.old) application.now.directory.now Key ≢ out }
-    requires used_in { IsTrue (H.state shelf.old).tells → part_in (H.state shelf.old) application.now.directory.now Used ≢ out }
-    requires short { IfSome application.now.note (λ note. length note.now ≤ MAX_NOTE) }
-    ensures { SignsIn ((input.new ≡ input.old) × (random.new ≡ random.old))
-        (ApplyAnswer (option_map (λ note. note.now) application.now.note) (S.left input.old) (S.left input.new) (R.stream random.old)) (IsSourceFault (S.faults input.old) (S.faults input.new))
-        (R.stream random.old) (R.stream random.new) application.now.directory.now (H.state shelf.old) (H.state shelf.new) (H.faults shelf.old) (H.faults shelf.new) replica.old replica.new result }
-{
-    each_stands(replica);
-    let dir = application.directory;
-    let mut key = take_key(maker.generator, maker.alloc, shelf, dir)?;
-    let outcome = apply_by(
-        maker.alloc,
-        replica,
-        &mut key,
-        application.note,
-        random,
-        input,
-    );
-    put_key(shelf, dir, key);
-    outcome
-}
-
-/// The same over the store and the key, which are open.
-fn apply_by<D: Disk, R: Rng, S: Source>(
+/// Makes an update of the transaction that is read in a store, by a key, with a note or without one, and answers the line of its
+/// id.
+pub fn apply_by<D: Disk, R: Rng, S: Source>(
     alloc: Global,
     replica: &mut Replica<D, Luhn, Luhn>,
     key: &mut KeyStore<D>,

@@ -1,41 +1,15 @@
-ghost use Rattle.std.specs.Prelude.{◌≡◌, ◌<◌, ◌^◌, ◌++◌, IsTrue, IfOk, OnOk, cond, length};
+ghost use Rattle.std.specs.Prelude.{◌≡◌, ◌<◌, ◌^◌, ◌++◌, IfOk, OnOk, cond, length};
 ghost use Rattle.bec_bytes.specs.Framed.{framed, stream_of};
-ghost use Rattle.outcomes.specs.Comes.{ReadsShelf};
-ghost use Rattle.outcomes.specs.StoreAnswers.{Printing, ReadsStore};
-ghost use Rattle.node_commands.specs.Shows.{ShowsRecords};
-ghost use Rattle.key_directory.specs.Parts.{IsHome};
 
-use bec_disk::{Disk, Shelf};
-use outcomes::{Refusal, each_stands};
-use record_check::Verifier;
+use bec_disk::Disk;
 use replica::Replica;
-use row_check::{Luhn, Native};
-use schema_text::one_schema;
+use row_check::Luhn;
 use std::alloc::{AllocError, Global};
-use store_directory::{put_store, take_store};
+use store_directory::each_stands;
 use update_model::Member;
 
-/// The bundle of the store of a directory, or its update stream alone.
-pub fn export_in<V: Verifier, H: Shelf>(
-    verifier: &V,
-    alloc: Global,
-    shelf: &mut H,
-    dir: &str,
-    updates_only: bool,
-) -> Result<Vec<u8>, Refusal>
-    requires { IsTrue (H.state shelf.old).tells → IsHome (H.state shelf.old) }
-    ensures { ReadsShelf (ReadsStore (Printing (ShowsRecords updates_only))) dir.now (H.state shelf.old) (H.state shelf.new) (H.faults shelf.old) (H.faults shelf.new) result }
-{
-    one_schema();
-    let store = take_store(verifier, alloc, shelf, dir, Native::new(Luhn))?;
-    each_stands(&store.replica);
-    let text = exported(alloc, &store.replica, updates_only);
-    put_store(shelf, dir, store);
-    Ok(text?)
-}
-
 /// The bundle of a store, or its update stream alone.
-fn exported<D: Disk>(
+pub fn exported<D: Disk>(
     alloc: Global,
     replica: &Replica<D, Luhn, Luhn>,
     updates_only: bool,

@@ -1,26 +1,19 @@
-ghost use Rattle.std.specs.Prelude.{IfOk, IsTrue, List, OnOk, map, ◌++◌, ◌≡◌};
-ghost use Rattle.key_directory.specs.Parts.{IsHome};
+ghost use Rattle.std.specs.Prelude.{IfOk, List, OnOk, map, ◌++◌, ◌≡◌};
 ghost use Rattle.update_codec.specs.Parts.{entry_of};
 ghost use Rattle.update_model.specs.Graph.{AreHeads};
 ghost use Rattle.update_model.specs.declared.update_id.UpdateId.{UpdateId as Id};
-ghost use Rattle.outcomes.specs.Comes.{ReadsShelf};
 ghost use Rattle.node_commands.specs.Heads.{HeadsAnswer};
 ghost use Rattle.outcomes.specs.Outcome.{ComesTo};
-ghost use Rattle.outcomes.specs.StoreAnswers.{Printing, ReadsStore};
-ghost use Rattle.node_commands.specs.Shows.{ShowsHeads};
 ghost use Rattle.outcomes.specs.Texts.{line_of, printed};
 
 use crate::heads::heads_of;
 use crate::stream::read_graph;
 use bec_bytes::Source;
-use bec_disk::{Disk, Shelf};
-use outcomes::{Refusal, each_stands};
-use record_check::Verifier;
+use bec_disk::Disk;
+use outcomes::Refusal;
 use replica::Replica;
-use row_check::{Luhn, Native};
-use schema_text::one_schema;
+use row_check::Luhn;
 use std::alloc::{AllocError, Global};
-use store_directory::{put_store, take_store};
 use update_model::UpdateId;
 
 /// The heads of a stream, as they are printed.
@@ -33,26 +26,8 @@ pub fn stream_heads<S: Source>(alloc: Global, input: &mut S) -> Result<Vec<u8>, 
     Ok(text)
 }
 
-/// The heads of the store of a directory, as they are printed.
-pub fn heads_in<V: Verifier, H: Shelf>(
-    verifier: &V,
-    alloc: Global,
-    shelf: &mut H,
-    dir: &str,
-) -> Result<Vec<u8>, Refusal>
-    requires { IsTrue (H.state shelf.old).tells → IsHome (H.state shelf.old) }
-    ensures { ReadsShelf (ReadsStore (Printing ShowsHeads)) dir.now (H.state shelf.old) (H.state shelf.new) (H.faults shelf.old) (H.faults shelf.new) result }
-{
-    one_schema();
-    let store = take_store(verifier, alloc, shelf, dir, Native::new(Luhn))?;
-    each_stands(&store.replica);
-    let text = replica_heads(alloc, &store.replica);
-    put_store(shelf, dir, store);
-    Ok(text?)
-}
-
 /// The heads of a store, as they are printed.
-fn replica_heads<D: Disk>(
+pub fn replica_heads<D: Disk>(
     alloc: Global,
     replica: &Replica<D, Luhn, Luhn>,
 ) -> Result<Vec<u8>, AllocError>

@@ -7,13 +7,13 @@ ghost use Rattle.key_directory.specs.Parts.{IsHome};
 use bec_bytes::Source;
 use bec_disk::Shelf;
 use confluence_test::{take_schema, taken_or_refused};
-use outcomes::{Refusal, each_stands};
+use outcomes::Refusal;
 use rand_core::Rng;
 use row_check::{Luhn, Native};
 use schema_text::{MAX_SCHEMA_BYTES, one_schema};
 use schema_verdict::read_text;
 use std::alloc::{AllocError, Global};
-use store_directory::{is_there, new_store, put_store};
+use store_directory::{each_stands, is_there, new_store, put_store};
 
 /// Makes a store in a directory that has none, of the schema that is read, and answers the line of its database. The line is
 /// there before anything is made.

@@ -10,15 +10,15 @@ ghost use Rattle.update_model.specs.Entry.{id_cmp};
 ghost use Rattle.key_directory.specs.Parts.{IsHome, part_in};
 
 use bec_disk::{Disk, Shelf};
-use outcomes::{Refusal, each_stands, keep_peers, peers_of};
+use outcomes::Refusal;
 use peer_memory::Peers;
 use record_check::Verifier;
 use replica::Replica;
-use row_check::{Luhn, Native};
+use row_check::Luhn;
 use schema_text::one_schema;
 use session_rules::End;
 use std::alloc::{AllocError, Global};
-use store_directory::{put_store, take_store};
+use store_directory::{Needs, close, each_stands, keep_peers, open, peers_of};
 use sync_session::{PairEnd, PairStart, sync_pair};
 use update_model::IdList;
 
@@ -35,9 +35,16 @@ pub fn merge_in<V: Verifier, H: Shelf>(
     ensures { MergesStores first.now second.now (H.state shelf.old) (H.state shelf.new) (H.faults shelf.old) (H.faults shelf.new) result }
 {
     one_schema();
-    let mut one = take_store(verifier, alloc, shelf, first, Native::new(Luhn))?;
-    let outcome = merge_beside(verifier, alloc, shelf, first, second, &mut one.replica);
-    put_store(shelf, first, one);
+    let mut one = open(verifier, alloc, shelf, first, Needs::Store)?;
+    let outcome = merge_beside(
+        verifier,
+        alloc,
+        shelf,
+        first,
+        second,
+        &mut one.store.replica,
+    );
+    close(shelf, first, one);
     outcome
 }
 
@@ -59,9 +66,9 @@ fn merge_beside<V: Verifier, H: Shelf>(
 {
     one_schema();
     each_stands(one);
-    let mut other = take_store(verifier, alloc, shelf, second, Native::new(Luhn))?;
-    let outcome = merge_open(alloc, shelf, first, second, one, &mut other.replica);
-    put_store(shelf, second, other);
+    let mut other = open(verifier, alloc, shelf, second, Needs::Store)?;
+    let outcome = merge_open(alloc, shelf, first, second, one, &mut other.store.replica);
+    close(shelf, second, other);
     outcome
 }
 

@@ -1,47 +1,23 @@
-ghost use Rattle.std.specs.Prelude.{◌≡◌, ◌++◌, List, ℕ, IfOk, IsTrue, OnOk, filter, map};
+ghost use Rattle.std.specs.Prelude.{◌≡◌, ◌++◌, List, ℕ, IfOk, OnOk, filter, map};
 ghost use Rattle.update_codec.specs.Parts.{entry_of, id_of};
 ghost use Rattle.update_model.specs.Entry.{id_cmp};
 ghost use Rattle.update_model.specs.Graph.{IsClosed};
-ghost use Rattle.key_directory.specs.Parts.{IsHome};
-ghost use Rattle.outcomes.specs.Comes.{ReadsShelf};
 ghost use Rattle.outcomes.specs.OpenStores.{opened_store};
-ghost use Rattle.outcomes.specs.StoreAnswers.{Printing, ReadsStore};
 ghost use Rattle.node_commands.specs.Notes.{AreNoted, is_noted, note_line, note_lines, note_text};
 ghost use Rattle.node_commands.specs.Shows.{ShowsNotes};
 
-use bec_disk::{Disk, Shelf};
-use outcomes::{Refusal, each_stands};
-use record_check::Verifier;
+use bec_disk::Disk;
 use replica::Replica;
-use row_check::{Luhn, Native};
-use schema_text::one_schema;
+use row_check::Luhn;
 use std::alloc::{AllocError, Global};
 use std::cmp::Ordering;
-use store_directory::{put_store, take_store};
+use store_directory::each_stands;
 use text_words::push_quoted;
 use update_check::Checked;
 use update_model::Member;
 
-/// The notes of the store of a directory, as they are printed.
-pub fn notes_in<V: Verifier, H: Shelf>(
-    verifier: &V,
-    alloc: Global,
-    shelf: &mut H,
-    dir: &str,
-) -> Result<Vec<u8>, Refusal>
-    requires { IsTrue (H.state shelf.old).tells → IsHome (H.state shelf.old) }
-    ensures { ReadsShelf (ReadsStore (Printing ShowsNotes)) dir.now (H.state shelf.old) (H.state shelf.new) (H.faults shelf.old) (H.faults shelf.new) result }
-{
-    one_schema();
-    let store = take_store(verifier, alloc, shelf, dir, Native::new(Luhn))?;
-    each_stands(&store.replica);
-    let text = replica_notes(alloc, &store.replica);
-    put_store(shelf, dir, store);
-    Ok(text?)
-}
-
 /// The notes of a store, as they are printed.
-fn replica_notes<D: Disk>(
+pub fn replica_notes<D: Disk>(
     alloc: Global,
     replica: &Replica<D, Luhn, Luhn>,
 ) -> Result<Vec<u8>, AllocError>

@@ -1,47 +1,22 @@
-ghost use Rattle.std.specs.Prelude.{Err, IsTrue, ◌≡◌, ◌⊎◌};
-ghost use Rattle.key_directory.specs.Parts.{IsHome};
+ghost use Rattle.std.specs.Prelude.{Err, ◌≡◌, ◌⊎◌};
 ghost use Rattle.node_commands.specs.Asking.{QueryAnswer};
-ghost use Rattle.outcomes.specs.Comes.{ReadsShelf};
 ghost use Rattle.outcomes.specs.OpenStores.{opened_store};
-ghost use Rattle.outcomes.specs.StoreAnswers.{ReadsStore};
 ghost use Rattle.outcomes.specs.declared.refusal.Refusal.TheVariants.{Memory as memory};
 
-use bec_disk::{Disk, Shelf};
+use bec_disk::Disk;
 use confluence_laws::tables_are_of_the_set;
 use head_set::equal_heads_mean_equal_sets;
-use outcomes::{Refusal, each_stands};
+use outcomes::Refusal;
 use query::read_query;
 use query_answer::{answer, json_lines, print_lines};
-use record_check::Verifier;
 use replica::Replica;
 use row_check::{Luhn, Native};
-use schema_text::one_schema;
 use std::alloc::Global;
-use store_directory::{put_store, take_store};
+use store_directory::each_stands;
 use table_model::arrivals_are_closed;
 
-/// What a query asks of the store of a directory, as it is printed.
-pub fn query_in<V: Verifier, H: Shelf>(
-    verifier: &V,
-    alloc: Global,
-    shelf: &mut H,
-    dir: &str,
-    text: &str,
-    json: bool,
-) -> Result<Vec<u8>, Refusal>
-    requires { IsTrue (H.state shelf.old).tells → IsHome (H.state shelf.old) }
-    ensures { ReadsShelf (ReadsStore (QueryAnswer text.now json)) dir.now (H.state shelf.old) (H.state shelf.new) (H.faults shelf.old) (H.faults shelf.new) result }
-{
-    one_schema();
-    let store = take_store(verifier, alloc, shelf, dir, Native::new(Luhn))?;
-    each_stands(&store.replica);
-    let outcome = asked(alloc, &store.replica, text, json);
-    put_store(shelf, dir, store);
-    outcome
-}
-
 /// What a query asks of a store, as it is printed.
-fn asked<D: Disk>(
+pub fn asked<D: Disk>(
     alloc: Global,
     replica: &Replica<D, Luhn, Luhn>,
     text: &str,

@@ -1,43 +1,43 @@
-use Rattle.std.proofs.Common.{◌≡◌, Err, ap, subst, Ok, refl}
+use Rattle.std.proofs.Common.{◌≡◌, Err, Ok, ap, inl, inr, refl, subst}
 use Rattle.std.proofs.lemmas.Result.{err_from_is_err_and}
 use Rattle.replica.specs.Replicas.{ReplicaState}
 use Rattle.store_directory.specs.Holding.{OpenData}
+use Rattle.store_directory.specs.Standing.{Stands}
 use Rattle.store_directory.proofs.Working.{store_of}
-use Rattle.outcomes.specs.Standing.{Stands}
 use Rattle.outcomes.specs.StoreAnswers.{Printing}
+use Rattle.outcomes.proofs.Reading.{open_answered, open_refused, opened_out}
 use Rattle.audit_commands.specs.Audits.{ShowsDoubled}
-use Rattle.outcomes.proofs.Reading.{put_slots, read_answered, read_lacked, read_refused}
 use Rattle.audit_commands.proofs.audit.audit_in.Goals as goal
 
-pub put_store-requires-clause-schema_of : goal.put_store-requires-clause-schema_of
-put_store-requires-clause-schema_of g c κs lives tells =
-    (put_slots (g.H.Shelf.state c.args.shelf.now) (g.H.Shelf.state c.take_store.new.shelf) c.args.dir.now c.in_ok-store.store c.in_ok-store.ensures.takes tells).0
+pub close-requires-clause-store_of : goal.close-requires-clause-store_of
+close-requires-clause-store_of g c tells =
+    (opened_out (g.H.Shelf.state c.args.shelf.now) (g.H.Shelf.state c.open.new.shelf) c.args.dir.now c.in_ok-opened.opened.store c.in_ok-opened.opened.key c.in_ok-opened.ensures.opens tells).0
 
-pub put_store-requires-clause-updates_of : goal.put_store-requires-clause-updates_of
-put_store-requires-clause-updates_of g c κs lives tells =
-    (put_slots (g.H.Shelf.state c.args.shelf.now) (g.H.Shelf.state c.take_store.new.shelf) c.args.dir.now c.in_ok-store.store c.in_ok-store.ensures.takes tells).1
+pub close-requires-clause-key_of : goal.close-requires-clause-key_of
+close-requires-clause-key_of g c tells =
+    (opened_out (g.H.Shelf.state c.args.shelf.now) (g.H.Shelf.state c.open.new.shelf) c.args.dir.now c.in_ok-opened.opened.store c.in_ok-opened.opened.key c.in_ok-opened.ensures.opens tells).1
 
-pub returns-in_err-store : goal.returns-in_err-store
-returns-in_err-store g c =
+pub returns-in_err-opened : goal.returns-in_err-opened
+returns-in_err-opened g c =
     let p = err_from_is_err_and c.from_residual.result c.from_residual.ensures.1 in
-    let e = c.in_err-store.ensures in
-    rw (p.1, p.2) (read_refused (Printing ShowsDoubled) c.args.dir.now (g.H.Shelf.state c.args.shelf.now) (g.H.Shelf.state c.take_store.new.shelf) (g.H.Counted.faults c.args.shelf.now) (g.H.Counted.faults c.take_store.new.shelf)
-    c.in_err-store.field-0.0 c.requires e.lets_go e.refused (λ is. e.failed (ap Err is)))
+    let e = c.in_err-opened.ensures in
+    rw (p.1, p.2) (open_refused (Printing ShowsDoubled) c.args.dir.now (g.H.Shelf.state c.args.shelf.now) (g.H.Shelf.state c.open.new.shelf) (g.H.Counted.faults c.args.shelf.now) (g.H.Counted.faults c.open.new.shelf)
+    c.in_err-opened.field-0.0 c.requires e.lets_go e.refused (λ is. e.store_failed (ap Err is)))
 
 pub returns-in_err-text : goal.returns-in_err-text
 returns-in_err-text g c =
     let p = err_from_is_err_and c.from_residual-in_err-text.result c.from_residual-in_err-text.ensures.1 in
-    let same : c.store.inside.replica ≡ c.in_ok-store.store.replica = ap (λ (o : OpenData). o.replica) c.store.view_is in
-    let stands : Stands c.in_ok-store.store.replica = subst Stands same c.each_stands.ensures in
-    rw (p.1, p.2) (read_lacked (Printing ShowsDoubled) c.args.dir.now (g.H.Shelf.state c.args.shelf.now) (g.H.Shelf.state c.put_store.new.shelf) (g.H.Counted.faults c.args.shelf.now) (g.H.Counted.faults c.put_store.new.shelf)
-    c.one_schema.ensures (g.H.Shelf.state c.take_store.new.shelf) c.in_ok-store.store c.requires c.in_ok-store.ensures.takes c.put_store.ensures.puts stands)
+    let o = c.in_ok-opened.opened in
+    let same : c.opened-store.inside.replica ≡ o.store.replica = ap (λ (s : OpenData). s.replica) c.opened-store.view_is in
+    rw (p.1, p.2) (open_answered (Printing ShowsDoubled) c.args.dir.now (g.H.Shelf.state c.args.shelf.now) (g.H.Shelf.state c.close.new.shelf) (g.H.Counted.faults c.args.shelf.now) (g.H.Counted.faults c.close.new.shelf)
+    c.one_schema.ensures (g.H.Shelf.state c.open.new.shelf) (g.H.Counted.faults c.open.new.shelf) o.store o.key (Err _) c.requires c.in_ok-opened.ensures.opens c.close.ensures (subst Stands same c.each_stands.ensures) (inr refl))
 
 pub returns : goal.returns
 returns g c =
-    let same : c.store.inside.replica ≡ c.in_ok-store.store.replica = ap (λ (o : OpenData). o.replica) c.store.view_is in
-    let stands : Stands c.in_ok-store.store.replica = subst Stands same c.each_stands.ensures in
+    let o = c.in_ok-opened.opened in
+    let same : c.opened-store.inside.replica ≡ o.store.replica = ap (λ (s : OpenData). s.replica) c.opened-store.view_is in
     let found = c.in_ok-text.ensures in
-    let here : ShowsDoubled (store_of c.store.inside.replica) c.in_ok-text.field-0.items = (found.0, record { taken = c.each_stands.ensures.history_is.members; found = found.1 }, found.2) in
-    let shown = subst (λ (r : ReplicaState). ShowsDoubled (store_of r) c.in_ok-text.field-0.items) same here in
-    read_answered (Printing ShowsDoubled) c.args.dir.now (g.H.Shelf.state c.args.shelf.now) (g.H.Shelf.state c.put_store.new.shelf) (g.H.Counted.faults c.args.shelf.now) (g.H.Counted.faults c.put_store.new.shelf)
-    c.one_schema.ensures (g.H.Shelf.state c.take_store.new.shelf) c.in_ok-store.store c.requires c.in_ok-store.ensures.takes c.put_store.ensures.puts stands (Ok c.in_ok-text.field-0) (c.in_ok-text.field-0.items, shown, refl)
+    let here : ShowsDoubled (store_of c.opened-store.inside.replica) c.in_ok-text.field-0.items = (found.0, record { taken = c.each_stands.ensures.history_is.members; found = found.1 }, found.2) in
+    open_answered (Printing ShowsDoubled) c.args.dir.now (g.H.Shelf.state c.args.shelf.now) (g.H.Shelf.state c.close.new.shelf) (g.H.Counted.faults c.args.shelf.now) (g.H.Counted.faults c.close.new.shelf)
+    c.one_schema.ensures (g.H.Shelf.state c.open.new.shelf) (g.H.Counted.faults c.open.new.shelf) o.store o.key (Ok c.in_ok-text.field-0) c.requires c.in_ok-opened.ensures.opens c.close.ensures (subst Stands same c.each_stands.ensures)
+    (inl (c.in_ok-text.field-0.items, subst (λ (r : ReplicaState). ShowsDoubled (store_of r) c.in_ok-text.field-0.items) same here, refl))

@@ -1,12 +1,19 @@
-use Rattle.std.proofs.Common.{ap, refl, ◌∙◌}
+use Rattle.std.proofs.Common.{Err, ap, refl, subst, sym, ◌∙◌}
 use Rattle.sha2.specs.Sha256.{sha256}
+use Rattle.outcomes.specs.declared.refusal.Refusal.{Refusal}
+use Rattle.outcomes.specs.Outcome.{from_disk}
+use Rattle.outcomes.proofs.Saying.{disk_refusal}
 use Rattle.net_commands.specs.Meetings.{not_asked}
+use Rattle.net_commands.specs.Open.{SyncsOpen}
 use Rattle.net_commands.proofs.Open.{open_memory, open_stopped, open_told, open_unmet}
 use Rattle.net_commands.proofs.Sharing.{grows_none}
 use Rattle.net_commands.proofs.sync.sync_open.Goals as goal
 
 pub returns-in-Err : goal.returns-in-Err
-returns-in-Err g c = open_stopped _ _ _ _ _ _ _ _ _ c.in-Err.refusal c.peers_of.ensures.keeps c.peers_of.ensures.later c.each_stands.ensures c.in-Err.ensures.failed
+returns-in-Err g c =
+    subst (λ (r : Refusal). SyncsOpen c.args.directory.now c.args.address.now (g.H.Shelf.state c.args.shelf.now) (g.H.Shelf.state c.peers_of.new.shelf) (g.N.Net.state c.args.net.now) (g.N.Net.state c.args.net.now)
+        (g.H.Counted.faults c.args.shelf.now) (g.H.Counted.faults c.peers_of.new.shelf) (g.N.Counted.faults c.args.net.now) (g.N.Counted.faults c.args.net.now) c.args.replica c.args.replica (Err r)) (sym c.from.ensures)
+    (open_stopped _ _ _ _ _ _ _ _ _ (from_disk c.in-Err.error) c.peers_of.ensures.keeps c.peers_of.ensures.later c.each_stands.ensures (disk_refusal _ _ c.in-Err.error (λ is. c.in-Err.ensures.failed (ap Err is))))
 
 pub returns-in-Err-copy : goal.returns-in-Err-copy
 returns-in-Err-copy g c = open_memory _ _ _ _ _ _ _ _ _ _ _ c.peers_of.ensures.keeps c.peers_of.ensures.later _ (not_asked refl) (grows_none _) c.each_stands.ensures

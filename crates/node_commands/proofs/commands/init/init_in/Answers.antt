@@ -13,7 +13,7 @@ use Rattle.store_directory.specs.Making.{IsNewStoreCause, MakesStore}
 use Rattle.store_directory.specs.Stores.{IsNoStore}
 use Rattle.schema_verdict.specs.Inputs.{ReadsText}
 use Rattle.outcomes.specs.Outside.{outside}
-use Rattle.outcomes.specs.Standing.{Stands}
+use Rattle.store_directory.specs.Standing.{Stands}
 use Rattle.outcomes.specs.Texts.{database_text}
 use Rattle.outcomes.proofs.Saying.{rose_later}
 use Rattle.node_commands.proofs.NewStores.{init_lacked, init_made, init_not_made, init_refused, init_there, init_unlooked, init_unread, made_slots}

@@ -1,8 +1,9 @@
-use Rattle.std.proofs.Common.{IsTrue, List, ℕ, true, false, Ok, Err, inl, inr, refl, sym, subst, ◌∙◌, arith}
+use Rattle.std.proofs.Common.{IsTrue, List, ℕ, true, false, ap, Ok, Err, inl, inr, refl, sym, subst, ◌∙◌, arith}
 use Rattle.std.proofs.lemmas.Bool.{true≢false}
 use Rattle.std.proofs.lemmas.Result.{err_from_is_err_and}
 use Rattle.session_rules.specs.declared.end.End.TheVariants.{Done, Store}
-use Rattle.outcomes.specs.Remembering.{RemembersIn, memory_in}
+use Rattle.outcomes.specs.Outcome.{from_disk}
+use Rattle.store_directory.specs.Remembering.{RemembersIn, memory_in}
 use Rattle.node_commands.specs.Merging.{done, full, peer}
 use Rattle.node_commands.proofs.Merging.{if_fault}
 use Rattle.node_commands.proofs.Meeting.{stopped_in, KeepsBoth, ReadsBoth, Shelved, both_kept, both_read, is_done_end, is_store_end, meets, merges_open, met_by, open_stopped, peers_fault, shelved_first, shelved_none, shelved_second, told_apart}
@@ -17,8 +18,8 @@ returns-in_err-peers g c =
     let new = g.H.Counted.faults c.peers_of.new.shelf in
     let e = c.in_err-peers.ensures in
     let shelf : Shelved c.args.first.now c.args.second.now before after old new = shelved_first c.args.first.now c.args.second.now before old before after old new (shelved_none c.args.first.now c.args.second.now before old) e.later e.keeps in
-    rw (p.1, p.2) (open_stopped c.args.first.now c.args.second.now before after old new c.args.one.now c.args.other.now c.in_err-peers.field-0.0 c.each_stands.ensures c.each_stands-2.ensures shelf
-    (peers_fault old old new c.args.one.now c.args.other.now c.args.one.now c.args.other.now c.in_err-peers.field-0.0 (omega arith) e.failed))
+    rw (p.1, p.2) (open_stopped c.args.first.now c.args.second.now before after old new c.args.one.now c.args.other.now (from_disk c.in_err-peers.field-0.0) c.each_stands.ensures c.each_stands-2.ensures shelf
+    (peers_fault old old new c.args.one.now c.args.other.now c.args.one.now c.args.other.now c.in_err-peers.field-0.0 (omega arith) (λ is. e.failed (ap Err is))))
 
 pub returns-in_err-peers_other : goal.returns-in_err-peers_other
 returns-in_err-peers_other g c =
@@ -33,8 +34,8 @@ returns-in_err-peers_other g c =
     let e = c.in_err-peers_other.ensures in
     let first : Shelved c.args.first.now c.args.second.now before mid old between = shelved_first c.args.first.now c.args.second.now before old before mid old between (shelved_none c.args.first.now c.args.second.now before old) r.later r.keeps in
     let shelf : Shelved c.args.first.now c.args.second.now before after old new = shelved_second c.args.first.now c.args.second.now before old mid after between new first e.later e.keeps in
-    rw (p.1, p.2) (open_stopped c.args.first.now c.args.second.now before after old new c.args.one.now c.args.other.now c.in_err-peers_other.field-0.0 c.each_stands.ensures c.each_stands-2.ensures shelf
-    (peers_fault old between new c.args.one.now c.args.other.now c.args.one.now c.args.other.now c.in_err-peers_other.field-0.0 r.later e.failed))
+    rw (p.1, p.2) (open_stopped c.args.first.now c.args.second.now before after old new c.args.one.now c.args.other.now (from_disk c.in_err-peers_other.field-0.0) c.each_stands.ensures c.each_stands-2.ensures shelf
+    (peers_fault old between new c.args.one.now c.args.other.now c.args.one.now c.args.other.now c.in_err-peers_other.field-0.0 r.later (λ is. e.failed (ap Err is))))
 
 pub returns-in_err-start : goal.returns-in_err-start
 returns-in_err-start g c =
@@ -101,9 +102,9 @@ returns-in_err-keep_peers-in-Done g c =
     (λ is_done. absurd (true≢false (sym is_done))) in
     let k = c.in_err-keep_peers-in-Done.ensures in
     let shelf : Shelved c.args.first.now c.args.second.now before after old new = shelved_first c.args.first.now c.args.second.now before old then after counted new read.shelf k.later k.keeps in
-    rw (p.1, p.2) (merges_open c.args.first.now c.args.second.now before after old new one other one_new other_new (Err c.in_err-keep_peers-in-Done.field-0.0) shelf met
-    (inr (peers_fault old counted new one other one_new other_new c.in_err-keep_peers-in-Done.field-0.0 read.shelf.later k.failed))
-    (λ tells. if_fault (Err c.in_err-keep_peers-in-Done.field-0.0) (stopped_in one other one_new other_new c.in_ok-start.start c.in_ok-ended.ended c.in_ok-peers.peers c.in_ok-peers_other.peers_other c.in_ok-start.ensures.is e.moves_a.grows e.moves_b.grows e.syncs
+    rw (p.1, p.2) (merges_open c.args.first.now c.args.second.now before after old new one other one_new other_new (Err (from_disk c.in_err-keep_peers-in-Done.field-0.0)) shelf met
+    (inr (peers_fault old counted new one other one_new other_new c.in_err-keep_peers-in-Done.field-0.0 read.shelf.later (λ is. k.failed (ap Err is))))
+    (λ tells. if_fault (Err (from_disk c.in_err-keep_peers-in-Done.field-0.0)) (stopped_in one other one_new other_new c.in_ok-start.start c.in_ok-ended.ended c.in_ok-peers.peers c.in_ok-peers_other.peers_other c.in_ok-start.ensures.is e.moves_a.grows e.moves_b.grows e.syncs
     (memory_in before c.args.first.now) (memory_in before c.args.second.now) (read.reads tells) (read.reads_other tells) (inr c.in-Done.is))))
 
 pub returns-in_err-keep_peers-in-Done-2 : goal.returns-in_err-keep_peers-in-Done-2
@@ -134,9 +135,9 @@ returns-in_err-keep_peers-in-Done-2 g c =
     let shelf_one : Shelved c.args.first.now c.args.second.now before wrote old writing = shelved_first c.args.first.now c.args.second.now before old then wrote counted writing read.shelf k.later k.keeps in
     let l = c.in_err-keep_peers-in-Done-2.ensures in
     let shelf : Shelved c.args.first.now c.args.second.now before after old new = shelved_second c.args.first.now c.args.second.now before old wrote after writing new shelf_one l.later l.keeps in
-    rw (p.1, p.2) (merges_open c.args.first.now c.args.second.now before after old new one other one_new other_new (Err c.in_err-keep_peers-in-Done-2.field-0.0) shelf met
-    (inr (peers_fault old writing new one other one_new other_new c.in_err-keep_peers-in-Done-2.field-0.0 shelf_one.later l.failed))
-    (λ tells. if_fault (Err c.in_err-keep_peers-in-Done-2.field-0.0) (stopped_in one other one_new other_new c.in_ok-start.start c.in_ok-ended.ended c.in_ok-peers.peers c.in_ok-peers_other.peers_other c.in_ok-start.ensures.is e.moves_a.grows e.moves_b.grows e.syncs
+    rw (p.1, p.2) (merges_open c.args.first.now c.args.second.now before after old new one other one_new other_new (Err (from_disk c.in_err-keep_peers-in-Done-2.field-0.0)) shelf met
+    (inr (peers_fault old writing new one other one_new other_new c.in_err-keep_peers-in-Done-2.field-0.0 shelf_one.later (λ is. l.failed (ap Err is))))
+    (λ tells. if_fault (Err (from_disk c.in_err-keep_peers-in-Done-2.field-0.0)) (stopped_in one other one_new other_new c.in_ok-start.start c.in_ok-ended.ended c.in_ok-peers.peers c.in_ok-peers_other.peers_other c.in_ok-start.ensures.is e.moves_a.grows e.moves_b.grows e.syncs
     (memory_in before c.args.first.now) (memory_in before c.args.second.now) (read.reads tells) (read.reads_other tells) (inr c.in-Done.is))))
 
 pub returns-in_err-merged_lines-in-Done : goal.returns-in_err-merged_lines-in-Done

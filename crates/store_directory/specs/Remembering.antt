@@ -1,6 +1,5 @@
 -- What a directory remembers of peers.
-use Rattle.std.specs.Prelude.{◌≡◌, ◌⊎◌, ℕ, List, [], ◌∷◌, IsTrue}
-use Rattle.bec_bytes.specs.Causes.{Rose}
+use Rattle.std.specs.Prelude.{◌≡◌, ℕ, List, [], ◌∷◌, IsTrue}
 use Rattle.bec_disk.specs.declared.part.Part.TheVariants.{Schema, Updates, Peers}
 use Rattle.bec_disk.specs.declared.part.Part.{Part}
 use Rattle.bec_disk.specs.Shelf.{ShelfState}
@@ -10,8 +9,6 @@ use Rattle.peer_memory.specs.Payload.{Spells}
 use Rattle.peer_memory.specs.Peers.{Remembers}
 use Rattle.store_directory.specs.Memory.{remembered_in}
 use Rattle.key_directory.specs.Parts.{KeepsAllBut, KeepsPlaces, part_in, reading}
-use Rattle.outcomes.specs.declared.refusal.Refusal.{Refusal}
-use Rattle.outcomes.specs.declared.refusal.Refusal.TheVariants as refusals
 
 -- what a directory remembers of peers
 abbrev pub memory_in : ShelfState → List ℕ → List ℕ
@@ -32,7 +29,3 @@ pub record KeepsPeers (dir : List ℕ) (before after : ShelfState) : Type 0 wher
   pub tells : after.tells ≡ before.tells
   pub others : IsTrue before.tells → KeepsAllBut (Peers ∷ []) dir before after
   pub places : IsTrue before.tells → KeepsPlaces before after
-
--- What the peers of a directory are not read or kept for.
-abbrev pub IsPeersFault : ℕ → ℕ → Refusal → Type 0
-IsPeersFault faults faults_new refusal = (refusal ≡ refusals.Memory) ⊎ ((refusal ≡ refusals.StoreFault) × Rose faults faults_new)

@@ -1,4 +1,4 @@
-ghost use Rattle.outcomes.specs.Standing.{Stands};
+ghost use Rattle.store_directory.specs.Standing.{Stands};
 
 use bec_disk::Disk;
 use replica::Replica;
