@@ -1,5 +1,5 @@
 -- Why keys are not opened.
-use Rattle.std.proofs.Common.{◌≡◌, ◌⊎◌, inl, inr, ℕ, List, sym, ◌∙◌, ap, subst, IsTrue, Some, None, Option, Result, Err}
+use Rattle.std.proofs.Common.{◌≡◌, ◌⊎◌, inl, inr, ℕ, List, refl, sym, ◌∙◌, ap, subst, IsTrue, Some, None, Option, Result, Err}
 use Rattle.bec_disk.specs.declared.disk_error.DiskError.{DiskError}
 use Rattle.bec_disk.specs.declared.disk_error.DiskError.TheVariants as disk
 use Rattle.bec_disk.specs.declared.gated.Gated.TheVariants.{Absent, Damaged, Whole}
@@ -15,7 +15,7 @@ use Rattle.key_directory.specs.declared.key_refusal.KeyRefusal.{KeyRefusal}
 use Rattle.key_directory.specs.declared.key_refusal.KeyRefusal.TheVariants as opening
 use Rattle.update_model.specs.declared.author_key.AuthorKey.{AuthorKey}
 use Rattle.hss_directory.specs.Calls.{IsOpeningCause}
-use Rattle.hss_directory.specs.Faults.{from_disk, from_opening, lower_fault}
+use Rattle.hss_directory.specs.Faults.{from_disk, from_opening, lower_fault, making_fault}
 use Rattle.hss_directory.specs.Lower.{IsLowerCause}
 use Rattle.hss_directory.specs.Opening.{AreUnvouched, IsUnfound, IsUnfoundCause, IsUnvouchedCause, VouchesFor}
 use Rattle.hss_directory.specs.Peers.{ReadsPeers, peers_in}
@@ -89,11 +89,17 @@ pub no_key : (shelf : ShelfState) (dir : List ℕ) (why : KeyRefusal) → why �
 no_key shelf dir why is cause tells = subst (λ (w : KeyRefusal). IsKeyCause shelf dir w) is (cause tells)
 
 -- where there was none, one is not there
-pub never_there : (shelf mid : ShelfState) (dir : List ℕ) (kind : CreateKeyKind) → LetsKeyGo shelf dir mid → (IsTrue shelf.tells → IsNoKey (reading (part_in shelf dir Key))) → kind ≡ creating.KeyThere
-    → (IsTrue mid.tells → IsNewKeyCause (reading (part_in mid dir Key)) kind) → IsTrue shelf.tells → ⊥
-never_there shelf mid dir kind goes none is cause tells =
-    subst (λ (k : CreateKeyKind). IsNewKeyCause (reading (part_in mid dir Key)) k) is (cause (told shelf.tells mid.tells goes.tells tells))
+never_there : (shelf mid : ShelfState) (dir : List ℕ) → LetsKeyGo shelf dir mid → (IsTrue shelf.tells → IsNoKey (reading (part_in shelf dir Key)))
+    → (IsTrue mid.tells → IsNewKeyCause (reading (part_in mid dir Key)) creating.KeyThere) → IsTrue shelf.tells → ⊥
+never_there shelf mid dir goes none cause tells =
+    cause (told shelf.tells mid.tells goes.tells tells)
     (subst IsNoKey (sym (untouched_reading (part_in shelf dir Key) (part_in mid dir Key) (goes.key_part tells))) (none tells))
+
+pub making_cause : (shelf mid : ShelfState) (dir : List ℕ) (why : CreateKeyKind) → LetsKeyGo shelf dir mid → (IsTrue shelf.tells → IsNoKey (reading (part_in shelf dir Key)))
+    → (IsTrue mid.tells → IsNewKeyCause (reading (part_in mid dir Key)) why) → IsTrue shelf.tells → (making_fault why ≡ Disk) ⊎ (making_fault why ≡ Memory)
+making_cause shelf mid dir creating.KeyThere goes none cause tells = absurd (never_there shelf mid dir goes none cause tells)
+making_cause shelf mid dir creating.DiskFault goes none cause tells = inl refl
+making_cause shelf mid dir creating.Memory goes none cause tells = inr refl
 
 -- a part Peers that was not read
 pub unread_cause : (shelf : ShelfState) (dir : List ℕ) (top : KeyState) (error : DiskError) → IsUnfoundCause shelf dir top (from_disk error)

@@ -29,3 +29,9 @@ lower_fault opening.NoKey = faults.BadKey
 lower_fault opening.BadKey = faults.BadKey
 lower_fault opening.DiskFault = faults.Disk
 lower_fault opening.Memory = faults.Memory
+
+-- A refusal to make a lower key in a directory that had none.
+abbrev pub making_fault : CreateKeyKind → HssFault
+making_fault creating.KeyThere = faults.BadKey
+making_fault creating.DiskFault = faults.Disk
+making_fault creating.Memory = faults.Memory

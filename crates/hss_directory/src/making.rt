@@ -6,6 +6,7 @@ ghost use Rattle.bec_disk.specs.declared.part.Part.TheVariants.{Key, Used, Peers
 ghost use Rattle.bec_disk.specs.Shelf.{out};
 ghost use Rattle.key_directory.specs.Parts.{part_in};
 ghost use Rattle.hss_chain.specs.Keys.{key_bytes};
+ghost use Rattle.hss_directory.specs.Faults.{making_fault};
 ghost use Rattle.hss_directory.specs.Lower.{LetsLowerGo, MakesLower, OpensNoLower, RefusesLower, TakesLower, Vouches, VouchesNot};
 ghost use Rattle.hss_directory.specs.Places.{AreLowersIn};
 ghost use Rattle.hss_directory.specs.Values.{HasLeft};
@@ -110,13 +111,20 @@ fn take_or_make<G: LeafGenerator, H: Shelf, R: Rng>(
             random,
         ) {
             Ok(key) => Ok(key),
-            Err(CreateKeyKind::KeyThere) => Err(HssFault::BadKey),
-            Err(CreateKeyKind::DiskFault) => Err(HssFault::Disk),
-            Err(CreateKeyKind::Memory) => Err(HssFault::Memory),
+            Err(why) => Err(making_fault(why)),
         },
-        Err(KeyRefusal::BadKey) => Err(HssFault::BadKey),
-        Err(KeyRefusal::DiskFault) => Err(HssFault::Disk),
-        Err(KeyRefusal::Memory) => Err(HssFault::Memory),
+        Err(why) => Err(HssFault::from(why)),
+    }
+}
+
+/// A refusal to make a lower key in a directory that had none.
+fn making_fault(why: CreateKeyKind) -> HssFault
+    ensures { result ≡ making_fault why }
+{
+    match why {
+        CreateKeyKind::KeyThere => HssFault::BadKey,
+        CreateKeyKind::DiskFault => HssFault::Disk,
+        CreateKeyKind::Memory => HssFault::Memory,
     }
 }
 

@@ -22,7 +22,9 @@ use shared_replica::Shared;
 use std::alloc::{AllocError, Global};
 use std::sync::Wait;
 use std::thread::Threads;
-use store_directory::{OpenStore, each_stands, peers_of, put_store, settle, take_store, write_memory};
+use store_directory::{
+    OpenStore, each_stands, peers_of, put_store, settle, take_store, write_memory,
+};
 use update_model::DbRule;
 
 /// Serves so many sessions at an address, and tells how each ended.

@@ -23,7 +23,9 @@ use shared_replica::Shared;
 use std::alloc::Global;
 use std::sync::Wait;
 use std::thread::Threads;
-use store_directory::{OpenStore, each_stands, keep_peers, peers_of, put_store, settle, take_store};
+use store_directory::{
+    OpenStore, each_stands, keep_peers, peers_of, put_store, settle, take_store,
+};
 use update_model::DbRule;
 
 /// Meets the node at an address, and tells what the store of a directory gained.

@@ -23,7 +23,7 @@ use Rattle.store_directory.specs.declared.store_refusal.StoreRefusal.TheVariants
 use Rattle.key_directory.proofs.Handing.{untouched_by}
 use Rattle.store_directory.proofs.Handing.{list_as_it_was}
 use Rattle.key_directory.proofs.Places.{same_place}
-use Rattle.store_directory.proofs.Opening.{no_store_taken}
+use Rattle.store_directory.proofs.OnceOpen.{no_store_taken}
 use Rattle.store_directory.proofs.Readings.{OneSchema, same_store}
 use Rattle.store_directory.proofs.Working.{read_before, store_of, worked_run}
 use Rattle.outcomes.specs.declared.refusal.Refusal.{Refusal}

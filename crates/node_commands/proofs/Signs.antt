@@ -46,7 +46,7 @@ use Rattle.key_directory.proofs.Putting.{slot_of, told}
 use Rattle.store_directory.proofs.Readings.{OneSchema}
 use Rattle.key_directory.proofs.Signing.{keeps_key, keeps_used}
 use Rattle.node_commands.proofs.KeyUse.{signs_at_least, tries_least, untouched_used}
-use Rattle.store_directory.proofs.Opening.{of_four_first, of_four_last}
+use Rattle.store_directory.proofs.OnceOpen.{of_four_first, of_four_last}
 use Rattle.store_directory.proofs.Working.{home_after_store, read_before, store_of, worked_run}
 use Rattle.txn_text.specs.Transactions.{FirstFault, Reads}
 use Rattle.txn_text.specs.declared.fault.TextError.{TextError}

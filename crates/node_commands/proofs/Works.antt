@@ -21,7 +21,7 @@ use Rattle.store_directory.specs.Holding.{OpenData, PutsStore}
 use Rattle.store_directory.specs.Opening.{Closes, IsKeyIn, IsKeyOut, IsStoreOut, LetsAllGo, Opens, Refuses}
 use Rattle.store_directory.specs.Standing.{Stands}
 use Rattle.store_directory.specs.Stores.{StoreData}
-use Rattle.store_directory.proofs.Opening.{disks_of}
+use Rattle.store_directory.proofs.OnceOpen.{disks_of}
 use Rattle.store_directory.proofs.Readings.{OneSchema}
 use Rattle.outcomes.specs.Comes.{IsSourceFault, ReadsStoreOnly}
 use Rattle.outcomes.specs.declared.refusal.Refusal.TheVariants as refusals

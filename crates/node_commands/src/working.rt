@@ -110,14 +110,7 @@ fn work_over<D: Disk, R: Rng, S: Source>(
         Work::Query { text, json } => asked(alloc, &opened.store.replica, text, *json),
         Work::Notes => Ok(replica_notes(alloc, &opened.store.replica)?),
         Work::Apply { note } => match &mut opened.key {
-            Some(key) => apply_by(
-                alloc,
-                &mut opened.store.replica,
-                key,
-                *note,
-                random,
-                input,
-            ),
+            Some(key) => apply_by(alloc, &mut opened.store.replica, key, *note, random, input),
             None => Err(Refusal::NoKey),
         },
         Work::Join => match &mut opened.key {

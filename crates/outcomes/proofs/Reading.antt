@@ -23,7 +23,7 @@ use Rattle.key_directory.proofs.Places.{keeps_through}
 use Rattle.key_directory.proofs.Putting.{told}
 use Rattle.key_directory.proofs.Readings.{whole-not-absent}
 use Rattle.store_directory.proofs.Readings.{OneSchema}
-use Rattle.store_directory.proofs.Opening.{disks_of, no_store_taken, unworked_run}
+use Rattle.store_directory.proofs.OnceOpen.{disks_of, no_store_taken, unworked_run}
 use Rattle.store_directory.proofs.Working.{home_after_store, read_before, store_of}
 use Rattle.outcomes.specs.declared.refusal.Refusal.{Refusal}
 use Rattle.outcomes.specs.declared.refusal.Refusal.TheVariants as refusals

@@ -3,7 +3,7 @@ use Rattle.std.proofs.Common.{◌≡◌, inl, inr, ℕ, List, [], ◌++◌, refl
 use Rattle.std.proofs.lemmas.List.{append-nil}
 use Rattle.bec_bytes.specs.Framed.{stream_of}
 use Rattle.bec_disk.specs.Disk.{DiskState, EveryImage, LeavesOnly, handed_out}
-use Rattle.bec_disk.specs.Shelf.{PartState, moments_of, out, stands}
+use Rattle.bec_disk.specs.Shelf.{PartState, moments_of, stands}
 use Rattle.bec_disk.specs.Slot.{Slot}
 use Rattle.bec_disk.proofs.Moments.{leaves_now, no_moment}
 use Rattle.schema.specs.Data.{Meaning}

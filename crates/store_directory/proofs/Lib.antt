@@ -1,7 +1,7 @@
 pub mod Handing
 pub mod Made
 pub mod Making
-pub mod Opening
+pub mod OnceOpen
 pub mod Putting
 pub mod Readings
 pub mod Signing

@@ -2,10 +2,10 @@
 use Rattle.std.specs.Prelude.{◌≡◌, ◌≢◌, ◌⊎◌, ℕ, Bool, true, List, [], ◌++◌, Option, Some, None}
 use Rattle.bec_bytes.specs.Framed.{stream_of}
 use Rattle.bec_disk.specs.declared.part.Part.TheVariants.{Schema, Updates}
-use Rattle.bec_disk.specs.Disk.{EveryImage, LeavesSince, moments}
+use Rattle.bec_disk.specs.Disk.{EveryImage, LeavesSince}
 use Rattle.bec_disk.specs.Gated.{gated_of}
 use Rattle.bec_disk.specs.declared.gated.Gated.TheVariants.{Absent}
-use Rattle.bec_disk.specs.Shelf.{PartState, ShelfState, absent, moments_of, stands}
+use Rattle.bec_disk.specs.Shelf.{PartState, ShelfState, moments_of}
 use Rattle.schema.specs.Data.{Meaning, SchemaData}
 use Rattle.update_check.specs.Members.{AreMembers}
 use Rattle.update_log.specs.Logset.{BeginsWith, IsLogset}

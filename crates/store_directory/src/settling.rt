@@ -13,10 +13,7 @@ use update_check::CommitFault;
 
 /// Commits nothing: that cuts what an act that failed may have left behind the updates. As nothing is added, no limit is
 /// passed, and only a disk's fault or want of memory is in the way.
-pub fn settle<D: Disk>(
-    alloc: Global,
-    replica: &mut Replica<D, Luhn, Luhn>,
-) -> Result<(), DiskError>
+pub fn settle<D: Disk>(alloc: Global, replica: &mut Replica<D, Luhn, Luhn>) -> Result<(), DiskError>
     ensures grows { KeepsGrowing replica.old replica.new }
     ensures clean { IsTrue replica.old.log.disk.tells → OnOk result (IsClean replica.new.log.end replica.new.log.disk) }
     ensures failed { IsErrOf result DiskError.DiskFault → Rose replica.old.log.faults replica.new.log.faults }

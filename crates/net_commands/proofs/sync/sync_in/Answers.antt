@@ -4,7 +4,7 @@ use Rattle.row_check.specs.Checksum.{is_luhn}
 use Rattle.bec_disk.specs.declared.part.Part.TheVariants.{Schema, Updates}
 use Rattle.bec_disk.specs.Slot.{slot}
 use Rattle.store_directory.specs.Holding.{OpenData, TakesStore}
-use Rattle.store_directory.proofs.Opening.{disks_of}
+use Rattle.store_directory.proofs.OnceOpen.{disks_of}
 use Rattle.net_commands.proofs.Open.{peers_home, syncs_none, syncs_taken}
 use Rattle.net_commands.proofs.sync.sync_in.Goals as goal
 

@@ -12,7 +12,7 @@ use Rattle.net_commands.proofs.sync.sync_open.Goals as goal
 pub returns-in-Err : goal.returns-in-Err
 returns-in-Err g c =
     subst (λ (r : Refusal). SyncsOpen c.args.directory.now c.args.address.now (g.H.Shelf.state c.args.shelf.now) (g.H.Shelf.state c.peers_of.new.shelf) (g.N.Net.state c.args.net.now) (g.N.Net.state c.args.net.now)
-        (g.H.Counted.faults c.args.shelf.now) (g.H.Counted.faults c.peers_of.new.shelf) (g.N.Counted.faults c.args.net.now) (g.N.Counted.faults c.args.net.now) c.args.replica c.args.replica (Err r)) (sym c.from.ensures)
+    (g.H.Counted.faults c.args.shelf.now) (g.H.Counted.faults c.peers_of.new.shelf) (g.N.Counted.faults c.args.net.now) (g.N.Counted.faults c.args.net.now) c.args.replica c.args.replica (Err r)) (sym c.from.ensures)
     (open_stopped _ _ _ _ _ _ _ _ _ (from_disk c.in-Err.error) c.peers_of.ensures.keeps c.peers_of.ensures.later c.each_stands.ensures (disk_refusal _ _ c.in-Err.error (λ is. c.in-Err.ensures.failed (ap Err is))))
 
 pub returns-in-Err-copy : goal.returns-in-Err-copy

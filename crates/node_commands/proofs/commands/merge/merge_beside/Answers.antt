@@ -2,7 +2,7 @@ use Rattle.std.proofs.Common.{Err, ap, subst, sym}
 use Rattle.std.proofs.lemmas.Result.{err_from_is_err_and}
 use Rattle.row_check.specs.Checksum.{is_luhn}
 use Rattle.store_directory.specs.Holding.{OpenData, TakesStore}
-use Rattle.store_directory.proofs.Opening.{disks_of, no_key_out, store_closed, store_opened}
+use Rattle.store_directory.proofs.OnceOpen.{disks_of, no_key_out, store_closed, store_opened}
 use Rattle.node_commands.proofs.Merging.{beside_taken, beside_unopened, second_kept}
 use Rattle.node_commands.proofs.commands.merge.merge_beside.Goals as goal
 

@@ -1,5 +1,5 @@
 -- A directory that is opened and put back.
-use Rattle.std.proofs.Common.{◌≡◌, ◌≢◌, ℕ, Bool, true, false, List, [], ◌∷◌, ◌++◌, append-nil, refl, sym, ◌∙◌, ap, subst, IfSome, IsTrue, None, Option, Some}
+use Rattle.std.proofs.Common.{◌≡◌, ◌≢◌, ℕ, Bool, true, false, List, [], ◌∷◌, append-nil, refl, sym, ◌∙◌, subst, IfSome, IsTrue, None, Option, Some}
 use Rattle.std.specs.Prelude.{◌||◌}
 use Rattle.std.specs.List.{list_any}
 use Rattle.std.proofs.lemmas.Bool.{true≢false}
@@ -170,7 +170,7 @@ pub key_cause : (before opened : ShelfState) (dir : List ℕ) (taken : OpenData)
 key_cause before opened dir taken why takes cause tells = (
   (store_of taken.replica, read_before is_luhn before opened dir taken tells takes),
   subst (λ (p : PartState). IsKeyRefusalCause (reading p) (reading (part_in before dir Used)) why) (takes.others (slot dir Key) refl)
-  (subst (λ (p : PartState). IsKeyRefusalCause (reading (part_in opened dir Key)) (reading p) why) (takes.others (slot dir Used) refl) (cause (told before.tells opened.tells takes.tells tells))),
+      (subst (λ (p : PartState). IsKeyRefusalCause (reading (part_in opened dir Key)) (reading p) why) (takes.others (slot dir Used) refl) (cause (told before.tells opened.tells takes.tells tells))),
 )
 
 -- ---- a directory that is opened for its store alone
