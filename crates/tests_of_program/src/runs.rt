@@ -32,7 +32,7 @@ pub fn answers(
 }
 
 /// Runs the program over a shelf on which nothing is.
-pub fn run_over_nothing<S: Source, K: Sink>(
+pub fn run_over_nothing<S: Source + Drop, K: Sink>(
     alloc: Global,
     words: &[String],
     input: S,

@@ -1,20 +1,19 @@
-use Rattle.std.proofs.Common.{refl}
 use Rattle.bec_node.proofs.Ending.{lent_short}
 use Rattle.bec_node.proofs.alone.outcome_of.Goals as goal
 
 pub returns-in-Dump-Some-default : goal.returns-in-Dump-Some-default
 returns-in-Dump-Some-default g c =
     let which = rw c.in-Dump-Some-default.is at c.in-Dump-Some-default.directory-is in
-    rw (c.in-Dump-Some-default.is, which) (record { runs = c.dump_in.ensures; source = refl; random = refl })
+    rw (c.in-Dump-Some-default.is, which) c.work_in-in-Dump-Some-default.ensures
 
 pub returns-in-Export : goal.returns-in-Export
-returns-in-Export g c = rw c.in-Export.is (record { runs = c.export_in.ensures; source = refl; random = refl })
+returns-in-Export g c = rw c.in-Export.is c.work_in-in-Export.ensures
 
 pub returns-in-Query : goal.returns-in-Query
-returns-in-Query g c = rw c.in-Query.is (record { runs = c.query_in.ensures; source = refl; random = refl })
+returns-in-Query g c = rw c.in-Query.is c.work_in-in-Query.ensures
 
-pub apply_in-requires-clause-short : goal.apply_in-requires-clause-short
-apply_in-requires-clause-short g c = lent_short (λ note. note.now) c.in-Apply.note (rw c.in-Apply.is at c.requires.short)
+pub work_in-in-Apply-requires-clause-short : goal.work_in-in-Apply-requires-clause-short
+work_in-in-Apply-requires-clause-short g c = lent_short (λ note. note.now) c.in-Apply.note (rw c.in-Apply.is at c.requires.short)
 
 pub returns-in-Notes : goal.returns-in-Notes
-returns-in-Notes g c = rw c.in-Notes.is (record { runs = c.notes_in.ensures; source = refl; random = refl })
+returns-in-Notes g c = rw c.in-Notes.is c.work_in-in-Notes.ensures
