@@ -1,5 +1,6 @@
 pub mod Concluding
 pub mod Dialling
+pub mod Keeping
 pub mod Open
 pub mod OpenServing
 pub mod Remembering
