@@ -2,6 +2,9 @@ use crate::heard_lines::HeardLines;
 use bec_bytes::{Counted, Failed, Sink};
 use std::alloc::Global;
 
+/// How many bytes of lines are kept.
+const LIMIT: usize = 4096;
+
 /// A sink that passes on what it is given to another one, and keeps the lines that begin with `! ` or `session `, each with an LF
 /// behind it, as far as there is room.
 #[derive(Drop)]
@@ -11,11 +14,11 @@ pub struct Listening<K: Sink> {
 }
 
 impl<K: Sink> Listening<K> {
-    /// A sink over another one, which keeps at most so many bytes of lines.
-    pub fn new(alloc: Global, sink: K, limit: usize) -> Listening<K> {
+    /// A sink over another one.
+    pub fn new(alloc: Global, sink: K) -> Listening<K> {
         Listening {
             sink,
-            lines: HeardLines::new(alloc, limit),
+            lines: HeardLines::new(alloc, LIMIT),
         }
     }
 

@@ -4,6 +4,7 @@ use crate::asked::Asked;
 use crate::explaining::explain;
 use crate::text_lines::has_cr;
 use crate::words::is_among;
+use bec_bytes::{Sink, write_all_of};
 use std::alloc::{AllocError, Global};
 use text_words::next_line;
 
@@ -13,7 +14,7 @@ pub struct Run<'a> {
     /// The words of the command line.
     pub words: &'a [String],
     /// The directory that is meant, where it is not the first that the words name.
-    pub directory: Option<&'a str>,
+    pub directory: Option<&'a String>,
     /// The exit status.
     pub status: u8,
     /// What was read.
@@ -22,7 +23,14 @@ pub struct Run<'a> {
     pub heard: &'a [u8],
 }
 
-/// What is said of a run on standard error. It gives up where memory runs out.
+/// Says what a run means that was refused, as far as the sink takes it and there is memory.
+pub fn tell_run<K: Sink>(alloc: Global, errors: &mut K, run: &Run) {
+    if let Ok(text) = explain_run(alloc, run) {
+        let _ = write_all_of(errors, &text);
+    }
+}
+
+/// What is said of a run. It gives up where memory runs out.
 pub fn explain_run(alloc: Global, run: &Run) -> Result<Vec<u8>, AllocError> {
     let mut out = Vec::new(alloc);
     let command = word_at(run.words, 0);
@@ -36,7 +44,7 @@ pub fn explain_run(alloc: Global, run: &Run) -> Result<Vec<u8>, AllocError> {
     push_text(&mut text, command, run)?;
     let asked = Asked {
         command,
-        directory: run.directory.unwrap_or(word_at(run.words, 1)),
+        directory: directory_of(run),
         other: word_at(run.words, 2),
         status: run.status,
         text: text.as_slice(),
@@ -81,6 +89,14 @@ fn is_done(line: &[u8]) -> bool {
     line.split(|byte| *byte == b' ')
         .nth(2)
         .is_some_and(|word| word == b"done".as_slice())
+}
+
+/// The directory that is meant.
+fn directory_of<'a>(run: &Run<'a>) -> &'a str {
+    match run.directory {
+        Some(directory) => directory.as_str(),
+        None => word_at(run.words, 1),
+    }
 }
 
 /// Adds the text that a command read or asked.
