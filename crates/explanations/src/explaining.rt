@@ -6,6 +6,7 @@ use crate::looking_up::entry_for;
 use crate::numbers::{number_at, push_number};
 use crate::refusals::REFUSALS;
 use crate::rows::push_rows;
+use crate::values::{Values, directory_text, help_text};
 use std::alloc::{AllocError, Global};
 
 /// What a line means that the program printed, and what to do, in rows that each end in an LF; nothing where the table has no
@@ -18,8 +19,16 @@ pub fn explain(alloc: Global, said: &[u8], asked: &Asked) -> Result<Vec<u8>, All
     let table = REFUSALS.as_bytes();
     let command = asked.command.as_bytes();
     if let Some((marks, text)) = entry_for(alloc, table, command, key.as_slice())? {
-        push_rows(alloc, &mut out, front.as_slice(), text, marks, asked)?;
-        push_excerpt(alloc, &mut out, key.as_slice(), marks, asked)?;
+        let help = help_text(alloc, command)?;
+        let directory = directory_text(alloc, asked)?;
+        let values = Values {
+            marks,
+            help: help.as_slice(),
+            directory: directory.as_slice(),
+            other: asked.other.as_bytes(),
+        };
+        push_rows(alloc, &mut out, front.as_slice(), text, &values)?;
+        push_excerpt(alloc, &mut out, key.as_slice(), &values, asked.text)?;
     }
     Ok(out)
 }
