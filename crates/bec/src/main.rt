@@ -1,9 +1,12 @@
-//! The program `bec`: it makes the real objects, calls [`bec_node::run`], and ends with its status.
+//! The program `bec`: it makes the real objects, calls [`bec_node::run`], and ends with its status. What a refusal means and what to do it
+//! says on standard error, unless the environment has `BEC_EXPLAIN=0`. `BEC_DIRECTORY` there is the directory that it then names.
 #![tactic(auto)]
 
 use bec_host::{FileShelf, HashRng, HostSink, HostSource, TcpNet, hold_closed_streams, words};
 use bec_node::status::{OUT_OF_MEMORY, STREAM_FAULT};
 use bec_node::{Outside, run};
+use explanations::{Listening, Recording, Run, limit_for, tell_run};
+use std::env;
 use std::process::ExitCode;
 use std::random::RandomSource;
 
@@ -11,30 +14,45 @@ fn main(rt: HostRuntime) -> ExitCode {
     let Ok(_held) = hold_closed_streams(&rt) else {
         return ExitCode::from(STREAM_FAULT);
     };
-    let Ok(words) = words(&rt) else {
-        return ExitCode::from(OUT_OF_MEMORY);
-    };
     let mut key = [0; 32];
     if rt.fill_bytes(&mut key).is_err() {
         return ExitCode::from(STREAM_FAULT);
     }
-    let files: Result<_, _> = rt.clone();
-    let Ok(files) = files else {
+    let (files, sockets): (Result<_, _>, Result<_, _>) = (rt.clone(), rt.clone());
+    let input = HostSource::new(rt.alloc(), rt.stdin());
+    let (Ok(words), Ok(files), Ok(sockets), Ok(input)) = (words(&rt), files, sockets, input) else {
         return ExitCode::from(OUT_OF_MEMORY);
     };
-    let sockets: Result<_, _> = rt.clone();
-    let Ok(sockets) = sockets else {
-        return ExitCode::from(OUT_OF_MEMORY);
-    };
-    let Ok(input) = HostSource::new(rt.alloc(), rt.stdin()) else {
-        return ExitCode::from(OUT_OF_MEMORY);
-    };
+    let limit = if is_silent(&rt) { 0 } else { limit_for(&words) };
     let mut outside = Outside {
         shelf: FileShelf::new(files, rt.stderr()),
         random: HashRng::new(key),
-        input,
+        input: Recording::new(rt.alloc(), input, limit),
     };
     let mut net = TcpNet::new(sockets, rt.stderr());
-    let mut output = HostSink::new(rt.stdout());
-    ExitCode::from(run(&rt, rt.alloc(), &words, &mut outside, &mut net, &mut output))
+    let mut output = Listening::new(rt.alloc(), HostSink::new(rt.stdout()));
+    let status = run(&rt, rt.alloc(), &words, &mut outside, &mut net, &mut output);
+    tell(&rt, &words, outside.input.kept(), output.heard(), status);
+    ExitCode::from(status)
+}
+
+/// Whether nothing is to be said of what a refusal means.
+fn is_silent(rt: &HostRuntime) -> bool {
+    env::var(rt, "BEC_EXPLAIN").is_ok_and(|value| value.as_str() == "0")
+}
+
+/// Says on standard error what a refusal means, of a run that read and printed this.
+fn tell(rt: &HostRuntime, words: &[String], read: &[u8], heard: &[u8], status: u8) {
+    if is_silent(rt) {
+        return;
+    }
+    let directory = env::var(rt, "BEC_DIRECTORY").ok();
+    let run = Run {
+        words,
+        directory: directory.as_ref(),
+        status,
+        read,
+        heard,
+    };
+    tell_run(rt.alloc(), &mut HostSink::new(rt.stderr()), &run);
 }

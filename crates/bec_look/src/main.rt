@@ -5,7 +5,8 @@
 //! object. `page` prints a page of HTML, `diff` what only one of two bundles has, of which the first stands behind its length of four bytes, `status` how
 //! much there is, `schema` the text of the schema, and `csv QUERY` an answer as comma-separated values. Refusals and statuses are those of `bec dump`,
 //! and of a query those of `bec query`; where none fits or several do nothing is printed, and the status is 1. If there are more updates than are drawn,
-//! or several fit, it says so on standard error.
+//! or several fit, it says so on standard error. There it also says what a refusal means and what to do, unless the environment has
+//! `BEC_EXPLAIN=0`. `BEC_DIRECTORY` there is the directory that it then names.
 #![tactic(auto)]
 
 mod answers;
@@ -22,7 +23,9 @@ mod texts;
 use crate::looking::run;
 use bec_bytes::write_all_of;
 use bec_host::{HostSink, HostSource, hold_closed_streams, words};
+use explanations::{Listening, Recording, Run, limit_for, tell_run};
 use outcomes::status::{OUT_OF_MEMORY, STREAM_FAULT};
+use std::env;
 use std::process::ExitCode;
 
 fn main(rt: HostRuntime) -> ExitCode {
@@ -32,17 +35,28 @@ fn main(rt: HostRuntime) -> ExitCode {
     let Ok(words) = words(&rt) else {
         return ExitCode::from(OUT_OF_MEMORY);
     };
-    let Ok(mut input) = HostSource::new(rt.alloc(), rt.stdin()) else {
+    let is_silent = env::var(&rt, "BEC_EXPLAIN").is_ok_and(|value| value.as_str() == "0");
+    let Ok(input) = HostSource::new(rt.alloc(), rt.stdin()) else {
         return ExitCode::from(OUT_OF_MEMORY);
     };
-    let mut output = HostSink::new(rt.stdout());
+    let limit = if is_silent { 0 } else { limit_for(&words) };
+    let mut input = Recording::new(rt.alloc(), input, limit);
+    let mut output = Listening::new(rt.alloc(), HostSink::new(rt.stdout()));
     let mut errors = HostSink::new(rt.stderr());
     let (status, beside) = run(rt.alloc(), &words, &mut input, &mut output);
-    if beside.is_empty() {
-        return ExitCode::from(status);
+    if write_all_of(&mut errors, &beside).is_err() {
+        return ExitCode::from(STREAM_FAULT);
     }
-    match write_all_of(&mut errors, &beside) {
-        Ok(()) => ExitCode::from(status),
-        Err(_failed) => ExitCode::from(STREAM_FAULT),
+    if !is_silent {
+        let directory = env::var(&rt, "BEC_DIRECTORY").ok();
+        let run = Run {
+            words: &words,
+            directory: directory.as_ref(),
+            status,
+            read: input.kept(),
+            heard: output.heard(),
+        };
+        tell_run(rt.alloc(), &mut errors, &run);
     }
+    ExitCode::from(status)
 }

@@ -1,0 +1,41 @@
+-- A text in rows. A blank is the byte 32, an LF is 10, and `{` and `}` are 123 and 125.
+use Rattle.std.specs.Prelude.{ℕ, ◌+◌, Bool, true, false, ◌||◌, ◌==◌, nat_lt, List, [], ◌∷◌, ◌++◌, length, codes, if◌then◌else◌}
+
+-- the byte behind this one stands between braces
+abbrev pub is_inside : Bool → ℕ → Bool
+is_inside inside byte = if byte == 123 || byte == 125 then byte == 123 else inside
+
+-- a word with a byte more, or between braces with what that stands for
+abbrev pub with_byte : (ℕ → List ℕ) → Bool → List ℕ → ℕ → List ℕ
+with_byte value inside word byte =
+    if byte == 123 || byte == 125 then word
+    else if inside then word ++ value byte
+    else word ++ byte ∷ []
+
+-- the words of a text behind one that was begun; a blank ends one
+abbrev pub words_from : (ℕ → List ℕ) → Bool → List ℕ → List ℕ → List (List ℕ)
+words_from value inside word [] = word ∷ []
+words_from value inside word (byte ∷ text) =
+    if byte == 32 then word ∷ words_from value false [] text
+    else words_from value (is_inside inside byte) (with_byte value inside word byte) text
+
+-- the words of a text, in which each letter between braces is what it stands for
+abbrev pub words_of : (ℕ → List ℕ) → List ℕ → List (List ℕ)
+words_of value text = words_from value false [] text
+
+-- a row and a word that are too long together
+abbrev pub is_too_long : List ℕ → List ℕ → Bool
+is_too_long row word = nat_lt 78 (length row + length word)
+
+-- the row that ends before a word, where one does
+abbrev pub ended : List ℕ → List ℕ → List ℕ
+ended row word = if is_too_long row word then row ++ 10 ∷ [] else []
+
+-- the row that a word is in
+abbrev pub begun : List ℕ → List ℕ → List ℕ
+begun row word = (if is_too_long row word then codes "    " else row) ++ 32 ∷ word
+
+-- Words in rows, of which the first was begun. A word goes into the row where it has room.
+abbrev pub laid : List ℕ → List (List ℕ) → List ℕ
+laid row [] = row ++ 10 ∷ []
+laid row (word ∷ words) = ended row word ++ laid (begun row word) words

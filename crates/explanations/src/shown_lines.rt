@@ -1,0 +1,152 @@
+//! Lines of a text as they are shown.
+
+ghost use Rattle.std.specs.Prelude.{◌≤◌, length};
+
+use crate::numbers::push_number;
+use crate::text_lines::cut_at;
+use std::alloc::{AllocError, Global};
+
+/// A run of at least so many digits is an id, of which the first ones are shown.
+const ID_DIGITS: usize = 64;
+/// How many digits of an id are shown.
+const SHOWN_DIGITS: usize = 4;
+/// Where more bytes than this stand before the column, the line is shown from the last ones before it.
+const LONG_FRONT: usize = 60;
+/// How many bytes before the column are shown then.
+const SHORT_FRONT: usize = 41;
+/// How many bytes of a line are shown.
+const SHOWN_BYTES: usize = 68;
+
+/// Adds a line of a text behind its number, and where a column is given, a line with a caret below it.
+pub(crate) fn push_shown(
+    alloc: Global,
+    out: &mut Vec<u8>,
+    number: u64,
+    line: &[u8],
+    column: Option<u64>,
+) -> Result<(), AllocError> {
+    let (front, back) = cut_at(without_cr(line), column);
+    let mut shown = Vec::new(alloc);
+    push_short(&mut shown, front)?;
+    let begin = begin_of(shown.len());
+    let caret = Vec::from_slice(alloc, behind(shown.as_slice(), begin))?;
+    push_short(&mut shown, back)?;
+    push_padded(alloc, out, number)?;
+    push_visible(out, front_of(behind(shown.as_slice(), begin), SHOWN_BYTES))?;
+    out.push(b'\n')?;
+    if column.is_some() {
+        push_caret(out, caret.as_slice())?;
+    }
+    Ok(())
+}
+
+/// A line without a CR at its end.
+fn without_cr(line: &[u8]) -> &[u8] {
+    match line {
+        [front @ .., b'\r'] => front,
+        _ => line,
+    }
+}
+
+/// From which byte on a line is shown that has so many before the column.
+fn begin_of(front: usize) -> usize {
+    if front > LONG_FRONT {
+        front - SHORT_FRONT
+    } else {
+        0
+    }
+}
+
+/// The bytes from a place on.
+fn behind(bytes: &[u8], place: usize) -> &[u8] {
+    &bytes[place.min(bytes.len())..]
+}
+
+/// So many bytes of the front.
+fn front_of(bytes: &[u8], count: usize) -> &[u8] {
+    &bytes[..count.min(bytes.len())]
+}
+
+/// Adds bytes, and of each id in them only the first digits and `..`.
+fn push_short(out: &mut Vec<u8>, bytes: &[u8]) -> Result<(), AllocError> {
+    let mut rest = bytes;
+    while !rest.is_empty() {
+        let (run, after) = rest.split_at(digits_at_front(rest));
+        push_run(out, run)?;
+        rest = match after {
+            [] => after,
+            [byte, later @ ..] => {
+                out.push(*byte)?;
+                later
+            }
+        };
+    }
+    Ok(())
+}
+
+/// How many digits of ids stand at the front.
+fn digits_at_front(bytes: &[u8]) -> usize
+    ensures { result ≤ length bytes.now }
+{
+    bytes
+        .iter()
+        .position(|byte| !matches!(*byte, b'0'..=b'9' | b'a'..=b'f'))
+        .unwrap_or(bytes.len())
+}
+
+/// Adds digits, or of an id the first ones.
+fn push_run(out: &mut Vec<u8>, digits: &[u8]) -> Result<(), AllocError> {
+    if digits.len() < ID_DIGITS {
+        return out.extend_from_slice(digits);
+    }
+    out.extend_from_slice(front_of(digits, SHOWN_DIGITS))?;
+    out.extend_from_slice(b"..")
+}
+
+/// Adds a number in at least five columns, and a line behind it.
+fn push_padded(alloc: Global, out: &mut Vec<u8>, number: u64) -> Result<(), AllocError> {
+    let mut digits = Vec::new(alloc);
+    push_number(&mut digits, number)?;
+    out.extend_from_slice(behind(b"     ", digits.len()))?;
+    out.extend_from_slice(digits.as_slice())?;
+    out.extend_from_slice(b" | ")
+}
+
+/// Adds bytes, without those that end a character which does not begin there, and a `?` for each that controls a terminal.
+fn push_visible(out: &mut Vec<u8>, bytes: &[u8]) -> Result<(), AllocError> {
+    let mut begun = false;
+    for byte in bytes {
+        if begun || !is_within_character(*byte) {
+            begun = true;
+            out.push(visible(*byte))?;
+        }
+    }
+    Ok(())
+}
+
+/// Whether a byte of UTF-8 is none that a character begins with.
+fn is_within_character(byte: u8) -> bool {
+    matches!(byte, 0x80..=0xbf)
+}
+
+/// A byte as it is shown.
+fn visible(byte: u8) -> u8 {
+    match byte {
+        b'\t' => byte,
+        0..=0x1f | 0x7f => b'?',
+        _ => byte,
+    }
+}
+
+/// Adds a line with a caret behind so many characters.
+fn push_caret(out: &mut Vec<u8>, front: &[u8]) -> Result<(), AllocError> {
+    out.extend_from_slice(b"      | ")?;
+    for byte in front {
+        if *byte == b'\t' {
+            out.push(b'\t')?;
+        } else if !is_within_character(*byte) {
+            out.push(b' ')?;
+        }
+    }
+    out.extend_from_slice(b"^\n")
+}
