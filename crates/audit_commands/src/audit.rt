@@ -7,6 +7,7 @@ ghost use Rattle.outcomes.specs.StoreAnswers.{Printing, ReadsStore};
 ghost use Rattle.key_audit.specs.Entries.{AreFound};
 ghost use Rattle.key_audit.specs.declared.doubled.Doubled.{Doubled as Entry};
 ghost use Rattle.audit_text.specs.Texts.{audit_text};
+ghost use Rattle.store_directory.specs.Standing.{Stands};
 ghost use Rattle.audit_commands.specs.Audits.{ShowsDoubled};
 
 use audit_text::entries_text;
@@ -14,11 +15,9 @@ use bec_disk::{Disk, Shelf};
 use key_audit::find;
 use outcomes::Refusal;
 use record_check::Verifier;
-use replica::Replica;
-use row_check::Luhn;
 use schema_text::one_schema;
 use std::alloc::{AllocError, Global};
-use store_directory::{Needs, close, each_stands, open};
+use store_directory::{Needs, Opened, close, each_stands, open};
 
 /// The one-time keys that signed two messages in the store of a directory, as they are printed.
 pub fn audit_in<V: Verifier, H: Shelf>(
@@ -33,18 +32,20 @@ pub fn audit_in<V: Verifier, H: Shelf>(
 {
     one_schema();
     let opened = open(verifier, alloc, shelf, dir, Needs::Store)?;
-    each_stands(&opened.store.replica);
-    let text = audited(alloc, &opened.store.replica);
+    let text = audited(alloc, &opened);
     close(shelf, dir, opened);
     Ok(text?)
 }
 
-/// The one-time keys that signed two messages among the updates of a store, as they are printed.
-fn audited<D: Disk>(alloc: Global, replica: &Replica<D, Luhn, Luhn>) -> Result<Vec<u8>, AllocError>
-    ensures { IfOk result (λ text. (entries : List Entry)
-        × AreFound replica.now.history.members entries
+/// The one-time keys that signed two messages among the updates of a store that is open, as they are printed.
+fn audited<D: Disk>(alloc: Global, opened: &Opened<D>) -> Result<Vec<u8>, AllocError>
+    ensures stands { Stands opened.now.store.replica }
+    ensures found { IfOk result (λ text. (entries : List Entry)
+        × AreFound opened.now.store.replica.history.members entries
         × (text.items ≡ audit_text entries)) }
 {
+    let replica = &opened.store.replica;
+    each_stands(replica);
     let entries = find(alloc, replica)?;
     let text = entries_text(alloc, &entries)?;
     Ok(text)
