@@ -10,11 +10,12 @@ ghost use Rattle.schema.specs.Columns.{all_fit};
 ghost use Rattle.table_model.specs.Visible.{table_of, bare_rules};
 ghost use Rattle.confluence_checker.specs.Forms.{AllFit};
 
+use crate::checker::Checker;
 use crate::inserted_row::InsertedRow;
 use crate::reasons::has_match;
 use crate::references::has_row;
 use row_check::{Checks, Native, Relation};
-use schema::{CheckRule, Column, MatchRule, Schema};
+use schema::{CheckRule, Column, MatchRule};
 use std::alloc::{AllocError, Global};
 use update_model::Value;
 
@@ -70,47 +71,49 @@ fn check_is_true<L: Relation, C: Checks<L>>(
 
 /// Whether a `CHECK` is true of a row, which fits, where it is of the table with this number.
 fn check_holds_at<L: Relation, C: Checks<L>>(
-    alloc: Global,
-    schema: &Schema,
-    native: &Native<L, C>,
+    checker: &Checker<'_, L, C>,
     row: &InsertedRow,
     table: u8,
     columns: &[Column],
     check: &CheckRule,
 ) -> Result<bool, AllocError>
-    requires fits { IsTrue (all_fit (table_of (bare_rules schema.now.tables) row.now.table).columns row.now.values) }
-    requires columns { columns.now ≡ (table_of (bare_rules schema.now.tables) table).columns }
+    requires fits { IsTrue (all_fit (table_of (bare_rules checker.now.schema.now.tables) row.now.table).columns row.now.values) }
+    requires columns { columns.now ≡ (table_of (bare_rules checker.now.schema.now.tables) table).columns }
     requires sound { IsSoundCheck columns.now check.now }
     ensures { IfOk result (λ answer. answer ≡ (not (in_table table row.now) || holds_tree L.answer row.now.values check.now.tree)) }
 {
     if row.table != table {
         return Ok(true);
     }
-    check_is_true(alloc, native, columns, check, row.values.as_slice())
+    check_is_true(
+        checker.alloc,
+        checker.native,
+        columns,
+        check,
+        row.values.as_slice(),
+    )
 }
 
 /// Whether a `CHECK` is true of each row of a table. All rows fit.
 pub(crate) fn check_holds<L: Relation, C: Checks<L>>(
-    alloc: Global,
-    schema: &Schema,
-    native: &Native<L, C>,
+    checker: &Checker<'_, L, C>,
     rows: &[InsertedRow],
     table: u8,
     columns: &[Column],
     check: &CheckRule,
 ) -> Result<bool, AllocError>
-    requires fits { AllFit schema.now.tables rows.now }
-    requires columns { columns.now ≡ (table_of (bare_rules schema.now.tables) table).columns }
+    requires fits { AllFit checker.now.schema.now.tables rows.now }
+    requires columns { columns.now ≡ (table_of (bare_rules checker.now.schema.now.tables) table).columns }
     requires sound { IsSoundCheck columns.now check.now }
     ensures { IfOk result (λ answer. answer ≡ each_row rows.now table (λ row. holds_tree L.answer row.values check.now.tree)) }
 {
     match rows {
         [] => Ok(true),
         [row, rows @ ..] => {
-            if !check_holds_at(alloc, schema, native, row, table, columns, check)? {
+            if !check_holds_at(checker, row, table, columns, check)? {
                 return Ok(false);
             }
-            check_holds(alloc, schema, native, rows, table, columns, check)
+            check_holds(checker, rows, table, columns, check)
         }
     }
 }

@@ -8,6 +8,7 @@ ghost use Rattle.confluence_checker.specs.Forms.{IsInvariantOf, breaks_by, found
 ghost use Rattle.table_model.specs.Visible.{rules_with};
 
 use crate::ancestors::effects;
+use crate::checker::Checker;
 use crate::found::Found;
 use crate::ids::passes_closed;
 use crate::judging::judged;
@@ -42,17 +43,16 @@ fn push_all(alloc: Global, nodes: &mut Vec<Node>, more: &[Node]) -> Result<(), A
 
 /// Whether the invariants before a wanted one hold in a closed list in the order of arrival, and whether that one does.
 fn found_in<L: Relation, C: Checks<L>>(
-    alloc: Global,
-    schema: &Schema,
-    native: &Native<L, C>,
+    checker: &Checker<'_, L, C>,
     nodes: &[Node],
     which: &Invariant,
 ) -> Result<Found, AllocError>
     requires { IsClosed (reverse nodes.now) }
-    ensures { IfOk result (λ found. let rules = rules_with L.answer schema.now.tables in
+    ensures { IfOk result (λ found. let rules = rules_with L.answer checker.now.schema.now.tables in
         found ≡ found_among rules (shown_in rules (reverse nodes.now)) which.now (invariants_of rules) start) }
 {
     shown_rows_fit();
+    let (alloc, schema, native) = (checker.alloc, checker.schema, checker.native);
     let _tables = schema.tables(); // what every schema keeps
     let js = judged(alloc, schema, native, nodes)?;
     let did = effects(alloc, js.as_slice())?;
@@ -91,24 +91,22 @@ fn is_shown(left: &Found, right: &Found, both: &Found) -> bool
 
 /// Whether both sides and their union, each in the order of arrival, confirm that merging breaks an invariant.
 fn confirm<L: Relation, C: Checks<L>>(
-    alloc: Global,
-    schema: &Schema,
-    native: &Native<L, C>,
+    checker: &Checker<'_, L, C>,
     which: &Invariant,
     left: &[Node],
     right: &[Node],
     both: &[Node],
 ) -> Result<bool, AllocError>
-    ensures { IfOk result (λ answer. let rules = rules_with L.answer schema.now.tables in
+    ensures { IfOk result (λ answer. let rules = rules_with L.answer checker.now.schema.now.tables in
         (earlier later : List Declared) (declared : Declared) → invariants_of rules ≡ earlier ++ declared ∷ later → declared.which ≡ which.now
         → answer ≡ breaks_by rules (claims_of earlier) declared.claim left.now right.now both.now) }
 {
     if !are_closed(left, right, both) {
         return Ok(false);
     }
-    let on_left = found_in(alloc, schema, native, left, which)?;
-    let on_right = found_in(alloc, schema, native, right, which)?;
-    let on_both = found_in(alloc, schema, native, both, which)?;
+    let on_left = found_in(checker, left, which)?;
+    let on_right = found_in(checker, right, which)?;
+    let on_both = found_in(checker, both, which)?;
     Ok(is_shown(&on_left, &on_right, &on_both))
 }
 
@@ -134,9 +132,11 @@ pub fn confirms<L: Relation, C: Checks<L>>(
     let right = one_then(alloc, base, example.right.as_slice())?;
     let both = one_then(alloc, left.as_slice(), example.right.as_slice())?;
     let answer = confirm(
-        alloc,
-        schema,
-        native,
+        &Checker {
+            alloc,
+            schema,
+            native,
+        },
         which,
         left.as_slice(),
         right.as_slice(),

@@ -13,6 +13,7 @@
 #![tactic(auto)]
 
 mod ancestors;
+mod checker;
 mod claims;
 mod confirming;
 mod effects;

@@ -8,6 +8,7 @@ ghost use Rattle.schema.specs.Sound.{IsSoundCheck};
 ghost use Rattle.table_model.specs.Visible.{Rules, table_of, rules_with, bare_rules};
 ghost use Rattle.confluence_checker.specs.Forms.{AllFit, found_among, is_same, kind_number, start, unique_kind};
 
+use crate::checker::Checker;
 use crate::claims::{check_holds, matches_hold, refers_holds};
 use crate::found::Found;
 use crate::inserted_row::InsertedRow;
@@ -17,6 +18,17 @@ use row_check::{Checks, Native, Relation};
 use schema::{CheckRule, Column, MatchRule, Schema, TableDef, UniqueRule};
 use std::alloc::{AllocError, Global};
 use table_model::{Invariant, InvariantKind};
+
+/// A search for an invariant of a schema.
+#[derive(Drop)]
+struct Search<'a, L: Relation, C> {
+    /// What it checks by.
+    checker: Checker<'a, L, C>,
+    /// The rows that are shown.
+    rows: &'a [InsertedRow],
+    /// The invariant that is wanted.
+    which: &'a Invariant,
+}
 
 /// The number of a kind.
 fn kind_number(kind: InvariantKind) -> u8
@@ -129,50 +141,46 @@ fn among_references(
 
 /// Looks at a `CHECK` of a table.
 fn at_check<L: Relation, C: Checks<L>>(
-    alloc: Global,
-    schema: &Schema,
-    native: &Native<L, C>,
-    rows: &[InsertedRow],
-    which: &Invariant,
+    search: &Search<'_, L, C>,
     number: u8,
     place: usize,
     columns: &[Column],
     check: &CheckRule,
     before: Found,
 ) -> Result<Found, AllocError>
-    requires fits { AllFit schema.now.tables rows.now }
-    requires columns { columns.now ≡ (table_of (bare_rules schema.now.tables) number).columns }
+    requires fits { AllFit search.now.checker.schema.now.tables search.now.rows.now }
+    requires columns { columns.now ≡ (table_of (bare_rules search.now.checker.schema.now.tables) number).columns }
     requires sound { IsSoundCheck columns.now check.now }
-    ensures { IfOk result (λ found. found ≡ found_among (rules_with L.answer schema.now.tables) rows.now which.now (check_declared number place check.now) before) }
+    ensures { IfOk result (λ found. found ≡ found_among (rules_with L.answer search.now.checker.schema.now.tables) search.now.rows.now search.now.which.now (check_declared number place check.now) before) }
 {
-    let holds = check_holds(alloc, schema, native, rows, number, columns, check)?;
-    let wanted = is_at(which, InvariantKind::Check, number, place, check.line);
+    let holds = check_holds(&search.checker, search.rows, number, columns, check)?;
+    let wanted = is_at(
+        search.which,
+        InvariantKind::Check,
+        number,
+        place,
+        check.line,
+    );
     Ok(before.seen(wanted, holds))
 }
 
 /// Goes through the `CHECK` lines of a table.
 fn among_checks<L: Relation, C: Checks<L>>(
-    alloc: Global,
-    schema: &Schema,
-    native: &Native<L, C>,
-    rows: &[InsertedRow],
-    which: &Invariant,
+    search: &Search<'_, L, C>,
     number: u8,
     table: &TableDef,
     before: Found,
 ) -> Result<Found, AllocError>
-    requires fits { AllFit schema.now.tables rows.now }
-    requires table { table.now ≡ table_of (bare_rules schema.now.tables) number }
+    requires fits { AllFit search.now.checker.schema.now.tables search.now.rows.now }
+    requires table { table.now ≡ table_of (bare_rules search.now.checker.schema.now.tables) number }
     requires sound { AllByRecursion (IsSoundCheck table.now.columns) table.now.checks }
-    ensures { IfOk result (λ found. found ≡ found_among (rules_with L.answer schema.now.tables) rows.now which.now (each_from (check_declared number) 0 table.now.checks) before) }
+    ensures { IfOk result (λ found. found ≡ found_among (rules_with L.answer search.now.checker.schema.now.tables) search.now.rows.now search.now.which.now (each_from (check_declared number) 0 table.now.checks) before) }
 {
     let columns = table.columns.as_slice();
     let checks = table.checks.as_slice();
     let mut found = before;
     for (place, check) in checks.iter().enumerate() {
-        found = at_check(
-            alloc, schema, native, rows, which, number, place, columns, check, found,
-        )?;
+        found = at_check(search, number, place, columns, check, found)?;
     }
     Ok(found)
 }
@@ -211,25 +219,22 @@ fn among_matches(
 
 /// Goes through the invariants of a table.
 fn in_table<L: Relation, C: Checks<L>>(
-    alloc: Global,
-    schema: &Schema,
-    native: &Native<L, C>,
-    rows: &[InsertedRow],
-    which: &Invariant,
+    search: &Search<'_, L, C>,
     number: u8,
     table: &TableDef,
     before: Found,
 ) -> Result<Found, AllocError>
-    requires fits { AllFit schema.now.tables rows.now }
-    requires table { table.now ≡ table_of (bare_rules schema.now.tables) number }
+    requires fits { AllFit search.now.checker.schema.now.tables search.now.rows.now }
+    requires table { table.now ≡ table_of (bare_rules search.now.checker.schema.now.tables) number }
     requires sound { AllByRecursion (IsSoundCheck table.now.columns) table.now.checks }
-    ensures { IfOk result (λ found. found ≡ found_among (rules_with L.answer schema.now.tables) rows.now which.now (table_declared number table.now) before) }
+    ensures { IfOk result (λ found. found ≡ found_among (rules_with L.answer search.now.checker.schema.now.tables) search.now.rows.now search.now.which.now (table_declared number table.now) before) }
 {
+    let (rows, which) = (search.rows, search.which);
     let lines = table.uniques.as_slice();
     let uniques = among_uniques(rows, which, number, table.kept, lines, before);
     let most = among_at_most(rows, which, number, table, uniques);
     let columns = among_references(rows, which, number, table.columns.as_slice(), most);
-    let checks = among_checks(alloc, schema, native, rows, which, number, table, columns)?;
+    let checks = among_checks(search, number, table, columns)?;
     let matches = among_matches(rows, which, number, table.matches.as_slice(), checks);
     Ok(matches)
 }
@@ -245,10 +250,19 @@ pub(crate) fn found<L: Relation, C: Checks<L>>(
     requires { AllFit schema.now.tables rows.now }
     ensures { IfOk result (λ found. found ≡ found_among (rules_with L.answer schema.now.tables) rows.now which.now (invariants_of (rules_with L.answer schema.now.tables)) start) }
 {
+    let search = Search {
+        checker: Checker {
+            alloc,
+            schema,
+            native,
+        },
+        rows,
+        which,
+    };
     let mut found = Found::start();
     for number in 0..schema.tables() {
         let table = schema.table(number);
-        found = in_table(alloc, schema, native, rows, which, number, table, found)?;
+        found = in_table(&search, number, table, found)?;
     }
     Ok(found)
 }

@@ -7,6 +7,7 @@ ghost use Rattle.table_model.specs.Verdicts.{are_new, delete_reason, left_of, ve
 ghost use Rattle.table_model.specs.Visible.{rules_with, bare_rules};
 ghost use Rattle.confluence_checker.specs.Forms.{reason_against};
 
+use crate::checker::Checker;
 use crate::effects::{do_op, op_count, row_inserted};
 use crate::inserted_row::InsertedRow;
 use crate::limits::limits_hold;
@@ -36,9 +37,7 @@ fn reason_against_deletion(
 /// Why an operation with this number may not be done, where these rows are visible on the ancestors and earlier
 /// operations did this.
 fn reason_against<L: Relation, C: Checks<L>>(
-    alloc: Global,
-    schema: &Schema,
-    native: &Native<L, C>,
+    checker: &Checker<'_, L, C>,
     rows: &[InsertedRow],
     node: &Node,
     number: usize,
@@ -46,14 +45,21 @@ fn reason_against<L: Relation, C: Checks<L>>(
     op: &Op,
 ) -> Result<Option<u8>, AllocError>
     requires { number < 2 ^ 16 }
-    ensures { IfOk result (λ reason. reason ≡ reason_against (rules_with L.answer schema.now.tables) rows.now node.now number did.now op.now) }
+    ensures { IfOk result (λ reason. reason ≡ reason_against (rules_with L.answer checker.now.schema.now.tables) rows.now node.now number did.now op.now) }
 {
     match op {
         Op::Insert { table, values } => {
-            let row = row_inserted(alloc, node, number, *table, values)?;
-            insert_reason(alloc, schema, native, did.inserted(), rows, &row)
+            let row = row_inserted(checker.alloc, node, number, *table, values)?;
+            insert_reason(
+                checker.alloc,
+                checker.schema,
+                checker.native,
+                did.inserted(),
+                rows,
+                &row,
+            )
         }
-        Op::Delete { row } => Ok(reason_against_deletion(schema, rows, node, did, row)),
+        Op::Delete { row } => Ok(reason_against_deletion(checker.schema, rows, node, did, row)),
     }
 }
 
@@ -110,18 +116,14 @@ pub(crate) fn verdict_on<L: Relation, C: Checks<L>>(
     let count = op_count(node);
     let rows = visible_rows(alloc, schema, past)?;
     let ops = node.ops.as_slice();
+    let checker = Checker {
+        alloc,
+        schema,
+        native,
+    };
     let mut did = RowEffects::nothing(alloc);
     for (number, op) in ops.iter().enumerate() {
-        if let Some(reason) = reason_against(
-            alloc,
-            schema,
-            native,
-            rows.as_slice(),
-            node,
-            number,
-            &did,
-            op,
-        )? {
+        if let Some(reason) = reason_against(&checker, rows.as_slice(), node, number, &did, op)? {
             return Ok(Verdict::Void {
                 reason,
                 operation: number as u16,

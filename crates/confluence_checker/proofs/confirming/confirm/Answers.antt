@@ -15,5 +15,5 @@ found_in-requires-3-after_bounds g c κs within = (closed_sides c.args.left.now 
 pub returns : goal.returns
 returns g c = λ earlier later declared split same.
     c.is_shown.ensures
-    ∙ breaks_found (rules_with g.L.Relation.answer c.args.schema.now.tables) c.args.which.now earlier later declared c.args.left.now c.args.right.now c.args.both.now c.in_ok-on_left.on_left c.in_ok-on_right.on_right
+    ∙ breaks_found (rules_with g.L.Relation.answer c.args.checker.now.schema.now.tables) c.args.which.now earlier later declared c.args.left.now c.args.right.now c.args.both.now c.in_ok-on_left.on_left c.in_ok-on_right.on_right
     c.in_ok-on_both.on_both split same (sym c.are_closed.ensures ∙ c.if-not-are_closed.false) c.in_ok-on_left.ensures c.in_ok-on_right.ensures c.in_ok-on_both.ensures

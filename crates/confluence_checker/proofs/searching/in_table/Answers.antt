@@ -10,9 +10,9 @@ use Rattle.confluence_checker.proofs.searching.in_table.Goals as goal
 
 pub returns : goal.returns
 returns g c =
-    let r = rules_with g.L.Relation.answer c.args.schema.now.tables in
-    let rows = c.args.rows.now in
-    let which = c.args.which.now in
+    let r = rules_with g.L.Relation.answer c.args.search.now.checker.schema.now.tables in
+    let rows = c.args.search.now.rows.now in
+    let which = c.args.search.now.which.now in
     let number = c.args.number in
     let table = c.args.table.now in
     found_table r rows which (each_from (unique_declared table.kept number) 0 table.uniques) (at_most_declared number table) (each_from (reference_declared number) 0 table.columns) (each_from (check_declared number) 0 table.checks)
