@@ -1,4 +1,5 @@
 pub mod Matching
 pub mod Rows
+pub mod Shown
 pub mod Table
 pub mod Values

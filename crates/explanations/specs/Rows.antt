@@ -1,5 +1,5 @@
 -- A text in rows. A blank is the byte 32, an LF is 10, and `{` and `}` are 123 and 125.
-use Rattle.std.specs.Prelude.{ℕ, ◌+◌, Bool, true, false, ◌||◌, ◌==◌, nat_lt, List, [], ◌∷◌, ◌++◌, length, codes, if◌then◌else◌}
+use Rattle.std.specs.Prelude.{ℕ, ◌+◌, Bool, false, ◌||◌, ◌==◌, nat_lt, List, [], ◌∷◌, ◌++◌, length, codes, if◌then◌else◌}
 
 -- the byte behind this one stands between braces
 abbrev pub is_inside : Bool → ℕ → Bool

@@ -1,6 +1,7 @@
 //! Lines of a text as they are shown.
 
-ghost use Rattle.std.specs.Prelude.{◌≤◌, length};
+ghost use Rattle.std.specs.Prelude.{◌≡◌, ◌≤◌, ◌++◌, length, OnOk};
+ghost use Rattle.explanations.specs.Shown.{begin_of as shown_from, blank_below, caret_line, from_character as behind_parts, visible as as_shown, visible_of};
 
 use crate::numbers::push_number;
 use crate::text_lines::cut_at;
@@ -49,7 +50,9 @@ fn without_cr(line: &[u8]) -> &[u8] {
 }
 
 /// From which byte on a line is shown that has so many before the column.
-fn begin_of(front: usize) -> usize {
+fn begin_of(front: usize) -> usize
+    ensures { result ≡ shown_from front }
+{
     if front > LONG_FRONT {
         front - SHORT_FRONT
     } else {
@@ -113,24 +116,31 @@ fn push_padded(alloc: Global, out: &mut Vec<u8>, number: u64) -> Result<(), Allo
 }
 
 /// Adds bytes, without those that end a character which does not begin there, and a `?` for each that controls a terminal.
-fn push_visible(out: &mut Vec<u8>, bytes: &[u8]) -> Result<(), AllocError> {
-    let mut begun = false;
-    for byte in bytes {
-        if begun || !is_within_character(*byte) {
-            begun = true;
-            out.push(visible(*byte))?;
-        }
+fn push_visible(out: &mut Vec<u8>, bytes: &[u8]) -> Result<(), AllocError>
+    ensures { OnOk result (out.new.items ≡ out.old.items ++ visible_of bytes.now) }
+{
+    let whole = from_character(bytes);
+    for byte in whole {
+        out.push(visible(*byte))?;
     }
     Ok(())
 }
 
-/// Whether a byte of UTF-8 is none that a character begins with.
-fn is_within_character(byte: u8) -> bool {
-    matches!(byte, 0x80..=0xbf)
+/// The bytes from the first on that a character begins with.
+fn from_character(bytes: &[u8]) -> &[u8]
+    ensures { result.now ≡ behind_parts bytes.now }
+{
+    let mut rest = bytes;
+    while let [0x80..=0xbf, later @ ..] = rest {
+        rest = later;
+    }
+    rest
 }
 
 /// A byte as it is shown.
-fn visible(byte: u8) -> u8 {
+fn visible(byte: u8) -> u8
+    ensures { result ≡ as_shown byte }
+{
     match byte {
         b'\t' => byte,
         0..=0x1f | 0x7f => b'?',
@@ -139,14 +149,23 @@ fn visible(byte: u8) -> u8 {
 }
 
 /// Adds a line with a caret behind so many characters.
-fn push_caret(out: &mut Vec<u8>, front: &[u8]) -> Result<(), AllocError> {
+fn push_caret(out: &mut Vec<u8>, front: &[u8]) -> Result<(), AllocError>
+    ensures { OnOk result (out.new.items ≡ out.old.items ++ caret_line front.now) }
+{
     out.extend_from_slice(b"      | ")?;
     for byte in front {
-        if *byte == b'\t' {
-            out.push(b'\t')?;
-        } else if !is_within_character(*byte) {
-            out.push(b' ')?;
-        }
+        push_below(out, *byte)?;
     }
     out.extend_from_slice(b"^\n")
+}
+
+/// Adds what stands below a byte before the caret.
+fn push_below(out: &mut Vec<u8>, byte: u8) -> Result<(), AllocError>
+    ensures { OnOk result (out.new.items ≡ out.old.items ++ blank_below byte) }
+{
+    match byte {
+        b'\t' => out.extend_from_slice(b"\t"),
+        0x80..=0xbf => Ok(()),
+        _ => out.extend_from_slice(b" "),
+    }
 }

@@ -1,4 +1,4 @@
-use Rattle.std.proofs.Common.{◌≡◌, ◌∙◌, ℕ, List, [], ◌∷◌, ◌++◌, sym, ap, rules}
+use Rattle.std.proofs.Common.{◌≡◌, ◌∙◌, ◌++◌, ap, rules}
 use Rattle.std.specs.Prelude.{codes}
 use Rattle.explanations.specs.Table.{entry_of, or_entry}
 use Rattle.explanations.proofs.looking_up.entry_for.Goals as goal

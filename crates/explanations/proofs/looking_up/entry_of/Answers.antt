@@ -1,4 +1,4 @@
-use Rattle.std.proofs.Common.{◌≡◌, ◌∙◌, ℕ, List, [], ◌∷◌, sym, ap, rules}
+use Rattle.std.proofs.Common.{◌≡◌, ◌∙◌, [], ◌∷◌, sym, rules}
 use Rattle.text_words.specs.Lines.{lines_of}
 use Rattle.explanations.proofs.Tables.{no_entry, key_alone}
 use Rattle.explanations.proofs.looking_up.entry_of.Goals as goal
