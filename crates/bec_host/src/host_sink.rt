@@ -5,7 +5,7 @@ ghost use Rattle.bec_bytes.specs.Causes.{HasCause, faults_after};
 ghost use Rattle.bec_host.specs.Streams.{HostStream, WritesFront};
 
 use bec_bytes::{Counted, Failed, Sink};
-use std::io::{ErrorKind, Write};
+use std::io::{Error, ErrorKind, Write};
 use std::marker::Model;
 
 /// A sink over a writer of std, as the standard output. It keeps nothing back: what a `put` took has
@@ -14,6 +14,7 @@ use std::marker::Model;
 pub struct HostSink<W: Write> {
     writer: W,
     faults: u64,
+    has_no_reader: bool,
 }
 
 impl<W: Write> Model for HostSink<W> {
@@ -27,7 +28,16 @@ impl<W: Write> HostSink<W> {
     pub fn new(writer: W) -> HostSink<W>
         ensures { result ≡ record { bytes = W.contents writer; faults = 0 } }
     {
-        HostSink { writer, faults: 0 }
+        HostSink {
+            writer,
+            faults: 0,
+            has_no_reader: false,
+        }
+    }
+
+    /// Whether a `put` failed since nobody reads any more what is written, as behind a pipe whose reader has ended.
+    pub fn has_no_reader(&self) -> bool {
+        self.has_no_reader
     }
 }
 
@@ -53,16 +63,37 @@ impl<W: Write> Sink for HostSink<W> {
         ensures wrote { IfOk result (λ n. Appends self.old.bytes self.new.bytes (take n bytes.now)) }
         ensures front { OnErr result (WritesFront self.old.bytes self.new.bytes bytes.now) }
     {
-        let put = write_flushed(&mut self.writer, bytes);
-        if put.is_err() {
-            self.faults = self.faults.saturating_add(1);
+        match write_flushed(&mut self.writer, bytes) {
+            Ok(count) => Ok(count),
+            Err(loss) => {
+                self.faults = self.faults.saturating_add(1);
+                self.has_no_reader = loss == Loss::Reader;
+                Err(Failed)
+            }
         }
-        put
+    }
+}
+
+/// What was lost where a write failed.
+#[derive(Clone, Copy, PartialEq, Eq)]
+pub(crate) enum Loss {
+    /// Nobody reads any more what is written.
+    Reader,
+    /// Anything else.
+    Other,
+}
+
+/// What an error of a write means.
+fn loss_of(error: &Error) -> Loss {
+    if error.kind() == ErrorKind::BrokenPipe {
+        Loss::Reader
+    } else {
+        Loss::Other
     }
 }
 
 /// Writes a front of `bytes` and flushes it.
-pub(crate) fn write_flushed<W: Write>(writer: &mut W, bytes: &[u8]) -> Result<usize, Failed>
+pub(crate) fn write_flushed<W: Write>(writer: &mut W, bytes: &[u8]) -> Result<usize, Loss>
     ensures bound { WritesAtMost result bytes.now }
     ensures some { 0 < length bytes.now → IfOk result (λ n. 0 < n) }
     ensures wrote { IfOk result
@@ -73,7 +104,7 @@ pub(crate) fn write_flushed<W: Write>(writer: &mut W, bytes: &[u8]) -> Result<us
     let count = write_retrying(writer, bytes)?;
     flush_retrying(writer)?;
     if count == 0 && !bytes.is_empty() {
-        return Err(Failed);
+        return Err(Loss::Other);
     }
     Ok(count)
 }
@@ -83,13 +114,16 @@ pub(crate) fn write_all_flushed<W: Write>(writer: &mut W, bytes: &[u8]) -> Resul
     ensures wrote { OnOk result (Appends (W.contents writer.old) (W.contents writer.new) bytes.now) }
 {
     match writer.write_all(bytes) {
-        Ok(()) => flush_retrying(writer),
+        Ok(()) => match flush_retrying(writer) {
+            Ok(()) => Ok(()),
+            Err(_) => Err(Failed),
+        },
         Err(_) => Err(Failed),
     }
 }
 
 /// One write, made again where a signal interrupted it.
-fn write_retrying<W: Write>(writer: &mut W, bytes: &[u8]) -> Result<usize, Failed>
+fn write_retrying<W: Write>(writer: &mut W, bytes: &[u8]) -> Result<usize, Loss>
     ensures bound { WritesAtMost result bytes.now }
     ensures bytes { WriteAppends (W.contents writer.old) (W.contents writer.new) result bytes.now }
 {
@@ -98,16 +132,16 @@ fn write_retrying<W: Write>(writer: &mut W, bytes: &[u8]) -> Result<usize, Faile
             Ok(count) => return Ok(count),
             Err(error) => {
                 if error.kind() != ErrorKind::Interrupted {
-                    return Err(Failed);
+                    return Err(loss_of(&error));
                 }
             }
         }
     }
-    Err(Failed)
+    Err(Loss::Other)
 }
 
 /// One flush, made again where a signal interrupted it.
-fn flush_retrying<W: Write>(writer: &mut W) -> Result<(), Failed>
+fn flush_retrying<W: Write>(writer: &mut W) -> Result<(), Loss>
     ensures bytes { Keeps (W.contents writer.old) (W.contents writer.new) }
 {
     for _ in 0..u64::MAX {
@@ -115,10 +149,10 @@ fn flush_retrying<W: Write>(writer: &mut W) -> Result<(), Failed>
             Ok(()) => return Ok(()),
             Err(error) => {
                 if error.kind() != ErrorKind::Interrupted {
-                    return Err(Failed);
+                    return Err(loss_of(&error));
                 }
             }
         }
     }
-    Err(Failed)
+    Err(Loss::Other)
 }

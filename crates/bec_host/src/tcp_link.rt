@@ -99,7 +99,10 @@ impl<S: Read + Write> Sink for TcpLink<S> {
         ensures wrote { IfOk result (λ n. Appends self.old.gone self.new.gone (take n bytes.now)) }
         ensures front { OnErr result (WritesFront self.old.gone self.new.gone bytes.now) }
     {
-        let put = write_flushed(&mut self.stream, bytes);
+        let put = match write_flushed(&mut self.stream, bytes) {
+            Ok(count) => Ok(count),
+            Err(_) => Err(Failed),
+        };
         self.counted(put)
     }
 }
