@@ -1,7 +1,5 @@
-use Rattle.std.proofs.Common.{◌≡◌, ◌⊎◌, Err, ap, refl, subst}
+use Rattle.std.proofs.Common.{◌≡◌, ◌⊎◌, Err, refl, rules, subst}
 use Rattle.replica.specs.Replicas.{ReplicaState}
-use Rattle.store_directory.specs.Holding.{OpenData}
-use Rattle.store_directory.specs.Standing.{Stands}
 use Rattle.outcomes.specs.declared.refusal.Refusal.TheVariants.{Memory}
 use Rattle.outcomes.specs.OpenStores.{opened_store}
 use Rattle.node_commands.specs.Asking.{QueryAnswer}
@@ -9,9 +7,9 @@ use Rattle.node_commands.proofs.working.work_over.Goals as goal
 
 pub returns-in-Query : goal.returns-in-Query
 returns-in-Query g c =
-    let same : c.opened.inside.replica ≡ c.args.opened.now.store.replica = ap (λ (s : OpenData). s.replica) c.opened.view_is in
+    let same : c.opened.inside.0.0.replica ≡ c.args.opened.now.store.replica = search rules in
     rw c.in-Query.is (record {
-      stands = subst Stands same c.each_stands.ensures;
+      stands = search rules;
       answers = subst (λ (r : ReplicaState). QueryAnswer c.in-Query.text.now c.in-Query.json (opened_store r) c.asked.result ⊎ (c.asked.result ≡ Err Memory)) same c.asked.ensures;
       same_store = refl;
       same_key = refl;

@@ -40,7 +40,7 @@ returns g c =
     let is = store_opened before opened c.args.second.now c.in_ok-other.other.store c.in_ok-other.other.key c.in_ok-other.ensures.opens in
     let takes : TakesStore is_luhn before c.args.second.now o opened = subst (λ (w : OpenData). TakesStore is_luhn before c.args.second.now w opened) (sym c.other.view_is) is.0 in
     let e = c.merge_open-outcome.ensures in
-    let closes = store_closed closing (g.H.Shelf.state c.close.new.shelf) (g.H.Counted.faults c.merge_open-outcome.new.shelf) (g.H.Counted.faults c.close.new.shelf) c.args.second.now _ c.in_ok-other.other.key is.1 c.close.ensures in
+    let closes = store_closed closing (g.H.Shelf.state c.close.new.shelf) (g.H.Counted.faults c.merge_open-outcome.new.shelf) (g.H.Counted.faults c.close.new.shelf) c.args.second.now _ c.in_ok-other.other.key is.1 c.close.ensures.closes in
     beside_taken c.args.first.now c.args.second.now c.requires.differ before (g.H.Shelf.state c.close.new.shelf) (g.H.Counted.faults c.args.shelf.now) (g.H.Counted.faults c.close.new.shelf)
     c.args.one.now c.merge_open-outcome.new.one c.one_schema.ensures opened closing (g.H.Counted.faults c.open.new.shelf) (g.H.Counted.faults c.merge_open-outcome.new.shelf) o c.merge_open-outcome.new.other c.merge_open-outcome.result
     takes e closes.puts c.in_ok-other.ensures.later closes.later closes.log_faulted

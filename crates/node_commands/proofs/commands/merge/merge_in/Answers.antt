@@ -40,7 +40,7 @@ returns g c =
     let is = store_opened before opened c.args.first.now c.in_ok-one.one.store c.in_ok-one.one.key c.in_ok-one.ensures.opens in
     let takes : TakesStore is_luhn before c.args.first.now o opened = subst (λ (w : OpenData). TakesStore is_luhn before c.args.first.now w opened) (sym c.one.view_is) is.0 in
     let e = c.merge_beside-outcome.ensures in
-    let closes = store_closed closing (g.H.Shelf.state c.close.new.shelf) (g.H.Counted.faults c.merge_beside-outcome.new.shelf) (g.H.Counted.faults c.close.new.shelf) c.args.first.now _ c.in_ok-one.one.key is.1 c.close.ensures in
+    let closes = store_closed closing (g.H.Shelf.state c.close.new.shelf) (g.H.Counted.faults c.merge_beside-outcome.new.shelf) (g.H.Counted.faults c.close.new.shelf) c.args.first.now _ c.in_ok-one.one.key is.1 c.close.ensures.closes in
     merges_taken c.args.first.now c.args.second.now c.requires.differ before (g.H.Shelf.state c.close.new.shelf) (g.H.Counted.faults c.args.shelf.now) (g.H.Counted.faults c.close.new.shelf)
     c.one_schema.ensures opened closing (g.H.Counted.faults c.open.new.shelf) (g.H.Counted.faults c.merge_beside-outcome.new.shelf) o c.merge_beside-outcome.new.one c.merge_beside-outcome.result c.requires.home
     takes e closes.puts c.in_ok-one.ensures.later closes.later closes.log_faulted
