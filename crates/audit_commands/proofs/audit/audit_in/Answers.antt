@@ -28,16 +28,16 @@ pub returns-in_err-text : goal.returns-in_err-text
 returns-in_err-text g c =
     let p = err_from_is_err_and c.from_residual-in_err-text.result c.from_residual-in_err-text.ensures.1 in
     let o = c.in_ok-opened.opened in
-    let same : c.opened.inside.replica ≡ o.store.replica = ap (λ (s : OpenData). s.replica) c.opened.view_is in
+    let same : c.opened.inside.0.0.replica ≡ o.store.replica = ap (λ (s : OpenData). s.replica) c.opened.view_is in
     rw (p.1, p.2) (open_answered (Printing ShowsDoubled) c.args.dir.now (g.H.Shelf.state c.args.shelf.now) (g.H.Shelf.state c.close.new.shelf) (g.H.Counted.faults c.args.shelf.now) (g.H.Counted.faults c.close.new.shelf)
     c.one_schema.ensures (g.H.Shelf.state c.open.new.shelf) (g.H.Counted.faults c.open.new.shelf) o.store o.key (Err _) c.requires c.in_ok-opened.ensures.opens c.close.ensures.closes (subst Stands same c.each_stands.ensures) (inr refl))
 
 pub returns : goal.returns
 returns g c =
     let o = c.in_ok-opened.opened in
-    let same : c.opened.inside.replica ≡ o.store.replica = ap (λ (s : OpenData). s.replica) c.opened.view_is in
+    let same : c.opened.inside.0.0.replica ≡ o.store.replica = ap (λ (s : OpenData). s.replica) c.opened.view_is in
     let found = c.in_ok-text.ensures in
-    let here : ShowsDoubled (store_of c.opened.inside.replica) c.in_ok-text.field-0.items = (found.0, record { taken = c.each_stands.ensures.history_is.members; found = found.1 }, found.2) in
+    let here : ShowsDoubled (store_of c.opened.inside.0.0.replica) c.in_ok-text.field-0.items = (found.0, record { taken = c.each_stands.ensures.history_is.members; found = found.1 }, found.2) in
     open_answered (Printing ShowsDoubled) c.args.dir.now (g.H.Shelf.state c.args.shelf.now) (g.H.Shelf.state c.close.new.shelf) (g.H.Counted.faults c.args.shelf.now) (g.H.Counted.faults c.close.new.shelf)
     c.one_schema.ensures (g.H.Shelf.state c.open.new.shelf) (g.H.Counted.faults c.open.new.shelf) o.store o.key (Ok c.in_ok-text.field-0) c.requires c.in_ok-opened.ensures.opens c.close.ensures.closes (subst Stands same c.each_stands.ensures)
     (inl (c.in_ok-text.field-0.items, subst (λ (r : ReplicaState). ShowsDoubled (store_of r) c.in_ok-text.field-0.items) same here, refl))
