@@ -22,7 +22,7 @@ use Rattle.node_commands.specs.Signing.{Applies, ApplyAnswer, IsNoStop, JoinAnsw
 
 -- what it needs of the directory
 abbrev pub needs_of : Work → Needs
-needs_of (Apply note) = needed.StoreAndKey
+needs_of (Apply _) = needed.StoreAndKey
 needs_of Join = needed.StoreAndKey
 needs_of work = needed.Store
 

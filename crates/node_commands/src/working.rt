@@ -1,6 +1,6 @@
 //! What is done over one directory: it is opened, this is done, and it is closed.
 
-ghost use Rattle.std.specs.Prelude.{IsTrue};
+ghost use Rattle.std.specs.Prelude.{◌≡◌, IsTrue};
 ghost use Rattle.key_directory.specs.Parts.{IsHome};
 ghost use Rattle.outcomes.specs.Outside.{outside};
 ghost use Rattle.node_commands.specs.Works.{Does, DoesOpen, HasKeyFor, HasShortNote, beside, needs_of};

@@ -11,8 +11,8 @@ use Rattle.node_commands.proofs.working.work_in.Goals as goal
 pub open-requires-clause-key_in : goal.open-requires-clause-key_in
 open-requires-clause-key_in g c tells = key_is_in c.needs.result (g.H.Shelf.state c.args.shelf.now) c.args.directory.now (c.requires.home tells)
 
-pub work_over-requires-clause-key : goal.work_over-requires-clause-key
-work_over-requires-clause-key g c =
+pub work_over-outcome-requires-clause-key : goal.work_over-outcome-requires-clause-key
+work_over-outcome-requires-clause-key g c =
     subst (λ (n : Needs). HasKeyFor n c.in_ok-opened.opened.key) c.needs.ensures
     (key_for c.needs.result (g.H.Shelf.state c.args.shelf.now) (g.H.Shelf.state c.open.new.shelf) c.args.directory.now c.in_ok-opened.opened.store c.in_ok-opened.opened.key c.in_ok-opened.ensures.opens)
 
@@ -56,5 +56,5 @@ returns g c =
     let n = c.work_over-outcome.new.opened in
     work_done c.args.directory.now (outside g.S.Source.left g.S.Counted.faults g.H.Shelf.state g.H.Counted.faults g.R.Rng.stream c.args.input.now c.args.shelf.now c.args.random.now)
     (outside g.S.Source.left g.S.Counted.faults g.H.Shelf.state g.H.Counted.faults g.R.Rng.stream c.work_over-outcome.new.input c.close.new.shelf c.work_over-outcome.new.random) c.requires.home
-    mid (g.H.Counted.faults c.open.new.shelf) o.store o.key n.store n.key c.work_over-outcome.result c.one_schema.ensures c.in_ok-opened.ensures.later c.close.ensures c.args.work.now
+    mid (g.H.Counted.faults c.open.new.shelf) o.store o.key n.store n.key c.work_over-outcome.result c.one_schema.ensures c.in_ok-opened.ensures.later c.close.ensures.closes c.args.work.now
     (subst (λ (w : Needs). Opens w before c.args.directory.now o.store o.key mid) c.needs.ensures c.in_ok-opened.ensures.opens) c.work_over-outcome.ensures
