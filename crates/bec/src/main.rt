@@ -5,8 +5,7 @@
 use bec_host::{FileShelf, HashRng, HostSink, HostSource, TcpNet, hold_closed_streams, words};
 use bec_node::status::{OUT_OF_MEMORY, STREAM_FAULT};
 use bec_node::{Outside, run};
-use explanations::{Listening, Recording, Run, limit_for, tell_run};
-use std::env;
+use explained::{Listening, Recording, kept_bytes, tell};
 use std::process::ExitCode;
 use std::random::RandomSource;
 
@@ -23,7 +22,7 @@ fn main(rt: HostRuntime) -> ExitCode {
     let (Ok(words), Ok(files), Ok(sockets), Ok(input)) = (words(&rt), files, sockets, input) else {
         return ExitCode::from(OUT_OF_MEMORY);
     };
-    let limit = if is_silent(&rt) { 0 } else { limit_for(&words) };
+    let limit = kept_bytes(&rt, &words);
     let mut outside = Outside {
         shelf: FileShelf::new(files, rt.stderr()),
         random: HashRng::new(key),
@@ -32,27 +31,7 @@ fn main(rt: HostRuntime) -> ExitCode {
     let mut net = TcpNet::new(sockets, rt.stderr());
     let mut output = Listening::new(rt.alloc(), HostSink::new(rt.stdout()));
     let status = run(&rt, rt.alloc(), &words, &mut outside, &mut net, &mut output);
-    tell(&rt, &words, outside.input.kept(), output.heard(), status);
+    let mut errors = HostSink::new(rt.stderr());
+    tell(&rt, &mut errors, &words, status, &outside.input, &output);
     ExitCode::from(status)
-}
-
-/// Whether nothing is to be said of what a refusal means.
-fn is_silent(rt: &HostRuntime) -> bool {
-    env::var(rt, "BEC_EXPLAIN").is_ok_and(|value| value.as_str() == "0")
-}
-
-/// Says on standard error what a refusal means, of a run that read and printed this.
-fn tell(rt: &HostRuntime, words: &[String], read: &[u8], heard: &[u8], status: u8) {
-    if is_silent(rt) {
-        return;
-    }
-    let directory = env::var(rt, "BEC_DIRECTORY").ok();
-    let run = Run {
-        words,
-        directory: directory.as_ref(),
-        status,
-        read,
-        heard,
-    };
-    tell_run(rt.alloc(), &mut HostSink::new(rt.stderr()), &run);
 }

@@ -23,9 +23,8 @@ mod texts;
 use crate::looking::run;
 use bec_bytes::write_all_of;
 use bec_host::{HostSink, HostSource, hold_closed_streams, words};
-use explanations::{Listening, Recording, Run, limit_for, tell_run};
+use explained::{Listening, Recording, kept_bytes, tell};
 use outcomes::status::{OUT_OF_MEMORY, STREAM_FAULT};
-use std::env;
 use std::process::ExitCode;
 
 fn main(rt: HostRuntime) -> ExitCode {
@@ -35,28 +34,16 @@ fn main(rt: HostRuntime) -> ExitCode {
     let Ok(words) = words(&rt) else {
         return ExitCode::from(OUT_OF_MEMORY);
     };
-    let is_silent = env::var(&rt, "BEC_EXPLAIN").is_ok_and(|value| value.as_str() == "0");
     let Ok(input) = HostSource::new(rt.alloc(), rt.stdin()) else {
         return ExitCode::from(OUT_OF_MEMORY);
     };
-    let limit = if is_silent { 0 } else { limit_for(&words) };
-    let mut input = Recording::new(rt.alloc(), input, limit);
+    let mut input = Recording::new(rt.alloc(), input, kept_bytes(&rt, &words));
     let mut output = Listening::new(rt.alloc(), HostSink::new(rt.stdout()));
     let mut errors = HostSink::new(rt.stderr());
     let (status, beside) = run(rt.alloc(), &words, &mut input, &mut output);
     if write_all_of(&mut errors, &beside).is_err() {
         return ExitCode::from(STREAM_FAULT);
     }
-    if !is_silent {
-        let directory = env::var(&rt, "BEC_DIRECTORY").ok();
-        let run = Run {
-            words: &words,
-            directory: directory.as_ref(),
-            status,
-            read: input.kept(),
-            heard: output.heard(),
-        };
-        tell_run(rt.alloc(), &mut errors, &run);
-    }
+    tell(&rt, &mut errors, &words, status, &input, &output);
     ExitCode::from(status)
 }

@@ -3,7 +3,7 @@
 pub struct Asked<'a> {
     /// The first word, which names the command.
     pub command: &'a str,
-    /// The directory of the command.
+    /// The directory of the command, or either of two where one of them is meant.
     pub directory: &'a str,
     /// What else the command names: another directory, or an address.
     pub other: &'a str,

@@ -6,7 +6,7 @@ use crate::looking_up::entry_for;
 use crate::numbers::{number_at, push_number};
 use crate::refusals::REFUSALS;
 use crate::rows::push_rows;
-use crate::values::{Values, directory_text, help_text};
+use crate::values::{Values, help_text};
 use std::alloc::{AllocError, Global};
 
 /// What a line means that the program printed, and what to do, in rows that each end in an LF; nothing where the table has no
@@ -20,11 +20,10 @@ pub fn explain(alloc: Global, said: &[u8], asked: &Asked) -> Result<Vec<u8>, All
     let command = asked.command.as_bytes();
     if let Some((marks, text)) = entry_for(alloc, table, command, key.as_slice())? {
         let help = help_text(alloc, command)?;
-        let directory = directory_text(alloc, asked)?;
         let values = Values {
             marks,
             help: help.as_slice(),
-            directory: directory.as_slice(),
+            directory: asked.directory.as_bytes(),
             other: asked.other.as_bytes(),
         };
         push_rows(alloc, &mut out, front.as_slice(), text, &values)?;

@@ -22,6 +22,11 @@ impl<K: Sink> Listening<K> {
         }
     }
 
+    /// The other sink.
+    pub fn sink(&self) -> &K {
+        &self.sink
+    }
+
     /// The lines that were kept.
     pub fn heard(&self) -> &[u8] {
         self.lines.heard()

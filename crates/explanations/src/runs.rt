@@ -42,9 +42,10 @@ pub fn explain_run(alloc: Global, run: &Run) -> Result<Vec<u8>, AllocError> {
     }
     let mut text = Vec::new(alloc);
     push_text(&mut text, command, run)?;
+    let directory = directory_of(alloc, command, run)?;
     let asked = Asked {
         command,
-        directory: directory_of(run),
+        directory: directory.as_str(),
         other: word_at(run.words, 2),
         status: run.status,
         text: text.as_slice(),
@@ -91,11 +92,16 @@ fn is_done(line: &[u8]) -> bool {
         .is_some_and(|word| word == b"done".as_slice())
 }
 
-/// The directory that is meant.
-fn directory_of<'a>(run: &Run<'a>) -> &'a str {
+/// The directory that is meant: that which the caller names, or else that of the words, of which `merge` has two.
+fn directory_of(alloc: Global, command: &str, run: &Run) -> Result<String, AllocError> {
+    let first = word_at(run.words, 1);
     match run.directory {
-        Some(directory) => directory.as_str(),
-        None => word_at(run.words, 1),
+        Some(directory) => format!(in alloc; "{directory}"),
+        None if command == "merge" => {
+            let second = word_at(run.words, 2);
+            format!(in alloc; "{first} or {second}")
+        }
+        None => format!(in alloc; "{first}"),
     }
 }
 

@@ -3,7 +3,6 @@
 ghost use Rattle.std.specs.Prelude.{◌≡◌, ◌++◌, OnOk};
 ghost use Rattle.explanations.specs.Values.{known, value_of};
 
-use crate::asked::Asked;
 use crate::marks::Marks;
 use crate::numbers::push_number;
 use crate::words::is_command;
@@ -46,16 +45,6 @@ fn push_known(out: &mut Vec<u8>, number: Option<u64>) -> Result<(), AllocError>
         Some(number) => push_number(out, number),
         None => Ok(()),
     }
-}
-
-/// The directory of the command. Of `merge` either of two may be meant.
-pub(crate) fn directory_text(alloc: Global, asked: &Asked) -> Result<Vec<u8>, AllocError> {
-    let mut text = Vec::from_slice(alloc, asked.directory.as_bytes())?;
-    if asked.command == "merge" {
-        text.extend_from_slice(b" or ")?;
-        text.extend_from_slice(asked.other.as_bytes())?;
-    }
-    Ok(text)
 }
 
 /// How to get help on a command.

@@ -300,7 +300,7 @@ fn stores_and_peers(alloc: Global) -> Result<bool, AllocError> {
         "",
     );
     all = all && is_told(alloc, "! heads 1024", &asked, STORES_AND_PEERS_5)?;
-    let asked = asked_by("merge", "club", "lake", 8, "");
+    let asked = asked_by("merge", "club or lake", "lake", 8, "");
     all = all && is_told(alloc, "! bad store", &asked, STORES_AND_PEERS_6)?;
     Ok(all)
 }
