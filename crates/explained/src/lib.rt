@@ -27,21 +27,25 @@ pub fn kept_bytes(rt: &(impl std::rt::Env + AllocGlobal), words: &[String]) -> u
 
 /// Says what a run of these words means that ended with a status, as far as the sink takes it. Where nobody reads any more what
 /// the run prints, nothing is said: who has enough needs no words.
-pub fn tell<E: Write, S: Source, W: Write>(
+pub fn tell<'a, E: Write, S: Source, W: Write>(
     rt: &(impl std::rt::Env + AllocGlobal),
     errors: &mut HostSink<E>,
-    words: &[String],
+    words: &'a [String],
     status: u8,
-    input: &Recording<S>,
-    output: &Listening<HostSink<W>>,
+    input: &'a Recording<S>,
+    output: &'a Listening<HostSink<W>>,
 ) {
     if is_silent(rt) || output.sink().has_no_reader() {
         return;
     }
-    let directory = env::var(rt, "BEC_DIRECTORY").ok();
+    let named = env::var(rt, "BEC_DIRECTORY").ok();
+    let directory = match &named {
+        Some(directory) => directory.as_str(),
+        None => "",
+    };
     let run = Run {
         words,
-        directory: directory.as_ref(),
+        directory,
         status,
         read: input.kept(),
         heard: output.heard(),

@@ -13,8 +13,8 @@ use text_words::next_line;
 pub struct Run<'a> {
     /// The words of the command line.
     pub words: &'a [String],
-    /// The directory that is meant, where it is not the first that the words name.
-    pub directory: Option<&'a String>,
+    /// The directory that is meant, and empty where it is the first that the words name.
+    pub directory: &'a str,
     /// The exit status.
     pub status: u8,
     /// What was read.
@@ -95,14 +95,15 @@ fn is_done(line: &[u8]) -> bool {
 /// The directory that is meant: that which the caller names, or else that of the words, of which `merge` has two.
 fn directory_of(alloc: Global, command: &str, run: &Run) -> Result<String, AllocError> {
     let first = word_at(run.words, 1);
-    match run.directory {
-        Some(directory) => format!(in alloc; "{directory}"),
-        None if command == "merge" => {
-            let second = word_at(run.words, 2);
-            format!(in alloc; "{first} or {second}")
-        }
-        None => format!(in alloc; "{first}"),
+    let directory = run.directory;
+    if !directory.is_empty() {
+        return format!(in alloc; "{directory}");
     }
+    if command == "merge" {
+        let second = word_at(run.words, 2);
+        return format!(in alloc; "{first} or {second}");
+    }
+    format!(in alloc; "{first}")
 }
 
 /// Adds the text that a command read or asked.
