@@ -12,8 +12,8 @@ returns-in-Export g c = rw c.in-Export.is c.work_in-in-Export.ensures
 pub returns-in-Query : goal.returns-in-Query
 returns-in-Query g c = rw c.in-Query.is c.work_in-in-Query.ensures
 
-pub work_in-in-Apply-requires-clause-short : goal.work_in-in-Apply-requires-clause-short
-work_in-in-Apply-requires-clause-short g c = lent_short (λ note. note.now) c.in-Apply.note (rw c.in-Apply.is at c.requires.short)
+pub work_in-requires-in-Apply-clause-short : goal.work_in-requires-in-Apply-clause-short
+work_in-requires-in-Apply-clause-short g c = lent_short (λ note. note.now) c.in-Apply.note (rw c.in-Apply.is at c.requires.short)
 
 pub returns-in-Notes : goal.returns-in-Notes
 returns-in-Notes g c = rw c.in-Notes.is c.work_in-in-Notes.ensures
