@@ -1,4 +1,5 @@
-ghost use Rattle.std.specs.Prelude.{◌≡◌, ◌<◌, ◌≤◌, ◌==◌, ◌||◌, ◌↔◌, ◌++◌, ◌∷◌, [], ℕ, All, true, false, length, slice_index_or, take, IsTrue, IfOk, IfSome, IfNone, OnOk, OnErr};
+ghost use Rattle.std.specs.Prelude.{◌≡◌, ◌<◌, ◌≤◌, ◌==◌, ◌||◌, ◌↔◌, ◌++◌, ◌∷◌, [], ℕ, All, true, false, length};
+ghost use Rattle.std.specs.Prelude.{slice_index_or, take, IsTrue, IfOk, IfSome, IfNone, OnOk, OnErr};
 ghost use Rattle.std.specs.List.{list_any};
 ghost use Rattle.ancestry.specs.Chains.{chain_of, clock_of};
 ghost use Rattle.ancestry.specs.Named.{names};
@@ -38,7 +39,8 @@ impl Model for Ancestry {
 
     ghost view = { λ ancestry. ancestry.members.items };
 
-    ghost invariant = { λ ancestry. IsKept ancestry.members.items ancestry.clocks.items ancestry.namers.items ancestry.sizes };
+    ghost invariant = { λ ancestry. IsKept ancestry.members.items ancestry.clocks.items ancestry.namers.items
+        ancestry.sizes };
 }
 
 impl Ancestry {
@@ -202,10 +204,10 @@ impl Ancestry {
 
 /// The way up from a member to its descendants.
 impl Ancestry {
-    /// Whether the member at `a` is an ancestor of the one at `b`, which stands above it. The way up from `a` goes over those
-    /// that name it, those that name them, and so on, the lowest first. Of a member in a chain its number tells, and the way
-    /// ends there. None is gone over twice, since a member stands above those that it names. It gives up, and tells nothing,
-    /// where more looks would be needed than [`MAX_LOOKS`].
+    /// Whether the member at `a` is an ancestor of the one at `b`, which stands above it. The way up from `a` goes over
+    /// those that name it, those that name them, and so on, the lowest first. Of a member in a chain its number tells,
+    /// and the way ends there. None is gone over twice, since a member stands above those that it names. It gives up,
+    /// and tells nothing, where more looks would be needed than [`MAX_LOOKS`].
     fn climbs(&self, alloc: Global, a: u32, b: u32) -> Result<Option<bool>, AllocError>
         requires below { a < b }
         requires held { b < length self.now }
@@ -231,13 +233,14 @@ impl Ancestry {
         Ok(None)
     }
 
-    /// Looks at who names the member at `p`: whether one of them is the one at `b`, or known to be its ancestor. Of whom
-    /// nothing is known, it is pending.
+    /// Looks at who names the member at `p`: whether one of them is the one at `b`, or known to be its ancestor. Of
+    /// whom nothing is known, it is pending.
     fn look(&self, p: u32, b: u32, pending: &mut BTreeSet<u32>) -> Result<bool, AllocError>
         requires below { p < b }
         requires held { b < length self.now }
         ensures found { IfOk result (λ found. found ≡ true → is_ancestor self.now p b ≡ true) }
-        ensures goes_on { IfOk result (λ found. found ≡ false → list_any (λ k. is_ancestor self.now k b) pending.new.keys
+        ensures goes_on { IfOk result (λ found. found ≡ false
+            → list_any (λ k. is_ancestor self.now k b) pending.new.keys
             ≡ (list_any (λ k. is_ancestor self.now k b) pending.old.keys || is_ancestor self.now p b)) }
         ensures lower { IfOk result (λ found. All (λ k. k < b) pending.old.keys → All (λ k. k < b) pending.new.keys) }
     {
@@ -288,8 +291,8 @@ impl Ancestors for Ancestry {
     ghost ancestor = { is_ancestor };
 
     /// Positions that no member has are nobody's ancestors, and have none. For an `a` in a chain it takes constant time
-    /// and no memory. For one in no chain it goes up over the descendants of `a` that are in no chain, and where these are
-    /// many, it sweeps what lies between the two.
+    /// and no memory. For one in no chain it goes up over the descendants of `a` that are in no chain, and where these
+    /// are many, it sweeps what lies between the two.
     fn is_ancestor(&self, alloc: Global, a: u32, b: u32) -> Result<bool, AllocError> {
         let len = self.len();
         if b <= a || len <= b {

@@ -14,5 +14,6 @@ pub fn chains_are_ancestors()
 /// it.
 pub fn clocks_tell_ancestors()
     ensures { (graph : List (List ℕ)) (a b : ℕ) → AreLower graph → chain_of graph a < 64
-        → IsTrue (is_ancestor graph a b) ↔ (members_below graph a (chain_of graph a) < clock_of graph b (chain_of graph a)) }
+        → IsTrue (is_ancestor graph a b)
+        ↔ (members_below graph a (chain_of graph a) < clock_of graph b (chain_of graph a)) }
 {}

@@ -3,9 +3,9 @@
 //! Each member joins a chain: that of its predecessor of least position whose chain ends in it, else a new one. There
 //! are at most 64 chains, and a member that would begin a 65th is in none. Each member keeps its clock: for each chain,
 //! how many of the chain's members are its proper ancestors. Members of a chain are ancestors of one another, so
-//! [`is_ancestor`](update_model::Ancestors::is_ancestor) compares one number with the member's place in its chain. From a
-//! member in no chain it goes up over those that name it, until it comes to chains. A clock takes 256 bytes, whatever the
-//! graph.
+//! [`is_ancestor`](update_model::Ancestors::is_ancestor) compares one number with the member's place in its chain. From
+//! a member in no chain it goes up over those that name it, until it comes to chains. A clock takes 256 bytes, whatever
+//! the graph.
 //!
 //! ```text
 //! let mut ancestry = Ancestry::new(alloc);

@@ -1,6 +1,7 @@
 //! Who names a member: the way up from it to the members whose ancestor it is.
 
-ghost use Rattle.std.specs.Prelude.{◌≡◌, ◌<◌, ◌==◌, ◌++◌, ◌∷◌, [], ℕ, All, length, slice_index_or, true, IfOk, OnOk, OnErr};
+ghost use Rattle.std.specs.Prelude.{◌≡◌, ◌<◌, ◌==◌, ◌++◌, ◌∷◌, [], ℕ, All, length, slice_index_or, true, IfOk, OnOk};
+ghost use Rattle.std.specs.Prelude.{OnErr};
 ghost use Rattle.std.specs.List.{list_any};
 ghost use Rattle.ancestry.specs.Named.{is_noted};
 ghost use Rattle.ancestry.specs.Walks.{AreLower};
@@ -9,8 +10,8 @@ use std::alloc::{AllocError, Global};
 use std::marker::Model;
 use update_model::PositionList;
 
-/// The positions of the members that name one member. Others may stand among them, so who looks here asks the member that
-/// is told.
+/// The positions of the members that name one member. Others may stand among them, so who looks here asks the member
+/// that is told.
 #[derive(Drop)]
 pub(crate) struct Namers {
     positions: Vec<u32>,
@@ -76,7 +77,8 @@ impl Namers {
 pub(crate) fn note(namers: &mut [Namers], preds: &[u32], position: u32) -> Result<(), AllocError>
     requires { All (λ p. p < length namers.old) preds.now }
     ensures kept { (p q : ℕ) → is_noted namers.old p q ≡ true → is_noted namers.new p q ≡ true }
-    ensures noted { OnOk result ((p : ℕ) → list_any (λ k. k == p) preds.now ≡ true → is_noted namers.new p position ≡ true) }
+    ensures noted { OnOk result ((p : ℕ) → list_any (λ k. k == p) preds.now ≡ true
+        → is_noted namers.new p position ≡ true) }
 {
     for pred in preds {
         namers[*pred as usize].push(position)?;

@@ -1,6 +1,7 @@
 //! The walk from a member down to its ancestors.
 
-ghost use Rattle.std.specs.Prelude.{◌≡◌, ◌<◌, ◌≤◌, ◌+◌, ◌||◌, ◌==◌, ◌↔◌, ℕ, All, length, slice_index_or, false, IsTrue, IfOk};
+ghost use Rattle.std.specs.Prelude.{◌≡◌, ◌<◌, ◌≤◌, ◌+◌, ◌||◌, ◌==◌, ◌↔◌, ℕ, All, length, slice_index_or, false, IsTrue};
+ghost use Rattle.std.specs.Prelude.{IfOk};
 ghost use Rattle.std.specs.List.{list_any};
 ghost use Rattle.ancestry.specs.Since.{is_behind};
 ghost use Rattle.ancestry.specs.Walks.{AreLower, is_ancestor};
@@ -82,7 +83,8 @@ pub(crate) fn behind(
     requires lower { AreLower members.now }
     requires held { All (λ q. q < length members.now) old.now }
     ensures long { IfOk result (λ marks. length marks.items ≡ length members.now) }
-    ensures are { IfOk result (λ marks. (k : ℕ) → k < length members.now → slice_index_or marks.items k false ≡ is_behind members.now old.now k) }
+    ensures are { IfOk result (λ marks. (k : ℕ) → k < length members.now
+        → slice_index_or marks.items k false ≡ is_behind members.now old.now k) }
 {
     let mut marks = vec![in alloc; false; members.len()]?;
     mark_all(&mut marks, 0, old);
@@ -98,7 +100,8 @@ pub(crate) fn behind(
 fn mark_all(marks: &mut [bool], first: usize, positions: &[u32])
     requires { All (λ p. p < first + length marks.old) positions.now }
     ensures { (k : ℕ) → k < length marks.old
-        → slice_index_or marks.new k false ≡ (slice_index_or marks.old k false || list_any (λ p. p == first + k) positions.now) }
+        → slice_index_or marks.new k false ≡ (slice_index_or marks.old k false || list_any (λ p. p == first + k)
+        positions.now) }
 {
     for position in positions {
         let position = *position as usize;

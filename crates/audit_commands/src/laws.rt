@@ -15,9 +15,11 @@ use store_directory::{one_store, store_or_not};
 /// each text comes exactly where its cause stands.
 pub fn one_answer_of_audits()
     ensures audit { (parts : Readings) (added others : List (List ℕ)) (outcome another : Outcome)
-        → ReadsStore (Printing ShowsDoubled) parts added outcome → ReadsStore (Printing ShowsDoubled) parts others another → (status_of outcome ≡ status_of another) × (text_of outcome ≡ text_of another) }
+        → ReadsStore (Printing ShowsDoubled) parts added outcome → ReadsStore (Printing ShowsDoubled) parts others
+        another → (status_of outcome ≡ status_of another) × (text_of outcome ≡ text_of another) }
     ensures confirm { (input : List ℕ) (after other : Told (List ℕ)) (outcome another : Outcome)
-        → ConfirmAnswer (Some input) after outcome → ConfirmAnswer (Some input) other another → (status_of outcome ≡ status_of another) × (text_of outcome ≡ text_of another) }
+        → ConfirmAnswer (Some input) after outcome → ConfirmAnswer (Some input) other another
+        → (status_of outcome ≡ status_of another) × (text_of outcome ≡ text_of another) }
 {
     found_once();
     one_certificate();

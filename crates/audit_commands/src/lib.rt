@@ -9,10 +9,10 @@
 //! `confirm` needs none.
 #![tactic(auto)]
 
-mod audit;
-mod confirm;
+mod auditing;
+mod confirming;
 mod laws;
 
-pub use audit::audit_in;
-pub use confirm::confirm_in;
+pub use auditing::audit;
+pub use confirming::confirm;
 pub use laws::one_answer_of_audits;

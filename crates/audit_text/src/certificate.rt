@@ -15,7 +15,8 @@ pub const MAX_CERTIFICATE_BYTES: usize = 2 * (4 + UPDATE_LIMIT);
 /// The key and the index of two updates that are doubled, where the bytes are their two records and nothing else, and
 /// else `None`. It gives up where memory runs out.
 pub fn certified(alloc: Global, bytes: &[u8]) -> Result<Option<(AuthorKey, u32)>, AllocError>
-    ensures { IfOk result (λ found. MatchOption found (HoldsNone bytes.now) (λ pair. HoldsDoubled bytes.now pair.0 pair.1)) }
+    ensures { IfOk result (λ found. MatchOption found (HoldsNone bytes.now) (λ pair.
+        HoldsDoubled bytes.now pair.0 pair.1)) }
 {
     match two_records(bytes) {
         Some((first, second)) => confirms_doubled(alloc, first, second),

@@ -13,5 +13,6 @@ pub fn one_certificate()
 
 /// No certificate is longer than two records may be.
 pub fn certificates_are_short()
-    ensures { (bytes : List ℕ) (key : Key) (index : ℕ) → HoldsDoubled bytes key index → length bytes ≤ MAX_CERTIFICATE_BYTES }
+    ensures { (bytes : List ℕ) (key : Key) (index : ℕ) → HoldsDoubled bytes key index
+        → length bytes ≤ MAX_CERTIFICATE_BYTES }
 {}

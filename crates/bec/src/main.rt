@@ -1,5 +1,6 @@
-//! The program `bec`: it makes the real objects, calls [`bec_node::run`], and ends with its status. What a refusal means and what to do it
-//! says on standard error, unless the environment has `BEC_EXPLAIN=0`. `BEC_DIRECTORY` there is the directory that it then names.
+//! The program `bec`: it makes the real objects, calls [`bec_node::run`], and ends with its status. What a refusal
+//! means and what to do it says on standard error, unless the environment has `BEC_EXPLAIN=0`. `BEC_DIRECTORY` there is
+//! the directory that it then names.
 #![tactic(auto)]
 
 use bec_host::{FileShelf, HashRng, HostSink, HostSource, TcpNet, hold_closed_streams, words};

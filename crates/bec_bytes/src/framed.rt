@@ -32,9 +32,11 @@ pub fn read_framed<S: Source>(
     source: &mut S,
     limit: usize,
 ) -> Result<Framed, ReadError>
-    ensures found { IfOk result (λ found. IfTold (S.left source.old) (S.left source.new) (λ bytes rest. StandsFirst limit bytes rest found)) }
+    ensures found { IfOk result (λ found. IfTold (S.left source.old) (S.left source.new) (λ bytes rest.
+        StandsFirst limit bytes rest found)) }
     ensures short { IfOk result (λ found. IsShort limit found) }
-    ensures left { IfErr result (λ error. IfTold (S.left source.old) (S.left source.new) (λ bytes rest. IsLeft limit bytes rest error)) }
+    ensures left { IfErr result (λ error. IfTold (S.left source.old) (S.left source.new) (λ bytes rest.
+        IsLeft limit bytes rest error)) }
     ensures later { S.faults source.old ≤ S.faults source.new }
     ensures failed { IfErr result (λ error. error ≡ ReadError.Failed → Rose (S.faults source.old) (S.faults source.new)) }
 {

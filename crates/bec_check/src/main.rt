@@ -1,7 +1,8 @@
 //! The program `bec_check`: it answers `check` as the program `bec` does, and nothing else.
 //!
-//! It makes the real objects, calls [`schema_verdict::run_check`], and ends with its status. It stands on few crates, so that it is
-//! built long before `bec` is: the launcher asks it meanwhile. What a refusal means and what to do it says on standard error, as `bec` does.
+//! It makes the real objects, calls [`schema_verdict::run_check`], and ends with its status. It stands on few crates,
+//! so that it is built long before `bec` is: the launcher asks it meanwhile. What a refusal means and what to do it
+//! says on standard error, as `bec` does.
 #![tactic(auto)]
 
 use bec_host::{HostSink, HostSource, hold_closed_streams, words};

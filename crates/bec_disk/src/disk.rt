@@ -25,7 +25,8 @@ pub trait Disk: Counted {
     /// Fills `buf` with the bytes from `at` on. The range has to end at or before the length.
     fn read(&mut self, at: u64, buf: &mut [u8]) -> Result<(), DiskFault>
         requires { IsTrue (state self.old).tells → at + length buf.old ≤ length (state self.old).seen }
-        ensures bytes { IsTrue (state self.old).tells → OnOk result (buf.new ≡ take (length buf.old) (drop at (state self.old).seen)) }
+        ensures bytes { IsTrue (state self.old).tells
+            → OnOk result (buf.new ≡ take (length buf.old) (drop at (state self.old).seen)) }
         ensures same { state self.new ≡ state self.old }
         ensures cause { HasCause (Self.faults self.old) (Self.faults self.new) result };
 

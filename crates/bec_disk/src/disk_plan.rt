@@ -52,7 +52,10 @@ impl DiskPlan {
     /// Counts a call, and a fault where it is one of those that are to fail.
     pub fn count_call(&mut self) -> Result<(), DiskFault>
         ensures fails { IsErr result ↔ IsToFail self.old }
-        ensures counted { self.new ≡ record self.old { calls = one_more self.old.calls; faults = faults_after result self.old.faults } }
+        ensures counted { self.new ≡ record self.old {
+          calls = one_more self.old.calls;
+          faults = faults_after result self.old.faults;
+        } }
         ensures later { self.old.faults ≤ self.new.faults }
     {
         self.calls = self.calls.saturating_add(1);
@@ -80,8 +83,8 @@ impl DiskPlan {
         self.unrecorded = self.unrecorded.saturating_add(1);
     }
 
-    /// Plans the calls from the next one on, which is the first: those that `failing` numbers, and those behind the number
-    /// `last`, are to fail.
+    /// Plans the calls from the next one on, which is the first: those that `failing` numbers, and those behind the
+    /// number `last`, are to fail.
     pub fn arm(&mut self, failing: Vec<u32>, last: u64)
         ensures { self.new ≡ planned failing.items last self.old }
     {

@@ -1,4 +1,5 @@
-ghost use Rattle.std.specs.Prelude.{◌≡◌, ◌⊎◌, ◌≤◌, ◌+◌, ◌-◌, ◌^◌, ◌++◌, ◌∷◌, [], Some, IsTrue, IfOk, OnOk, OnErr, length, take, drop};
+ghost use Rattle.std.specs.Prelude.{◌≡◌, ◌⊎◌, ◌≤◌, ◌+◌, ◌-◌, ◌^◌, ◌++◌, ◌∷◌, [], Some, IsTrue, IfOk, OnOk, OnErr};
+ghost use Rattle.std.specs.Prelude.{length, take, drop};
 ghost use Rattle.std.specs.Bool.{OnTrue, OnFalse};
 ghost use Rattle.bec_bytes.specs.Causes.{HasCause};
 ghost use Rattle.bec_disk.specs.Disk.{IsImage, Writes, Cuts, Syncs, cut_at, overwritten, written_at};
@@ -116,8 +117,8 @@ impl MemDisk {
         self.plan.number_anew();
     }
 
-    /// Plans the disk's calls from the next one on, which is the first: those that `failing` numbers, and those behind the
-    /// number `last`, fail. What is read, the images and the count stay.
+    /// Plans the disk's calls from the next one on, which is the first: those that `failing` numbers, and those behind
+    /// the number `last`, fail. What is read, the images and the count stay.
     pub fn plan_calls(&mut self, failing: Vec<u32>, last: u64)
         ensures { self.new ≡ armed failing.items last self.old }
     {

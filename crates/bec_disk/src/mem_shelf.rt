@@ -51,7 +51,8 @@ impl MemShelf {
     /// be handed out. The disk's calls are numbered from now on.
     pub fn put(&mut self, dir: &str, part: Part, mut disk: MemDisk) -> Result<(), AllocError>
         requires { (shelf_of self.old).parts (slot dir.now part) ≢ out }
-        ensures stands { OnOk result (entry_at self.new.entries (slot dir.now part) ≡ Some (record { place = slot dir.now part; disk = Some (numbered_anew disk) })) }
+        ensures stands { OnOk result (entry_at self.new.entries (slot dir.now part) ≡ Some
+            (record { place = slot dir.now part; disk = Some (numbered_anew disk) })) }
         ensures others { KeepsOthers (shelf_of self.old) (slot dir.now part) (shelf_of self.new) }
         ensures same { OnErr result (self.new ≡ self.old) }
         ensures faults { self.new.faults ≡ self.old.faults }
@@ -69,7 +70,8 @@ impl MemShelf {
     /// synced last, for 1 what is read, and else a mixture by the number. Its count is 0, and its
     /// disks fail at no numbered call. A part that is out stays so.
     pub fn restart(&self, choice: u64) -> Result<MemShelf, AllocError>
-        ensures left { IfOk result (λ shelf. (place : Slot) → IsPartLeft choice (entry_at self.now.entries place) (entry_at shelf.entries place)) }
+        ensures left { IfOk result (λ shelf. (place : Slot) → IsPartLeft choice (entry_at self.now.entries place)
+            (entry_at shelf.entries place)) }
         ensures count { IfOk result (λ shelf. shelf.faults ≡ 0) }
     {
         let alloc = self.alloc;
@@ -129,7 +131,10 @@ fn add(
     dir: &str,
     part: Part,
 ) -> Result<MemDisk, AllocError>
-    ensures added { OnOk result (entries.new.items ≡ entries.old.items ++ record { place = slot dir.now part; disk = None } ∷ []) }
+    ensures added { OnOk result (entries.new.items ≡ entries.old.items ++ record {
+      place = slot dir.now part;
+      disk = None;
+    } ∷ []) }
     ensures made { IfOk result (λ disk. disk ≡ made_disk (slot dir.now part)) }
     ensures same { OnErr result (entries.new.items ≡ entries.old.items) }
 {
@@ -146,7 +151,10 @@ fn append(
     part: Part,
     disk: Option<MemDisk>,
 ) -> Result<(), AllocError>
-    ensures added { OnOk result (entries.new.items ≡ entries.old.items ++ record { place = slot dir.now part; disk = disk } ∷ []) }
+    ensures added { OnOk result (entries.new.items ≡ entries.old.items ++ record {
+      place = slot dir.now part;
+      disk = disk;
+    } ∷ []) }
     ensures same { OnErr result (entries.new.items ≡ entries.old.items) }
 {
     let place = Place::new(alloc, dir, part)?;

@@ -29,7 +29,8 @@ pub fn crash_image(
 ) -> Result<Vec<u8>, AllocError>
     requires { bytes.now ≡ (replayed (begun_with start.now) calls.now).seen }
     ensures image { IfOk result (λ image. IsImage (replayed (begun_with start.now) calls.now).now image.items) }
-    ensures synced { choice ≡ 0 → IfOk result (λ image. image.items ≡ (replayed (begun_with start.now) calls.now).now.synced) }
+    ensures synced { choice ≡ 0
+        → IfOk result (λ image. image.items ≡ (replayed (begun_with start.now) calls.now).now.synced) }
     ensures reads { choice ≡ 1 → IfOk result (λ image. image.items ≡ bytes.now) }
 {
     let settled = settled_calls(calls);
@@ -41,7 +42,9 @@ pub fn crash_image(
 /// How many calls there were when what was synced last was synced.
 fn settled_calls(calls: &[DiskCall]) -> usize
     ensures within { result ≤ length calls.now }
-    ensures synced { (start : List ℕ) → (replayed (begun_with start) calls.now).now.synced ≡ (replayed (begun_with start) (take result calls.now)).seen }
+    ensures synced { (start : List ℕ)
+        → (replayed (begun_with start) calls.now).now.synced ≡ (replayed (begun_with start)
+        (take result calls.now)).seen }
 {
     let mut count = calls.len();
     while count > 0 {
@@ -120,7 +123,8 @@ fn chosen_len(choice: u64, synced: &[u8], bytes: &[u8]) -> usize
 
 /// The byte there of one of the two, or 0 behind what was synced.
 fn picked(choice: u64, i: usize, synced: &[u8], bytes: &[u8]) -> u8
-    ensures { i < length synced.now → (result ≡ slice_index synced.now i) ⊎ ((i < length bytes.now) × (result ≡ slice_index bytes.now i)) }
+    ensures { i < length synced.now → (result ≡ slice_index synced.now i)
+        ⊎ ((i < length bytes.now) × (result ≡ slice_index bytes.now i)) }
 {
     if (choice >> (1 + i % 63)) & 1 == 1 && i < bytes.len() {
         return bytes[i];

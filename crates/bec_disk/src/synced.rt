@@ -25,7 +25,8 @@ pub fn write_synced<D: Disk>(disk: &mut D, at: u64, bytes: &[u8]) -> Result<(), 
 /// a front, no shorter than `len`, of what one before it might have left.
 pub fn cut_synced<D: Disk>(disk: &mut D, len: u64) -> Result<(), DiskFault>
     requires { IsTrue (D.state disk.old).tells → len ≤ length (D.state disk.old).seen }
-    ensures cut { IsTrue (D.state disk.old).tells → OnOk result ((D.state disk.new).seen ≡ take len (D.state disk.old).seen) }
+    ensures cut { IsTrue (D.state disk.old).tells
+        → OnOk result ((D.state disk.new).seen ≡ take len (D.state disk.old).seen) }
     ensures settled { IsTrue (D.state disk.old).tells → OnOk result (IsSettled (D.state disk.new)) }
     ensures any_moment { LeavesOnly (D.state disk.old) (D.state disk.new) (IsCutFrom (D.state disk.old).now len) }
     ensures cause { HasCause (D.faults disk.old) (D.faults disk.new) result }

@@ -16,12 +16,12 @@ const PAUSE: u64 = 100;
 /// How many such pauses there are until a connection comes, which makes ten minutes.
 const MAX_PAUSES: u64 = 6000;
 
-/// The errors of Linux for what the system wants for now: files, of this process (EMFILE) and of all (ENFILE), buffers (ENOBUFS), memory
-/// (ENOMEM), leave by a firewall (EPERM), a network that is up (ENETDOWN).
+/// The errors of Linux for what the system wants for now: files, of this process (EMFILE) and of all (ENFILE), buffers
+/// (ENOBUFS), memory (ENOMEM), leave by a firewall (EPERM), a network that is up (ENETDOWN).
 const WANTS: [i32; 6] = [24, 23, 105, 12, 1, 100];
 
-/// The errors of Linux that are about the connection that came: ENONET, EPROTO, ENOPROTOOPT, EOPNOTSUPP, ENETUNREACH, ENETRESET, ECONNABORTED,
-/// ECONNRESET, ETIMEDOUT, EHOSTDOWN, EHOSTUNREACH.
+/// The errors of Linux that are about the connection that came: ENONET, EPROTO, ENOPROTOOPT, EOPNOTSUPP, ENETUNREACH,
+/// ENETRESET, ECONNABORTED, ECONNRESET, ETIMEDOUT, EHOSTDOWN, EHOSTUNREACH.
 const PASSES: [i32; 11] = [64, 71, 92, 95, 101, 102, 103, 104, 110, 112, 113];
 
 /// What an error of a call that accepts says of the next one.
@@ -45,8 +45,9 @@ fn next_call(error: &io::Error) -> Next {
     }
 }
 
-/// Waits for a connection. What fails for a connection that came is passed over with it, and where the system wants for something, it is
-/// tried again after a pause, which is told to `explain` once. Any other error ends the waiting, and so do ten minutes of pauses.
+/// Waits for a connection. What fails for a connection that came is passed over with it, and where the system wants for
+/// something, it is tried again after a pause, which is told to `explain` once. Any other error ends the waiting, and
+/// so do ten minutes of pauses.
 pub(crate) fn accept_next<W: Write>(
     rt: &HostRuntime,
     explain: &mut W,

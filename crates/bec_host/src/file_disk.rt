@@ -11,8 +11,9 @@ use std::os::unix::fs::FileExt;
 /// A disk over a file. It tells nothing of what the file holds.
 ///
 /// A short read or write goes on, and one that a signal interrupted is made again. A sync makes data and length last
-/// (`fsync`); where nothing was written or cut since the last one, it makes no call of the system. After one that failed
-/// the system may have dropped what was not written, and call the next sync a success, so the disk fails each later call.
+/// (`fsync`); where nothing was written or cut since the last one, it makes no call of the system. After one that
+/// failed the system may have dropped what was not written, and call the next sync a success, so the disk fails each
+/// later call.
 #[derive(Drop)]
 pub struct FileDisk<F: FileExt + OpenFile> {
     /// The open file.

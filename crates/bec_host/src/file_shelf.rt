@@ -15,11 +15,12 @@ use std::rt::Files;
 use std::{fs, io};
 
 /// A shelf over directories. A part is a file of its directory, locked while it is handed out (`flock`), so that two
-/// programs never have one part at once: the second one's `find` fails. The system gives the lock up when a process ends.
+/// programs never have one part at once: the second one's `find` fails. The system gives the lock up when a process
+/// ends.
 ///
-/// Only a file that is not there is an absent part, and one that is there for a key and has none yet; whatever else keeps it from being
-/// opened is a fault. Each fault is told in a sentence to `explain`, as a rule standard error, whose own errors are passed over. So is a key
-/// that others may read.
+/// Only a file that is not there is an absent part, and one that is there for a key and has none yet; whatever else
+/// keeps it from being opened is a fault. Each fault is told in a sentence to `explain`, as a rule standard error,
+/// whose own errors are passed over. So is a key that others may read.
 #[derive(Drop)]
 pub struct FileShelf<R: Files<File = File> + AllocGlobal + Drop, W: Write + Drop> {
     /// The system's files.
@@ -100,8 +101,9 @@ pub(crate) fn open_locked<R: Files<File = File>>(
     Ok(file)
 }
 
-/// Opens a part where it exists. What an earlier process wrote and did not sync is synced; so is the name of a file in which nothing stands,
-/// since the process that made it may have stopped before. A file of a key that has none yet is no part.
+/// Opens a part where it exists. What an earlier process wrote and did not sync is synced; so is the name of a file in
+/// which nothing stands, since the process that made it may have stopped before. A file of a key that has none yet is
+/// no part.
 fn open_part<R: Files<File = File>>(
     rt: &R,
     dir: &str,
@@ -125,7 +127,8 @@ fn open_part<R: Files<File = File>>(
     Ok(Some(file))
 }
 
-/// Makes an empty part, and its directory where there is none. The file and its name are synced, so that the part exists after a crash.
+/// Makes an empty part, and its directory where there is none. The file and its name are synced, so that the part
+/// exists after a crash.
 fn make_part<R: Files<File = File> + AllocGlobal>(
     rt: &R,
     dir: &str,

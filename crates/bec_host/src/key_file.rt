@@ -39,11 +39,12 @@ pub(crate) fn stands_at<R: Files<File = File>>(
     Ok(named.ino() == open.ino() && named.dev() == open.dev())
 }
 
-/// Takes away the file at a path where a key is to be made: `keygen` leaves one that has no key where it is interrupted, and a seed is written only into
-/// a file that was made for it. A link, a file that has a key, and one that another process has are left alone, and are an error.
+/// Takes away the file at a path where a key is to be made: `keygen` leaves one that has no key where it is
+/// interrupted, and a seed is written only into a file that was made for it. A link, a file that has a key, and one
+/// that another process has are left alone, and are an error.
 ///
-/// Whoever takes a file away holds its lock, and looks then whether the path still names it. So of two processes at one path at most one
-/// goes on to have the file that stands there.
+/// Whoever takes a file away holds its lock, and looks then whether the path still names it. So of two processes at one
+/// path at most one goes on to have the file that stands there.
 pub(crate) fn make_way<R: Files<File = File>>(rt: &R, path: &str) -> io::Result<()> {
     match fs::symlink_metadata(rt, path) {
         Ok(named) if named.is_file() => {}

@@ -1,11 +1,11 @@
 //! The edge of the program: real streams, connections and files as `bec_bytes`, `bec_links` and
 //! `bec_disk` see them.
 //!
-//! [`words`] is the command line, [`HostSource`] reads a reader of std through a buffer, and [`HostSink`] writes to a writer of std.
-//! [`TcpNet`] listens and dials, and hands each connection out as a [`TcpLink`] over a [`PatientStream`], which waits only so long for its peer. [`FileShelf`] hands the
-//! files of directories out as [`FileDisk`]s. Each counts the errors that it meets, retries a call
-//! that a signal interrupted, and fails at any other error. [`hold_closed_streams`] keeps a file from getting the
-//! descriptor of a standard stream that is closed.
+//! [`words`] is the command line, [`HostSource`] reads a reader of std through a buffer, and [`HostSink`] writes to a
+//! writer of std. [`TcpNet`] listens and dials, and hands each connection out as a [`TcpLink`] over a
+//! [`PatientStream`], which waits only so long for its peer. [`FileShelf`] hands the files of directories out as
+//! [`FileDisk`]s. Each counts the errors that it meets, retries a call that a signal interrupted, and fails at any
+//! other error. [`hold_closed_streams`] keeps a file from getting the descriptor of a standard stream that is closed.
 //!
 //! ```
 //! fn main(rt: HostRuntime) -> Result<ExitCode, AllocError> {

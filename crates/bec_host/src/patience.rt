@@ -12,7 +12,8 @@ const LINK_LIMIT: u64 = 600_000;
 /// How long it is waited for until it takes what it is sent, in milliseconds.
 const TAKE_LIMIT: u64 = 60_000;
 
-/// For how many bytes that go over the link there is a millisecond more. A peer may have to verify what it took before it answers.
+/// For how many bytes that go over the link there is a millisecond more. A peer may have to verify what it took before
+/// it answers.
 const MOVED: u64 = 32;
 
 /// For how many bytes that a peer took there is a millisecond more until it takes the next, up to the limit.

@@ -7,10 +7,10 @@ use std::time::{Clock, Duration, Instant};
 
 /// A connection whose peer is waited for only so long, after which its calls fail.
 ///
-/// Only the time counts for which a read or a write waits, and not that in which this end is at work. Reads wait a minute until a frame of
-/// the peer is whole, and ten minutes in all. Both are a second more for each 32,000 bytes that the peer took, since it may have to verify them
-/// before it answers, and the ten minutes for as many that it sent too. Writes wait a minute, and a second of it is given back for each 4,000 bytes that the
-/// peer took.
+/// Only the time counts for which a read or a write waits, and not that in which this end is at work. Reads wait a
+/// minute until a frame of the peer is whole, and ten minutes in all. Both are a second more for each 32,000 bytes that
+/// the peer took, since it may have to verify them before it answers, and the ten minutes for as many that it sent too.
+/// Writes wait a minute, and a second of it is given back for each 4,000 bytes that the peer took.
 #[derive(Drop)]
 pub struct PatientStream<C: Clock + Drop> {
     /// The connection.

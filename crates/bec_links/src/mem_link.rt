@@ -84,7 +84,10 @@ impl Source for MemLink {
         // At the others, what it answers, what is left, and what the buffer holds.
         ensures count { IfOk result (λ n. n ≡ min (length buf.old) (length self.old.left)) }
         ensures rest { OnOk result
-            (self.new ≡ record self.old { left = drop (length buf.old) self.old.left; plan = after_call result self.old.plan }) }
+            (self.new ≡ record self.old {
+              left = drop (length buf.old) self.old.left;
+              plan = after_call result self.old.plan;
+            }) }
         ensures given { OnOk result (buf.new ≡ filled_from self.old.left buf.old) }
     {
         self.plan.count_call()?;

@@ -1,9 +1,11 @@
-ghost use Rattle.std.specs.Prelude.{◌≡◌, ◌⊎◌, ◌↔◌, ◌≤◌, ◌<◌, ◌+◌, ◌-◌, ◌∷◌, ◌++◌, [], Some, All, IsErr, IfOk, OnErr, OnOk, length, map, vec_len, slice_index_or};
+ghost use Rattle.std.specs.Prelude.{◌≡◌, ◌⊎◌, ◌↔◌, ◌≤◌, ◌<◌, ◌+◌, ◌-◌, ◌∷◌, ◌++◌, [], Some, All, IsErr, IfOk, OnErr};
+ghost use Rattle.std.specs.Prelude.{OnOk, length, map, vec_len, slice_index_or};
 ghost use Rattle.std.specs.Vec.{vec_capacity};
 ghost use Rattle.std.specs.Vec.Iter.{into_iter_items};
 ghost use Rattle.bec_bytes.specs.Causes.{HasCause, one_more, faults_after};
 ghost use Rattle.bec_links.specs.Nets.{HandsOut, after_try, taken_back};
-ghost use Rattle.bec_links.specs.Memory.{MemNetState, HandsOutFirst, IsFresh, IsToFail, after_call, after_failure, net_of};
+ghost use Rattle.bec_links.specs.Memory.{MemNetState, HandsOutFirst, IsFresh, IsToFail, after_call, after_failure};
+ghost use Rattle.bec_links.specs.Memory.{net_of};
 
 use crate::mem_link::MemLink;
 use crate::net::Net;
@@ -39,7 +41,8 @@ impl Model for MemNet {
       plan = record { failing = n.plan.failing.items; calls = n.plan.calls; faults = n.plan.faults };
     } };
 
-    ghost invariant = { λ n. (vec_len n.given + n.out ≤ vec_capacity n.given) × All IsFresh (into_iter_items n.coming) };
+    ghost invariant = { λ n. (vec_len n.given + n.out ≤ vec_capacity n.given)
+        × All IsFresh (into_iter_items n.coming) };
 }
 
 impl MemNet {
@@ -165,7 +168,8 @@ impl Net for MemNet {
     /// Hands the next link out, unless the call is one of those that are to fail, none is left or
     /// memory is refused.
     fn accept(&mut self) -> Result<MemLink, Failed>
-        ensures handed { IfOk result (λ link. HandsOut (net_of self.old) (Some link.left) (Some link.held) (net_of self.new)) }
+        ensures handed { IfOk result (λ link. HandsOut (net_of self.old) (Some link.left) (Some link.held)
+            (net_of self.new)) }
         ensures clean { IfOk result (λ link. link.plan.faults ≡ 0) }
         ensures refused { OnErr result (net_of self.new ≡ after_try result (net_of self.old)) }
         ensures count { self.new.faults ≡ faults_after result self.old.faults }
@@ -179,7 +183,8 @@ impl Net for MemNet {
 
     /// Hands the next link out, whatever the address, just as `accept` does.
     fn dial(&mut self, _address: &str) -> Result<MemLink, Failed>
-        ensures handed { IfOk result (λ link. HandsOut (net_of self.old) (Some link.left) (Some link.held) (net_of self.new)) }
+        ensures handed { IfOk result (λ link. HandsOut (net_of self.old) (Some link.left) (Some link.held)
+            (net_of self.new)) }
         ensures clean { IfOk result (λ link. link.plan.faults ≡ 0) }
         ensures refused { OnErr result (net_of self.new ≡ after_try result (net_of self.old)) }
         ensures count { self.new.faults ≡ faults_after result self.old.faults }

@@ -23,7 +23,8 @@ pub trait Net: Counted {
 
     /// Hands out the next connection that came, as a link whose count is 0. It may wait for one.
     fn accept(&mut self) -> Result<Self::L, Failed>
-        ensures handed { IfOk result (λ link. HandsOut (state self.old) (Self.L.left link) (Self.L.held link) (state self.new)) }
+        ensures handed { IfOk result (λ link. HandsOut (state self.old) (Self.L.left link) (Self.L.held link)
+            (state self.new)) }
         ensures clean { IfOk result (λ link. Self.L.faults link ≡ 0) }
         ensures refused { OnErr result (state self.new ≡ after_try result (state self.old)) }
         ensures count { Self.faults self.new ≡ faults_after result (Self.faults self.old) }
@@ -31,7 +32,8 @@ pub trait Net: Counted {
 
     /// Connects to an address, and hands the connection out as a link whose count is 0.
     fn dial(&mut self, address: &str) -> Result<Self::L, Failed>
-        ensures handed { IfOk result (λ link. HandsOut (state self.old) (Self.L.left link) (Self.L.held link) (state self.new)) }
+        ensures handed { IfOk result (λ link. HandsOut (state self.old) (Self.L.left link) (Self.L.held link)
+            (state self.new)) }
         ensures clean { IfOk result (λ link. Self.L.faults link ≡ 0) }
         ensures refused { OnErr result (state self.new ≡ after_try result (state self.old)) }
         ensures count { Self.faults self.new ≡ faults_after result (Self.faults self.old) }

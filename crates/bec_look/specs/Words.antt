@@ -18,8 +18,8 @@ abbrev pub is_style : String Global → Bool
 is_style word = bytes_eq (string_bytes word) (codes "--full") || bytes_eq (string_bytes word) (codes "--json")
 
 -- how these words ask for a text
-abbrev pub style_by : List (String Global) → Style
-style_by words = if has_word words (codes "--json") then Json else if has_word words (codes "--full") then Whole else Short
+abbrev pub style_asked : List (String Global) → Style
+style_asked words = if has_word words (codes "--json") then Json else if has_word words (codes "--full") then Whole else Short
 
 -- this word, where the others say how a text is asked for
 abbrev pub alone_named : String Global → List (String Global) → Option (List ℕ)
@@ -35,8 +35,8 @@ abbrev pub is_dot : String Global → Bool
 is_dot word = bytes_eq (string_bytes word) (codes "--dot")
 
 -- the picture that these words behind `draw` ask for, as SVG or as DOT
-abbrev pub picture_by : List (String Global) → Option ListingData
-picture_by words =
+abbrev pub picture_asked : List (String Global) → Option ListingData
+picture_asked words =
     if not (list_all is_dot words) then None
     else if has_word words (codes "--dot") then Some (Picture Dot) else Some (Picture Svg)
 
@@ -45,17 +45,17 @@ abbrev pub is_of_log : String Global → Bool
 is_of_log word = bytes_eq (string_bytes word) (codes "--rows") || is_style word
 
 -- the log that these words behind `log` ask for, with what updates did or without
-abbrev pub log_by : List (String Global) → Option ListingData
-log_by words =
-    if list_all is_of_log words then Some (Log (style_by words) (has_word words (codes "--rows"))) else None
+abbrev pub log_asked : List (String Global) → Option ListingData
+log_asked words =
+    if list_all is_of_log words then Some (Log (style_asked words) (has_word words (codes "--rows"))) else None
 
 -- the text of updates that a command asks for, with the words behind it
-abbrev pub listing_by : List ℕ → List (String Global) → Option ListingData
-listing_by command words =
-    if bytes_eq command (codes "draw") then picture_by words
-    else if bytes_eq command (codes "log") then log_by words
-    else if bytes_eq command (codes "show") then option_map (Show (style_by words)) (named_word words)
-    else if bytes_eq command (codes "who") then option_map (Who (style_by words)) (named_word words)
+abbrev pub listing_asked : List ℕ → List (String Global) → Option ListingData
+listing_asked command words =
+    if bytes_eq command (codes "draw") then picture_asked words
+    else if bytes_eq command (codes "log") then log_asked words
+    else if bytes_eq command (codes "show") then option_map (Show (style_asked words)) (named_word words)
+    else if bytes_eq command (codes "who") then option_map (Who (style_asked words)) (named_word words)
     else None
 
 -- this, where no words stand behind a command
@@ -64,18 +64,18 @@ alone asked [] = Some asked
 alone asked (word ∷ words) = None
 
 -- the query that is the one word behind `csv`
-abbrev pub csv_by : List (String Global) → Option Question
-csv_by [] = None
-csv_by (word ∷ []) = Some (Csv (string_bytes word))
-csv_by (word ∷ other ∷ words) = None
+abbrev pub csv_asked : List (String Global) → Option Question
+csv_asked [] = None
+csv_asked (word ∷ []) = Some (Csv (string_bytes word))
+csv_asked (word ∷ other ∷ words) = None
 
 -- what else a command asks for
-abbrev pub other_by : List ℕ → List (String Global) → Option Question
-other_by command words =
+abbrev pub other_asked : List ℕ → List (String Global) → Option Question
+other_asked command words =
     if bytes_eq command (codes "page") then alone (All Page) words
     else if bytes_eq command (codes "status") then alone (All Status) words
     else if bytes_eq command (codes "schema") then alone Schema words
-    else if bytes_eq command (codes "csv") then csv_by words
+    else if bytes_eq command (codes "csv") then csv_asked words
     else None
 
 -- a text of updates, or else this
@@ -84,14 +84,14 @@ updates_or (Some listing) other = Some (Updates listing)
 updates_or None other = other
 
 -- what a command asks of one bundle
-abbrev pub one_by : List ℕ → List (String Global) → Option Wanted
-one_by command words = option_map One (updates_or (listing_by command words) (other_by command words))
+abbrev pub one_asked : List ℕ → List (String Global) → Option Wanted
+one_asked command words = option_map One (updates_or (listing_asked command words) (other_asked command words))
 
 -- what these words behind `diff` ask for
-abbrev pub both_by : List (String Global) → Option Wanted
-both_by words = if list_all is_style words then Some (Both (style_by words)) else None
+abbrev pub both_asked : List (String Global) → Option Wanted
+both_asked words = if list_all is_style words then Some (Both (style_asked words)) else None
 
 -- what these words ask for
-abbrev pub asked_by : List (String Global) → Option Wanted
-asked_by [] = None
-asked_by (command ∷ words) = if bytes_eq (string_bytes command) (codes "diff") then both_by words else one_by (string_bytes command) words
+abbrev pub asking_of : List (String Global) → Option Wanted
+asking_of [] = None
+asking_of (command ∷ words) = if bytes_eq (string_bytes command) (codes "diff") then both_asked words else one_asked (string_bytes command) words

@@ -3,72 +3,74 @@
 ghost use Rattle.std.specs.Prelude.{◌≡◌, option_copied, option_map};
 ghost use Rattle.std.specs.List.{list_all};
 ghost use Rattle.bec_look.specs.Questions.{listed, seen, wanted};
-ghost use Rattle.bec_look.specs.Words.{alone, alone_named, asked_by, both_by, csv_by, has_word, is_dot, is_of_log, is_style, listing_by, log_by, named_word, one_by, other_by, picture_by, style_by};
+ghost use Rattle.bec_look.specs.Words.{alone, alone_named, asking_of, both_asked, csv_asked, has_word, is_dot};
+ghost use Rattle.bec_look.specs.Words.{is_of_log, is_style, listing_asked, log_asked, named_word, one_asked};
+ghost use Rattle.bec_look.specs.Words.{other_asked, picture_asked, style_asked};
 
 use crate::asked::{Asked, Asking, Listing, Overview};
 use graph_drawing::Form;
 use log_texts::Style;
 
 /// What these words ask for.
-pub(crate) fn asked_by(words: &[String]) -> Option<Asking<'_>>
-    ensures { option_map wanted result ≡ asked_by words.now }
+pub(crate) fn asking_of(words: &[String]) -> Option<Asking<'_>>
+    ensures { option_map wanted result ≡ asking_of words.now }
 {
     let [command, others @ ..] = words else {
         return None;
     };
     if command.as_str() == "diff" {
-        both_by(others)
+        both_asked(others)
     } else {
-        one_by(command, others)
+        one_asked(command, others)
     }
 }
 
 /// What these words behind `diff` ask for.
-fn both_by(words: &[String]) -> Option<Asking<'_>>
-    ensures { option_map wanted result ≡ both_by words.now }
+fn both_asked(words: &[String]) -> Option<Asking<'_>>
+    ensures { option_map wanted result ≡ both_asked words.now }
 {
     if are_styles(words) {
-        Some(Asking::Both(style_by(words)))
+        Some(Asking::Both(style_asked(words)))
     } else {
         None
     }
 }
 
 /// What a command asks of one bundle.
-fn one_by<'a>(command: &str, words: &'a [String]) -> Option<Asking<'a>>
-    ensures { option_map wanted result ≡ one_by command.now words.now }
+fn one_asked<'a>(command: &str, words: &'a [String]) -> Option<Asking<'a>>
+    ensures { option_map wanted result ≡ one_asked command.now words.now }
 {
-    match listing_by(command, words) {
+    match listing_asked(command, words) {
         Some(listing) => Some(Asking::One(Asked::Updates(listing))),
         None => {
-            let asked = other_by(command, words)?;
+            let asked = other_asked(command, words)?;
             Some(Asking::One(asked))
         }
     }
 }
 
 /// The text of updates that a command asks for, with the words behind it.
-fn listing_by<'a>(command: &str, words: &'a [String]) -> Option<Listing<'a>>
-    ensures { option_map listed result ≡ listing_by command.now words.now }
+fn listing_asked<'a>(command: &str, words: &'a [String]) -> Option<Listing<'a>>
+    ensures { option_map listed result ≡ listing_asked command.now words.now }
 {
     if command == "draw" {
-        picture_by(words)
+        picture_asked(words)
     } else if command == "log" {
-        log_by(words)
+        log_asked(words)
     } else if command == "show" {
         let word = named_word(words)?;
-        Some(Listing::Show(style_by(words), word))
+        Some(Listing::Show(style_asked(words), word))
     } else if command == "who" {
         let word = named_word(words)?;
-        Some(Listing::Who(style_by(words), word))
+        Some(Listing::Who(style_asked(words), word))
     } else {
         None
     }
 }
 
 /// What else a command asks for.
-fn other_by<'a>(command: &str, words: &'a [String]) -> Option<Asked<'a>>
-    ensures { option_map seen result ≡ other_by command.now words.now }
+fn other_asked<'a>(command: &str, words: &'a [String]) -> Option<Asked<'a>>
+    ensures { option_map seen result ≡ other_asked command.now words.now }
 {
     if command == "page" {
         alone(Asked::All(Overview::Page), words)
@@ -77,7 +79,7 @@ fn other_by<'a>(command: &str, words: &'a [String]) -> Option<Asked<'a>>
     } else if command == "schema" {
         alone(Asked::Schema, words)
     } else if command == "csv" {
-        csv_by(words)
+        csv_asked(words)
     } else {
         None
     }
@@ -94,8 +96,8 @@ fn alone<'a>(asked: Asked<'a>, words: &[String]) -> Option<Asked<'a>>
 }
 
 /// The query that is the one word behind `csv`.
-fn csv_by(words: &[String]) -> Option<Asked<'_>>
-    ensures { option_map seen result ≡ csv_by words.now }
+fn csv_asked(words: &[String]) -> Option<Asked<'_>>
+    ensures { option_map seen result ≡ csv_asked words.now }
 {
     match words {
         [word] => Some(Asked::Csv(word.as_bytes())),
@@ -104,8 +106,8 @@ fn csv_by(words: &[String]) -> Option<Asked<'_>>
 }
 
 /// The picture that these words behind `draw` ask for.
-fn picture_by(words: &[String]) -> Option<Listing<'_>>
-    ensures { option_map listed result ≡ picture_by words.now }
+fn picture_asked(words: &[String]) -> Option<Listing<'_>>
+    ensures { option_map listed result ≡ picture_asked words.now }
 {
     if !are_dots(words) {
         None
@@ -117,11 +119,11 @@ fn picture_by(words: &[String]) -> Option<Listing<'_>>
 }
 
 /// The log that these words behind `log` ask for.
-fn log_by(words: &[String]) -> Option<Listing<'_>>
-    ensures { option_map listed result ≡ log_by words.now }
+fn log_asked(words: &[String]) -> Option<Listing<'_>>
+    ensures { option_map listed result ≡ log_asked words.now }
 {
     if are_of_log(words) {
-        Some(Listing::Log(style_by(words), has_word(words, "--rows")))
+        Some(Listing::Log(style_asked(words), has_word(words, "--rows")))
     } else {
         None
     }
@@ -188,8 +190,8 @@ fn is_of_log(word: &String) -> bool
 }
 
 /// How these words ask for a text.
-fn style_by(words: &[String]) -> Style
-    ensures { result ≡ style_by words.now }
+fn style_asked(words: &[String]) -> Style
+    ensures { result ≡ style_asked words.now }
 {
     if has_word(words, "--json") {
         Style::Json

@@ -26,7 +26,8 @@ pub(crate) fn both_text<S: Source>(
     style: Style,
     input: &mut S,
 ) -> Result<Vec<u8>, Refusal>
-    ensures { ComesTo (BothShown style) (S.left input.old) (S.left input.new) (S.faults input.old) (S.faults input.new) result }
+    ensures { ComesTo (BothShown style) (S.left input.old) (S.left input.new) (S.faults input.old) (S.faults input.new)
+        result }
 {
     let native = Native::new(Luhn);
     let bytes = first_bundle(alloc, input)?;
@@ -42,7 +43,8 @@ pub(crate) fn both_text<S: Source>(
 /// Reads the first of two bundles, and nothing behind it.
 fn first_bundle<S: Source>(alloc: Global, input: &mut S) -> Result<Vec<u8>, Refusal>
     ensures first { IfOk result (λ bundle. HoldsFirst (S.left input.old) (S.left input.new) bundle.items) }
-    ensures refused { IfErr result (λ refusal. (LacksFirst (S.left input.old) (S.left input.new) × (refusal ≡ CutSchema)) ⊎ IsFault (S.faults input.old) (S.faults input.new) refusal) }
+    ensures refused { IfErr result (λ refusal. (LacksFirst (S.left input.old) (S.left input.new)
+        × (refusal ≡ CutSchema)) ⊎ IsFault (S.faults input.old) (S.faults input.new) refusal) }
     ensures later { S.faults input.old ≤ S.faults input.new }
 {
     match read_framed(alloc, input, MAX_FIRST_BYTES)? {

@@ -33,8 +33,10 @@ pub(crate) fn read_bundle<S: Source>(
     input: &mut S,
 ) -> Result<Bundle, Refusal>
     ensures held { IfOk result (λ bundle. BundleHeld (S.left input.old) (S.left input.new) bundle.schema bundle.graph) }
-    ensures accepted { IfOk result (λ bundle. IsTrue (are_accepted (rules_of bundle.schema) (invariants_of (rules_of bundle.schema)))) }
-    ensures refused { IfErr result (λ refusal. BundleRefused (S.left input.old) (S.left input.new) refusal ⊎ IsFault (S.faults input.old) (S.faults input.new) refusal) }
+    ensures accepted { IfOk result (λ bundle.
+        IsTrue (are_accepted (rules_of bundle.schema) (invariants_of (rules_of bundle.schema)))) }
+    ensures refused { IfErr result (λ refusal. BundleRefused (S.left input.old) (S.left input.new) refusal
+        ⊎ IsFault (S.faults input.old) (S.faults input.new) refusal) }
     ensures later { S.faults input.old ≤ S.faults input.new }
 {
     let declared = bundle_schema(alloc, input)?;

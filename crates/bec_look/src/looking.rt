@@ -6,17 +6,18 @@ ghost use Rattle.table_model.specs.Invariants.{invariants_of};
 ghost use Rattle.outcomes.specs.Outcome.{ComesTo, Ends, Outcome};
 ghost use Rattle.outcomes.specs.Rules.{rules_of};
 ghost use Rattle.outcomes.specs.declared.refusal.Refusal.TheVariants.{Memory};
-ghost use Rattle.bec_look.specs.Bundles.{BundleShown, IsListing, IsOverview, ShowsAsked, ShowsMembers, lacks_one, status_with};
+ghost use Rattle.bec_look.specs.Bundles.{BundleShown, IsListing, IsOverview, ShowsAsked, ShowsMembers, lacks_one};
+ghost use Rattle.bec_look.specs.Bundles.{status_with};
 ghost use Rattle.bec_look.specs.Questions.{listed, seen, wanted};
-ghost use Rattle.bec_look.specs.Words.{asked_by};
+ghost use Rattle.bec_look.specs.Words.{asking_of};
 
 use crate::answers::answer_text;
 use crate::asked::{Asked, Asking, Listing, Overview};
-use crate::asking::asked_by;
+use crate::asking::asking_of;
 use crate::both::both_text;
 use crate::bundle::read_bundle;
 use crate::members::Members;
-use crate::telling::{tables_of, told_by, told_of};
+use crate::telling::{tables_of, tell_graph, told_of};
 use crate::texts::{text_of, text_of_all};
 use bec_bytes::{Sink, Source};
 use outcomes::status::{DONE, REFUSED};
@@ -25,19 +26,21 @@ use query_answer::shown_lists;
 use row_check::{Luhn, Native};
 use std::alloc::{AllocError, Global};
 
-/// Shows the bundle of a source, or what differs in two: writes what the words ask for, or the lines of what is refused. Answers the exit status, and a text for standard error, which may
-/// be empty.
+/// Shows the bundle of a source, or what differs in two: writes what the words ask for, or the lines of what is
+/// refused. Answers the exit status, and a text for standard error, which may be empty.
 pub fn run<S: Source, K: Sink>(
     alloc: Global,
     words: &[String],
     input: &mut S,
     out: &mut K,
 ) -> (u8, Vec<u8>)
-    ensures { (outcome : Outcome) × (status : ℕ) × ShowsAsked S.left S.faults (asked_by words.now) input.old input.new outcome
-        × Ends (K.faults out.old) (K.faults out.new) (K.held out.old) (K.held out.new) outcome status × (result.0 ≡ status_with (lacks_one (asked_by words.now) outcome) status) }
+    ensures { (outcome : Outcome) × (status : ℕ) × ShowsAsked S.left S.faults (asking_of words.now) input.old input.new
+        outcome
+        × Ends (K.faults out.old) (K.faults out.new) (K.held out.old) (K.held out.new) outcome status
+        × (result.0 ≡ status_with (lacks_one (asking_of words.now) outcome) status) }
 {
     let mut beside = Vec::new(alloc);
-    let asked = asked_by(words);
+    let asked = asking_of(words);
     let outcome = show_asked(alloc, asked, input, &mut beside);
     let lacks = lacks_one(asked, &outcome);
     let status = finish(alloc, out, outcome);
@@ -89,7 +92,8 @@ fn bundle_text<S: Source>(
     input: &mut S,
     beside: &mut Vec<u8>,
 ) -> Result<Vec<u8>, Refusal>
-    ensures { ComesTo (BundleShown (seen asked.entry)) (S.left input.old) (S.left input.new) (S.faults input.old) (S.faults input.new) result }
+    ensures { ComesTo (BundleShown (seen asked.entry)) (S.left input.old) (S.left input.new) (S.faults input.old)
+        (S.faults input.new) result }
 {
     let native = Native::new(Luhn);
     let bundle = read_bundle(alloc, &native, input)?;
@@ -109,7 +113,8 @@ fn shown(
     beside: &mut Vec<u8>,
 ) -> Result<Vec<u8>, Refusal>
     requires { IsTrue (are_accepted (rules_of members.schema.now) (invariants_of (rules_of members.schema.now))) }
-    ensures { ShowsMembers (seen asked.entry) members.entry.schema.now members.entry.graph.now result ⊎ (result ≡ Err Memory) }
+    ensures { ShowsMembers (seen asked.entry) members.entry.schema.now members.entry.graph.now result
+        ⊎ (result ≡ Err Memory) }
 {
     match asked {
         Asked::Updates(listing) => Ok(listing_text(alloc, listing, members, beside)?),
@@ -127,7 +132,8 @@ fn listing_text(
     beside: &mut Vec<u8>,
 ) -> Result<Vec<u8>, AllocError>
     requires { IsTrue (are_accepted (rules_of members.schema.now) (invariants_of (rules_of members.schema.now))) }
-    ensures { IfOk result (λ text. IsListing (listed asked.entry) members.entry.schema.now members.entry.graph.now text.items) }
+    ensures { IfOk result (λ text. IsListing (listed asked.entry) members.entry.schema.now members.entry.graph.now
+        text.items) }
 {
     let told = told_of(alloc, members)?;
     let text = text_of(alloc, asked, members.schema, members.graph, &told, beside)?;
@@ -145,7 +151,7 @@ fn overview_text(
     ensures { IfOk result (λ text. IsOverview asked members.entry.schema.now members.entry.graph.now text.items) }
 {
     let tables = tables_of(alloc, members)?;
-    let told = told_by(alloc, members.graph, &tables)?;
+    let told = tell_graph(alloc, members.graph, &tables)?;
     let lists = shown_lists(alloc, members.schema, &tables)?;
     let text = text_of_all(alloc, asked, members, &told, lists.as_slice(), beside)?;
     Ok(text)

@@ -22,7 +22,8 @@ use update_check::Checked;
 /// What members show.
 pub(crate) fn tables_of(alloc: Global, members: Members) -> Result<Tables, AllocError>
     requires { IsTrue (are_accepted (rules_of members.schema.now) (invariants_of (rules_of members.schema.now))) }
-    ensures { IfOk result (λ tables. IsStateOf (rules_of members.entry.schema.now) (nodes_of members.entry.graph.now) tables) }
+    ensures { IfOk result (λ tables. IsStateOf (rules_of members.entry.schema.now) (nodes_of members.entry.graph.now)
+        tables) }
 {
     accepted_is_unlimited();
     let tables = replay(alloc, members.schema, members.native, members.graph)?;
@@ -35,17 +36,18 @@ pub(crate) fn told_of(alloc: Global, members: Members) -> Result<Told, AllocErro
     ensures { IfOk result (λ told. IsToldOf (rules_of members.entry.schema.now) members.entry.graph.now told) }
 {
     let tables = tables_of(alloc, members)?;
-    let told = told_by(alloc, members.graph, &tables)?;
+    let told = tell_graph(alloc, members.graph, &tables)?;
     Ok(told)
 }
 
 /// The same by the tables of a graph.
-pub(crate) fn told_by(
+pub(crate) fn tell_graph(
     alloc: Global,
     graph: &Graph<Checked>,
     tables: &Tables,
 ) -> Result<Told, AllocError>
-    ensures { IfOk result (λ told. (rules : Rules) → IsStateOf rules (nodes_of graph.now) tables.now → IsToldOf rules graph.now told) }
+    ensures { IfOk result (λ told. (rules : Rules) → IsStateOf rules (nodes_of graph.now) tables.now
+        → IsToldOf rules graph.now told) }
 {
     let notes = notes_of(alloc, graph)?;
     let found = heads_of(alloc, graph)?;

@@ -18,7 +18,8 @@ use std::alloc::{AllocError, Global};
 use table_model::ShownRowList;
 use update_check::Checked;
 
-/// What is asked of all, with the rows of each table and what is told of the updates. What goes to standard error is added beside.
+/// What is asked of all, with the rows of each table and what is told of the updates. What goes to standard error is
+/// added beside.
 pub(crate) fn text_of_all(
     alloc: Global,
     asked: Overview,
@@ -27,7 +28,8 @@ pub(crate) fn text_of_all(
     lists: &[ShownRowList],
     beside: &mut Vec<u8>,
 ) -> Result<Vec<u8>, AllocError>
-    ensures { IfOk result (λ text. IsTextOfAll asked members.entry.schema.now members.entry.graph.now told.now lists.now text.items) }
+    ensures { IfOk result (λ text. IsTextOfAll asked members.entry.schema.now members.entry.graph.now told.now lists.now
+        text.items) }
 {
     match asked {
         Overview::Page => page_with(alloc, members, told, lists, beside),
@@ -48,7 +50,8 @@ fn page_with(
     lists: &[ShownRowList],
     beside: &mut Vec<u8>,
 ) -> Result<Vec<u8>, AllocError>
-    ensures { IfOk result (λ text. IsPage members.entry.schema.now members.entry.graph.now told.now lists.now text.items) }
+    ensures { IfOk result (λ text. IsPage members.entry.schema.now members.entry.graph.now told.now lists.now
+        text.items) }
 {
     let picture = picture_of(
         alloc,
@@ -105,7 +108,8 @@ pub(crate) fn text_of(
     told: &Told,
     beside: &mut Vec<u8>,
 ) -> Result<Vec<u8>, AllocError>
-    ensures { IfOk result (λ text. IsTextOf (listed asked.entry) schema.now.tables (nodes_of graph.now) told.now text.items) }
+    ensures { IfOk result (λ text. IsTextOf (listed asked.entry) schema.now.tables (nodes_of graph.now) told.now
+        text.items) }
 {
     match asked {
         Listing::Picture(form) => picture_of(alloc, form, schema, graph, told, beside),

@@ -1,21 +1,22 @@
 //! The commands without a net, by the words of a command line.
 
-ghost use Rattle.std.specs.Prelude.{IsTrue};
+ghost use Rattle.std.specs.Prelude.{IsTrue, option_map};
 ghost use Rattle.bec_node.specs.RunAlone.{HasShortNote, NamesApart, Comes, Runs};
-ghost use Rattle.node_commands.specs.Creating.{DrawsKey};
+ghost use Rattle.node_commands.specs.Creating.{DrawsKeyOnly, Inits};
+ghost use Rattle.command_words.specs.Requests.{dump, heads};
 ghost use Rattle.outcomes.specs.Seen.{seen_outside, seen_sink};
 ghost use Rattle.command_words.specs.Seen.{request_seen};
 ghost use Rattle.key_directory.specs.Parts.{IsHome};
 
 use bec_bytes::{Sink, Source};
 use bec_disk::Shelf;
-use command_words::{Request, one_request, request_in};
+use command_words::{Request, one_request, parse_request};
 use key_directory::KeyMaker;
 use lm_ots::OtsType;
 use lms_tree::{KeyTypes, LeafGenerator, LmsType};
 use node_commands::{
-    Work, bundle_tables, init_in, keygen_in, merge_in, one_answer, one_answer_of_makers,
-    one_answer_of_merge, one_answer_of_parts, stream_heads, verdict, work_in,
+    Work, bundle_tables, init, keygen, merge, one_answer, one_answer_of_makers,
+    one_answer_of_merge, one_answer_of_parts, open_and_work, stream_heads, verdict,
 };
 use outcomes::status::OUT_OF_MEMORY;
 use outcomes::{Outside, Refusal, finish, no_command};
@@ -27,10 +28,10 @@ use std::alloc::Global;
 /// exit status. No part of the shelf may be handed out, and none is afterwards. Words that ask for something over a net
 /// are no command here.
 ///
-/// Words that ask for something come to an outcome: it is done and prints a text, or it is refused, and why is printed. Each
-/// outcome has its cause in the words, in what the source has left and in what the parts of a directory read as; only where
-/// the source or the shelf failed, or memory ran out, another one comes in its place. The outcome is written whole, with its status; or the sink failed, and a front of it is
-/// written, with the status of a stream fault.
+/// Words that ask for something come to an outcome: it is done and prints a text, or it is refused, and why is printed.
+/// Each outcome has its cause in the words, in what the source has left and in what the parts of a directory read as;
+/// only where the source or the shelf failed, or memory ran out, another one comes in its place. The outcome is written
+/// whole, with its status; or the sink failed, and a front of it is written, with the status of a stream fault.
 pub fn run_alone<V: Verifier, H: Shelf, R: Rng, S: Source, K: Sink>(
     verifier: &V,
     alloc: Global,
@@ -48,7 +49,7 @@ pub fn run_alone<V: Verifier, H: Shelf, R: Rng, S: Source, K: Sink>(
     one_answer_of_merge();
     one_answer_of_parts();
     one_request();
-    let Ok(asked) = request_in(alloc, words) else {
+    let Ok(asked) = parse_request(alloc, words) else {
         return OUT_OF_MEMORY;
     };
     let Some(request) = asked else {
@@ -71,83 +72,118 @@ fn outcome_of<V: Verifier, H: Shelf, R: Rng, S: Source>(
     ensures { Comes (request_seen request.now) (seen_outside S.Source H.Shelf R.stream outside.old)
         (seen_outside S.Source H.Shelf R.stream outside.new) result }
 {
-    let Outside {
-        shelf,
-        random,
-        input,
-    } = outside;
     let maker = &KeyMaker {
         generator: verifier,
         alloc,
     };
     match request {
-        Request::Heads { directory: None } => stream_heads(alloc, input),
-        Request::Heads {
-            directory: Some(directory),
-        } => work_in(maker, shelf, directory, &Work::Heads, random, input),
-        Request::Check => verdict(alloc, input),
-        Request::Dump {
-            directory: None,
-            json,
-        } => bundle_tables(alloc, input, *json),
-        Request::Dump {
-            directory: Some(directory),
-            json,
-        } => {
-            let work = Work::Dump { json: *json };
-            work_in(maker, shelf, directory, &work, random, input)
-        }
-        Request::Init { directory } => init_in(alloc, shelf, directory, random, input),
+        Request::Heads { directory } => printed_heads(maker, *directory, outside),
+        Request::Check => verdict(alloc, &mut outside.input),
+        Request::Dump { directory, json } => printed_tables(maker, *directory, *json, outside),
+        Request::Init { directory } => made_store(alloc, directory, outside),
         Request::Keygen {
             directory,
             height,
             width,
-        } => drawn_key(verifier, alloc, shelf, directory, (*height, *width), random),
+        } => drawn_key(maker, directory, (*height, *width), outside),
         Request::Apply { directory, note } => {
-            let work = Work::Apply { note: *note };
-            work_in(maker, shelf, directory, &work, random, input)
+            open_and_work(maker, directory, &Work::Apply { note: *note }, outside)
         }
-        Request::Join { directory } => {
-            work_in(maker, shelf, directory, &Work::Join, random, input)
-        }
+        Request::Join { directory } => open_and_work(maker, directory, &Work::Join, outside),
         Request::Export { directory, updates } => {
             let work = Work::Export { updates: *updates };
-            work_in(maker, shelf, directory, &work, random, input)
+            open_and_work(maker, directory, &work, outside)
         }
         Request::Query {
             directory,
             text,
             json,
-        } => {
-            let work = Work::Query { text, json: *json };
-            work_in(maker, shelf, directory, &work, random, input)
+        } => open_and_work(
+            maker,
+            directory,
+            &Work::Query { text, json: *json },
+            outside,
+        ),
+        Request::Merge { first, second } => {
+            merge(verifier, alloc, &mut outside.shelf, first, second)
         }
-        Request::Merge { first, second } => merge_in(verifier, alloc, shelf, first, second),
-        Request::Notes { directory } => {
-            work_in(maker, shelf, directory, &Work::Notes, random, input)
-        }
+        Request::Notes { directory } => open_and_work(maker, directory, &Work::Notes, outside),
     }
 }
 
-/// Draws a key for a directory that has none. Its tree is of the one type, and its one-time keys of the other.
-fn drawn_key<G: LeafGenerator, H: Shelf, R: Rng>(
-    generator: &G,
+/// The heads of the store of a directory, or without one those of the update stream that is read, as they are printed.
+fn printed_heads<V: Verifier, H: Shelf, R: Rng, S: Source>(
+    maker: &KeyMaker<V>,
+    directory: Option<&str>,
+    outside: &mut Outside<H, R, S>,
+) -> Result<Vec<u8>, Refusal>
+    requires home { IsTrue (H.state outside.old.shelf).tells → IsHome (H.state outside.old.shelf) }
+    ensures { Comes (heads (option_map (λ d. d.now) directory.entry)) (seen_outside S.Source H.Shelf R.stream
+        outside.old)
+        (seen_outside S.Source H.Shelf R.stream outside.new) result }
+{
+    match directory {
+        None => stream_heads(maker.alloc, &mut outside.input),
+        Some(directory) => open_and_work(maker, directory, &Work::Heads, outside),
+    }
+}
+
+/// The tables of the store of a directory, or without one those of the bundle that is read, as they are printed.
+fn printed_tables<V: Verifier, H: Shelf, R: Rng, S: Source>(
+    maker: &KeyMaker<V>,
+    directory: Option<&str>,
+    json: bool,
+    outside: &mut Outside<H, R, S>,
+) -> Result<Vec<u8>, Refusal>
+    requires home { IsTrue (H.state outside.old.shelf).tells → IsHome (H.state outside.old.shelf) }
+    ensures { Comes (dump (option_map (λ d. d.now) directory.entry) json) (seen_outside S.Source H.Shelf R.stream
+        outside.old)
+        (seen_outside S.Source H.Shelf R.stream outside.new) result }
+{
+    match directory {
+        None => bundle_tables(maker.alloc, &mut outside.input, json),
+        Some(directory) => open_and_work(maker, directory, &Work::Dump { json }, outside),
+    }
+}
+
+/// Makes a store in a directory that has none, of the schema that is read.
+fn made_store<H: Shelf, R: Rng, S: Source>(
     alloc: Global,
-    shelf: &mut H,
+    directory: &str,
+    outside: &mut Outside<H, R, S>,
+) -> Result<Vec<u8>, Refusal>
+    requires { IsTrue (H.state outside.old.shelf).tells → IsHome (H.state outside.old.shelf) }
+    ensures { Inits directory.now (seen_outside S.Source H.Shelf R.stream outside.old)
+        (seen_outside S.Source H.Shelf R.stream outside.new) result }
+{
+    let Outside {
+        shelf,
+        random,
+        input,
+    } = outside;
+    init(alloc, shelf, directory, random, input)
+}
+
+/// Draws a key for a directory that has none. Its tree is of the one type, and its one-time keys of the other.
+fn drawn_key<G: LeafGenerator, H: Shelf, R: Rng, S: Source>(
+    maker: &KeyMaker<G>,
     directory: &str,
     types: (LmsType, OtsType),
-    random: &mut R,
+    outside: &mut Outside<H, R, S>,
 ) -> Result<Vec<u8>, Refusal>
-    requires { IsTrue (H.state shelf.old).tells → IsHome (H.state shelf.old) }
-    ensures { DrawsKey types.0 types.1 (R.stream random.old) (R.stream random.new) directory.now (H.state shelf.old) (H.state shelf.new) (H.faults shelf.old) (H.faults shelf.new) result }
+    requires { IsTrue (H.state outside.old.shelf).tells → IsHome (H.state outside.old.shelf) }
+    ensures { DrawsKeyOnly types.0 types.1 directory.now (seen_outside S.Source H.Shelf R.stream outside.old)
+        (seen_outside S.Source H.Shelf R.stream outside.new) result }
 {
+    let Outside { shelf, random, .. } = outside;
     let (lms, ots) = types;
-    keygen_in(
-        generator,
-        alloc,
+    let types = KeyTypes { lms, ots };
+    keygen(
+        maker.generator,
+        maker.alloc,
         shelf,
         directory,
-        KeyTypes { lms, ots },
+        types,
         random,
     )
 }

@@ -8,9 +8,9 @@ ghost use Rattle.bec_node.specs.Families.{IsAnswered, SealAnswersOnly, SealComes
 ghost use Rattle.bec_node.specs.Beside.{DoesBeside, RunsBeside};
 
 use crate::alone::run_alone;
-use crate::families::{BesideRequest, beside_request_in};
+use crate::families::{BesideRequest, parse_beside_request};
 use crate::seals::{drawn_hss, sealed, unsealed};
-use audit_commands::{audit_in, confirm_in, one_answer_of_audits};
+use audit_commands::{audit, confirm, one_answer_of_audits};
 use bec_bytes::{Sink, Source};
 use bec_disk::Shelf;
 use command_words::{AuditRequest, SealRequest, WorldRequest};
@@ -21,7 +21,7 @@ use outcomes::{Outside, finish};
 use rand_core::Rng;
 use record_check::Verifier;
 use std::alloc::Global;
-use watch_command::{Watch, watch_in};
+use watch_command::{Watched, watch};
 use world_commands::{tell_demo, tell_world};
 
 /// Does what the words of a command line ask for without a net, of all families, over what stands outside and a sink,
@@ -43,7 +43,7 @@ pub fn run_beside<V: Verifier, H: Shelf, R: Rng, S: Source, K: Sink>(
         (seen_outside S.Source H.Shelf R.stream outside.old) (seen_outside S.Source H.Shelf R.stream outside.new)
         (seen_sink K.Sink out.old) (seen_sink K.Sink out.new) result }
 {
-    let Ok(asked) = beside_request_in(alloc, words) else {
+    let Ok(asked) = parse_beside_request(alloc, words) else {
         return OUT_OF_MEMORY;
     };
     let Some(request) = asked else {
@@ -75,23 +75,23 @@ fn run_asked<V: Verifier, H: Shelf, R: Rng, S: Source, K: Sink>(
             run_seals(&maker, request, outside, out)
         }
         BesideRequest::Audits(AuditRequest::Audit { directory }) => {
-            let outcome = audit_in(verifier, alloc, &mut outside.shelf, directory);
+            let outcome = audit(verifier, alloc, &mut outside.shelf, directory);
             finish(alloc, out, outcome)
         }
         BesideRequest::Audits(AuditRequest::Confirm) => {
-            let outcome = confirm_in(alloc, &mut outside.input);
+            let outcome = confirm(alloc, &mut outside.input);
             finish(alloc, out, outcome)
         }
         BesideRequest::Views(request) => {
-            let what = Watch {
+            let what = Watched {
+                directory: request.directory,
                 text: request.text,
                 every: request.every,
             };
-            watch_in(
+            watch(
                 verifier,
                 alloc,
                 &mut outside.shelf,
-                request.directory,
                 &what,
                 &mut outside.input,
                 out,
@@ -114,7 +114,8 @@ fn run_seals<G: LeafGenerator, H: Shelf, R: Rng, S: Source, K: Sink>(
     out: &mut K,
 ) -> u8
     requires { IsTrue (H.state outside.old.shelf).tells → IsHome (H.state outside.old.shelf) }
-    ensures { IsAnswered (SealComes (seal_seen request.now)) (SealAnswersOnly (seal_seen request.now) (seen_outside S.Source H.Shelf R.stream outside.old))
+    ensures { IsAnswered (SealComes (seal_seen request.now)) (SealAnswersOnly (seal_seen request.now)
+        (seen_outside S.Source H.Shelf R.stream outside.old))
         (seen_outside S.Source H.Shelf R.stream outside.old) (seen_outside S.Source H.Shelf R.stream outside.new)
         (seen_sink K.Sink out.old) (seen_sink K.Sink out.new) result }
 {

@@ -15,8 +15,9 @@ use rand_core::Rng;
 use record_check::Verifier;
 use std::alloc::Global;
 
-/// The command `heads [DIR]`: prints the ids of the heads of the update stream that it reads, or of the directory's store,
-/// rising, one per line in lower-case hexadecimal; or the line for what is refused. The first word has to be `heads`.
+/// The command `heads [DIR]`: prints the ids of the heads of the update stream that it reads, or of the directory's
+/// store, rising, one per line in lower-case hexadecimal; or the line for what is refused. The first word has to be
+/// `heads`.
 ///
 /// Its clause is that of [`run_alone`] for these words.
 pub fn command_heads<V: Verifier, H: Shelf, R: Rng, S: Source, K: Sink>(
@@ -35,9 +36,9 @@ pub fn command_heads<V: Verifier, H: Shelf, R: Rng, S: Source, K: Sink>(
     run_alone(verifier, alloc, words, outside, out)
 }
 
-/// The command `check`: reads the text of a schema, and prints `confluent` where each invariant survives merging, or the
-/// line for its first fault, or the lines for the first invariant that does not survive, with a history that breaks it. The
-/// first word has to be `check`.
+/// The command `check`: reads the text of a schema, and prints `confluent` where each invariant survives merging, or
+/// the line for its first fault, or the lines for the first invariant that does not survive, with a history that breaks
+/// it. The first word has to be `check`.
 ///
 /// Its clause is that of [`run_alone`] for these words.
 pub fn command_check<V: Verifier, H: Shelf, R: Rng, S: Source, K: Sink>(
@@ -56,9 +57,9 @@ pub fn command_check<V: Verifier, H: Shelf, R: Rng, S: Source, K: Sink>(
     run_alone(verifier, alloc, words, outside, out)
 }
 
-/// The command `dump [DIR] [--json]`: prints the tables of the bundle that it reads, or of the directory's store, each visible
-/// row on a line, and the updates that do nothing, or all of it as one JSON object; or the line for what is refused. The first
-/// word has to be `dump`.
+/// The command `dump [DIR] [--json]`: prints the tables of the bundle that it reads, or of the directory's store, each
+/// visible row on a line, and the updates that do nothing, or all of it as one JSON object; or the line for what is
+/// refused. The first word has to be `dump`.
 ///
 /// Its clause is that of [`run_alone`] for these words.
 pub fn command_dump<V: Verifier, H: Shelf, R: Rng, S: Source, K: Sink>(
@@ -77,8 +78,8 @@ pub fn command_dump<V: Verifier, H: Shelf, R: Rng, S: Source, K: Sink>(
     run_alone(verifier, alloc, words, outside, out)
 }
 
-/// The command `init DIR`: makes a store in a directory that has none, of the schema that it reads, and prints the id of its
-/// database. The first word has to be `init`.
+/// The command `init DIR`: makes a store in a directory that has none, of the schema that it reads, and prints the id
+/// of its database. The first word has to be `init`.
 ///
 /// Its clause is that of [`run_alone`] for these words.
 pub fn command_init<V: Verifier, H: Shelf, R: Rng, S: Source, K: Sink>(
@@ -97,8 +98,8 @@ pub fn command_init<V: Verifier, H: Shelf, R: Rng, S: Source, K: Sink>(
     run_alone(verifier, alloc, words, outside, out)
 }
 
-/// The command `keygen DIR [--height 5,10,15] [--width 1,2,4,8]`: draws a key for a directory that has none, and prints its
-/// public key in lower-case hexadecimal. The first word has to be `keygen`.
+/// The command `keygen DIR [--height 5,10,15] [--width 1,2,4,8]`: draws a key for a directory that has none, and prints
+/// its public key in lower-case hexadecimal. The first word has to be `keygen`.
 ///
 /// Its clause is that of [`run_alone`] for these words.
 pub fn command_keygen<V: Verifier, H: Shelf, R: Rng, S: Source, K: Sink>(
@@ -117,8 +118,8 @@ pub fn command_keygen<V: Verifier, H: Shelf, R: Rng, S: Source, K: Sink>(
     run_alone(verifier, alloc, words, outside, out)
 }
 
-/// The command `apply DIR`: makes an update of the transaction that it reads, by the key of the directory, adds it to the
-/// directory's store, and prints its id. The first word has to be `apply`.
+/// The command `apply DIR`: makes an update of the transaction that it reads, by the key of the directory, adds it to
+/// the directory's store, and prints its id. The first word has to be `apply`.
 ///
 /// Its clause is that of [`run_alone`] for these words.
 pub fn command_apply<V: Verifier, H: Shelf, R: Rng, S: Source, K: Sink>(
@@ -137,8 +138,8 @@ pub fn command_apply<V: Verifier, H: Shelf, R: Rng, S: Source, K: Sink>(
     run_alone(verifier, alloc, words, outside, out)
 }
 
-/// The command `join DIR`: joins the heads of the directory's store by an update without operations, and prints its id, or
-/// nothing where there are fewer than two heads. The first word has to be `join`.
+/// The command `join DIR`: joins the heads of the directory's store by an update without operations, and prints its id,
+/// or nothing where there are fewer than two heads. The first word has to be `join`.
 ///
 /// Its clause is that of [`run_alone`] for these words.
 pub fn command_join<V: Verifier, H: Shelf, R: Rng, S: Source, K: Sink>(
@@ -157,8 +158,8 @@ pub fn command_join<V: Verifier, H: Shelf, R: Rng, S: Source, K: Sink>(
     run_alone(verifier, alloc, words, outside, out)
 }
 
-/// The command `export DIR [--updates]`: prints the bundle of the directory's store, its schema and its updates in the order
-/// of arrival, or the updates alone. The first word has to be `export`.
+/// The command `export DIR [--updates]`: prints the bundle of the directory's store, its schema and its updates in the
+/// order of arrival, or the updates alone. The first word has to be `export`.
 ///
 /// Its clause is that of [`run_alone`] for these words.
 pub fn command_export<V: Verifier, H: Shelf, R: Rng, S: Source, K: Sink>(
@@ -177,8 +178,8 @@ pub fn command_export<V: Verifier, H: Shelf, R: Rng, S: Source, K: Sink>(
     run_alone(verifier, alloc, words, outside, out)
 }
 
-/// The command `query DIR TEXT [--json]`: prints what a query asks of the directory's store, a line for each row with its
-/// columns apart by a tab, or one JSON object; or the line for what is refused. The first word has to be `query`.
+/// The command `query DIR TEXT [--json]`: prints what a query asks of the directory's store, a line for each row with
+/// its columns apart by a tab, or one JSON object; or the line for what is refused. The first word has to be `query`.
 ///
 /// Its clause is that of [`run_alone`] for these words.
 pub fn command_query<V: Verifier, H: Shelf, R: Rng, S: Source, K: Sink>(
@@ -197,8 +198,8 @@ pub fn command_query<V: Verifier, H: Shelf, R: Rng, S: Source, K: Sink>(
     run_alone(verifier, alloc, words, outside, out)
 }
 
-/// The command `merge DIR OTHER`: reconciles the stores of two directories, and prints how many updates each gained, and in how many turns. The first word
-/// has to be `merge`.
+/// The command `merge DIR OTHER`: reconciles the stores of two directories, and prints how many updates each gained,
+/// and in how many turns. The first word has to be `merge`.
 ///
 /// Its clause is that of [`run_alone`] for these words.
 pub fn command_merge<V: Verifier, H: Shelf, R: Rng, S: Source, K: Sink>(
@@ -217,8 +218,8 @@ pub fn command_merge<V: Verifier, H: Shelf, R: Rng, S: Source, K: Sink>(
     run_alone(verifier, alloc, words, outside, out)
 }
 
-/// The command `notes DIR`: prints the notes of the directory's store that are not empty, each with the id of its update, in rising order of ids; or the
-/// line for what is refused. The first word has to be `notes`.
+/// The command `notes DIR`: prints the notes of the directory's store that are not empty, each with the id of its
+/// update, in rising order of ids; or the line for what is refused. The first word has to be `notes`.
 ///
 /// Its clause is that of [`run_alone`] for these words.
 pub fn command_notes<V: Verifier, H: Shelf, R: Rng, S: Source, K: Sink>(

@@ -4,8 +4,8 @@ ghost use Rattle.std.specs.Prelude.{IfOk, MatchOption};
 ghost use Rattle.bec_node.specs.Families.{BesideText, IsBesideCommand, beside_seen};
 
 use command_words::{
-    AuditRequest, SealRequest, WatchRequest, WorldRequest, audit_request_in, seal_request_in,
-    watch_request_in, world_request_in,
+    AuditRequest, SealRequest, WatchRequest, WorldRequest, parse_audit_request, parse_seal_request,
+    parse_watch_request, parse_world_request,
 };
 use std::alloc::{AllocError, Global};
 
@@ -22,25 +22,26 @@ pub(crate) enum BesideRequest<'a> {
     Worlds(WorldRequest),
 }
 
-/// What these words ask for of one of these families, or `None` where they ask for nothing of them. The one error is want of
-/// memory, after which nothing is known of the words.
-pub(crate) fn beside_request_in<'a>(
+/// What these words ask for of one of these families, or `None` where they ask for nothing of them. The one error is
+/// want of memory, after which nothing is known of the words.
+pub(crate) fn parse_beside_request<'a>(
     alloc: Global,
     words: &'a [String],
 ) -> Result<Option<BesideRequest<'a>>, AllocError>
-    ensures { IfOk result (λ found. MatchOption found ((request : BesideText) → IsBesideCommand request words.entry.now → ⊥)
+    ensures { IfOk result (λ found. MatchOption found ((request : BesideText) → IsBesideCommand request words.entry.now
+        → ⊥)
         (λ request. IsBesideCommand (beside_seen request) words.entry.now)) }
 {
-    if let Some(request) = seal_request_in(alloc, words)? {
+    if let Some(request) = parse_seal_request(alloc, words)? {
         return Ok(Some(BesideRequest::Seals(request)));
     }
-    if let Some(request) = audit_request_in(alloc, words)? {
+    if let Some(request) = parse_audit_request(alloc, words)? {
         return Ok(Some(BesideRequest::Audits(request)));
     }
-    if let Some(request) = watch_request_in(alloc, words)? {
+    if let Some(request) = parse_watch_request(alloc, words)? {
         return Ok(Some(BesideRequest::Views(request)));
     }
-    match world_request_in(alloc, words)? {
+    match parse_world_request(alloc, words)? {
         Some(request) => Ok(Some(BesideRequest::Worlds(request))),
         None => Ok(None),
     }

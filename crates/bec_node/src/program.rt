@@ -8,8 +8,8 @@ use crate::beside::run_beside;
 use bec_bytes::{Sink, Source};
 use bec_disk::Shelf;
 use bec_links::Net;
-use command_words::{NetRequest, net_request_in};
-use net_commands::{serve_in, sync_in};
+use command_words::{NetRequest, parse_net_request};
+use net_commands::{Service, serve, sync};
 use outcomes::status::OUT_OF_MEMORY;
 use outcomes::{Outside, Refusal, Reply, end};
 use rand_core::Rng;
@@ -48,7 +48,7 @@ where
         (seen_sink K.Sink out.old) (seen_sink K.Sink out.new) result }
     ensures home { IsTrue (H.state outside.old.shelf).tells → IsHome (H.state outside.new.shelf) }
 {
-    let Ok(asked) = net_request_in(alloc, words) else {
+    let Ok(asked) = parse_net_request(alloc, words) else {
         return OUT_OF_MEMORY;
     };
     let Some(request) = asked else {
@@ -71,16 +71,24 @@ where
     H::D: Send,
     requires home { IsTrue (H.state shelf.old).tells → IsHome (H.state shelf.old) }
     requires some { AsksForSome (net_seen request.now) }
-    ensures { DoesOver (net_seen request.now) (H.state shelf.old) (H.state shelf.new) (N.state net.old) (N.state net.new) (H.faults shelf.old) (H.faults shelf.new) (N.faults net.old) (N.faults net.new) result }
+    ensures { DoesOver (net_seen request.now) (H.state shelf.old) (H.state shelf.new) (N.state net.old)
+        (N.state net.new) (H.faults shelf.old) (H.faults shelf.new) (N.faults net.old) (N.faults net.new) result }
 {
-    match request {
+    match *request {
         NetRequest::Sync { directory, address } => {
-            sync_in(rt, alloc, shelf, net, directory, address)
+            sync(rt, alloc, shelf, net, directory, address)
         }
         NetRequest::Serve {
             directory,
             address,
             sessions,
-        } => serve_in(rt, alloc, shelf, net, directory, address, *sessions),
+        } => {
+            let service = Service {
+                directory,
+                address,
+                sessions,
+            };
+            serve(rt, alloc, shelf, net, &service)
+        }
     }
 }

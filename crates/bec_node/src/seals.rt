@@ -12,7 +12,7 @@ use bec_disk::Shelf;
 use lms_tree::{KeyTypes, LeafGenerator};
 use outcomes::Refusal;
 use rand_core::Rng;
-use seal_commands::{SealRefusal, hsskey_in, seal_in, unseal_in};
+use seal_commands::{SealRefusal, hsskey, seal, unseal};
 use std::alloc::Global;
 
 /// Draws a two-level key for a directory that has none.
@@ -25,10 +25,11 @@ pub(crate) fn drawn_hss<G: LeafGenerator, H: Shelf, R: Rng>(
     random: &mut R,
 ) -> Result<Vec<u8>, Refusal>
     requires { IsTrue (H.state shelf.old).tells → IsHome (H.state shelf.old) }
-    ensures { TellsSeals (HsskeyRun types.lms types.ots (R.stream random.old) directory.now (H.state shelf.old) (H.state shelf.new))
+    ensures { TellsSeals (HsskeyRun types.lms types.ots (R.stream random.old) directory.now (H.state shelf.old)
+        (H.state shelf.new))
         (H.state shelf.old) (H.state shelf.new) (H.faults shelf.old) (H.faults shelf.new) result }
 {
-    match hsskey_in(generator, alloc, shelf, directory, types, random) {
+    match hsskey(generator, alloc, shelf, directory, types, random) {
         Ok(text) => Ok(text),
         Err(why) => Err(seal_refusal(why)),
     }
@@ -44,10 +45,11 @@ pub(crate) fn sealed<G: LeafGenerator, H: Shelf, R: Rng, S: Source>(
     input: &mut S,
 ) -> Result<Vec<u8>, Refusal>
     requires { IsTrue (H.state shelf.old).tells → IsHome (H.state shelf.old) }
-    ensures { TellsSeals (SealRun directory.now (H.state shelf.old) (H.state shelf.new) (R.stream random.old) (S.left input.old) (S.left input.new) (S.faults input.old) (S.faults input.new))
+    ensures { TellsSeals (SealRun directory.now (H.state shelf.old) (H.state shelf.new) (R.stream random.old)
+        (S.left input.old) (S.left input.new) (S.faults input.old) (S.faults input.new))
         (H.state shelf.old) (H.state shelf.new) (H.faults shelf.old) (H.faults shelf.new) result }
 {
-    match seal_in(generator, alloc, shelf, directory, random, input) {
+    match seal(generator, alloc, shelf, directory, random, input) {
         Ok(text) => Ok(text),
         Err(why) => Err(seal_refusal(why)),
     }
@@ -60,9 +62,10 @@ pub(crate) fn unsealed<S: Source>(
     signature: &[u8],
     input: &mut S,
 ) -> Result<Vec<u8>, Refusal>
-    ensures { ComesTo (UnsealAnswer from_seal key.now signature.now) (S.left input.old) (S.left input.new) (S.faults input.old) (S.faults input.new) result }
+    ensures { ComesTo (UnsealAnswer from_seal key.now signature.now) (S.left input.old) (S.left input.new)
+        (S.faults input.old) (S.faults input.new) result }
 {
-    match unseal_in(alloc, key, signature, input) {
+    match unseal(alloc, key, signature, input) {
         Ok(text) => Ok(text),
         Err(why) => Err(seal_refusal(why)),
     }

@@ -52,7 +52,8 @@ pub(crate) fn set_all(bytes: &mut [u8], id: &UpdateId)
 pub(crate) fn are_set(bytes: &[u8], id: &UpdateId) -> bool
     requires some { 0 < length bytes.now }
     requires fits { 8 * length bytes.now < 2 ^ 64 }
-    ensures { result ≡ list_all (λ offset. is_bit_set bytes.now (position_at (8 * length bytes.now) id.now offset)) offsets }
+    ensures { result ≡ list_all (λ offset. is_bit_set bytes.now (position_at (8 * length bytes.now) id.now offset))
+        offsets }
 {
     let bits = 8 * bytes.len();
     OFFSETS

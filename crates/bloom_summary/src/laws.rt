@@ -11,5 +11,6 @@ pub fn one_summary()
 
 /// Each id that was summed up is a member.
 pub fn members_are_found()
-    ensures { (ids : List UpdateId) (bytes : List ℕ) (id : UpdateId) → AreBits ids bytes → Contains ids id → is_member bytes id ≡ true }
+    ensures { (ids : List UpdateId) (bytes : List ℕ) (id : UpdateId) → AreBits ids bytes → Contains ids id
+        → is_member bytes id ≡ true }
 {}

@@ -17,9 +17,9 @@ use Rattle.byzantine_world.specs.declared.talk.Talk.{Talk}
 use Rattle.world_rules.specs.Happens.{IsNew, IsNewSite, begins}
 use Rattle.world_rules.specs.Worlds.{SiteData, WorldData, flat}
 use Rattle.world_rules.proofs.Schemas.{SchemaLaws}
-use Rattle.world_site.specs.Creating.{IsSiteCause}
-use Rattle.world_site.specs.declared.fault.SiteFault.{SiteFault}
-use Rattle.world_site.specs.declared.fault.SiteFault.TheVariants as sites
+use Rattle.world_rules.specs.Creating.{IsSiteCause}
+use Rattle.world_rules.specs.declared.fault.SiteFault.{SiteFault}
+use Rattle.world_rules.specs.declared.fault.SiteFault.TheVariants as sites
 use Rattle.world_rules.proofs.Standing.{stands_always}
 
 -- an element that is there

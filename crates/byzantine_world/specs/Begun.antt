@@ -12,8 +12,8 @@ use Rattle.byzantine_world.specs.Codes.{ShowsWorld, WorldCode}
 use Rattle.byzantine_world.specs.declared.talk.Talk.{Talk}
 use Rattle.byzantine_world.specs.declared.world_fault.WorldFault.{WorldFault}
 use Rattle.byzantine_world.specs.declared.world_fault.WorldFault.TheVariants.{BadSchema, NotConfluent, Limit, Memory}
-use Rattle.world_site.specs.declared.fault.SiteFault.{SiteFault}
-use Rattle.world_site.specs.declared.fault.SiteFault.TheVariants as sites
+use Rattle.world_rules.specs.declared.fault.SiteFault.{SiteFault}
+use Rattle.world_rules.specs.declared.fault.SiteFault.TheVariants as sites
 use Rattle.world_rules.specs.Happens.{IsNew, IsNewSite}
 use Rattle.world_rules.specs.Worlds.{SiteData, WorldData}
 

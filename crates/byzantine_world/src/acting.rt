@@ -5,7 +5,8 @@ ghost use Rattle.row_check.specs.Checksum.{is_luhn};
 ghost use Rattle.byzantine_world.specs.Events.{AreOpsOfMake, Cuts, IsStep};
 ghost use Rattle.byzantine_world.specs.Standing.{IsStanding};
 ghost use Rattle.world_rules.specs.Happens.{Answers, has_failed};
-ghost use Rattle.world_rules.specs.declared.event.Event.TheVariants.{Make as MakeEvent, Stop as StopEvent, Restart as RestartEvent, Cut as CutEvent};
+ghost use Rattle.world_rules.specs.declared.event.Event.TheVariants.{Make as MakeEvent, Stop as StopEvent};
+ghost use Rattle.world_rules.specs.declared.event.Event.TheVariants.{Restart as RestartEvent, Cut as CutEvent};
 
 use crate::state::State;
 use crate::talk::Talk;
@@ -21,7 +22,8 @@ impl State {
     pub fn make(&mut self, replica: u32, ops: &OpList) -> Result<Stepped, AllocError>
         requires stands { IsStanding self.old.sites.items self.old.talks.items }
         requires form { AreOpsOfMake ops.now }
-        ensures step { IfOk result (λ answer. IsStep is_luhn self.old.sites.items self.old.talks.items (MakeEvent replica ops.now) answer self.new.sites.items self.new.talks.items) }
+        ensures step { IfOk result (λ answer. IsStep is_luhn self.old.sites.items self.old.talks.items
+            (MakeEvent replica ops.now) answer self.new.sites.items self.new.talks.items) }
         ensures stands { OnOk result (IsStanding self.new.sites.items self.new.talks.items) }
     {
         if !self.is_up(replica) {
@@ -42,7 +44,8 @@ impl State {
     /// Each disk of a replica passes so many calls more, and then fails every call.
     pub fn stop(&mut self, replica: u32, calls: u32) -> Stepped
         requires stands { IsStanding self.old.sites.items self.old.talks.items }
-        ensures step { IsStep is_luhn self.old.sites.items self.old.talks.items (StopEvent replica calls) result self.new.sites.items self.new.talks.items }
+        ensures step { IsStep is_luhn self.old.sites.items self.old.talks.items (StopEvent replica calls) result
+            self.new.sites.items self.new.talks.items }
         ensures stands { IsStanding self.new.sites.items self.new.talks.items }
     {
         if !self.is_up(replica) {
@@ -55,7 +58,8 @@ impl State {
     /// A replica stops, and opens what a crash left. Where memory runs out it is lost.
     pub fn restart(&mut self, replica: u32, choice: u64) -> Result<Stepped, AllocError>
         requires stands { IsStanding self.old.sites.items self.old.talks.items }
-        ensures step { IfOk result (λ answer. IsStep is_luhn self.old.sites.items self.old.talks.items (RestartEvent replica choice) answer self.new.sites.items self.new.talks.items) }
+        ensures step { IfOk result (λ answer. IsStep is_luhn self.old.sites.items self.old.talks.items
+            (RestartEvent replica choice) answer self.new.sites.items self.new.talks.items) }
         ensures stands { OnOk result (IsStanding self.new.sites.items self.new.talks.items) }
     {
         one_schema();
@@ -73,7 +77,8 @@ impl State {
     /// A session is cut.
     pub fn cut(&mut self, session: u32) -> Stepped
         requires stands { IsStanding self.old.sites.items self.old.talks.items }
-        ensures step { IsStep is_luhn self.old.sites.items self.old.talks.items (CutEvent session) result self.new.sites.items self.new.talks.items }
+        ensures step { IsStep is_luhn self.old.sites.items self.old.talks.items (CutEvent session) result
+            self.new.sites.items self.new.talks.items }
         ensures stands { IsStanding self.new.sites.items self.new.talks.items }
     {
         if session as usize >= self.talks.len() {

@@ -13,7 +13,7 @@ use lms_tree::KeyTypes;
 use numbered_words::Words;
 use row_check::{Luhn, Native};
 use std::alloc::{AllocError, Global};
-use world_site::Site;
+use world_rules::Site;
 
 /// The number of sessions that a world may have.
 const SESSIONS: usize = 256;

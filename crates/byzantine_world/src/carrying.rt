@@ -24,8 +24,7 @@ use session_rules::End;
 use std::alloc::AllocError;
 use std::collections::VecDeque;
 use sync_session::{CheckedFrame, Out};
-use world_rules::Stepped;
-use world_site::Site;
+use world_rules::{Site, Stepped};
 
 /// What became of a frame that was to be read.
 #[derive(Clone, Copy)]
@@ -37,10 +36,12 @@ pub(crate) enum Read {
 }
 
 impl State {
-    /// The next frame on the way is read: by the end that answers where it goes forward, and else by the one that began.
+    /// The next frame on the way is read: by the end that answers where it goes forward, and else by the one that
+    /// began.
     pub fn carry(&mut self, session: u32, forward: bool) -> Result<Stepped, AllocError>
         requires stands { IsStanding self.old.sites.items self.old.talks.items }
-        ensures step { IfOk result (λ answer. IsStep is_luhn self.old.sites.items self.old.talks.items (CarryEvent session forward) answer self.new.sites.items self.new.talks.items) }
+        ensures step { IfOk result (λ answer. IsStep is_luhn self.old.sites.items self.old.talks.items
+            (CarryEvent session forward) answer self.new.sites.items self.new.talks.items) }
         ensures stands { OnOk result (IsStanding self.new.sites.items self.new.talks.items) }
     {
         let Some(reader) = self.reader(session, forward) else {
@@ -48,7 +49,7 @@ impl State {
         };
         let talk = &mut self.talks[session as usize];
         let site = &mut self.sites[reader as usize];
-        match read_in(talk, site, forward)? {
+        match read_end(talk, site, forward)? {
             Read::Nothing => Ok(Stepped::NoSuch),
             Read::Frame { end } => {
                 if is_store(&end) {
@@ -74,10 +75,11 @@ impl State {
 }
 
 /// An end of a session of two replicas reads the oldest frame on the way to it.
-fn read_in(talk: &mut Option<Talk>, site: &mut Site, forward: bool) -> Result<Read, AllocError>
+fn read_end(talk: &mut Option<Talk>, site: &mut Site, forward: bool) -> Result<Read, AllocError>
     requires { (both : BothData) → both_in talk.old ≡ Some both → CanRead site.old (view_from forward both) }
     ensures { IfOk result (λ read. (both : BothData) → both_in talk.old ≡ Some both
-        → (new : BothData) × (talk.new ≡ Some (BothTalk new)) × Reads read site.old (view_from forward both) site.new (view_from forward new)) }
+        → (new : BothData) × (talk.new ≡ Some (BothTalk new)) × Reads read site.old (view_from forward both) site.new
+        (view_from forward new)) }
 {
     match talk {
         Some(Talk::Both(both)) => both.read(site, forward),
@@ -87,18 +89,20 @@ fn read_in(talk: &mut Option<Talk>, site: &mut Site, forward: bool) -> Result<Re
 }
 
 impl Both {
-    /// The number of the replica whose end reads: of the one that answers where a frame goes forward, and else of the one
-    /// that began.
+    /// The number of the replica whose end reads: of the one that answers where a frame goes forward, and else of the
+    /// one that began.
     fn reader(&self, forward: bool) -> u32
         ensures { result ≡ (view_from forward self.now).reader }
     {
         if forward { self.second } else { self.first }
     }
 
-    /// The end that answers reads the oldest frame on the way to it where `forward` is true, and else the end that began.
+    /// The end that answers reads the oldest frame on the way to it where `forward` is true, and else the end that
+    /// began.
     fn read(&mut self, site: &mut Site, forward: bool) -> Result<Read, AllocError>
         requires { CanRead site.old (view_from forward self.old) }
-        ensures { IfOk result (λ read. Reads read site.old (view_from forward self.old) site.new (view_from forward self.new)) }
+        ensures { IfOk result (λ read. Reads read site.old (view_from forward self.old) site.new
+            (view_from forward self.new)) }
     {
         if forward {
             read_frame(
@@ -122,8 +126,8 @@ impl Both {
     }
 }
 
-/// An end reads the oldest frame that arrives, and what it answers is put behind what leaves. Where it is done its replica
-/// remembers, and where it ended otherwise its peer is cut.
+/// An end reads the oldest frame that arrives, and what it answers is put behind what leaves. Where it is done its
+/// replica remembers, and where it ended otherwise its peer is cut.
 fn read_frame(
     site: &mut Site,
     other: u32,
@@ -132,8 +136,12 @@ fn read_frame(
     arriving: &mut VecDeque<CheckedFrame>,
     leaving: &mut VecDeque<CheckedFrame>,
 ) -> Result<Read, AllocError>
-    requires { (reader : ℕ) → CanRead site.old (view_of reader other end.old peer.old (deque_items arriving.old) (deque_items leaving.old)) }
-    ensures { IfOk result (λ read. (reader : ℕ) → Reads read site.old (view_of reader other end.old peer.old (deque_items arriving.old) (deque_items leaving.old)) site.new (view_of reader other end.new peer.new (deque_items arriving.new) (deque_items leaving.new))) }
+    requires { (reader : ℕ) → CanRead site.old (view_of reader other end.old peer.old (deque_items arriving.old)
+        (deque_items leaving.old)) }
+    ensures { IfOk result (λ read. (reader : ℕ)
+        → Reads read site.old (view_of reader other end.old peer.old (deque_items arriving.old)
+        (deque_items leaving.old)) site.new (view_of reader other end.new peer.new (deque_items arriving.new)
+        (deque_items leaving.new))) }
 {
     if end.is_over() {
         return Ok(Read::Nothing);
@@ -152,8 +160,10 @@ fn read_frame(
 
 /// Puts the frames that a step hands out behind those that leave.
 fn put_frames(site: &Site, out: Out, leaving: &mut VecDeque<CheckedFrame>) -> Result<(), AllocError>
-    ensures put { OnOk result (map frame_of (deque_items leaving.new) ≡ map frame_of (deque_items leaving.old) ++ frames_of (out_of (map entry_of (held_by site.now)) out)) }
-    ensures under { OnOk result ((rule : RuleData) → AreMembers rule (held_by site.now) → All (IsFrameUnder rule) (deque_items leaving.old) → All (IsFrameUnder rule) (deque_items leaving.new)) }
+    ensures put { OnOk result (map frame_of (deque_items leaving.new) ≡ map frame_of (deque_items leaving.old)
+        ++ frames_of (out_of (map entry_of (held_by site.now)) out)) }
+    ensures under { OnOk result ((rule : RuleData) → AreMembers rule (held_by site.now)
+        → All (IsFrameUnder rule) (deque_items leaving.old) → All (IsFrameUnder rule) (deque_items leaving.new)) }
 {
     let Out {
         hello,
@@ -177,8 +187,10 @@ fn put_updates(
     positions: &[u32],
     leaving: &mut VecDeque<CheckedFrame>,
 ) -> Result<(), AllocError>
-    ensures put { OnOk result (map frame_of (deque_items leaving.new) ≡ map frame_of (deque_items leaving.old) ++ map Item (filter_map (slice_get (map entry_of (held_by site.now))) positions.now)) }
-    ensures under { OnOk result ((rule : RuleData) → AreMembers rule (held_by site.now) → All (IsFrameUnder rule) (deque_items leaving.old) → All (IsFrameUnder rule) (deque_items leaving.new)) }
+    ensures put { OnOk result (map frame_of (deque_items leaving.new) ≡ map frame_of (deque_items leaving.old) ++ map
+        Item (filter_map (slice_get (map entry_of (held_by site.now))) positions.now)) }
+    ensures under { OnOk result ((rule : RuleData) → AreMembers rule (held_by site.now)
+        → All (IsFrameUnder rule) (deque_items leaving.old) → All (IsFrameUnder rule) (deque_items leaving.new)) }
 {
     'updates: for position in positions {
         if *position < site.store().len() {

@@ -22,15 +22,15 @@ use session_rules::End;
 use std::alloc::{AllocError, Global};
 use sync_frames::{FeedError, one_split};
 use sync_session::CheckedFrame;
-use world_rules::Stepped;
-use world_site::Site;
+use world_rules::{Site, Stepped};
 
 impl State {
-    /// The liar of a session sends bytes. Each frame that they complete is read, and behind them that what is left is no
-    /// frame, where it is none.
+    /// The liar of a session sends bytes. Each frame that they complete is read, and behind them that what is left is
+    /// no frame, where it is none.
     pub fn feed(&mut self, session: u32, bytes: &[u8]) -> Result<Stepped, AllocError>
         requires stands { IsStanding self.old.sites.items self.old.talks.items }
-        ensures step { IfOk result (λ answer. IsStep is_luhn self.old.sites.items self.old.talks.items (FeedEvent session bytes.now) answer self.new.sites.items self.new.talks.items) }
+        ensures step { IfOk result (λ answer. IsStep is_luhn self.old.sites.items self.old.talks.items
+            (FeedEvent session bytes.now) answer self.new.sites.items self.new.talks.items) }
         ensures stands { OnOk result (IsStanding self.new.sites.items self.new.talks.items) }
     {
         let Some(reader) = self.hearer(session) else {
@@ -38,7 +38,7 @@ impl State {
         };
         let talk = &mut self.talks[session as usize];
         let site = &mut self.sites[reader as usize];
-        let end = hear_in(self.alloc, talk, site, bytes)?;
+        let end = hear_end(self.alloc, talk, site, bytes)?;
         if is_store(&end) {
             site.sink();
             self.cut_with(reader);
@@ -65,7 +65,7 @@ impl State {
 }
 
 /// The end of a session with a liar hears its bytes.
-fn hear_in(
+fn hear_end(
     alloc: Global,
     talk: &mut Option<Talk>,
     site: &mut Site,
@@ -73,7 +73,8 @@ fn hear_in(
 ) -> Result<Option<End>, AllocError>
     requires { (liar : LiarData) → liar_in talk.old ≡ Some liar → CanHear site.old liar }
     ensures { IfOk result (λ end. (liar : LiarData) → liar_in talk.old ≡ Some liar
-        → (new : LiarData) × (talk.new ≡ Some (LiarTalk new)) × HearsLiar site.old liar bytes.now site.new new × (end ≡ new.end.ended)) }
+        → (new : LiarData) × (talk.new ≡ Some (LiarTalk new)) × HearsLiar site.old liar bytes.now site.new new
+        × (end ≡ new.end.ended)) }
 {
     match talk {
         Some(Talk::Liar(liar)) => liar.hear(alloc, site, bytes),
@@ -91,8 +92,8 @@ impl Liar {
     }
 
     /// Its end takes the frames that bytes complete behind those that came before, each update as the check of updates
-    /// finds it, and behind them that what is left is no frame, where it is none. The answer is how the end ended, where
-    /// it did.
+    /// finds it, and behind them that what is left is no frame, where it is none. The answer is how the end ended,
+    /// where it did.
     fn hear(
         &mut self,
         alloc: Global,

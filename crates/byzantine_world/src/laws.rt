@@ -14,8 +14,10 @@ use world_rules::correct_keys_are_never_doubled;
 /// Unless a signature was forged: whatever happened to a world, an audit of what a correct replica holds finds no entry
 /// under the key of a correct replica.
 pub fn no_correct_key_is_doubled()
-    ensures { (ask : Meaning) (schema : SchemaData) (w : WorldData) (q r : ℕ) (site other : SiteData) (entries : List Entry) (entry : Entry)
-        → IsReached ask schema w → NoForgedIndex w → site_at w q ≡ Some site → AreFound (held_by site) entries → Contains entries entry
+    ensures { (ask : Meaning) (schema : SchemaData) (w : WorldData) (q r : ℕ) (site other : SiteData)
+        (entries : List Entry) (entry : Entry)
+        → IsReached ask schema w → NoForgedIndex w → site_at w q ≡ Some site → AreFound (held_by site) entries
+        → Contains entries entry
         → site_at w r ≡ Some other → entry.key ≢ public_key other.key.secret }
 {
     correct_keys_are_never_doubled();

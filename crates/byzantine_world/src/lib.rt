@@ -1,13 +1,13 @@
 //! A world of correct replicas, crashes and liars, in memory: what may happen happens to it, one event after another.
 //!
-//! A [`World`] is made from the text of a schema ([`World::new`]). [`World::step`] takes an event, and does with the real replicas and
-//! sessions what the relation of `world_rules` says; so the laws of every list of events hold of it. What its replicas and
-//! sessions have come to can be reported ([`World::replicas`], [`World::sessions`]). Everything is determined by the number
-//! that it begins with.
+//! A [`World`] is made from the text of a schema ([`World::new`]). [`World::step`] takes an event, and does with the
+//! real replicas and sessions what the relation of `world_rules` says; so the laws of every list of events hold of it.
+//! What its replicas and sessions have come to can be reported ([`World::replicas`], [`World::sessions`]). Everything
+//! is determined by the number that it begins with.
 //!
-//! [`audit_world`] answers which one-time keys signed two messages among what a replica holds, as `key_audit` does of any
-//! list. That no key of a correct replica is among them is a law of every list of events, also of those in which liars
-//! forge what they can; its premise is that they cannot forge what a correct replica's key signs.
+//! [`audit_world`] answers which one-time keys signed two messages among what a replica holds, as `key_audit` does of
+//! any list. That no key of a correct replica is among them is a law of every list of events, also of those in which
+//! liars forge what they can; its premise is that they cannot forge what a correct replica's key signs.
 //!
 //! ```text
 //! let mut world = World::new(alloc, text, 2, types, 1)?;

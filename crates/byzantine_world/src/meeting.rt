@@ -26,7 +26,8 @@ impl State {
         second: Option<u32>,
     ) -> Result<Stepped, AllocError>
         requires stands { IsStanding self.old.sites.items self.old.talks.items }
-        ensures step { IfOk result (λ answer. IsStep is_luhn self.old.sites.items self.old.talks.items (StartEvent session first second) answer self.new.sites.items self.new.talks.items) }
+        ensures step { IfOk result (λ answer. IsStep is_luhn self.old.sites.items self.old.talks.items
+            (StartEvent session first second) answer self.new.sites.items self.new.talks.items) }
         ensures stands { OnOk result (IsStanding self.new.sites.items self.new.talks.items) }
     {
         if !self.is_free(session) {
@@ -52,7 +53,8 @@ impl State {
     fn start_with_liar(&mut self, session: u32, first: u32) -> Result<Stepped, AllocError>
         requires stands { IsStanding self.old.sites.items self.old.talks.items }
         requires free { is_free_in self.old.talks.items session ≡ true }
-        ensures step { IfOk result (λ answer. IsStep is_luhn self.old.sites.items self.old.talks.items (StartEvent session first None) answer self.new.sites.items self.new.talks.items) }
+        ensures step { IfOk result (λ answer. IsStep is_luhn self.old.sites.items self.old.talks.items
+            (StartEvent session first None) answer self.new.sites.items self.new.talks.items) }
         ensures stands { OnOk result (IsStanding self.new.sites.items self.new.talks.items) }
     {
         if !self.is_up(first) {
@@ -71,7 +73,8 @@ impl State {
     fn start_with(&mut self, session: u32, first: u32, second: u32) -> Result<Stepped, AllocError>
         requires stands { IsStanding self.old.sites.items self.old.talks.items }
         requires free { is_free_in self.old.talks.items session ≡ true }
-        ensures step { IfOk result (λ answer. IsStep is_luhn self.old.sites.items self.old.talks.items (StartEvent session first (Some second)) answer self.new.sites.items self.new.talks.items) }
+        ensures step { IfOk result (λ answer. IsStep is_luhn self.old.sites.items self.old.talks.items
+            (StartEvent session first (Some second)) answer self.new.sites.items self.new.talks.items) }
         ensures stands { OnOk result (IsStanding self.new.sites.items self.new.talks.items) }
     {
         if !self.is_up(first) || !self.is_up(second) || first == second {

@@ -6,7 +6,8 @@ ghost use Rattle.table_model.specs.Visible.{Rules};
 ghost use Rattle.update_model.specs.Node.{NodeData};
 ghost use Rattle.tuple_state.specs.State.{IsStateOf};
 ghost use Rattle.byzantine_world.specs.Codes.{ShowsWorld};
-ghost use Rattle.byzantine_world.specs.Shown.{AreCounts, AreRowCounts, AreShownReplicas, IsShownReplica, fault_number, sessions_shown, shown_as, talk_shown, talks_shown};
+ghost use Rattle.byzantine_world.specs.Shown.{AreCounts, AreRowCounts, AreShownReplicas, IsShownReplica, fault_number};
+ghost use Rattle.byzantine_world.specs.Shown.{sessions_shown, shown_as, talk_shown, talks_shown};
 ghost use Rattle.world_rules.specs.Worlds.{WorldData};
 
 use crate::talk::{Side, Talk};
@@ -15,11 +16,11 @@ use session_rules::{End, PeerFault};
 use std::alloc::{AllocError, Global};
 use tuple_state::Tables;
 use world_report::{Counts, ShownEnd, ShownReplica, ShownSession};
-use world_site::Site;
+use world_rules::Site;
 
 impl World {
-    /// Each replica, by number from 0: what it holds, or that it is down. Where the world is over, the answer is want of
-    /// memory.
+    /// Each replica, by number from 0: what it holds, or that it is down. Where the world is over, the answer is want
+    /// of memory.
     pub fn replicas(&self) -> Result<Vec<ShownReplica>, AllocError>
         ensures { IfOk result (λ shown. AreShownReplicas is_luhn self.now.sites shown.items) }
     {
@@ -32,7 +33,8 @@ impl World {
     /// Each session that was started, by its number: how its correct ends stand. Where the world is over, the answer is
     /// want of memory.
     pub fn sessions(&self) -> Result<Vec<ShownSession>, AllocError>
-        ensures { IfOk result (λ shown. (w : WorldData) → ShowsWorld self.now w → shown.items ≡ sessions_shown 0 w.sessions) }
+        ensures { IfOk result (λ shown. (w : WorldData) → ShowsWorld self.now w
+            → shown.items ≡ sessions_shown 0 w.sessions) }
     {
         if self.is_over {
             return Err(AllocError);
@@ -83,7 +85,8 @@ fn counts_of(alloc: Global, site: &Site) -> Result<Counts, AllocError>
 
 /// How many rows each of so many tables shows, in their order.
 fn row_counts(alloc: Global, tables: &Tables, count: u8) -> Result<Vec<u32>, AllocError>
-    ensures { IfOk result (λ counts. (rules : Rules) (nodes : List NodeData) → IsStateOf rules nodes tables.now → AreRowCounts rules nodes count counts.items) }
+    ensures { IfOk result (λ counts. (rules : Rules) (nodes : List NodeData) → IsStateOf rules nodes tables.now
+        → AreRowCounts rules nodes count counts.items) }
 {
     let mut counts = Vec::new(alloc);
     'tables: for table in 0..count {

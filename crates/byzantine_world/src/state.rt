@@ -9,8 +9,7 @@ ghost use Rattle.world_rules.specs.Worlds.{is_up};
 use crate::talk::Talk;
 use numbered_words::Words;
 use std::alloc::{AllocError, Global};
-use world_rules::{Event, Stepped};
-use world_site::Site;
+use world_rules::{Event, Site, Stepped};
 
 /// The replicas, the sessions by their numbers, and the words that are left.
 #[derive(Drop)]
@@ -49,7 +48,8 @@ impl State {
     pub fn happen(&mut self, event: &Event) -> Result<Stepped, AllocError>
         requires stands { IsStanding self.old.sites.items self.old.talks.items }
         requires form { HasForm event.now }
-        ensures step { IfOk result (λ answer. IsStep is_luhn self.old.sites.items self.old.talks.items event.now answer self.new.sites.items self.new.talks.items) }
+        ensures step { IfOk result (λ answer. IsStep is_luhn self.old.sites.items self.old.talks.items event.now answer
+            self.new.sites.items self.new.talks.items) }
         ensures stands { OnOk result (IsStanding self.new.sites.items self.new.talks.items) }
     {
         match event {

@@ -13,7 +13,7 @@ use std::alloc::AllocError;
 use std::collections::VecDeque;
 use sync_frames::Frames;
 use sync_session::{CheckedFrame, Out, Session};
-use world_site::Site;
+use world_rules::Site;
 
 /// A session of two correct replicas, or one with a liar.
 #[derive(Drop)]

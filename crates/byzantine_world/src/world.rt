@@ -51,8 +51,8 @@ impl Model for World {
 }
 
 impl World {
-    /// A world of `count` replicas, 1 to 16, of the schema that the text declares. The keys, and all random words later,
-    /// are those of the number.
+    /// A world of `count` replicas, 1 to 16, of the schema that the text declares. The keys, and all random words
+    /// later, are those of the number.
     pub fn new(
         alloc: Global,
         text: &[u8],
@@ -89,7 +89,8 @@ impl World {
     /// A Make has operations that an update may hold: at most 64, of which `update_model::check_ops` is true.
     pub fn step(&mut self, event: &Event) -> Result<Stepped, AllocError>
         requires { HasForm event.now }
-        ensures happens { IfOk result (λ answer. (w : WorldData) → ShowsWorld self.old w → (next : WorldData) × Happens is_luhn w event.now answer next × ShowsWorld self.new next) }
+        ensures happens { IfOk result (λ answer. (w : WorldData) → ShowsWorld self.old w → (next : WorldData)
+            × Happens is_luhn w event.now answer next × ShowsWorld self.new next) }
         ensures runs { OnOk result ((self.old.is_over ≡ false) × (self.new.is_over ≡ false)) }
         ensures over { OnErr result (self.new.is_over ≡ true) }
     {
@@ -107,7 +108,8 @@ impl World {
     /// The store of the replica with this number, where it is there and up.
     pub fn replica(&self, number: u32) -> Option<&Replica<MemDisk, Luhn, Luhn>>
         ensures { MatchOption result (is_up (slice_get self.now.sites number) ≡ false)
-            (λ store. (site : SiteData) × (slice_get self.now.sites number ≡ Some site) × (site.is_down ≡ false) × (store.now ≡ site.store)) }
+            (λ store. (site : SiteData) × (slice_get self.now.sites number ≡ Some site) × (site.is_down ≡ false)
+            × (store.now ≡ site.store)) }
     {
         match self.state.sites.get(number as usize) {
             Some(site) => {

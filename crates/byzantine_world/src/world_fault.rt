@@ -1,5 +1,5 @@
 use std::alloc::AllocError;
-use world_site::SiteFault;
+use world_rules::SiteFault;
 
 /// Why there is no world. Where there is more than one reason, it is the first in this order.
 #[derive(Clone, Copy)]

@@ -3,16 +3,16 @@ use Rattle.std.proofs.Common.{◌≡◌, ◌∙◌, ap, List, [], ◌∷◌, Som
 use Rattle.std.specs.Prelude.{◌↔◌}
 use Rattle.clap.specs.Words.{Row, Text}
 use Rattle.command_words.specs.AuditRequests.{AsksAudit, AuditText, audit, confirm, confirm_app, for_audit, for_confirm}
-use Rattle.command_words.specs.AuditCommands.{audit_request_by, audit_request_of, confirm_of}
+use Rattle.command_words.specs.AuditCommands.{audit_request_named, audit_request_of, confirm_of}
 use Rattle.command_words.specs.Requests.{directory_app}
 use Rattle.command_words.specs.Words.{rows_given}
 use Rattle.command_words.proofs.Rules.{alone, either, from_one, mapped, named, rows_are, takes}
 
 pub by_rule : (words : List Text) (request : AuditText) → AsksAudit words request → audit_request_of words ≡ Some request
 by_rule words request (for_audit directory h g) =
-    named audit_request_by (codes "audit") (directory_app (codes "audit")) words h ∙ ap (option_map audit) (alone (codes "audit") words directory h g)
+    named audit_request_named (codes "audit") (directory_app (codes "audit")) words h ∙ ap (option_map audit) (alone (codes "audit") words directory h g)
 by_rule words request (for_confirm h) =
-    named audit_request_by (codes "confirm") confirm_app words h ∙ ap (option_map (λ (rows : List Row). confirm)) (rows_are (codes "confirm") confirm_app words h)
+    named audit_request_named (codes "confirm") confirm_app words h ∙ ap (option_map (λ (rows : List Row). confirm)) (rows_are (codes "confirm") confirm_app words h)
 
 from_confirm : (words rest : List Text) (request : AuditText) → words ≡ codes "confirm" ∷ rest → confirm_of words ≡ Some request → AsksAudit words request
 from_confirm words rest request n e =

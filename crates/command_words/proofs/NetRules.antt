@@ -6,7 +6,7 @@ use Rattle.std.proofs.lemmas.Fmt.{decimal_digit}
 use Rattle.clap.specs.Words.{App, Text, first_of}
 use Rattle.command_words.specs.Requests.{RequestText, heads_app, dump_app, directory_app, check_app, keygen_app, apply_app, export_app, query_app, merge_app, Asks, Takes, for_heads, for_check, for_dump, for_init, for_keygen, for_apply, for_join, for_export, for_query, for_merge, for_notes}
 use Rattle.command_words.specs.NetRequests.{NetText, sync, serve, sync_app, serve_app, AsksNet, for_sync, for_serve}
-use Rattle.command_words.specs.NetCommands.{net_request_by, net_request_of, serve_by, serve_of, session_count, sync_by, sync_of}
+use Rattle.command_words.specs.NetCommands.{net_request_named, net_request_of, serve_asked, serve_of, session_count, sync_asked, sync_of}
 use Rattle.command_words.specs.Words.{rows_given}
 use Rattle.command_words.proofs.Rules.{chained, either, mapped, named, rows_are, takes}
 
@@ -44,15 +44,15 @@ spelled_by (digit ∷ other ∷ more) n e = absurd (cc)
 -- ---- from the rules
 
 -- by the first word
-first_is : (name : Text) (app : App) (words : List Text) → Takes name app words → net_request_of words ≡ net_request_by name words
-first_is name app words h = named net_request_by name app words h
+first_is : (name : Text) (app : App) (words : List Text) → Takes name app words → net_request_of words ≡ net_request_named name words
+first_is name app words h = named net_request_named name app words h
 
 pub by_rule : (words : List Text) (request : NetText) → AsksNet words request → net_request_of words ≡ Some request
 by_rule words request (for_sync directory address h d a) =
-    first_is (codes "sync") sync_app words h ∙ ap (option_and_then sync_by) (rows_are (codes "sync") sync_app words h)
+    first_is (codes "sync") sync_app words h ∙ ap (option_and_then sync_asked) (rows_are (codes "sync") sync_app words h)
     ∙ (λ i. option_and_then (λ x. option_map (sync x) (a i)) (d i))
 by_rule words request (for_serve directory address sessions h d a n least most) =
-    first_is (codes "serve") serve_app words h ∙ ap (option_and_then serve_by) (rows_are (codes "serve") serve_app words h)
+    first_is (codes "serve") serve_app words h ∙ ap (option_and_then serve_asked) (rows_are (codes "serve") serve_app words h)
     ∙ (λ i. option_and_then (λ x. option_and_then (λ y. option_map (serve x y) (option_and_then session_count (n i))) (a i)) (d i))
     ∙ ap (option_map (serve directory address)) (counted sessions least most)
 
@@ -60,7 +60,7 @@ by_rule words request (for_serve directory address sessions h d a n least most) 
 
 from_sync : (words rest : List Text) (request : NetText) → words ≡ codes "sync" ∷ rest → sync_of words ≡ Some request → AsksNet words request
 from_sync words rest request n e =
-    let k = chained sync_by (rows_given sync_app words) request e in
+    let k = chained sync_asked (rows_given sync_app words) request e in
     let t = takes (codes "sync") sync_app words rest k.0 n k.1 in
     let of = sym t.1 in
     let d = chained (λ (directory : Text). option_map (sync directory) (first_of (codes "ADDR") k.0)) (first_of (codes "DIR") k.0) request k.2 in
@@ -70,7 +70,7 @@ from_sync words rest request n e =
 
 from_serve : (words rest : List Text) (request : NetText) → words ≡ codes "serve" ∷ rest → serve_of words ≡ Some request → AsksNet words request
 from_serve words rest request n e =
-    let k = chained serve_by (rows_given serve_app words) request e in
+    let k = chained serve_asked (rows_given serve_app words) request e in
     let t = takes (codes "serve") serve_app words rest k.0 n k.1 in
     let of = sym t.1 in
     let count : Option ℕ = option_and_then session_count (first_of (codes "sessions") k.0) in
@@ -98,7 +98,7 @@ one_only words request other h k = let a = by_rule words request h in let b = by
 
 -- ---- beside the requests without a net
 
-apart : (name : Text) (app : App) (words : List Text) (other : NetText) → Takes name app words → net_request_by name words ≡ None → AsksNet words other → ⊥
+apart : (name : Text) (app : App) (words : List Text) (other : NetText) → Takes name app words → net_request_named name words ≡ None → AsksNet words other → ⊥
 apart name app words other h none k = let read = first_is name app words h in let asked = by_rule words other k in absurd (cc)
 
 pub not_both : (words : List Text) (request : RequestText) (other : NetText) → Asks words request → AsksNet words other → ⊥

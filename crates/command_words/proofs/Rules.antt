@@ -6,7 +6,7 @@ use Rattle.clap.specs.Words.{App, Row, Text, first_of, matches_of}
 use Rattle.lm_ots.specs.declared.ots_type.OtsType.{OtsType}
 use Rattle.lms_tree.specs.declared.lms_type.LmsType.{LmsType}
 use Rattle.command_words.specs.Requests.{RequestText, heads, check, init, keygen, apply, join, export, query, merge, notes, heads_app, dump_app, directory_app, check_app, keygen_app, apply_app, export_app, query_app, merge_app, height_of, width_of, note_of, Takes, given, Asks, for_heads, for_check, for_dump, for_init, for_keygen, for_apply, for_join, for_export, for_query, for_merge, for_notes}
-use Rattle.command_words.specs.Commands.{heads_of, check_of, dump_by, dump_of, directory_of, keygen_by, keygen_of, apply_by, apply_of, export_by, export_of, query_by, query_of, merge_with, merge_by, merge_of, request_by, request_of}
+use Rattle.command_words.specs.Commands.{heads_of, check_of, dump_asked, dump_of, directory_of, keygen_asked, keygen_of, apply_asked, apply_of, export_asked, export_of, query_asked, query_of, merge_with, merge_asked, merge_of, request_named, request_of}
 use Rattle.command_words.specs.Words.{is_set, is_taken, rows_given}
 
 -- ---- from the rules
@@ -16,8 +16,8 @@ pub named : {A : Type 0} (read : Text → List Text → Option A) (name : Text) 
     → option_and_then (λ first. read first words) (slice_get words 0) ≡ read name words
 named read name app words h = ap (λ (ws : List Text). option_and_then (λ first. read first words) (slice_get ws 0)) h.named
 
-first_is : (name : Text) (app : App) (words : List Text) → Takes name app words → request_of words ≡ request_by name words
-first_is name app words h = named request_by name app words h
+first_is : (name : Text) (app : App) (words : List Text) → Takes name app words → request_of words ≡ request_named name words
+first_is name app words h = named request_named name app words h
 
 pub rows_are : (name : Text) (app : App) (words : List Text) → Takes name app words → rows_given app words ≡ Some (matches_of app words)
 rows_are name app words h = ap (λ (b : Bool). cond b (Some (matches_of app words)) None) h.taken
@@ -47,23 +47,23 @@ by_rule words request (for_heads h) =
 by_rule words request (for_check h) =
     first_is (codes "check") check_app words h ∙ ap (option_map (λ (rows : List Row). check)) (rows_are (codes "check") check_app words h)
 by_rule words request (for_dump h) =
-    first_is (codes "dump") dump_app words h ∙ ap (option_map dump_by) (rows_are (codes "dump") dump_app words h)
+    first_is (codes "dump") dump_app words h ∙ ap (option_map dump_asked) (rows_are (codes "dump") dump_app words h)
 by_rule words request (for_init directory h g) =
     first_is (codes "init") (directory_app (codes "init")) words h ∙ ap (option_map init) (alone (codes "init") words directory h g)
 by_rule words request (for_keygen directory height width h d e f) =
-    first_is (codes "keygen") keygen_app words h ∙ ap (option_and_then keygen_by) (rows_are (codes "keygen") keygen_app words h) ∙ (λ i. keygen_from (d i) (e i) (f i))
+    first_is (codes "keygen") keygen_app words h ∙ ap (option_and_then keygen_asked) (rows_are (codes "keygen") keygen_app words h) ∙ (λ i. keygen_from (d i) (e i) (f i))
 by_rule words request (for_apply directory text h d n) =
-    first_is (codes "apply") apply_app words h ∙ ap (option_and_then apply_by) (rows_are (codes "apply") apply_app words h) ∙ (λ i. apply_from (d i) (n i))
+    first_is (codes "apply") apply_app words h ∙ ap (option_and_then apply_asked) (rows_are (codes "apply") apply_app words h) ∙ (λ i. apply_from (d i) (n i))
 by_rule words request (for_join directory h g) =
     first_is (codes "join") (directory_app (codes "join")) words h ∙ ap (option_map join) (alone (codes "join") words directory h g)
 by_rule words request (for_export directory h g) =
-    first_is (codes "export") export_app words h ∙ ap (option_and_then export_by) (rows_are (codes "export") export_app words h)
+    first_is (codes "export") export_app words h ∙ ap (option_and_then export_asked) (rows_are (codes "export") export_app words h)
     ∙ ap (option_map (λ (d : Text). export d (is_set (codes "updates") (matches_of export_app words)))) g
 by_rule words request (for_query directory text h f s) =
-    first_is (codes "query") query_app words h ∙ ap (option_and_then query_by) (rows_are (codes "query") query_app words h)
+    first_is (codes "query") query_app words h ∙ ap (option_and_then query_asked) (rows_are (codes "query") query_app words h)
     ∙ (λ i. option_and_then (λ d. option_map (λ t. query d t (is_set (codes "json") (matches_of query_app words))) (s i)) (f i))
 by_rule words request (for_merge first second h f s differ) =
-    first_is (codes "merge") merge_app words h ∙ ap (option_and_then merge_by) (rows_are (codes "merge") merge_app words h)
+    first_is (codes "merge") merge_app words h ∙ ap (option_and_then merge_asked) (rows_are (codes "merge") merge_app words h)
     ∙ (λ i. option_and_then (λ a. option_and_then (merge_with a) (s i)) (f i)) ∙ merged first second differ
 by_rule words request (for_notes directory h g) =
     first_is (codes "notes") (directory_app (codes "notes")) words h ∙ ap (option_map notes) (alone (codes "notes") words directory h g)
@@ -98,9 +98,9 @@ from_heads words rest request n e =
 
 from_dump : (words rest : List Text) (request : RequestText) → words ≡ codes "dump" ∷ rest → dump_of words ≡ Some request → Asks words request
 from_dump words rest request n e =
-    let m = mapped dump_by (rows_given dump_app words) request e in
+    let m = mapped dump_asked (rows_given dump_app words) request e in
     let t = takes (codes "dump") dump_app words rest m.0 n m.1 in
-    subst (λ (r : RequestText). Asks words r) (ap dump_by (sym t.1) ∙ m.2) (for_dump t.0)
+    subst (λ (r : RequestText). Asks words r) (ap dump_asked (sym t.1) ∙ m.2) (for_dump t.0)
 
 pub from_one : {A : Type 0} (IsAsked : A → Type 0) (name : Text) (make : Text → A) (words rest : List Text) (request : A) → words ≡ name ∷ rest
     → ((directory : Text) → Takes name (directory_app name) words → given (directory_app name) words (codes "DIR") ≡ Some directory → IsAsked (make directory))
@@ -119,7 +119,7 @@ from_check words rest request n e =
 
 from_keygen : (words rest : List Text) (request : RequestText) → words ≡ codes "keygen" ∷ rest → keygen_of words ≡ Some request → Asks words request
 from_keygen words rest request n e =
-    let k = chained keygen_by (rows_given keygen_app words) request e in
+    let k = chained keygen_asked (rows_given keygen_app words) request e in
     let t = takes (codes "keygen") keygen_app words rest k.0 n k.1 in
     let height : Text → Option RequestText = λ d. option_and_then (λ h. option_map (λ w. keygen d h w) (width_of (first_of (codes "width") k.0))) (height_of (first_of (codes "height") k.0)) in
     let d = chained height (first_of (codes "DIR") k.0) request k.2 in
@@ -133,7 +133,7 @@ from_keygen words rest request n e =
 
 from_apply : (words rest : List Text) (request : RequestText) → words ≡ codes "apply" ∷ rest → apply_of words ≡ Some request → Asks words request
 from_apply words rest request n e =
-    let k = chained apply_by (rows_given apply_app words) request e in
+    let k = chained apply_asked (rows_given apply_app words) request e in
     let t = takes (codes "apply") apply_app words rest k.0 n k.1 in
     let asked : Text → Option RequestText = λ d. option_map (λ note. apply d note) (note_of (first_of (codes "note") k.0)) in
     let d = chained asked (first_of (codes "DIR") k.0) request k.2 in
@@ -143,7 +143,7 @@ from_apply words rest request n e =
 
 from_export : (words rest : List Text) (request : RequestText) → words ≡ codes "export" ∷ rest → export_of words ≡ Some request → Asks words request
 from_export words rest request n e =
-    let k = chained export_by (rows_given export_app words) request e in
+    let k = chained export_asked (rows_given export_app words) request e in
     let t = takes (codes "export") export_app words rest k.0 n k.1 in
     let d = mapped (λ (d : Text). export d (is_set (codes "updates") k.0)) (first_of (codes "DIR") k.0) request k.2 in
     subst (λ (r : RequestText). Asks words r) (ap (λ (rows : List Row). export d.0 (is_set (codes "updates") rows)) (sym t.1) ∙ d.2)
@@ -151,7 +151,7 @@ from_export words rest request n e =
 
 from_query : (words rest : List Text) (request : RequestText) → words ≡ codes "query" ∷ rest → query_of words ≡ Some request → Asks words request
 from_query words rest request n e =
-    let k = chained query_by (rows_given query_app words) request e in
+    let k = chained query_asked (rows_given query_app words) request e in
     let t = takes (codes "query") query_app words rest k.0 n k.1 in
     let asked : Text → Option RequestText = λ d. option_map (λ text. query d text (is_set (codes "json") k.0)) (first_of (codes "TEXT") k.0) in
     let d = chained asked (first_of (codes "DIR") k.0) request k.2 in
@@ -169,7 +169,7 @@ from_pair first second request e =
 
 from_merge : (words rest : List Text) (request : RequestText) → words ≡ codes "merge" ∷ rest → merge_of words ≡ Some request → Asks words request
 from_merge words rest request n e =
-    let k = chained merge_by (rows_given merge_app words) request e in
+    let k = chained merge_asked (rows_given merge_app words) request e in
     let t = takes (codes "merge") merge_app words rest k.0 n k.1 in
     let a = chained (λ (first : Text). option_and_then (merge_with first) (first_of (codes "OTHER") k.0)) (first_of (codes "DIR") k.0) request k.2 in
     let b = chained (merge_with a.0) (first_of (codes "OTHER") k.0) request a.2 in
@@ -191,7 +191,7 @@ either first name rest request here others f g e = elim (chosen (bytes_eq first 
   | inr h ↦ g h.1
 ]
 
-told : (first : Text) (rest : List Text) (request : RequestText) → request_by first (first ∷ rest) ≡ Some request → Asks (first ∷ rest) request
+told : (first : Text) (rest : List Text) (request : RequestText) → request_named first (first ∷ rest) ≡ Some request → Asks (first ∷ rest) request
 told first rest request =
     let words : List Text = first ∷ rest in
     either first (codes "heads") rest request _ _ (λ n. from_heads words rest request n)

@@ -7,7 +7,7 @@ use Rattle.lms_tree.specs.declared.lms_type.LmsType.{LmsType}
 use Rattle.text_words.specs.Hexadecimal.{block_of_hex}
 use Rattle.command_words.specs.Requests.{directory_app, width_of}
 use Rattle.command_words.specs.SealRequests.{AsksSeal, SealText, for_hsskey, for_seal, for_unseal, hex_bytes, hsskey, hsskey_app, level_height_of, seal, unseal, unseal_app}
-use Rattle.command_words.specs.SealCommands.{hsskey_by, hsskey_of, seal_request_by, seal_request_of, unseal_by, unseal_of, unseal_with}
+use Rattle.command_words.specs.SealCommands.{hsskey_asked, hsskey_of, seal_request_named, seal_request_of, unseal_asked, unseal_of, unseal_with}
 use Rattle.command_words.specs.Words.{rows_given}
 use Rattle.command_words.proofs.Rules.{alone, chained, either, from_one, mapped, named, rows_are, takes}
 
@@ -18,11 +18,11 @@ hsskey_from directory height width = option_and_then (λ d. option_and_then (λ 
 
 pub by_rule : (words : List Text) (request : SealText) → AsksSeal words request → seal_request_of words ≡ Some request
 by_rule words request (for_hsskey directory height width h d e f) =
-    named seal_request_by (codes "hsskey") hsskey_app words h ∙ ap (option_and_then hsskey_by) (rows_are (codes "hsskey") hsskey_app words h) ∙ (λ i. hsskey_from (d i) (e i) (f i))
+    named seal_request_named (codes "hsskey") hsskey_app words h ∙ ap (option_and_then hsskey_asked) (rows_are (codes "hsskey") hsskey_app words h) ∙ (λ i. hsskey_from (d i) (e i) (f i))
 by_rule words request (for_seal directory h g) =
-    named seal_request_by (codes "seal") (directory_app (codes "seal")) words h ∙ ap (option_map seal) (alone (codes "seal") words directory h g)
+    named seal_request_named (codes "seal") (directory_app (codes "seal")) words h ∙ ap (option_map seal) (alone (codes "seal") words directory h g)
 by_rule words request (for_unseal key_word signature_word key signature h k read s decoded) =
-    named seal_request_by (codes "unseal") unseal_app words h ∙ ap (option_and_then unseal_by) (rows_are (codes "unseal") unseal_app words h)
+    named seal_request_named (codes "unseal") unseal_app words h ∙ ap (option_and_then unseal_asked) (rows_are (codes "unseal") unseal_app words h)
     ∙ (λ i. option_and_then (λ a. option_and_then (unseal_with a) (s i)) (k i))
     ∙ (λ i. option_and_then (λ x. option_map (unseal x) (decoded i)) (read i))
 
@@ -30,7 +30,7 @@ by_rule words request (for_unseal key_word signature_word key signature h k read
 
 from_hsskey : (words rest : List Text) (request : SealText) → words ≡ codes "hsskey" ∷ rest → hsskey_of words ≡ Some request → AsksSeal words request
 from_hsskey words rest request n e =
-    let k = chained hsskey_by (rows_given hsskey_app words) request e in
+    let k = chained hsskey_asked (rows_given hsskey_app words) request e in
     let t = takes (codes "hsskey") hsskey_app words rest k.0 n k.1 in
     let height : Text → Option SealText = λ d. option_and_then (λ h. option_map (λ w. hsskey d h w) (width_of (first_of (codes "width") k.0))) (level_height_of (first_of (codes "height") k.0)) in
     let d = chained height (first_of (codes "DIR") k.0) request k.2 in
@@ -44,7 +44,7 @@ from_hsskey words rest request n e =
 
 from_unseal : (words rest : List Text) (request : SealText) → words ≡ codes "unseal" ∷ rest → unseal_of words ≡ Some request → AsksSeal words request
 from_unseal words rest request n e =
-    let rows = chained unseal_by (rows_given unseal_app words) request e in
+    let rows = chained unseal_asked (rows_given unseal_app words) request e in
     let t = takes (codes "unseal") unseal_app words rest rows.0 n rows.1 in
     let of = sym t.1 in
     let a = chained (λ (key : Text). option_and_then (unseal_with key) (first_of (codes "SIG") rows.0)) (first_of (codes "KEY") rows.0) request rows.2 in

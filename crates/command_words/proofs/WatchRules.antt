@@ -6,7 +6,7 @@ use Rattle.clap.specs.Words.{Row, Text, first_of}
 use Rattle.text_words.specs.Integers.{int_of}
 use Rattle.text_words.proofs.Printed.{printed_is_read, read_is_printed}
 use Rattle.command_words.specs.WatchRequests.{AsksWatch, IsEvery, WatchText, for_watch, watch, watch_app}
-use Rattle.command_words.specs.WatchCommands.{count_of, every_of, watch_by, watch_of, watch_request_by, watch_request_of}
+use Rattle.command_words.specs.WatchCommands.{count_of, every_of, watch_asked, watch_of, watch_request_named, watch_request_of}
 use Rattle.command_words.specs.Words.{rows_given}
 use Rattle.command_words.proofs.Rules.{chained, either, mapped, named, rows_are, takes}
 
@@ -52,12 +52,12 @@ every_told (Some word) every e =
 
 pub by_rule : (words : List Text) (request : WatchText) → AsksWatch words request → watch_request_of words ≡ Some request
 by_rule words request (for_watch directory text every h d t is) =
-    named watch_request_by (codes "watch") watch_app words h ∙ ap (option_and_then watch_by) (rows_are (codes "watch") watch_app words h)
+    named watch_request_named (codes "watch") watch_app words h ∙ ap (option_and_then watch_asked) (rows_are (codes "watch") watch_app words h)
     ∙ (λ i. option_and_then (λ x. option_and_then (λ y. option_map (watch x y) (every_read _ every is i)) (t i)) (d i))
 
 from_watch : (words rest : List Text) (request : WatchText) → words ≡ codes "watch" ∷ rest → watch_of words ≡ Some request → AsksWatch words request
 from_watch words rest request n e =
-    let k = chained watch_by (rows_given watch_app words) request e in
+    let k = chained watch_asked (rows_given watch_app words) request e in
     let t = takes (codes "watch") watch_app words rest k.0 n k.1 in
     let of = sym t.1 in
     let count : Option ℕ = every_of (first_of (codes "every") k.0) in

@@ -9,7 +9,7 @@ use Rattle.clap.specs.Words.{Row, Text, first_of}
 use Rattle.text_words.proofs.IntegersLemmas.{and_true}
 use Rattle.command_words.specs.Words.{rows_given}
 use Rattle.command_words.specs.WorldRequests.{AsksWorld, WorldText, demo, demo_app, for_demo, for_world, world, world_app}
-use Rattle.command_words.specs.WorldCommands.{count_of, demo_by, demo_of, demo_with, number_of, world_by, world_of, world_request_by, world_request_of}
+use Rattle.command_words.specs.WorldCommands.{count_of, demo_asked, demo_of, demo_with, number_of, world_asked, world_of, world_request_named, world_request_of}
 use Rattle.command_words.proofs.Rules.{chained, either, mapped, named, rows_are, takes}
 
 -- ---- numbers
@@ -85,18 +85,18 @@ count_told number count e =
 -- ---- the rule
 
 pub by_rule : (words : List Text) (request : WorldText) → AsksWorld words request → world_request_of words ≡ Some request
-by_rule words request (for_world h) = named world_request_by (codes "world") world_app words h ∙ ap (option_map world_by) (rows_are (codes "world") world_app words h)
+by_rule words request (for_world h) = named world_request_named (codes "world") world_app words h ∙ ap (option_map world_asked) (rows_are (codes "world") world_app words h)
 by_rule words request (for_demo number count h n small c least most) =
-    named world_request_by (codes "demo") demo_app words h ∙ ap (option_and_then demo_by) (rows_are (codes "demo") demo_app words h)
+    named world_request_named (codes "demo") demo_app words h ∙ ap (option_and_then demo_asked) (rows_are (codes "demo") demo_app words h)
     ∙ (λ i. demo_with (option_and_then number_of (n i)) (option_and_then number_of (c i)))
     ∙ (λ i. demo_with (number_read number small i) (number_read count (omega (arith, most)) i))
     ∙ ap (option_map (demo number)) (count_read count least most)
 
 from_world : (words rest : List Text) (request : WorldText) → words ≡ codes "world" ∷ rest → world_of words ≡ Some request → AsksWorld words request
 from_world words rest request n e =
-    let m = mapped world_by (rows_given world_app words) request e in
+    let m = mapped world_asked (rows_given world_app words) request e in
     let t = takes (codes "world") world_app words rest m.0 n m.1 in
-    subst (λ (r : WorldText). AsksWorld words r) (ap world_by (sym t.1) ∙ m.2) (for_world t.0)
+    subst (λ (r : WorldText). AsksWorld words r) (ap world_asked (sym t.1) ∙ m.2) (for_world t.0)
 
 -- the number that the word of an argument is
 number_in : (rows : List Row) (name : Text) (number : ℕ) → option_and_then number_of (first_of name rows) ≡ Some number
@@ -108,7 +108,7 @@ number_in rows name number e =
 
 from_demo : (words rest : List Text) (request : WorldText) → words ≡ codes "demo" ∷ rest → demo_of words ≡ Some request → AsksWorld words request
 from_demo words rest request n e =
-    let k = chained demo_by (rows_given demo_app words) request e in
+    let k = chained demo_asked (rows_given demo_app words) request e in
     let t = takes (codes "demo") demo_app words rest k.0 n k.1 in
     let of = sym t.1 in
     let counted : Option ℕ = option_and_then count_of (option_and_then number_of (first_of (codes "COUNT") k.0)) in

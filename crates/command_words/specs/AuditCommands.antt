@@ -11,11 +11,11 @@ audit_of words = option_map audit (directory_of (codes "audit") words)
 abbrev pub confirm_of : List Text → Option AuditText
 confirm_of words = option_map (λ rows. confirm) (rows_given confirm_app words)
 
-abbrev pub audit_request_by : Text → List Text → Option AuditText
-audit_request_by first words =
+abbrev pub audit_request_named : Text → List Text → Option AuditText
+audit_request_named first words =
     if bytes_eq first (codes "audit") then audit_of words
     else if bytes_eq first (codes "confirm") then confirm_of words
     else None
 
 abbrev pub audit_request_of : List Text → Option AuditText
-audit_request_of words = option_and_then (λ first. audit_request_by first words) (slice_get words 0)
+audit_request_of words = option_and_then (λ first. audit_request_named first words) (slice_get words 0)

@@ -10,11 +10,11 @@ heads_of words = option_map (λ rows. heads (first_of (codes "DIR") rows)) (rows
 abbrev pub check_of : List Text → Option RequestText
 check_of words = option_map (λ rows. check) (rows_given check_app words)
 
-abbrev pub dump_by : List Row → RequestText
-dump_by rows = dump (first_of (codes "DIR") rows) (is_set (codes "json") rows)
+abbrev pub dump_asked : List Row → RequestText
+dump_asked rows = dump (first_of (codes "DIR") rows) (is_set (codes "json") rows)
 
 abbrev pub dump_of : List Text → Option RequestText
-dump_of words = option_map dump_by (rows_given dump_app words)
+dump_of words = option_map dump_asked (rows_given dump_app words)
 
 -- the directory of a command that takes nothing else
 abbrev pub directory_of : Text → List Text → Option Text
@@ -23,50 +23,50 @@ directory_of name words = option_and_then (first_of (codes "DIR")) (rows_given (
 abbrev pub init_of : List Text → Option RequestText
 init_of words = option_map init (directory_of (codes "init") words)
 
-abbrev pub apply_by : List Row → Option RequestText
-apply_by rows = option_and_then (λ directory. option_map (λ note. apply directory note) (note_of (first_of (codes "note") rows))) (first_of (codes "DIR") rows)
+abbrev pub apply_asked : List Row → Option RequestText
+apply_asked rows = option_and_then (λ directory. option_map (λ note. apply directory note) (note_of (first_of (codes "note") rows))) (first_of (codes "DIR") rows)
 
 abbrev pub apply_of : List Text → Option RequestText
-apply_of words = option_and_then apply_by (rows_given apply_app words)
+apply_of words = option_and_then apply_asked (rows_given apply_app words)
 
 abbrev pub join_of : List Text → Option RequestText
 join_of words = option_map join (directory_of (codes "join") words)
 
-abbrev pub keygen_by : List Row → Option RequestText
-keygen_by rows =
+abbrev pub keygen_asked : List Row → Option RequestText
+keygen_asked rows =
     option_and_then (λ directory. option_and_then (λ height. option_map (λ width. keygen directory height width) (width_of (first_of (codes "width") rows)))
     (height_of (first_of (codes "height") rows))) (first_of (codes "DIR") rows)
 
 abbrev pub keygen_of : List Text → Option RequestText
-keygen_of words = option_and_then keygen_by (rows_given keygen_app words)
+keygen_of words = option_and_then keygen_asked (rows_given keygen_app words)
 
-abbrev pub export_by : List Row → Option RequestText
-export_by rows = option_map (λ directory. export directory (is_set (codes "updates") rows)) (first_of (codes "DIR") rows)
+abbrev pub export_asked : List Row → Option RequestText
+export_asked rows = option_map (λ directory. export directory (is_set (codes "updates") rows)) (first_of (codes "DIR") rows)
 
 abbrev pub export_of : List Text → Option RequestText
-export_of words = option_and_then export_by (rows_given export_app words)
+export_of words = option_and_then export_asked (rows_given export_app words)
 
-abbrev pub query_by : List Row → Option RequestText
-query_by rows = option_and_then (λ directory. option_map (λ text. query directory text (is_set (codes "json") rows)) (first_of (codes "TEXT") rows)) (first_of (codes "DIR") rows)
+abbrev pub query_asked : List Row → Option RequestText
+query_asked rows = option_and_then (λ directory. option_map (λ text. query directory text (is_set (codes "json") rows)) (first_of (codes "TEXT") rows)) (first_of (codes "DIR") rows)
 
 abbrev pub query_of : List Text → Option RequestText
-query_of words = option_and_then query_by (rows_given query_app words)
+query_of words = option_and_then query_asked (rows_given query_app words)
 
 -- two words that differ
 abbrev pub merge_with : Text → Text → Option RequestText
 merge_with first second = if bytes_eq first second then None else Some (merge first second)
 
-abbrev pub merge_by : List Row → Option RequestText
-merge_by rows = option_and_then (λ first. option_and_then (merge_with first) (first_of (codes "OTHER") rows)) (first_of (codes "DIR") rows)
+abbrev pub merge_asked : List Row → Option RequestText
+merge_asked rows = option_and_then (λ first. option_and_then (merge_with first) (first_of (codes "OTHER") rows)) (first_of (codes "DIR") rows)
 
 abbrev pub merge_of : List Text → Option RequestText
-merge_of words = option_and_then merge_by (rows_given merge_app words)
+merge_of words = option_and_then merge_asked (rows_given merge_app words)
 
 abbrev pub notes_of : List Text → Option RequestText
 notes_of words = option_map notes (directory_of (codes "notes") words)
 
-abbrev pub request_by : Text → List Text → Option RequestText
-request_by first words =
+abbrev pub request_named : Text → List Text → Option RequestText
+request_named first words =
     if bytes_eq first (codes "heads") then heads_of words
     else if bytes_eq first (codes "check") then check_of words
     else if bytes_eq first (codes "dump") then dump_of words
@@ -81,4 +81,4 @@ request_by first words =
     else None
 
 abbrev pub request_of : List Text → Option RequestText
-request_of words = option_and_then (λ first. request_by first words) (slice_get words 0)
+request_of words = option_and_then (λ first. request_named first words) (slice_get words 0)

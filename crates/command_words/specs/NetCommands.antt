@@ -4,11 +4,11 @@ use Rattle.clap.specs.Words.{Row, Text, first_of}
 use Rattle.command_words.specs.NetRequests.{NetText, sync, serve, sync_app, serve_app}
 use Rattle.command_words.specs.Words.{rows_given}
 
-abbrev pub sync_by : List Row → Option NetText
-sync_by rows = option_and_then (λ directory. option_map (sync directory) (first_of (codes "ADDR") rows)) (first_of (codes "DIR") rows)
+abbrev pub sync_asked : List Row → Option NetText
+sync_asked rows = option_and_then (λ directory. option_map (sync directory) (first_of (codes "ADDR") rows)) (first_of (codes "DIR") rows)
 
 abbrev pub sync_of : List Text → Option NetText
-sync_of words = option_and_then sync_by (rows_given sync_app words)
+sync_of words = option_and_then sync_asked (rows_given sync_app words)
 
 -- the number of sessions that a word writes: one digit, from 1 to 8
 abbrev pub session_count : Text → Option ℕ
@@ -16,19 +16,19 @@ session_count [] = None
 session_count (digit ∷ []) = if nat_le 49 digit && nat_le digit 56 then Some (digit - 48) else None
 session_count (digit ∷ other ∷ more) = None
 
-abbrev pub serve_by : List Row → Option NetText
-serve_by rows =
+abbrev pub serve_asked : List Row → Option NetText
+serve_asked rows =
     option_and_then (λ directory. option_and_then (λ address. option_map (serve directory address) (option_and_then session_count (first_of (codes "sessions") rows)))
     (first_of (codes "ADDR") rows)) (first_of (codes "DIR") rows)
 
 abbrev pub serve_of : List Text → Option NetText
-serve_of words = option_and_then serve_by (rows_given serve_app words)
+serve_of words = option_and_then serve_asked (rows_given serve_app words)
 
-abbrev pub net_request_by : Text → List Text → Option NetText
-net_request_by first words =
+abbrev pub net_request_named : Text → List Text → Option NetText
+net_request_named first words =
     if bytes_eq first (codes "sync") then sync_of words
     else if bytes_eq first (codes "serve") then serve_of words
     else None
 
 abbrev pub net_request_of : List Text → Option NetText
-net_request_of words = option_and_then (λ first. net_request_by first words) (slice_get words 0)
+net_request_of words = option_and_then (λ first. net_request_named first words) (slice_get words 0)

@@ -16,16 +16,16 @@ abbrev pub every_of : Option Text → Option ℕ
 every_of (Some word) = count_of (int_of word)
 every_of None = Some 1
 
-abbrev pub watch_by : List Row → Option WatchText
-watch_by rows =
+abbrev pub watch_asked : List Row → Option WatchText
+watch_asked rows =
     option_and_then (λ directory. option_and_then (λ text. option_map (watch directory text) (every_of (first_of (codes "every") rows))) (first_of (codes "TEXT") rows))
     (first_of (codes "DIR") rows)
 
 abbrev pub watch_of : List Text → Option WatchText
-watch_of words = option_and_then watch_by (rows_given watch_app words)
+watch_of words = option_and_then watch_asked (rows_given watch_app words)
 
-abbrev pub watch_request_by : Text → List Text → Option WatchText
-watch_request_by first words = if bytes_eq first (codes "watch") then watch_of words else None
+abbrev pub watch_request_named : Text → List Text → Option WatchText
+watch_request_named first words = if bytes_eq first (codes "watch") then watch_of words else None
 
 abbrev pub watch_request_of : List Text → Option WatchText
-watch_request_of words = option_and_then (λ first. watch_request_by first words) (slice_get words 0)
+watch_request_of words = option_and_then (λ first. watch_request_named first words) (slice_get words 0)

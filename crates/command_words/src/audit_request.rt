@@ -1,4 +1,5 @@
-/// What the words of a command line ask for about keys that signed twice by one index. A directory is the word that names it.
+/// What the words of a command line ask for about keys that signed twice by one index. A directory is the word that
+/// names it.
 #[derive(Clone, Copy, Drop)]
 pub enum AuditRequest<'a> {
     /// `audit`: the keys and indices by which two updates of the store in a directory are signed.

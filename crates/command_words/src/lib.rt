@@ -1,11 +1,12 @@
 //! The words of the program's command line: what they ask for.
 //!
-//! [`request_in`] reads all words, of which the first names the command, and answers the [`Request`] with its arguments,
-//! or that the words are no command. [`net_request_in`] does so for the two commands that need a net, and answers the
-//! [`NetRequest`]; [`seal_request_in`] for those about seals, [`watch_request_in`] for the one that watches a query,
-//! [`audit_request_in`] for those about keys that signed twice, and [`world_request_in`] for those about worlds. No words ask for things of two of these kinds. Arguments are read
-//! by one simple command of `clap`: `--x V` and `--x=V` are the same, options may stand among the positions, and `--` ends them.
-//! Each option stands once at most.
+//! [`parse_request`] reads all words, of which the first names the command, and answers the [`Request`] with its
+//! arguments, or that the words are no command. [`parse_net_request`] does so for the two commands that need a net, and
+//! answers the [`NetRequest`]; [`parse_seal_request`] for those about seals, [`parse_watch_request`] for the one that
+//! watches a query, [`parse_audit_request`] for those about keys that signed twice, and [`parse_world_request`] for
+//! those about worlds. No words ask for things of two of these kinds. Arguments are read by one simple command of
+//! `clap`: `--x V` and `--x=V` are the same, options may stand among the positions, and `--` ends them. Each option
+//! stands once at most.
 //!
 //! ```text
 //! heads [DIR]
@@ -36,8 +37,8 @@
 //! demo NUMBER 4..4000
 //! ```
 //!
-//! Which words are which request is told by rules (`Asks` in specs/Requests, `AsksNet` in specs/NetRequests, and so on). It opens
-//! nothing: whether a directory is there, or anyone at an address, is not judged here.
+//! Which words are which request is told by rules (`Asks` in specs/Requests, `AsksNet` in specs/NetRequests, and so
+//! on). It opens nothing: whether a directory is there, or anyone at an address, is not judged here.
 #![tactic(auto)]
 
 mod argument;
@@ -58,7 +59,7 @@ mod world_request;
 mod world_requests;
 
 pub use audit_request::AuditRequest;
-pub use audit_requests::audit_request_in;
+pub use audit_requests::parse_audit_request;
 pub use laws::{
     audit_requests_are_by_rule, net_requests_are_by_rule, no_other_request, nothing_beside_audits,
     nothing_beside_seals, nothing_beside_watching, nothing_beside_worlds, one_audit_request,
@@ -67,12 +68,12 @@ pub use laws::{
     world_requests_are_by_rule,
 };
 pub use net_request::NetRequest;
-pub use net_requests::net_request_in;
+pub use net_requests::parse_net_request;
 pub use request::Request;
-pub use requests::request_in;
+pub use requests::parse_request;
 pub use seal_request::SealRequest;
-pub use seal_requests::seal_request_in;
+pub use seal_requests::parse_seal_request;
 pub use watch_request::WatchRequest;
-pub use watch_requests::watch_request_in;
+pub use watch_requests::parse_watch_request;
 pub use world_request::WorldRequest;
-pub use world_requests::world_request_in;
+pub use world_requests::parse_world_request;

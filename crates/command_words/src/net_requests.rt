@@ -2,7 +2,8 @@
 
 ghost use Rattle.std.specs.Prelude.{◌≡◌, IfOk, MatchOption, map, option_map, string_bytes};
 ghost use Rattle.command_words.specs.NetRequests.{AsksNet, NetText};
-ghost use Rattle.command_words.specs.NetCommands.{net_request_by, net_request_of, serve_by, serve_of, session_count, sync_by, sync_of};
+ghost use Rattle.command_words.specs.NetCommands.{net_request_named, net_request_of, serve_asked, serve_of};
+ghost use Rattle.command_words.specs.NetCommands.{session_count, sync_asked, sync_of};
 ghost use Rattle.command_words.specs.Seen.{net_seen};
 
 use crate::argument::{Argument, Form};
@@ -14,11 +15,12 @@ use std::alloc::{AllocError, Global};
 /// What these words ask for over a net, or `None` where they ask for nothing over one: they are no command, or one that
 /// needs no net. The first word names the command. The one error is want of memory, after which nothing is known of the
 /// words.
-pub fn net_request_in<'a>(
+pub fn parse_net_request<'a>(
     alloc: Global,
     words: &'a [String],
 ) -> Result<Option<NetRequest<'a>>, AllocError>
-    ensures { IfOk result (λ found. MatchOption found ((request : NetText) → AsksNet (map string_bytes words.entry.now) request → ⊥)
+    ensures { IfOk result (λ found. MatchOption found ((request : NetText)
+        → AsksNet (map string_bytes words.entry.now) request → ⊥)
         (λ request. AsksNet (map string_bytes words.entry.now) (net_seen request))) }
 {
     net_requests_are_by_rule();
@@ -33,17 +35,18 @@ fn net_request_of<'a>(
     ensures { IfOk result (λ found. option_map net_seen found ≡ net_request_of (map string_bytes words.entry.now)) }
 {
     match words.first() {
-        Some(first) => net_request_by(alloc, first.as_str(), words),
+        Some(first) => net_request_named(alloc, first.as_str(), words),
         None => Ok(None),
     }
 }
 
-fn net_request_by<'a>(
+fn net_request_named<'a>(
     alloc: Global,
     first: &str,
     words: &'a [String],
 ) -> Result<Option<NetRequest<'a>>, AllocError>
-    ensures { IfOk result (λ found. option_map net_seen found ≡ net_request_by first.now (map string_bytes words.entry.now)) }
+    ensures { IfOk result (λ found. option_map net_seen found ≡ net_request_named first.now
+        (map string_bytes words.entry.now)) }
 {
     match first {
         "sync" => sync_of(alloc, words),
@@ -70,13 +73,13 @@ fn sync_of<'a>(alloc: Global, words: &'a [String]) -> Result<Option<NetRequest<'
     ensures { IfOk result (λ found. option_map net_seen found ≡ sync_of (map string_bytes words.entry.now)) }
 {
     match read_words(alloc, "sync", &SYNC, words)? {
-        Some(given) => Ok(sync_by(&given)),
+        Some(given) => Ok(sync_asked(&given)),
         None => Ok(None),
     }
 }
 
-fn sync_by<'a>(given: &Given<'a>) -> Option<NetRequest<'a>>
-    ensures { option_map net_seen result ≡ sync_by given.now }
+fn sync_asked<'a>(given: &Given<'a>) -> Option<NetRequest<'a>>
+    ensures { option_map net_seen result ≡ sync_asked given.now }
 {
     let directory = given.word("DIR")?;
     let address = given.word("ADDR")?;
@@ -106,13 +109,13 @@ fn serve_of<'a>(alloc: Global, words: &'a [String]) -> Result<Option<NetRequest<
     ensures { IfOk result (λ found. option_map net_seen found ≡ serve_of (map string_bytes words.entry.now)) }
 {
     match read_words(alloc, "serve", &SERVE, words)? {
-        Some(given) => Ok(serve_by(&given)),
+        Some(given) => Ok(serve_asked(&given)),
         None => Ok(None),
     }
 }
 
-fn serve_by<'a>(given: &Given<'a>) -> Option<NetRequest<'a>>
-    ensures { option_map net_seen result ≡ serve_by given.now }
+fn serve_asked<'a>(given: &Given<'a>) -> Option<NetRequest<'a>>
+    ensures { option_map net_seen result ≡ serve_asked given.now }
 {
     let directory = given.word("DIR")?;
     let address = given.word("ADDR")?;

@@ -20,7 +20,8 @@ pub(crate) fn read_words<'a>(
 ) -> Result<Option<Given<'a>>, AllocError>
     requires simple { is_simple_and_free (command_app name.now (map rule_for arguments.now)) ≡ true }
     ensures { IfOk result (λ o.
-        o ≡ rows_given (command_app name.entry.now (map rule_for arguments.entry.now)) (map string_bytes words.entry.now)) }
+        o ≡ rows_given (command_app name.entry.now (map rule_for arguments.entry.now))
+        (map string_bytes words.entry.now)) }
 {
     let command = command_of(alloc, name, arguments)?;
     match command.try_get_matches_from(words) {

@@ -3,7 +3,10 @@
 ghost use Rattle.std.specs.Prelude.{◌≡◌, true, IfOk, MatchOption, map, option_map, string_bytes};
 ghost use Rattle.clap.specs.Words.{is_simple_and_free};
 ghost use Rattle.command_words.specs.Requests.{Asks, RequestText, height_of, note_of, width_of, directory_app};
-ghost use Rattle.command_words.specs.Commands.{request_of, request_by, heads_of, check_of, dump_of, dump_by, init_of, keygen_of, keygen_by, apply_of, apply_by, join_of, export_of, export_by, query_of, query_by, merge_of, merge_by, notes_of, directory_of};
+ghost use Rattle.command_words.specs.Commands.{request_of, request_named, heads_of, check_of, dump_of, dump_asked};
+ghost use Rattle.command_words.specs.Commands.{init_of, keygen_of, keygen_asked, apply_of, apply_asked, join_of};
+ghost use Rattle.command_words.specs.Commands.{export_of, export_asked, query_of, query_asked, merge_of, merge_asked};
+ghost use Rattle.command_words.specs.Commands.{notes_of, directory_of};
 ghost use Rattle.command_words.specs.Seen.{request_seen};
 
 use crate::argument::{Argument, Form};
@@ -15,10 +18,14 @@ use lms_tree::LmsType;
 use std::alloc::{AllocError, Global};
 use update_model::MAX_NOTE;
 
-/// What these words ask for, or `None` where they are no command. The first word names the command. The one error is want
-/// of memory, after which nothing is known of the words.
-pub fn request_in<'a>(alloc: Global, words: &'a [String]) -> Result<Option<Request<'a>>, AllocError>
-    ensures { IfOk result (λ found. MatchOption found ((request : RequestText) → Asks (map string_bytes words.entry.now) request → ⊥)
+/// What these words ask for, or `None` where they are no command. The first word names the command. The one error is
+/// want of memory, after which nothing is known of the words.
+pub fn parse_request<'a>(
+    alloc: Global,
+    words: &'a [String],
+) -> Result<Option<Request<'a>>, AllocError>
+    ensures { IfOk result (λ found. MatchOption found ((request : RequestText)
+        → Asks (map string_bytes words.entry.now) request → ⊥)
         (λ request. Asks (map string_bytes words.entry.now) (request_seen request))) }
 {
     requests_are_by_rule();
@@ -30,17 +37,18 @@ fn request_of<'a>(alloc: Global, words: &'a [String]) -> Result<Option<Request<'
     ensures { IfOk result (λ found. option_map request_seen found ≡ request_of (map string_bytes words.entry.now)) }
 {
     match words.first() {
-        Some(first) => request_by(alloc, first.as_str(), words),
+        Some(first) => request_named(alloc, first.as_str(), words),
         None => Ok(None),
     }
 }
 
-fn request_by<'a>(
+fn request_named<'a>(
     alloc: Global,
     first: &str,
     words: &'a [String],
 ) -> Result<Option<Request<'a>>, AllocError>
-    ensures { IfOk result (λ found. option_map request_seen found ≡ request_by first.now (map string_bytes words.entry.now)) }
+    ensures { IfOk result (λ found. option_map request_seen found ≡ request_named first.now
+        (map string_bytes words.entry.now)) }
 {
     match first {
         "heads" => heads_of(alloc, words),
@@ -104,13 +112,13 @@ fn dump_of<'a>(alloc: Global, words: &'a [String]) -> Result<Option<Request<'a>>
     ensures { IfOk result (λ found. option_map request_seen found ≡ dump_of (map string_bytes words.entry.now)) }
 {
     match read_words(alloc, "dump", &DUMP, words)? {
-        Some(given) => Ok(Some(dump_by(&given))),
+        Some(given) => Ok(Some(dump_asked(&given))),
         None => Ok(None),
     }
 }
 
-fn dump_by<'a>(given: &Given<'a>) -> Request<'a>
-    ensures { request_seen result ≡ dump_by given.now }
+fn dump_asked<'a>(given: &Given<'a>) -> Request<'a>
+    ensures { request_seen result ≡ dump_asked given.now }
 {
     let directory = given.word("DIR");
     let json = given.is_set("json");
@@ -130,7 +138,8 @@ pub(crate) fn directory_of<'a>(
     words: &'a [String],
 ) -> Result<Option<&'a str>, AllocError>
     requires { is_simple_and_free (directory_app name.now) ≡ true }
-    ensures { IfOk result (λ found. option_map (λ directory. directory.now) found ≡ directory_of name.entry.now (map string_bytes words.entry.now)) }
+    ensures { IfOk result (λ found. option_map (λ directory. directory.now) found ≡ directory_of name.entry.now
+        (map string_bytes words.entry.now)) }
 {
     match read_words(alloc, name, &DIRECTORY, words)? {
         Some(given) => Ok(given.word("DIR")),
@@ -166,13 +175,13 @@ fn apply_of<'a>(alloc: Global, words: &'a [String]) -> Result<Option<Request<'a>
     ensures { IfOk result (λ found. option_map request_seen found ≡ apply_of (map string_bytes words.entry.now)) }
 {
     match read_words(alloc, "apply", &APPLY, words)? {
-        Some(given) => Ok(apply_by(&given)),
+        Some(given) => Ok(apply_asked(&given)),
         None => Ok(None),
     }
 }
 
-fn apply_by<'a>(given: &Given<'a>) -> Option<Request<'a>>
-    ensures { option_map request_seen result ≡ apply_by given.now }
+fn apply_asked<'a>(given: &Given<'a>) -> Option<Request<'a>>
+    ensures { option_map request_seen result ≡ apply_asked given.now }
 {
     let directory = given.word("DIR")?;
     let note = note_of(given.word("note"))?;
@@ -222,13 +231,13 @@ fn keygen_of<'a>(alloc: Global, words: &'a [String]) -> Result<Option<Request<'a
     ensures { IfOk result (λ found. option_map request_seen found ≡ keygen_of (map string_bytes words.entry.now)) }
 {
     match read_words(alloc, "keygen", &KEYGEN, words)? {
-        Some(given) => Ok(keygen_by(&given)),
+        Some(given) => Ok(keygen_asked(&given)),
         None => Ok(None),
     }
 }
 
-fn keygen_by<'a>(given: &Given<'a>) -> Option<Request<'a>>
-    ensures { option_map request_seen result ≡ keygen_by given.now }
+fn keygen_asked<'a>(given: &Given<'a>) -> Option<Request<'a>>
+    ensures { option_map request_seen result ≡ keygen_asked given.now }
 {
     let directory = given.word("DIR")?;
     let height = height_of(given.word("height"))?;
@@ -296,13 +305,13 @@ fn export_of<'a>(alloc: Global, words: &'a [String]) -> Result<Option<Request<'a
     ensures { IfOk result (λ found. option_map request_seen found ≡ export_of (map string_bytes words.entry.now)) }
 {
     match read_words(alloc, "export", &EXPORT, words)? {
-        Some(given) => Ok(export_by(&given)),
+        Some(given) => Ok(export_asked(&given)),
         None => Ok(None),
     }
 }
 
-fn export_by<'a>(given: &Given<'a>) -> Option<Request<'a>>
-    ensures { option_map request_seen result ≡ export_by given.now }
+fn export_asked<'a>(given: &Given<'a>) -> Option<Request<'a>>
+    ensures { option_map request_seen result ≡ export_asked given.now }
 {
     let directory = given.word("DIR")?;
     let updates = given.is_set("updates");
@@ -332,13 +341,13 @@ fn query_of<'a>(alloc: Global, words: &'a [String]) -> Result<Option<Request<'a>
     ensures { IfOk result (λ found. option_map request_seen found ≡ query_of (map string_bytes words.entry.now)) }
 {
     match read_words(alloc, "query", &QUERY, words)? {
-        Some(given) => Ok(query_by(&given)),
+        Some(given) => Ok(query_asked(&given)),
         None => Ok(None),
     }
 }
 
-fn query_by<'a>(given: &Given<'a>) -> Option<Request<'a>>
-    ensures { option_map request_seen result ≡ query_by given.now }
+fn query_asked<'a>(given: &Given<'a>) -> Option<Request<'a>>
+    ensures { option_map request_seen result ≡ query_asked given.now }
 {
     let directory = given.word("DIR")?;
     let text = given.word("TEXT")?;
@@ -368,13 +377,13 @@ fn merge_of<'a>(alloc: Global, words: &'a [String]) -> Result<Option<Request<'a>
     ensures { IfOk result (λ found. option_map request_seen found ≡ merge_of (map string_bytes words.entry.now)) }
 {
     match read_words(alloc, "merge", &MERGE, words)? {
-        Some(given) => Ok(merge_by(&given)),
+        Some(given) => Ok(merge_asked(&given)),
         None => Ok(None),
     }
 }
 
-fn merge_by<'a>(given: &Given<'a>) -> Option<Request<'a>>
-    ensures { option_map request_seen result ≡ merge_by given.now }
+fn merge_asked<'a>(given: &Given<'a>) -> Option<Request<'a>>
+    ensures { option_map request_seen result ≡ merge_asked given.now }
 {
     let first = given.word("DIR")?;
     let second = given.word("OTHER")?;

@@ -1,8 +1,8 @@
 use lm_ots::OtsType;
 use lms_tree::LmsType;
 
-/// What the words of a command line ask for about seals. A directory is the word that names it; a key and a signature are the
-/// bytes that their words write in hexadecimal.
+/// What the words of a command line ask for about seals. A directory is the word that names it; a key and a signature
+/// are the bytes that their words write in hexadecimal.
 #[derive(Drop)]
 pub enum SealRequest<'a> {
     /// `hsskey`: makes a key of two levels, each of this height and width.

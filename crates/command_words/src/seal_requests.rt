@@ -3,7 +3,8 @@
 ghost use Rattle.std.specs.Prelude.{◌≡◌, IfOk, MatchOption, map, option_map, string_bytes};
 ghost use Rattle.std.specs.List.{list_all};
 ghost use Rattle.text_words.specs.Hexadecimal.{is_lower_digit};
-ghost use Rattle.command_words.specs.SealCommands.{hsskey_by, hsskey_of, seal_of, seal_request_by, seal_request_of, unseal_by, unseal_of, unseal_with};
+ghost use Rattle.command_words.specs.SealCommands.{hsskey_asked, hsskey_of, seal_of, seal_request_named};
+ghost use Rattle.command_words.specs.SealCommands.{seal_request_of, unseal_asked, unseal_of, unseal_with};
 ghost use Rattle.command_words.specs.SealRequests.{AsksSeal, SealText, hex_bytes, level_height_of};
 ghost use Rattle.command_words.specs.Seen.{seal_seen};
 
@@ -17,13 +18,14 @@ use lms_tree::LmsType;
 use std::alloc::{AllocError, Global};
 use text_words::bytes_of_hex;
 
-/// What these words ask for about seals, or `None` where they ask for nothing about them. The first word names the command. The
-/// one error is want of memory, after which nothing is known of the words.
-pub fn seal_request_in<'a>(
+/// What these words ask for about seals, or `None` where they ask for nothing about them. The first word names the
+/// command. The one error is want of memory, after which nothing is known of the words.
+pub fn parse_seal_request<'a>(
     alloc: Global,
     words: &'a [String],
 ) -> Result<Option<SealRequest<'a>>, AllocError>
-    ensures { IfOk result (λ found. MatchOption found ((request : SealText) → AsksSeal (map string_bytes words.entry.now) request → ⊥)
+    ensures { IfOk result (λ found. MatchOption found ((request : SealText)
+        → AsksSeal (map string_bytes words.entry.now) request → ⊥)
         (λ request. AsksSeal (map string_bytes words.entry.now) (seal_seen request))) }
 {
     seal_requests_are_by_rule();
@@ -38,17 +40,18 @@ fn seal_request_of<'a>(
     ensures { IfOk result (λ found. option_map seal_seen found ≡ seal_request_of (map string_bytes words.entry.now)) }
 {
     match words.first() {
-        Some(first) => seal_request_by(alloc, first.as_str(), words),
+        Some(first) => seal_request_named(alloc, first.as_str(), words),
         None => Ok(None),
     }
 }
 
-fn seal_request_by<'a>(
+fn seal_request_named<'a>(
     alloc: Global,
     first: &str,
     words: &'a [String],
 ) -> Result<Option<SealRequest<'a>>, AllocError>
-    ensures { IfOk result (λ found. option_map seal_seen found ≡ seal_request_by first.now (map string_bytes words.entry.now)) }
+    ensures { IfOk result (λ found. option_map seal_seen found ≡ seal_request_named first.now
+        (map string_bytes words.entry.now)) }
 {
     match first {
         "hsskey" => hsskey_of(alloc, words),
@@ -81,13 +84,13 @@ fn hsskey_of<'a>(alloc: Global, words: &'a [String]) -> Result<Option<SealReques
     ensures { IfOk result (λ found. option_map seal_seen found ≡ hsskey_of (map string_bytes words.entry.now)) }
 {
     match read_words(alloc, "hsskey", &HSSKEY, words)? {
-        Some(given) => Ok(hsskey_by(&given)),
+        Some(given) => Ok(hsskey_asked(&given)),
         None => Ok(None),
     }
 }
 
-fn hsskey_by<'a>(given: &Given<'a>) -> Option<SealRequest<'a>>
-    ensures { option_map seal_seen result ≡ hsskey_by given.now }
+fn hsskey_asked<'a>(given: &Given<'a>) -> Option<SealRequest<'a>>
+    ensures { option_map seal_seen result ≡ hsskey_asked given.now }
 {
     let directory = given.word("DIR")?;
     let height = level_height_of(given.word("height"))?;
@@ -143,13 +146,13 @@ fn unseal_of<'a>(alloc: Global, words: &'a [String]) -> Result<Option<SealReques
     ensures { IfOk result (λ found. option_map seal_seen found ≡ unseal_of (map string_bytes words.entry.now)) }
 {
     match read_words(alloc, "unseal", &UNSEAL, words)? {
-        Some(given) => unseal_by(alloc, &given),
+        Some(given) => unseal_asked(alloc, &given),
         None => Ok(None),
     }
 }
 
-fn unseal_by<'a>(alloc: Global, given: &Given<'a>) -> Result<Option<SealRequest<'a>>, AllocError>
-    ensures { IfOk result (λ found. option_map seal_seen found ≡ unseal_by given.now) }
+fn unseal_asked<'a>(alloc: Global, given: &Given<'a>) -> Result<Option<SealRequest<'a>>, AllocError>
+    ensures { IfOk result (λ found. option_map seal_seen found ≡ unseal_asked given.now) }
 {
     let Some(key) = given.word("KEY") else {
         return Ok(None);

@@ -1,7 +1,8 @@
 //! What the words of `watch` ask for.
 
 ghost use Rattle.std.specs.Prelude.{◌≡◌, IfOk, MatchOption, map, option_map, string_bytes};
-ghost use Rattle.command_words.specs.WatchCommands.{count_of, every_of, watch_by, watch_of, watch_request_by, watch_request_of};
+ghost use Rattle.command_words.specs.WatchCommands.{count_of, every_of, watch_asked, watch_of, watch_request_named};
+ghost use Rattle.command_words.specs.WatchCommands.{watch_request_of};
 ghost use Rattle.command_words.specs.WatchRequests.{AsksWatch, WatchText};
 ghost use Rattle.command_words.specs.Seen.{watch_seen};
 
@@ -12,13 +13,14 @@ use crate::{WatchRequest, watch_requests_are_by_rule};
 use std::alloc::{AllocError, Global};
 use text_words::integer_of;
 
-/// What these words ask for of a query that is watched, or `None` where they do not ask for that. The first word names the
-/// command. The one error is want of memory, after which nothing is known of the words.
-pub fn watch_request_in<'a>(
+/// What these words ask for of a query that is watched, or `None` where they do not ask for that. The first word names
+/// the command. The one error is want of memory, after which nothing is known of the words.
+pub fn parse_watch_request<'a>(
     alloc: Global,
     words: &'a [String],
 ) -> Result<Option<WatchRequest<'a>>, AllocError>
-    ensures { IfOk result (λ found. MatchOption found ((request : WatchText) → AsksWatch (map string_bytes words.entry.now) request → ⊥)
+    ensures { IfOk result (λ found. MatchOption found ((request : WatchText)
+        → AsksWatch (map string_bytes words.entry.now) request → ⊥)
         (λ request. AsksWatch (map string_bytes words.entry.now) (watch_seen request))) }
 {
     watch_requests_are_by_rule();
@@ -33,17 +35,18 @@ fn watch_request_of<'a>(
     ensures { IfOk result (λ found. option_map watch_seen found ≡ watch_request_of (map string_bytes words.entry.now)) }
 {
     match words.first() {
-        Some(first) => watch_request_by(alloc, first.as_str(), words),
+        Some(first) => watch_request_named(alloc, first.as_str(), words),
         None => Ok(None),
     }
 }
 
-fn watch_request_by<'a>(
+fn watch_request_named<'a>(
     alloc: Global,
     first: &str,
     words: &'a [String],
 ) -> Result<Option<WatchRequest<'a>>, AllocError>
-    ensures { IfOk result (λ found. option_map watch_seen found ≡ watch_request_by first.now (map string_bytes words.entry.now)) }
+    ensures { IfOk result (λ found. option_map watch_seen found ≡ watch_request_named first.now
+        (map string_bytes words.entry.now)) }
 {
     match first {
         "watch" => watch_of(alloc, words),
@@ -74,13 +77,13 @@ fn watch_of<'a>(alloc: Global, words: &'a [String]) -> Result<Option<WatchReques
     ensures { IfOk result (λ found. option_map watch_seen found ≡ watch_of (map string_bytes words.entry.now)) }
 {
     match read_words(alloc, "watch", &WATCH, words)? {
-        Some(given) => Ok(watch_by(&given)),
+        Some(given) => Ok(watch_asked(&given)),
         None => Ok(None),
     }
 }
 
-fn watch_by<'a>(given: &Given<'a>) -> Option<WatchRequest<'a>>
-    ensures { option_map watch_seen result ≡ watch_by given.now }
+fn watch_asked<'a>(given: &Given<'a>) -> Option<WatchRequest<'a>>
+    ensures { option_map watch_seen result ≡ watch_asked given.now }
 {
     let directory = given.word("DIR")?;
     let text = given.word("TEXT")?;

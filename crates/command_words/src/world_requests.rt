@@ -1,7 +1,9 @@
 //! What the words of each command about worlds ask for.
 
-ghost use Rattle.std.specs.Prelude.{◌≡◌, ◌<◌, ◌^◌, IfOk, IfSome, MatchOption, bytes_eq, decimal, map, option_map, string_bytes};
-ghost use Rattle.command_words.specs.WorldCommands.{count_of, demo_by, demo_of, number_of, world_by, world_of, world_request_by, world_request_of};
+ghost use Rattle.std.specs.Prelude.{◌≡◌, ◌<◌, ◌^◌, IfOk, IfSome, MatchOption, bytes_eq, decimal, map, option_map};
+ghost use Rattle.std.specs.Prelude.{string_bytes};
+ghost use Rattle.command_words.specs.WorldCommands.{count_of, demo_asked, demo_of, number_of, world_asked, world_of};
+ghost use Rattle.command_words.specs.WorldCommands.{world_request_named, world_request_of};
 ghost use Rattle.command_words.specs.WorldRequests.{AsksWorld, WorldText};
 ghost use Rattle.command_words.specs.Seen.{world_seen};
 
@@ -12,10 +14,14 @@ use crate::{WorldRequest, world_requests_are_by_rule};
 use itoa::Buffer;
 use std::alloc::{AllocError, Global};
 
-/// What these words ask for of worlds, or `None` where they ask for nothing of them. The first word names the command. The one
-/// error is want of memory, after which nothing is known of the words.
-pub fn world_request_in(alloc: Global, words: &[String]) -> Result<Option<WorldRequest>, AllocError>
-    ensures { IfOk result (λ found. MatchOption found ((request : WorldText) → AsksWorld (map string_bytes words.now) request → ⊥)
+/// What these words ask for of worlds, or `None` where they ask for nothing of them. The first word names the command.
+/// The one error is want of memory, after which nothing is known of the words.
+pub fn parse_world_request(
+    alloc: Global,
+    words: &[String],
+) -> Result<Option<WorldRequest>, AllocError>
+    ensures { IfOk result (λ found. MatchOption found ((request : WorldText)
+        → AsksWorld (map string_bytes words.now) request → ⊥)
         (λ request. AsksWorld (map string_bytes words.now) (world_seen request))) }
 {
     world_requests_are_by_rule();
@@ -27,17 +33,18 @@ fn world_request_of(alloc: Global, words: &[String]) -> Result<Option<WorldReque
     ensures { IfOk result (λ found. option_map world_seen found ≡ world_request_of (map string_bytes words.now)) }
 {
     match words.first() {
-        Some(first) => world_request_by(alloc, first.as_str(), words),
+        Some(first) => world_request_named(alloc, first.as_str(), words),
         None => Ok(None),
     }
 }
 
-fn world_request_by(
+fn world_request_named(
     alloc: Global,
     first: &str,
     words: &[String],
 ) -> Result<Option<WorldRequest>, AllocError>
-    ensures { IfOk result (λ found. option_map world_seen found ≡ world_request_by first.now (map string_bytes words.now)) }
+    ensures { IfOk result (λ found. option_map world_seen found ≡ world_request_named first.now
+        (map string_bytes words.now)) }
 {
     match first {
         "world" => world_of(alloc, words),
@@ -57,13 +64,13 @@ fn world_of(alloc: Global, words: &[String]) -> Result<Option<WorldRequest>, All
     ensures { IfOk result (λ found. option_map world_seen found ≡ world_of (map string_bytes words.now)) }
 {
     match read_words(alloc, "world", &WORLD, words)? {
-        Some(given) => Ok(Some(world_by(&given))),
+        Some(given) => Ok(Some(world_asked(&given))),
         None => Ok(None),
     }
 }
 
-fn world_by(given: &Given) -> WorldRequest
-    ensures { world_seen result ≡ world_by given.now }
+fn world_asked(given: &Given) -> WorldRequest
+    ensures { world_seen result ≡ world_asked given.now }
 {
     let audit = given.is_set("audit");
     WorldRequest::World { audit }
@@ -87,13 +94,13 @@ fn demo_of(alloc: Global, words: &[String]) -> Result<Option<WorldRequest>, Allo
     ensures { IfOk result (λ found. option_map world_seen found ≡ demo_of (map string_bytes words.now)) }
 {
     match read_words(alloc, "demo", &DEMO, words)? {
-        Some(given) => Ok(demo_by(&given)),
+        Some(given) => Ok(demo_asked(&given)),
         None => Ok(None),
     }
 }
 
-fn demo_by(given: &Given) -> Option<WorldRequest>
-    ensures { option_map world_seen result ≡ demo_by given.now }
+fn demo_asked(given: &Given) -> Option<WorldRequest>
+    ensures { option_map world_seen result ≡ demo_asked given.now }
 {
     let number = number_of(given.word("NUMBER")?)?;
     let count = count_of(number_of(given.word("COUNT")?)?)?;

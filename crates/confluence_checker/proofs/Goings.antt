@@ -7,19 +7,19 @@ use Rattle.table_model.specs.declared.invariant.InvariantKind.TheVariants as kin
 use Rattle.table_model.specs.Invariants.{Claim, Declared, Unique, UniqueKept, claim_holds, declared_at, each_from, unique_declared}
 use Rattle.table_model.specs.Verdicts.{keeps_least, unique_holds}
 use Rattle.table_model.specs.Visible.{Rules, TableRow}
-use Rattle.confluence_checker.specs.declared.found.Found.{Found}
+use Rattle.confluence_checker.specs.declared.found.FoundInvariant.{FoundInvariant}
 use Rattle.confluence_checker.specs.Forms.{found_among, is_same, seen, unique_kind}
 use Rattle.confluence_checker.proofs.Lists.{drop_next}
 use Rattle.confluence_checker.proofs.Bounds.{left_at}
 
 -- first these, then those
-pub found_append : (rules : Rules) (rows : List TableRow) (which : Invariant) (xs ys : List Declared) (found : Found)
+pub found_append : (rules : Rules) (rows : List TableRow) (which : Invariant) (xs ys : List Declared) (found : FoundInvariant)
     → found_among rules rows which (xs ++ ys) found ≡ found_among rules rows which ys (found_among rules rows which xs found)
 found_append rules rows which [] ys found = refl
 found_append rules rows which (d ∷ ds) ys found = found_append rules rows which ds ys (seen found (is_same d.which which) (claim_holds rules rows d.claim))
 
 -- what one item more declares
-pub found_next : {X : Type 0} (rules : Rules) (rows : List TableRow) (which : Invariant) (declares : ℕ → X → List Declared) (xs : List X) (i : ℕ) (x : X) (found next all : Found) → i < length xs → x ≡ get_or xs i x
+pub found_next : {X : Type 0} (rules : Rules) (rows : List TableRow) (which : Invariant) (declares : ℕ → X → List Declared) (xs : List X) (i : ℕ) (x : X) (found next all : FoundInvariant) → i < length xs → x ≡ get_or xs i x
     → next ≡ found_among rules rows which (declares i x) found → found_among rules rows which (each_from declares i (drop i xs)) found ≡ all
     → found_among rules rows which (each_from declares (i + 1) (drop (i + 1) xs)) next ≡ all
 found_next rules rows which declares xs i x found next all h e made told =
@@ -27,7 +27,7 @@ found_next rules rows which declares xs i x found next all h e made told =
     ap (found_among rules rows which rest) made ∙ sym (found_append rules rows which (declares i x) rest found)
     ∙ sym (ap (λ l. found_among rules rows which (each_from declares i l) found) (drop_next xs i x h e)) ∙ told
 
-pub found_at : {X : Type 0} (rules : Rules) (rows : List TableRow) (which : Invariant) (declares : ℕ → X → List Declared) (xs : List X) (i : ℕ) (x : X) (found next all : Found) → slice_get xs i ≡ Some x
+pub found_at : {X : Type 0} (rules : Rules) (rows : List TableRow) (which : Invariant) (declares : ℕ → X → List Declared) (xs : List X) (i : ℕ) (x : X) (found next all : FoundInvariant) → slice_get xs i ≡ Some x
     → next ≡ found_among rules rows which (declares i x) found → found_among rules rows which (each_from declares i (drop i xs)) found ≡ all
     → found_among rules rows which (each_from declares (i + 1) (drop (i + 1) xs)) next ≡ all
 found_at rules rows which declares xs i x found next all at made told =
@@ -36,7 +36,7 @@ found_at rules rows which declares xs i x found next all at made told =
     ∙ sym (ap (λ l. found_among rules rows which (each_from declares i l) found) (left_at xs i x at)) ∙ told
 
 -- the five kinds of invariants of a table
-pub found_table : (rules : Rules) (rows : List TableRow) (which : Invariant) (A B C D E : List Declared) (before a b c d e : Found)
+pub found_table : (rules : Rules) (rows : List TableRow) (which : Invariant) (A B C D E : List Declared) (before a b c d e : FoundInvariant)
     → a ≡ found_among rules rows which A before → b ≡ found_among rules rows which B a → c ≡ found_among rules rows which C b → d ≡ found_among rules rows which D c → e ≡ found_among rules rows which E d
     → e ≡ found_among rules rows which (A ++ B ++ C ++ D ++ E) before
 found_table rules rows which A B C D E before a b c d e ha hb hc hd he =
@@ -46,7 +46,7 @@ found_table rules rows which A B C D E before a b c d e ha hb hc hd he =
     he ∙ ap (found_among rules rows which E) abcd ∙ sym (found_append rules rows which (A ++ B ++ C ++ D) E before)
 
 -- a UNIQUE, by its kind
-pub found_unique : (rules : Rules) (rows : List TableRow) (which : Invariant) (kept : Option ℕ) (number place : ℕ) (rule : UniqueRule) (found : Found)
+pub found_unique : (rules : Rules) (rows : List TableRow) (which : Invariant) (kept : Option ℕ) (number place : ℕ) (rule : UniqueRule) (found : FoundInvariant)
     → seen found (is_same (record { kind = unique_kind kept rule.column; table = number; place = place; line = rule.line }) which) (unique_holds rows number rule.column)
     ≡ found_among rules rows which (unique_declared kept number place rule) found
 found_unique rules rows which kept number place rule found =

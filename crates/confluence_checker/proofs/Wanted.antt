@@ -12,7 +12,7 @@ use Rattle.table_model.specs.Invariants.{Claim, Declared, claim_holds, claims_of
 use Rattle.table_model.specs.Nodes.{IsClosed}
 use Rattle.table_model.specs.Visible.{Rules, TableRow}
 use Rattle.confluence_laws.proofs.Confirmed.{closed_from_test}
-use Rattle.confluence_checker.specs.declared.found.Found.{Found}
+use Rattle.confluence_checker.specs.declared.found.FoundInvariant.{FoundInvariant}
 use Rattle.confluence_checker.specs.Forms.{breaks_by, found_among, is_broken, is_kept, is_same, seen, start}
 use Rattle.confluence_checker.proofs.Goings.{found_append}
 use Rattle.confluence_checker.proofs.Splits.{Apart, earlier_differ, invariants_apart, same_itself}
@@ -56,14 +56,14 @@ module _ (rules : Rules) (rows : List TableRow) (which : Invariant) where
   last_too true false = refl
   last_too false b = refl
 
-  pub kept_is : (earlier later : List Declared) (d : Declared) (found : Found) → invariants_of rules ≡ earlier ++ d ∷ later → d.which ≡ which
+  pub kept_is : (earlier later : List Declared) (d : Declared) (found : FoundInvariant) → invariants_of rules ≡ earlier ++ d ∷ later → d.which ≡ which
       → found ≡ found_among rules rows which (invariants_of rules) start → is_kept found ≡ list_all (claim_holds rules rows) (claims_of earlier ++ d.claim ∷ [])
   kept_is earlier later d found split same is =
       ap is_kept (is ∙ ap (λ l. found_among rules rows which l start) split ∙ found_split earlier later d (subst Apart split (invariants_apart rules)) same)
       ∙ last_too (list_all holds earlier) (holds d)
       ∙ sym (list_all-append (claim_holds rules rows) (claims_of earlier) (d.claim ∷ []) ∙ ap (λ (b : Bool). b && (holds d && true)) (list_all-map (claim_holds rules rows) (λ (e : Declared). e.claim) earlier))
 
-  pub broken_is : (earlier later : List Declared) (d : Declared) (found : Found) → invariants_of rules ≡ earlier ++ d ∷ later → d.which ≡ which
+  pub broken_is : (earlier later : List Declared) (d : Declared) (found : FoundInvariant) → invariants_of rules ≡ earlier ++ d ∷ later → d.which ≡ which
       → found ≡ found_among rules rows which (invariants_of rules) start → is_broken found ≡ not (holds d)
   broken_is earlier later d found split same is =
       ap is_broken (is ∙ ap (λ l. found_among rules rows which l start) split ∙ found_split earlier later d (subst Apart split (invariants_apart rules)) same)
@@ -94,7 +94,7 @@ closed_sides left right both h =
     (closed_from_test (reverse left) one.0, closed_from_test (reverse right) one.1, closed_from_test (reverse both) two.1)
 
 -- what is found in closed lists
-pub breaks_found : (rules : Rules) (which : Invariant) (earlier later : List Declared) (d : Declared) (left right both : List NodeData) (x y z : Found)
+pub breaks_found : (rules : Rules) (which : Invariant) (earlier later : List Declared) (d : Declared) (left right both : List NodeData) (x y z : FoundInvariant)
     → invariants_of rules ≡ earlier ++ d ∷ later → d.which ≡ which
     → (is_closed (reverse left) && is_closed (reverse right) && is_closed (reverse both)) ≡ true
     → x ≡ found_among rules (shown_in rules (reverse left)) which (invariants_of rules) start → y ≡ found_among rules (shown_in rules (reverse right)) which (invariants_of rules) start

@@ -15,7 +15,7 @@ use Rattle.table_model.specs.Invariants.{Claim, Declared, claim_holds, invariant
 use Rattle.table_model.specs.Verdicts.{Judged, keeps_least, insert_reason, delete_reason, row_inserted}
 use Rattle.schema.specs.Columns.{all_fit}
 use Rattle.table_model.specs.Visible.{Rules, TableRow, Effects, bare_rules, same_row, table_of}
-use Rattle.confluence_checker.specs.declared.found.Found.{Found}
+use Rattle.confluence_checker.specs.declared.found.FoundInvariant.{FoundInvariant}
 use Rattle.confluence_checker.specs.declared.judged_node.JudgedNode.{JudgedNode}
 
 -- whether a name is among these
@@ -70,20 +70,20 @@ abbrev pub is_same : Invariant → Invariant → Bool
 is_same a b = (kind_number a.kind == kind_number b.kind) && (a.table == b.table) && (a.place == b.place) && (a.line == b.line)
 
 -- what is found of invariants before one is looked at
-abbrev pub start : Found
+abbrev pub start : FoundInvariant
 start = record { earlier = true; here = None }
 
 -- One invariant more: nothing changes where the wanted one has been found, else it is the wanted one, or an earlier one.
-abbrev pub seen_by : Option Bool → Found → Bool → Bool → Found
+abbrev pub seen_by : Option Bool → FoundInvariant → Bool → Bool → FoundInvariant
 seen_by (Some answer) found wanted holds = found
 seen_by None found wanted holds = if wanted then record { earlier = found.earlier; here = Some holds } else record { earlier = found.earlier && holds; here = None }
 
 -- the same, by what has been found so far
-abbrev pub seen : Found → Bool → Bool → Found
+abbrev pub seen : FoundInvariant → Bool → Bool → FoundInvariant
 seen found wanted holds = seen_by found.here found wanted holds
 
 -- whether the invariants before a wanted one hold of shown rows, and whether that one does
-abbrev pub found_among : Rules → List TableRow → Invariant → List Declared → Found → Found
+abbrev pub found_among : Rules → List TableRow → Invariant → List Declared → FoundInvariant → FoundInvariant
 found_among rules rows which [] found = found
 found_among rules rows which (d ∷ ds) found = found_among rules rows which ds (seen found (is_same d.which which) (claim_holds rules rows d.claim))
 
@@ -98,11 +98,11 @@ fails_there None = false
 fails_there (Some holds) = not holds
 
 -- whether the wanted invariant was found to hold, and those before it
-abbrev pub is_kept : Found → Bool
+abbrev pub is_kept : FoundInvariant → Bool
 is_kept found = found.earlier && holds_there found.here
 
 -- whether the wanted invariant was found not to hold
-abbrev pub is_broken : Found → Bool
+abbrev pub is_broken : FoundInvariant → Bool
 is_broken found = fails_there found.here
 
 -- whether two sides and their union, each in the order of arrival, are closed, both sides satisfy the earlier invariants and

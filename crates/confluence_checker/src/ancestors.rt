@@ -17,7 +17,8 @@ use update_model::{Node, UpdateId};
 
 /// Puts an id at the end of a list, where it is missing.
 fn add_one(ids: &mut Vec<UpdateId>, id: &UpdateId) -> Result<(), AllocError>
-    ensures { OnOk result ((other : UpdateId) → has ids.new.items other ≡ (has ids.old.items other || same_id other id.now)) }
+    ensures { OnOk result ((other : UpdateId)
+        → has ids.new.items other ≡ (has ids.old.items other || same_id other id.now)) }
 {
     if has(ids.as_slice(), id) {
         return Ok(());
@@ -36,7 +37,8 @@ fn add_missing(ids: &mut Vec<UpdateId>, more: &[UpdateId]) -> Result<(), AllocEr
     Ok(())
 }
 
-/// The ids of a node's ancestors, which are among these nodes in the order of arrival: of its predecessors, and of theirs.
+/// The ids of a node's ancestors, which are among these nodes in the order of arrival: of its predecessors, and of
+/// theirs.
 pub(crate) fn ancestors_of(
     alloc: Global,
     js: &[JudgedNode],
@@ -66,7 +68,8 @@ fn is_valid(verdict: &Verdict) -> bool
 
 /// What older nodes did, and what this one did, where it is valid.
 fn with_node(alloc: Global, j: &JudgedNode, older: RowEffects) -> Result<RowEffects, AllocError>
-    ensures { IfOk result (λ did. did ≡ (if is_valid j.now.verdict then joined (effects_of j.now.node) older else older)) }
+    ensures { IfOk result (λ did. did ≡ (if is_valid j.now.verdict then joined (effects_of j.now.node) older else
+        older)) }
 {
     if is_valid(&j.verdict) {
         effects_of(alloc, &j.node)?.joined(older)

@@ -49,7 +49,8 @@ fn match_holds(rows: &[InsertedRow], values: &[Value], rule: &MatchRule) -> bool
 
 /// Whether a `MATCH` is true of each row of a table.
 pub(crate) fn matches_hold(rows: &[InsertedRow], table: u8, rule: &MatchRule) -> bool
-    ensures { result ≡ each_row rows.now table (λ row. matches_among rows.now row.values rule.now (value_at row.values rule.now.reference)) }
+    ensures { result ≡ each_row rows.now table (λ row. matches_among rows.now row.values rule.now
+        (value_at row.values rule.now.reference)) }
 {
     rows.iter().all(|row| row.table != table || match_holds(rows, row.values.as_slice(), rule))
 }
@@ -77,10 +78,12 @@ fn check_holds_at<L: Relation, C: Checks<L>>(
     columns: &[Column],
     check: &CheckRule,
 ) -> Result<bool, AllocError>
-    requires fits { IsTrue (all_fit (table_of (bare_rules checker.now.schema.now.tables) row.now.table).columns row.now.values) }
+    requires fits { IsTrue (all_fit (table_of (bare_rules checker.now.schema.now.tables) row.now.table).columns
+        row.now.values) }
     requires columns { columns.now ≡ (table_of (bare_rules checker.now.schema.now.tables) table).columns }
     requires sound { IsSoundCheck columns.now check.now }
-    ensures { IfOk result (λ answer. answer ≡ (not (in_table table row.now) || holds_tree L.answer row.now.values check.now.tree)) }
+    ensures { IfOk result (λ answer. answer ≡ (not (in_table table row.now) || holds_tree L.answer row.now.values
+        check.now.tree)) }
 {
     if row.table != table {
         return Ok(true);
@@ -105,7 +108,8 @@ pub(crate) fn check_holds<L: Relation, C: Checks<L>>(
     requires fits { AllFit checker.now.schema.now.tables rows.now }
     requires columns { columns.now ≡ (table_of (bare_rules checker.now.schema.now.tables) table).columns }
     requires sound { IsSoundCheck columns.now check.now }
-    ensures { IfOk result (λ answer. answer ≡ each_row rows.now table (λ row. holds_tree L.answer row.values check.now.tree)) }
+    ensures { IfOk result (λ answer. answer ≡ each_row rows.now table (λ row. holds_tree L.answer row.values
+        check.now.tree)) }
 {
     match rows {
         [] => Ok(true),

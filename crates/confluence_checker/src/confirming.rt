@@ -9,7 +9,7 @@ ghost use Rattle.table_model.specs.Visible.{rules_with};
 
 use crate::ancestors::effects;
 use crate::checker::Checker;
-use crate::found::Found;
+use crate::found::FoundInvariant;
 use crate::ids::passes_closed;
 use crate::judging::judged;
 use crate::searching::found;
@@ -46,7 +46,7 @@ fn found_in<L: Relation, C: Checks<L>>(
     checker: &Checker<'_, L, C>,
     nodes: &[Node],
     which: &Invariant,
-) -> Result<Found, AllocError>
+) -> Result<FoundInvariant, AllocError>
     requires { IsClosed (reverse nodes.now) }
     ensures { IfOk result (λ found. let rules = rules_with L.answer checker.now.schema.now.tables in
         found ≡ found_among rules (shown_in rules (reverse nodes.now)) which.now (invariants_of rules) start) }
@@ -62,14 +62,14 @@ fn found_in<L: Relation, C: Checks<L>>(
 }
 
 /// Whether the wanted invariant was found to hold, and those before it.
-fn is_kept(found: &Found) -> bool
+fn is_kept(found: &FoundInvariant) -> bool
     ensures { result ≡ is_kept found.now }
 {
     found.earlier && found.here == Some(true)
 }
 
 /// Whether the wanted invariant was found not to hold.
-fn is_broken(found: &Found) -> bool
+fn is_broken(found: &FoundInvariant) -> bool
     ensures { result ≡ is_broken found.now }
 {
     found.here == Some(false)
@@ -83,7 +83,7 @@ fn are_closed(left: &[Node], right: &[Node], both: &[Node]) -> bool
 }
 
 /// Whether the wanted invariant holds on both sides, with those before it, and not in their union.
-fn is_shown(left: &Found, right: &Found, both: &Found) -> bool
+fn is_shown(left: &FoundInvariant, right: &FoundInvariant, both: &FoundInvariant) -> bool
     ensures { result ≡ (is_kept left.now && is_kept right.now && is_broken both.now) }
 {
     is_kept(left) && is_kept(right) && is_broken(both)
@@ -98,7 +98,8 @@ fn confirm<L: Relation, C: Checks<L>>(
     both: &[Node],
 ) -> Result<bool, AllocError>
     ensures { IfOk result (λ answer. let rules = rules_with L.answer checker.now.schema.now.tables in
-        (earlier later : List Declared) (declared : Declared) → invariants_of rules ≡ earlier ++ declared ∷ later → declared.which ≡ which.now
+        (earlier later : List Declared) (declared : Declared) → invariants_of rules ≡ earlier ++ declared ∷ later
+        → declared.which ≡ which.now
         → answer ≡ breaks_by rules (claims_of earlier) declared.claim left.now right.now both.now) }
 {
     if !are_closed(left, right, both) {
@@ -110,8 +111,8 @@ fn confirm<L: Relation, C: Checks<L>>(
     Ok(is_shown(&on_left, &on_right, &on_both))
 }
 
-/// Whether a counterexample confirms that merging breaks an invariant of a schema: both sides and their union are closed,
-/// each side satisfies this invariant and those before it, and the union breaks this one.
+/// Whether a counterexample confirms that merging breaks an invariant of a schema: both sides and their union are
+/// closed, each side satisfies this invariant and those before it, and the union breaks this one.
 ///
 /// The order of invariants is: by table; in a table the `UNIQUE` lines, `ATMOST`, the references by column, the `CHECK`
 /// and the `MATCH` lines. It gives up where memory runs out.
@@ -124,7 +125,8 @@ pub fn confirms<L: Relation, C: Checks<L>>(
 ) -> Result<bool, AllocError>
     requires { IsInvariantOf (rules_with L.answer schema.now.tables) which.now }
     ensures { IfOk result (λ answer. let rules = rules_with L.answer schema.now.tables in
-        (earlier later : List Declared) (declared : Declared) → invariants_of rules ≡ earlier ++ declared ∷ later → declared.which ≡ which.now
+        (earlier later : List Declared) (declared : Declared) → invariants_of rules ≡ earlier ++ declared ∷ later
+        → declared.which ≡ which.now
         → answer ≡ confirms rules (claims_of earlier) declared.claim example.now) }
 {
     let base = example.base.as_slice();

@@ -3,38 +3,38 @@ ghost use Rattle.confluence_checker.specs.Forms.{seen, start};
 
 /// What is found where the invariants of a schema are gone through in order, until a wanted one.
 #[derive(Clone, Copy)]
-pub(crate) struct Found {
+pub(crate) struct FoundInvariant {
     /// Whether those before the wanted one hold.
     pub(crate) earlier: bool,
     /// Whether the wanted one holds, once it has been found.
     pub(crate) here: Option<bool>,
 }
 
-impl Found {
+impl FoundInvariant {
     /// Before one is looked at.
-    pub(crate) fn start() -> Found
+    pub(crate) fn start() -> FoundInvariant
         ensures { result ≡ start }
     {
-        Found {
+        FoundInvariant {
             earlier: true,
             here: None,
         }
     }
 
     /// With one invariant more: whether it is the wanted one, and whether it holds.
-    pub(crate) fn seen(self, wanted: bool, holds: bool) -> Found
+    pub(crate) fn seen(self, wanted: bool, holds: bool) -> FoundInvariant
         ensures { result ≡ seen self wanted holds }
     {
         if self.here.is_some() {
             return self;
         }
         if wanted {
-            Found {
+            FoundInvariant {
                 earlier: self.earlier,
                 here: Some(holds),
             }
         } else {
-            Found {
+            FoundInvariant {
                 earlier: self.earlier && holds,
                 here: None,
             }

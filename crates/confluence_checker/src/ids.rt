@@ -62,7 +62,8 @@ fn all_held(nodes: &[Node], ids: &[UpdateId]) -> bool
 
 /// Whether a node is new after others, and each of its predecessors is held.
 fn is_next(older: &[Node], node: &Node) -> bool
-    ensures { result ≡ (not (holds (reverse older.now) node.now.id) && list_all (holds (reverse older.now)) node.now.preds) }
+    ensures { result ≡ (not (holds (reverse older.now) node.now.id) && list_all (holds (reverse older.now))
+        node.now.preds) }
 {
     !holds(older, &node.id) && all_held(older, node.preds.as_slice())
 }

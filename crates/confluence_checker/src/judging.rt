@@ -22,7 +22,8 @@ fn judge_next<L: Relation, C: Checks<L>>(
     js: &[JudgedNode],
     node: &Node,
 ) -> Result<JudgedNode, AllocError>
-    ensures { IfOk result (λ j. as_judged j ≡ judge_next (rules_with L.answer schema.now.tables) (newest_first js.now) node.now) }
+    ensures { IfOk result (λ j. as_judged j ≡ judge_next (rules_with L.answer schema.now.tables) (newest_first js.now)
+        node.now) }
 {
     let ancestors = ancestors_of(alloc, js, node)?;
     let past = effects_among(alloc, js, ancestors.as_slice())?;
@@ -41,7 +42,8 @@ pub(crate) fn judged<L: Relation, C: Checks<L>>(
     native: &Native<L, C>,
     nodes: &[Node],
 ) -> Result<Vec<JudgedNode>, AllocError>
-    ensures { IfOk result (λ js. newest_first js.items ≡ judged (rules_with L.answer schema.now.tables) (reverse nodes.now)) }
+    ensures { IfOk result (λ js. newest_first js.items ≡ judged (rules_with L.answer schema.now.tables)
+        (reverse nodes.now)) }
 {
     judged_one_by_one();
     let mut js = Vec::with_capacity(alloc, nodes.len())?;

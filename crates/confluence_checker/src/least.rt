@@ -2,7 +2,8 @@
 
 ghost use Rattle.std.specs.Prelude.{◌≡◌, ◌&&◌};
 ghost use Rattle.std.specs.List.{list_all, list_any};
-ghost use Rattle.table_model.specs.Visible.{bare_rules, cascade_refs, goes_before, is_candidate, is_least_in, kept_of, name_cmp, shows};
+ghost use Rattle.table_model.specs.Visible.{bare_rules, cascade_refs, goes_before, is_candidate, is_least_in, kept_of};
+ghost use Rattle.table_model.specs.Visible.{name_cmp, shows};
 ghost use Rattle.confluence_checker.specs.Forms.{is_among};
 
 use crate::ids::same_row;
@@ -42,7 +43,8 @@ fn needs_are_seen(schema: &Schema, row: &InsertedRow, seen: &[RowName]) -> bool
 
 /// Whether no candidate goes before a row in the column of which its table keeps the least row of each value, if any.
 fn is_least(schema: &Schema, did: &RowEffects, seen: &[RowName], row: &InsertedRow) -> bool
-    ensures { result ≡ is_least_in (bare_rules schema.now.tables) did.now (is_among seen.now) row.now (kept_of (bare_rules schema.now.tables) row.now.table) }
+    ensures { result ≡ is_least_in (bare_rules schema.now.tables) did.now (is_among seen.now) row.now
+        (kept_of (bare_rules schema.now.tables) row.now.table) }
 {
     match kept_of(schema, row.table) {
         None => true,
@@ -58,7 +60,8 @@ fn has_lesser(
     column: u8,
     row: &InsertedRow,
 ) -> bool
-    ensures { result ≡ list_any (λ other. goes_before column row.now other && is_candidate (bare_rules schema.now.tables) did.now (is_among seen.now) other) did.now.inserted }
+    ensures { result ≡ list_any (λ other. goes_before column row.now other && is_candidate
+        (bare_rules schema.now.tables) did.now (is_among seen.now) other) did.now.inserted }
 {
     did.inserted().iter().any(|other| {
         goes_before(column, row, other) && is_candidate(schema, did, seen, other)

@@ -2,8 +2,8 @@
 //!
 //! What a schema's tables are after a set of updates, which updates are valid, and when a history breaks an invariant
 //! are definitions. [`tables_of`] and [`confirms`] compute them word for word: each private function is one of the
-//! definitions, and is proved to be equal to it. They are slow, and meant to stand beside faster code, to show what that
-//! computes, and to check a counterexample, whose updates are few.
+//! definitions, and is proved to be equal to it. They are slow, and meant to stand beside faster code, to show what
+//! that computes, and to check a counterexample, whose updates are few.
 //!
 //! ```text
 //! is_closed(nodes)                                        // which tables_of asks of a list in the order of arrival

@@ -14,7 +14,8 @@ use schema::{Schema, TableDef, UniqueRule};
 
 /// How many rows of a table are equal to this one in a column.
 fn equal_count(rows: &[InsertedRow], table: u8, column: u8, row: &InsertedRow) -> usize
-    ensures { result ≡ count_by (λ b. in_table table b && compares cmp.Eq (value_at row.now.values column) (value_at b.values column)) rows.now }
+    ensures { result ≡ count_by (λ b. in_table table b && compares cmp.Eq (value_at row.now.values column)
+        (value_at b.values column)) rows.now }
 {
     rows.iter()
         .filter(|other| {
@@ -63,7 +64,8 @@ pub(crate) fn keeps_least(kept: Option<u8>, column: u8) -> bool
 
 /// Whether each `UNIQUE` of a table holds, but for the one with `KEEP LEAST`, if any.
 fn uniques_hold(rows: &[InsertedRow], table: u8, kept: Option<u8>, uniques: &[UniqueRule]) -> bool
-    ensures { result ≡ list_all (λ rule. keeps_least kept rule.column || unique_holds rows.now table rule.column) uniques.now }
+    ensures { result ≡ list_all (λ rule. keeps_least kept rule.column || unique_holds rows.now table rule.column)
+        uniques.now }
 {
     uniques.iter().all(|rule| {
         keeps_least(kept, rule.column) || unique_holds(rows, table, rule.column)
@@ -72,7 +74,8 @@ fn uniques_hold(rows: &[InsertedRow], table: u8, kept: Option<u8>, uniques: &[Un
 
 /// Whether every `UNIQUE` without `KEEP LEAST` and the `ATMOST` of a table holds.
 fn limits_of(rows: &[InsertedRow], number: u8, table: &TableDef) -> bool
-    ensures { result ≡ (list_all (λ rule. keeps_least table.now.kept rule.column || unique_holds rows.now number rule.column) table.now.uniques && at_most_holds rows.now number table.now.at_most) }
+    ensures { result ≡ (list_all (λ rule. keeps_least table.now.kept rule.column || unique_holds rows.now number
+        rule.column) table.now.uniques && at_most_holds rows.now number table.now.at_most) }
 {
     uniques_hold(rows, number, table.kept, table.uniques.as_slice())
         && at_most_holds(rows, number, table.at_most)

@@ -48,7 +48,8 @@ pub(crate) fn are_new(schema: &Schema, beside: &[InsertedRow], rows: &[InsertedR
 /// Whether no row beside one, of its table, has its value in the column of which the table keeps the least row, if any.
 #[tactic(auto, using(crate::proofs::Either::neither))]
 fn is_new(schema: &Schema, older: &[InsertedRow], beside: &[InsertedRow], row: &InsertedRow) -> bool
-    ensures { result ≡ is_new_in (kept_of (bare_rules schema.now.tables) row.now.table) (older.now ++ beside.now) row.now }
+    ensures { result ≡ is_new_in (kept_of (bare_rules schema.now.tables) row.now.table) (older.now ++ beside.now)
+        row.now }
 {
     match kept_of(schema, row.table) {
         None => true,
@@ -58,7 +59,8 @@ fn is_new(schema: &Schema, older: &[InsertedRow], beside: &[InsertedRow], row: &
 
 /// Whether a row of its table among these has a row's value in a column.
 fn is_taken(rows: &[InsertedRow], column: u8, row: &InsertedRow) -> bool
-    ensures { result ≡ list_any (λ other. in_table row.now.table other && compares cmp.Eq (value_at row.now.values column) (value_at other.values column)) rows.now }
+    ensures { result ≡ list_any (λ other. in_table row.now.table other && compares cmp.Eq
+        (value_at row.now.values column) (value_at other.values column)) rows.now }
 {
     rows.iter().any(|other| {
         other.table == row.table

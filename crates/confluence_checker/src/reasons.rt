@@ -28,7 +28,8 @@ pub(crate) fn has_match(
     rule: &MatchRule,
     name: &RowName,
 ) -> bool
-    ensures { result ≡ list_any (λ target. same_row target.name name.now && compares rule.now.cmp (value_at values.now rule.now.column) (value_at target.values rule.now.target_column)) rows.now }
+    ensures { result ≡ list_any (λ target. same_row target.name name.now && compares rule.now.cmp
+        (value_at values.now rule.now.column) (value_at target.values rule.now.target_column)) rows.now }
 {
     rows.iter().any(|target| {
         same_row(&target.name, name)
@@ -51,7 +52,8 @@ fn has_match_in(
     rule: &MatchRule,
     name: &RowName,
 ) -> bool
-    ensures { result ≡ list_any (λ target. same_row target.name name.now && compares rule.now.cmp (value_at values.now rule.now.column) (value_at target.values rule.now.target_column)) (newer.now ++ older.now) }
+    ensures { result ≡ list_any (λ target. same_row target.name name.now && compares rule.now.cmp
+        (value_at values.now rule.now.column) (value_at target.values rule.now.target_column)) (newer.now ++ older.now) }
 {
     has_match(newer, values, rule, name) || has_match(older, values, rule, name)
 }
@@ -63,7 +65,8 @@ fn match_holds(
     values: &[Value],
     rule: &MatchRule,
 ) -> bool
-    ensures { result ≡ matches_among (newer.now ++ older.now) values.now rule.now (value_at values.now rule.now.reference) }
+    ensures { result ≡ matches_among (newer.now ++ older.now) values.now rule.now
+        (value_at values.now rule.now.reference) }
 {
     match values.get(usize::from(rule.reference)) {
         Some(Value::Row(name)) => has_match_in(newer, older, values, rule, name),
@@ -85,8 +88,8 @@ fn matches_hold(
         .all(|rule| match_holds(newer, older, values, rule))
 }
 
-/// Why a row may not be inserted beside these, which are those that earlier operations of the update inserted, and those
-/// that are visible on the ancestors.
+/// Why a row may not be inserted beside these, which are those that earlier operations of the update inserted, and
+/// those that are visible on the ancestors.
 pub(crate) fn insert_reason<L: Relation, C: Checks<L>>(
     alloc: Global,
     schema: &Schema,
@@ -95,7 +98,8 @@ pub(crate) fn insert_reason<L: Relation, C: Checks<L>>(
     older: &[InsertedRow],
     row: &InsertedRow,
 ) -> Result<Option<u8>, AllocError>
-    ensures { IfOk result (λ reason. reason ≡ insert_reason (rules_with L.answer schema.now.tables) (newer.now ++ older.now) row.now) }
+    ensures { IfOk result (λ reason. reason ≡ insert_reason (rules_with L.answer schema.now.tables)
+        (newer.now ++ older.now) row.now) }
 {
     if row.table >= schema.tables() {
         return Ok(Some(reason::NO_TABLE));
@@ -130,14 +134,16 @@ fn same_author(a: &AuthorKey, b: &AuthorKey) -> bool
 
 /// Whether a row with this name stands among these, in a table whose rows may be deleted.
 fn may_go(schema: &Schema, rows: &[InsertedRow], name: &RowName) -> bool
-    ensures { result ≡ list_any (λ row. same_row row.name name.now && (table_of (bare_rules schema.now.tables) row.table).deletable) rows.now }
+    ensures { result ≡ list_any (λ row. same_row row.name name.now && (table_of (bare_rules schema.now.tables)
+        row.table).deletable) rows.now }
 {
     rows.iter().any(|row| same_row(&row.name, name) && is_deletable(schema, row.table))
 }
 
 /// Whether a row with this name is another author's, in a table whose rows only their authors may delete.
 fn is_anothers(schema: &Schema, rows: &[InsertedRow], author: &AuthorKey, name: &RowName) -> bool
-    ensures { result ≡ list_any (λ row. same_row row.name name.now && (table_of (bare_rules schema.now.tables) row.table).owned && not (same_author row.author author.now)) rows.now }
+    ensures { result ≡ list_any (λ row. same_row row.name name.now && (table_of (bare_rules schema.now.tables)
+        row.table).owned && not (same_author row.author author.now)) rows.now }
 {
     rows.iter().any(|row| {
         same_row(&row.name, name)
@@ -148,13 +154,14 @@ fn is_anothers(schema: &Schema, rows: &[InsertedRow], author: &AuthorKey, name: 
 
 /// Whether a row names this one by `RESTRICT`.
 fn is_restricted(schema: &Schema, rows: &[InsertedRow], name: &RowName) -> bool
-    ensures { result ≡ list_any (λ row. list_any (λ r. is_restrict r.action && same_row r.name name.now) (refs (bare_rules schema.now.tables) row)) rows.now }
+    ensures { result ≡ list_any (λ row. list_any (λ r. is_restrict r.action && same_row r.name name.now)
+        (refs (bare_rules schema.now.tables) row)) rows.now }
 {
     rows.iter().any(|row| { restricts(columns_of(schema, row.table), row.values.as_slice(), name) })
 }
 
-/// Why this author may not delete a name, where these rows are visible on the ancestors and the update has deleted these
-/// names already.
+/// Why this author may not delete a name, where these rows are visible on the ancestors and the update has deleted
+/// these names already.
 pub(crate) fn delete_reason(
     schema: &Schema,
     rows: &[InsertedRow],

@@ -16,7 +16,8 @@ use update_model::{RowName, Value};
 /// Whether each row that is named by `CASCADE` is among those that are seen.
 #[tactic(auto, using(crate::proofs::Either::cascades_next))]
 pub(crate) fn cascades_seen(columns: &[Column], values: &[Value], seen: &[RowName]) -> bool
-    ensures { result ≡ list_all (λ r. is_among seen.now r.name) (filter (λ r. is_cascade r.action) (refs_in columns.now values.now)) }
+    ensures { result ≡ list_all (λ r. is_among seen.now r.name)
+        (filter (λ r. is_cascade r.action) (refs_in columns.now values.now)) }
 {
     match columns {
         [] => true,
@@ -31,7 +32,8 @@ pub(crate) fn cascades_seen(columns: &[Column], values: &[Value], seen: &[RowNam
 
 /// The same of one value.
 fn cascade_seen(kind: &ColumnKind, value: &Value, seen: &[RowName]) -> bool
-    ensures { result ≡ list_all (λ r. is_among seen.now r.name) (filter (λ r. is_cascade r.action) (ref_in kind.now value.now)) }
+    ensures { result ≡ list_all (λ r. is_among seen.now r.name)
+        (filter (λ r. is_cascade r.action) (ref_in kind.now value.now)) }
 {
     let Value::Row(name) = value else {
         return true;
@@ -42,8 +44,8 @@ fn cascade_seen(kind: &ColumnKind, value: &Value, seen: &[RowName]) -> bool
     }
 }
 
-/// Whether each row that is named stands among these, which are newer and older ones, in the table that the reference is
-/// to.
+/// Whether each row that is named stands among these, which are newer and older ones, in the table that the reference
+/// is to.
 #[tactic(auto, using(crate::proofs::Either::all_next))]
 pub(crate) fn references_stand(
     columns: &[Column],

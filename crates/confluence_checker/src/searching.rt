@@ -3,14 +3,15 @@
 ghost use Rattle.std.specs.Prelude.{◌≡◌, IfOk};
 ghost use Rattle.std.specs.List.{AllByRecursion};
 ghost use Rattle.schema.specs.Columns.{target_of};
-ghost use Rattle.table_model.specs.Invariants.{at_most_declared, check_declared, each_from, invariants_of, match_declared, reference_declared, table_declared, unique_declared};
+ghost use Rattle.table_model.specs.Invariants.{at_most_declared, check_declared, each_from, invariants_of};
+ghost use Rattle.table_model.specs.Invariants.{match_declared, reference_declared, table_declared, unique_declared};
 ghost use Rattle.schema.specs.Sound.{IsSoundCheck};
 ghost use Rattle.table_model.specs.Visible.{Rules, table_of, rules_with, bare_rules};
 ghost use Rattle.confluence_checker.specs.Forms.{AllFit, found_among, is_same, kind_number, start, unique_kind};
 
 use crate::checker::Checker;
 use crate::claims::{check_holds, matches_hold, refers_holds};
-use crate::found::Found;
+use crate::found::FoundInvariant;
 use crate::inserted_row::InsertedRow;
 use crate::limits::{at_most_holds, keeps_least, unique_holds};
 use crate::values::target_of;
@@ -72,9 +73,10 @@ fn among_uniques(
     number: u8,
     kept: Option<u8>,
     uniques: &[UniqueRule],
-    before: Found,
-) -> Found
-    ensures { (rules : Rules) → result ≡ found_among rules rows.now which.now (each_from (unique_declared kept number) 0 uniques.now) before }
+    before: FoundInvariant,
+) -> FoundInvariant
+    ensures { (rules : Rules) → result ≡ found_among rules rows.now which.now (each_from (unique_declared kept number) 0
+        uniques.now) before }
 {
     let mut found = before;
     for (place, rule) in uniques.iter().enumerate() {
@@ -91,8 +93,8 @@ fn among_at_most(
     which: &Invariant,
     number: u8,
     table: &TableDef,
-    before: Found,
-) -> Found
+    before: FoundInvariant,
+) -> FoundInvariant
     ensures { (rules : Rules) → result ≡ found_among rules rows.now which.now (at_most_declared number table.now) before }
 {
     if table.at_most == 0 {
@@ -109,9 +111,10 @@ fn at_column(
     number: u8,
     place: usize,
     column: &Column,
-    before: Found,
-) -> Found
-    ensures { (rules : Rules) → result ≡ found_among rules rows.now which.now (reference_declared number place column.now) before }
+    before: FoundInvariant,
+) -> FoundInvariant
+    ensures { (rules : Rules)
+        → result ≡ found_among rules rows.now which.now (reference_declared number place column.now) before }
 {
     match target_of(&column.kind) {
         None => before,
@@ -128,9 +131,10 @@ fn among_references(
     which: &Invariant,
     number: u8,
     columns: &[Column],
-    before: Found,
-) -> Found
-    ensures { (rules : Rules) → result ≡ found_among rules rows.now which.now (each_from (reference_declared number) 0 columns.now) before }
+    before: FoundInvariant,
+) -> FoundInvariant
+    ensures { (rules : Rules) → result ≡ found_among rules rows.now which.now (each_from (reference_declared number) 0
+        columns.now) before }
 {
     let mut found = before;
     for (place, column) in columns.iter().enumerate() {
@@ -146,12 +150,13 @@ fn at_check<L: Relation, C: Checks<L>>(
     place: usize,
     columns: &[Column],
     check: &CheckRule,
-    before: Found,
-) -> Result<Found, AllocError>
+    before: FoundInvariant,
+) -> Result<FoundInvariant, AllocError>
     requires fits { AllFit search.now.checker.schema.now.tables search.now.rows.now }
     requires columns { columns.now ≡ (table_of (bare_rules search.now.checker.schema.now.tables) number).columns }
     requires sound { IsSoundCheck columns.now check.now }
-    ensures { IfOk result (λ found. found ≡ found_among (rules_with L.answer search.now.checker.schema.now.tables) search.now.rows.now search.now.which.now (check_declared number place check.now) before) }
+    ensures { IfOk result (λ found. found ≡ found_among (rules_with L.answer search.now.checker.schema.now.tables)
+        search.now.rows.now search.now.which.now (check_declared number place check.now) before) }
 {
     let holds = check_holds(&search.checker, search.rows, number, columns, check)?;
     let wanted = is_at(
@@ -169,12 +174,13 @@ fn among_checks<L: Relation, C: Checks<L>>(
     search: &Search<'_, L, C>,
     number: u8,
     table: &TableDef,
-    before: Found,
-) -> Result<Found, AllocError>
+    before: FoundInvariant,
+) -> Result<FoundInvariant, AllocError>
     requires fits { AllFit search.now.checker.schema.now.tables search.now.rows.now }
     requires table { table.now ≡ table_of (bare_rules search.now.checker.schema.now.tables) number }
     requires sound { AllByRecursion (IsSoundCheck table.now.columns) table.now.checks }
-    ensures { IfOk result (λ found. found ≡ found_among (rules_with L.answer search.now.checker.schema.now.tables) search.now.rows.now search.now.which.now (each_from (check_declared number) 0 table.now.checks) before) }
+    ensures { IfOk result (λ found. found ≡ found_among (rules_with L.answer search.now.checker.schema.now.tables)
+        search.now.rows.now search.now.which.now (each_from (check_declared number) 0 table.now.checks) before) }
 {
     let columns = table.columns.as_slice();
     let checks = table.checks.as_slice();
@@ -192,9 +198,10 @@ fn at_match(
     number: u8,
     place: usize,
     rule: &MatchRule,
-    before: Found,
-) -> Found
-    ensures { (rules : Rules) → result ≡ found_among rules rows.now which.now (match_declared number place rule.now) before }
+    before: FoundInvariant,
+) -> FoundInvariant
+    ensures { (rules : Rules) → result ≡ found_among rules rows.now which.now (match_declared number place rule.now)
+        before }
 {
     let wanted = is_at(which, InvariantKind::Match, number, place, rule.line);
     before.seen(wanted, matches_hold(rows, number, rule))
@@ -206,9 +213,10 @@ fn among_matches(
     which: &Invariant,
     number: u8,
     matches: &[MatchRule],
-    before: Found,
-) -> Found
-    ensures { (rules : Rules) → result ≡ found_among rules rows.now which.now (each_from (match_declared number) 0 matches.now) before }
+    before: FoundInvariant,
+) -> FoundInvariant
+    ensures { (rules : Rules) → result ≡ found_among rules rows.now which.now (each_from (match_declared number) 0
+        matches.now) before }
 {
     let mut found = before;
     for (place, rule) in matches.iter().enumerate() {
@@ -222,12 +230,13 @@ fn in_table<L: Relation, C: Checks<L>>(
     search: &Search<'_, L, C>,
     number: u8,
     table: &TableDef,
-    before: Found,
-) -> Result<Found, AllocError>
+    before: FoundInvariant,
+) -> Result<FoundInvariant, AllocError>
     requires fits { AllFit search.now.checker.schema.now.tables search.now.rows.now }
     requires table { table.now ≡ table_of (bare_rules search.now.checker.schema.now.tables) number }
     requires sound { AllByRecursion (IsSoundCheck table.now.columns) table.now.checks }
-    ensures { IfOk result (λ found. found ≡ found_among (rules_with L.answer search.now.checker.schema.now.tables) search.now.rows.now search.now.which.now (table_declared number table.now) before) }
+    ensures { IfOk result (λ found. found ≡ found_among (rules_with L.answer search.now.checker.schema.now.tables)
+        search.now.rows.now search.now.which.now (table_declared number table.now) before) }
 {
     let (rows, which) = (search.rows, search.which);
     let lines = table.uniques.as_slice();
@@ -246,9 +255,10 @@ pub(crate) fn found<L: Relation, C: Checks<L>>(
     native: &Native<L, C>,
     rows: &[InsertedRow],
     which: &Invariant,
-) -> Result<Found, AllocError>
+) -> Result<FoundInvariant, AllocError>
     requires { AllFit schema.now.tables rows.now }
-    ensures { IfOk result (λ found. found ≡ found_among (rules_with L.answer schema.now.tables) rows.now which.now (invariants_of (rules_with L.answer schema.now.tables)) start) }
+    ensures { IfOk result (λ found. found ≡ found_among (rules_with L.answer schema.now.tables) rows.now which.now
+        (invariants_of (rules_with L.answer schema.now.tables)) start) }
 {
     let search = Search {
         checker: Checker {
@@ -259,7 +269,7 @@ pub(crate) fn found<L: Relation, C: Checks<L>>(
         rows,
         which,
     };
-    let mut found = Found::start();
+    let mut found = FoundInvariant::start();
     for number in 0..schema.tables() {
         let table = schema.table(number);
         found = in_table(&search, number, table, found)?;

@@ -94,7 +94,8 @@ pub fn tables_of<L: Relation, C: Checks<L>>(
     nodes: &[Node],
 ) -> Result<TableList, AllocError>
     requires { IsClosed (reverse nodes.now) }
-    ensures { IfOk result (λ list. AreTablesOf (rules_with L.answer schema.now.tables) (reverse nodes.now) list.tables list.voids) }
+    ensures { IfOk result (λ list. AreTablesOf (rules_with L.answer schema.now.tables) (reverse nodes.now) list.tables
+        list.voids) }
 {
     let js = judged(alloc, schema, native, nodes)?;
     let did = effects(alloc, js.as_slice())?;

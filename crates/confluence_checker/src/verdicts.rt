@@ -45,7 +45,8 @@ fn reason_against<L: Relation, C: Checks<L>>(
     op: &Op,
 ) -> Result<Option<u8>, AllocError>
     requires { number < 2 ^ 16 }
-    ensures { IfOk result (λ reason. reason ≡ reason_against (rules_with L.answer checker.now.schema.now.tables) rows.now node.now number did.now op.now) }
+    ensures { IfOk result (λ reason. reason ≡ reason_against (rules_with L.answer checker.now.schema.now.tables)
+        rows.now node.now number did.now op.now) }
 {
     match op {
         Op::Insert { table, values } => {
@@ -71,7 +72,8 @@ fn is_new(
     rows: &[InsertedRow],
     did: &RowEffects,
 ) -> Result<bool, AllocError>
-    ensures { IfOk result (λ answer. answer ≡ are_new (bare_rules schema.now.tables) (left_of rows.now did.now.deleted) did.now.inserted) }
+    ensures { IfOk result (λ answer. answer ≡ are_new (bare_rules schema.now.tables) (left_of rows.now did.now.deleted)
+        did.now.inserted) }
 {
     let left = left_of(alloc, rows, did.deleted())?;
     Ok(are_new(schema, left.as_slice(), did.inserted()))
@@ -87,7 +89,8 @@ fn verdict_at_end(
     number: usize,
 ) -> Result<Verdict, AllocError>
     requires { number < 2 ^ 16 }
-    ensures { IfOk result (λ verdict. (ask : Meaning) (node : NodeData) → verdict ≡ verdict_after (rules_with ask schema.now.tables) past.now rows.now node number did []) }
+    ensures { IfOk result (λ verdict. (ask : Meaning) (node : NodeData)
+        → verdict ≡ verdict_after (rules_with ask schema.now.tables) past.now rows.now node number did []) }
 {
     let new = is_new(alloc, schema, rows, &did)?;
     let both = did.joined(past.copy(alloc)?)?;

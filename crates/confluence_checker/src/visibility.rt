@@ -22,7 +22,8 @@ fn shown_names(
     did: &RowEffects,
     seen: &[RowName],
 ) -> Result<Vec<RowName>, AllocError>
-    ensures { IfOk result (λ names. names.items ≡ map (λ row. row.name) (filter (λ row. shows (bare_rules schema.now.tables) did.now (is_among seen.now) row.name) did.now.inserted)) }
+    ensures { IfOk result (λ names. names.items ≡ map (λ row. row.name)
+        (filter (λ row. shows (bare_rules schema.now.tables) did.now (is_among seen.now) row.name) did.now.inserted)) }
 {
     did.inserted()
         .iter()
@@ -53,7 +54,8 @@ pub(crate) fn visible_rows(
     schema: &Schema,
     did: &RowEffects,
 ) -> Result<Vec<InsertedRow>, AllocError>
-    ensures { IfOk result (λ rows. (ask : Meaning) → rows.items ≡ visible_rows (rules_with ask schema.now.tables) did.now) }
+    ensures { IfOk result (λ rows. (ask : Meaning) → rows.items ≡ visible_rows (rules_with ask schema.now.tables)
+        did.now) }
 {
     let seen = visible_names(alloc, schema, did)?;
     let rows = rows_among(alloc, did.inserted(), seen.as_slice())?;
@@ -77,7 +79,8 @@ fn rows_among(
     Ok(found)
 }
 
-/// What a value shows in a column, where these rows are seen: null where it is a `SETNULL` reference to a row that is not.
+/// What a value shows in a column, where these rows are seen: null where it is a `SETNULL` reference to a row that is
+/// not.
 fn shown_value(
     alloc: Global,
     seen: &[RowName],

@@ -1,5 +1,5 @@
-//! Laws of sets of updates and of invariants. Each function does nothing: its contract is a theorem for callers to cite. Lists of
-//! nodes stand newest first, and `ask` is whatever native checks mean.
+//! Laws of sets of updates and of invariants. Each function does nothing: its contract is a theorem for callers to
+//! cite. Lists of nodes stand newest first, and `ask` is whatever native checks mean.
 
 ghost use Rattle.std.specs.Prelude.{◌≡◌, ◌↔◌, List, [], ◌∷◌, ◌++◌, Contains, reverse, IsTrue, false};
 ghost use Rattle.std.specs.List.{list_all};
@@ -22,8 +22,8 @@ ghost use Rattle.table_model.specs.Visible.{Rules, is_visible, table_of};
 ghost use Rattle.confluence_laws.specs.Confluence.{IsConfluent, accepts, are_accepted, confirms};
 ghost use Rattle.confluence_laws.specs.Examples.{example_of};
 
-/// Verdicts are a function of the set of nodes: two closed lists of one set have the same nodes with the same ancestors and
-/// verdicts, in whatever order.
+/// Verdicts are a function of the set of nodes: two closed lists of one set have the same nodes with the same ancestors
+/// and verdicts, in whatever order.
 pub fn verdicts_are_of_the_set()
     ensures { (rules : Rules) (xs ys : List NodeData) → IsClosed xs → IsClosed ys → IsSameSet xs ys
         → IsPermutation (judged rules xs) (judged rules ys) }
@@ -37,8 +37,10 @@ pub fn visible_rows_are_of_the_set()
 
 /// Tables, and the lines of updates that do nothing, are a function of the set of nodes.
 pub fn tables_are_of_the_set()
-    ensures { (rules : Rules) (xs ys : List NodeData) (tables others : List (List ShownRow)) (voids lines : List VoidLine)
-        → IsClosed xs → IsClosed ys → IsSameSet xs ys → AreTablesOf rules xs tables voids → AreTablesOf rules ys others lines
+    ensures { (rules : Rules) (xs ys : List NodeData) (tables others : List (List ShownRow)) (voids lines :
+        List VoidLine)
+        → IsClosed xs → IsClosed ys → IsSameSet xs ys → AreTablesOf rules xs tables voids
+        → AreTablesOf rules ys others lines
         → (tables ≡ others) × (voids ≡ lines) }
 {}
 
@@ -61,13 +63,15 @@ pub fn invariants_are_of_the_set()
 /// An invariant that the rule accepts holds in the tables of every closed list.
 pub fn accepted_holds()
     ensures { (rules : Rules) (nodes : List NodeData) (declared : Declared) → AreTables [] rules.tables → IsClosed nodes
-        → Contains (invariants_of rules) declared → IsTrue (accepts rules declared.claim) → IsTrue (claim_holds rules (shown_in rules nodes) declared.claim) }
+        → Contains (invariants_of rules) declared → IsTrue (accepts rules declared.claim)
+        → IsTrue (claim_holds rules (shown_in rules nodes) declared.claim) }
 {}
 
 /// An invariant that the rule accepts is confluent.
 pub fn accepted_is_confluent()
     ensures { (rules : Rules) (earlier : List Claim) (declared : Declared) → AreTables [] rules.tables
-        → Contains (invariants_of rules) declared → IsTrue (accepts rules declared.claim) → IsConfluent rules earlier declared.claim }
+        → Contains (invariants_of rules) declared → IsTrue (accepts rules declared.claim)
+        → IsConfluent rules earlier declared.claim }
 {}
 
 /// An invariant with a counterexample that confirms is not confluent.
@@ -76,11 +80,13 @@ pub fn confirmed_refutes()
         → IsTrue (confirms rules earlier claim example) → IsConfluent rules earlier claim → ⊥ }
 {}
 
-/// Of the first invariant that the rule refuses the counterexample confirms, whatever native checks mean, as long as the
-/// samples pass.
+/// Of the first invariant that the rule refuses the counterexample confirms, whatever native checks mean, as long as
+/// the samples pass.
 pub fn first_refused_is_confirmed()
-    ensures { (rules : Rules) (earlier later : List Declared) (declared : Declared) → AreTables [] rules.tables → SamplesPass rules.ask rules.tables
-        → invariants_of rules ≡ earlier ++ declared ∷ later → IsTrue (are_accepted rules earlier) → accepts rules declared.claim ≡ false
+    ensures { (rules : Rules) (earlier later : List Declared) (declared : Declared) → AreTables [] rules.tables
+        → SamplesPass rules.ask rules.tables
+        → invariants_of rules ≡ earlier ++ declared ∷ later → IsTrue (are_accepted rules earlier)
+        → accepts rules declared.claim ≡ false
         → IsTrue (confirms rules (claims_of earlier) declared.claim (example_of rules declared.claim)) }
 {}
 
@@ -92,7 +98,8 @@ pub fn shown_rows_fit()
 
 /// In a closed list the ancestors on which an update is judged are its ancestors in the graph.
 pub fn judged_ancestors_are_ancestors()
-    ensures { (rules : Rules) (graph : List Entry) (nodes : List NodeData) (a e : Entry) (j : Judged) → AreNodesOf graph nodes → Follows [] graph
+    ensures { (rules : Rules) (graph : List Entry) (nodes : List NodeData) (a e : Entry) (j : Judged)
+        → AreNodesOf graph nodes → Follows [] graph
         → Contains graph a → Contains graph e → Contains (judged rules (reverse nodes)) j → e.id ≡ j.node.id
         → IsTrue (j.is_ancestor a.id) ↔ IsAncestor graph a e }
 {}

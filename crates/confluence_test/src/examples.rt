@@ -1,7 +1,8 @@
 //! The counterexamples.
 
 ghost use Rattle.std.specs.Prelude.{◌≡◌, ◌<◌, ◌≤◌, ◌+◌, ◌-◌, [], ◌∷◌, ◌++◌, IfOk, OnOk, length, reverse};
-ghost use Rattle.confluence_laws.specs.Examples.{example_of, unique_example, at_most_example, restrict_example, twice_after, split_after, copies};
+ghost use Rattle.confluence_laws.specs.Examples.{example_of, unique_example, at_most_example, restrict_example};
+ghost use Rattle.confluence_laws.specs.Examples.{twice_after, split_after, copies};
 ghost use Rattle.confluence_test.specs.Findings.{claim_of, IsFlaw};
 ghost use Rattle.confluence_test.specs.Plans.{SaysPermanent};
 ghost use Rattle.table_model.specs.Visible.{bare_rules};
@@ -83,8 +84,8 @@ fn push_copies(
     Ok(())
 }
 
-/// Of a `RESTRICT`: after the shared rows and the path, one side inserts a row that names the path's row of the table that
-/// the reference is to, and the other deletes the row at the path's end.
+/// Of a `RESTRICT`: after the shared rows and the path, one side inserts a row that names the path's row of the table
+/// that the reference is to, and the other deletes the row at the path's end.
 fn restrict_example(
     alloc: Global,
     schema: &Schema,

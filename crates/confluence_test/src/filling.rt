@@ -13,8 +13,8 @@ use schema::{Column, Schema};
 use std::alloc::{AllocError, Global};
 use update_model::{RowName, Value, ValueList};
 
-/// What a needed row has in a column: a reference is null where it may be, and else names the chain's row of the table that
-/// it refers to. Any other column has the sample's value.
+/// What a needed row has in a column: a reference is null where it may be, and else names the chain's row of the table
+/// that it refers to. Any other column has the sample's value.
 fn fill(alloc: Global, chain: &Chain, column: &Column, sample: &Value) -> Result<Value, AllocError>
     requires { length chain.now < 256 }
     ensures { IfOk result (λ v. v ≡ fill chain.now column.now.null (target_of column.now.kind) sample.now) }
@@ -36,7 +36,8 @@ fn value_in(
     name: RowName,
 ) -> Result<Value, AllocError>
     requires { length chain.now < 256 }
-    ensures { IfOk result (λ v. v ≡ cond is_named (Row name) (fill chain.now column.now.null (target_of column.now.kind) sample.now)) }
+    ensures { IfOk result (λ v. v ≡ cond is_named (Row name) (fill chain.now column.now.null (target_of column.now.kind)
+        sample.now)) }
 {
     if is_named {
         return Ok(Value::Row(name));

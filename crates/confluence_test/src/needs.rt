@@ -11,8 +11,8 @@ use crate::filling::item_of;
 use schema::Schema;
 use std::alloc::{AllocError, Global};
 
-/// Puts a needed row of this table at the end of a chain that has none, after those that it needs in turn. References are
-/// followed this deep; they lead to lower tables, so a table's number is deep enough.
+/// Puts a needed row of this table at the end of a chain that has none, after those that it needs in turn. References
+/// are followed this deep; they lead to lower tables, so a table's number is deep enough.
 #[cycle(needs)]
 pub(crate) fn need(
     alloc: Global,
@@ -35,8 +35,8 @@ pub(crate) fn need(
     Ok(())
 }
 
-/// Puts what a table's rows need at the end of a chain: a row for each reference that may not be null, but for the column
-/// with this number, if any. They are all of earlier tables.
+/// Puts what a table's rows need at the end of a chain: a row for each reference that may not be null, but for the
+/// column with this number, if any. They are all of earlier tables.
 #[cycle(needs)]
 pub(crate) fn need_all_but(
     alloc: Global,

@@ -43,7 +43,8 @@ pub(crate) fn path_back(
 ) -> Result<Vec<PathStep>, AllocError>
     requires table { table < length schema.now.tables }
     requires permanence { SaysPermanent (bare_rules schema.now.tables) permanence.now }
-    ensures steps { IfOk result (λ steps. reverse steps.items ≡ path_from (bare_rules schema.now.tables) (table + 1) table) }
+    ensures steps { IfOk result (λ steps. reverse steps.items ≡ path_from (bare_rules schema.now.tables) (table + 1)
+        table) }
     ensures below { IfOk result (λ steps. AreBelow (length schema.now.tables) steps.items) }
     ensures few { IfOk result (λ steps. length steps.items ≤ 16) }
 {
@@ -64,7 +65,8 @@ fn follow(
 ) -> Result<(), AllocError>
     requires table { table < length schema.now.tables }
     requires permanence { SaysPermanent (bare_rules schema.now.tables) permanence.now }
-    ensures steps { OnOk result (steps.new.items ≡ steps.old.items ++ path_from (bare_rules schema.now.tables) depth table) }
+    ensures steps { OnOk result (steps.new.items ≡ steps.old.items ++ path_from (bare_rules schema.now.tables) depth
+        table) }
 {
     if depth == 0 {
         return Ok(());
@@ -99,7 +101,8 @@ fn next_step(permanence: &[bool], table: u8, columns: &[Column]) -> Option<(u8, 
     None
 }
 
-/// The table that a column of a table refers to, where that is by `CASCADE`, and to another table that is not permanent.
+/// The table that a column of a table refers to, where that is by `CASCADE`, and to another table that is not
+/// permanent.
 fn step_by(permanence: &[bool], table: u8, column: &Column) -> Option<u8>
     ensures { result ≡ step_to permanence.now table (target_of column.now.kind) }
 {
@@ -111,8 +114,8 @@ fn step_by(permanence: &[bool], table: u8, column: &Column) -> Option<u8>
     }
 }
 
-/// The rows that the path's rows and the row that names the path share: what the path's rows need, from its end, and then
-/// what the row of this table needs, which names the path in this column.
+/// The rows that the path's rows and the row that names the path share: what the path's rows need, from its end, and
+/// then what the row of this table needs, which names the path in this column.
 pub(crate) fn shared_of(
     alloc: Global,
     schema: &Schema,
@@ -122,7 +125,8 @@ pub(crate) fn shared_of(
 ) -> Result<Chain, AllocError>
     requires table { table < length schema.now.tables }
     requires back { AreBelow (length schema.now.tables) back.now }
-    ensures shared { IfOk result (λ shared. shared ≡ shared_of (bare_rules schema.now.tables) (reverse back.now) table column) }
+    ensures shared { IfOk result (λ shared. shared ≡ shared_of (bare_rules schema.now.tables) (reverse back.now) table
+        column) }
     ensures few { IfOk result (λ shared. length shared ≤ 16) }
 {
     let mut shared = Chain::new(alloc);
@@ -142,7 +146,8 @@ pub(crate) fn path_rows(
 ) -> Result<Vec<PlannedRow>, AllocError>
     requires back { AreBelow (length schema.now.tables) back.now }
     requires few { length shared.now + length back.now < 256 }
-    ensures rows { IfOk result (λ rows. reverse rows.items ++ shared.now ≡ path_items (bare_rules schema.now.tables) shared.now (reverse back.now)) }
+    ensures rows { IfOk result (λ rows. reverse rows.items ++ shared.now ≡ path_items (bare_rules schema.now.tables)
+        shared.now (reverse back.now)) }
     ensures many { IfOk result (λ rows. length rows.items ≡ length back.now) }
 {
     let mut rows = Vec::with_capacity(alloc, back.len())?;

@@ -3,10 +3,12 @@
 ghost use Rattle.std.specs.Prelude.{◌≡◌, ◌<◌, ◌≤◌, length, option_map, slice_get, IfSome};
 ghost use Rattle.std.specs.List.{AllByRecursion};
 ghost use Rattle.schema.specs.Columns.{target_of};
-ghost use Rattle.table_model.specs.Invariants.{invariants_of, each_from, at_most_declared, reference_declared, table_declared};
+ghost use Rattle.table_model.specs.Invariants.{invariants_of, each_from, at_most_declared, reference_declared};
+ghost use Rattle.table_model.specs.Invariants.{table_declared};
 ghost use Rattle.schema.specs.Least.{IsKeptAlone};
 ghost use Rattle.schema.specs.Sound.{IsSoundColumn};
-ghost use Rattle.confluence_test.specs.Findings.{declared_of, first_refused, refused_by, unique_refused, dangling, IsFlawOf, IsFlaw};
+ghost use Rattle.confluence_test.specs.Findings.{declared_of, first_refused, refused_by, unique_refused, dangling};
+ghost use Rattle.confluence_test.specs.Findings.{IsFlawOf, IsFlaw};
 ghost use Rattle.confluence_test.specs.Plans.{SaysPermanent};
 ghost use Rattle.table_model.specs.Visible.{bare_rules};
 
@@ -19,7 +21,8 @@ use table_model::{Invariant, InvariantKind};
 /// The first invariant of a schema that is refused.
 pub(crate) fn first_refused(schema: &Schema, permanence: &[bool]) -> Option<Finding>
     requires { SaysPermanent (bare_rules schema.now.tables) permanence.now }
-    ensures first { option_map declared_of result ≡ first_refused (bare_rules schema.now.tables) (invariants_of (bare_rules schema.now.tables)) }
+    ensures first { option_map declared_of result ≡ first_refused (bare_rules schema.now.tables)
+        (invariants_of (bare_rules schema.now.tables)) }
     ensures flaw { IfSome result (λ finding. IsFlaw (length schema.now.tables) finding.flaw) }
 {
     for number in 0..schema.tables() {
@@ -96,7 +99,8 @@ fn refused_at_most(number: u8, table: &TableDef) -> Option<Finding>
 fn refused_reference(permanence: &[bool], number: u8, columns: &[Column]) -> Option<Finding>
     requires columns { AllByRecursion (IsSoundColumn number) columns.now }
     requires few { length columns.now ≤ 16 }
-    ensures first { option_map declared_of result ≡ refused_by permanence.now (each_from (reference_declared number) 0 columns.now) }
+    ensures first { option_map declared_of result ≡ refused_by permanence.now (each_from (reference_declared number) 0
+        columns.now) }
     ensures flaw { IfSome result (λ finding. IsFlawOf number finding.flaw) }
 {
     for (place, column) in columns.iter().enumerate() {

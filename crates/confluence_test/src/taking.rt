@@ -13,8 +13,8 @@ use std::alloc::Global;
 
 /// Reads the text of a schema and tests its invariants, or refuses the text.
 ///
-/// [`SchemaRefusal::Schema`] comes with the first fault of the text, [`SchemaRefusal::NotConfluent`] with the first invariant
-/// that does not survive merging, and [`SchemaRefusal::Memory`] where memory runs out.
+/// [`SchemaRefusal::Schema`] comes with the first fault of the text, [`SchemaRefusal::NotConfluent`] with the first
+/// invariant that does not survive merging, and [`SchemaRefusal::Memory`] where memory runs out.
 pub fn take_schema<L: Relation, C: Checks<L>>(
     alloc: Global,
     text: &[u8],

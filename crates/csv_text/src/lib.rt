@@ -1,7 +1,7 @@
 //! Answers of queries as comma-separated values.
 //!
-//! [`csv`] answers the text: a header with the names of the columns, and a line for each row. A text stands in quotes, and what is null
-//! is empty, so the two are told apart.
+//! [`csv`] answers the text: a header with the names of the columns, and a line for each row. A text stands in quotes,
+//! and what is null is empty, so the two are told apart.
 //!
 //! ```text
 //! let answer = answer(alloc, native, schema, &query, tables)?;

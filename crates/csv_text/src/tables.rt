@@ -11,8 +11,8 @@ use query_answer::Answer;
 use std::alloc::{AllocError, Global};
 use update_model::{ByteList, Value, ValueList};
 
-/// An answer as comma-separated values: a header with the names of the columns, and a line for each row, each with an LF behind it.
-/// It gives up where memory runs out.
+/// An answer as comma-separated values: a header with the names of the columns, and a line for each row, each with an
+/// LF behind it. It gives up where memory runs out.
 pub fn csv(alloc: Global, answer: &Answer) -> Result<Vec<u8>, AllocError>
     ensures { IfOk result (λ text. text.items ≡ csv_text (data_of answer.now)) }
 {

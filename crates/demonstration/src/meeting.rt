@@ -23,8 +23,12 @@ pub(crate) fn meet(
     requires second { second < 4 }
     requires differ { first ≢ second }
     ensures four { length authors.new ≡ 4 }
-    ensures course { (keys : List SecretData) (count since met reach : ℕ) → IsCourse keys (steps count since met reach) authors.old → OnOk result (IsCourse keys (steps count since count reach) authors.new) }
-    ensures reaches { (keys : List SecretData) (count since met : ℕ) → first ≡ 0 → IsCourse keys (steps count since met second) authors.old → OnOk result (IsCourse keys (steps count since count (second + 1)) authors.new) }
+    ensures course { (keys : List SecretData) (count since met reach : ℕ)
+        → IsCourse keys (steps count since met reach) authors.old
+        → OnOk result (IsCourse keys (steps count since count reach) authors.new) }
+    ensures reaches { (keys : List SecretData) (count since met : ℕ) → first ≡ 0
+        → IsCourse keys (steps count since met second) authors.old
+        → OnOk result (IsCourse keys (steps count since count (second + 1)) authors.new) }
 {
     if first < second {
         let (front, back) = authors.split_at_mut(second);
@@ -38,8 +42,12 @@ pub(crate) fn meet(
 /// Runs a session between two authors, of whom the first begins. The one error is want of memory, of a disk too:
 /// nothing else fails a call of their disks.
 fn sync(alloc: Global, one: &mut Author, other: &mut Author) -> Result<(), AllocError>
-    ensures one { (keys : List SecretData) (schema : SchemaData) (made : List (List ℕ)) → IsSite keys schema made one.old → IsSite keys schema made other.old → OnOk result (IsSite keys schema made one.new) }
-    ensures other { (keys : List SecretData) (schema : SchemaData) (made : List (List ℕ)) → IsSite keys schema made one.old → IsSite keys schema made other.old → OnOk result (IsSite keys schema made other.new) }
+    ensures one { (keys : List SecretData) (schema : SchemaData) (made : List (List ℕ))
+        → IsSite keys schema made one.old → IsSite keys schema made other.old
+        → OnOk result (IsSite keys schema made one.new) }
+    ensures other { (keys : List SecretData) (schema : SchemaData) (made : List (List ℕ))
+        → IsSite keys schema made one.old → IsSite keys schema made other.old
+        → OnOk result (IsSite keys schema made other.new) }
     ensures meets { OnOk result (MeetsWith one.old other.old one.new other.new) }
 {
     one.store.len(); // what every replica keeps

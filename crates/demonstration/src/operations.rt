@@ -52,7 +52,8 @@ fn inserting(
     number: u32,
     words: &mut Words,
 ) -> Result<OpList, AllocError>
-    ensures plan { IfOk result (λ ops. (last : Option Id) → (number % 5 ≡ 4 → last ≡ None) → AreOpsOf author number last ops) }
+    ensures plan { IfOk result (λ ops. (last : Option Id) → (number % 5 ≡ 4 → last ≡ None)
+        → AreOpsOf author number last ops) }
     ensures few { IfOk result (λ ops. length ops ≤ 3) }
     ensures form { IfOk result (λ ops. AreOps 0 ops) }
 {

@@ -44,7 +44,8 @@ pub fn demonstrate(alloc: Global, number: u64, count: u32) -> Result<DemoCounts,
 fn ended(alloc: Global, authors: &mut [Author]) -> Result<DemoCounts, AllocError>
     requires { length authors.old ≡ 4 }
     ensures counted { IfOk result (λ counts. IsCounted is_luhn counts) }
-    ensures made { (number count : ℕ) → IsCourse (keys_of number) (steps count (count - 4) (count - 4) 0) authors.old → IfOk result (λ counts. IsDemo number count counts) }
+    ensures made { (number count : ℕ) → IsCourse (keys_of number) (steps count (count - 4) (count - 4) 0) authors.old
+        → IfOk result (λ counts. IsDemo number count counts) }
 {
     planned_rows();
     meet_all(alloc, authors)?;
@@ -55,7 +56,8 @@ fn ended(alloc: Global, authors: &mut [Author]) -> Result<DemoCounts, AllocError
 /// The four authors, who have made nothing.
 fn begun(alloc: Global, words: &mut Words) -> Result<Vec<Author>, AllocError>
     ensures four { IfOk result (λ authors. length authors.items ≡ 4) }
-    ensures course { IfOk result (λ authors. IsCourse (drawn_from (stream_of word_steps words.old)) (steps 0 0 0 0) authors.items) }
+    ensures course { IfOk result (λ authors. IsCourse (drawn_from (stream_of word_steps words.old)) (steps 0 0 0 0)
+        authors.items) }
 {
     one_schema();
     text_declares_tables();
@@ -79,7 +81,9 @@ fn make_one(
 ) -> Result<(), AllocError>
     requires { length authors.old ≡ 4 }
     ensures four { length authors.new ≡ 4 }
-    ensures course { (keys : List SecretData) (since : ℕ) → k < since + 4 → IsCourse keys (steps k since since 0) authors.old → OnOk result (IsCourse keys (steps (k + 1) since since 0) authors.new) }
+    ensures course { (keys : List SecretData) (since : ℕ) → k < since + 4
+        → IsCourse keys (steps k since since 0) authors.old
+        → OnOk result (IsCourse keys (steps (k + 1) since since 0) authors.new) }
 {
     heads_follow_all();
     planned_is_valid();
@@ -100,7 +104,9 @@ fn meet_by_chance(
 ) -> Result<(), AllocError>
     requires { length authors.old ≡ 4 }
     ensures four { length authors.new ≡ 4 }
-    ensures course { (keys : List SecretData) (count since met : ℕ) → IsCourse keys (steps count since met 0) authors.old → OnOk result (IsCourse keys (steps count count count 0) authors.new) }
+    ensures course { (keys : List SecretData) (count since met : ℕ)
+        → IsCourse keys (steps count since met 0) authors.old
+        → OnOk result (IsCourse keys (steps count count count 0) authors.new) }
 {
     let word = words.word();
     if word % 4 != 0 {
@@ -115,7 +121,9 @@ fn meet_by_chance(
 fn meet_all(alloc: Global, authors: &mut [Author]) -> Result<(), AllocError>
     requires { length authors.old ≡ 4 }
     ensures four { length authors.new ≡ 4 }
-    ensures course { (keys : List SecretData) (count since met : ℕ) → IsCourse keys (steps count since met 0) authors.old → OnOk result (IsCourse keys (steps count since count 4) authors.new) }
+    ensures course { (keys : List SecretData) (count since met : ℕ)
+        → IsCourse keys (steps count since met 0) authors.old
+        → OnOk result (IsCourse keys (steps count since count 4) authors.new) }
 {
     meet(alloc, authors, 0, 1)?;
     meet(alloc, authors, 0, 2)?;

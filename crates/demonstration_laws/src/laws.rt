@@ -1,5 +1,5 @@
-//! Laws of the definitions. Each function does no work: its contract is a theorem for callers to cite. Lists of nodes stand
-//! newest first.
+//! Laws of the definitions. Each function does no work: its contract is a theorem for callers to cite. Lists of nodes
+//! stand newest first.
 
 ghost use Rattle.std.specs.Prelude.{◌≡◌, ◌<◌, ◌*◌, ◌^◌, ℕ, List, [], length, reverse, slice_index_or};
 ghost use Rattle.update_model.specs.Entry.{Entry};
@@ -30,15 +30,20 @@ pub fn text_declares_tables()
 
 /// A node that names all heads of a closed list is judged on what the valid ones of the whole list did.
 pub fn heads_follow_all()
-    ensures { (rules : Rules) (graph : List Entry) (nodes : List NodeData) (draft : NodeData) → AreNodesOf graph nodes → Follows [] graph → AreHeads graph draft.preds
-        → (judge_next rules (judged rules (reverse nodes)) draft).verdict ≡ verdict_on rules (effects_in rules (reverse nodes)) draft }
+    ensures { (rules : Rules) (graph : List Entry) (nodes : List NodeData) (draft : NodeData) → AreNodesOf graph nodes
+        → Follows [] graph → AreHeads graph draft.preds
+        → (judge_next rules (judged rules (reverse nodes)) draft).verdict ≡ verdict_on rules
+        (effects_in rules (reverse nodes)) draft }
 {}
 
 /// What one of four authors makes by plan, after all that they made, is valid, where all of that is.
 pub fn planned_is_valid()
-    ensures { (nodes : List NodeData) (chains : List (List NodeData)) (author : ℕ) (draft : NodeData) → ArePlanned chains nodes → IsClosed nodes
-        → AreValid (rules_with is_luhn demo_tables) nodes → author < 4 → length (slice_index_or chains author []) < 2 ^ 31
-        → AreOpsOf author (length (slice_index_or chains author [])) (last_id (slice_index_or chains author [])) draft.ops
+    ensures { (nodes : List NodeData) (chains : List (List NodeData)) (author : ℕ) (draft : NodeData)
+        → ArePlanned chains nodes → IsClosed nodes
+        → AreValid (rules_with is_luhn demo_tables) nodes → author < 4 → length (slice_index_or chains author []) < 2 ^
+        31
+        → AreOpsOf author (length (slice_index_or chains author [])) (last_id (slice_index_or chains author []))
+        draft.ops
         → verdict_on (rules_with is_luhn demo_tables) (effects_in (rules_with is_luhn demo_tables) nodes) draft ≡ Valid }
 {}
 

@@ -1,7 +1,7 @@
 //! What programs share that explain themselves: what a refusal means and what to do, they say on standard error.
 //!
-//! A program has its run read from a [`Recording`] and write to a [`Listening`], and then calls [`tell`]. Nothing of this changes what
-//! is printed, or the status.
+//! A program has its run read from a [`Recording`] and write to a [`Listening`], and then calls [`tell`]. Nothing of
+//! this changes what is printed, or the status.
 //!
 //! ```text
 //! let mut input = Recording::new(rt.alloc(), input, kept_bytes(&rt, &words));
@@ -10,7 +10,8 @@
 //! tell(&rt, &mut HostSink::new(rt.stderr()), &words, status, &input, &output);
 //! ```
 //!
-//! The environment may have `BEC_EXPLAIN=0`, and then nothing is said, and `BEC_DIRECTORY`, which is the directory that is named then.
+//! The environment may have `BEC_EXPLAIN=0`, and then nothing is said, and `BEC_DIRECTORY`, which is the directory that
+//! is named then.
 #![tactic(auto)]
 
 use bec_bytes::Source;
@@ -25,8 +26,8 @@ pub fn kept_bytes(rt: &(impl std::rt::Env + AllocGlobal), words: &[String]) -> u
     if is_silent(rt) { 0 } else { limit_for(words) }
 }
 
-/// Says what a run of these words means that ended with a status, as far as the sink takes it. Where nobody reads any more what
-/// the run prints, nothing is said: who has enough needs no words.
+/// Says what a run of these words means that ended with a status, as far as the sink takes it. Where nobody reads any
+/// more what the run prints, nothing is said: who has enough needs no words.
 pub fn tell<'a, E: Write, S: Source, W: Write>(
     rt: &(impl std::rt::Env + AllocGlobal),
     errors: &mut HostSink<E>,

@@ -4,7 +4,7 @@ use Rattle.std.specs.Prelude.{None}
 use Rattle.text_words.specs.Lines.{lines_of}
 use Rattle.explanations.specs.Table.{entry_in, entry_of}
 
-no_lines : lines_of [] ≡ []
+pub no_lines : lines_of [] ≡ []
 unfolding lines_of
 no_lines = refl
 

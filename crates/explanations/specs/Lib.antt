@@ -1,5 +1,12 @@
+pub mod Explained
+pub mod Habits
+pub mod Heard
 pub mod Matching
+pub mod Parts
+pub mod Recorded
 pub mod Rows
+pub mod Run
 pub mod Shown
 pub mod Table
+pub mod Texts
 pub mod Values

@@ -1,5 +1,6 @@
 -- A text in rows. A blank is the byte 32, an LF is 10, and `{` and `}` are 123 and 125.
-use Rattle.std.specs.Prelude.{ℕ, ◌+◌, Bool, false, ◌||◌, ◌==◌, nat_lt, List, [], ◌∷◌, ◌++◌, length, codes, if◌then◌else◌}
+use Rattle.std.specs.Prelude.{◌≡◌, ℕ, ◌+◌, ◌≤◌, Bool, false, ◌||◌, ◌==◌, nat_lt, List, [], ◌∷◌, ◌++◌, length, codes, if◌then◌else◌}
+use Rattle.std.specs.List.{Contains}
 
 -- the byte behind this one stands between braces
 abbrev pub is_inside : Bool → ℕ → Bool
@@ -39,3 +40,18 @@ begun row word = (if is_too_long row word then codes "    " else row) ++ 32 ∷ 
 abbrev pub laid : List ℕ → List (List ℕ) → List ℕ
 laid row [] = row ++ 10 ∷ []
 laid row (word ∷ words) = ended row word ++ laid (begun row word) words
+
+-- the rows themselves
+abbrev pub rows_of : List ℕ → List (List ℕ) → List (List ℕ)
+rows_of row [] = row ∷ []
+rows_of row (word ∷ words) = if is_too_long row word then row ∷ rows_of (begun row word) words else rows_of (begun row word) words
+
+-- a row as it is laid out, with an LF behind it
+abbrev pub ended_row : List ℕ → List ℕ
+ended_row row = row ++ 10 ∷ []
+
+-- A row has at most 79 bytes, or is what the first one begins with, or has one of the words alone behind its blanks.
+pub data IsShortRow (front : List ℕ) (words : List (List ℕ)) (row : List ℕ) : Type 0 where
+  narrow : length row ≤ 79 → IsShortRow front words row
+  front_alone : row ≡ front → IsShortRow front words row
+  one_word : (word : List ℕ) → Contains words word → row ≡ codes "    " ++ 32 ∷ word → IsShortRow front words row

@@ -1,8 +1,9 @@
 //! What a refusal means and what to do, as it is said on standard error beside what the program prints.
 //!
-//! [`explain`] takes a line that the program printed, finds in [`REFUSALS`] what it means, and lays that out in rows, with the
-//! line of the text that it is about, and with what people write there by habit. [`explain_run`] does so for all that a run of the
-//! program printed, and [`tell_run`] writes that to a sink. [`Recording`] keeps what a source gave, and [`Listening`] the lines of refusals that a sink took.
+//! [`explain`] takes a line that the program printed, finds in [`REFUSALS`] what it means, and lays that out in rows,
+//! with the line of the text that it is about, and with what people write there by habit. [`explain_run`] does so for
+//! all that a run of the program printed, and [`tell_run`] writes that to a sink. [`Recording`] keeps what a source
+//! gave, and [`Listening`] the lines of refusals that a sink took.
 //!
 //! ```text
 //! let asked = Asked { command: "apply", directory: "club", other: "", status: 1, text: b"INSERT" };
@@ -15,13 +16,16 @@
 mod asked;
 mod excerpts;
 mod explaining;
+mod fronts;
 mod habits;
 mod heard_lines;
+mod laws;
 mod listening;
 mod looking_up;
 mod marks;
 mod matching;
 mod numbers;
+mod parts;
 mod recording;
 mod refusals;
 mod rows;
@@ -33,6 +37,7 @@ mod words;
 
 pub use asked::Asked;
 pub use explaining::explain;
+pub use laws::rows_are_short;
 pub use listening::Listening;
 pub use recording::Recording;
 pub use refusals::REFUSALS;

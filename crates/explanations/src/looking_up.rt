@@ -30,7 +30,8 @@ pub(crate) fn entry_for<'a>(
     command: &[u8],
     said: &[u8],
 ) -> Result<Option<(Marks, &'a [u8])>, AllocError>
-    ensures { IfOk result (λ found. option_map (λ entry. (entry.0, entry.1.now)) found ≡ entry_for_command table.now command.now said.now) }
+    ensures { IfOk result (λ found. option_map (λ entry. (entry.0, entry.1.now)) found ≡ entry_for_command table.now
+        command.now said.now) }
 {
     let mut own = Vec::from_slice(alloc, command)?;
     own.extend_from_slice(b": ")?;

@@ -1,7 +1,8 @@
 //! Whether a line is of a kind of refusal, and the numbers that it has.
 
 ghost use Rattle.std.specs.Prelude.{◌≡◌, option_copied, option_map};
-ghost use Rattle.explanations.specs.Matching.{after_byte as byte_passed, after_id as id_passed, marked as with_mark, matched_sign as sign_matched, numbers_of};
+ghost use Rattle.explanations.specs.Matching.{after_byte as byte_passed, after_id as id_passed, marked as with_mark};
+ghost use Rattle.explanations.specs.Matching.{matched_sign as sign_matched, numbers_of};
 
 use crate::marks::Marks;
 use crate::numbers::number_at;

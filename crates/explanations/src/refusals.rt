@@ -1,5 +1,15 @@
 //! What each refusal means and what to do.
 
+ghost use Rattle.std.specs.Prelude.{◌≡◌};
+ghost use Rattle.explanations.specs.Explained.{the_table};
+
+/// The table, as bytes.
+pub(crate) fn table() -> &'static [u8]
+    ensures { result.now ≡ the_table }
+{
+    REFUSALS.as_bytes()
+}
+
 /// Refusals, each in a line of its own, and in the next line what it means and what to do.
 ///
 /// A refusal stands there without its `! `, with `L` for a line, `C` for a column, `N` for a number, `K` for an

@@ -1,7 +1,8 @@
 //! Rows of words.
 
 ghost use Rattle.std.specs.Prelude.{◌≡◌, ℕ, ◌++◌, List, [], ◌∷◌, IfOk, OnOk};
-ghost use Rattle.explanations.specs.Rows.{begun, ended, is_inside, is_too_long as are_too_long, laid, with_byte, words_from, words_of};
+ghost use Rattle.explanations.specs.Rows.{begun, ended, is_inside, is_too_long as are_too_long, laid, with_byte};
+ghost use Rattle.explanations.specs.Rows.{words_from, words_of};
 ghost use Rattle.explanations.specs.Values.{value_of};
 
 use crate::values::{Values, push_value};
@@ -10,8 +11,8 @@ use std::alloc::{AllocError, Global};
 /// A word goes into another row where it and the row that was begun have more bytes than this together.
 const WIDTH: usize = 78;
 
-/// Adds a text in rows, of which the first begins so, and each later one with four blanks. A blank comes before each word.
-/// What a mark of the text stands for counts as one word with what stands around it, whatever is in it.
+/// Adds a text in rows, of which the first begins so, and each later one with four blanks. A blank comes before each
+/// word. What a mark of the text stands for counts as one word with what stands around it, whatever is in it.
 pub(crate) fn push_rows(
     alloc: Global,
     out: &mut Vec<u8>,
@@ -19,7 +20,9 @@ pub(crate) fn push_rows(
     text: &[u8],
     values: &Values,
 ) -> Result<(), AllocError>
-    ensures { OnOk result (out.new.items ≡ out.old.items ++ laid front.now (words_of (value_of values.now.marks values.now.help.now values.now.directory.now values.now.other.now) text.now)) }
+    ensures { OnOk result (out.new.items ≡ out.old.items ++ laid front.now
+        (words_of (value_of values.now.marks values.now.help.now values.now.directory.now values.now.other.now)
+        text.now)) }
 {
     let mut row = Vec::from_slice(alloc, front)?;
     let mut word = Vec::new(alloc);
@@ -33,8 +36,8 @@ pub(crate) fn push_rows(
     push_row(out, row.as_slice())
 }
 
-/// Adds a byte of a text to the word that was begun, or where it is a blank, the word to the rows. Answers whether the next byte
-/// stands between `{` and `}`.
+/// Adds a byte of a text to the word that was begun, or where it is a blank, the word to the rows. Answers whether the
+/// next byte stands between `{` and `}`.
 fn push_next(
     out: &mut Vec<u8>,
     row: &mut Vec<u8>,
@@ -43,7 +46,12 @@ fn push_next(
     inside: bool,
     values: &Values,
 ) -> Result<bool, AllocError>
-    ensures { IfOk result (λ more. (rest : List ℕ) → out.new.items ++ laid row.new.items (words_from (value_of values.now.marks values.now.help.now values.now.directory.now values.now.other.now) more word.new.items rest) ≡ out.old.items ++ laid row.old.items (words_from (value_of values.now.marks values.now.help.now values.now.directory.now values.now.other.now) inside word.old.items (byte ∷ rest))) }
+    ensures { IfOk result (λ more. (rest : List ℕ)
+        → out.new.items ++ laid row.new.items
+        (words_from (value_of values.now.marks values.now.help.now values.now.directory.now values.now.other.now) more
+        word.new.items rest) ≡ out.old.items ++ laid row.old.items
+        (words_from (value_of values.now.marks values.now.help.now values.now.directory.now values.now.other.now) inside
+        word.old.items (byte ∷ rest))) }
 {
     if byte == b' ' {
         push_word(out, row, word.as_slice())?;
@@ -53,14 +61,16 @@ fn push_next(
     push_byte(word, byte, inside, values)
 }
 
-/// Adds a byte of a text to a word, or what it stands for between `{` and `}`. Answers whether the next one stands there.
+/// Adds a byte of a text to a word, or what it stands for between `{` and `}`. Answers whether the next one stands
+/// there.
 fn push_byte(
     word: &mut Vec<u8>,
     byte: u8,
     inside: bool,
     values: &Values,
 ) -> Result<bool, AllocError>
-    ensures added { OnOk result (word.new.items ≡ with_byte (value_of values.now.marks values.now.help.now values.now.directory.now values.now.other.now) inside word.old.items byte) }
+    ensures added { OnOk result (word.new.items ≡ with_byte (value_of values.now.marks values.now.help.now
+        values.now.directory.now values.now.other.now) inside word.old.items byte) }
     ensures inside { IfOk result (λ more. more ≡ is_inside inside byte) }
 {
     if byte == b'{' || byte == b'}' {

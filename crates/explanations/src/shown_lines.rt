@@ -1,8 +1,11 @@
 //! Lines of a text as they are shown.
 
-ghost use Rattle.std.specs.Prelude.{◌≡◌, ◌≤◌, ◌++◌, length, OnOk};
-ghost use Rattle.explanations.specs.Shown.{begin_of as shown_from, blank_below, caret_line, from_character as behind_parts, visible as as_shown, visible_of};
+ghost use Rattle.std.specs.Prelude.{◌≡◌, ℕ, List, ◌∷◌, ◌++◌, OnOk};
+ghost use Rattle.explanations.specs.Shown.{begin_of as shown_from, blank_below, caret_line};
+ghost use Rattle.explanations.specs.Shown.{less_cr, padded, short_run, shortened, shortened_behind, shown};
+ghost use Rattle.explanations.specs.Shown.{from_character as behind_parts, visible as as_shown, visible_of};
 
+use crate::fronts::{behind, front_of};
 use crate::numbers::push_number;
 use crate::text_lines::cut_at;
 use std::alloc::{AllocError, Global};
@@ -25,27 +28,32 @@ pub(crate) fn push_shown(
     number: u64,
     line: &[u8],
     column: Option<u64>,
-) -> Result<(), AllocError> {
+) -> Result<(), AllocError>
+    ensures { OnOk result (out.new.items ≡ out.old.items ++ shown number line.now column) }
+{
     let (front, back) = cut_at(without_cr(line), column);
     let mut shown = Vec::new(alloc);
-    push_short(&mut shown, front)?;
+    push_short(alloc, &mut shown, front)?;
     let begin = begin_of(shown.len());
     let caret = Vec::from_slice(alloc, behind(shown.as_slice(), begin))?;
-    push_short(&mut shown, back)?;
+    push_short(alloc, &mut shown, back)?;
     push_padded(alloc, out, number)?;
     push_visible(out, front_of(behind(shown.as_slice(), begin), SHOWN_BYTES))?;
     out.push(b'\n')?;
-    if column.is_some() {
-        push_caret(out, caret.as_slice())?;
+    match column {
+        Some(_) => push_caret(out, caret.as_slice()),
+        None => Ok(()),
     }
-    Ok(())
 }
 
 /// A line without a CR at its end.
-fn without_cr(line: &[u8]) -> &[u8] {
-    match line {
-        [front @ .., b'\r'] => front,
-        _ => line,
+fn without_cr(line: &[u8]) -> &[u8]
+    ensures { result.now ≡ less_cr line.now }
+{
+    if line.ends_with(b"\r") {
+        &line[..line.len() - 1]
+    } else {
+        line
     }
 }
 
@@ -60,45 +68,38 @@ fn begin_of(front: usize) -> usize
     }
 }
 
-/// The bytes from a place on.
-fn behind(bytes: &[u8], place: usize) -> &[u8] {
-    &bytes[place.min(bytes.len())..]
-}
-
-/// So many bytes of the front.
-fn front_of(bytes: &[u8], count: usize) -> &[u8] {
-    &bytes[..count.min(bytes.len())]
-}
-
 /// Adds bytes, and of each id in them only the first digits and `..`.
-fn push_short(out: &mut Vec<u8>, bytes: &[u8]) -> Result<(), AllocError> {
+fn push_short(alloc: Global, out: &mut Vec<u8>, bytes: &[u8]) -> Result<(), AllocError>
+    ensures { OnOk result (out.new.items ≡ out.old.items ++ shortened bytes.now) }
+{
+    let mut digits = Vec::new(alloc);
     let mut rest = bytes;
-    while !rest.is_empty() {
-        let (run, after) = rest.split_at(digits_at_front(rest));
-        push_run(out, run)?;
-        rest = match after {
-            [] => after,
-            [byte, later @ ..] => {
-                out.push(*byte)?;
-                later
-            }
-        };
+    while let [byte, later @ ..] = rest {
+        push_next(out, &mut digits, *byte)?;
+        rest = later;
+    }
+    push_run(out, digits.as_slice())
+}
+
+/// Adds a byte to digits that were begun, or adds these, and behind them a byte that is no digit.
+fn push_next(out: &mut Vec<u8>, digits: &mut Vec<u8>, byte: u8) -> Result<(), AllocError>
+    ensures { OnOk result ((rest : List ℕ) → out.new.items ++ shortened_behind digits.new.items rest
+        ≡ out.old.items ++ shortened_behind digits.old.items (byte ∷ rest)) }
+{
+    if matches!(byte, b'0'..=b'9' | b'a'..=b'f') {
+        digits.push(byte)?;
+    } else {
+        push_run(out, digits.as_slice())?;
+        digits.clear();
+        out.push(byte)?;
     }
     Ok(())
 }
 
-/// How many digits of ids stand at the front.
-fn digits_at_front(bytes: &[u8]) -> usize
-    ensures { result ≤ length bytes.now }
-{
-    bytes
-        .iter()
-        .position(|byte| !matches!(*byte, b'0'..=b'9' | b'a'..=b'f'))
-        .unwrap_or(bytes.len())
-}
-
 /// Adds digits, or of an id the first ones.
-fn push_run(out: &mut Vec<u8>, digits: &[u8]) -> Result<(), AllocError> {
+fn push_run(out: &mut Vec<u8>, digits: &[u8]) -> Result<(), AllocError>
+    ensures { OnOk result (out.new.items ≡ out.old.items ++ short_run digits.now) }
+{
     if digits.len() < ID_DIGITS {
         return out.extend_from_slice(digits);
     }
@@ -107,7 +108,9 @@ fn push_run(out: &mut Vec<u8>, digits: &[u8]) -> Result<(), AllocError> {
 }
 
 /// Adds a number in at least five columns, and a line behind it.
-fn push_padded(alloc: Global, out: &mut Vec<u8>, number: u64) -> Result<(), AllocError> {
+fn push_padded(alloc: Global, out: &mut Vec<u8>, number: u64) -> Result<(), AllocError>
+    ensures { OnOk result (out.new.items ≡ out.old.items ++ padded number) }
+{
     let mut digits = Vec::new(alloc);
     push_number(&mut digits, number)?;
     out.extend_from_slice(behind(b"     ", digits.len()))?;
@@ -115,7 +118,8 @@ fn push_padded(alloc: Global, out: &mut Vec<u8>, number: u64) -> Result<(), Allo
     out.extend_from_slice(b" | ")
 }
 
-/// Adds bytes, without those that end a character which does not begin there, and a `?` for each that controls a terminal.
+/// Adds bytes, without those that end a character which does not begin there, and a `?` for each that controls a
+/// terminal.
 fn push_visible(out: &mut Vec<u8>, bytes: &[u8]) -> Result<(), AllocError>
     ensures { OnOk result (out.new.items ≡ out.old.items ++ visible_of bytes.now) }
 {

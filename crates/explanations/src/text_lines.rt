@@ -1,25 +1,18 @@
 //! Lines of a text, each with a CR that it ends in.
 
-ghost use Rattle.std.specs.Prelude.{◌<◌, length, IfSome};
+ghost use Rattle.std.specs.Prelude.{◌≡◌, option_map, option_copied};
+ghost use Rattle.explanations.specs.Texts.{before_place, from_place, is_bare, line_numbered, line_of_operation};
+ghost use Rattle.explanations.specs.Texts.{some_cr};
 
-/// The first line of a text without the LF that ends it, and what comes behind that.
-fn line_at_front(text: &[u8]) -> Option<(&[u8], &[u8])>
-    ensures { IfSome result (λ read. length read.1.now < length text.now) }
-{
-    if text.is_empty() {
-        return None;
-    }
-    match text.iter().position(|byte| *byte == b'\n') {
-        None => Some((text, &[])),
-        Some(place) => Some((&text[..place], &text[place + 1..])),
-    }
-}
+use crate::parts::first_part;
 
 /// The line of a text that has this number, counted from 1.
-pub(crate) fn numbered_line(text: &[u8], number: u64) -> Option<&[u8]> {
+pub(crate) fn numbered_line(text: &[u8], number: u64) -> Option<&[u8]>
+    ensures { option_copied result ≡ line_numbered text.now number }
+{
     let mut rest = text;
     let mut left = number.checked_sub(1)?;
-    while let Some((line, after)) = line_at_front(rest) {
+    while let Some((line, after)) = first_part(rest, b'\n') {
         if left == 0 {
             return Some(line);
         }
@@ -30,11 +23,13 @@ pub(crate) fn numbered_line(text: &[u8], number: u64) -> Option<&[u8]> {
 }
 
 /// The line of an operation, counted from 0 over the lines that are not blank, and its number, counted from 1 over all.
-pub(crate) fn operation_line(text: &[u8], operation: u64) -> Option<(u64, &[u8])> {
+pub(crate) fn operation_line(text: &[u8], operation: u64) -> Option<(u64, &[u8])>
+    ensures { option_map (λ read. (read.0, read.1.now)) result ≡ line_of_operation text.now operation }
+{
     let mut rest = text;
     let mut number: u64 = 1;
     let mut left = operation;
-    while let Some((line, after)) = line_at_front(rest) {
+    while let Some((line, after)) = first_part(rest, b'\n') {
         if !is_blank(line) {
             if left == 0 {
                 return Some((number, line));
@@ -48,15 +43,19 @@ pub(crate) fn operation_line(text: &[u8], operation: u64) -> Option<(u64, &[u8])
 }
 
 /// Whether a line has blanks alone.
-fn is_blank(line: &[u8]) -> bool {
+fn is_blank(line: &[u8]) -> bool
+    ensures { result ≡ is_bare line.now }
+{
     line.iter()
         .all(|byte| matches!(*byte, b' ' | b'\t' | b'\r'))
 }
 
 /// Whether a line of a text ends in a CR.
-pub(crate) fn has_cr(text: &[u8]) -> bool {
+pub(crate) fn has_cr(text: &[u8]) -> bool
+    ensures { result ≡ some_cr text.now }
+{
     let mut rest = text;
-    while let Some((line, after)) = line_at_front(rest) {
+    while let Some((line, after)) = first_part(rest, b'\n') {
         if line.ends_with(b"\r") {
             return true;
         }
@@ -66,12 +65,17 @@ pub(crate) fn has_cr(text: &[u8]) -> bool {
 }
 
 /// What stands in a line from a column on, which is counted from 1.
-pub(crate) fn behind_place(line: &[u8], column: Option<u64>) -> &[u8] {
+pub(crate) fn behind_place(line: &[u8], column: Option<u64>) -> &[u8]
+    ensures { result.now ≡ from_place line.now column }
+{
     cut_at(line, column).1
 }
 
 /// What stands before a column of a line, which is counted from 1, and the rest.
-pub(crate) fn cut_at(line: &[u8], column: Option<u64>) -> (&[u8], &[u8]) {
+pub(crate) fn cut_at(line: &[u8], column: Option<u64>) -> (&[u8], &[u8])
+    ensures before { result.0.now ≡ before_place line.now column }
+    ensures behind { result.1.now ≡ from_place line.now column }
+{
     let before = column.unwrap_or(0).saturating_sub(1);
     let before = usize::try_from(before).unwrap_or(usize::MAX);
     line.split_at(before.min(line.len()))

@@ -1,7 +1,7 @@
 //! What the marks of the table stand for.
 
-ghost use Rattle.std.specs.Prelude.{◌≡◌, ◌++◌, OnOk};
-ghost use Rattle.explanations.specs.Values.{known, value_of};
+ghost use Rattle.std.specs.Prelude.{◌≡◌, ◌++◌, IfOk, OnOk};
+ghost use Rattle.explanations.specs.Values.{help_on, known, value_of};
 
 use crate::marks::Marks;
 use crate::numbers::push_number;
@@ -23,7 +23,8 @@ pub(crate) struct Values<'a> {
 
 /// Adds what a letter stands for. A number that the refusal lacks is none, as another letter is.
 pub(crate) fn push_value(out: &mut Vec<u8>, letter: u8, values: &Values) -> Result<(), AllocError>
-    ensures { OnOk result (out.new.items ≡ out.old.items ++ value_of values.now.marks values.now.help.now values.now.directory.now values.now.other.now letter) }
+    ensures { OnOk result (out.new.items ≡ out.old.items ++ value_of values.now.marks values.now.help.now
+        values.now.directory.now values.now.other.now letter) }
 {
     match letter {
         b'C' => push_known(out, values.marks.column),
@@ -48,7 +49,9 @@ fn push_known(out: &mut Vec<u8>, number: Option<u64>) -> Result<(), AllocError>
 }
 
 /// How to get help on a command.
-pub(crate) fn help_text(alloc: Global, command: &[u8]) -> Result<Vec<u8>, AllocError> {
+pub(crate) fn help_text(alloc: Global, command: &[u8]) -> Result<Vec<u8>, AllocError>
+    ensures { IfOk result (λ text. text.items ≡ help_on command.now) }
+{
     if !is_command(command) {
         return Vec::from_slice(alloc, b"`bec help` lists the commands");
     }

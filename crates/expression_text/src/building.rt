@@ -1,7 +1,8 @@
 ghost use Rattle.std.specs.Prelude.{◌≡◌, ◌≤◌, length, All, IfOk, IsSome, Some};
 ghost use Rattle.expression_text.specs.Columns.{IsKnown, HasRowText, column_in};
 ghost use Rattle.expression_text.specs.Grammar.{IsExpression, IsReading};
-ghost use Rattle.expression_text.specs.Machine.{step as after_token, step_begun as after_begun, step_finished as after_finished, settled as settled_with, outcome};
+ghost use Rattle.expression_text.specs.Machine.{step as after_token, step_begun as after_begun};
+ghost use Rattle.expression_text.specs.Machine.{step_finished as after_finished, settled as settled_with, outcome};
 ghost use Rattle.row_check.specs.Trees.{tree_of};
 ghost use Rattle.expression_text.specs.Views.{reading_of, frames_of};
 
@@ -41,7 +42,8 @@ fn step(
 ) -> Result<Progress, AllocError>
     requires few { length names.now ≤ 256 }
     requires text { HasRowText token.now }
-    ensures { IfOk result (λ after. (reading_of after, frames_of pending.new.items) ≡ after_token (column_in names.now) (reading_of progress) (frames_of pending.old.items) token.now) }
+    ensures { IfOk result (λ after. (reading_of after, frames_of pending.new.items) ≡ after_token (column_in names.now)
+        (reading_of progress) (frames_of pending.old.items) token.now) }
 {
     match progress {
         Progress::Begun => step_begun(alloc, pending, token, names),
@@ -61,7 +63,8 @@ fn step_begun(
 ) -> Result<Progress, AllocError>
     requires few { length names.now ≤ 256 }
     requires text { HasRowText token.now }
-    ensures { IfOk result (λ after. (reading_of after, frames_of pending.new.items) ≡ after_begun (column_in names.now) (frames_of pending.old.items) token.now) }
+    ensures { IfOk result (λ after. (reading_of after, frames_of pending.new.items) ≡ after_begun (column_in names.now)
+        (frames_of pending.old.items) token.now) }
 {
     match token {
         Token::Not => opened(pending, Pending::Not),
@@ -76,7 +79,8 @@ fn step_finished(
     pending: &mut Vec<Pending>,
     token: &Token,
 ) -> Result<Progress, AllocError>
-    ensures { IfOk result (λ after. (reading_of after, frames_of pending.new.items) ≡ after_finished (tree_of expr) (frames_of pending.old.items) token.now) }
+    ensures { IfOk result (λ after. (reading_of after, frames_of pending.new.items) ≡ after_finished (tree_of expr)
+        (frames_of pending.old.items) token.now) }
 {
     match token {
         Token::And => opened(pending, Pending::And(expr)),
@@ -98,7 +102,8 @@ fn settled(
     read: Progress,
     pending: &mut Vec<Pending>,
 ) -> Result<Progress, AllocError>
-    ensures { IfOk result (λ after. (reading_of after, frames_of pending.new.items) ≡ settled_with (reading_of read) (frames_of pending.old.items)) }
+    ensures { IfOk result (λ after. (reading_of after, frames_of pending.new.items) ≡ settled_with (reading_of read)
+        (frames_of pending.old.items)) }
 {
     match read {
         Progress::Finished(expr) => completed(alloc, expr, pending),

@@ -1,6 +1,7 @@
 ghost use Rattle.std.specs.Prelude.{◌≡◌, ◌↔◌, IsTrue, IsSome, is_some, slice_get};
 ghost use Rattle.std.specs.List.{list_all};
-ghost use Rattle.row_check.specs.Kinds.{HasKinds, plain_kind as kind_of_plain, literal_kind as kind_of_literal, length_kind as kind_of_length, term_kind as kind_of_term};
+ghost use Rattle.row_check.specs.Kinds.{HasKinds, plain_kind as kind_of_plain, literal_kind as kind_of_literal};
+ghost use Rattle.row_check.specs.Kinds.{length_kind as kind_of_length, term_kind as kind_of_term};
 ghost use Rattle.row_check.specs.Trees.{tree_of};
 
 use row_check::{Expr, Kind, Term};

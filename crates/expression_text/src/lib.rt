@@ -1,9 +1,9 @@
 //! Expressions about rows, read from their words.
 //!
-//! The words of a CHECK line become [`Token`]s by [`tokens_of`], [`is_expression`] tells whether these are an expression
-//! of the grammar, and [`build`] makes it. What a caller judges in between, each fault apart, are the names of columns
-//! ([`are_known`]) and the texts ([`are_short_texts`], [`are_row_texts`]); and of the expression that was built the
-//! kinds of its columns ([`has_kinds`]).
+//! The words of a CHECK line become [`Token`]s by [`tokens_of`], [`is_expression`] tells whether these are an
+//! expression of the grammar, and [`build`] makes it. What a caller judges in between, each fault apart, are the names
+//! of columns ([`are_known`]) and the texts ([`are_short_texts`], [`are_row_texts`]); and of the expression that was
+//! built the kinds of its columns ([`has_kinds`]).
 //!
 //! ```text
 //! let tokens = tokens_of(alloc, words.as_slice())?;

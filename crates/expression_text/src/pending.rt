@@ -35,7 +35,8 @@ pub(crate) fn completed(
     expr: Expr,
     pending: &mut Vec<Pending>,
 ) -> Result<Progress, AllocError>
-    ensures { IfOk result (λ progress. (reading_of progress, frames_of pending.new.items) ≡ complete (tree_of expr) (frames_of pending.old.items)) }
+    ensures { IfOk result (λ progress. (reading_of progress, frames_of pending.new.items) ≡ complete (tree_of expr)
+        (frames_of pending.old.items)) }
 {
     let mut whole = expr;
     loop {
@@ -68,7 +69,8 @@ pub(crate) fn joined(
     expr: Expr,
     pending: &mut Vec<Pending>,
 ) -> Result<Expr, AllocError>
-    ensures { IfOk result (λ whole. (tree_of whole, frames_of pending.new.items) ≡ join (tree_of expr) (frames_of pending.old.items)) }
+    ensures { IfOk result (λ whole. (tree_of whole, frames_of pending.new.items) ≡ join (tree_of expr)
+        (frames_of pending.old.items)) }
 {
     match pending.pop() {
         None => Ok(expr),
@@ -109,7 +111,8 @@ pub(crate) fn closed(
     expr: Expr,
     pending: &mut Vec<Pending>,
 ) -> Result<Progress, AllocError>
-    ensures { IfOk result (λ progress. (reading_of progress, frames_of pending.new.items) ≡ close (tree_of expr) (frames_of pending.old.items)) }
+    ensures { IfOk result (λ progress. (reading_of progress, frames_of pending.new.items) ≡ close (tree_of expr)
+        (frames_of pending.old.items)) }
 {
     if takes_bracket(pending) {
         completed(alloc, expr, pending)
@@ -120,7 +123,9 @@ pub(crate) fn closed(
 
 /// Takes the parenthesis that stands open last. Where another stands there, it stays.
 fn takes_bracket(pending: &mut Vec<Pending>) -> bool
-    ensures { (tree : Tree) → close tree (frames_of pending.old.items) ≡ (if result then complete tree (frames_of pending.new.items) else (Refused, frames_of pending.new.items)) }
+    ensures { (tree : Tree)
+        → close tree (frames_of pending.old.items) ≡ (if result then complete tree (frames_of pending.new.items) else
+        (Refused, frames_of pending.new.items)) }
 {
     match pending.pop() {
         None => false,

@@ -1,5 +1,7 @@
 ghost use Rattle.std.specs.Prelude.{◌≡◌, ◌<◌, ◌≤◌, ◌+◌};
-ghost use Rattle.expression_text.specs.Places.{next_place, next_begun, next_column, next_after_column, next_after_term, next_after_sign, next_after_is, next_after_native, next_after_number, next_after_argument, next_finished, after, is_end};
+ghost use Rattle.expression_text.specs.Places.{next_place, next_begun, next_column, next_after_column, next_after_term};
+ghost use Rattle.expression_text.specs.Places.{next_after_sign, next_after_is, next_after_native, next_after_number};
+ghost use Rattle.expression_text.specs.Places.{next_after_argument, next_finished, after, is_end};
 
 use crate::Token;
 use crate::numbers::check_number;

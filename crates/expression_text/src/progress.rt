@@ -2,7 +2,10 @@ ghost use Rattle.std.specs.Prelude.{◌≡◌, ◌≤◌, length, IfOk};
 ghost use Rattle.update_model.specs.Text.{IsText};
 ghost use Rattle.expression_text.specs.Columns.{column_in, HasRowText};
 ghost use Rattle.row_check.specs.Trees.{Check};
-ghost use Rattle.expression_text.specs.Machine.{Finished, side_of as side_for, read_begun, read_after_len, read_after_column, read_after_term, read_after_sign, read_after_sign_len, read_after_is, read_after_native, read_after_number, read_after_comma, read_after_argument, read_more};
+ghost use Rattle.expression_text.specs.Machine.{Finished, side_of as side_for, read_begun, read_after_len};
+ghost use Rattle.expression_text.specs.Machine.{read_after_column, read_after_term, read_after_sign};
+ghost use Rattle.expression_text.specs.Machine.{read_after_sign_len, read_after_is, read_after_native};
+ghost use Rattle.expression_text.specs.Machine.{read_after_number, read_after_comma, read_after_argument, read_more};
 ghost use Rattle.expression_text.specs.Views.{reading_of};
 
 use crate::Token;
@@ -41,7 +44,8 @@ impl Progress {
     ) -> Result<Progress, AllocError>
         requires few { length names.now ≤ 256 }
         requires text { HasRowText token.now }
-        ensures { IfOk result (λ progress. reading_of progress ≡ read_more (column_in names.now) (reading_of self) token.now) }
+        ensures { IfOk result (λ progress. reading_of progress ≡ read_more (column_in names.now) (reading_of self)
+            token.now) }
     {
         match self {
             Progress::Begun => begun(alloc, token, names),
@@ -216,7 +220,8 @@ fn after_comma(
     names: &[TextValue],
 ) -> Result<Progress, AllocError>
     requires { length names.now ≤ 256 }
-    ensures { IfOk result (λ progress. reading_of progress ≡ read_after_comma (column_in names.now) number columns.items token.now) }
+    ensures { IfOk result (λ progress. reading_of progress ≡ read_after_comma (column_in names.now) number columns.items
+        token.now) }
 {
     match token {
         Token::Column(name) => {

@@ -1,5 +1,6 @@
 ghost use Rattle.std.specs.Prelude.{◌≡◌, map, take, IfOk, bytes_eq};
-ghost use Rattle.expression_text.specs.Words.{token_of as token_for, keyword_of, sign_of, begins_as_value as begins_value, plain_token as token_unquoted};
+ghost use Rattle.expression_text.specs.Words.{token_of as token_for, keyword_of, sign_of};
+ghost use Rattle.expression_text.specs.Words.{begins_as_value as begins_value, plain_token as token_unquoted};
 
 use crate::Token;
 use row_check::Cmp;

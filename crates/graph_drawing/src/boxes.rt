@@ -27,7 +27,8 @@ pub(crate) fn arrange(
     told: &Told,
 ) -> Result<Arrangement, AllocError>
     requires { length placed.now ≤ MAX_DRAWN }
-    ensures { IfOk result (λ made. record { spots = made.spots.items; width = made.width } ≡ arranged told.now placed.now) }
+    ensures { IfOk result (λ made. record { spots = made.spots.items; width = made.width } ≡ arranged told.now
+        placed.now) }
 {
     let mut spots = Vec::new(alloc);
     let mut width = 0;

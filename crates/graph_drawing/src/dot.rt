@@ -2,7 +2,8 @@
 
 ghost use Rattle.std.specs.Prelude.{◌≡◌, ◌++◌, ◌∷◌, [], OnOk, codes};
 ghost use Rattle.std.specs.List.{flat_map};
-ghost use Rattle.graph_drawing.specs.Dot.{dot_begin, dot_edge_to, dot_edges, dot_front, dot_look, dot_node, dot_text, head_style, named, void_style};
+ghost use Rattle.graph_drawing.specs.Dot.{dot_begin, dot_edge_to, dot_edges, dot_front, dot_look, dot_node, dot_text};
+ghost use Rattle.graph_drawing.specs.Dot.{head_style, named, void_style};
 ghost use Rattle.graph_drawing.specs.Svg.{box_of};
 
 use crate::boxes::Arrangement;
@@ -23,7 +24,8 @@ pub(crate) fn push_dot(
     omitted: usize,
     picture: &Arrangement,
 ) -> Result<(), AllocError>
-    ensures { OnOk result (out.new.items ≡ out.old.items ++ dot_text schema.now.tables omitted (record { spots = picture.now.spots.items; width = picture.now.width })) }
+    ensures { OnOk result (out.new.items ≡ out.old.items ++ dot_text schema.now.tables omitted
+        (record { spots = picture.now.spots.items; width = picture.now.width })) }
 {
     let spots = picture.spots.as_slice();
     push_front(out, omitted)?;
@@ -135,13 +137,13 @@ fn push_edges(out: &mut Vec<u8>, spots: &[Spot], spot: &Spot) -> Result<(), Allo
     ensures { OnOk result (out.new.items ≡ out.old.items ++ dot_edges spots.now spot.now) }
 {
     for id in spot.node.preds.as_slice() {
-        push_edge_to(out, spots, spot, id)?;
+        push_edge_of_id(out, spots, spot, id)?;
     }
     Ok(())
 }
 
 /// Adds the line from a node to the one with this id, if it is drawn.
-fn push_edge_to(
+fn push_edge_of_id(
     out: &mut Vec<u8>,
     spots: &[Spot],
     spot: &Spot,

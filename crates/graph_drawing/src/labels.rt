@@ -2,7 +2,8 @@
 
 ghost use Rattle.std.specs.Prelude.{◌≡◌, ◌++◌, OnOk, take};
 ghost use Rattle.std.specs.List.{flat_map};
-ghost use Rattle.graph_drawing.specs.Labels.{box_lines, line, line_begin, line_end, more_line, note_line, operation_line, operation_lines, title, void_line};
+ghost use Rattle.graph_drawing.specs.Labels.{box_lines, line, line_begin, line_end, more_line, note_line};
+ghost use Rattle.graph_drawing.specs.Labels.{operation_line, operation_lines, title, void_line};
 ghost use Rattle.graph_drawing.specs.Words.{clipped};
 
 use crate::form::Form;

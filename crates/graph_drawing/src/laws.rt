@@ -1,4 +1,5 @@
-//! Laws of pictures. Each function does nothing: its contract is a theorem for callers to cite. Lists of nodes stand newest first.
+//! Laws of pictures. Each function does nothing: its contract is a theorem for callers to cite. Lists of nodes stand
+//! newest first.
 
 ghost use Rattle.std.specs.Prelude.{◌≡◌, ◌<◌, List, ℕ, true, Contains};
 ghost use Rattle.schema.specs.declared.table_def.TableDef.{TableDef};
@@ -16,12 +17,14 @@ ghost use Rattle.graph_drawing.specs.Told.{Told};
 /// A picture is a function of the set of updates, in whatever order they came.
 pub fn same_set_same_picture()
     ensures { (form : Written) (tables : List TableDef) (xs ys : List NodeData) (told : Told) (text other : List ℕ)
-        → IsClosed xs → IsClosed ys → IsSameSet xs ys → IsPicture form tables xs told text → IsPicture form tables ys told other → text ≡ other }
+        → IsClosed xs → IsClosed ys → IsSameSet xs ys → IsPicture form tables xs told text
+        → IsPicture form tables ys told other → text ≡ other }
 {}
 
 /// Each box lies in a lower row than those of its predecessors that are drawn.
 pub fn boxes_lie_below()
-    ensures { (nodes : List NodeData) (placed : List Placed) (told : Told) (spot other : Spot) → IsClosed nodes → AreInOrder nodes placed
+    ensures { (nodes : List NodeData) (placed : List Placed) (told : Told) (spot other : Spot) → IsClosed nodes
+        → AreInOrder nodes placed
         → Contains (arranged told (drawn placed)).spots spot → Contains (arranged told (drawn placed)).spots other
         → has spot.node.preds other.node.id ≡ true → other.depth < spot.depth }
 {}
@@ -29,5 +32,6 @@ pub fn boxes_lie_below()
 /// The boxes of a column have one author.
 pub fn columns_have_one_author()
     ensures { (told : Told) (placed : List Placed) (spot other : Spot)
-        → Contains (arranged told placed).spots spot → Contains (arranged told placed).spots other → spot.column ≡ other.column → spot.node.author ≡ other.node.author }
+        → Contains (arranged told placed).spots spot → Contains (arranged told placed).spots other
+        → spot.column ≡ other.column → spot.node.author ≡ other.node.author }
 {}

@@ -1,8 +1,8 @@
 //! A picture of a hash graph: a box for each update, in a row by its depth and in a column of its author.
 //!
-//! [`draw`] answers the text of the picture as SVG or DOT. The text is a function of the set of updates, and not of their order of
-//! arrival: [`same_set_same_picture`]. A box lies below those of its predecessors, and each column has one author:
-//! [`boxes_lie_below`] and [`columns_have_one_author`].
+//! [`draw`] answers the text of the picture as SVG or DOT. The text is a function of the set of updates, and not of
+//! their order of arrival: [`same_set_same_picture`]. A box lies below those of its predecessors, and each column has
+//! one author: [`boxes_lie_below`] and [`columns_have_one_author`].
 //!
 //! ```text
 //! let told = Told { heads, voids, notes };
@@ -11,8 +11,9 @@
 //!
 //! At most [`MAX_DRAWN`] updates are drawn, the last ones in the order of depth and id.
 //!
-//! [`place_in_order`] answers the updates of a graph in the order of depth and id, for whoever lists them, and the functions that begin with `push` add what they
-//! name to a text. What is told of updates beside themselves comes as [`Told`].
+//! [`place_in_order`] answers the updates of a graph in the order of depth and id, for whoever lists them, and the
+//! functions that begin with `push` add what they name to a text. What is told of updates beside themselves comes as
+//! [`Told`].
 #![tactic(auto)]
 
 mod boxes;

@@ -2,7 +2,10 @@
 
 ghost use Rattle.std.specs.Prelude.{◌≡◌, ◌++◌, ◌∷◌, [], OnOk, IfNone, IfSome, option_copied, codes};
 ghost use Rattle.std.specs.List.{flat_map};
-ghost use Rattle.graph_drawing.specs.Svg.{across, box_begin, box_end, box_of, box_text, down, drawn_boxes, edge, edge_to, edges, first_depth, front, head_look, last_depth, legend_begin, legend_end, look, omitted_words, opening, place, point, style_text, svg_begin, svg_text, void_look};
+ghost use Rattle.graph_drawing.specs.Svg.{across, box_begin, box_end, box_of, box_text, down, drawn_boxes, edge};
+ghost use Rattle.graph_drawing.specs.Svg.{edge_to, edges, first_depth, front, head_look, last_depth, legend_begin};
+ghost use Rattle.graph_drawing.specs.Svg.{legend_end, look, omitted_words, opening, place, point, style_text};
+ghost use Rattle.graph_drawing.specs.Svg.{svg_begin, svg_text, void_look};
 
 use crate::boxes::Arrangement;
 use crate::form::Form;
@@ -23,7 +26,8 @@ pub(crate) fn push_svg(
     omitted: usize,
     picture: &Arrangement,
 ) -> Result<(), AllocError>
-    ensures { OnOk result (out.new.items ≡ out.old.items ++ svg_text schema.now.tables omitted (record { spots = picture.now.spots.items; width = picture.now.width })) }
+    ensures { OnOk result (out.new.items ≡ out.old.items ++ svg_text schema.now.tables omitted
+        (record { spots = picture.now.spots.items; width = picture.now.width })) }
 {
     let spots = picture.spots.as_slice();
     let height = down(first_depth(spots), last_depth(spots)) + DOWN;
@@ -175,19 +179,20 @@ fn push_edges(out: &mut Vec<u8>, spots: &[Spot], spot: &Spot) -> Result<(), Allo
     ensures { OnOk result (out.new.items ≡ out.old.items ++ edges spots.now spot.now) }
 {
     for id in spot.node.preds.as_slice() {
-        push_edge_to(out, spots, spot, id)?;
+        push_edge_of_id(out, spots, spot, id)?;
     }
     Ok(())
 }
 
 /// Adds the line from a box to that of the update with this id, if it is drawn.
-fn push_edge_to(
+fn push_edge_of_id(
     out: &mut Vec<u8>,
     spots: &[Spot],
     spot: &Spot,
     id: &UpdateId,
 ) -> Result<(), AllocError>
-    ensures { OnOk result (out.new.items ≡ out.old.items ++ edge_to (first_depth spots.now) spot.now (box_of spots.now id.now)) }
+    ensures { OnOk result (out.new.items ≡ out.old.items ++ edge_to (first_depth spots.now) spot.now
+        (box_of spots.now id.now)) }
 {
     match box_of(spots, id) {
         Some(other) => push_edge(out, first_depth(spots), spot, other),
@@ -234,7 +239,8 @@ fn push_boxes(
     schema: &Schema,
     spots: &[Spot],
 ) -> Result<(), AllocError>
-    ensures { OnOk result (out.new.items ≡ out.old.items ++ flat_map (box_text schema.now.tables (first_depth spots.now)) spots.now) }
+    ensures { OnOk result (out.new.items ≡ out.old.items ++ flat_map
+        (box_text schema.now.tables (first_depth spots.now)) spots.now) }
 {
     for spot in spots {
         push_box(alloc, out, schema, first_depth(spots), spot)?;

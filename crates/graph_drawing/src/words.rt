@@ -7,7 +7,8 @@ ghost use Rattle.std.specs.List.{flat_map};
 ghost use Rattle.hex.specs.Hex.{encode_lower};
 ghost use Rattle.table_text.specs.Names.{id_text};
 ghost use Rattle.table_text.specs.Operations.{table_word};
-ghost use Rattle.graph_drawing.specs.Words.{around, clipped, goes_on, key_digits, key_end, marked, reason_words, short_id, short_name, short_operation, short_value};
+ghost use Rattle.graph_drawing.specs.Words.{around, clipped, goes_on, key_digits, key_end, marked, reason_words};
+ghost use Rattle.graph_drawing.specs.Words.{short_id, short_name, short_operation, short_value};
 
 use itoa::Buffer;
 use schema::Schema;
@@ -127,7 +128,8 @@ fn push_short_value(out: &mut Vec<u8>, digits: usize, value: &Value) -> Result<(
 
 /// Adds values, each after a blank.
 fn push_short_values(out: &mut Vec<u8>, digits: usize, values: &[Value]) -> Result<(), AllocError>
-    ensures { OnOk result (out.new.items ≡ out.old.items ++ flat_map (λ value. 32 ∷ short_value digits value) values.now) }
+    ensures { OnOk result (out.new.items ≡ out.old.items ++ flat_map (λ value. 32 ∷ short_value digits value)
+        values.now) }
 {
     for value in values {
         out.push(b' ')?;

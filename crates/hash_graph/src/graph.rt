@@ -1,4 +1,5 @@
-ghost use Rattle.std.specs.Prelude.{◌≡◌, ◌++◌, ◌∷◌, [], ℕ, ◌<◌, ◌≤◌, ◌↔◌, true, IsTrue, IfErr, IfOk, ◌-◌, length, map, take, drop, slice_get, find, not, Some};
+ghost use Rattle.std.specs.Prelude.{◌≡◌, ◌++◌, ◌∷◌, [], ℕ, ◌<◌, ◌≤◌, ◌↔◌, true, IsTrue, IfErr, IfOk, ◌-◌, length, map};
+ghost use Rattle.std.specs.Prelude.{take, drop, slice_get, find, not, Some};
 ghost use Rattle.update_model.specs.Graph.{IsClosed, IsNext, is_within, byte_count, position_of, holds};
 ghost use Rattle.hash_graph.specs.Answer.{answer_of, Answers, list_after, NamesLeast};
 

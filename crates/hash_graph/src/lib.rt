@@ -1,8 +1,8 @@
 //! A store's members in arrival order, as a closed list: ids are distinct, and each predecessor stands earlier.
 //!
 //! A [`Graph`] takes a member only after its predecessors, so everything that is built over it (heads, ancestors,
-//! bundles) may rely on arrival order. It keeps two limits, [`update_model::MAX_MEMBERS`] and [`update_model::MAX_BYTES`], and finds a
-//! member's position by its id in logarithmic time.
+//! bundles) may rely on arrival order. It keeps two limits, [`update_model::MAX_MEMBERS`] and
+//! [`update_model::MAX_BYTES`], and finds a member's position by its id in logarithmic time.
 //!
 //! ```text
 //! let mut graph = Graph::new(alloc);

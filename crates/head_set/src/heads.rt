@@ -1,4 +1,5 @@
-ghost use Rattle.std.specs.Prelude.{◌≡◌, ◌+◌, ◌<◌, ◌≤◌, ◌↔◌, ◌++◌, ◌∷◌, [], ℕ, false, length, not, take, IsTrue, IfOk, OnOk, OnErr, ◌&&◌, ◌||◌, if◌then◌else◌};
+ghost use Rattle.std.specs.Prelude.{◌≡◌, ◌+◌, ◌<◌, ◌≤◌, ◌↔◌, ◌++◌, ◌∷◌, [], ℕ, false, length, not, take, IsTrue, IfOk};
+ghost use Rattle.std.specs.Prelude.{OnOk, OnErr, ◌&&◌, ◌||◌, if◌then◌else◌};
 ghost use Rattle.std.specs.BTreeMap.{keys};
 ghost use Rattle.std.specs.List.{list_any};
 ghost use Rattle.std.specs.List.Sorted.{IsStrictlySortedBy};
@@ -55,13 +56,15 @@ impl Heads {
     /// Takes in an update that arrives for the first time: its id, and those of its direct predecessors.
     ///
     /// Afterwards the id is a head, unless it names itself, and no predecessor is one. So what were the heads of a
-    /// closed graph are now those of the graph with the update: see [`new_ids_were_no_heads`](crate::new_ids_were_no_heads).
-    /// It takes logarithmic time for each predecessor. It gives up where memory runs out, and then nothing has changed.
+    /// closed graph are now those of the graph with the update: see
+    /// [`new_ids_were_no_heads`](crate::new_ids_were_no_heads). It takes logarithmic time for each predecessor. It
+    /// gives up where memory runs out, and then nothing has changed.
     pub fn add(&mut self, id: UpdateId, preds: &[UpdateId]) -> Result<(), AllocError>
         requires room { length self.old < MAX_MEMBERS }
         requires new { list_any (λ heads. has heads id) self.old ≡ false }
         ensures states { OnOk result (self.new ≡ self.old ++ present self.new ∷ []) }
-        ensures exact { OnOk result ((x : Id) → has (present self.new) x ≡ ((same_id x id || has (present self.old) x) && not (has preds.now x))) }
+        ensures exact { OnOk result ((x : Id)
+            → has (present self.new) x ≡ ((same_id x id || has (present self.old) x) && not (has preds.now x))) }
         ensures graph { OnOk result (KeepsHeads self.old id preds.now self.new) }
         ensures same { OnErr result (self.new ≡ self.old) }
     {
@@ -165,8 +168,10 @@ fn end_all(spans: &mut BTreeMap<UpdateId, Span>, ids: &[UpdateId], position: u32
     requires before { AreBefore spans.old.entries (position + 1) }
     requires few { length (heads_at spans.old.entries (position + 1)) ≤ MAX_MEMBERS + 1 }
     ensures earlier { (n : ℕ) → n ≤ position → heads_at spans.new.entries n ≡ heads_at spans.old.entries n }
-    ensures exact { (x : Id) → has (heads_at spans.new.entries (position + 1)) x ≡ (has (heads_at spans.old.entries (position + 1)) x && not (has ids.now x)) }
-    ensures count { result + length (heads_at spans.new.entries (position + 1)) ≡ length (heads_at spans.old.entries (position + 1)) }
+    ensures exact { (x : Id) → has (heads_at spans.new.entries (position + 1))
+        x ≡ (has (heads_at spans.old.entries (position + 1)) x && not (has ids.now x)) }
+    ensures count { result + length (heads_at spans.new.entries (position + 1)) ≡ length
+        (heads_at spans.old.entries (position + 1)) }
     ensures before { AreBefore spans.new.entries (position + 1) }
     ensures rising { IsStrictlySortedBy id_cmp (keys spans.new) }
 {
@@ -184,8 +189,10 @@ fn end(spans: &mut BTreeMap<UpdateId, Span>, id: &UpdateId, position: u32) -> bo
     requires rising { IsStrictlySortedBy id_cmp (keys spans.old) }
     requires before { AreBefore spans.old.entries (position + 1) }
     ensures earlier { (n : ℕ) → n ≤ position → heads_at spans.new.entries n ≡ heads_at spans.old.entries n }
-    ensures exact { (x : Id) → has (heads_at spans.new.entries (position + 1)) x ≡ (has (heads_at spans.old.entries (position + 1)) x && not (same_id x id.now)) }
-    ensures count { (if result then 1 else 0) + length (heads_at spans.new.entries (position + 1)) ≡ length (heads_at spans.old.entries (position + 1)) }
+    ensures exact { (x : Id) → has (heads_at spans.new.entries (position + 1))
+        x ≡ (has (heads_at spans.old.entries (position + 1)) x && not (same_id x id.now)) }
+    ensures count { (if result then 1 else 0) + length (heads_at spans.new.entries (position + 1)) ≡ length
+        (heads_at spans.old.entries (position + 1)) }
     ensures before { AreBefore spans.new.entries (position + 1) }
     ensures rising { IsStrictlySortedBy id_cmp (keys spans.new) }
 {

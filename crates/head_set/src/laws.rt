@@ -10,18 +10,21 @@ ghost use Rattle.head_set.specs.Present.{present};
 
 /// A member that may stand next was never a head, as [`Heads::add`](crate::Heads::add) asks.
 pub fn new_ids_were_no_heads()
-    ensures { (graph : List Entry) (states : List (List UpdateId)) (e : Entry) → AreHeadsOfEach graph states → IsNext graph e
+    ensures { (graph : List Entry) (states : List (List UpdateId)) (e : Entry) → AreHeadsOfEach graph states
+        → IsNext graph e
         → list_any (λ heads. has heads e.id) states ≡ false }
 {}
 
 /// The heads of the moment are those of the whole graph.
 pub fn present_heads_are_heads()
-    ensures { (graph : List Entry) (states : List (List UpdateId)) → AreHeadsOfEach graph states → AreHeads graph (present states) }
+    ensures { (graph : List Entry) (states : List (List UpdateId)) → AreHeadsOfEach graph states
+        → AreHeads graph (present states) }
 {}
 
 /// After a cut the heads are those of the members that are left.
 pub fn heads_of_a_front()
-    ensures { (graph : List Entry) (states : List (List UpdateId)) (len : ℕ) → AreHeadsOfEach graph states → len ≤ length graph
+    ensures { (graph : List Entry) (states : List (List UpdateId)) (len : ℕ) → AreHeadsOfEach graph states
+        → len ≤ length graph
         → AreHeadsOfEach (take len graph) (take len states) }
 {}
 
@@ -33,7 +36,8 @@ pub fn heads_are_few()
 /// Two closed graphs with the same heads have the same members, unless two of their members collide: an id that is
 /// a digest names one update, and its predecessors' ids in it, so equal heads vouch for all that lies below them.
 pub fn equal_heads_mean_equal_sets()
-    ensures { (graph other : List Entry) (heads : List UpdateId) → IsClosed graph → IsClosed other → NoCollision graph other
+    ensures { (graph other : List Entry) (heads : List UpdateId) → IsClosed graph → IsClosed other
+        → NoCollision graph other
         → AreHeads graph heads → AreHeads other heads → HaveSameMembers graph other }
 {}
 

@@ -3,8 +3,8 @@
 //! A new member is a head, since nothing names it yet, and what it names is a head no longer. So [`Heads::add`]
 //! needs neither the graph nor a walk over it, and takes logarithmic time for each predecessor.
 //!
-//! Of each id it is kept after how many adds it is a head. So [`Heads::cut`] goes back to the first adds without memory,
-//! as a commit that is refused must.
+//! Of each id it is kept after how many adds it is a head. So [`Heads::cut`] goes back to the first adds without
+//! memory, as a commit that is refused must.
 //!
 //! ```text
 //! let mut heads = Heads::new(alloc);

@@ -69,7 +69,8 @@ pub fn judge_draft<L: Relation, C: Checks<L>>(
     requires unlimited { IsTrue (list_all is_unlimited schema.now.tables) }
     requires views { AreViewsOf L.answer schema.now graph.now (length graph.now) views.now }
     requires next { IsNext (nodes_of graph.now) draft.now }
-    ensures { IfOk result (λ verdict. verdict ≡ verdict_after L.answer (record { schema = schema.now; members = graph.now }) draft.now) }
+    ensures { IfOk result (λ verdict. verdict ≡ verdict_after L.answer
+        (record { schema = schema.now; members = graph.now }) draft.now) }
 {
     verdict_is_on_ancestors();
     let len = graph.len();

@@ -21,8 +21,8 @@ use std::alloc::{AllocError, Global};
 use table_model::Verdict;
 use update_check::Checked;
 
-/// Adds each update of a batch that can be added in some order, and hands the rest back in the batch's order. After an error
-/// the graph is as it was.
+/// Adds each update of a batch that can be added in some order, and hands the rest back in the batch's order. After an
+/// error the graph is as it was.
 pub fn grow<L: Relation, C: Checks<L>>(
     alloc: Global,
     schema: &Schema,
@@ -34,7 +34,8 @@ pub fn grow<L: Relation, C: Checks<L>>(
     requires unlimited { IsTrue (list_all is_unlimited schema.now.tables) }
     requires views { AreViewsOf L.answer schema.now graph.old (length graph.old) views.old }
     ensures added { IfOk result (λ waiting. AddsReady entry_of graph.old batch.items graph.new waiting.items) }
-    ensures full { result ≡ Err AddFault.Full → IsTooMuch store_limits (map entry_of graph.old) (map entry_of batch.items) }
+    ensures full { result ≡ Err AddFault.Full → IsTooMuch store_limits (map entry_of graph.old)
+        (map entry_of batch.items) }
     ensures grown { IsGrown graph.old batch.items graph.new }
     ensures same { OnErr result (graph.new ≡ graph.old) }
     ensures views { AreViewsOf L.answer schema.now graph.new (length graph.new) views.new }
@@ -67,7 +68,8 @@ fn add_and_take<L: Relation, C: Checks<L>>(
     requires unlimited { IsTrue (list_all is_unlimited schema.now.tables) }
     requires views { AreViewsOf L.answer schema.now graph.old (length graph.old) views.old }
     ensures added { IfOk result (λ waiting. AddsReady entry_of graph.old batch.items graph.new waiting.items) }
-    ensures full { result ≡ Err AddFault.Full → IsTooMuch store_limits (map entry_of graph.old) (map entry_of batch.items) }
+    ensures full { result ≡ Err AddFault.Full → IsTooMuch store_limits (map entry_of graph.old)
+        (map entry_of batch.items) }
     ensures behind { IsBehind graph.old graph.new }
     ensures all { OnOk result (AreViewsOf L.answer schema.now graph.new (length graph.new) views.new) }
     ensures none { OnErr result (AreViewsOf L.answer schema.now graph.new (length graph.old) views.new) }
@@ -84,8 +86,8 @@ fn add_and_take<L: Relation, C: Checks<L>>(
     }
 }
 
-/// Adds one update behind all others, and answers the verdict on it. After want of memory, or where it may not stand next, the
-/// graph is as it was.
+/// Adds one update behind all others, and answers the verdict on it. After want of memory, or where it may not stand
+/// next, the graph is as it was.
 pub fn grow_by_one<L: Relation, C: Checks<L>>(
     alloc: Global,
     schema: &Schema,

@@ -1,4 +1,5 @@
-ghost use Rattle.std.specs.Prelude.{◌≡◌, ◌<◌, ◌≤◌, ◌++◌, ◌∷◌, [], All, List, Some, Err, ◌↔◌, IfOk, IsTrue, OnErr, OnOk, drop, length, map, slice_get, take};
+ghost use Rattle.std.specs.Prelude.{◌≡◌, ◌<◌, ◌≤◌, ◌++◌, ◌∷◌, [], All, List, Some, Err, ◌↔◌, IfOk, IsTrue, OnErr, OnOk};
+ghost use Rattle.std.specs.Prelude.{drop, length, map, slice_get, take};
 ghost use Rattle.update_model.specs.declared.update_id.UpdateId.{UpdateId as Id};
 ghost use Rattle.update_model.specs.Batch.{IsTooMuch, store_limits};
 ghost use Rattle.update_model.specs.Graph.{AreHeads, byte_count, position_of};
@@ -30,8 +31,9 @@ use tuple_state::Tables;
 use update_check::Checked;
 use update_model::{Node, UpdateId};
 
-/// A closed list of updates under a schema without `ATMOST` and whose `UNIQUE` lines are with `KEEP LEAST`, and what is kept
-/// of it: heads, ancestors and tables. It is in memory alone. A contract sees the schema and the updates in the order of arrival.
+/// A closed list of updates under a schema without `ATMOST` and whose `UNIQUE` lines are with `KEEP LEAST`, and what is
+/// kept of it: heads, ancestors and tables. It is in memory alone. A contract sees the schema and the updates in the
+/// order of arrival.
 #[derive(Drop)]
 pub struct History<L: Relation, C: Checks<L>> {
     schema: Schema,
@@ -57,7 +59,8 @@ impl<L: Relation, C: Checks<L>> Model for History<L, C> {
 
 impl<L: Relation, C: Checks<L>> History<L, C> {
     /// The history of a graph under a schema without `ATMOST` and whose `UNIQUE` lines are with `KEEP LEAST`, as
-    /// [`validity::is_unlimited`] tells: each of its updates is judged once. Where memory runs out, the native checks come back.
+    /// [`validity::is_unlimited`] tells: each of its updates is judged once. Where memory runs out, the native checks
+    /// come back.
     pub fn over(
         alloc: Global,
         schema: Schema,
@@ -153,8 +156,8 @@ impl<L: Relation, C: Checks<L>> History<L, C> {
         &self.views.tables
     }
 
-    /// Of the first `below` updates the positions of those that are neither among these ids nor ancestors of one, rising. Ids
-    /// that none of them has are passed over.
+    /// Of the first `below` updates the positions of those that are neither among these ids nor ancestors of one,
+    /// rising. Ids that none of them has are passed over.
     pub fn since(&self, alloc: Global, below: u32, old: &[UpdateId]) -> Result<Vec<u32>, AllocError>
         requires { below ≤ length self.now.members }
         ensures { IfOk result (λ positions. ArePositionsSince self.now.members below old.now positions.items) }
@@ -162,8 +165,8 @@ impl<L: Relation, C: Checks<L>> History<L, C> {
         positions_since(alloc, &self.graph, &self.views.ancestry, below, old)
     }
 
-    /// The verdict on a draft, which is no member: its id is not held and each of its predecessors is. It adds nothing, so
-    /// it needs no room.
+    /// The verdict on a draft, which is no member: its id is not held and each of its predecessors is. It adds nothing,
+    /// so it needs no room.
     pub fn judge(&self, alloc: Global, draft: &Node) -> Result<Verdict, AllocError>
         requires { IsNext (nodes_of self.now.members) draft.now }
         ensures { IfOk result (λ verdict. verdict ≡ verdict_after L.answer self.now draft.now) }
@@ -189,8 +192,10 @@ impl<L: Relation, C: Checks<L>> History<L, C> {
     ) -> Result<Vec<Checked>, AddFault>
         requires { All (IsChecked self.old.schema.rule) batch.items }
         ensures schema { self.new.schema ≡ self.old.schema }
-        ensures added { IfOk result (λ waiting. AddsReady entry_of self.old.members batch.items self.new.members waiting.items) }
-        ensures full { result ≡ Err AddFault.Full → IsTooMuch store_limits (map entry_of self.old.members) (map entry_of batch.items) }
+        ensures added { IfOk result (λ waiting. AddsReady entry_of self.old.members batch.items self.new.members
+            waiting.items) }
+        ensures full { result ≡ Err AddFault.Full → IsTooMuch store_limits (map entry_of self.old.members)
+            (map entry_of batch.items) }
         ensures same { OnErr result (self.new ≡ self.old) }
     {
         grow(
@@ -203,11 +208,14 @@ impl<L: Relation, C: Checks<L>> History<L, C> {
         )
     }
 
-    /// Adds one update behind all others, and answers the verdict on it: its id is not held, its predecessors are, and it fits.
-    /// After want of memory nothing has changed.
+    /// Adds one update behind all others, and answers the verdict on it: its id is not held, its predecessors are, and
+    /// it fits. After want of memory nothing has changed.
     pub fn push(&mut self, alloc: Global, update: Checked) -> Result<Verdict, AllocError>
         requires { AreMembers self.old.schema.rule (self.old.members ++ update ∷ []) }
-        ensures pushed { OnOk result (self.new ≡ record { schema = self.old.schema; members = self.old.members ++ update ∷ [] }) }
+        ensures pushed { OnOk result (self.new ≡ record {
+          schema = self.old.schema;
+          members = self.old.members ++ update ∷ [];
+        }) }
         ensures verdict { IfOk result (λ verdict. verdict ≡ verdict_after L.answer self.old (node_of update)) }
         ensures same { OnErr result (self.new ≡ self.old) }
     {

@@ -1,9 +1,9 @@
-//! Histories: closed lists of updates under a schema without `ATMOST` and whose `UNIQUE` lines are with `KEEP LEAST`, as every
-//! schema is whose invariants survive merging.
+//! Histories: closed lists of updates under a schema without `ATMOST` and whose `UNIQUE` lines are with `KEEP LEAST`,
+//! as every schema is whose invariants survive merging.
 //!
-//! A [`History`] takes an update only after its predecessors, and judges each once, on its ancestors. It keeps the heads, the
-//! ancestors and the tables as updates arrive, and it goes back to its first updates without memory, as a commit that is
-//! refused must.
+//! A [`History`] takes an update only after its predecessors, and judges each once, on its ancestors. It keeps the
+//! heads, the ancestors and the tables as updates arrive, and it goes back to its first updates without memory, as a
+//! commit that is refused must.
 //!
 //! ```text
 //! let mut history = History::over(alloc, schema, native, graph)?;

@@ -1,6 +1,7 @@
 //! Judging the updates of a graph in the order of arrival, one by one.
 
-ghost use Rattle.std.specs.Prelude.{◌≡◌, ◌+◌, ◌<◌, length, map, option_map, reverse, slice_get, Some, IsTrue, IfOk, OnErr, OnOk};
+ghost use Rattle.std.specs.Prelude.{◌≡◌, ◌+◌, ◌<◌, length, map, option_map, reverse, slice_get, Some, IsTrue, IfOk};
+ghost use Rattle.std.specs.Prelude.{OnErr, OnOk};
 ghost use Rattle.std.specs.List.{filter_map, list_all};
 ghost use Rattle.update_check.specs.Signed.{node_of};
 ghost use Rattle.table_model.specs.Verdicts.{is_unlimited, judge_next, judged};
@@ -30,7 +31,8 @@ pub fn replay<L: Relation, C: Checks<L>>(
     graph: &Graph<Checked>,
 ) -> Result<Tables, AllocError>
     requires { IsTrue (list_all is_unlimited schema.now.tables) }
-    ensures { IfOk result (λ tables. IsStateOf (rules_with L.answer schema.now.tables) (reverse (map node_of graph.now)) tables) }
+    ensures { IfOk result (λ tables. IsStateOf (rules_with L.answer schema.now.tables) (reverse (map node_of graph.now))
+        tables) }
 {
     let mut tables = Tables::new(alloc, schema)?;
     let mut ancestry = Ancestry::new(alloc);
@@ -48,8 +50,8 @@ pub fn replay<L: Relation, C: Checks<L>>(
     Ok(tables)
 }
 
-/// Takes the member at this position, where those before it are taken, and answers the verdict on it. After want of memory
-/// nothing has changed.
+/// Takes the member at this position, where those before it are taken, and answers the verdict on it. After want of
+/// memory nothing has changed.
 pub fn take_next<L: Relation, C: Checks<L>>(
     alloc: Global,
     schema: &Schema,
@@ -63,7 +65,8 @@ pub fn take_next<L: Relation, C: Checks<L>>(
     requires low { position < length graph.now }
     requires state { IsStateOf (rules_with L.answer schema.now.tables) (nodes_before graph.now position) tables.old }
     requires places { ancestry.old ≡ places_before graph.now position }
-    ensures state { OnOk result (IsStateOf (rules_with L.answer schema.now.tables) (nodes_before graph.now (position + 1)) tables.new) }
+    ensures state { OnOk result (IsStateOf (rules_with L.answer schema.now.tables)
+        (nodes_before graph.now (position + 1)) tables.new) }
     ensures places { OnOk result (ancestry.new ≡ places_before graph.now (position + 1)) }
     ensures verdict { IfOk result (IsVerdictAt (rules_with L.answer schema.now.tables) graph.now position) }
     ensures same_state { OnErr result (tables.new ≡ tables.old) }
@@ -93,7 +96,8 @@ fn take_verdict<L: Relation, C: Checks<L>>(
     requires low { position < length graph.now }
     requires state { IsStateOf (rules_with L.answer schema.now.tables) (nodes_before graph.now position) tables.old }
     requires places { ancestry.now ≡ places_before graph.now (position + 1) }
-    ensures state { OnOk result (IsStateOf (rules_with L.answer schema.now.tables) (nodes_before graph.now (position + 1)) tables.new) }
+    ensures state { OnOk result (IsStateOf (rules_with L.answer schema.now.tables)
+        (nodes_before graph.now (position + 1)) tables.new) }
     ensures verdict { IfOk result (IsVerdictAt (rules_with L.answer schema.now.tables) graph.now position) }
     ensures same { OnErr result (tables.new ≡ tables.old) }
 {
@@ -159,9 +163,12 @@ fn judge_next<L: Relation, C: Checks<L>>(
     requires here { option_map node_of (slice_get graph.now position) ≡ Some node.now }
     requires state { IsStateOf (rules_with L.answer schema.now.tables) (nodes_before graph.now position) tables.now }
     requires places { ancestry.now ≡ places_before graph.now (position + 1) }
-    ensures { IfOk result (λ verdict. verdict ≡ (judge_next (rules_with L.answer schema.now.tables) (judged (rules_with L.answer schema.now.tables) (nodes_before graph.now position)) node.now).verdict) }
+    ensures { IfOk result (λ verdict.
+        verdict ≡ (judge_next (rules_with L.answer schema.now.tables) (judged (rules_with L.answer schema.now.tables)
+        (nodes_before graph.now position)) node.now).verdict) }
 {
-    // for their clauses: the front is a closed list, the verdict is on ancestors alone, and updates are few and name earlier ones
+    // for their clauses: the front is a closed list, the verdict is on ancestors alone, and updates are few and name
+    // earlier ones
     arrivals_are_closed();
     verdict_is_on_ancestors();
     graph.len(); // it is closed

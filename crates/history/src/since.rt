@@ -40,7 +40,8 @@ pub fn places_below(
     ids: &[UpdateId],
 ) -> Result<Vec<u32>, AllocError>
     requires { below ≤ length graph.now }
-    ensures { IfOk result (λ places. places.items ≡ filter_map (position_of (map entry_of (take below graph.now))) ids.now) }
+    ensures { IfOk result (λ places. places.items ≡ filter_map (position_of (map entry_of (take below graph.now)))
+        ids.now) }
 {
     ids.iter()
         .filter_map(|id| place_below(graph, below, id))

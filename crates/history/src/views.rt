@@ -32,7 +32,8 @@ pub struct Views {
 impl Views {
     /// Those of no member.
     pub fn new(alloc: Global, schema: &Schema) -> Result<Views, AllocError>
-        ensures { IfOk result (λ views. (ask : Meaning) (members : List (List ℕ)) → AreViewsOf ask schema.now members 0 views) }
+        ensures { IfOk result (λ views. (ask : Meaning) (members : List (List ℕ))
+            → AreViewsOf ask schema.now members 0 views) }
     {
         let heads = Heads::new(alloc);
         let ancestry = Ancestry::new(alloc);
@@ -83,8 +84,8 @@ impl Views {
         Ok(())
     }
 
-    /// Takes the member at a position, where those before it are taken, and answers the verdict on it. After want of memory
-    /// nothing has changed.
+    /// Takes the member at a position, where those before it are taken, and answers the verdict on it. After want of
+    /// memory nothing has changed.
     pub fn take<L: Relation, C: Checks<L>>(
         &mut self,
         alloc: Global,

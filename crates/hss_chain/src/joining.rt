@@ -71,7 +71,8 @@ pub fn push_key(out: &mut Vec<u8>, key: &AuthorKey) -> Result<(), AllocError>
 
 /// A top signature of a lower key and its signature of a message make a seal.
 pub fn parts_make_a_seal()
-    ensures { (top low : AuthorKey) (top_sig low_sig msg : List ℕ) → IsKey top → IsKey low → Signed top (key_bytes low) top_sig → Signed low msg low_sig
+    ensures { (top low : AuthorKey) (top_sig low_sig msg : List ℕ) → IsKey top → IsKey low
+        → Signed top (key_bytes low) top_sig → Signed low msg low_sig
         → SealedBy (public_bytes top) msg (seal_bytes top_sig low low_sig) }
 {
     signed_has_length();

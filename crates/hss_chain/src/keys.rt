@@ -10,7 +10,8 @@ use update_model::AuthorKey;
 
 /// The key of known types whose bytes these are, or `None` where they are those of no such key.
 pub fn read_key(bytes: &[u8]) -> Option<AuthorKey>
-    ensures { MatchOption result ((key : AuthorKey) → IsKey key → bytes.now ≡ key_bytes key → ⊥) (λ key. IsKey key × (bytes.now ≡ key_bytes key)) }
+    ensures { MatchOption result ((key : AuthorKey) → IsKey key → bytes.now ≡ key_bytes key → ⊥) (λ key. IsKey key
+        × (bytes.now ≡ key_bytes key)) }
 {
     if bytes.len() != 56 {
         return None;

@@ -18,8 +18,8 @@ pub(crate) const LEVELS: u32 = 2;
 /// The signed public keys in its seals.
 pub(crate) const SIGNED_KEYS: u32 = 1;
 
-/// Whether `sig` is a seal of `msg` by the two-level key `key`: both have exactly their parts, the keys are of known types, the top key
-/// signed the lower one, and the lower one signed the message. It takes no memory.
+/// Whether `sig` is a seal of `msg` by the two-level key `key`: both have exactly their parts, the keys are of known
+/// types, the top key signed the lower one, and the lower one signed the message. It takes no memory.
 pub fn verify_hss(key: &[u8], msg: &[u8], sig: &[u8]) -> bool
     ensures { IsTrue result ↔ SealedBy key.now msg.now sig.now }
 {
@@ -47,7 +47,12 @@ struct Parts<'a> {
 fn parts_of<'a>(key: &[u8], sig: &'a [u8]) -> Option<Parts<'a>>
     ensures { MatchOption result
         ((parts : SealParts) → HaveParts key.now sig.now parts → ⊥)
-        (λ parts. HaveParts key.now sig.now (record { top = parts.top; top_sig = parts.top_sig.now; low = parts.low; low_sig = parts.low_sig.now }) × (parts.low_bytes.now ≡ key_bytes parts.low)) }
+        (λ parts. HaveParts key.now sig.now (record {
+          top = parts.top;
+          top_sig = parts.top_sig.now;
+          low = parts.low;
+          low_sig = parts.low_sig.now;
+        }) × (parts.low_bytes.now ≡ key_bytes parts.low)) }
 {
     let Some(top_bytes) = behind(key, LEVELS) else {
         return None;

@@ -11,11 +11,12 @@ ghost use Rattle.key_index.specs.Used.{none_used};
 ghost use Rattle.key_directory.specs.Keys.{IsNoKey};
 ghost use Rattle.key_directory.specs.Parts.{LetsNewGo, part_in, reading};
 ghost use Rattle.hss_chain.specs.Sealing.{SealedBy, public_bytes};
-ghost use Rattle.hss_directory.specs.Calls.{BeginsHss, CreatesHss, EndsHss, HeldRose, IsOpeningCause, KeepsHss, OpensHss, PutsHss, RefusesToSign, Signs};
+ghost use Rattle.hss_directory.specs.Calls.{BeginsHss, CreatesHss, EndsHss, HeldRose, IsOpeningCause, KeepsHss};
+ghost use Rattle.hss_directory.specs.Calls.{OpensHss, PutsHss, RefusesToSign, Signs};
 ghost use Rattle.hss_directory.specs.Places.{AreHome, Holds, OnlyReads};
 ghost use Rattle.hss_directory.specs.Values.{IsReadable, IsSound, IsSpent};
 
-use crate::current::{put_in, put_lower, ready_lower, seal_by};
+use crate::current::{fill, put_lower, ready_lower, seal_below};
 use crate::fault::HssFault;
 use crate::lower::{Lower, types_of};
 use crate::opening::current_lower;
@@ -28,7 +29,8 @@ use rand_core::Rng;
 use std::alloc::Global;
 use std::marker::Model;
 
-/// A key of two levels: the top key of a directory, which signs lower keys, and the current lower key, which signs messages.
+/// A key of two levels: the top key of a directory, which signs lower keys, and the current lower key, which signs
+/// messages.
 #[derive(Drop)]
 pub struct Hss<D: Disk> {
     dir: String,
@@ -57,13 +59,18 @@ pub fn create_hss<G: LeafGenerator, H: Shelf, R: Rng>(
     random: &mut R,
 ) -> Result<Hss<H::D>, HssFault>
     requires { IsTrue (H.state shelf.old).tells → AreHome (H.state shelf.old) dir.now }
-    ensures creates { IfOk result (λ hss. CreatesHss (drawn_key types.lms types.ots (R.stream random.old)) (H.state shelf.old) dir.now hss (H.state shelf.new)) }
+    ensures creates { IfOk result (λ hss. CreatesHss (drawn_key types.lms types.ots (R.stream random.old))
+        (H.state shelf.old) dir.now hss (H.state shelf.new)) }
     ensures lets_go { IfErr result (λ _. (H.state shelf.new ≡ H.state shelf.old)
-        ⊎ LetsNewGo Key Used (payload_of (drawn_key types.lms types.ots (R.stream random.old))) (none_used (leaf_count types.lms)) (H.state shelf.old) dir.now (H.state shelf.new)) }
-    ensures refused { IsErrOf result HssFault.KeyThere → IsTrue (H.state shelf.old).tells → IsNoKey (reading (part_in (H.state shelf.old) dir.now Key)) → ⊥ }
-    ensures answers { IfErr result (λ why. (why ≡ HssFault.Disk) ⊎ ((why ≡ HssFault.KeyThere) ⊎ (why ≡ HssFault.Memory))) }
+        ⊎ LetsNewGo Key Used (payload_of (drawn_key types.lms types.ots (R.stream random.old)))
+        (none_used (leaf_count types.lms)) (H.state shelf.old) dir.now (H.state shelf.new)) }
+    ensures refused { IsErrOf result HssFault.KeyThere → IsTrue (H.state shelf.old).tells
+        → IsNoKey (reading (part_in (H.state shelf.old) dir.now Key)) → ⊥ }
+    ensures answers { IfErr result (λ why. (why ≡ HssFault.Disk)
+        ⊎ ((why ≡ HssFault.KeyThere) ⊎ (why ≡ HssFault.Memory))) }
     ensures drawn { OnOk result (R.stream random.new ≡ after_draw (R.stream random.old)) }
-    ensures may_draw { (R.stream random.new ≡ R.stream random.old) ⊎ (R.stream random.new ≡ after_draw (R.stream random.old)) }
+    ensures may_draw { (R.stream random.new ≡ R.stream random.old)
+        ⊎ (R.stream random.new ≡ after_draw (R.stream random.old)) }
     ensures begins { IfOk result (λ hss. BeginsHss (H.state shelf.old) dir.now hss (H.state shelf.new)) }
     ensures later { H.faults shelf.old ≤ H.faults shelf.new }
     ensures failed { IsErrOf result HssFault.Disk → Rose (H.faults shelf.old) (H.faults shelf.new) }
@@ -89,7 +96,8 @@ pub fn open_hss<G: LeafGenerator, H: Shelf>(
     requires { IsTrue (H.state shelf.old).tells → AreHome (H.state shelf.old) dir.now }
     ensures opens { IfOk result (λ hss. OpensHss (H.state shelf.old) dir.now hss (H.state shelf.new)) }
     ensures lets_go { IfErr result (λ _. OnlyReads (H.state shelf.old) (H.state shelf.new)) }
-    ensures refused { IfErr result (λ why. IsTrue (H.state shelf.old).tells → IsOpeningCause (H.state shelf.old) dir.now why) }
+    ensures refused { IfErr result (λ why. IsTrue (H.state shelf.old).tells
+        → IsOpeningCause (H.state shelf.old) dir.now why) }
     ensures begins { IfOk result (λ hss. BeginsHss (H.state shelf.old) dir.now hss (H.state shelf.new)) }
     ensures later { H.faults shelf.old ≤ H.faults shelf.new }
     ensures failed { IsErrOf result HssFault.Disk → Rose (H.faults shelf.old) (H.faults shelf.new) }
@@ -138,19 +146,23 @@ impl<D: Disk> Hss<D> {
     ) -> Result<Vec<u8>, HssFault>
         requires held { IsTrue (H.state shelf.old).tells → Holds (H.state shelf.old) self.old }
         requires sound { IsSound self.old }
-        ensures signs { IfOk result (λ seal. Signs (R.stream random.old) (H.state shelf.old) self.old msg.now seal.items self.new (H.state shelf.new) (R.stream random.new)) }
-        ensures refused { IfErr result (λ why. RefusesToSign (R.stream random.old) (H.state shelf.old) self.old msg.now why self.new (H.state shelf.new) (R.stream random.new)) }
-        ensures sealed { IfOk result (λ seal. SealedBy (public_bytes (public_key self.old.top.secret)) msg.now seal.items) }
+        ensures signs { IfOk result (λ seal. Signs (R.stream random.old) (H.state shelf.old) self.old msg.now seal.items
+            self.new (H.state shelf.new) (R.stream random.new)) }
+        ensures refused { IfErr result (λ why. RefusesToSign (R.stream random.old) (H.state shelf.old) self.old msg.now
+            why self.new (H.state shelf.new) (R.stream random.new)) }
+        ensures sealed { IfOk result (λ seal. SealedBy (public_bytes (public_key self.old.top.secret)) msg.now
+            seal.items) }
         ensures keeps { KeepsHss (H.state shelf.old) self.old (H.state shelf.new) self.new }
         ensures reads { IfSome self.old.lower (λ lower. IsSpent lower.key → IsReadable lower.key) }
         ensures later { H.faults shelf.old ≤ H.faults shelf.new }
-        ensures failed { IsErrOf result HssFault.Disk → Rose (H.faults shelf.old) (H.faults shelf.new) ⊎ HeldRose self.old self.new }
+        ensures failed { IsErrOf result HssFault.Disk → Rose (H.faults shelf.old) (H.faults shelf.new)
+            ⊎ HeldRose self.old self.new }
     {
         let dir = self.dir.as_str();
         let maker = KeyMaker { generator, alloc };
         let mut lower = ready_lower(&maker, shelf, dir, &mut self.top, self.lower.take(), random)?;
-        let sealed = seal_by(alloc, &self.top.public(), &mut lower, random, msg);
-        put_in(&mut self.lower, lower);
+        let sealed = seal_below(alloc, &self.top.public(), &mut lower, random, msg);
+        fill(&mut self.lower, lower);
         sealed
     }
 
@@ -163,7 +175,8 @@ impl<D: Disk> Hss<D> {
         ensures reads { IsReadable self.top × IfSome self.lower (λ lower. IsReadable lower.key) }
         ensures later { H.faults shelf.old ≤ H.faults shelf.new }
         ensures top_faulted { 0 < self.top.parts.used_faults → Rose (H.faults shelf.old) (H.faults shelf.new) }
-        ensures lower_faulted { IfSome self.lower (λ lower. 0 < lower.key.parts.used_faults → Rose (H.faults shelf.old) (H.faults shelf.new)) }
+        ensures lower_faulted { IfSome self.lower (λ lower. 0 < lower.key.parts.used_faults
+            → Rose (H.faults shelf.old) (H.faults shelf.new)) }
     {
         let Hss { dir, top, lower } = self;
         put_lower(shelf, lower);

@@ -33,7 +33,12 @@ impl<D: Disk> Model for Lower<D> {
 
     ghost Value = { LowerState };
 
-    ghost view = { λ lower. record { dir = string_bytes lower.dir; index = lower.index; key = lower.key; top_sig = lower.top_sig.items } };
+    ghost view = { λ lower. record {
+      dir = string_bytes lower.dir;
+      index = lower.index;
+      key = lower.key;
+      top_sig = lower.top_sig.items;
+    } };
 }
 
 /// The name of the directory of the lower key that this top index signs.

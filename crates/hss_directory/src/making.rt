@@ -7,7 +7,8 @@ ghost use Rattle.bec_disk.specs.Shelf.{out};
 ghost use Rattle.key_directory.specs.Parts.{part_in};
 ghost use Rattle.hss_chain.specs.Keys.{key_bytes};
 ghost use Rattle.hss_directory.specs.Faults.{making_fault};
-ghost use Rattle.hss_directory.specs.Lower.{LetsLowerGo, MakesLower, OpensNoLower, RefusesLower, TakesLower, Vouches, VouchesNot};
+ghost use Rattle.hss_directory.specs.Lower.{LetsLowerGo, MakesLower, OpensNoLower, RefusesLower, TakesLower, Vouches};
+ghost use Rattle.hss_directory.specs.Lower.{VouchesNot};
 ghost use Rattle.hss_directory.specs.Places.{AreLowersIn};
 ghost use Rattle.hss_directory.specs.Values.{HasLeft};
 
@@ -25,8 +26,8 @@ use rand_core::Rng;
 use std::alloc::{AllocError, Global};
 use update_model::AuthorKey;
 
-/// Makes the lower key of the least top index that is not used: its key, which is taken where it is there, then the top key's signature of it, and
-/// then the part Peers. Where it is refused, no part of a lower key is handed out.
+/// Makes the lower key of the least top index that is not used: its key, which is taken where it is there, then the top
+/// key's signature of it, and then the part Peers. Where it is refused, no part of a lower key is handed out.
 pub(crate) fn next_lower<G: LeafGenerator, H: Shelf, R: Rng>(
     maker: &KeyMaker<G>,
     shelf: &mut H,
@@ -35,11 +36,14 @@ pub(crate) fn next_lower<G: LeafGenerator, H: Shelf, R: Rng>(
     random: &mut R,
 ) -> Result<Lower<H::D>, HssFault>
     requires { IsTrue (H.state shelf.old).tells → AreLowersIn (H.state shelf.old) dir.now }
-    ensures makes { IfOk result (λ lower. MakesLower (R.stream random.old) (H.state shelf.old) dir.now top.old lower top.new (H.state shelf.new) (R.stream random.new)) }
-    ensures refused { IfErr result (λ why. RefusesLower (R.stream random.old) (H.state shelf.old) dir.now top.old why top.new (H.state shelf.new) (R.stream random.new)) }
+    ensures makes { IfOk result (λ lower. MakesLower (R.stream random.old) (H.state shelf.old) dir.now top.old lower
+        top.new (H.state shelf.new) (R.stream random.new)) }
+    ensures refused { IfErr result (λ why. RefusesLower (R.stream random.old) (H.state shelf.old) dir.now top.old why
+        top.new (H.state shelf.new) (R.stream random.new)) }
     ensures small { IfOk result (λ lower. lower.index < 2 ^ 32) }
     ensures later { H.faults shelf.old ≤ H.faults shelf.new }
-    ensures failed { IsErrOf result HssFault.Disk → Rose (H.faults shelf.old) (H.faults shelf.new) ⊎ Rose top.old.parts.used_faults top.new.parts.used_faults }
+    ensures failed { IsErrOf result HssFault.Disk → Rose (H.faults shelf.old) (H.faults shelf.new)
+        ⊎ Rose top.old.parts.used_faults top.new.parts.used_faults }
 {
     let Some(index) = top.next() else {
         return Err(HssFault::Spent);
@@ -71,9 +75,11 @@ fn open_lower<G: LeafGenerator, H: Shelf, R: Rng>(
 ) -> Result<KeyStore<H::D>, HssFault>
     requires key_in { IsTrue (H.state shelf.old).tells → part_in (H.state shelf.old) dir.now Key ≢ out }
     requires used_in { IsTrue (H.state shelf.old).tells → part_in (H.state shelf.old) dir.now Used ≢ out }
-    ensures takes { IfOk result (λ key. TakesLower types.lms types.ots (R.stream random.old) (H.state shelf.old) dir.now key (H.state shelf.new) (R.stream random.new)) }
+    ensures takes { IfOk result (λ key. TakesLower types.lms types.ots (R.stream random.old) (H.state shelf.old) dir.now
+        key (H.state shelf.new) (R.stream random.new)) }
     ensures has_left { IfOk result (λ key. HasLeft key) }
-    ensures lets_go { IfErr result (λ why. OpensNoLower types.lms types.ots (R.stream random.old) (H.state shelf.old) dir.now why (H.state shelf.new) (R.stream random.new)) }
+    ensures lets_go { IfErr result (λ why. OpensNoLower types.lms types.ots (R.stream random.old) (H.state shelf.old)
+        dir.now why (H.state shelf.new) (R.stream random.new)) }
     ensures later { H.faults shelf.old ≤ H.faults shelf.new }
     ensures failed { IsErrOf result HssFault.Disk → Rose (H.faults shelf.old) (H.faults shelf.new) }
 {
@@ -95,8 +101,10 @@ fn take_or_make<G: LeafGenerator, H: Shelf, R: Rng>(
 ) -> Result<KeyStore<H::D>, HssFault>
     requires key_in { IsTrue (H.state shelf.old).tells → part_in (H.state shelf.old) dir.now Key ≢ out }
     requires used_in { IsTrue (H.state shelf.old).tells → part_in (H.state shelf.old) dir.now Used ≢ out }
-    ensures takes { IfOk result (λ key. TakesLower types.lms types.ots (R.stream random.old) (H.state shelf.old) dir.now key (H.state shelf.new) (R.stream random.new)) }
-    ensures lets_go { IfErr result (λ why. LetsLowerGo types.lms types.ots (R.stream random.old) (H.state shelf.old) dir.now why (H.state shelf.new) (R.stream random.new)) }
+    ensures takes { IfOk result (λ key. TakesLower types.lms types.ots (R.stream random.old) (H.state shelf.old) dir.now
+        key (H.state shelf.new) (R.stream random.new)) }
+    ensures lets_go { IfErr result (λ why. LetsLowerGo types.lms types.ots (R.stream random.old) (H.state shelf.old)
+        dir.now why (H.state shelf.new) (R.stream random.new)) }
     ensures later { H.faults shelf.old ≤ H.faults shelf.new }
     ensures failed { IsErrOf result HssFault.Disk → Rose (H.faults shelf.old) (H.faults shelf.new) }
 {
@@ -139,10 +147,13 @@ fn vouch<H: Shelf, R: Rng>(
 ) -> Result<Vec<u8>, HssFault>
     requires has_left { HasLeft top.old }
     requires peers_in { IsTrue (H.state shelf.old).tells → part_in (H.state shelf.old) dir.now Peers ≢ out }
-    ensures vouches { IfOk result (λ sig. Vouches (R.stream random.old) (H.state shelf.old) dir.now top.old low.now sig.items top.new (H.state shelf.new) (R.stream random.new)) }
-    ensures refused { IfErr result (λ why. VouchesNot (R.stream random.old) (H.state shelf.old) dir.now top.old low.now why top.new (H.state shelf.new) (R.stream random.new)) }
+    ensures vouches { IfOk result (λ sig. Vouches (R.stream random.old) (H.state shelf.old) dir.now top.old low.now
+        sig.items top.new (H.state shelf.new) (R.stream random.new)) }
+    ensures refused { IfErr result (λ why. VouchesNot (R.stream random.old) (H.state shelf.old) dir.now top.old low.now
+        why top.new (H.state shelf.new) (R.stream random.new)) }
     ensures later { H.faults shelf.old ≤ H.faults shelf.new }
-    ensures failed { IsErrOf result HssFault.Disk → Rose (H.faults shelf.old) (H.faults shelf.new) ⊎ Rose top.old.parts.used_faults top.new.parts.used_faults }
+    ensures failed { IsErrOf result HssFault.Disk → Rose (H.faults shelf.old) (H.faults shelf.new)
+        ⊎ Rose top.old.parts.used_faults top.new.parts.used_faults }
 {
     signed_has_length();
     key_has_length(*low);

@@ -1,6 +1,7 @@
 //! The current lower key, found at an opening.
 
-ghost use Rattle.std.specs.Prelude.{◌≡◌, ◌≢◌, ◌≤◌, ◌<◌, ◌^◌, ◌⊎◌, ℕ, List, IsTrue, IfOk, IfErr, IsErrOf, MatchOption, length, string_bytes};
+ghost use Rattle.std.specs.Prelude.{◌≡◌, ◌≢◌, ◌≤◌, ◌<◌, ◌^◌, ◌⊎◌, ℕ, List, IsTrue, IfOk, IfErr, IsErrOf, MatchOption};
+ghost use Rattle.std.specs.Prelude.{length, string_bytes};
 ghost use Rattle.bec_bytes.specs.Causes.{Rose};
 ghost use Rattle.bec_disk.specs.declared.part.Part.TheVariants.{Key, Used};
 ghost use Rattle.bec_disk.specs.Shelf.{out};
@@ -24,8 +25,8 @@ use lms_tree::{LeafGenerator, signed_has_length, verify};
 use std::alloc::Global;
 use update_model::AuthorKey;
 
-/// The current lower key of this top key, by the part Peers of its directory. Where it is refused, every part is in its place, and nothing was
-/// written.
+/// The current lower key of this top key, by the part Peers of its directory. Where it is refused, every part is in its
+/// place, and nothing was written.
 pub(crate) fn current_lower<G: LeafGenerator, H: Shelf>(
     maker: &KeyMaker<G>,
     shelf: &mut H,
@@ -35,7 +36,8 @@ pub(crate) fn current_lower<G: LeafGenerator, H: Shelf>(
     requires { IsTrue (H.state shelf.old).tells → AreLowersIn (H.state shelf.old) dir.now }
     ensures finds { IfOk result (λ lower. FindsLower dir.now top.now (H.state shelf.old) lower (H.state shelf.new)) }
     ensures only { IfErr result (λ _. OnlyReads (H.state shelf.old) (H.state shelf.new)) }
-    ensures refused { IfErr result (λ why. IsTrue (H.state shelf.old).tells → IsUnfoundCause (H.state shelf.old) dir.now top.now why) }
+    ensures refused { IfErr result (λ why. IsTrue (H.state shelf.old).tells
+        → IsUnfoundCause (H.state shelf.old) dir.now top.now why) }
     ensures later { H.faults shelf.old ≤ H.faults shelf.new }
     ensures failed { IsErrOf result HssFault.Disk → Rose (H.faults shelf.old) (H.faults shelf.new) }
 {
@@ -69,10 +71,12 @@ fn vouched_lower<G: LeafGenerator, H: Shelf>(
     ensures takes { IfOk result (λ lower. TakesKey (H.state shelf.old) (string_bytes dir) lower.key (H.state shelf.new)) }
     ensures place { IfOk result (λ lower. lower.dir ≡ string_bytes dir) }
     ensures index { IfOk result (λ lower. lower.index ≡ index) }
-    ensures vouches { IfOk result (λ lower. VouchesFor top.now (public_key lower.key.secret) index payload.now lower.top_sig) }
+    ensures vouches { IfOk result (λ lower. VouchesFor top.now (public_key lower.key.secret) index payload.now
+        lower.top_sig) }
     ensures only { IfErr result (λ _. OnlyReads (H.state shelf.old) (H.state shelf.new)) }
     ensures refused { IfErr result (λ why. IsTrue (H.state shelf.old).tells
-        → IsUnvouchedCause top.now index payload.now (reading (part_in (H.state shelf.old) (string_bytes dir) Key)) (reading (part_in (H.state shelf.old) (string_bytes dir) Used)) why) }
+        → IsUnvouchedCause top.now index payload.now (reading (part_in (H.state shelf.old) (string_bytes dir) Key))
+        (reading (part_in (H.state shelf.old) (string_bytes dir) Used)) why) }
     ensures later { H.faults shelf.old ≤ H.faults shelf.new }
     ensures failed { IsErrOf result HssFault.Disk → Rose (H.faults shelf.old) (H.faults shelf.new) }
 {
@@ -114,7 +118,8 @@ fn vouching_in(
     payload: &[u8],
 ) -> Result<Vec<u8>, HssFault>
     ensures vouches { IfOk result (λ sig. VouchesFor top.now low.now index payload.now sig.items) }
-    ensures refused { IfErr result (λ why. (why ≡ HssFault.Memory) ⊎ ((why ≡ HssFault.BadKey) × ((sig : List ℕ) → VouchesFor top.now low.now index payload.now sig → ⊥))) }
+    ensures refused { IfErr result (λ why. (why ≡ HssFault.Memory)
+        ⊎ ((why ≡ HssFault.BadKey) × ((sig : List ℕ) → VouchesFor top.now low.now index payload.now sig → ⊥))) }
 {
     match top_sig_in(top, low, index, payload) {
         Some(sig) => Ok(Vec::from_slice(alloc, sig)?),
@@ -129,7 +134,8 @@ fn top_sig_in<'a>(
     index: u32,
     payload: &'a [u8],
 ) -> Option<&'a [u8]>
-    ensures { MatchOption result ((sig : List ℕ) → VouchesFor top.now low.now index payload.now sig → ⊥) (λ sig. VouchesFor top.now low.now index payload.now sig.now) }
+    ensures { MatchOption result ((sig : List ℕ) → VouchesFor top.now low.now index payload.now sig
+        → ⊥) (λ sig. VouchesFor top.now low.now index payload.now sig.now) }
 {
     signed_has_length();
     key_has_length(*low);

@@ -18,7 +18,8 @@ pub(crate) fn read_peers<H: Shelf>(
     dir: &str,
 ) -> Result<Gated, DiskError>
     requires { IsTrue (H.state shelf.old).tells → part_in (H.state shelf.old) dir.now Peers ≢ out }
-    ensures value { IsTrue (H.state shelf.old).tells → IfOk result (λ gated. gated ≡ peers_in (H.state shelf.old) dir.now) }
+    ensures value { IsTrue (H.state shelf.old).tells
+        → IfOk result (λ gated. gated ≡ peers_in (H.state shelf.old) dir.now) }
     ensures reads { ReadsPeers (H.state shelf.old) dir.now (H.state shelf.new) }
     ensures later { H.faults shelf.old ≤ H.faults shelf.new }
     ensures failed { IsErrOf result DiskError.DiskFault → Rose (H.faults shelf.old) (H.faults shelf.new) }

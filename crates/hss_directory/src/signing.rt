@@ -12,8 +12,8 @@ use rand_core::Rng;
 use std::alloc::Global;
 use update_model::signature_len;
 
-/// The signature of a message by the least index of a key that is not used, made with the next 32 bytes of `random`. The memory that it wants is
-/// taken first.
+/// The signature of a message by the least index of a key that is not used, made with the next 32 bytes of `random`.
+/// The memory that it wants is taken first.
 pub(crate) fn signature_of<D: Disk, R: Rng>(
     alloc: Global,
     key: &mut KeyStore<D>,

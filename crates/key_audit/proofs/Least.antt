@@ -221,8 +221,8 @@ found_after (update ∷ updates) set found is =
     })
     (found_after updates (More set update) (Some (noted found update)) (next_found set found update is))
 
-pub found_in : (updates : List (List ℕ)) → IsFound (Contains updates) (pair_after None updates)
-found_in updates =
+pub find_pairs : (updates : List (List ℕ)) → IsFound (Contains updates) (pair_after None updates)
+find_pairs updates =
     found_alike (Either (λ _. ⊥) updates) (Contains updates) (pair_after None updates)
     (record { to = λ x has. elim has [ inl none ↦ absurd none | inr listed ↦ listed ]; from = λ x has. inr has })
     (found_after updates (λ _. ⊥) None (λ x none. none))

@@ -27,7 +27,7 @@ use Rattle.key_audit.specs.declared.doubled.Doubled.{Doubled}
 use Rattle.key_audit.specs.declared.one_time.OneTime.{OneTime}
 use Rattle.key_audit.specs.declared.walk.Pair.{Pair}
 use Rattle.key_audit.proofs.Keys.{by_bytes, one_time_total}
-use Rattle.key_audit.proofs.Least.{found_alike, found_in}
+use Rattle.key_audit.proofs.Least.{found_alike, find_pairs}
 use Rattle.key_audit.proofs.Noting.{equal_keys}
 use Rattle.key_audit.proofs.Rising.{here, nobody, one_of, there}
 
@@ -157,7 +157,7 @@ module _ (rule : RuleData) (members : List (List ℕ)) (found : BTreeMap OneTime
   found_under : (key : OneTime) → IsFound (Under key) (option_map pair_data (get one_time_cmp found key))
   unfolding Under
   found_under key =
-      let listed : IsFound (Contains (filter (is_by key) members)) (pair_after None (filter (is_by key) members)) = found_in (filter (is_by key) members) in
+      let listed : IsFound (Contains (filter (is_by key) members)) (pair_after None (filter (is_by key) members)) = find_pairs (filter (is_by key) members) in
       let own : IsFound (Under key) (pair_after None (filter (is_by key) members)) =
       found_alike (Contains (filter (is_by key) members)) (Under key) (pair_after None (filter (is_by key) members)) (record {
         to = λ update has. (let old = from_filter (is_by key) members update has in record { member = old.0; under = by_is key update old.1 });

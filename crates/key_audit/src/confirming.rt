@@ -29,7 +29,7 @@ pub fn confirms_doubled(
     let Some(two) = signed_of(alloc, second)? else {
         return Ok(None);
     };
-    Ok(doubled_by(&one, &two))
+    Ok(doubled_key(&one, &two))
 }
 
 /// The update that the bytes spell, where its author signed it.
@@ -62,7 +62,7 @@ fn own_rule(alloc: Global, update: &Spelled) -> DbRule
 }
 
 /// The key and the index of two updates whose messages differ, where they have one.
-fn doubled_by(one: &Checked, two: &Checked) -> Option<(AuthorKey, u32)>
+fn doubled_key(one: &Checked, two: &Checked) -> Option<(AuthorKey, u32)>
     ensures { MatchOption result
         ((key : Key) (index : ℕ) → ArePair one.now two.now key index → ⊥)
         (λ pair. ArePair one.now two.now pair.0 pair.1) }

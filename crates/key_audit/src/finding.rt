@@ -6,7 +6,7 @@ ghost use Rattle.key_audit.specs.Walk.{double_at, doubles_in};
 
 use crate::Doubled;
 use crate::one_time::OneTime;
-use crate::walk::{Pair, found_in};
+use crate::walk::{Pair, find_pairs};
 use std::alloc::{AllocError, Global};
 use std::collections::BTreeMap;
 use update_check::Holder;
@@ -24,7 +24,7 @@ pub fn find<H: Holder>(alloc: Global, holder: &H) -> Result<Vec<Doubled>, AllocE
 {
     fields_of_spelling();
     holder.len(); // each update was signed by its author
-    let found = found_in(alloc, holder)?;
+    let found = find_pairs(alloc, holder)?;
     found.len(); // its keys rise
     let doubles = doubles_of(alloc, &found)?;
     Ok(doubles)

@@ -25,9 +25,13 @@ pub struct Pair<'a> {
 }
 
 /// What is found of a holder's updates under each one-time key.
-pub fn found_in<H: Holder>(alloc: Global, holder: &H) -> Result<BTreeMap<OneTime, Pair>, AllocError>
+pub fn find_pairs<H: Holder>(
+    alloc: Global,
+    holder: &H,
+) -> Result<BTreeMap<OneTime, Pair>, AllocError>
     ensures { IfOk result (λ found. (key : Name)
-        → option_map pair_data (get one_time_cmp found key) ≡ pair_after None (filter (is_by key) (H.members holder.now))) }
+        → option_map pair_data (get one_time_cmp found key) ≡ pair_after None
+        (filter (is_by key) (H.members holder.now))) }
 {
     let mut found = BTreeMap::new(alloc);
     for position in 0..holder.len() {

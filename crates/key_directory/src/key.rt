@@ -27,7 +27,8 @@ pub fn take_key<G: LeafGenerator, H: Shelf>(
     requires used_in { IsTrue (H.state shelf.old).tells → part_in (H.state shelf.old) dir.now Used ≢ out }
     ensures takes { IfOk result (λ key. TakesKey (H.state shelf.old) dir.now key (H.state shelf.new)) }
     ensures lets_go { IfErr result (λ _. LetsKeyGo (H.state shelf.old) dir.now (H.state shelf.new)) }
-    ensures refused { IfErr result (λ why. IsTrue (H.state shelf.old).tells → IsKeyCause (H.state shelf.old) dir.now why) }
+    ensures refused { IfErr result (λ why. IsTrue (H.state shelf.old).tells
+        → IsKeyCause (H.state shelf.old) dir.now why) }
     ensures later { H.faults shelf.old ≤ H.faults shelf.new }
     ensures failed { IsErrOf result KeyRefusal.DiskFault → Rose (H.faults shelf.old) (H.faults shelf.new) }
 {
@@ -60,7 +61,8 @@ fn take_used<H: Shelf>(
     key: &mut H::D,
 ) -> Result<H::D, KeyRefusal>
     requires used_in { IsTrue (H.state shelf.old).tells → part_in (H.state shelf.old) dir.now Used ≢ out }
-    ensures finds { IfOk result (λ used. HandsOut (H.state shelf.old) (slot dir.now Used) (H.D.state used) (H.state shelf.new)) }
+    ensures finds { IfOk result (λ used. HandsOut (H.state shelf.old) (slot dir.now Used) (H.D.state used)
+        (H.state shelf.new)) }
     ensures clean { IfOk result (λ used. H.D.faults used ≡ 0) }
     ensures unchanged { OnErr result (H.state shelf.new ≡ H.state shelf.old) }
     ensures refused { IfErr result (λ why. IsTrue (H.state shelf.old).tells → IsTrue (H.D.state key.old).tells
@@ -68,7 +70,8 @@ fn take_used<H: Shelf>(
     ensures same { H.D.state key.new ≡ H.D.state key.old }
     ensures later { H.faults shelf.old ≤ H.faults shelf.new }
     ensures key_later { H.D.faults key.old ≤ H.D.faults key.new }
-    ensures failed { IsErrOf result KeyRefusal.DiskFault → Rose (H.faults shelf.old) (H.faults shelf.new) ⊎ Rose (H.D.faults key.old) (H.D.faults key.new) }
+    ensures failed { IsErrOf result KeyRefusal.DiskFault → Rose (H.faults shelf.old) (H.faults shelf.new)
+        ⊎ Rose (H.D.faults key.old) (H.D.faults key.new) }
 {
     if let Gated::Absent = read_gated(alloc, key)? {
         return Err(KeyRefusal::NoKey);
@@ -81,8 +84,10 @@ fn take_used<H: Shelf>(
 
 /// Puts the two parts of a key back. A disk that counted a fault makes the shelf's count rise.
 pub fn put_key<H: Shelf>(shelf: &mut H, dir: &str, key: KeyStore<H::D>)
-    requires key_of { IsTrue (H.state shelf.old).tells → (key.parts.key.slot ≡ Some (slot dir.now Key)) × (part_in (H.state shelf.old) dir.now Key ≡ out) }
-    requires used_of { IsTrue (H.state shelf.old).tells → (key.parts.used.slot ≡ Some (slot dir.now Used)) × (part_in (H.state shelf.old) dir.now Used ≡ out) }
+    requires key_of { IsTrue (H.state shelf.old).tells → (key.parts.key.slot ≡ Some (slot dir.now Key))
+        × (part_in (H.state shelf.old) dir.now Key ≡ out) }
+    requires used_of { IsTrue (H.state shelf.old).tells → (key.parts.used.slot ≡ Some (slot dir.now Used))
+        × (part_in (H.state shelf.old) dir.now Used ≡ out) }
     ensures puts { PutsKey (H.state shelf.old) dir.now key.parts (H.state shelf.new) }
     ensures reads { IsTrue key.parts.used.tells → IsImage key.parts.used.now key.parts.used.seen }
     ensures later { H.faults shelf.old ≤ H.faults shelf.new }

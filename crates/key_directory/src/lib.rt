@@ -1,8 +1,9 @@
 //! The key of a directory: its two parts, taken from a shelf, opened and put back.
 //!
-//! A directory has a part Key and a part Used where it has a key. [`take_key`] hands them out open, and [`put_key`] puts them back; where the
-//! key is refused, every part is in its place again. [`new_key`] makes a key where there is none. [`find_or_make`] is for one part of any kind.
-//! Whoever computes the leaves of a key is given, and a [`KeyMaker`] keeps it for those who hand it on.
+//! A directory has a part Key and a part Used where it has a key. [`take_key`] hands them out open, and [`put_key`]
+//! puts them back; where the key is refused, every part is in its place again. [`new_key`] makes a key where there is
+//! none. [`find_or_make`] is for one part of any kind. Whoever computes the leaves of a key is given, and a
+//! [`KeyMaker`] keeps it for those who hand it on.
 //!
 //! ```text
 //! let mut key = take_key(&OneThread, alloc, shelf, dir)?;
@@ -10,7 +11,8 @@
 //! put_key(shelf, dir, key);
 //! ```
 //!
-//! Its definitions say what a run leaves of a directory: which parts were taken, made or at most read, and that every other part is as it was.
+//! Its definitions say what a run leaves of a directory: which parts were taken, made or at most read, and that every
+//! other part is as it was.
 #![tactic(auto)]
 
 mod finding;

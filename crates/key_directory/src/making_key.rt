@@ -35,11 +35,16 @@ pub fn new_key<G: LeafGenerator, H: Shelf, R: Rng>(
 ) -> Result<KeyStore<H::D>, CreateKeyKind>
     requires key_in { IsTrue (H.state shelf.old).tells → part_in (H.state shelf.old) dir.now Key ≢ out }
     requires used_in { IsTrue (H.state shelf.old).tells → part_in (H.state shelf.old) dir.now Used ≢ out }
-    ensures makes { IfOk result (λ key. MakesKey (drawn_key types.lms types.ots (R.stream random.old)) (H.state shelf.old) dir.now key (H.state shelf.new)) }
-    ensures lets_go { IfErr result (λ _. LetsNewGo Key Used (payload_of (drawn_key types.lms types.ots (R.stream random.old))) (none_used (leaf_count types.lms)) (H.state shelf.old) dir.now (H.state shelf.new)) }
-    ensures refused { IfErr result (λ why. IsTrue (H.state shelf.old).tells → IsNewKeyCause (reading (part_in (H.state shelf.old) dir.now Key)) why) }
+    ensures makes { IfOk result (λ key. MakesKey (drawn_key types.lms types.ots (R.stream random.old))
+        (H.state shelf.old) dir.now key (H.state shelf.new)) }
+    ensures lets_go { IfErr result
+        (λ _. LetsNewGo Key Used (payload_of (drawn_key types.lms types.ots (R.stream random.old)))
+        (none_used (leaf_count types.lms)) (H.state shelf.old) dir.now (H.state shelf.new)) }
+    ensures refused { IfErr result (λ why. IsTrue (H.state shelf.old).tells
+        → IsNewKeyCause (reading (part_in (H.state shelf.old) dir.now Key)) why) }
     ensures drawn { OnOk result (R.stream random.new ≡ after_draw (R.stream random.old)) }
-    ensures may_draw { (R.stream random.new ≡ R.stream random.old) ⊎ (R.stream random.new ≡ after_draw (R.stream random.old)) }
+    ensures may_draw { (R.stream random.new ≡ R.stream random.old)
+        ⊎ (R.stream random.new ≡ after_draw (R.stream random.old)) }
     ensures later { H.faults shelf.old ≤ H.faults shelf.new }
     ensures failed { IsErrOf result CreateKeyKind.DiskFault → Rose (H.faults shelf.old) (H.faults shelf.new) }
 {
@@ -72,16 +77,20 @@ fn used_beside<H: Shelf>(
     key: &mut H::D,
 ) -> Result<H::D, CreateKeyKind>
     requires { IsTrue (H.state shelf.old).tells → part_in (H.state shelf.old) dir.now Used ≢ out }
-    ensures hands { IfOk result (λ used. HandsOutAny (H.state shelf.old) (slot dir.now Used) (H.D.state used) (H.state shelf.new)) }
+    ensures hands { IfOk result (λ used. HandsOutAny (H.state shelf.old) (slot dir.now Used) (H.D.state used)
+        (H.state shelf.new)) }
     ensures clean { IfOk result (λ used. H.D.faults used ≡ 0) }
     ensures may_make { OnErr result (MayMakeAny (H.state shelf.old) (slot dir.now Used) (H.state shelf.new)) }
     ensures absent { IsTrue (H.D.state key.old).tells → OnOk result (gated_of (H.D.state key.old).seen ≡ Absent) }
-    ensures there { IsTrue (H.D.state key.old).tells → gated_of (H.D.state key.old).seen ≢ Absent → H.state shelf.new ≡ H.state shelf.old }
-    ensures refused { IfErr result (λ why. IsTrue (H.D.state key.old).tells → why ≡ CreateKeyKind.KeyThere → gated_of (H.D.state key.old).seen ≢ Absent) }
+    ensures there { IsTrue (H.D.state key.old).tells → gated_of (H.D.state key.old).seen ≢ Absent
+        → H.state shelf.new ≡ H.state shelf.old }
+    ensures refused { IfErr result (λ why. IsTrue (H.D.state key.old).tells → why ≡ CreateKeyKind.KeyThere
+        → gated_of (H.D.state key.old).seen ≢ Absent) }
     ensures same { H.D.state key.new ≡ H.D.state key.old }
     ensures later { H.faults shelf.old ≤ H.faults shelf.new }
     ensures key_later { H.D.faults key.old ≤ H.D.faults key.new }
-    ensures failed { IsErrOf result CreateKeyKind.DiskFault → Rose (H.faults shelf.old) (H.faults shelf.new) ⊎ Rose (H.D.faults key.old) (H.D.faults key.new) }
+    ensures failed { IsErrOf result CreateKeyKind.DiskFault → Rose (H.faults shelf.old) (H.faults shelf.new)
+        ⊎ Rose (H.D.faults key.old) (H.D.faults key.new) }
 {
     match read_gated(alloc, key)? {
         Gated::Absent => {}

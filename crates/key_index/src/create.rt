@@ -1,4 +1,5 @@
-ghost use Rattle.std.specs.Prelude.{◌≡◌, ◌≢◌, ◌≤◌, ◌<◌, ◌^◌, ◌⊎◌, false, IsTrue, IfOk, IfErr, OnOk, MatchResult, length, replicate};
+ghost use Rattle.std.specs.Prelude.{◌≡◌, ◌≢◌, ◌≤◌, ◌<◌, ◌^◌, ◌⊎◌, false, IsTrue, IfOk, IfErr, OnOk, MatchResult};
+ghost use Rattle.std.specs.Prelude.{length, replicate};
 ghost use Rattle.bec_bytes.specs.Causes.{HasCause};
 ghost use Rattle.bec_disk.specs.Disk.{IsSameDisk};
 ghost use Rattle.lms_tree.specs.LmsKind.{leaf_count};
@@ -8,7 +9,7 @@ ghost use Rattle.key_index.specs.Payload.{IsPayload};
 ghost use Rattle.key_index.specs.Used.{none_used};
 
 use crate::faults::{CreateKey, CreateKeyKind};
-use crate::opened::Opened;
+use crate::opened::OpenedKey;
 use crate::seed::{draw_seed, payload_of};
 use crate::store::KeyStore;
 use bec_disk::{Disk, DiskError, DiskFault, Gated, read_gated, write_gated, write_synced};
@@ -34,11 +35,15 @@ impl<D: Disk> KeyStore<D> {
     ) -> Result<KeyStore<D>, CreateKey<D>>
         requires { AreSettled (parts_of D.state D.faults key used) }
         ensures creates { MatchResult result
-            (λ store. CreatesKey (drawn_key types.lms types.ots (R.stream random.old)) (parts_of D.state D.faults key used) store)
-            (λ refused. RefusesToCreate (drawn_key types.lms types.ots (R.stream random.old)) (parts_of D.state D.faults key used) refused.why (parts_of D.state D.faults refused.key refused.used)) }
+            (λ store. CreatesKey (drawn_key types.lms types.ots (R.stream random.old))
+            (parts_of D.state D.faults key used) store)
+            (λ refused. RefusesToCreate (drawn_key types.lms types.ots (R.stream random.old))
+            (parts_of D.state D.faults key used) refused.why (parts_of D.state D.faults refused.key refused.used)) }
         ensures drawn { OnOk result (R.stream random.new ≡ after_draw (R.stream random.old)) }
-        ensures may_draw { (R.stream random.new ≡ R.stream random.old) ⊎ (R.stream random.new ≡ after_draw (R.stream random.old)) }
-        ensures undrawn { IfErr result (λ refused. refused.why ≡ CreateKeyKind.KeyThere → R.stream random.new ≡ R.stream random.old) }
+        ensures may_draw { (R.stream random.new ≡ R.stream random.old)
+            ⊎ (R.stream random.new ≡ after_draw (R.stream random.old)) }
+        ensures undrawn { IfErr result (λ refused. refused.why ≡ CreateKeyKind.KeyThere
+            → R.stream random.new ≡ R.stream random.old) }
     {
         match create_parts(generator, alloc, &mut key, &mut used, types, random) {
             Ok(opened) => Ok(KeyStore::over(key, used, opened)),
@@ -55,13 +60,17 @@ fn create_parts<G: LeafGenerator, D: Disk, R: Rng>(
     used: &mut D,
     types: KeyTypes,
     random: &mut R,
-) -> Result<Opened, CreateKeyKind>
+) -> Result<OpenedKey, CreateKeyKind>
     requires { AreSettled (parts_of D.state D.faults key.old used.old) }
     ensures creates { MatchResult result
-        (λ opened. CreatesKey (drawn_key types.lms types.ots (R.stream random.old)) (parts_of D.state D.faults key.old used.old) (store_of D.state D.faults key.new used.new opened.secret opened.indices))
-        (λ why. RefusesToCreate (drawn_key types.lms types.ots (R.stream random.old)) (parts_of D.state D.faults key.old used.old) why (parts_of D.state D.faults key.new used.new)) }
+        (λ opened. CreatesKey (drawn_key types.lms types.ots (R.stream random.old))
+        (parts_of D.state D.faults key.old used.old) (store_of D.state D.faults key.new used.new opened.secret
+        opened.indices))
+        (λ why. RefusesToCreate (drawn_key types.lms types.ots (R.stream random.old))
+        (parts_of D.state D.faults key.old used.old) why (parts_of D.state D.faults key.new used.new)) }
     ensures drawn { OnOk result (R.stream random.new ≡ after_draw (R.stream random.old)) }
-    ensures may_draw { (R.stream random.new ≡ R.stream random.old) ⊎ (R.stream random.new ≡ after_draw (R.stream random.old)) }
+    ensures may_draw { (R.stream random.new ≡ R.stream random.old)
+        ⊎ (R.stream random.new ≡ after_draw (R.stream random.old)) }
     ensures undrawn { IfErr result (λ why. why ≡ CreateKeyKind.KeyThere → R.stream random.new ≡ R.stream random.old) }
 {
     let Gated::Absent = read_gated(alloc, key)? else {
@@ -76,7 +85,7 @@ fn create_parts<G: LeafGenerator, D: Disk, R: Rng>(
 /// A key of which no index is used, and what is written of it.
 #[derive(Drop)]
 struct Fresh {
-    opened: Opened,
+    opened: OpenedKey,
     payload: Vec<u8>,
     unused: Vec<u8>,
 }
@@ -98,7 +107,7 @@ impl Fresh {
         let payload = payload_of(alloc, seed)?;
         let unused = vec![in alloc; 0u8; count]?;
         let none = vec![in alloc; false; count]?;
-        let opened = Opened::make(generator, alloc, seed, none)?;
+        let opened = OpenedKey::make(generator, alloc, seed, none)?;
         Ok(Fresh {
             opened,
             payload,
@@ -117,7 +126,8 @@ fn write_parts<D: Disk>(
     requires settled { AreSettled (parts_of D.state D.faults key.old used.old) }
     requires few { length payload.now < 2 ^ 32 }
     requires zeros { unused.now ≡ none_used (length unused.now) }
-    ensures { WritesParts payload.now (length unused.now) (parts_of D.state D.faults key.old used.old) result (parts_of D.state D.faults key.new used.new) }
+    ensures { WritesParts payload.now (length unused.now) (parts_of D.state D.faults key.old used.old) result
+        (parts_of D.state D.faults key.new used.new) }
 {
     replace(used, unused)?;
     write_gated(key, payload)

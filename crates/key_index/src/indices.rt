@@ -1,4 +1,5 @@
-ghost use Rattle.std.specs.Prelude.{◌≡◌, ◌≤◌, ◌^◌, ℕ, ◌<◌, Some, None, true, false, not, ◌+◌, count_by, length, slice_index_or, slice_set, vec_len, MatchOption};
+ghost use Rattle.std.specs.Prelude.{◌≡◌, ◌≤◌, ◌^◌, ℕ, ◌<◌, Some, None, true, false, not, ◌+◌, count_by, length};
+ghost use Rattle.std.specs.Prelude.{slice_index_or, slice_set, vec_len, MatchOption};
 ghost use Rattle.std.specs.List.{position_or_len};
 ghost use Rattle.key_index.specs.Used.{IsGreatest, least_unused};
 

@@ -10,9 +10,13 @@ ghost use Rattle.key_index.specs.Lives.{AreApart, Closed, Has, Histories, IsTher
 /// restarts, each index signs at most one message, and each crash after a signature leaves its index
 /// used.
 pub fn no_index_twice_ever()
-    ensures once { (parts : KeyParts) (signed : List Message) (last : Life) → AreTold parts → Histories (Closed parts) signed last → AreApart signed }
-    ensures used { (parts : KeyParts) (signed : List Message) (last : Life) (index : ℕ) → AreTold parts → Histories (Closed parts) signed last → Has signed index
+    ensures once { (parts : KeyParts) (signed : List Message) (last : Life) → AreTold parts
+        → Histories (Closed parts) signed last → AreApart signed }
+    ensures used { (parts : KeyParts) (signed : List Message) (last : Life) (index : ℕ) → AreTold parts
+        → Histories (Closed parts) signed last → Has signed index
         → EveryImage (parts_in last).used.now (IsUsed index) }
-    ensures stays { (life last : Life) (signed : List Message) (index : ℕ) → AreTold (parts_in life) → EveryImage (parts_in life).key.now IsThere
-        → EveryImage (parts_in life).used.now (IsUsed index) → Histories life signed last → (Has signed index → ⊥) × EveryImage (parts_in last).used.now (IsUsed index) }
+    ensures stays { (life last : Life) (signed : List Message) (index : ℕ) → AreTold (parts_in life)
+        → EveryImage (parts_in life).key.now IsThere
+        → EveryImage (parts_in life).used.now (IsUsed index) → Histories life signed last → (Has signed index → ⊥)
+        × EveryImage (parts_in last).used.now (IsUsed index) }
 {}

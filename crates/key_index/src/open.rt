@@ -1,4 +1,5 @@
-ghost use Rattle.std.specs.Prelude.{◌≡◌, ◌≢◌, ◌≤◌, IsTrue, IfOk, IsErrOf, MatchOption, MatchResult, IfSome, length, vec_len};
+ghost use Rattle.std.specs.Prelude.{◌≡◌, ◌≢◌, ◌≤◌, IsTrue, IfOk, IsErrOf, MatchOption, MatchResult, IfSome, length};
+ghost use Rattle.std.specs.Prelude.{vec_len};
 ghost use Rattle.bec_bytes.specs.Causes.{Rose};
 ghost use Rattle.bec_disk.specs.Gated.{gated_of};
 ghost use Rattle.bec_disk.specs.declared.gated.Gated.TheVariants.{Absent};
@@ -8,7 +9,7 @@ ghost use Rattle.key_index.specs.Opening.{Holds, HoldsNone, OpensKey, RefusesToO
 ghost use Rattle.key_index.specs.Used.{used_in};
 
 use crate::faults::{KeyFault, KeyFaultKind};
-use crate::opened::Opened;
+use crate::opened::OpenedKey;
 use crate::seed::seed_of;
 use crate::store::KeyStore;
 use bec_disk::{Disk, DiskError, Gated, read_gated};
@@ -31,7 +32,8 @@ impl<D: Disk> KeyStore<D> {
         requires { AreSettled (parts_of D.state D.faults key used) }
         ensures { MatchResult result
             (λ store. OpensKey (parts_of D.state D.faults key used) store)
-            (λ fault. RefusesToOpen (parts_of D.state D.faults key used) fault.why (parts_of D.state D.faults fault.key fault.used)) }
+            (λ fault. RefusesToOpen (parts_of D.state D.faults key used) fault.why (parts_of D.state D.faults fault.key
+            fault.used)) }
     {
         match read_parts(generator, alloc, &mut key, &mut used) {
             Ok(opened) => Ok(KeyStore::over(key, used, opened)),
@@ -46,24 +48,28 @@ fn read_parts<G: LeafGenerator, D: Disk>(
     alloc: Global,
     key: &mut D,
     used: &mut D,
-) -> Result<Opened, KeyFaultKind>
+) -> Result<OpenedKey, KeyFaultKind>
     ensures opens { MatchResult result
-        (λ opened. OpensKey (parts_of D.state D.faults key.old used.old) (store_of D.state D.faults key.new used.new opened.secret opened.indices))
-        (λ why. RefusesToOpen (parts_of D.state D.faults key.old used.old) why (parts_of D.state D.faults key.new used.new)) }
+        (λ opened. OpensKey (parts_of D.state D.faults key.old used.old) (store_of D.state D.faults key.new used.new
+        opened.secret opened.indices))
+        (λ why. RefusesToOpen (parts_of D.state D.faults key.old used.old) why
+        (parts_of D.state D.faults key.new used.new)) }
     ensures size { IfOk result (λ opened. length opened.indices ≡ leaf_count opened.secret.lms) }
 {
     let seed = read_seed(alloc, key)?;
     let Some(taken) = read_taken(alloc, used, seed.lms.leaf_count())? else {
         return Err(KeyFaultKind::BadKeyFile);
     };
-    Ok(Opened::make(generator, alloc, &seed, taken)?)
+    Ok(OpenedKey::make(generator, alloc, &seed, taken)?)
 }
 
 /// What the part Key keeps.
 fn read_seed<D: Disk>(alloc: Global, key: &mut D) -> Result<KeySeed, KeyFaultKind>
     ensures held { IsTrue (D.state key.old).tells → IfOk result (λ seed. Holds (D.state key.old).seen seed) }
-    ensures no_key { IsTrue (D.state key.old).tells → IsErrOf result KeyFaultKind.NoKey → gated_of (D.state key.old).seen ≡ Absent }
-    ensures bad_file { IsTrue (D.state key.old).tells → IsErrOf result KeyFaultKind.BadKeyFile → HoldsNone (D.state key.old).seen }
+    ensures no_key { IsTrue (D.state key.old).tells → IsErrOf result KeyFaultKind.NoKey
+        → gated_of (D.state key.old).seen ≡ Absent }
+    ensures bad_file { IsTrue (D.state key.old).tells → IsErrOf result KeyFaultKind.BadKeyFile
+        → HoldsNone (D.state key.old).seen }
     ensures same { D.state key.new ≡ D.state key.old }
     ensures later { D.faults key.old ≤ D.faults key.new }
     ensures failed { IsErrOf result KeyFaultKind.DiskFault → Rose (D.faults key.old) (D.faults key.new) }
@@ -86,7 +92,8 @@ fn read_taken<D: Disk>(
 ) -> Result<Option<Vec<bool>>, DiskError>
     ensures size { IfOk result (λ found. IfSome found (λ taken. vec_len taken ≡ count)) }
     ensures value { IsTrue (D.state used.old).tells → IfOk result (λ found.
-        MatchOption found (length (D.state used.old).seen ≢ count) (λ taken. taken.items ≡ used_in (D.state used.old).seen)) }
+        MatchOption found (length (D.state used.old).seen ≢ count) (λ taken.
+        taken.items ≡ used_in (D.state used.old).seen)) }
     ensures same { D.state used.new ≡ D.state used.old }
     ensures later { D.faults used.old ≤ D.faults used.new }
     ensures failed { IsErrOf result DiskError.DiskFault → Rose (D.faults used.old) (D.faults used.new) }

@@ -8,19 +8,19 @@ use std::alloc::Global;
 
 /// A key, and which of its indices are used.
 #[derive(Drop)]
-pub struct Opened {
+pub struct OpenedKey {
     pub secret: Secret,
     pub indices: Indices,
 }
 
-impl Opened {
+impl OpenedKey {
     /// The key that is made from this, with its whole tree. The only error is want of memory.
     pub fn make<G: LeafGenerator>(
         generator: &G,
         alloc: Global,
         seed: &KeySeed,
         used: Vec<bool>,
-    ) -> Result<Opened, DiskError>
+    ) -> Result<OpenedKey, DiskError>
         requires { vec_len used ≡ leaf_count seed.now.lms }
         ensures secret { IfOk result (λ opened. opened.secret ≡ seed.now) }
         ensures used { IfOk result (λ opened. opened.indices ≡ used.items) }
@@ -28,6 +28,6 @@ impl Opened {
     {
         let secret = make_secret(generator, alloc, seed)?;
         let indices = Indices::new(used);
-        Ok(Opened { secret, indices })
+        Ok(OpenedKey { secret, indices })
     }
 }

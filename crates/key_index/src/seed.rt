@@ -45,7 +45,8 @@ pub fn payload_of(alloc: Global, seed: &KeySeed) -> Result<Vec<u8>, AllocError>
 
 /// What this payload keeps, or `None` where it is the payload of no key.
 pub fn seed_of(payload: &[u8]) -> Option<KeySeed>
-    ensures { MatchOption result ((secret : SecretData) → IsPayload payload.now secret → ⊥) (λ seed. IsPayload payload.now seed) }
+    ensures { MatchOption result ((secret : SecretData) → IsPayload payload.now secret
+        → ⊥) (λ seed. IsPayload payload.now seed) }
 {
     if payload.len() != PAYLOAD_LENGTH {
         return None;

@@ -8,7 +8,7 @@ ghost use Rattle.key_index.specs.Used.{least_unused};
 ghost use Rattle.key_index.specs.Reserving.{Reserves};
 
 use crate::indices::Indices;
-use crate::opened::Opened;
+use crate::opened::OpenedKey;
 use crate::reserve::Reserve;
 use bec_disk::{Disk, MemDisk, write_synced};
 use lms_tree::Secret;
@@ -37,14 +37,15 @@ impl<D: Disk> Model for KeyStore<D> {
 
     ghost Value = { KeyState };
 
-    ghost view = { λ store. record (store_of D.state D.faults store.key store.used store.secret store.indices) { tried = store.tried } };
+    ghost view = { λ store. record (store_of D.state D.faults store.key store.used store.secret store.indices)
+        { tried = store.tried } };
 
     ghost invariant = { λ store. IsStore (D.state store.used) store.secret store.indices };
 }
 
 impl<D: Disk> KeyStore<D> {
     /// The store of a key over its two disks.
-    pub(crate) fn over(key: D, used: D, opened: Opened) -> KeyStore<D>
+    pub(crate) fn over(key: D, used: D, opened: OpenedKey) -> KeyStore<D>
         requires { IsStore (D.state used) opened.secret opened.indices }
         ensures { result ≡ store_of D.state D.faults key used opened.secret opened.indices }
     {

@@ -34,7 +34,8 @@ pub enum Heard {
 /// Reads a piece of a link, unless what was read before is known to be no frame.
 pub fn listen<K: Link>(alloc: Global, link: &mut K, frames: &mut Frames, buffer: &mut [u8]) -> Heard
     requires { 0 < length buffer.old }
-    ensures listens { Listens (K.left link.old) (K.left link.new) frames.old frames.new (K.faults link.old) (K.faults link.new) result }
+    ensures listens { Listens (K.left link.old) (K.left link.new) frames.old frames.new (K.faults link.old)
+        (K.faults link.new) result }
     ensures held { K.held link.new ≡ K.held link.old }
     ensures later { K.faults link.old ≤ K.faults link.new }
     ensures len { length buffer.new ≡ length buffer.old }
@@ -49,7 +50,8 @@ pub fn listen<K: Link>(alloc: Global, link: &mut K, frames: &mut Frames, buffer:
 /// Reads a piece of a link and takes it in.
 fn read<K: Link>(alloc: Global, link: &mut K, frames: &mut Frames, buffer: &mut [u8]) -> Heard
     requires { 0 < length buffer.old }
-    ensures reads { ReadsPiece (K.left link.old) (K.left link.new) frames.old frames.new (K.faults link.old) (K.faults link.new) result }
+    ensures reads { ReadsPiece (K.left link.old) (K.left link.new) frames.old frames.new (K.faults link.old)
+        (K.faults link.new) result }
     ensures held { K.held link.new ≡ K.held link.old }
     ensures later { K.faults link.old ≤ K.faults link.new }
     ensures len { length buffer.new ≡ length buffer.old }
@@ -82,8 +84,8 @@ fn feed(alloc: Global, frames: &mut Frames, piece: &[u8]) -> Heard
     }
 }
 
-/// Frames with what the check of updates says of each, in order. The updates among them that follow one another are checked at once, by the verifier. The error
-/// is want of memory.
+/// Frames with what the check of updates says of each, in order. The updates among them that follow one another are
+/// checked at once, by the verifier. The error is want of memory.
 pub fn checked_all<V: Verifier>(
     alloc: Global,
     verifier: &V,
@@ -120,7 +122,8 @@ fn plain(frame: Frame) -> Result<CheckedFrame, Vec<u8>>
     }
 }
 
-/// Takes updates out, has them checked at once, and puts each behind the frames that are there, with what the check says of it.
+/// Takes updates out, has them checked at once, and puts each behind the frames that are there, with what the check
+/// says of it.
 fn put_checked<V: Verifier>(
     alloc: Global,
     verifier: &V,

@@ -1,7 +1,7 @@
 //! The frames of a session over a link: read as they come, checked, and written.
 //!
-//! [`listen`] reads a piece and gives the frames that are whole then, and [`checked_all`] has the updates among them checked, by a verifier. [`say_hello`],
-//! [`say_item`] and [`say_turn`] write a frame each.
+//! [`listen`] reads a piece and gives the frames that are whole then, and [`checked_all`] has the updates among them
+//! checked, by a verifier. [`say_hello`], [`say_item`] and [`say_turn`] write a frame each.
 //!
 //! ```text
 //! match listen(alloc, &mut link, &mut frames, &mut buffer) {

@@ -73,7 +73,8 @@ pub fn say_item<K: Link>(alloc: Global, link: &mut K, update: &[u8]) -> Result<(
 
 /// Puts the bytes of one frame on a link.
 fn put<K: Link>(link: &mut K, bytes: &[u8]) -> Result<(), Halt>
-    ensures said { (frame : Frame) → Spells frame bytes.now → Says (K.held link.old) (K.held link.new) result (said_by frame ∷ []) }
+    ensures said { (frame : Frame) → Spells frame bytes.now → Says (K.held link.old) (K.held link.new) result
+        (said_by frame ∷ []) }
     ensures left { K.left link.new ≡ K.left link.old }
     ensures cause { HasCause (K.faults link.old) (K.faults link.new) result }
 {

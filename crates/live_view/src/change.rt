@@ -11,8 +11,8 @@ use std::alloc::{AllocError, Global};
 use std::cmp::Ordering;
 use update_model::{RowName, UpdateId, Value, ValueList};
 
-/// What a view's answer lost and got. Both rise by the names of rows. Of a row whose values changed the old line went and the
-/// new one came.
+/// What a view's answer lost and got. Both rise by the names of rows. Of a row whose values changed the old line went
+/// and the new one came.
 #[derive(Debug, Drop)]
 pub struct Change {
     /// The lines that are not in the new answer.

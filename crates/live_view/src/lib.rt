@@ -1,8 +1,9 @@
 //! Live views: the answer of a query, kept and told by what went and what came.
 //!
-//! [`watch`] takes a query whose lines begin with the names of their rows and shows its answer. [`LiveView::refresh`] takes the
-//! answer on other tables, and hands the [`Change`] out where the subscriber wants it: a type that implements [`Wishes`] of a
-//! relation that a type names by [`Wish`], such as [`AtLeast`]. [`LiveView::flush`] hands it out in any case.
+//! [`watch`] takes a query whose lines begin with the names of their rows and shows its answer. [`LiveView::refresh`]
+//! takes the answer on other tables, and hands the [`Change`] out where the subscriber wants it: a type that implements
+//! [`Wishes`] of a relation that a type names by [`Wish`], such as [`AtLeast`]. [`LiveView::flush`] hands it out in any
+//! case.
 //!
 //! ```text
 //! let mut view = watch(alloc, &native, schema, tables, query, When::new(2, AtLeast))?;
@@ -13,8 +14,8 @@
 //! }
 //! ```
 //!
-//! Over any list of calls what was shown first, changed by each change that was handed out, is what is shown; and at each change
-//! that is the answer from scratch ([`views_follow`]).
+//! Over any list of calls what was shown first, changed by each change that was handed out, is what is shown; and at
+//! each change that is the answer from scratch ([`views_follow`]).
 #![tactic(auto)]
 
 mod change;

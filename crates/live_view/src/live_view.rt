@@ -56,11 +56,12 @@ impl<W: Wish, G: Wishes<W>> Model for LiveView<W, G> {
 
     ghost view = { λ view. record { query = data_of view.query; when = view.when; shown = view.shown.items } };
 
-    ghost invariant = { λ view. IsView (record { query = data_of view.query; when = view.when; shown = view.shown.items }) };
+    ghost invariant = { λ view.
+        IsView (record { query = data_of view.query; when = view.when; shown = view.shown.items }) };
 }
 
-/// A view of a query, which shows its answer on these tables. [`WatchError::NotNamed`] comes exactly where the query is not
-/// named: its first column is not the name of the row, or it has keys of an order or a limit.
+/// A view of a query, which shows its answer on these tables. [`WatchError::NotNamed`] comes exactly where the query is
+/// not named: its first column is not the name of the row, or it has keys of an order or a limit.
 pub fn watch<L: Relation, C: Checks<L>, W: Wish, G: Wishes<W>>(
     alloc: Global,
     native: &Native<L, C>,
@@ -70,7 +71,8 @@ pub fn watch<L: Relation, C: Checks<L>, W: Wish, G: Wishes<W>>(
     when: When<W, G>,
 ) -> Result<LiveView<W, G>, WatchError>
     requires { (nodes : List NodeData) × IsStateOf (rules_with L.answer schema.now.tables) nodes tables.now }
-    ensures shows { IfOk result (λ view. (nodes : List NodeData) → IsStateOf (rules_with L.answer schema.now.tables) nodes tables.now
+    ensures shows { IfOk result (λ view. (nodes : List NodeData) → IsStateOf (rules_with L.answer schema.now.tables)
+        nodes tables.now
         → AreLinesOf (rules_with L.answer schema.now.tables) nodes (query_data query) view.shown) }
     ensures query { IfOk result (λ view. view.query ≡ query_data query) }
     ensures when { IfOk result (λ view. view.when ≡ when) }
@@ -95,8 +97,8 @@ impl<W: Wish, G: Wishes<W>> LiveView<W, G> {
         &self.shown
     }
 
-    /// Takes the answer on these tables. Where it is another one and its change is wanted, it is shown from now on, and the change
-    /// handed out; else what is shown stays, as it does where memory runs out.
+    /// Takes the answer on these tables. Where it is another one and its change is wanted, it is shown from now on, and
+    /// the change handed out; else what is shown stays, as it does where memory runs out.
     pub fn refresh<L: Relation, C: Checks<L>>(
         &mut self,
         alloc: Global,
@@ -105,7 +107,8 @@ impl<W: Wish, G: Wishes<W>> LiveView<W, G> {
         tables: &Tables,
     ) -> Result<Option<Change>, AllocError>
         requires { (nodes : List NodeData) × IsStateOf (rules_with L.answer schema.now.tables) nodes tables.now }
-        ensures refreshes { IfOk result (λ change. (nodes : List NodeData) → IsStateOf (rules_with L.answer schema.now.tables) nodes tables.now
+        ensures refreshes { IfOk result (λ change. (nodes : List NodeData)
+            → IsStateOf (rules_with L.answer schema.now.tables) nodes tables.now
             → RefreshesOn W.wants (rules_with L.answer schema.now.tables) nodes self.old change self.new) }
         ensures same { OnErr result (self.new ≡ self.old) }
     {
@@ -113,8 +116,8 @@ impl<W: Wish, G: Wishes<W>> LiveView<W, G> {
         self.show_wanted(alloc, lines)
     }
 
-    /// Takes the answer on these tables, shows it from now on, and hands its change out, which may be empty. Where memory runs
-    /// out, what is shown stays.
+    /// Takes the answer on these tables, shows it from now on, and hands its change out, which may be empty. Where
+    /// memory runs out, what is shown stays.
     pub fn flush<L: Relation, C: Checks<L>>(
         &mut self,
         alloc: Global,
@@ -123,7 +126,8 @@ impl<W: Wish, G: Wishes<W>> LiveView<W, G> {
         tables: &Tables,
     ) -> Result<Change, AllocError>
         requires { (nodes : List NodeData) × IsStateOf (rules_with L.answer schema.now.tables) nodes tables.now }
-        ensures flushes { IfOk result (λ change. (nodes : List NodeData) → IsStateOf (rules_with L.answer schema.now.tables) nodes tables.now
+        ensures flushes { IfOk result (λ change. (nodes : List NodeData)
+            → IsStateOf (rules_with L.answer schema.now.tables) nodes tables.now
             → FlushesOn (rules_with L.answer schema.now.tables) nodes self.old change self.new) }
         ensures same { OnErr result (self.new ≡ self.old) }
     {
@@ -183,7 +187,8 @@ fn lines_of<L: Relation, C: Checks<L>>(
     requires named { IsNamed (query_data query.now) }
     requires state { (nodes : List NodeData) × IsStateOf (rules_with L.answer schema.now.tables) nodes tables.now }
     ensures rising { IfOk result (λ lines. RiseByName lines.items) }
-    ensures are { IfOk result (λ lines. (nodes : List NodeData) → IsStateOf (rules_with L.answer schema.now.tables) nodes tables.now
+    ensures are { IfOk result (λ lines. (nodes : List NodeData) → IsStateOf (rules_with L.answer schema.now.tables)
+        nodes tables.now
         → AreLinesOf (rules_with L.answer schema.now.tables) nodes (query_data query.now) lines.items) }
 {
     named_answers_rise();

@@ -60,7 +60,8 @@ impl ChainMessage {
     pub fn run(&mut self, from: u8, to: u8)
         requires { from ≤ to }
         ensures chain { take 22 self.new.bytes ≡ take 22 self.old.bytes }
-        ensures value { drop 23 self.new.bytes ≡ stepped (take 22 self.old.bytes) from (to - from) (drop 23 self.old.bytes) }
+        ensures value { drop 23 self.new.bytes ≡ stepped (take 22 self.old.bytes) from (to - from)
+            (drop 23 self.old.bytes) }
     {
         for j in from..to {
             self.step(j);

@@ -6,7 +6,8 @@ ghost use Rattle.std.specs.Int.{w32, to_be_bytes};
 ghost use Rattle.sha2.specs.Hashers.{Holds256};
 ghost use Rattle.lm_ots.specs.OtsKind.{chain_count, signature_length};
 ghost use Rattle.lm_ots.specs.Joined.{joined};
-ghost use Rattle.lm_ots.specs.OneTime.{IsOfType, candidate_value, end_from, leaf_value, message_digest, public_value, signature_of};
+ghost use Rattle.lm_ots.specs.OneTime.{IsOfType, candidate_value, end_from, leaf_value, message_digest, public_value};
+ghost use Rattle.lm_ots.specs.OneTime.{signature_of};
 
 use crate::chain_message::ChainMessage;
 use crate::digits::{checked_digest, digit};
@@ -107,7 +108,8 @@ pub fn candidate(
 // The public value from the chain values of a signature, each taken to its chain's end.
 fn value_at_ends(kind: OtsType, ident: &[u8; 16], q: u32, digits: &[u8; 34], sig: &[u8]) -> [u8; 32]
     requires { length sig.now ≡ signature_length kind }
-    ensures { result ≡ leaf_value ident.now q (joined (λ i. end_from kind ident.now q digits.now sig.now i) (chain_count kind)) }
+    ensures { result ≡ leaf_value ident.now q (joined (λ i. end_from kind ident.now q digits.now sig.now i)
+        (chain_count kind)) }
 {
     let greatest = kind.greatest_digit();
     let mut message = ChainMessage::new(ident, q);

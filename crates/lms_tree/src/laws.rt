@@ -9,7 +9,8 @@ ghost use Rattle.lms_tree.specs.SecretKey.{SecretData, public_key, signature_by}
 
 /// What [`sign_at`](crate::Secret::sign_at) writes is valid under the secret's public key.
 pub fn made_is_signed()
-    ensures { (secret : SecretData) (q : ℕ) (c msg : List ℕ) → q < leaf_count secret.lms → length c ≡ 32 → Signed (public_key secret) msg (signature_by secret q c msg) }
+    ensures { (secret : SecretData) (q : ℕ) (c msg : List ℕ) → q < leaf_count secret.lms → length c ≡ 32
+        → Signed (public_key secret) msg (signature_by secret q c msg) }
 {}
 
 /// A valid signature is of a key with known types, and has the length that those types say.

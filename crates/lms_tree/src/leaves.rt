@@ -27,7 +27,8 @@ impl LeafGenerator for OneThread {
     }
 }
 
-/// Does its work on as many threads as there are processors. Where no thread can be started, the one that asks does all.
+/// Does its work on as many threads as there are processors. Where no thread can be started, the one that asks does
+/// all.
 #[derive(Drop)]
 pub struct ManyThreads<'a, R: Threads> {
     rt: &'a R,

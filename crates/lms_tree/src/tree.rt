@@ -11,8 +11,10 @@ use lm_ots::{OtsType, public_of};
 pub fn write_inner_nodes(leaves: u32, ident: &[u8; 16], nodes: &mut [[u8; 32]])
     requires few { leaves ≤ 2 ^ 15 }
     requires len { length nodes.old ≡ 2 * leaves }
-    ensures leaves { (q : ℕ) → q < leaves → slice_index_or nodes.new (leaves + q) [] ≡ slice_index_or nodes.old (leaves + q) [] }
-    ensures inner { (r : ℕ) → 0 < r → r < leaves → slice_index_or nodes.new r [] ≡ inner_node ident.now r (slice_index_or nodes.new (2 * r) []) (slice_index_or nodes.new (2 * r + 1) []) }
+    ensures leaves { (q : ℕ) → q < leaves → slice_index_or nodes.new (leaves + q) [] ≡ slice_index_or nodes.old
+        (leaves + q) [] }
+    ensures inner { (r : ℕ) → 0 < r → r < leaves → slice_index_or nodes.new r [] ≡ inner_node ident.now r
+        (slice_index_or nodes.new (2 * r) []) (slice_index_or nodes.new (2 * r + 1) []) }
 {
     for r in (1..leaves).rev() {
         let place = r as usize;

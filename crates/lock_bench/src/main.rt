@@ -1,7 +1,7 @@
 //! Takes turns at a lock, for `bench/lock` to time.
 //!
-//! The words are how many threads, 1, 2, 4 or 8, and how many turns each takes. In its turn a thread adds one to a sum. The turns begin once a line was
-//! read, and then the sum is printed.
+//! The words are how many threads, 1, 2, 4 or 8, and how many turns each takes. In its turn a thread adds one to a sum.
+//! The turns begin once a line was read, and then the sum is printed.
 #![tactic(auto)]
 
 mod turns;

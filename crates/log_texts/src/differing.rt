@@ -4,7 +4,8 @@ ghost use Rattle.std.specs.Prelude.{◌≡◌, ◌∷◌, ◌++◌, IfOk, OnOk, 
 ghost use Rattle.std.specs.BTreeMap.{get};
 ghost use Rattle.std.specs.List.{flat_map};
 ghost use Rattle.update_model.specs.Entry.{id_cmp};
-ghost use Rattle.log_texts.specs.Differing.{beside, both_json, diff_text, differing_in, list_json, noted_json, signed, signed_note};
+ghost use Rattle.log_texts.specs.Differing.{beside, both_json, diff_text, differing_in, list_json, noted_json, signed};
+ghost use Rattle.log_texts.specs.Differing.{signed_note};
 ghost use Rattle.log_texts.specs.Entries.{id_of, ids_of};
 
 use crate::entries::{heads_by_id, ids_of};
@@ -20,8 +21,8 @@ use std::collections::BTreeMap;
 use text_words::ByteString;
 use update_model::UpdateId;
 
-/// What only the second of two logs has, each line behind a plus, and then what only the first has, each line behind a minus; or both as one JSON object. Only these
-/// entries are left in the lists.
+/// What only the second of two logs has, each line behind a plus, and then what only the first has, each line behind a
+/// minus; or both as one JSON object. Only these entries are left in the lists.
 pub fn diff_text(
     alloc: Global,
     style: Style,

@@ -102,7 +102,8 @@ fn notes_by_id<'a>(
 
 /// The entries of updates, in their order.
 fn marked_all(alloc: Global, marks: &Marks, placed: Vec<Placed>) -> Result<Vec<Entry>, AllocError>
-    ensures { IfOk result (λ entries. entries.items ≡ map (entry_by (λ id. is_some (get id_cmp marks.now.heads id)) (get id_cmp marks.now.reasons) (λ id. option_copied (get id_cmp marks.now.notes id))) placed.items) }
+    ensures { IfOk result (λ entries. entries.items ≡ map (entry_by (λ id. is_some (get id_cmp marks.now.heads id))
+        (get id_cmp marks.now.reasons) (λ id. option_copied (get id_cmp marks.now.notes id))) placed.items) }
 {
     let mut entries = Vec::with_capacity(alloc, placed.len())?;
     for next in placed {
@@ -114,7 +115,8 @@ fn marked_all(alloc: Global, marks: &Marks, placed: Vec<Placed>) -> Result<Vec<E
 
 /// The entry of an update.
 fn marked(alloc: Global, marks: &Marks, placed: Placed) -> Result<Entry, AllocError>
-    ensures { IfOk result (λ entry. entry ≡ entry_by (λ id. is_some (get id_cmp marks.now.heads id)) (get id_cmp marks.now.reasons) (λ id. option_copied (get id_cmp marks.now.notes id)) placed) }
+    ensures { IfOk result (λ entry. entry ≡ entry_by (λ id. is_some (get id_cmp marks.now.heads id))
+        (get id_cmp marks.now.reasons) (λ id. option_copied (get id_cmp marks.now.notes id)) placed) }
 {
     let id = placed.node.id;
     Ok(Entry {

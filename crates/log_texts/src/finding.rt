@@ -1,10 +1,13 @@
 //! One update of a log, and one row, each found by how its name begins.
 
-ghost use Rattle.std.specs.Prelude.{◌≡◌, ◌≤◌, ◌∷◌, ◌++◌, IfOk, OnOk, bytes_eq, filter, length, option_copied, option_map, position, take, unwrap_or};
+ghost use Rattle.std.specs.Prelude.{◌≡◌, ◌≤◌, ◌∷◌, ◌++◌, IfOk, OnOk, bytes_eq, filter, length, option_copied};
+ghost use Rattle.std.specs.Prelude.{option_map, position, take, unwrap_or};
 ghost use Rattle.std.specs.Fmt.{decimal};
 ghost use Rattle.std.specs.List.{flat_map};
 ghost use Rattle.table_text.specs.Names.{id_text};
-ghost use Rattle.log_texts.specs.Finding.{begins_so, colon_of, digits_in, found_in, insert_in, inserting, inserts_so, is_colon, is_no_zero, named_id, named_line, named_lines, named_so, number_in, show_text, who_text, without_zeros, zeros_of};
+ghost use Rattle.log_texts.specs.Finding.{begins_so, colon_of, digits_in, found_in, insert_in, inserting, inserts_so};
+ghost use Rattle.log_texts.specs.Finding.{is_colon, is_no_zero, named_id, named_line, named_lines, named_so, number_in};
+ghost use Rattle.log_texts.specs.Finding.{show_text, who_text, without_zeros, zeros_of};
 
 use crate::entry::Entry;
 use crate::json::push_update_json;
@@ -19,7 +22,8 @@ use std::slice;
 use text_words::ByteString;
 use update_model::{Op, UpdateId};
 
-/// The one entry whose id begins as this word does, with its note and its operations, if there is one. Those whose ids begin so are left of the entries.
+/// The one entry whose id begins as this word does, with its note and its operations, if there is one. Those whose ids
+/// begin so are left of the entries.
 pub fn show_text(
     alloc: Global,
     style: Style,
@@ -27,7 +31,8 @@ pub fn show_text(
     word: &[u8],
     entries: &mut Vec<Entry>,
 ) -> Result<Option<Vec<u8>>, AllocError>
-    ensures text { IfOk result (λ found. option_map (λ text. text.items) found ≡ show_text style schema.now.tables word.now entries.old.items) }
+    ensures text { IfOk result (λ found. option_map (λ text. text.items) found ≡ show_text style schema.now.tables
+        word.now entries.old.items) }
     ensures left { IfOk result (λ found. entries.new.items ≡ named_so word.now entries.old.items) }
 {
     let manner = manner_of(alloc, style, entries)?;
@@ -48,7 +53,8 @@ pub fn show_text(
     }
 }
 
-/// The one entry whose id begins as the name of this row does, with the operation that inserts the row, if there are both. The entries whose ids begin so are left.
+/// The one entry whose id begins as the name of this row does, with the operation that inserts the row, if there are
+/// both. The entries whose ids begin so are left.
 pub fn who_text(
     alloc: Global,
     style: Style,
@@ -56,7 +62,8 @@ pub fn who_text(
     word: &[u8],
     entries: &mut Vec<Entry>,
 ) -> Result<Option<Vec<u8>>, AllocError>
-    ensures { IfOk result (λ found. option_map (λ text. text.items) found ≡ who_text style schema.now.tables word.now entries.old.items) }
+    ensures { IfOk result (λ found. option_map (λ text. text.items) found ≡ who_text style schema.now.tables word.now
+        entries.old.items) }
 {
     let manner = manner_of(alloc, style, entries)?;
     let colon = colon_of(word);
@@ -75,7 +82,8 @@ fn insert_text(
     ending: &[u8],
     entry: &Entry,
 ) -> Result<Option<Vec<u8>>, AllocError>
-    ensures { IfOk result (λ found. option_map (λ text. text.items) found ≡ insert_in manner schema.now.tables ending.now entry.now) }
+    ensures { IfOk result (λ found. option_map (λ text. text.items) found ≡ insert_in manner schema.now.tables
+        ending.now entry.now) }
 {
     match inserts_so(alloc, number_in(ending), entry.placed.node.ops.as_slice())? {
         Some(op) => {
@@ -107,7 +115,8 @@ fn is_number(alloc: Global, digits: &[u8], number: usize) -> Result<bool, AllocE
     Ok(text.as_slice() == digits)
 }
 
-/// The number that the end of a row's name has behind its colon, as it is printed. Without a colon it is that of the first operation.
+/// The number that the end of a row's name has behind its colon, as it is printed. Without a colon it is that of the
+/// first operation.
 fn number_in(ending: &[u8]) -> &[u8]
     ensures { result.now ≡ number_in ending.now }
 {

@@ -4,7 +4,10 @@ ghost use Rattle.std.specs.Prelude.{◌≡◌, [], ◌∷◌, ◌++◌, OnOk, dr
 ghost use Rattle.std.specs.List.{flat_map};
 ghost use Rattle.hex.specs.Hex.{encode_lower};
 ghost use Rattle.graph_drawing.specs.Words.{reason_words};
-ghost use Rattle.log_texts.specs.Json.{author_begin, depth_begin, entries_json, entry_json, front_json, head_json, list_json, marked, marks_json, names_json, note_json, note_marked, operation_json, operations_begin, operations_json, update_json, updates_begin, updates_json, void_json, whole_json};
+ghost use Rattle.log_texts.specs.Json.{author_begin, depth_begin, entries_json, entry_json, front_json, head_json};
+ghost use Rattle.log_texts.specs.Json.{list_json, marked, marks_json, names_json, note_json, note_marked};
+ghost use Rattle.log_texts.specs.Json.{operation_json, operations_begin, operations_json, update_json, updates_begin};
+ghost use Rattle.log_texts.specs.Json.{updates_json, void_json, whole_json};
 
 use crate::entry::Entry;
 use crate::lines::asked_ops;
@@ -75,7 +78,8 @@ fn push_further_json(
     schema: &Schema,
     entries: &[Entry],
 ) -> Result<(), AllocError>
-    ensures { OnOk result (out.new.items ≡ out.old.items ++ flat_map (λ next. 44 ∷ whole_json rows schema.now.tables next) entries.now) }
+    ensures { OnOk result (out.new.items ≡ out.old.items ++ flat_map (λ next. 44 ∷ whole_json rows schema.now.tables
+        next) entries.now) }
 {
     for entry in entries {
         out.push(b',')?;
@@ -279,7 +283,8 @@ fn push_further_operations(
     schema: &Schema,
     ops: &[Op],
 ) -> Result<(), AllocError>
-    ensures { OnOk result (out.new.items ≡ out.old.items ++ flat_map (λ next. 44 ∷ operation_json schema.now.tables next) ops.now) }
+    ensures { OnOk result (out.new.items ≡ out.old.items ++ flat_map (λ next. 44 ∷ operation_json schema.now.tables
+        next) ops.now) }
 {
     for op in ops {
         out.push(b',')?;

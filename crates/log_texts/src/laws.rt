@@ -10,6 +10,8 @@ ghost use Rattle.log_texts.specs.Logs.{IsLog};
 
 /// A log is a function of the set of updates, in whatever order they came.
 pub fn same_set_same_log()
-    ensures { (style : Asked) (rows : Bool) (tables : List TableDef) (xs ys : List NodeData) (told : Told) (text other : List ℕ)
-        → IsClosed xs → IsClosed ys → IsSameSet xs ys → IsLog style rows tables xs told text → IsLog style rows tables ys told other → text ≡ other }
+    ensures { (style : Asked) (rows : Bool) (tables : List TableDef) (xs ys : List NodeData) (told : Told) (text other :
+        List ℕ)
+        → IsClosed xs → IsClosed ys → IsSameSet xs ys → IsLog style rows tables xs told text
+        → IsLog style rows tables ys told other → text ≡ other }
 {}

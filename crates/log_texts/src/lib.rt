@@ -1,7 +1,8 @@
 //! The texts of a log of a hash graph.
 //!
-//! [`entries_of`] answers the updates of a graph with what is told of them, the newest first. [`log_text`] writes them, [`show_text`] the one whose id begins so, and
-//! [`who_text`] the one that wrote a row, and [`diff_text`] those that only one of two logs has: each with whole ids and keys, with cut ones, or as JSON ([`Style`]).
+//! [`entries_of`] answers the updates of a graph with what is told of them, the newest first. [`log_text`] writes them,
+//! [`show_text`] the one whose id begins so, and [`who_text`] the one that wrote a row, and [`diff_text`] those that
+//! only one of two logs has: each with whole ids and keys, with cut ones, or as JSON ([`Style`]).
 //!
 //! ```text
 //! let told = Told { heads, voids, notes };

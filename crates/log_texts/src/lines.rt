@@ -2,7 +2,8 @@
 
 ghost use Rattle.std.specs.Prelude.{◌≡◌, ◌++◌, OnOk};
 ghost use Rattle.std.specs.List.{flat_map};
-ghost use Rattle.log_texts.specs.Lines.{asked_ops, front_text, head_mark, id_in, key_in, line_text, lines_text, note_row, operation_in, operation_row, void_mark};
+ghost use Rattle.log_texts.specs.Lines.{asked_ops, front_text, head_mark, id_in, key_in, line_text, lines_text};
+ghost use Rattle.log_texts.specs.Lines.{note_row, operation_in, operation_row, void_mark};
 
 use crate::entry::Entry;
 use crate::names::Names;
@@ -26,7 +27,8 @@ pub(crate) fn push_lines(
     ops: &[Op],
     entry: &Entry,
 ) -> Result<(), AllocError>
-    ensures { OnOk result (out.new.items ≡ out.old.items ++ lines_text names schema.now.tables note.now ops.now entry.now) }
+    ensures { OnOk result (out.new.items ≡ out.old.items ++ lines_text names schema.now.tables note.now ops.now
+        entry.now) }
 {
     push_line(out, names, entry)?;
     push_note_row(out, note)?;

@@ -18,8 +18,9 @@ use schema::Schema;
 use std::alloc::{AllocError, Global};
 use update_model::UpdateId;
 
-/// The log of these entries: of each a line with its id, its author, its depth, whether it is a head, and why it does nothing if so; behind it a line with its note,
-/// if it has one; and behind these what the update does, if `rows` says so. Or the same as one JSON object.
+/// The log of these entries: of each a line with its id, its author, its depth, whether it is a head, and why it does
+/// nothing if so; behind it a line with its note, if it has one; and behind these what the update does, if `rows` says
+/// so. Or the same as one JSON object.
 pub fn log_text(
     alloc: Global,
     style: Style,
@@ -83,7 +84,8 @@ fn push_all(
     schema: &Schema,
     entries: &[Entry],
 ) -> Result<(), AllocError>
-    ensures { OnOk result (out.new.items ≡ out.old.items ++ flat_map (λ entry. lines_text names schema.now.tables entry.note (asked_ops rows entry) entry) entries.now) }
+    ensures { OnOk result (out.new.items ≡ out.old.items ++ flat_map (λ entry. lines_text names schema.now.tables
+        entry.note (asked_ops rows entry) entry) entries.now) }
 {
     for entry in entries {
         push_lines(

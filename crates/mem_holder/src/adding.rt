@@ -14,8 +14,8 @@ use std::alloc::{AllocError, Global};
 use update_check::{Checked, CheckedList, CommitFault, Committed};
 use update_model::{IdList, Member};
 
-/// Adds each update of a batch that can be added in some order, where there are then no more than `most`. After a refusal the
-/// graph is as it was.
+/// Adds each update of a batch that can be added in some order, where there are then no more than `most`. After a
+/// refusal the graph is as it was.
 pub(crate) fn add_within(
     alloc: Global,
     graph: &mut Graph<Checked>,
@@ -26,7 +26,8 @@ pub(crate) fn add_within(
     requires low { most ≤ MAX_MEMBERS }
     ensures commits { (faults : ℕ) → Commits (limits_of most) graph.old batch.items result faults faults graph.new }
     ensures few { length graph.new ≤ most }
-    ensures checked { (rule : RuleData) → All (IsChecked rule) graph.old → All (IsChecked rule) batch.items → All (IsChecked rule) graph.new }
+    ensures checked { (rule : RuleData) → All (IsChecked rule) graph.old → All (IsChecked rule) batch.items
+        → All (IsChecked rule) graph.new }
 {
     let len = graph.len();
     match grow(alloc, graph, most, batch) {

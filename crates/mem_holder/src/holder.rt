@@ -15,8 +15,8 @@ impl Counted for MemHolder {
     ghost faults = { λ holder. holder.faults };
 }
 
-/// It has the limit on updates that it was made for, and that of a store on bytes. Nothing of it outlives the program, so
-/// nothing is said of what does.
+/// It has the limit on updates that it was made for, and that of a store on bytes. Nothing of it outlives the program,
+/// so nothing is said of what does.
 impl Holder for MemHolder {
     ghost members = { λ holder. holder.members };
 

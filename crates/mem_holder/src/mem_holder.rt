@@ -20,8 +20,8 @@ pub(crate) enum Failing {
 
 /// Updates in memory, no more than so many.
 ///
-/// A contract sees its updates in the order of arrival, the rule that they are under, how many there may be, and its count of
-/// faults.
+/// A contract sees its updates in the order of arrival, the rule that they are under, how many there may be, and its
+/// count of faults.
 #[derive(Drop)]
 pub struct MemHolder {
     pub(crate) rule: DbRule,
@@ -37,12 +37,13 @@ impl Model for MemHolder {
 
     ghost view = { λ h. record { members = h.graph; rule = h.rule; most = h.most; faults = faults_of h.failing } };
 
-    ghost invariant = { λ h. IsHolder (record { members = h.graph; rule = h.rule; most = h.most; faults = faults_of h.failing }) };
+    ghost invariant = { λ h.
+        IsHolder (record { members = h.graph; rule = h.rule; most = h.most; faults = faults_of h.failing }) };
 }
 
 impl MemHolder {
-    /// A holder of no update yet, under this rule. It takes no more than `most` updates. Where there is a number, the commit
-    /// after so many others fails and counts a fault, and no other does.
+    /// A holder of no update yet, under this rule. It takes no more than `most` updates. Where there is a number, the
+    /// commit after so many others fails and counts a fault, and no other does.
     pub fn new(alloc: Global, rule: DbRule, most: u32, failing: Option<u32>) -> MemHolder
         requires { most ≤ MAX_MEMBERS }
         ensures { result ≡ record { members = []; rule = rule; most = most; faults = 0 } }

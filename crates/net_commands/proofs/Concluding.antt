@@ -1,5 +1,5 @@
 -- What is left after a session, and what is told of it.
-use Rattle.std.proofs.Common.{◌≡◌, ◌≢◌, ◌⊎◌, inl, inr, ℕ, ◌<◌, ◌==◌, true, List, Result, Ok, Err, refl, sym, subst, ◌∙◌}
+use Rattle.std.proofs.Common.{◌≡◌, ◌⊎◌, inl, inr, ℕ, ◌<◌, ◌==◌, true, List, Result, Ok, Err, refl, sym, subst, ◌∙◌}
 use Rattle.std.specs.Prelude.{IfErr, OnOk}
 use Rattle.std.proofs.lemmas.Bool.{true≢false}
 use Rattle.bec_bytes.specs.Causes.{Rose}
@@ -15,11 +15,11 @@ use Rattle.schema_verdict.specs.declared.status.TheConstants.{DONE, STORE_FAULT,
 use Rattle.outcomes.specs.declared.reply.Reply.{Reply}
 use Rattle.net_commands.specs.Meetings.{not_kept, kept as kept_as}
 use Rattle.net_commands.specs.Open.{AreKept, Concludes, IsKeepFault, Keeps}
-use Rattle.net_commands.specs.Words.{status_by, sync_text}
+use Rattle.net_commands.specs.Words.{exit_status, sync_text}
 
 -- ---- what is told
 
-done_by : (ending : Ending) → (status_by ending == DONE) ≡ true → ending ≡ endings.Done
+done_by : (ending : Ending) → (exit_status ending == DONE) ≡ true → ending ≡ endings.Done
 done_by endings.Done is = refl
 done_by (endings.Peer fault) is = absurd (cc (is))
 done_by endings.Cut is = absurd (cc (is))
@@ -28,7 +28,7 @@ done_by endings.Broken is = absurd (cc (is))
 done_by endings.Store is = absurd (cc (is))
 done_by endings.Memory is = absurd (cc (is))
 
-store_by : (ending : Ending) → status_by ending ≡ STORE_FAULT → ending ≡ endings.Store
+store_by : (ending : Ending) → exit_status ending ≡ STORE_FAULT → ending ≡ endings.Store
 store_by endings.Done is = absurd (cc (is))
 store_by (endings.Peer fault) is = absurd (cc (is))
 store_by endings.Cut is = absurd (cc (is))
@@ -37,7 +37,7 @@ store_by endings.Broken is = absurd (cc (is))
 store_by endings.Store is = refl
 store_by endings.Memory is = absurd (cc (is))
 
-stream_by : (ending : Ending) → status_by ending ≡ STREAM_FAULT → ending ≡ endings.Broken
+stream_by : (ending : Ending) → exit_status ending ≡ STREAM_FAULT → ending ≡ endings.Broken
 stream_by endings.Done is = absurd (cc (is))
 stream_by (endings.Peer fault) is = absurd (cc (is))
 stream_by endings.Cut is = absurd (cc (is))
@@ -97,7 +97,7 @@ module _ (dir : List ℕ) (before after : ShelfState) (faults faults_new : ℕ) 
     }
 
     -- it is told how the session ended
-    pub concludes_with : (reply : Reply) → reply.text.items ≡ sync_text served → reply.status ≡ status_by served.ending → Concludes dir before after faults faults_new old now peers name served (Ok reply)
+    pub concludes_with : (reply : Reply) → reply.text.items ≡ sync_text served → reply.status ≡ exit_status served.ending → Concludes dir before after faults faults_new old now peers name served (Ok reply)
     concludes_with reply text status = record {
       grows = kept.grows;
       clean = λ is. are_kept.clean (done_by served.ending (subst (λ (n : ℕ). (n == DONE) ≡ true) status is));

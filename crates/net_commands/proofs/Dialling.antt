@@ -68,12 +68,14 @@ session_seen rule role peers name before after left left' put put' faults faults
 session_seen rule role peers name before after left left' put put' faults faults' served (inr never) = never.seen
 
 -- a session was held
-pub meets_somebody : (rule : RuleData) (peers : List PeerEntry) (name : List ℕ) (net mid net_new : NetState) (net_faults mid_faults net_faults_new : ℕ) (old now : ReplicaState) (ran : Ran) (last : List Entry)
-    → rule ≡ old.history.schema.rule → ran.before.seen ≡ opening_list old
-    → IsSession rule Initiator peers (Some name) ran.before ran.after ran.left ran.left' ran.held ran.held' ran.faults ran.faults' ran.served
+pub meets_somebody : (rule : RuleData) (peers : List PeerEntry) (name given : List ℕ) (net mid net_new : NetState) (net_faults mid_faults net_faults_new : ℕ) (old now : ReplicaState) (ran : Ran) (last : List Entry)
+    → rule ≡ old.history.schema.rule → given ≡ name → ran.before.seen ≡ opening_list old
+    → IsSession rule Initiator peers (Some given) ran.before ran.after ran.left ran.left' ran.held ran.held' ran.faults ran.faults' ran.served
     → HandsOut net ran.left ran.held mid → net_new ≡ taken_back mid ran.held' → ran.faults ≡ 0 → mid_faults ≡ net_faults → (0 < ran.faults' → net_faults_new ≡ one_more mid_faults)
     → IsPrefix ran.after.seen last → IsStoreOf last now → MeetsOpen peers name net net_new net_faults net_faults_new old now (Ok ran.served)
-meets_somebody rule peers name net mid net_new net_faults mid_faults net_faults_new old now ran last ruled opened session out back clean same faulted begins store =
+meets_somebody rule peers name given net mid net_new net_faults mid_faults net_faults_new old now ran last ruled named opened session_of out back clean same faulted begins store =
+    let session : IsSession rule Initiator peers (Some name) ran.before ran.after ran.left ran.left' ran.held ran.held' ran.faults ran.faults' ran.served =
+    subst (λ (n : List ℕ). IsSession rule Initiator peers (Some n) ran.before ran.after ran.left ran.left' ran.held ran.held' ran.faults ran.faults' ran.served) named session_of in
     let seen = session_seen rule Initiator peers (Some name) ran.before ran.after ran.left ran.left' ran.held ran.held' ran.faults ran.faults' ran.served session in
     record {
       grows = grown old now ran.before.seen ran.after.seen last opened seen begins store;

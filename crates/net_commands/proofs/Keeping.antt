@@ -6,7 +6,6 @@ use Rattle.bec_disk.specs.declared.disk_error.DiskError.TheVariants.{DiskFault, 
 use Rattle.replica.specs.Replicas.{ReplicaState}
 use Rattle.session_server.specs.declared.ending.Ending.TheVariants.{Done}
 use Rattle.session_server.specs.declared.served.Served.{Served}
-use Rattle.outcomes.specs.declared.refusal.Refusal.{Refusal}
 use Rattle.outcomes.specs.declared.refusal.Refusal.TheVariants as refusals
 use Rattle.outcomes.specs.Outcome.{from_disk}
 use Rattle.net_commands.specs.Open.{IsKeepFault}

@@ -4,5 +4,5 @@ pub mod Keeping
 pub mod Open
 pub mod OpenServing
 pub mod Remembering
-pub mod Serving
+pub mod Sessions
 pub mod Sharing

@@ -1,35 +1,39 @@
 -- A store that is open while it meets others, and how it is put back.
-use Rattle.std.proofs.Common.{◌≡◌, ◌≢◌, ◌⊎◌, inl, inr, ℕ, ◌<◌, ◌≤◌, Bool, false, List, [], refl, sym, ap, subst, ◌∙◌, IsTrue, Some, Ok, Err, Result, arith}
+use Rattle.std.proofs.Common.{◌≡◌, ◌≢◌, ◌⊎◌, inl, inr, ℕ, ◌<◌, ◌≤◌, Bool, false, List, [], refl, sym, ap, subst, ◌∙◌, IfSome, IsTrue, Option, Ok, Err, Result, arith}
 use Rattle.std.proofs.lemmas.Bool.{true≢false}
 use Rattle.sha2.specs.Sha256.{sha256}
 use Rattle.row_check.specs.Checksum.{is_luhn}
 use Rattle.bec_bytes.specs.Causes.{Rose}
-use Rattle.bec_disk.specs.declared.part.Part.TheVariants.{Peers}
+use Rattle.bec_disk.specs.declared.part.Part.TheVariants.{Schema, Updates, Peers}
 use Rattle.bec_disk.specs.Shelf.{PartState, ShelfState, out}
 use Rattle.bec_disk.specs.Slot.{slot}
 use Rattle.bec_links.specs.Nets.{NetState}
 use Rattle.peer_memory.specs.declared.peer.Peer.{Peer as PeerEntry}
 use Rattle.peer_memory.specs.Payload.{Reads}
 use Rattle.replica.specs.Replicas.{ReplicaState}
+use Rattle.key_index.specs.KeyState.{KeyState}
+use Rattle.store_directory.specs.declared.open_refusal.OpenRefusal.{OpenRefusal}
+use Rattle.store_directory.specs.declared.open_refusal.OpenRefusal.TheVariants as open_refusals
+use Rattle.store_directory.specs.declared.opening.Needs.TheVariants as needed
 use Rattle.store_directory.specs.declared.store_refusal.StoreRefusal.{StoreRefusal}
 use Rattle.store_directory.specs.declared.store_refusal.StoreRefusal.TheVariants as store_refusals
 use Rattle.store_directory.specs.Holding.{IsStoreCause, LetsGo, OpenData, PutsStore, TakesStore}
+use Rattle.store_directory.specs.Opening.{Closes, IsKeyOut, IsStoreOut, LetsAllGo, Opens, Refuses}
 use Rattle.key_directory.specs.Parts.{IsHome, KeepsAllBut, part_in}
 use Rattle.store_directory.specs.Stores.{HoldsRun, StoreData}
 use Rattle.key_directory.proofs.Putting.{told}
+use Rattle.store_directory.proofs.OnceOpen.{disks_of, no_key_out, no_store_taken, store_closed, store_opened}
 use Rattle.store_directory.proofs.Readings.{OneSchema}
 use Rattle.store_directory.proofs.Working.{held_run, holds_run, read_before, store_of}
 use Rattle.session_server.specs.declared.ending.Ending.TheVariants as endings
 use Rattle.session_server.specs.declared.served.Served.{Served}
-use Rattle.session_rules.specs.declared.role.Role.TheVariants.{Initiator}
 use Rattle.session_server.specs.Serving.{Ran}
-use Rattle.session_server.specs.Sessions.{IsSession}
 use Rattle.outcomes.specs.declared.refusal.Refusal.{Refusal}
 use Rattle.outcomes.specs.declared.refusal.Refusal.TheVariants as refusals
 use Rattle.outcomes.specs.Comes.{IsDiskRefusal, readings}
 use Rattle.store_directory.specs.Remembering.{KeepsPeers, RemembersIn, memory_in, touched}
 use Rattle.outcomes.specs.OpenStores.{opened_store}
-use Rattle.outcomes.specs.Outcome.{from_store}
+use Rattle.outcomes.specs.Outcome.{from_open, from_store}
 use Rattle.store_directory.specs.Standing.{Stands}
 use Rattle.outcomes.specs.StoreAnswers.{bad_store, no_store}
 use Rattle.outcomes.proofs.Around.{closing_told, of_peers, of_store, opened_told, places_around, same_memory}
@@ -51,10 +55,30 @@ keeps_peers_then dir before mid after a b = record {
     on : IsTrue before.tells → IsTrue mid.tells
     on tells = told before.tells mid.tells a.tells tells
 
--- while the store of a directory is taken, its peers are in their place
-pub peers_home : (dir : List ℕ) (before opened : ShelfState) (taken : OpenData) → (IsTrue before.tells → IsHome before) → TakesStore is_luhn before dir taken opened → IsTrue opened.tells → part_in opened dir Peers ≢ out
-peers_home dir before opened taken home takes tells =
+-- ---- a store that is open
+
+-- the store as it is by now
+abbrev pub now_open : OpenData → ReplicaState → OpenData
+now_open taken now = record { schema = taken.schema; schema_faults = taken.schema_faults; replica = now }
+
+-- while the store of a directory is open, its peers are in their place
+pub peers_home : (dir : List ℕ) (before opened : ShelfState) (taken : OpenData) (key : Option KeyState) → (IsTrue before.tells → IsHome before) → Opens needed.Store before dir taken key opened → IsTrue opened.tells
+    → part_in opened dir Peers ≢ out
+peers_home dir before opened taken key home opens tells =
+    let takes = (store_opened before opened dir taken key opens).0 in
     subst (λ (p : PartState). p ≢ out) (sym (takes.others (slot dir Peers) refl)) (home (told opened.tells before.tells (sym takes.tells) tells) (slot dir Peers))
+
+-- while at most its peers are touched, what was opened stays out
+module _ (dir : List ℕ) (before opened closing : ShelfState) (taken : OpenData) (key : Option KeyState) (now : ReplicaState) (opens : Opens needed.Store before dir taken key opened) (keeps : KeepsPeers dir opened closing)
+    (tells : IsTrue closing.tells) where
+  pub store_still_out : now.log.disk.slot ≡ taken.replica.log.disk.slot → IsStoreOut closing dir taken.schema now
+  store_still_out same =
+      let takes = (store_opened before opened dir taken key opens).0 in
+      let disks = disks_of dir before opened closing taken now takes keeps.tells same (λ t. (keeps.others t (slot dir Schema) refl, keeps.others t (slot dir Updates) refl)) tells in
+      record { schema_of = disks.0; updates_of = disks.1 }
+
+  pub no_key_still_out : IfSome key (IsKeyOut closing dir)
+  no_key_still_out = no_key_out closing dir key (store_opened before opened dir taken key opens).1
 
 -- ---- where it did not come to a session
 
@@ -108,12 +132,12 @@ open_stopped dir address before after net faults faults_new net_faults replica r
 -- ---- where it came to a session
 
 module _ (dir address : List ℕ) (before mid after : ShelfState) (net net_new : NetState) (faults between faults_new net_faults net_faults_new : ℕ) (old ended now : ReplicaState)
-    (peers : List PeerEntry) (name : List ℕ) (ran : Ran) (served : Served) (answer : Told) where
+    (peers : List PeerEntry) (ran : Ran) (served : Served) (answer : Told) where
   pub open_met : KeepsPeers dir before mid → (IsTrue before.tells → Reads (memory_in before dir) peers) → (IsTrue before.tells → memory_in mid dir ≡ memory_in before dir) → faults ≤ between
-      → name ≡ sha256 address → KeepsGrowing old ended → served ≡ ran.served → HoldsSession peers name net net_new net_faults net_faults_new old ended ran
-      → Concludes dir mid after between faults_new ended now peers name served answer → Stands now
+      → KeepsGrowing old ended → served ≡ ran.served → HoldsSession peers (sha256 address) net net_new net_faults net_faults_new old ended ran
+      → Concludes dir mid after between faults_new ended now peers (sha256 address) served answer → Stands now
       → SyncsOpen dir address before after net net_new faults faults_new net_faults net_faults_new old now answer
-  open_met keeps reads same one_later is_name grew is_served holds concludes stands = record {
+  open_met keeps reads same one_later grew is_served holds concludes stands = record {
     added = whole.added;
     holds = holds_grown old now (told_done answer) whole stands concludes.clean;
     comes = by concludes.comes;
@@ -139,32 +163,31 @@ module _ (dir address : List ℕ) (before mid after : ShelfState) (net net_new :
       reading (kept said remembers forgets) = kept said (λ is tells. remembers is (on tells)) (λ not tells. forgets not (on tells) ∙ same tells)
       reading (not_kept done is) = not_kept done is
 
-      by : Concluded mid.tells peers name (memory_in mid dir) (memory_in after dir) served answer ⊎ (answer ≡ Err refusals.Memory)
+      by : Concluded mid.tells peers (sha256 address) (memory_in mid dir) (memory_in after dir) served answer ⊎ (answer ≡ Err refusals.Memory)
           → MeetingOf before.tells (opened_store old) address (memory_in before dir) (memory_in after dir) net net_new whole.added answer ⊎ (answer ≡ Err refusals.Memory)
       by (inr fault) = inr fault
       by (inl concluded) =
           let said : Concluded mid.tells peers (sha256 address) (memory_in mid dir) (memory_in after dir) ran.served answer =
-          subst (λ (s : Served). Concluded mid.tells peers (sha256 address) (memory_in mid dir) (memory_in after dir) s answer) is_served
-          (subst (λ (n : List ℕ). Concluded mid.tells peers n (memory_in mid dir) (memory_in after dir) served answer) is_name concluded) in
+          subst (λ (s : Served). Concluded mid.tells peers (sha256 address) (memory_in mid dir) (memory_in after dir) s answer) is_served concluded in
           inl (met (record {
             peers = peers;
             reads = reads;
             ran = ran;
             handed = holds.handed;
             passes = passes_by old ended now ran.before ran.after whole concludes.grows holds.opened holds.seen holds.within;
-            session = subst (λ (n : List ℕ). IsSession old.history.schema.rule Initiator peers (Some n) ran.before ran.after ran.left ran.left' ran.held ran.held' ran.faults ran.faults' ran.served) is_name holds.session;
+            session = holds.session;
             concluded = reading said;
           }))
 
 -- ---- what meeting came to
 
-module _ (dir address : List ℕ) (before mid : ShelfState) (net net_new : NetState) (faults between net_faults net_faults_new : ℕ) (old ended : ReplicaState) (peers : List PeerEntry) (name : List ℕ) (result : Result Served Refusal)
-    (keeps : KeepsPeers dir before mid) (one_later : faults ≤ between) (meets : MeetsOpen peers name net net_new net_faults net_faults_new old ended result) where
+module _ (dir address : List ℕ) (before mid : ShelfState) (net net_new : NetState) (faults between net_faults net_faults_new : ℕ) (old ended : ReplicaState) (peers : List PeerEntry) (result : Result Served Refusal)
+    (keeps : KeepsPeers dir before mid) (one_later : faults ≤ between) (meets : MeetsOpen peers (sha256 address) net net_new net_faults net_faults_new old ended result) where
   -- nobody was met
   pub open_unmet : (refusal : Refusal) → result ≡ Err refusal → Stands ended → SyncsOpen dir address before mid net net_new faults between net_faults net_faults_new old ended (Err refusal)
   open_unmet refusal is stands = by meets.comes
     where
-      by : MeetsBy peers name net net_new net_faults net_faults_new old ended result → SyncsOpen dir address before mid net net_new faults between net_faults net_faults_new old ended (Err refusal)
+      by : MeetsBy peers (sha256 address) net net_new net_faults net_faults_new old ended result → SyncsOpen dir address before mid net net_new faults between net_faults net_faults_new old ended (Err refusal)
       by (no_memory dials same memory) =
           let e : refusal ≡ refusals.Memory = cc (is, memory) in
           subst (λ (r : Refusal). SyncsOpen dir address before mid net net_new faults between net_faults net_faults_new old ended (Err r)) (sym e)
@@ -178,16 +201,16 @@ module _ (dir address : List ℕ) (before mid : ShelfState) (net net_new : NetSt
 
   -- somebody was
   pub open_told : (after : ShelfState) (faults_new : ℕ) (now : ReplicaState) (served : Served) (answer : Told) → result ≡ Ok served → (IsTrue before.tells → Reads (memory_in before dir) peers)
-      → (IsTrue before.tells → memory_in mid dir ≡ memory_in before dir) → name ≡ sha256 address → Concludes dir mid after between faults_new ended now peers name served answer → Stands now
+      → (IsTrue before.tells → memory_in mid dir ≡ memory_in before dir) → Concludes dir mid after between faults_new ended now peers (sha256 address) served answer → Stands now
       → SyncsOpen dir address before after net net_new faults faults_new net_faults net_faults_new old now answer
-  open_told after faults_new now served answer is reads same is_name concludes stands = by meets.comes
+  open_told after faults_new now served answer is reads same concludes stands = by meets.comes
     where
-      by : MeetsBy peers name net net_new net_faults net_faults_new old ended result → SyncsOpen dir address before after net net_new faults faults_new net_faults net_faults_new old now answer
+      by : MeetsBy peers (sha256 address) net net_new net_faults net_faults_new old ended result → SyncsOpen dir address before after net net_new faults faults_new net_faults net_faults_new old now answer
       by (no_memory dials unchanged memory) = absurd (cc (is, memory))
       by (not_dialled none rose unchanged stream) = absurd (cc (is, stream))
       by (held ran ok holds) =
           let e : served ≡ ran.served = cc (is, ok) in
-          open_met dir address before mid after net net_new faults between faults_new net_faults net_faults_new old ended now peers name ran served answer keeps reads same one_later is_name meets.grows e holds concludes stands
+          open_met dir address before mid after net net_new faults between faults_new net_faults net_faults_new old ended now peers ran served answer keeps reads same one_later meets.grows e holds concludes stands
 
 -- ---- a store that is taken and put back
 
@@ -214,7 +237,7 @@ meeting_moves a b store address m n p q net net_new added answer on old new (met
 
 module _ (dir address : List ℕ) (before after : ShelfState) (net net_new : NetState) (faults faults_new net_faults net_faults_new : ℕ) where
   -- where it was refused
-  pub syncs_none : (why : StoreRefusal) → (IsTrue before.tells → IsHome before) → LetsGo is_luhn before dir after → (IsTrue before.tells → IsStoreCause is_luhn before dir why)
+  syncs_none : (why : StoreRefusal) → (IsTrue before.tells → IsHome before) → LetsGo is_luhn before dir after → (IsTrue before.tells → IsStoreCause is_luhn before dir why)
       → (why ≡ store_refusals.DiskFault → Rose faults faults_new) → net_new ≡ net → SyncsStore dir address before after net net_new faults faults_new net_faults net_faults_new (Err (from_store why))
   syncs_none why home lets cause failed same = by why cause failed
     where
@@ -270,8 +293,14 @@ module _ (dir address : List ℕ) (before after : ShelfState) (net net_new : Net
         stream_fault = λ is. absurd (cc (is));
       }
 
+  pub syncs_refused : (why : OpenRefusal) → (IsTrue before.tells → IsHome before) → LetsAllGo needed.Store before dir after → Refuses why needed.Store before dir
+      → (why ≡ open_refusals.Store store_refusals.DiskFault → Rose faults faults_new) → net_new ≡ net
+      → SyncsStore dir address before after net net_new faults faults_new net_faults net_faults_new (Err (from_open why))
+  syncs_refused (open_refusals.Store why) home lets cause failed same = syncs_none why home (no_store_taken before after dir lets) cause (λ is. failed (ap open_refusals.Store is)) same
+  syncs_refused (open_refusals.Key why) home lets cause failed same = absurd cause
+
   -- where it was taken and put back
-  pub syncs_taken : OneSchema → (opened closing : ShelfState) (opened_faults closing_faults : ℕ) (taken : OpenData) (now : ReplicaState) (answer : Told) → (IsTrue before.tells → IsHome before)
+  syncs_taken : OneSchema → (opened closing : ShelfState) (opened_faults closing_faults : ℕ) (taken : OpenData) (now : ReplicaState) (answer : Told) → (IsTrue before.tells → IsHome before)
       → TakesStore is_luhn before dir taken opened → SyncsOpen dir address opened closing net net_new opened_faults closing_faults net_faults net_faults_new taken.replica now answer
       → PutsStore closing dir taken.schema now.log.disk after → faults ≤ opened_faults → closing_faults ≤ faults_new → (0 < now.log.faults → Rose closing_faults faults_new)
       → SyncsStore dir address before after net net_new faults faults_new net_faults net_faults_new answer
@@ -302,3 +331,11 @@ module _ (dir address : List ℕ) (before after : ShelfState) (net net_new : Net
       by (inl meets) = inl (of_open (store_of taken.replica) (λ tells. read_before is_luhn before opened dir taken tells takes)
           (meeting_moves opened.tells before.tells (store_of taken.replica) address (memory_in opened dir) (memory_in before dir) (memory_in closing dir) (memory_in after dir) net net_new syncs.added answer inside
           (same_memory before opened dir (takes.others (slot dir Peers) refl)) (λ tells. same_memory closing after dir (puts.others (still tells) (slot dir Peers) refl)) meets))
+
+  pub syncs_closed : OneSchema → (opened closing : ShelfState) (opened_faults closing_faults : ℕ) (taken : OpenData) (key : Option KeyState) (now : ReplicaState) (answer : Told) → (IsTrue before.tells → IsHome before)
+      → Opens needed.Store before dir taken key opened → SyncsOpen dir address opened closing net net_new opened_faults closing_faults net_faults net_faults_new taken.replica now answer → faults ≤ opened_faults
+      → Closes closing closing_faults dir (now_open taken now) key after faults_new → SyncsStore dir address before after net net_new faults faults_new net_faults net_faults_new answer
+  syncs_closed schemas opened closing opened_faults closing_faults taken key now answer home opens syncs one_later closes =
+      let is = store_opened before opened dir taken key opens in
+      let closed = store_closed closing after closing_faults faults_new dir (now_open taken now) key is.1 closes in
+      syncs_taken schemas opened closing opened_faults closing_faults taken now answer home is.0 syncs closed.puts one_later closed.later closed.log_faulted

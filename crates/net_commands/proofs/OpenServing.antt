@@ -1,5 +1,5 @@
 -- A store that is open while it serves others, and how it is put back.
-use Rattle.std.proofs.Common.{◌≡◌, ◌≢◌, ◌⊎◌, inl, inr, ℕ, ◌<◌, ◌≤◌, Bool, true, false, List, [], refl, sym, ap, subst, ◌∙◌, IsTrue, Ok, Err, Result, cond, ◌||◌, ◌==◌, arith}
+use Rattle.std.proofs.Common.{◌≡◌, ◌⊎◌, inl, inr, ℕ, ◌<◌, ◌≤◌, Bool, true, false, List, [], refl, sym, ap, subst, ◌∙◌, IsTrue, Option, Ok, Err, Result, cond, ◌||◌, ◌==◌, arith}
 use Rattle.std.specs.Prelude.{IfErr, OnOk}
 use Rattle.std.proofs.lemmas.Bool.{true≢false}
 use Rattle.row_check.specs.Checksum.{is_luhn}
@@ -11,12 +11,18 @@ use Rattle.bec_links.specs.Nets.{NetState}
 use Rattle.peer_memory.specs.declared.peer.Peer.{Peer as PeerEntry}
 use Rattle.peer_memory.specs.Payload.{Reads}
 use Rattle.replica.specs.Replicas.{ReplicaState}
+use Rattle.key_index.specs.KeyState.{KeyState}
+use Rattle.store_directory.specs.declared.open_refusal.OpenRefusal.{OpenRefusal}
+use Rattle.store_directory.specs.declared.open_refusal.OpenRefusal.TheVariants as open_refusals
+use Rattle.store_directory.specs.declared.opening.Needs.TheVariants as needed
 use Rattle.store_directory.specs.declared.store_refusal.StoreRefusal.{StoreRefusal}
 use Rattle.store_directory.specs.declared.store_refusal.StoreRefusal.TheVariants as store_refusals
 use Rattle.store_directory.specs.Holding.{IsStoreCause, LetsGo, OpenData, PutsStore, TakesStore}
+use Rattle.store_directory.specs.Opening.{Closes, LetsAllGo, Opens, Refuses}
 use Rattle.key_directory.specs.Parts.{IsHome, KeepsAllBut}
 use Rattle.store_directory.specs.Stores.{HoldsRun, StoreData}
 use Rattle.key_directory.proofs.Putting.{told}
+use Rattle.store_directory.proofs.OnceOpen.{no_store_taken, store_closed, store_opened}
 use Rattle.store_directory.proofs.Readings.{OneSchema}
 use Rattle.store_directory.proofs.Working.{held_run, holds_run, read_before, store_of}
 use Rattle.outcomes.specs.declared.refusal.Refusal.{Refusal}
@@ -25,12 +31,12 @@ use Rattle.schema_verdict.specs.declared.status.TheConstants.{DONE, FULL, OUT_OF
 use Rattle.outcomes.specs.Comes.{IsDiskRefusal, readings}
 use Rattle.store_directory.specs.Remembering.{KeepsPeers, memory_in, touched}
 use Rattle.outcomes.specs.OpenStores.{opened_store}
-use Rattle.outcomes.specs.Outcome.{from_store}
+use Rattle.outcomes.specs.Outcome.{from_open, from_store}
 use Rattle.store_directory.specs.Standing.{Stands}
 use Rattle.outcomes.specs.StoreAnswers.{bad_store, no_store}
 use Rattle.outcomes.proofs.Around.{closing_told, of_peers, of_store, opened_told, places_around, same_memory}
 use Rattle.session_server.specs.declared.served.Served.{Served}
-use Rattle.net_commands.specs.declared.serve.Met.{Met}
+use Rattle.net_commands.specs.declared.serving.Met.{Met}
 use Rattle.net_commands.specs.Meetings.{RemembersSessions, ServeAnswer, ServesStore, ServingOf, not_read as unread, not_served, not_taken, opened as of_open, served}
 use Rattle.outcomes.specs.Told.{Told, told_done}
 use Rattle.store_directory.specs.Settling.{KeepsGrowing}
@@ -38,7 +44,7 @@ use Rattle.net_commands.specs.OpenServing.{ConcludesAll, ConcludesAllAs, HasFail
 use Rattle.net_commands.specs.Words.{has_status, serve_status, serve_text}
 use Rattle.outcomes.specs.declared.reply.Reply.{Reply}
 use Rattle.update_log.specs.Log.{IsClean}
-use Rattle.net_commands.proofs.Open.{keeps_peers_then}
+use Rattle.net_commands.proofs.Open.{keeps_peers_then, now_open}
 use Rattle.net_commands.proofs.Sharing.{grows_none, grows_then, holds_grown, passes_by}
 
 -- ---- statuses
@@ -256,7 +262,7 @@ serving_moves a b store asked m n p q net net_new net_faults net_faults_new adde
 
 module _ (dir : List ℕ) (asked : ℕ) (before after : ShelfState) (net net_new : NetState) (faults faults_new net_faults net_faults_new : ℕ) where
   -- where it was refused
-  pub serves_none : (why : StoreRefusal) → (IsTrue before.tells → IsHome before) → LetsGo is_luhn before dir after → (IsTrue before.tells → IsStoreCause is_luhn before dir why)
+  serves_none : (why : StoreRefusal) → (IsTrue before.tells → IsHome before) → LetsGo is_luhn before dir after → (IsTrue before.tells → IsStoreCause is_luhn before dir why)
       → (why ≡ store_refusals.DiskFault → Rose faults faults_new) → net_new ≡ net → ServesStore dir asked before after net net_new faults faults_new net_faults net_faults_new (Err (from_store why))
   serves_none why home lets cause failed same = by why cause failed
     where
@@ -312,8 +318,14 @@ module _ (dir : List ℕ) (asked : ℕ) (before after : ShelfState) (net net_new
         stream_fault = λ is. absurd (cc (is));
       }
 
+  pub serves_refused : (why : OpenRefusal) → (IsTrue before.tells → IsHome before) → LetsAllGo needed.Store before dir after → Refuses why needed.Store before dir
+      → (why ≡ open_refusals.Store store_refusals.DiskFault → Rose faults faults_new) → net_new ≡ net
+      → ServesStore dir asked before after net net_new faults faults_new net_faults net_faults_new (Err (from_open why))
+  serves_refused (open_refusals.Store why) home lets cause failed same = serves_none why home (no_store_taken before after dir lets) cause (λ is. failed (ap open_refusals.Store is)) same
+  serves_refused (open_refusals.Key why) home lets cause failed same = absurd cause
+
   -- where it was taken and put back
-  pub serves_taken : OneSchema → (opened closing : ShelfState) (opened_faults closing_faults : ℕ) (taken : OpenData) (now : ReplicaState) (answer : Told) → (IsTrue before.tells → IsHome before)
+  serves_taken : OneSchema → (opened closing : ShelfState) (opened_faults closing_faults : ℕ) (taken : OpenData) (now : ReplicaState) (answer : Told) → (IsTrue before.tells → IsHome before)
       → TakesStore is_luhn before dir taken opened → ServesOpen dir asked opened closing net net_new opened_faults closing_faults net_faults net_faults_new taken.replica now answer
       → PutsStore closing dir taken.schema now.log.disk after → faults ≤ opened_faults → closing_faults ≤ faults_new → (0 < now.log.faults → Rose closing_faults faults_new)
       → ServesStore dir asked before after net net_new faults faults_new net_faults net_faults_new answer
@@ -344,3 +356,11 @@ module _ (dir : List ℕ) (asked : ℕ) (before after : ShelfState) (net net_new
       by (inl meets) = inl (of_open (store_of taken.replica) (λ tells. read_before is_luhn before opened dir taken tells takes)
           (serving_moves opened.tells before.tells (store_of taken.replica) asked (memory_in opened dir) (memory_in before dir) (memory_in closing dir) (memory_in after dir) net net_new net_faults net_faults_new
           serves.added answer inside (same_memory before opened dir (takes.others (slot dir Peers) refl)) (λ tells. same_memory closing after dir (puts.others (still tells) (slot dir Peers) refl)) meets))
+
+  pub serves_closed : OneSchema → (opened closing : ShelfState) (opened_faults closing_faults : ℕ) (taken : OpenData) (key : Option KeyState) (now : ReplicaState) (answer : Told) → (IsTrue before.tells → IsHome before)
+      → Opens needed.Store before dir taken key opened → ServesOpen dir asked opened closing net net_new opened_faults closing_faults net_faults net_faults_new taken.replica now answer → faults ≤ opened_faults
+      → Closes closing closing_faults dir (now_open taken now) key after faults_new → ServesStore dir asked before after net net_new faults faults_new net_faults net_faults_new answer
+  serves_closed schemas opened closing opened_faults closing_faults taken key now answer home opens serves one_later closes =
+      let is = store_opened before opened dir taken key opens in
+      let closed = store_closed closing after closing_faults faults_new dir (now_open taken now) key is.1 closes in
+      serves_taken schemas opened closing opened_faults closing_faults taken now answer home is.0 serves closed.puts one_later closed.later closed.log_faulted

@@ -8,13 +8,13 @@ use Rattle.session_server.specs.declared.ending.Ending.TheVariants.{Done, Peer a
 use Rattle.session_server.specs.declared.served.Served.{Served}
 use Rattle.schema_verdict.specs.declared.status.TheConstants.{DONE}
 use Rattle.net_commands.specs.Meetings.{RemembersAll, RemembersOne, RemembersSessions}
-use Rattle.net_commands.specs.Words.{has_status, status_by}
+use Rattle.net_commands.specs.Words.{has_status, exit_status}
 
 neither : (x y : Bool) → x || y ≡ false → (x ≡ false) × (y ≡ false)
 neither true y e = absurd (true≢false e)
 neither false y e = (refl, e)
 
-none_by : (peers : List Peer) (ending : Ending) (node : Option (List ℕ)) (ids : List UpdateId) → (status_by ending == DONE) ≡ false → RemembersOne peers ending node ids peers
+none_by : (peers : List Peer) (ending : Ending) (node : Option (List ℕ)) (ids : List UpdateId) → (exit_status ending == DONE) ≡ false → RemembersOne peers ending node ids peers
 none_by peers Done whose ids is = absurd (cc (is))
 none_by peers (BadPeer fault) whose ids is = refl
 none_by peers Cut whose ids is = refl
@@ -26,7 +26,7 @@ none_by peers Memory whose ids is = refl
 none_done : (peers : List Peer) (sessions : List Served) → has_status DONE sessions ≡ false → RemembersAll peers sessions peers
 none_done peers [] is = refl
 none_done peers (s ∷ others) is =
-    let both = neither (status_by s.ending == DONE) (has_status DONE others) is in
+    let both = neither (exit_status s.ending == DONE) (has_status DONE others) is in
     (peers, none_by peers s.ending s.peer s.heads both.0, none_done peers others both.1)
 
 pub remembers_none : (peers : List Peer) (sessions : List Served) (memory : List ℕ) → has_status DONE sessions ≡ false → RemembersSessions peers sessions memory memory

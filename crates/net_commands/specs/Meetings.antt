@@ -29,7 +29,7 @@ use Rattle.schema_verdict.specs.declared.status.TheConstants.{DONE, OUT_OF_MEMOR
 use Rattle.outcomes.specs.Comes.{readings}
 use Rattle.store_directory.specs.Remembering.{RemembersIn, memory_in, touched}
 use Rattle.outcomes.specs.StoreAnswers.{HasStore, Readings, RefusesStore}
-use Rattle.net_commands.specs.Words.{has_status, serve_status, serve_text, status_by, sync_text}
+use Rattle.net_commands.specs.Words.{has_status, serve_status, serve_text, exit_status, sync_text}
 use Rattle.outcomes.specs.Told.{Told, told_status, told_done, Tells}
 
 -- ---- sessions
@@ -85,7 +85,7 @@ IsOfStore refusal = (refusal ≡ refusals.NoStore) ⊎ (refusal ≡ refusals.Bad
 -- How a session is told: by what it came to, and after one that is done its ids are remembered, and after another nothing; or, after one that is done, by the disk that
 -- failed as the log was settled or the ids were to be remembered.
 pub data Concluded (tells : Bool) (peers : List PeerEntry) (name : List ℕ) (memory memory_new : List ℕ) (served : Served) (told : Told) : Type 0 where
-  kept : Tells told (sync_text served) (status_by served.ending) → (served.ending ≡ endings.Done → IsTrue tells → RemembersIn peers name served.heads memory_new)
+  kept : Tells told (sync_text served) (exit_status served.ending) → (served.ending ≡ endings.Done → IsTrue tells → RemembersIn peers name served.heads memory_new)
       → (served.ending ≢ endings.Done → IsTrue tells → memory_new ≡ memory) → Concluded tells peers name memory memory_new served told
   not_kept : served.ending ≡ endings.Done → told ≡ Err refusals.StoreFault → Concluded tells peers name memory memory_new served told
 

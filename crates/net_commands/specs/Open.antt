@@ -1,14 +1,13 @@
 -- What is done to a store that is open, in the middle of `sync` and `serve`.
-use Rattle.std.specs.Prelude.{◌≡◌, ◌≢◌, ◌⊎◌, ℕ, ◌<◌, ◌≤◌, true, List, ◌∷◌, ◌++◌, map, IsTrue, IfErr, OnOk, Some, Result, Ok, Err}
+use Rattle.std.specs.Prelude.{◌≡◌, ◌≢◌, ◌⊎◌, ℕ, ◌<◌, ◌≤◌, true, List, ◌∷◌, map, IsTrue, IfErr, OnOk, Some, Result, Ok, Err}
 use mathlib.Core.List.{IsPrefix}
 use Rattle.bec_bytes.specs.Causes.{Rose}
-use Rattle.bec_disk.specs.Disk.{IsSameDisk}
 use Rattle.bec_disk.specs.Shelf.{ShelfState}
 use Rattle.bec_links.specs.Nets.{NetState}
 use Rattle.update_log.specs.Log.{IsClean}
 use Rattle.session_rules.specs.declared.role.Role.TheVariants.{Initiator}
 use Rattle.peer_memory.specs.declared.peer.Peer.{Peer as PeerEntry}
-use Rattle.replica.specs.Replicas.{IsSameStore, ReplicaState}
+use Rattle.replica.specs.Replicas.{ReplicaState}
 use Rattle.store_directory.specs.Holding.{HoldsOn}
 use Rattle.store_directory.specs.Settling.{KeepsGrowing}
 use Rattle.shared_replica.specs.declared.entry.Entry.{Entry}
@@ -24,8 +23,7 @@ use Rattle.schema_verdict.specs.declared.status.TheConstants.{STORE_FAULT, STREA
 use Rattle.store_directory.specs.Remembering.{KeepsPeers, RemembersIn, memory_in}
 use Rattle.outcomes.specs.OpenStores.{opened_store}
 use Rattle.net_commands.specs.Meetings.{Concluded, Dials, HandsNone, HandsOver, MeetingOf}
-use Rattle.outcomes.specs.Told.{Tells, Told, told_done, told_status}
-use Rattle.net_commands.specs.Words.{status_by, sync_text}
+use Rattle.outcomes.specs.Told.{Told, told_done, told_status}
 
 -- the list of a shared replica as it opens
 abbrev pub opening_list : ReplicaState → List Entry

@@ -19,7 +19,7 @@ use Rattle.outcomes.specs.declared.refusal.Refusal.TheVariants as refusals
 use Rattle.schema_verdict.specs.declared.status.TheConstants.{OUT_OF_MEMORY, STORE_FAULT, STREAM_FAULT}
 use Rattle.store_directory.specs.Remembering.{KeepsPeers, memory_in}
 use Rattle.outcomes.specs.OpenStores.{opened_store}
-use Rattle.net_commands.specs.declared.serve.Met.{Met}
+use Rattle.net_commands.specs.declared.serving.Met.{Met}
 use Rattle.net_commands.specs.Meetings.{RemembersSessions, ServingOf}
 use Rattle.outcomes.specs.Told.{Tells, Told, told_done, told_status}
 use Rattle.store_directory.specs.Settling.{KeepsGrowing}

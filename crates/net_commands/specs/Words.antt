@@ -9,14 +9,14 @@ use Rattle.schema_verdict.specs.declared.status.TheConstants.{DONE, STORE_FAULT,
 use Rattle.outcomes.specs.Texts.{peer_text}
 
 -- the exit status for a session that ended so
-abbrev pub status_by : Ending → ℕ
-status_by Done = DONE
-status_by (Peer fault) = PEER
-status_by Cut = PEER
-status_by Full = FULL
-status_by Broken = STREAM_FAULT
-status_by Store = STORE_FAULT
-status_by Memory = OUT_OF_MEMORY
+abbrev pub exit_status : Ending → ℕ
+exit_status Done = DONE
+exit_status (Peer fault) = PEER
+exit_status Cut = PEER
+exit_status Full = FULL
+exit_status Broken = STREAM_FAULT
+exit_status Store = STORE_FAULT
+exit_status Memory = OUT_OF_MEMORY
 
 -- what `sync` prints of its session: what the store gained, and the turns; or how it ended otherwise
 abbrev pub text_by : Ending → ℕ → ℕ → List ℕ
@@ -62,7 +62,7 @@ serve_text sessions store_failed net_failed = lines_from 1 sessions ++ said_last
 
 -- whether a session has this exit status
 abbrev pub has_status : ℕ → List Served → Bool
-has_status status sessions = list_any (λ served. status_by served.ending == status) sessions
+has_status status sessions = list_any (λ served. exit_status served.ending == status) sessions
 
 -- The exit status of `serve`: the first of 5, 3, 4, 7 and 6 that a session has, and else 0. A disk that failed outside the sessions has 3, and the net has 4.
 abbrev pub serve_status : List Served → (store_failed net_failed : Bool) → ℕ

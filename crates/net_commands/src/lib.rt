@@ -8,9 +8,10 @@
 //! Both wait for others, and `serve` starts threads.
 #![tactic(auto)]
 
-mod serve;
-mod sync;
+mod known;
+mod serving;
+mod syncing;
 mod words;
 
-pub use serve::serve_in;
-pub use sync::sync_in;
+pub use serving::{Service, serve};
+pub use syncing::sync;

@@ -2,7 +2,8 @@
 
 ghost use Rattle.std.specs.Prelude.{◌≡◌, IfOk, drop};
 ghost use Rattle.outcomes.specs.Texts.{peer_text};
-ghost use Rattle.net_commands.specs.Words.{has_status, lines_from, said_last, serve_status, serve_text, session_line, status_by, sync_text, text_by, words_by};
+ghost use Rattle.net_commands.specs.Words.{exit_status, has_status, lines_from, said_last, serve_status, serve_text};
+ghost use Rattle.net_commands.specs.Words.{session_line, sync_text, text_by, words_by};
 
 use outcomes::peer_line;
 use outcomes::status::{DONE, FULL, OUT_OF_MEMORY, PEER, STORE_FAULT, STREAM_FAULT};
@@ -11,8 +12,8 @@ use session_server::{Ending, Served};
 use std::alloc::{AllocError, Global};
 
 /// The exit status for a session that ended so.
-pub(crate) fn status_by(ending: &Ending) -> u8
-    ensures { result ≡ status_by ending.now }
+pub(crate) fn exit_status(ending: &Ending) -> u8
+    ensures { result ≡ exit_status ending.now }
 {
     match ending {
         Ending::Done => DONE,
@@ -51,7 +52,7 @@ pub(crate) fn has_status(status: u8, sessions: &[Served]) -> bool
 {
     sessions
         .iter()
-        .any(|served| status_by(&served.ending) == status)
+        .any(|served| exit_status(&served.ending) == status)
 }
 
 /// The exit status of `serve`.

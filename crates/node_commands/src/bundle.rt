@@ -10,7 +10,8 @@ use std::alloc::Global;
 /// Reads the text of the schema that a bundle begins with, and nothing behind it.
 pub fn bundle_schema<S: Source>(alloc: Global, input: &mut S) -> Result<Vec<u8>, Refusal>
     ensures text { IfOk result (λ text. HoldsText (S.left input.old) (S.left input.new) text.items) }
-    ensures refused { IfErr result (λ refusal. LacksText (S.left input.old) (S.left input.new) refusal ⊎ IsFault (S.faults input.old) (S.faults input.new) refusal) }
+    ensures refused { IfErr result (λ refusal. LacksText (S.left input.old) (S.left input.new) refusal
+        ⊎ IsFault (S.faults input.old) (S.faults input.new) refusal) }
     ensures later { S.faults input.old ≤ S.faults input.new }
 {
     match read_framed(alloc, input, MAX_SCHEMA_BYTES)? {

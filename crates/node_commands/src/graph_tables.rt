@@ -36,7 +36,8 @@ pub fn printed_tables(
 ) -> Result<Vec<u8>, AllocError>
     requires sound { AreTables [] schema.now.tables }
     requires accepted { IsTrue (are_accepted (rules_of schema.now) (invariants_of (rules_of schema.now))) }
-    ensures { IfOk result (λ text. AreMembers schema.now.rule graph.now → PrintsTables json schema.now graph.now text.items) }
+    ensures { IfOk result (λ text. AreMembers schema.now.rule graph.now
+        → PrintsTables json schema.now graph.now text.items) }
 {
     accepted_holds();
     arrivals_are_closed();
@@ -90,7 +91,8 @@ fn state_text(
     tables: &Tables,
     json: bool,
 ) -> Result<Vec<u8>, AllocError>
-    ensures { IfOk result (λ text. (nodes : List NodeData) → IsStateOf (rules_of schema.now) nodes tables.now → ShowsState json schema.now nodes text.items) }
+    ensures { IfOk result (λ text. (nodes : List NodeData) → IsStateOf (rules_of schema.now) nodes tables.now
+        → ShowsState json schema.now nodes text.items) }
 {
     let lists = shown_lists(alloc, schema, tables)?;
     let voids = tables.voids(alloc)?;

@@ -31,11 +31,14 @@ use update_stream::{one_graph, one_refusal, whole_or_refused};
 /// An input has one answer to a command, so each status and each text comes exactly where its cause stands.
 pub fn one_answer()
     ensures heads { (input : List ℕ) (after other : Told (List ℕ)) (outcome another : Outcome)
-        → HeadsAnswer (Some input) after outcome → HeadsAnswer (Some input) other another → (status_of outcome ≡ status_of another) × (text_of outcome ≡ text_of another) }
+        → HeadsAnswer (Some input) after outcome → HeadsAnswer (Some input) other another
+        → (status_of outcome ≡ status_of another) × (text_of outcome ≡ text_of another) }
     ensures check { (input : List ℕ) (after other : Told (List ℕ)) (outcome another : Outcome)
-        → CheckAnswer (Some input) after outcome → CheckAnswer (Some input) other another → (status_of outcome ≡ status_of another) × (text_of outcome ≡ text_of another) }
+        → CheckAnswer (Some input) after outcome → CheckAnswer (Some input) other another
+        → (status_of outcome ≡ status_of another) × (text_of outcome ≡ text_of another) }
     ensures dump { (json : Bool) (input : List ℕ) (after other : Told (List ℕ)) (outcome another : Outcome)
-        → DumpAnswer json (Some input) after outcome → DumpAnswer json (Some input) other another → (status_of outcome ≡ status_of another) × (text_of outcome ≡ text_of another) }
+        → DumpAnswer json (Some input) after outcome → DumpAnswer json (Some input) other another
+        → (status_of outcome ≡ status_of another) × (text_of outcome ≡ text_of another) }
 {
     arrivals_are_closed();
     one_graph();
@@ -47,19 +50,26 @@ pub fn one_answer()
     whole_or_refused();
 }
 
-/// What the parts of a directory read as has one answer to a command that only reads its store, so each status and each text
-/// comes exactly where its cause stands.
+/// What the parts of a directory read as has one answer to a command that only reads its store, so each status and each
+/// text comes exactly where its cause stands.
 pub fn one_answer_of_parts()
     ensures heads { (parts : Readings) (added others : List (List ℕ)) (outcome another : Outcome)
-        → ReadsStore (Printing ShowsHeads) parts added outcome → ReadsStore (Printing ShowsHeads) parts others another → (status_of outcome ≡ status_of another) × (text_of outcome ≡ text_of another) }
+        → ReadsStore (Printing ShowsHeads) parts added outcome → ReadsStore (Printing ShowsHeads) parts others another
+        → (status_of outcome ≡ status_of another) × (text_of outcome ≡ text_of another) }
     ensures dump { (json : Bool) (parts : Readings) (added others : List (List ℕ)) (outcome another : Outcome)
-        → ReadsStore (Printing (ShowsTables json)) parts added outcome → ReadsStore (Printing (ShowsTables json)) parts others another → (status_of outcome ≡ status_of another) × (text_of outcome ≡ text_of another) }
-    ensures query { (text : List ℕ) (json : Bool) (parts : Readings) (added others : List (List ℕ)) (outcome another : Outcome)
-        → ReadsStore (QueryAnswer text json) parts added outcome → ReadsStore (QueryAnswer text json) parts others another → (status_of outcome ≡ status_of another) × (text_of outcome ≡ text_of another) }
+        → ReadsStore (Printing (ShowsTables json)) parts added outcome → ReadsStore (Printing (ShowsTables json)) parts
+        others another → (status_of outcome ≡ status_of another) × (text_of outcome ≡ text_of another) }
+    ensures query { (text : List ℕ) (json : Bool) (parts : Readings) (added others : List (List ℕ)) (outcome another :
+        Outcome)
+        → ReadsStore (QueryAnswer text json) parts added outcome → ReadsStore (QueryAnswer text json) parts others
+        another → (status_of outcome ≡ status_of another) × (text_of outcome ≡ text_of another) }
     ensures notes { (parts : Readings) (added others : List (List ℕ)) (outcome another : Outcome)
-        → ReadsStore (Printing ShowsNotes) parts added outcome → ReadsStore (Printing ShowsNotes) parts others another → (status_of outcome ≡ status_of another) × (text_of outcome ≡ text_of another) }
+        → ReadsStore (Printing ShowsNotes) parts added outcome → ReadsStore (Printing ShowsNotes) parts others another
+        → (status_of outcome ≡ status_of another) × (text_of outcome ≡ text_of another) }
     ensures export { (updates_only : Bool) (parts : Readings) (added others : List (List ℕ)) (outcome another : Outcome)
-        → ReadsStore (Printing (ShowsRecords updates_only)) parts added outcome → ReadsStore (Printing (ShowsRecords updates_only)) parts others another → (status_of outcome ≡ status_of another) × (text_of outcome ≡ text_of another) }
+        → ReadsStore (Printing (ShowsRecords updates_only)) parts added outcome
+        → ReadsStore (Printing (ShowsRecords updates_only)) parts others another
+        → (status_of outcome ≡ status_of another) × (text_of outcome ≡ text_of another) }
 {
     arrivals_are_closed();
     no_query_fault();
@@ -71,17 +81,25 @@ pub fn one_answer_of_parts()
     tables_are_of_the_set();
 }
 
-/// What stands outside has one answer to a command that makes a store, a key or an update. Of `apply` it is so of each refusal
-/// that comes before the operations are judged, and of every answer where none is that they are invalid.
+/// What stands outside has one answer to a command that makes a store, a key or an update. Of `apply` it is so of each
+/// refusal that comes before the operations are judged, and of every answer where none is that they are invalid.
 pub fn one_answer_of_makers()
-    ensures init { (input : List ℕ) (after other : Told (List ℕ)) (stream : Stream) (parts later another : Readings) (outcome given : Outcome)
-        → InitAnswer (Some input) after stream parts later outcome → InitAnswer (Some input) other stream parts another given → (status_of outcome ≡ status_of given) × (text_of outcome ≡ text_of given) }
-    ensures keygen { (height : Height) (width : Width) (stream : Stream) (parts later another : Readings) (outcome given : Outcome)
-        → KeygenAnswer height width stream parts later outcome → KeygenAnswer height width stream parts another given → (status_of outcome ≡ status_of given) × (text_of outcome ≡ text_of given) }
-    ensures apply { (note : Told (List ℕ)) (input : List ℕ) (stream : Stream) (parts : Readings) (outcome given : Outcome)
-        → MayApply note input stream parts outcome → IsSureOfApply note input stream parts given → (status_of outcome ≡ status_of given) × (text_of outcome ≡ text_of given) }
+    ensures init { (input : List ℕ) (after other : Told (List ℕ)) (stream : Stream) (parts later another : Readings)
+        (outcome given : Outcome)
+        → InitAnswer (Some input) after stream parts later outcome → InitAnswer (Some input) other stream parts another
+        given → (status_of outcome ≡ status_of given) × (text_of outcome ≡ text_of given) }
+    ensures keygen { (height : Height) (width : Width) (stream : Stream) (parts later another : Readings)
+        (outcome given : Outcome)
+        → KeygenAnswer height width stream parts later outcome → KeygenAnswer height width stream parts another given
+        → (status_of outcome ≡ status_of given) × (text_of outcome ≡ text_of given) }
+    ensures apply { (note : Told (List ℕ)) (input : List ℕ) (stream : Stream) (parts : Readings) (outcome given :
+        Outcome)
+        → MayApply note input stream parts outcome → IsSureOfApply note input stream parts given
+        → (status_of outcome ≡ status_of given) × (text_of outcome ≡ text_of given) }
     ensures join { (stream : Stream) (parts : Readings) (added others : List (List ℕ)) (outcome given : Outcome)
-        → StoreAnswer (Unit {0}) (JoinAnswer stream) parts added outcome → StoreAnswer (Unit {0}) (JoinAnswer stream) parts others given → (status_of outcome ≡ status_of given) × (text_of outcome ≡ text_of given) }
+        → StoreAnswer (Unit {0}) (JoinAnswer stream) parts added outcome
+        → StoreAnswer (Unit {0}) (JoinAnswer stream) parts others given → (status_of outcome ≡ status_of given)
+        × (text_of outcome ≡ text_of given) }
 {
     key_or_not();
     no_fault();
@@ -98,10 +116,11 @@ pub fn one_answer_of_makers()
     taken_or_refused();
 }
 
-/// What the parts of two directories read as has one answer to `merge`, as far as it is sure: a store is refused, or both go
-/// together and have room, and it is done.
+/// What the parts of two directories read as has one answer to `merge`, as far as it is sure: a store is refused, or
+/// both go together and have room, and it is done.
 pub fn one_answer_of_merge()
-    ensures { (parts other : Readings) (outcome given : Outcome) → MayMerge parts other outcome → IsSureOfMerge parts other given → status_of outcome ≡ status_of given }
+    ensures { (parts other : Readings) (outcome given : Outcome) → MayMerge parts other outcome
+        → IsSureOfMerge parts other given → status_of outcome ≡ status_of given }
 {
     one_store();
     store_or_not();

@@ -1,6 +1,6 @@
-//! The commands of the program `bec` that need no net, over what they use: a shelf of directories, a generator of random
-//! words, a source. Each answers the text that it prints, or why it is refused. What works over the store of one directory is
-//! a [`Work`], and [`work_in`] does it: it opens the directory once, does the work, and closes it.
+//! The commands of the program `bec` that need no net, over what they use: a shelf of directories, a generator of
+//! random words, a source. Each answers the text that it prints, or why it is refused. What works over the store of one
+//! directory is a [`Work`], and [`open_and_work`] does it: it opens the directory once, does the work, and closes it.
 //!
 //! ```text
 //! bec heads < stream        the ids of the heads of an update stream, rising, one per line
@@ -21,8 +21,8 @@
 //! ```
 //!
 //! What is told of each is an answer in specs/; that an input has one answer are the laws [`one_answer`],
-//! [`one_answer_of_parts`], [`one_answer_of_makers`] and [`one_answer_of_merge`]. How a bundle is read and notes are put in order
-//! stands here for other programs too: [`bundle_schema`], [`read_graph`], [`note_of`] and [`in_order`].
+//! [`one_answer_of_parts`], [`one_answer_of_makers`] and [`one_answer_of_merge`]. How a bundle is read and notes are
+//! put in order stands here for other programs too: [`bundle_schema`], [`read_graph`], [`note_of`] and [`in_order`].
 //!
 //! It waits for nobody but its source, and opens nothing by itself.
 #![tactic(auto)]
@@ -39,11 +39,11 @@ pub use bundle::bundle_schema;
 pub use commands::check::verdict;
 pub use commands::dump::bundle_tables;
 pub use commands::heads::stream_heads;
-pub use commands::init::init_in;
-pub use commands::keygen::keygen_in;
-pub use commands::merge::merge_in;
+pub use commands::init::init;
+pub use commands::keygen::keygen;
+pub use commands::merge::merge;
 pub use commands::notes::{in_order, note_of};
 pub use heads::heads_of;
 pub use laws::{one_answer, one_answer_of_makers, one_answer_of_merge, one_answer_of_parts};
 pub use stream::read_graph;
-pub use working::{Work, work_in};
+pub use working::{Work, open_and_work};

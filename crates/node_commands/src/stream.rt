@@ -18,7 +18,8 @@ pub fn read_graph<S: Source>(
     input: &mut S,
 ) -> Result<Graph<Checked>, Refusal>
     ensures whole { IfOk result (λ members. Reads rule.now (S.left input.old) (S.left input.new) (Whole members)) }
-    ensures refused { IfErr result (λ refusal. StopsAt rule.now (S.left input.old) (S.left input.new) (S.faults input.old) (S.faults input.new) refusal) }
+    ensures refused { IfErr result (λ refusal. StopsAt rule.now (S.left input.old) (S.left input.new)
+        (S.faults input.old) (S.faults input.new) refusal) }
     ensures later { S.faults input.old ≤ S.faults input.new }
 {
     match read_stream(alloc, rule, input)? {

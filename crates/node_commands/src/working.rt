@@ -2,20 +2,20 @@
 
 ghost use Rattle.std.specs.Prelude.{◌≡◌, IsTrue};
 ghost use Rattle.key_directory.specs.Parts.{IsHome};
-ghost use Rattle.outcomes.specs.Outside.{outside};
+ghost use Rattle.outcomes.specs.Seen.{seen_outside};
 ghost use Rattle.node_commands.specs.Works.{Does, DoesOpen, HasKeyFor, HasShortNote, beside, needs_of};
 
-use crate::commands::apply::apply_by;
+use crate::commands::apply::apply;
 use crate::commands::export::exported;
 use crate::commands::heads::replica_heads;
-use crate::commands::join::join_by;
+use crate::commands::join::join;
 use crate::commands::notes::replica_notes;
 use crate::commands::query_store::asked;
 use crate::graph_tables::replica_tables;
 use bec_bytes::Source;
 use bec_disk::{Disk, Shelf};
 use key_directory::KeyMaker;
-use outcomes::Refusal;
+use outcomes::{Outside, Refusal};
 use rand_core::Rng;
 use record_check::Verifier;
 use schema_text::one_schema;
@@ -23,7 +23,7 @@ use std::alloc::Global;
 use store_directory::{Needs, Opened, close, each_stands, open};
 
 /// What is done over a directory that is open.
-#[derive(Clone, Copy, Debug, Drop)]
+#[derive(Clone, Copy, Drop)]
 pub enum Work<'a> {
     /// The heads of its store are printed.
     Heads,
@@ -67,30 +67,33 @@ impl Work<'_> {
     }
 }
 
-/// Opens a directory, does this over what is open, and closes it again. Its outcome is the text that is printed, or why it is
-/// not done: its store is refused before its key, and its key before what is read.
-pub fn work_in<V: Verifier, H: Shelf, R: Rng, S: Source>(
+/// Opens a directory, does this over what is open, and closes it again. Its outcome is the text that is printed, or why
+/// it is not done: its store is refused before its key, and its key before what is read.
+pub fn open_and_work<V: Verifier, H: Shelf, R: Rng, S: Source>(
     maker: &KeyMaker<V>,
-    shelf: &mut H,
     directory: &str,
     work: &Work<'_>,
-    random: &mut R,
-    input: &mut S,
+    outside: &mut Outside<H, R, S>,
 ) -> Result<Vec<u8>, Refusal>
-    requires home { IsTrue (H.state shelf.old).tells → IsHome (H.state shelf.old) }
+    requires home { IsTrue (H.state outside.old.shelf).tells → IsHome (H.state outside.old.shelf) }
     requires short { HasShortNote work.now }
-    ensures { Does work.now directory.now (outside S.left S.faults H.state H.faults R.stream input.old shelf.old random.old)
-        (outside S.left S.faults H.state H.faults R.stream input.new shelf.new random.new) result }
+    ensures { Does work.now directory.now (seen_outside S.Source H.Shelf R.stream outside.old)
+        (seen_outside S.Source H.Shelf R.stream outside.new) result }
 {
     one_schema();
+    let Outside {
+        shelf,
+        random,
+        input,
+    } = outside;
     let mut opened = open(maker.generator, maker.alloc, shelf, directory, work.needs())?;
-    let outcome = work_over(maker.alloc, &mut opened, work, random, input);
+    let outcome = do_work(maker.alloc, &mut opened, work, random, input);
     close(shelf, directory, opened);
     outcome
 }
 
 /// The same over what is open.
-fn work_over<D: Disk, R: Rng, S: Source>(
+fn do_work<D: Disk, R: Rng, S: Source>(
     alloc: Global,
     opened: &mut Opened<D>,
     work: &Work<'_>,
@@ -99,7 +102,8 @@ fn work_over<D: Disk, R: Rng, S: Source>(
 ) -> Result<Vec<u8>, Refusal>
     requires key { HasKeyFor (needs_of work.now) opened.old.key }
     requires short { HasShortNote work.now }
-    ensures { DoesOpen work.now (beside S.left S.faults R.stream input.old random.old) (beside S.left S.faults R.stream input.new random.new)
+    ensures { DoesOpen work.now (beside S.left S.faults R.stream input.old random.old)
+        (beside S.left S.faults R.stream input.new random.new)
         opened.old.store opened.old.key opened.new.store opened.new.key result }
 {
     each_stands(&opened.store.replica);
@@ -110,11 +114,11 @@ fn work_over<D: Disk, R: Rng, S: Source>(
         Work::Query { text, json } => asked(alloc, &opened.store.replica, text, *json),
         Work::Notes => Ok(replica_notes(alloc, &opened.store.replica)?),
         Work::Apply { note } => match &mut opened.key {
-            Some(key) => apply_by(alloc, &mut opened.store.replica, key, *note, random, input),
+            Some(key) => apply(alloc, &mut opened.store.replica, key, *note, random, input),
             None => Err(Refusal::NoKey),
         },
         Work::Join => match &mut opened.key {
-            Some(key) => join_by(alloc, &mut opened.store.replica, key, random),
+            Some(key) => join(alloc, &mut opened.store.replica, key, random),
             None => Err(Refusal::NoKey),
         },
     }

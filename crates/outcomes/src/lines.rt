@@ -3,7 +3,8 @@
 ghost use Rattle.std.specs.Prelude.{◌≡◌, ◌≢◌, IfOk, IfSome, IfNone, OnErr, Err};
 ghost use Rattle.std.specs.String.{string_bytes};
 ghost use Rattle.outcomes.specs.declared.refusal.Refusal.TheVariants.{Memory};
-ghost use Rattle.outcomes.specs.Texts.{invalid_text, many_heads_text, peer_text, query_text, record_text, spent_text, transaction_text};
+ghost use Rattle.outcomes.specs.Texts.{invalid_text, many_heads_text, peer_text, query_text, record_text, spent_text};
+ghost use Rattle.outcomes.specs.Texts.{transaction_text};
 ghost use Rattle.outcomes.specs.Outcome.{MayLackMemory, Says, text_for};
 
 use crate::refusal::Refusal;
@@ -15,10 +16,11 @@ use std::alloc::{AllocError, Global};
 use txn_text::TextFault;
 use update_stream::RecordFault;
 
-/// Writes the lines of a refusal and answers its exit status. Where memory runs out nothing is written; a refusal that has
-/// always the same line takes none.
+/// Writes the lines of a refusal and answers its exit status. Where memory runs out nothing is written; a refusal that
+/// has always the same line takes none.
 pub fn refuse<K: Sink>(alloc: Global, out: &mut K, refusal: &Refusal) -> Result<u8, AllocError>
-    ensures said { IfOk result (λ status. Says (K.faults out.old) (K.faults out.new) (K.held out.old) (K.held out.new) (Err refusal.now) status) }
+    ensures said { IfOk result (λ status. Says (K.faults out.old) (K.faults out.new) (K.held out.old) (K.held out.new)
+        (Err refusal.now) status) }
     ensures same { OnErr result (out.new ≡ out.old) }
     ensures made { OnErr result (MayLackMemory (Err refusal.now)) }
 {

@@ -1,6 +1,8 @@
 ghost use Rattle.std.specs.Prelude.{◌≡◌};
 ghost use Rattle.outcomes.specs.declared.refusal.Refusal.TheVariants.{Memory};
-ghost use Rattle.outcomes.specs.Outcome.{status_for, from_creating, from_creating_key, from_disk, from_key, from_make, from_open, from_query, from_reading, from_store, from_taking, from_text, from_verdict};
+ghost use Rattle.outcomes.specs.Outcome.{status_for, from_creating, from_creating_key, from_disk, from_key, from_make};
+ghost use Rattle.outcomes.specs.Outcome.{from_open, from_query, from_reading, from_store, from_taking, from_text};
+ghost use Rattle.outcomes.specs.Outcome.{from_verdict};
 ghost use Rattle.lms_tree.specs.LmsKind.{leaf_count};
 
 use bec_bytes::ReadError;
@@ -70,7 +72,8 @@ pub enum Refusal {
     IdTaken,
     /// One more update would pass a limit of the store.
     Full,
-    /// The other store of a session broke its rules: their databases differ, say, or it has an update that is refused here.
+    /// The other store of a session broke its rules: their databases differ, say, or it has an update that is refused
+    /// here.
     Peer(PeerFault),
     /// Every index of the key is used, of which there are so many.
     KeySpent(u32),

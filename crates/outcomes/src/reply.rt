@@ -33,8 +33,8 @@ pub struct Reply {
     pub status: u8,
 }
 
-/// Ends a command that tells a status of its own: writes what is told, or the lines of the refusal, and answers the exit
-/// status. Where memory runs out for those lines nothing is written.
+/// Ends a command that tells a status of its own: writes what is told, or the lines of the refusal, and answers the
+/// exit status. Where memory runs out for those lines nothing is written.
 pub fn end<K: Sink>(alloc: Global, out: &mut K, told: Result<Reply, Refusal>) -> u8
     ensures { EndsTold (K.faults out.old) (K.faults out.new) (K.held out.old) (K.held out.new) told result }
 {

@@ -1,8 +1,9 @@
 //! What is told of a store as a whole: a page of HTML that shows it, and how much there is.
 //!
-//! [`page`] answers one page that every browser shows: the tables, the updates that do nothing, and the history as a picture,
-//! which is given. It loads nothing, and what users wrote stands in it as text: [`no_marks_in_texts`]. [`status`] answers a line for
-//! each count. [`database_name`] is the name that a schema's text gives its database, which is the title of its page.
+//! [`page`] answers one page that every browser shows: the tables, the updates that do nothing, and the history as a
+//! picture, which is given. It loads nothing, and what users wrote stands in it as text: [`no_marks_in_texts`].
+//! [`status`] answers a line for each count. [`database_name`] is the name that a schema's text gives its database,
+//! which is the title of its page.
 //!
 //! ```text
 //! let name = database_name(alloc, schema.text())?;

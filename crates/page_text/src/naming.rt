@@ -8,8 +8,8 @@ ghost use Rattle.page_text.specs.Naming.{database_name, name_behind, name_in_lin
 use std::alloc::{AllocError, Global};
 use text_words::{ByteString, Word, next_line, plain_words};
 
-/// The name that the text of a schema gives its database, in the line that begins with `DATABASE`. It is empty where no line does, which
-/// no text of a schema lacks. It gives up where memory runs out.
+/// The name that the text of a schema gives its database, in the line that begins with `DATABASE`. It is empty where no
+/// line does, which no text of a schema lacks. It gives up where memory runs out.
 pub fn database_name(alloc: Global, text: &[u8]) -> Result<ByteString, AllocError>
     ensures { IfOk result (λ name. name ≡ database_name text.now) }
 {

@@ -8,7 +8,8 @@ pub struct PageParts<'a> {
     pub title: &'a [u8],
     /// The schema, whose tables are shown.
     pub schema: &'a Schema,
-    /// The rows of each table, in the order of the schema. A table without a list is not shown, nor is a list without a table.
+    /// The rows of each table, in the order of the schema. A table without a list is not shown, nor is a list without a
+    /// table.
     pub lists: &'a [ShownRowList],
     /// The updates that do nothing.
     pub voids: &'a [VoidLine],

@@ -1,7 +1,9 @@
 //! The page of a store.
 
 ghost use Rattle.std.specs.Prelude.{◌≡◌, ◌++◌, IfOk, OnOk};
-ghost use Rattle.page_text.specs.Pages.{back, closing, front, heading, history, history_begin, look_of_cells, look_of_names, look_of_others, look_of_pages, looks, opening, page_text, title_end, title_line, titled};
+ghost use Rattle.page_text.specs.Pages.{back, closing, front, heading, history, history_begin, look_of_cells};
+ghost use Rattle.page_text.specs.Pages.{look_of_names, look_of_others, look_of_pages, looks, opening, page_text};
+ghost use Rattle.page_text.specs.Pages.{title_end, title_line, titled};
 
 use crate::page_parts::PageParts;
 use crate::rows::push_tables;
@@ -9,11 +11,12 @@ use crate::voids::push_voids;
 use std::alloc::{AllocError, Global};
 use table_model::VoidLine;
 
-/// One page of HTML that shows these parts: the tables with their rows, the updates that do nothing, and the history. It loads nothing.
-/// It gives up where memory runs out.
+/// One page of HTML that shows these parts: the tables with their rows, the updates that do nothing, and the history.
+/// It loads nothing. It gives up where memory runs out.
 #[tactic(auto, unfolding(crate::specs::Pages::page_text))]
 pub fn page(alloc: Global, parts: &PageParts) -> Result<Vec<u8>, AllocError>
-    ensures { IfOk result (λ text. text.items ≡ page_text parts.now.title.now parts.now.schema.now.tables parts.now.lists.now parts.now.voids.now parts.now.picture.now) }
+    ensures { IfOk result (λ text. text.items ≡ page_text parts.now.title.now parts.now.schema.now.tables
+        parts.now.lists.now parts.now.voids.now parts.now.picture.now) }
 {
     let mut out = Vec::new(alloc);
     push_front(&mut out, parts.title)?;

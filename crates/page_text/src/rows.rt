@@ -2,7 +2,8 @@
 
 ghost use Rattle.std.specs.Prelude.{◌≡◌, ◌++◌, ◌<◌, OnOk, length, slice_get};
 ghost use Rattle.std.specs.List.{flat_map};
-ghost use Rattle.page_text.specs.Parts.{each_listed, head_cell, heads_begin, listed, none_part, row_part, table_head, table_part, table_title};
+ghost use Rattle.page_text.specs.Parts.{each_listed, head_cell, heads_begin, listed, none_part, row_part, table_head};
+ghost use Rattle.page_text.specs.Parts.{table_part, table_title};
 
 use crate::cells::push_cells;
 use crate::numbers::push_short_name;
@@ -33,7 +34,8 @@ fn push_numbered(
     lists: &[ShownRowList],
 ) -> Result<(), AllocError>
     requires { number < length schema.now.tables }
-    ensures { OnOk result (out.new.items ≡ out.old.items ++ listed table_part (slice_get schema.now.tables number) (slice_get lists.now number)) }
+    ensures { OnOk result (out.new.items ≡ out.old.items ++ listed table_part (slice_get schema.now.tables number)
+        (slice_get lists.now number)) }
 {
     match lists.get(usize::from(number)) {
         Some(rows) => push_table(out, schema.table(number), rows.as_slice()),

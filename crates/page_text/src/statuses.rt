@@ -10,8 +10,8 @@ use schema::{Schema, TableDef};
 use std::alloc::{AllocError, Global};
 use table_model::{ShownRow, ShownRowList};
 
-/// How much there is, a line for each count: how many updates, how many of them are heads, how many do nothing, and how many rows
-/// each table of the schema shows, by the list that has its number. It gives up where memory runs out.
+/// How much there is, a line for each count: how many updates, how many of them are heads, how many do nothing, and how
+/// many rows each table of the schema shows, by the list that has its number. It gives up where memory runs out.
 #[tactic(auto, unfolding(crate::specs::Statuses::status_text))]
 pub fn status(
     alloc: Global,
@@ -66,7 +66,8 @@ fn push_numbered(
     lists: &[ShownRowList],
 ) -> Result<(), AllocError>
     requires { number < length schema.now.tables }
-    ensures { OnOk result (out.new.items ≡ out.old.items ++ listed rows_line (slice_get schema.now.tables number) (slice_get lists.now number)) }
+    ensures { OnOk result (out.new.items ≡ out.old.items ++ listed rows_line (slice_get schema.now.tables number)
+        (slice_get lists.now number)) }
 {
     match lists.get(usize::from(number)) {
         Some(rows) => push_rows(out, schema.table(number), rows.as_slice()),

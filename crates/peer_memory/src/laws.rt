@@ -6,5 +6,6 @@ ghost use Rattle.peer_memory.specs.Payload.{Reads, Spells};
 
 /// What was written is what is read.
 pub fn peers_are_read_again()
-    ensures { (peers others : List AnyPeer) (bytes : List ℕ) → Spells peers bytes → Reads bytes others → others ≡ peers }
+    ensures { (peers others : List AnyPeer) (bytes : List ℕ) → Spells peers bytes → Reads bytes others
+        → others ≡ peers }
 {}

@@ -1,4 +1,5 @@
-ghost use Rattle.std.specs.Prelude.{◌≡◌, ◌<◌, ◌≤◌, ◌^◌, [], IfOk, OnErr, OnOk, find, length, option_copied, vec_capacity, vec_len};
+ghost use Rattle.std.specs.Prelude.{◌≡◌, ◌<◌, ◌≤◌, ◌^◌, [], IfOk, OnErr, OnOk, find, length, option_copied};
+ghost use Rattle.std.specs.Prelude.{vec_capacity, vec_len};
 ghost use Rattle.std.specs.List.Sorted.{IsStrictlySortedBy};
 ghost use Rattle.sync_frames.specs.Payload.{AreIds};
 ghost use Rattle.update_model.specs.Entry.{id_cmp};
@@ -15,7 +16,8 @@ use update_model::{IdList, UpdateId};
 
 /// Peers and what is remembered of them, the one that was remembered longest ago first.
 ///
-/// Its type keeps that there are at most 256 peers with at most 4,096 ids each, which rise, and that no two have one name.
+/// Its type keeps that there are at most 256 peers with at most 4,096 ids each, which rise, and that no two have one
+/// name.
 #[derive(Drop)]
 pub struct Peers {
     entries: Vec<Peer>,
@@ -71,8 +73,9 @@ impl Peers {
         }
     }
 
-    /// Remembers the least 4,096 of these ids under a name, in the place of what was remembered under it, and as the newest. Where there are 256
-    /// others, the one that was remembered longest ago gives way. Where memory runs out, nothing changes.
+    /// Remembers the least 4,096 of these ids under a name, in the place of what was remembered under it, and as the
+    /// newest. Where there are 256 others, the one that was remembered longest ago gives way. Where memory runs out,
+    /// nothing changes.
     pub fn remember(
         &mut self,
         alloc: Global,

@@ -14,7 +14,7 @@ ghost use Rattle.peer_memory.specs.Payload.{Reads, Spells, spelled_peer};
 ghost use Rattle.peer_memory.specs.Peers.{IsPeer, is_named as is_its_name};
 
 use crate::peers::is_named;
-use crate::read_error::ReadError;
+use crate::read_error::PeersError;
 use crate::{MAX_HEADS, MAX_PEERS, Peer, Peers};
 use byteorder::{BigEndian, ByteOrder};
 use std::alloc::{AllocError, Global};
@@ -26,31 +26,31 @@ pub fn read_peers(alloc: Global, payload: &[u8]) -> Result<Peers, AllocError>
 {
     match peers_in(alloc, payload) {
         Ok(peers) => Ok(peers),
-        Err(ReadError::NoForm) => Ok(Peers::new(alloc)),
-        Err(ReadError::Memory) => Err(AllocError),
+        Err(PeersError::NoForm) => Ok(Peers::new(alloc)),
+        Err(PeersError::Memory) => Err(AllocError),
     }
 }
 
 /// The peers whose payload these bytes are.
-fn peers_in(alloc: Global, bytes: &[u8]) -> Result<Peers, ReadError>
+fn peers_in(alloc: Global, bytes: &[u8]) -> Result<Peers, PeersError>
     ensures peers { IfOk result (λ peers. Spells peers bytes.now) }
-    ensures none { IsErrOf result ReadError.NoForm → (peers : List AnyPeer) → Spells peers bytes.now → ⊥ }
+    ensures none { IsErrOf result PeersError.NoForm → (peers : List AnyPeer) → Spells peers bytes.now → ⊥ }
 {
     let (count, mut rest) = u16_of(bytes)?;
     if MAX_PEERS < count {
-        return Err(ReadError::NoForm);
+        return Err(PeersError::NoForm);
     }
     let mut peers = Vec::new(alloc);
     for _ in 0..count {
         let (peer, after) = peer_of(alloc, rest)?;
         if has_name(peers.as_slice(), peer.name.as_slice()) {
-            return Err(ReadError::NoForm);
+            return Err(PeersError::NoForm);
         }
         peers.push(peer)?;
         rest = after;
     }
     if !rest.is_empty() {
-        return Err(ReadError::NoForm);
+        return Err(PeersError::NoForm);
     }
     Ok(Peers::from_vec(peers))
 }
@@ -63,13 +63,14 @@ fn has_name(peers: &[Peer], name: &[u8]) -> bool
 }
 
 /// The peer that bytes begin with, and the bytes after it.
-fn peer_of(alloc: Global, bytes: &[u8]) -> Result<(Peer, &[u8]), ReadError>
+fn peer_of(alloc: Global, bytes: &[u8]) -> Result<(Peer, &[u8]), PeersError>
     ensures parts { IfOk result (λ read. bytes.now ≡ spelled_peer read.0 ++ read.1.now) }
     ensures peer { IfOk result (λ read. IsPeer read.0) }
-    ensures none { IsErrOf result ReadError.NoForm → (peer : AnyPeer) (rest : List ℕ) → IsPeer peer → bytes.now ≡ spelled_peer peer ++ rest → ⊥ }
+    ensures none { IsErrOf result PeersError.NoForm → (peer : AnyPeer) (rest : List ℕ) → IsPeer peer
+        → bytes.now ≡ spelled_peer peer ++ rest → ⊥ }
 {
     if bytes.len() < 32 {
-        return Err(ReadError::NoForm);
+        return Err(PeersError::NoForm);
     }
     let (first, rest) = bytes.split_at(32);
     let mut name = [0; 32];
@@ -83,26 +84,27 @@ fn peer_of(alloc: Global, bytes: &[u8]) -> Result<(Peer, &[u8]), ReadError>
 }
 
 /// The ids that bytes begin with behind their number, and the bytes after them.
-fn ids_of(alloc: Global, bytes: &[u8]) -> Result<(Vec<UpdateId>, &[u8]), ReadError>
+fn ids_of(alloc: Global, bytes: &[u8]) -> Result<(Vec<UpdateId>, &[u8]), PeersError>
     ensures parts { IfOk result (λ read. bytes.now ≡ counted w16 read.0.items ++ read.1.now) }
     ensures few { IfOk result (λ read. length read.0.items ≤ MAX_HEADS) }
     ensures ids { IfOk result (λ read. AreIds read.0.items) }
     ensures rising { IfOk result (λ read. IsStrictlySortedBy id_cmp read.0.items) }
-    ensures none { IsErrOf result ReadError.NoForm → (ids : List Id) (rest : List ℕ) → length ids ≤ MAX_HEADS → AreIds ids
+    ensures none { IsErrOf result PeersError.NoForm → (ids : List Id) (rest : List ℕ) → length ids ≤ MAX_HEADS
+        → AreIds ids
         → IsStrictlySortedBy id_cmp ids → bytes.now ≡ counted w16 ids ++ rest → ⊥ }
 {
     let (count, rest) = u16_of(bytes)?;
     let count = usize::from(count);
     if usize::from(MAX_HEADS) < count {
-        return Err(ReadError::NoForm);
+        return Err(PeersError::NoForm);
     }
     if rest.len() < 32 * count {
-        return Err(ReadError::NoForm);
+        return Err(PeersError::NoForm);
     }
     let (block, rest) = rest.split_at(32 * count);
     let ids = ids_in(alloc, count, block)?;
     if !are_rising(ids.as_slice()) {
-        return Err(ReadError::NoForm);
+        return Err(PeersError::NoForm);
     }
     Ok((ids, rest))
 }
@@ -151,13 +153,14 @@ fn may_follow(last: Option<UpdateId>, id: UpdateId) -> bool
 }
 
 /// The number that the first two bytes spell, and the bytes after them.
-fn u16_of(bytes: &[u8]) -> Result<(u16, &[u8]), ReadError>
+fn u16_of(bytes: &[u8]) -> Result<(u16, &[u8]), PeersError>
     ensures parts { IfOk result (λ read. bytes.now ≡ to_be_bytes w16 read.0 ++ read.1.now) }
     ensures low { IfOk result (λ read. read.0 < 2 ^ 16) }
-    ensures none { IsErrOf result ReadError.NoForm → (n : ℕ) (rest : List ℕ) → bytes.now ≡ to_be_bytes w16 n ++ rest → ⊥ }
+    ensures none { IsErrOf result PeersError.NoForm → (n : ℕ) (rest : List ℕ) → bytes.now ≡ to_be_bytes w16 n ++ rest
+        → ⊥ }
 {
     if bytes.len() < 2 {
-        return Err(ReadError::NoForm);
+        return Err(PeersError::NoForm);
     }
     let (first, rest) = bytes.split_at(2);
     Ok((BigEndian::read_u16(first), rest))

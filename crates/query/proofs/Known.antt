@@ -15,7 +15,7 @@ use Rattle.query.specs.declared.source.Slot.{Slot}
 use Rattle.query.specs.declared.stop.Wrong.{Wrong}
 use Rattle.query.specs.declared.fault.QueryKind.TheVariants.{UnknownColumn, TypesDiffer, TooLong}
 use Rattle.query.specs.declared.turn.Stand.{Stand}
-use Rattle.query.specs.declared.turn.Turn.{Turn}
+use Rattle.query.specs.declared.turn.Expected.{Expected}
 use Rattle.query.specs.Columns.{kind_named, is_among, with_name, with_names, names_of, columns_of, slot_in, split_dot}
 use Rattle.query.specs.Conditions.{begun, crowded_at, is_unknown, misfit, misfits, place_seen, kind_of, left_after, misfit_from, misfit_in, next_stand, or_else, wrong_in}
 use Rattle.query.specs.Grammar.{wrong_at}
@@ -25,7 +25,7 @@ or_none : (a b : Option Wrong) → or_else a b ≡ None → (a ≡ None) × (b �
 or_none (Some wrong) b e = absurd (cc)
 or_none None b e = (refl, e)
 
-misfit_known : (kinds : List ℕ → Option Kind) (now : Turn) (left : Option Kind) (at : ℕ) (word : Token) → misfit kinds now left at word ≡ None → is_unknown kinds word ≡ false
+misfit_known : (kinds : List ℕ → Option Kind) (now : Expected) (left : Option Kind) (at : ℕ) (word : Token) → misfit kinds now left at word ≡ None → is_unknown kinds word ≡ false
 misfit_known kinds now left at word e =
     let step : (b : Bool) → cond b (Some (wrong_at UnknownColumn at)) (cond (misfits now left (kind_of kinds word) word) (Some (wrong_at TypesDiffer (place_seen now at))) None) ≡ None → b ≡ false = elim [
       | true ↦ λ h. absurd (cc)

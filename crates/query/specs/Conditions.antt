@@ -12,8 +12,8 @@ use Rattle.query.specs.declared.fault.QueryKind.{QueryKind}
 use Rattle.query.specs.declared.fault.QueryKind.TheVariants as fault
 use Rattle.query.specs.declared.limits.TheConstants.{MAX_CONDITION_COLUMNS, MAX_CONDITION_WORDS}
 use Rattle.query.specs.declared.stop.Wrong.{Wrong}
-use Rattle.query.specs.declared.turn.Turn.{Turn}
-use Rattle.query.specs.declared.turn.Turn.TheVariants as turn
+use Rattle.query.specs.declared.turn.Expected.{Expected}
+use Rattle.query.specs.declared.turn.Expected.TheVariants as turn
 use Rattle.query.specs.declared.turn.Stand.{Stand}
 use Rattle.query.specs.Columns.{names_of}
 use Rattle.query.specs.Grammar.{wrong_at}
@@ -26,7 +26,7 @@ pub record IsCondition (words : List Token) : Type 0 where
 
 -- ---- what may follow what
 
-abbrev pub after_operand : Token → Option Turn
+abbrev pub after_operand : Token → Option Expected
 after_operand (token.Column name) = Some turn.Named
 after_operand (token.Integer n) = Some turn.Sided
 after_operand (token.Text bytes) = Some turn.Sided
@@ -37,20 +37,20 @@ after_operand token.Not = Some turn.Operand
 after_operand _ = None
 
 -- a column, and this behind it
-abbrev pub column_then : Turn → Token → Option Turn
+abbrev pub column_then : Expected → Token → Option Expected
 column_then next (token.Column name) = Some next
 column_then next _ = None
 
-abbrev pub after_named : Token → Option Turn
+abbrev pub after_named : Token → Option Expected
 after_named (token.Sign cmp) = Some turn.Right
 after_named token.Is = Some turn.Null
 after_named _ = None
 
-abbrev pub after_sided : Token → Option Turn
+abbrev pub after_sided : Token → Option Expected
 after_sided (token.Sign cmp) = Some turn.Right
 after_sided _ = None
 
-abbrev pub after_right : Token → Option Turn
+abbrev pub after_right : Token → Option Expected
 after_right (token.Column name) = Some turn.Joint
 after_right (token.Integer n) = Some turn.Joint
 after_right (token.Text bytes) = Some turn.Joint
@@ -58,31 +58,31 @@ after_right (token.Flag flag) = Some turn.Joint
 after_right token.Len = Some turn.RightLength
 after_right _ = None
 
-abbrev pub after_is : Token → Option Turn
+abbrev pub after_is : Token → Option Expected
 after_is token.Null = Some turn.Joint
 after_is _ = None
 
-abbrev pub after_native : Token → Option Turn
+abbrev pub after_native : Token → Option Expected
 after_native (token.Integer n) = if is_some (small_number n) then Some turn.Argument else None
 after_native _ = None
 
-abbrev pub after_number : Token → Option Turn
+abbrev pub after_number : Token → Option Expected
 after_number (token.Column name) = Some turn.Joint
 after_number token.Open = Some turn.Arguments
 after_number _ = None
 
-abbrev pub after_argument : Token → Option Turn
+abbrev pub after_argument : Token → Option Expected
 after_argument token.Comma = Some turn.Arguments
 after_argument token.Close = Some turn.Joint
 after_argument _ = None
 
-abbrev pub after_joint : Token → Option Turn
+abbrev pub after_joint : Token → Option Expected
 after_joint token.And = Some turn.Operand
 after_joint token.Or = Some turn.Operand
 after_joint _ = None
 
 -- what comes behind a word that is no parenthesis about an expression
-abbrev pub next_turn : Turn → Token → Option Turn
+abbrev pub next_turn : Expected → Token → Option Expected
 next_turn turn.Operand word = after_operand word
 next_turn turn.Length word = column_then turn.Sided word
 next_turn turn.Named word = after_named word
@@ -97,7 +97,7 @@ next_turn turn.More word = after_argument word
 next_turn turn.Joint word = after_joint word
 
 -- the same with so many parentheses open
-abbrev pub standing : ℕ → Option Turn → Option Stand
+abbrev pub standing : ℕ → Option Expected → Option Stand
 standing depth None = None
 standing depth (Some next) = Some (record { turn = next; depth = depth })
 
@@ -106,7 +106,7 @@ abbrev pub closed : ℕ → Option Stand
 closed zero = None
 closed (suc depth) = Some (record { turn = turn.Joint; depth = depth })
 
-abbrev pub next_at : Turn → ℕ → Token → Option Stand
+abbrev pub next_at : Expected → ℕ → Token → Option Stand
 next_at turn.Operand depth token.Open = Some (record { turn = turn.Operand; depth = depth + 1 })
 next_at turn.Joint depth token.Close = closed depth
 next_at now depth word = standing depth (next_turn now word)
@@ -178,7 +178,7 @@ misfits_named left (token.Sign cmp) = is_reference left
 misfits_named left _ = false
 
 -- whether a word of this kind may not stand here, behind a left side of this kind
-abbrev pub misfits : Turn → Option Kind → Option Kind → Token → Bool
+abbrev pub misfits : Expected → Option Kind → Option Kind → Token → Bool
 misfits turn.Length left found word = not (is_of_text found)
 misfits turn.RightLength left found word = not (is_of_text found)
 misfits turn.Right left found word = not (are_alike left found)
@@ -188,19 +188,19 @@ misfits turn.Named left found word = misfits_named left word
 misfits other left found word = false
 
 -- where what is seen at this word stands: a reference that may not stand on a side is the word before
-abbrev pub place_seen : Turn → ℕ → ℕ
+abbrev pub place_seen : Expected → ℕ → ℕ
 place_seen turn.Named at = at - 1
 place_seen other at = at
 
 -- what is wrong with a word, if anything
-abbrev pub misfit : (List ℕ → Option Kind) → Turn → Option Kind → ℕ → Token → Option Wrong
+abbrev pub misfit : (List ℕ → Option Kind) → Expected → Option Kind → ℕ → Token → Option Wrong
 misfit kinds now left at word =
     if is_unknown kinds word then Some (wrong_at fault.UnknownColumn at)
     else if misfits now left (kind_of kinds word) word then Some (wrong_at fault.TypesDiffer (place_seen now at))
     else None
 
 -- the kind of the left side after a word more
-abbrev pub left_after : Turn → Option Kind → Option Kind → Option Kind
+abbrev pub left_after : Expected → Option Kind → Option Kind → Option Kind
 left_after turn.Operand left found = found
 left_after turn.Length left found = Some kind.Int
 left_after other left found = left

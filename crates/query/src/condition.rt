@@ -3,15 +3,18 @@
 ghost use Rattle.std.specs.Prelude.{◌≡◌, ◌↔◌, ◌≤◌, ◌^◌, Err, None, IfOk, IfErr, IsTrue, OnOk};
 ghost use Rattle.row_check.specs.Kinds.{FitsKinds, HasKinds};
 ghost use Rattle.row_check.specs.Trees.{holds_tree, tree_of};
-ghost use Rattle.query.specs.Columns.{names_of, with_name, is_among, slots_of, seen_kind as kind_for, seen_kinds, kind_named};
-ghost use Rattle.query.specs.Conditions.{IsCondition, stuck_at, refused, crowded_at, wrong_in, misfit_in, misfit, misfits, misfits_named, is_unknown, is_reference, is_of_text, are_alike, kind_of, left_after, place_seen};
+ghost use Rattle.query.specs.Columns.{names_of, with_name, is_among, slots_of, seen_kind as kind_for, seen_kinds};
+ghost use Rattle.query.specs.Columns.{kind_named};
+ghost use Rattle.query.specs.Conditions.{IsCondition, stuck_at, refused, crowded_at, wrong_in, misfit_in, misfit};
+ghost use Rattle.query.specs.Conditions.{misfits, misfits_named, is_unknown, is_reference, is_of_text, are_alike};
+ghost use Rattle.query.specs.Conditions.{kind_of, left_after, place_seen};
 ghost use Rattle.query.specs.Outcome.{IsStop};
 ghost use Rattle.query.specs.Queries.{ReadsCondition, condition_data};
 
 use crate::pieces::is_text;
 use crate::source::{Slot, slot_of};
 use crate::stop::{Stop, Wrong};
-use crate::turn::{Stand, Turn};
+use crate::turn::{Expected, Stand};
 use crate::{MAX_CONDITION_COLUMNS, MAX_CONDITION_WORDS, QueryKind};
 use expression_text::{Token, are_row_texts, build, has_kinds, is_expression};
 use row_check::{Checks, Expr, Kind, Native, Relation, eval, kinds_fit_rows, trees_hold};
@@ -50,8 +53,8 @@ impl Condition {
         self.slots.as_slice()
     }
 
-    /// Whether the condition is true of these values, one for each of its [`Condition::slots`]. Each is of the kind that is
-    /// seen there, or null. Only a native check takes memory.
+    /// Whether the condition is true of these values, one for each of its [`Condition::slots`]. Each is of the kind
+    /// that is seen there, or null. Only a native check takes memory.
     pub fn holds<L: Relation, C: Checks<L>>(
         &self,
         alloc: Global,
@@ -179,24 +182,24 @@ fn misfits_named(left: Option<Kind>, word: &Token) -> bool
 }
 
 /// Whether a word of this kind may not stand here, behind a left side of this kind.
-fn misfits(turn: Turn, left: Option<Kind>, found: Option<Kind>, word: &Token) -> bool
+fn misfits(turn: Expected, left: Option<Kind>, found: Option<Kind>, word: &Token) -> bool
     ensures { result ≡ misfits turn left found word.now }
 {
     match turn {
-        Turn::Length | Turn::RightLength => !is_of_text(found),
-        Turn::Right => !are_alike(left, found),
-        Turn::Argument | Turn::Arguments => is_reference(found),
-        Turn::Named => misfits_named(left, word),
+        Expected::Length | Expected::RightLength => !is_of_text(found),
+        Expected::Right => !are_alike(left, found),
+        Expected::Argument | Expected::Arguments => is_reference(found),
+        Expected::Named => misfits_named(left, word),
         _ => false,
     }
 }
 
 /// Where what is seen at this word stands.
-fn place_seen(turn: Turn, at: usize) -> usize
+fn place_seen(turn: Expected, at: usize) -> usize
     ensures { result ≡ place_seen turn at }
 {
     match turn {
-        Turn::Named => at.saturating_sub(1),
+        Expected::Named => at.saturating_sub(1),
         _ => at,
     }
 }
@@ -205,7 +208,7 @@ fn place_seen(turn: Turn, at: usize) -> usize
 fn misfit(
     schema: &Schema,
     table: u8,
-    turn: Turn,
+    turn: Expected,
     left: Option<Kind>,
     at: usize,
     word: &Token,
@@ -228,12 +231,12 @@ fn misfit(
 }
 
 /// The kind of the left side after a word more.
-fn left_after(turn: Turn, left: Option<Kind>, found: Option<Kind>) -> Option<Kind>
+fn left_after(turn: Expected, left: Option<Kind>, found: Option<Kind>) -> Option<Kind>
     ensures { result ≡ left_after turn left found }
 {
     match turn {
-        Turn::Operand => found,
-        Turn::Length => Some(Kind::Int),
+        Expected::Operand => found,
+        Expected::Length => Some(Kind::Int),
         _ => left,
     }
 }
@@ -350,8 +353,10 @@ pub(crate) fn read_condition(
 ) -> Result<Condition, Stop>
     requires few { at ≤ 2 ^ 63 }
     requires condition { IsCondition words.now }
-    ensures found { IfOk result (λ condition. ReadsCondition schema.now.tables table at words.now (condition_data condition)) }
-    ensures wrong { IfErr result (λ stop. IsStop stop (λ wrong. ReadsCondition schema.now.tables table at words.now (Err wrong))) }
+    ensures found { IfOk result (λ condition. ReadsCondition schema.now.tables table at words.now
+        (condition_data condition)) }
+    ensures wrong { IfErr result (λ stop. IsStop stop (λ wrong. ReadsCondition schema.now.tables table at words.now
+        (Err wrong))) }
 {
     if let Some(wrong) = misfit_in(schema, table, at, words) {
         return Err(Stop::Fault(wrong));
@@ -376,8 +381,10 @@ fn read_over(
     requires condition { IsCondition words.now }
     requires names { names.now ≡ names_of words.now }
     requires right { wrong_in (kind_named schema.now.tables table) at words.now ≡ None }
-    ensures found { IfOk result (λ condition. ReadsCondition schema.now.tables table at words.now (condition_data condition)) }
-    ensures wrong { IfErr result (λ stop. IsStop stop (λ wrong. ReadsCondition schema.now.tables table at words.now (Err wrong))) }
+    ensures found { IfOk result (λ condition. ReadsCondition schema.now.tables table at words.now
+        (condition_data condition)) }
+    ensures wrong { IfErr result (λ stop. IsStop stop (λ wrong. ReadsCondition schema.now.tables table at words.now
+        (Err wrong))) }
 {
     let slots = slots_of(alloc, schema, table, names)?;
     let expr = build(alloc, words, names)?;

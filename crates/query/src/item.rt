@@ -1,7 +1,8 @@
 //! The columns and the keys of a query.
 
 ghost use Rattle.std.specs.Prelude.{◌≡◌, ◌++◌, IfOk, OnOk};
-ghost use Rattle.query.specs.Columns.{own_items, items_at, items_of, item_named, row_item, falls, keys_of, key_named, keys_by};
+ghost use Rattle.query.specs.Columns.{own_items, items_at, items_of, item_named, row_item, falls, keys_of, key_named};
+ghost use Rattle.query.specs.Columns.{keys_by};
 ghost use Rattle.query.specs.Grammar.{mark_of};
 
 use crate::mark::{Mark, mark_of};
@@ -145,7 +146,8 @@ fn push_key(
     word: &Token,
     descending: bool,
 ) -> Result<(), AllocError>
-    ensures { OnOk result (keys.new.items ≡ keys.old.items ++ keys_by schema.now.tables table word.now (mark_of word.now) descending) }
+    ensures { OnOk result (keys.new.items ≡ keys.old.items ++ keys_by schema.now.tables table word.now
+        (mark_of word.now) descending) }
 {
     match mark_of(word) {
         Mark::Name => push_key_named(schema, table, keys, word, descending),

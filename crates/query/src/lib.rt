@@ -1,7 +1,7 @@
 //! Queries: which columns of which rows of a table, in which order, and how many, read from a text.
 //!
-//! [`read_query`] reads a text over the tables of a schema, and answers the [`Query`], or the first [`QueryFault`] with its
-//! line and column.
+//! [`read_query`] reads a text over the tables of a schema, and answers the [`Query`], or the first [`QueryFault`] with
+//! its line and column.
 //!
 //! ```text
 //! SELECT title, prio, list.title FROM task
@@ -9,9 +9,10 @@
 //! ORDER BY prio DESC, title LIMIT 2
 //! ```
 //!
-//! A column is one of the table, or `reference.column` for one of the row that a reference names. Among the columns of the
-//! answer `ROW` is the name of the row, and `*` that and every column. A condition is an expression of the grammar of
-//! `expression_text` over the columns that it names; a reference may stand before `IS NULL` alone. An LF counts as a blank.
+//! A column is one of the table, or `reference.column` for one of the row that a reference names. Among the columns of
+//! the answer `ROW` is the name of the row, and `*` that and every column. A condition is an expression of the grammar
+//! of `expression_text` over the columns that it names; a reference may stand before `IS NULL` alone. An LF counts as a
+//! blank.
 //!
 //! What a text says is a relation (`Reads` and `FirstFault` in specs/Queries) over its words with their places
 //! (specs/Pieces): what may follow what (specs/Grammar), where a condition is at fault (specs/Conditions), and which

@@ -1,7 +1,8 @@
 //! The parts of a query.
 
 ghost use Rattle.std.specs.Prelude.{◌≡◌, ◌≤◌, ◌<◌, ◌+◌, ◌^◌, drop, length, position, IfSome};
-ghost use Rattle.query.specs.Grammar.{begins, mark_of, place_of, columns_in, condition_in, condition_place, has_condition, keys_in, keys_place, table_place, limit_first, limit_in};
+ghost use Rattle.query.specs.Grammar.{begins, mark_of, place_of, columns_in, condition_in, condition_place};
+ghost use Rattle.query.specs.Grammar.{has_condition, keys_in, keys_place, table_place, limit_first, limit_in};
 
 use crate::mark::{Mark, limit_of, mark_of};
 use expression_text::Token;

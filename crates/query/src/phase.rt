@@ -1,7 +1,9 @@
 //! Which words may follow which in a query.
 
 ghost use Rattle.std.specs.Prelude.{◌≡◌};
-ghost use Rattle.query.specs.Grammar.{next_phase, may_end, refusal, after_start, after_select, after_star, after_column, after_comma, after_from, after_table, after_where, after_order, after_by, after_key, after_desc, after_limit, stop_from, stop_of};
+ghost use Rattle.query.specs.Grammar.{next_phase, may_end, refusal, after_start, after_select, after_star};
+ghost use Rattle.query.specs.Grammar.{after_column, after_comma, after_from, after_table, after_where, after_order};
+ghost use Rattle.query.specs.Grammar.{after_by, after_key, after_desc, after_limit, stop_from, stop_of};
 
 use crate::QueryKind;
 use crate::mark::{Mark, mark_of};

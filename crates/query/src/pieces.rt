@@ -2,7 +2,8 @@
 
 ghost use Rattle.std.specs.Prelude.{◌≡◌, ◌≤◌, ◌↔◌, length, IfOk, OnOk, IsTrue};
 ghost use Rattle.update_model.specs.Text.{IsText};
-ghost use Rattle.query.specs.Pieces.{placed_in, joined, spot_at, unless_bad, is_text, next_token, pieces_of_line, pieces_of, spot_after};
+ghost use Rattle.query.specs.Pieces.{placed_in, joined, spot_at, unless_bad, is_text, next_token, pieces_of_line};
+ghost use Rattle.query.specs.Pieces.{pieces_of, spot_after};
 ghost use Rattle.query.specs.declared.limits.TheConstants.{MAX_QUERY_BYTES};
 
 use crate::stop::Spot;

@@ -1,11 +1,14 @@
 //! Reading a whole text.
 
-ghost use Rattle.std.specs.Prelude.{◌≡◌, ◌↔◌, ◌≤◌, ◌<◌, ◌+◌, ◌^◌, Ok, Err, None, length, position, IfOk, IfErr, IfSome, IsTrue, IsUtf8, MatchOption};
+ghost use Rattle.std.specs.Prelude.{◌≡◌, ◌↔◌, ◌≤◌, ◌<◌, ◌+◌, ◌^◌, Ok, Err, None, length, position, IfOk, IfErr, IfSome};
+ghost use Rattle.std.specs.Prelude.{IsTrue, IsUtf8, MatchOption};
 ghost use Rattle.std.specs.Str.{IsValidUpTo};
 ghost use Rattle.query.specs.Columns.{items_of, keys_of};
 ghost use Rattle.query.specs.Grammar.{columns_in, keys_in, keys_place};
 ghost use Rattle.query.specs.Outcome.{HasCause, Answers, IsHead, IsStop, data_of, error_of, fault_at};
-ghost use Rattle.query.specs.Queries.{QueryData, IsFormOf, HasGoodCondition, is_early, is_name, is_lost, lost_in, table_in, table_named, named_by, table_of, query_of, IsConditionOf, Say, Reads, spot_of};
+ghost use Rattle.query.specs.Queries.{QueryData, IsFormOf, HasGoodCondition, is_early, is_name, is_lost, lost_in};
+ghost use Rattle.query.specs.Queries.{table_in, table_named, named_by, table_of, query_of, IsConditionOf, Say, Reads};
+ghost use Rattle.query.specs.Queries.{spot_of};
 
 use crate::condition::{is_condition, is_unknown, read_condition, stuck_at};
 use crate::item::{Item, Key, items_of, keys_of};
@@ -156,7 +159,8 @@ fn read_keys(
 
 /// What is wrong with the keys.
 fn lost_key(schema: &Schema, words: &[Token]) -> Option<Wrong>
-    ensures { result ≡ lost_in schema.now.tables (table_of schema.now.tables words.now) (keys_place words.now) (keys_in words.now) }
+    ensures { result ≡ lost_in schema.now.tables (table_of schema.now.tables words.now) (keys_place words.now)
+        (keys_in words.now) }
 {
     lost_in(
         schema,

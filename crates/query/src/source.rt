@@ -1,7 +1,8 @@
 //! Columns by their names.
 
 ghost use Rattle.std.specs.Prelude.{◌≡◌, option_map, position};
-ghost use Rattle.query.specs.Columns.{columns_of, own_slot, target_in, target_named, far_slot, through_slot, is_dot, split_dot, slot_in, slot_of};
+ghost use Rattle.query.specs.Columns.{columns_of, own_slot, target_in, target_named, far_slot, through_slot, is_dot};
+ghost use Rattle.query.specs.Columns.{split_dot, slot_in, slot_of};
 ghost use Rattle.schema.specs.Columns.{kind_seen as kind_for, number_named};
 
 use crate::pieces::is_text;

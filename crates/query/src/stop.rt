@@ -13,7 +13,8 @@ pub(crate) struct Spot {
     pub column: u32,
 }
 
-/// What is wrong in a text, and the number of the word that is, from 0. At the end of the text it is the number of words.
+/// What is wrong in a text, and the number of the word that is, from 0. At the end of the text it is the number of
+/// words.
 #[derive(Clone, Copy)]
 pub(crate) struct Wrong {
     pub kind: QueryKind,

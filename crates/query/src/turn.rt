@@ -1,13 +1,15 @@
 //! Where the words of a condition are at fault.
 
 ghost use Rattle.std.specs.Prelude.{◌≡◌, ◌≤◌, ◌+◌, ◌<◌, IfSome};
-ghost use Rattle.query.specs.Conditions.{after_operand, column_then, after_named, after_sided, after_right, after_is, after_native, after_number, after_argument, after_joint, next_turn, next_stand, closed};
+ghost use Rattle.query.specs.Conditions.{after_operand, column_then, after_named, after_sided, after_right, after_is};
+ghost use Rattle.query.specs.Conditions.{after_native, after_number, after_argument, after_joint, next_turn};
+ghost use Rattle.query.specs.Conditions.{next_stand, closed};
 
 use expression_text::Token;
 
 /// What is to come in a condition.
 #[derive(Clone, Copy)]
-pub(crate) enum Turn {
+pub(crate) enum Expected {
     /// An operand.
     Operand,
     /// The column of `LEN` on the left side.
@@ -37,7 +39,7 @@ pub(crate) enum Turn {
 /// Where a condition stands.
 #[derive(Clone, Copy)]
 pub(crate) struct Stand {
-    pub(crate) turn: Turn,
+    pub(crate) turn: Expected,
     /// How many parentheses are open.
     pub(crate) depth: usize,
 }
@@ -45,10 +47,10 @@ pub(crate) struct Stand {
 impl Stand {
     /// Before the first word.
     pub(crate) fn begun() -> Stand
-        ensures { result ≡ record { turn = Turn.Operand; depth = 0 } }
+        ensures { result ≡ record { turn = Expected.Operand; depth = 0 } }
     {
         Stand {
-            turn: Turn::Operand,
+            turn: Expected::Operand,
             depth: 0,
         }
     }
@@ -60,11 +62,11 @@ impl Stand {
         ensures deeper { IfSome result (λ next. next.depth ≤ self.depth + 1) }
     {
         match (self.turn, word) {
-            (Turn::Operand, Token::Open) => Some(Stand {
-                turn: Turn::Operand,
+            (Expected::Operand, Token::Open) => Some(Stand {
+                turn: Expected::Operand,
                 depth: self.depth + 1,
             }),
-            (Turn::Joint, Token::Close) => closed(self.depth),
+            (Expected::Joint, Token::Close) => closed(self.depth),
             (turn, word) => {
                 let next = next_turn(turn, word)?;
                 Some(Stand {
@@ -84,46 +86,46 @@ fn closed(depth: usize) -> Option<Stand>
         return None;
     }
     Some(Stand {
-        turn: Turn::Joint,
+        turn: Expected::Joint,
         depth: depth - 1,
     })
 }
 
 /// What comes behind a word that is no parenthesis about an expression.
-fn next_turn(turn: Turn, word: &Token) -> Option<Turn>
+fn next_turn(turn: Expected, word: &Token) -> Option<Expected>
     ensures { result ≡ next_turn turn word.now }
 {
     match turn {
-        Turn::Operand => after_operand(word),
-        Turn::Length => column_then(Turn::Sided, word),
-        Turn::Named => after_named(word),
-        Turn::Sided => after_sided(word),
-        Turn::Right => after_right(word),
-        Turn::RightLength => column_then(Turn::Joint, word),
-        Turn::Null => after_is(word),
-        Turn::Number => after_native(word),
-        Turn::Argument => after_number(word),
-        Turn::Arguments => column_then(Turn::More, word),
-        Turn::More => after_argument(word),
-        Turn::Joint => after_joint(word),
+        Expected::Operand => after_operand(word),
+        Expected::Length => column_then(Expected::Sided, word),
+        Expected::Named => after_named(word),
+        Expected::Sided => after_sided(word),
+        Expected::Right => after_right(word),
+        Expected::RightLength => column_then(Expected::Joint, word),
+        Expected::Null => after_is(word),
+        Expected::Number => after_native(word),
+        Expected::Argument => after_number(word),
+        Expected::Arguments => column_then(Expected::More, word),
+        Expected::More => after_argument(word),
+        Expected::Joint => after_joint(word),
     }
 }
 
-fn after_operand(word: &Token) -> Option<Turn>
+fn after_operand(word: &Token) -> Option<Expected>
     ensures { result ≡ after_operand word.now }
 {
     match word {
-        Token::Column(_) => Some(Turn::Named),
-        Token::Integer(_) | Token::Text(_) | Token::Flag(_) => Some(Turn::Sided),
-        Token::Len => Some(Turn::Length),
-        Token::Native => Some(Turn::Number),
-        Token::Not => Some(Turn::Operand),
+        Token::Column(_) => Some(Expected::Named),
+        Token::Integer(_) | Token::Text(_) | Token::Flag(_) => Some(Expected::Sided),
+        Token::Len => Some(Expected::Length),
+        Token::Native => Some(Expected::Number),
+        Token::Not => Some(Expected::Operand),
         _ => None,
     }
 }
 
 /// This behind a column.
-fn column_then(next: Turn, word: &Token) -> Option<Turn>
+fn column_then(next: Expected, word: &Token) -> Option<Expected>
     ensures { result ≡ column_then next word.now }
 {
     match word {
@@ -132,78 +134,80 @@ fn column_then(next: Turn, word: &Token) -> Option<Turn>
     }
 }
 
-fn after_named(word: &Token) -> Option<Turn>
+fn after_named(word: &Token) -> Option<Expected>
     ensures { result ≡ after_named word.now }
 {
     match word {
-        Token::Sign(_) => Some(Turn::Right),
-        Token::Is => Some(Turn::Null),
+        Token::Sign(_) => Some(Expected::Right),
+        Token::Is => Some(Expected::Null),
         _ => None,
     }
 }
 
-fn after_sided(word: &Token) -> Option<Turn>
+fn after_sided(word: &Token) -> Option<Expected>
     ensures { result ≡ after_sided word.now }
 {
     match word {
-        Token::Sign(_) => Some(Turn::Right),
+        Token::Sign(_) => Some(Expected::Right),
         _ => None,
     }
 }
 
-fn after_right(word: &Token) -> Option<Turn>
+fn after_right(word: &Token) -> Option<Expected>
     ensures { result ≡ after_right word.now }
 {
     match word {
-        Token::Column(_) | Token::Integer(_) | Token::Text(_) | Token::Flag(_) => Some(Turn::Joint),
-        Token::Len => Some(Turn::RightLength),
+        Token::Column(_) | Token::Integer(_) | Token::Text(_) | Token::Flag(_) => Some(
+            Expected::Joint,
+        ),
+        Token::Len => Some(Expected::RightLength),
         _ => None,
     }
 }
 
-fn after_is(word: &Token) -> Option<Turn>
+fn after_is(word: &Token) -> Option<Expected>
     ensures { result ≡ after_is word.now }
 {
     match word {
-        Token::Null => Some(Turn::Joint),
+        Token::Null => Some(Expected::Joint),
         _ => None,
     }
 }
 
-fn after_native(word: &Token) -> Option<Turn>
+fn after_native(word: &Token) -> Option<Expected>
     ensures { result ≡ after_native word.now }
 {
     match word {
-        Token::Integer(n) if u16::try_from(*n).is_ok() => Some(Turn::Argument),
+        Token::Integer(n) if u16::try_from(*n).is_ok() => Some(Expected::Argument),
         _ => None,
     }
 }
 
-fn after_number(word: &Token) -> Option<Turn>
+fn after_number(word: &Token) -> Option<Expected>
     ensures { result ≡ after_number word.now }
 {
     match word {
-        Token::Column(_) => Some(Turn::Joint),
-        Token::Open => Some(Turn::Arguments),
+        Token::Column(_) => Some(Expected::Joint),
+        Token::Open => Some(Expected::Arguments),
         _ => None,
     }
 }
 
-fn after_argument(word: &Token) -> Option<Turn>
+fn after_argument(word: &Token) -> Option<Expected>
     ensures { result ≡ after_argument word.now }
 {
     match word {
-        Token::Comma => Some(Turn::Arguments),
-        Token::Close => Some(Turn::Joint),
+        Token::Comma => Some(Expected::Arguments),
+        Token::Close => Some(Expected::Joint),
         _ => None,
     }
 }
 
-fn after_joint(word: &Token) -> Option<Turn>
+fn after_joint(word: &Token) -> Option<Expected>
     ensures { result ≡ after_joint word.now }
 {
     match word {
-        Token::And | Token::Or => Some(Turn::Operand),
+        Token::And | Token::Or => Some(Expected::Operand),
         _ => None,
     }
 }

@@ -5,8 +5,8 @@ use Rattle.update_model.specs.declared.value.Value.{Value}
 use Rattle.table_model.specs.declared.shown_row.ShownRow.{ShownRow}
 use Rattle.table_model.specs.Tables.{name_cmp}
 use Rattle.tuple_state.specs.Arrived.{arrived, listed_rows}
-use Rattle.query_answer.specs.declared.found.Found.{Found}
-use Rattle.query_answer.specs.declared.found.Found.TheVariants as found
+use Rattle.query_answer.specs.declared.found.FoundValue.{FoundValue}
+use Rattle.query_answer.specs.declared.found.FoundValue.TheVariants as found
 use Rattle.query_answer.specs.declared.rows.Row.{Row}
 use Rattle.query_answer.specs.declared.rows.Row.TheVariants as row
 use Rattle.query_answer.specs.declared.rows.Rows.{Rows}
@@ -15,7 +15,7 @@ use Rattle.query_answer.specs.InOrder.{in_order}
 use Rattle.query_answer.specs.Values.{AreRising, rows_in}
 
 -- a value that was found
-abbrev pub told : Found → Value
+abbrev pub told : FoundValue → Value
 told (found.Lent value) = value.now
 told (found.Made value) = value
 

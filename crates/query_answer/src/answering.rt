@@ -21,16 +21,17 @@ use table_model::ShownRowList;
 
 /// The answer of a query over tables, each of which lists its rows in rising order of names.
 ///
-/// A row is judged before anything of it is kept: of a row that is asked for the values of its keys, which are found once and
-/// not copied, and of those within the limit the columns that are asked for. Under a limit no more than twice as many rows are
-/// kept. It takes the time of a sort of the rows that are kept, and gives up where memory runs out.
+/// A row is judged before anything of it is kept: of a row that is asked for the values of its keys, which are found
+/// once and not copied, and of those within the limit the columns that are asked for. Under a limit no more than twice
+/// as many rows are kept. It takes the time of a sort of the rows that are kept, and gives up where memory runs out.
 pub fn answer_lists<L: Relation, C: Checks<L>>(
     alloc: Global,
     native: &Native<L, C>,
     query: &Query,
     tables: &[ShownRowList],
 ) -> Result<Answer, AllocError>
-    ensures { IfOk result (λ answer. AreRising tables.now → IsAnswer L.answer tables.now (query_data query.now) (data_of answer)) }
+    ensures { IfOk result (λ answer. AreRising tables.now → IsAnswer L.answer tables.now (query_data query.now)
+        (data_of answer)) }
 {
     let answer = answer_rows(alloc, native, query, Rows::Listed(tables))?;
     Ok(answer)
@@ -43,7 +44,8 @@ pub(crate) fn answer_rows<L: Relation, C: Checks<L>>(
     query: &Query,
     rows: Rows,
 ) -> Result<Answer, AllocError>
-    ensures { IfOk result (λ answer. (lists : List (List Shown)) → AreListsOf rows.entry lists → IsAnswer L.answer lists (query_data query.now) (data_of answer)) }
+    ensures { IfOk result (λ answer. (lists : List (List Shown)) → AreListsOf rows.entry lists
+        → IsAnswer L.answer lists (query_data query.now) (data_of answer)) }
 {
     let lines = lines_of(alloc, native, query, rows)?;
     let items = query.columns.as_slice();
@@ -62,8 +64,10 @@ fn lines_of<'a, L: Relation, C: Checks<L>>(
     query: &Query,
     rows: Rows<'a>,
 ) -> Result<Vec<Line<'a>>, AllocError>
-    ensures { IfOk result (λ lines. (lists : List (List Shown)) → AreListsOf rows.entry lists → map line_data lines.items
-        ≡ first_lines lists query.now.keys.items query.now.limit (filter (is_asked L.answer lists query.now.condition) (rows_of rows.entry query.now.table))) }
+    ensures { IfOk result (λ lines. (lists : List (List Shown)) → AreListsOf rows.entry lists
+        → map line_data lines.items
+        ≡ first_lines lists query.now.keys.items query.now.limit (filter (is_asked L.answer lists query.now.condition)
+        (rows_of rows.entry query.now.table))) }
 {
     let mut front = Front::new(alloc, query.limit);
     for place in 0..rows.places(query.table) {
@@ -81,9 +85,13 @@ fn add_row<'a, L: Relation, C: Checks<L>>(
     place: usize,
     front: &mut Front<'a>,
 ) -> Result<(), AllocError>
-    ensures { OnOk result ((lists : List (List Shown)) (limit : Option ℕ) (all : List LineData) → AreListsOf rows.entry lists
-        → AreApart query.now.keys.items (all ++ asked_lines lists query.now.keys.items (is_asked L.answer lists query.now.condition) (row_at rows.entry query.now.table place)) → Holds query.now.keys.items limit front.old all
-        → Holds query.now.keys.items limit front.new (all ++ asked_lines lists query.now.keys.items (is_asked L.answer lists query.now.condition) (row_at rows.entry query.now.table place))) }
+    ensures { OnOk result ((lists : List (List Shown)) (limit : Option ℕ) (all : List LineData)
+        → AreListsOf rows.entry lists
+        → AreApart query.now.keys.items (all ++ asked_lines lists query.now.keys.items
+        (is_asked L.answer lists query.now.condition) (row_at rows.entry query.now.table place))
+        → Holds query.now.keys.items limit front.old all
+        → Holds query.now.keys.items limit front.new (all ++ asked_lines lists query.now.keys.items
+        (is_asked L.answer lists query.now.condition) (row_at rows.entry query.now.table place))) }
 {
     match rows.row(query.table, place) {
         Some(row) => {

@@ -35,7 +35,8 @@ fn seen_values(
     slots: &[Slot],
 ) -> Result<Vec<Value>, AllocError>
     ensures kinds { IfOk result (λ values. FitsKinds (seen_kinds slots.now) values.items) }
-    ensures values { IfOk result (λ values. (lists : List (List Shown)) → AreListsOf rows.entry lists → values.items ≡ map (seen_at lists (shown_row row.now)) slots.now) }
+    ensures values { IfOk result (λ values. (lists : List (List Shown)) → AreListsOf rows.entry lists
+        → values.items ≡ map (seen_at lists (shown_row row.now)) slots.now) }
 {
     let mut values = Vec::with_capacity(alloc, slots.len())?;
     for slot in slots {

@@ -7,19 +7,19 @@ use update_model::Value;
 
 /// What a row has somewhere: a value that is lent, or one that was made, as of a row's name.
 #[derive(Debug, Drop)]
-pub(crate) enum Found<'a> {
+pub(crate) enum FoundValue<'a> {
     Lent(&'a Value),
     Made(Value),
 }
 
-impl<'a> Found<'a> {
+impl<'a> FoundValue<'a> {
     /// A value that is lent, and null where none is.
-    pub(crate) fn new(value: Option<&'a Value>) -> Found<'a>
+    pub(crate) fn new(value: Option<&'a Value>) -> FoundValue<'a>
         ensures { told result ≡ unwrap_or (option_copied value.entry) Null }
     {
         match value {
-            Some(value) => Found::Lent(value),
-            None => Found::Made(Value::Null),
+            Some(value) => FoundValue::Lent(value),
+            None => FoundValue::Made(Value::Null),
         }
     }
 
@@ -28,8 +28,8 @@ impl<'a> Found<'a> {
         ensures { result.now ≡ told self.now }
     {
         match self {
-            Found::Lent(value) => value,
-            Found::Made(value) => value,
+            FoundValue::Lent(value) => value,
+            FoundValue::Made(value) => value,
         }
     }
 

@@ -11,8 +11,8 @@ use crate::ordering::{line_cmp, sort_lines};
 use query::Key;
 use std::alloc::{AllocError, Global};
 
-/// The first rows of those that came, as many as the limit, and some that came since the last cut. Under a limit no more are
-/// kept than twice as many, and one.
+/// The first rows of those that came, as many as the limit, and some that came since the last cut. Under a limit no
+/// more are kept than twice as many, and one.
 #[derive(Drop)]
 pub(crate) struct Front<'a> {
     limit: Option<u32>,
@@ -49,7 +49,8 @@ impl<'a> Front<'a> {
 
     /// Adds one more row, and leaves the first rows alone where there are twice as many.
     pub(crate) fn add(&mut self, keys: &[Key], line: Line<'a>) -> Result<(), AllocError>
-        ensures { OnOk result ((limit : Option ℕ) (all : List LineData) → AreApart keys.now (all ++ line_data line.entry ∷ [])
+        ensures { OnOk result ((limit : Option ℕ) (all : List LineData)
+            → AreApart keys.now (all ++ line_data line.entry ∷ [])
             → Holds keys.now limit self.old all → Holds keys.now limit self.new (all ++ line_data line.entry ∷ [])) }
     {
         if self.is_late(keys, &line) {

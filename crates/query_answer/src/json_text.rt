@@ -11,8 +11,8 @@ use std::alloc::{AllocError, Global};
 use table_text::{NameStyle, push_value};
 use update_model::{ByteList, Value, ValueList};
 
-/// An answer as one JSON object (RFC 8259) without blanks, and an LF behind it: `{"columns":[..],"rows":[[..]]}`. The names of
-/// rows are texts. It gives up where memory runs out.
+/// An answer as one JSON object (RFC 8259) without blanks, and an LF behind it: `{"columns":[..],"rows":[[..]]}`. The
+/// names of rows are texts. It gives up where memory runs out.
 pub fn json_lines(alloc: Global, answer: &Answer) -> Result<Vec<u8>, AllocError>
     ensures { IfOk result (λ text. text.items ≡ json_text (data_of answer.now)) }
 {

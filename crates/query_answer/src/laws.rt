@@ -18,7 +18,8 @@ ghost use Rattle.serde_json.specs.Written.{compact_text};
 
 /// A query has one answer over tables in which names of rows rise.
 pub fn one_answer()
-    ensures { (relation : ℕ → List Value → Bool) (tables : List (List ShownRow)) (query : QueryData) (answer other : AnswerData) → AreRising tables
+    ensures { (relation : ℕ → List Value → Bool) (tables : List (List ShownRow)) (query : QueryData) (answer other :
+        AnswerData) → AreRising tables
         → IsAnswer relation tables query answer → IsAnswer relation tables query other → answer ≡ other }
 {}
 

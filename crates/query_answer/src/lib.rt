@@ -1,9 +1,10 @@
 //! Answers of queries over the tables of a database, and their printed texts; and whole tables as JSON.
 //!
 //! [`answer_lists`] answers a query over rows that tables list, and [`answer`] over the tables of a set of updates. An
-//! answer is what `IsAnswer` of the definitions says: the rows that the condition is true of, in the order of the keys and
-//! then of their own names, no more than the limit, and of each the columns that are asked for. [`print_lines`] prints a line
-//! for each row, and [`json_lines`] one JSON object. [`tables_json`] writes all that tables show as one JSON object.
+//! answer is what `IsAnswer` of the definitions says: the rows that the condition is true of, in the order of the keys
+//! and then of their own names, no more than the limit, and of each the columns that are asked for. [`print_lines`]
+//! prints a line for each row, and [`json_lines`] one JSON object. [`tables_json`] writes all that tables show as one
+//! JSON object.
 //!
 //! ```text
 //! let answer = answer(alloc, native, schema, &query, tables)?;

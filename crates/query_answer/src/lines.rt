@@ -11,8 +11,8 @@ use std::alloc::{AllocError, Global};
 use table_text::{NameStyle, push_value};
 use update_model::{Value, ValueList};
 
-/// The lines of an answer: one for each row, with its values as a dump has them and a tab between them. It gives up where
-/// memory runs out.
+/// The lines of an answer: one for each row, with its values as a dump has them and a tab between them. It gives up
+/// where memory runs out.
 pub fn print_lines(alloc: Global, answer: &Answer) -> Result<Vec<u8>, AllocError>
     ensures { IfOk result (λ text. text.items ≡ lines_text answer.now.rows.items) }
 {

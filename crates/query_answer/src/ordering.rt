@@ -7,7 +7,7 @@ ghost use Rattle.query_answer.specs.Answers.{line_cmp};
 ghost use Rattle.query_answer.specs.Rows.{told};
 ghost use Rattle.query_answer.specs.Order.{rank_of, value_cmp, key_cmp, found_cmp};
 
-use crate::found::Found;
+use crate::found::FoundValue;
 use crate::line::Line;
 use crate::values::name_cmp;
 use query::Key;
@@ -53,7 +53,7 @@ fn key_cmp(descending: bool, a: &Value, b: &Value) -> Ordering
 }
 
 /// The value at a place, and this one where there is none.
-fn value_or<'b>(values: &'b [Found], at: usize, absent: &'b Value) -> &'b Value
+fn value_or<'b>(values: &'b [FoundValue], at: usize, absent: &'b Value) -> &'b Value
     ensures { result.now ≡ unwrap_or (slice_get (map told values.now) at) absent.now }
 {
     match values.get(at) {
@@ -63,7 +63,7 @@ fn value_or<'b>(values: &'b [Found], at: usize, absent: &'b Value) -> &'b Value
 }
 
 /// The order by one key, whose values stand at a place.
-fn place_cmp(descending: bool, a: &[Found], b: &[Found], at: usize) -> Ordering
+fn place_cmp(descending: bool, a: &[FoundValue], b: &[FoundValue], at: usize) -> Ordering
     ensures { result ≡ key_cmp descending (value_at (map told a.now) at) (value_at (map told b.now) at) }
 {
     let absent = Value::Null;
@@ -75,7 +75,7 @@ fn place_cmp(descending: bool, a: &[Found], b: &[Found], at: usize) -> Ordering
 }
 
 /// The order by values of one key after another.
-fn found_cmp(keys: &[Key], a: &[Found], b: &[Found]) -> Ordering
+fn found_cmp(keys: &[Key], a: &[FoundValue], b: &[FoundValue]) -> Ordering
     ensures { result ≡ found_cmp 0 keys.now (map told a.now) (map told b.now) }
 {
     for (at, key) in keys.iter().enumerate() {

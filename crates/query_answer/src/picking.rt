@@ -5,7 +5,7 @@ ghost use Rattle.query_answer.specs.Answers.{picked, keys_of};
 ghost use Rattle.table_model.specs.declared.shown_row.ShownRow.{ShownRow as Shown};
 ghost use Rattle.query_answer.specs.Rows.{AreListsOf, shown_row, told};
 
-use crate::found::Found;
+use crate::found::FoundValue;
 use crate::line::Line;
 use crate::rows::{Row, Rows};
 use crate::values::value_of;
@@ -19,8 +19,9 @@ pub(crate) fn keys_of<'a>(
     rows: Rows<'a>,
     keys: &[Key],
     row: &Row<'a>,
-) -> Result<Vec<Found<'a>>, AllocError>
-    ensures { IfOk result (λ values. (lists : List (List Shown)) → AreListsOf rows.entry lists → map told values.items ≡ keys_of lists keys.now (shown_row row.now)) }
+) -> Result<Vec<FoundValue<'a>>, AllocError>
+    ensures { IfOk result (λ values. (lists : List (List Shown)) → AreListsOf rows.entry lists
+        → map told values.items ≡ keys_of lists keys.now (shown_row row.now)) }
 {
     let mut values = Vec::with_capacity(alloc, keys.len())?;
     for key in keys {
@@ -42,7 +43,8 @@ pub(crate) fn names_of(alloc: Global, items: &[Item]) -> Result<Vec<ByteList>, A
 
 /// What a row has in the columns.
 fn picked(alloc: Global, rows: Rows, items: &[Item], row: &Row) -> Result<ValueList, AllocError>
-    ensures { IfOk result (λ values. (lists : List (List Shown)) → AreListsOf rows.entry lists → values ≡ picked lists items.now (shown_row row.now)) }
+    ensures { IfOk result (λ values. (lists : List (List Shown)) → AreListsOf rows.entry lists
+        → values ≡ picked lists items.now (shown_row row.now)) }
 {
     let mut values = Vec::with_capacity(alloc, items.len())?;
     for item in items {

@@ -87,7 +87,8 @@ impl<'a> Rows<'a> {
 
     /// The row of a table with this name.
     pub(crate) fn named(self, table: u8, name: &RowName) -> Option<Row<'a>>
-        ensures { (lists : List (List Shown)) → AreListsOf self.entry lists → option_map shown_row result ≡ row_named (rows_in lists table) name.now }
+        ensures { (lists : List (List Shown)) → AreListsOf self.entry lists
+            → option_map shown_row result ≡ row_named (rows_in lists table) name.now }
     {
         match self {
             Rows::Listed(lists) => listed(row_named(rows_in(lists, table), name)),

@@ -20,8 +20,8 @@ use tuple_state::Tables;
 
 /// The answer of a query over the rows that the tables of a set of updates show.
 ///
-/// It goes over the rows of one table as the tables lend them, and looks the rows of others up by their names. It gives up where
-/// memory runs out.
+/// It goes over the rows of one table as the tables lend them, and looks the rows of others up by their names. It gives
+/// up where memory runs out.
 pub fn answer<L: Relation, C: Checks<L>>(
     alloc: Global,
     native: &Native<L, C>,
@@ -29,7 +29,8 @@ pub fn answer<L: Relation, C: Checks<L>>(
     query: &Query,
     tables: &Tables,
 ) -> Result<Answer, AllocError>
-    ensures { IfOk result (λ answer. (nodes : List NodeData) → IsStateOf (rules_with L.answer schema.now.tables) nodes tables.now
+    ensures { IfOk result (λ answer. (nodes : List NodeData) → IsStateOf (rules_with L.answer schema.now.tables) nodes
+        tables.now
         → IsAnswerOver (rules_with L.answer schema.now.tables) nodes (query_data query.now) (data_of answer)) }
 {
     let rows = Rows::Lent(tables, schema.tables());
@@ -37,14 +38,15 @@ pub fn answer<L: Relation, C: Checks<L>>(
     Ok(answer)
 }
 
-/// The rows that each table of the schema shows, a list for each table in the order of the schema. It takes the time and the
-/// memory of a copy of what the tables show, and gives up where memory runs out.
+/// The rows that each table of the schema shows, a list for each table in the order of the schema. It takes the time
+/// and the memory of a copy of what the tables show, and gives up where memory runs out.
 pub fn shown_lists(
     alloc: Global,
     schema: &Schema,
     tables: &Tables,
 ) -> Result<Vec<ShownRowList>, AllocError>
-    ensures { IfOk result (λ lists. (ask : ℕ → List Value → Bool) (nodes : List NodeData) → IsStateOf (rules_with ask schema.now.tables) nodes tables.now
+    ensures { IfOk result (λ lists. (ask : ℕ → List Value → Bool) (nodes : List NodeData)
+        → IsStateOf (rules_with ask schema.now.tables) nodes tables.now
         → AreShown (rules_with ask schema.now.tables) nodes (length schema.now.tables) lists.items) }
 {
     let mut lists = Vec::new(alloc);

@@ -7,7 +7,8 @@ ghost use Rattle.update_model.specs.declared.value.Value.TheVariants.{Row};
 ghost use Rattle.table_text.specs.Names.{id_text};
 ghost use Rattle.query_answer.specs.Json.{json_list, json_quoted, json_value};
 ghost use Rattle.query_answer.specs.Lines.{each_after};
-ghost use Rattle.query_answer.specs.TablesJson.{comma_before, json_row, json_table, json_void, next_table, tables_json_text};
+ghost use Rattle.query_answer.specs.TablesJson.{comma_before, json_row, json_table, json_void, next_table};
+ghost use Rattle.query_answer.specs.TablesJson.{tables_json_text};
 
 use crate::json_text::{push_later_values, push_quoted};
 use itoa::Buffer;
@@ -17,10 +18,10 @@ use table_model::{ShownRow, ShownRowList, VoidLine};
 use table_text::{NameStyle, push_row_name};
 use update_model::{RowName, UpdateId};
 
-/// The tables of a schema, each with the rows of the list that has its number, and the updates that do nothing, as one JSON
-/// object (RFC 8259) without blanks, and an LF behind it:
-/// `{"tables":[{"name":..,"rows":[[name, ..]]}],"voids":[[id, reason, operation]]}`. The names of rows and the ids of updates
-/// are texts. A table without a list is not written, nor is a list without a table. It gives up where memory runs out.
+/// The tables of a schema, each with the rows of the list that has its number, and the updates that do nothing, as one
+/// JSON object (RFC 8259) without blanks, and an LF behind it: `{"tables":[{"name":..,"rows":[[name,
+/// ..]]}],"voids":[[id, reason, operation]]}`. The names of rows and the ids of updates are texts. A table without a
+/// list is not written, nor is a list without a table. It gives up where memory runs out.
 pub fn tables_json(
     alloc: Global,
     schema: &Schema,
@@ -64,7 +65,8 @@ fn push_numbered(
     lists: &[ShownRowList],
 ) -> Result<(), AllocError>
     requires { number < length schema.now.tables }
-    ensures { OnOk result (out.new.items ≡ out.old.items ++ next_table number (slice_get schema.now.tables number) (slice_get lists.now number)) }
+    ensures { OnOk result (out.new.items ≡ out.old.items ++ next_table number (slice_get schema.now.tables number)
+        (slice_get lists.now number)) }
 {
     match lists.get(usize::from(number)) {
         Some(rows) => {

@@ -7,7 +7,7 @@ ghost use Rattle.table_model.specs.Tables.{name_cmp};
 ghost use Rattle.query_answer.specs.Rows.{AreListsOf, shown_row, told};
 ghost use Rattle.query_answer.specs.Values.{IsRising, row_named, rows_in, value_in, value_of, value_through};
 
-use crate::found::Found;
+use crate::found::FoundValue;
 use crate::rows::{Row, Rows};
 use query::Source;
 use std::cmp::Ordering;
@@ -43,12 +43,12 @@ pub(crate) fn row_named<'a>(rows: &'a [ShownRow], name: &RowName) -> Option<&'a 
 }
 
 /// The value in a column of a row, and null where there is no row.
-fn value_in<'a>(row: Option<Row<'a>>, column: usize) -> Found<'a>
+fn value_in<'a>(row: Option<Row<'a>>, column: usize) -> FoundValue<'a>
     ensures { told result ≡ value_in (option_map shown_row row.entry) column }
 {
     match row {
-        Some(row) => Found::new(row.value(column)),
-        None => Found::Made(Value::Null),
+        Some(row) => FoundValue::new(row.value(column)),
+        None => FoundValue::Made(Value::Null),
     }
 }
 
@@ -58,24 +58,25 @@ fn value_through<'a>(
     table: u8,
     column: usize,
     reference: Option<&Value>,
-) -> Found<'a>
+) -> FoundValue<'a>
     ensures { (lists : List (List Shown)) → AreListsOf rows.entry lists
         → told result ≡ value_through (rows_in lists table) column (unwrap_or (option_copied reference.entry) Null) }
 {
     match reference {
         Some(Value::Row(name)) => value_in(rows.named(table, name), column),
-        _ => Found::Made(Value::Null),
+        _ => FoundValue::Made(Value::Null),
     }
 }
 
-/// The value that a row has there. Row by row it takes time that is logarithmic in the rows of a referenced table, and no
-/// memory.
-pub(crate) fn value_of<'a>(rows: Rows<'a>, row: &Row<'a>, source: Source) -> Found<'a>
-    ensures { (lists : List (List Shown)) → AreListsOf rows.entry lists → told result ≡ value_of lists (shown_row row.now) source }
+/// The value that a row has there. Row by row it takes time that is logarithmic in the rows of a referenced table, and
+/// no memory.
+pub(crate) fn value_of<'a>(rows: Rows<'a>, row: &Row<'a>, source: Source) -> FoundValue<'a>
+    ensures { (lists : List (List Shown)) → AreListsOf rows.entry lists
+        → told result ≡ value_of lists (shown_row row.now) source }
 {
     match source {
-        Source::Name => Found::Made(Value::Row(*row.name())),
-        Source::Own(column) => Found::new(row.value(column)),
+        Source::Name => FoundValue::Made(Value::Row(*row.name())),
+        Source::Own(column) => FoundValue::new(row.value(column)),
         Source::Through {
             reference,
             target,

@@ -12,7 +12,8 @@ use text_words::{integers_are_as_printed, values_are_read_again, words_are_by_ru
 /// The text that is printed of words has these words; and where they say a query, it is that query.
 pub fn words_are_read_again()
     ensures words { (words : List Word) → IsPrintable words → (pieces_of (words_text words)).0 ≡ words }
-    ensures query { (schema : SchemaData) (words : List Word) (query : QueryData) → IsPrintable words → Say schema.tables words (Ok query)
+    ensures query { (schema : SchemaData) (words : List Word) (query : QueryData) → IsPrintable words
+        → Say schema.tables words (Ok query)
         → Reads schema (words_text words) query }
 {
     words_are_by_rule();

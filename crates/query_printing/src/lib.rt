@@ -1,8 +1,8 @@
 //! The words of a query as they are printed, so that `query` reads them again.
 //!
-//! [`print_words`] prints words on one line, with a blank between them. The text has exactly these words, so that where they say a
-//! query (`Say`) the text is that query (`Reads`): a clause of the call, and a law of the definitions for callers to cite
-//! ([`words_are_read_again`]).
+//! [`print_words`] prints words on one line, with a blank between them. The text has exactly these words, so that where
+//! they say a query (`Say`) the text is that query (`Reads`): a clause of the call, and a law of the definitions for
+//! callers to cite ([`words_are_read_again`]).
 //!
 //! ```text
 //! let text = print_words(alloc, words)?;

@@ -12,12 +12,13 @@ use text_words::{Literal, push_literal, push_quoted};
 
 /// The text of these words, on one line, with a blank between them.
 ///
-/// Where the words say a query over the tables of a schema, the text is that query over the schema (`Reads`), if they are such as `read_query`
-/// reads: each is a word as it stands, a text is one that a row may have, and the whole is UTF-8 and not too long. A bad word is printed as
-/// nothing. An error comes where memory runs out.
+/// Where the words say a query over the tables of a schema, the text is that query over the schema (`Reads`), if they
+/// are such as `read_query` reads: each is a word as it stands, a text is one that a row may have, and the whole is
+/// UTF-8 and not too long. A bad word is printed as nothing. An error comes where memory runs out.
 pub fn print_words(alloc: Global, words: &[Token]) -> Result<Vec<u8>, AllocError>
     ensures printed { IfOk result (λ text. text.items ≡ words_text words.now) }
-    ensures read_again { (schema : SchemaData) (query : QueryData) → IsPrintable words.now → Say schema.tables words.now (Ok query)
+    ensures read_again { (schema : SchemaData) (query : QueryData) → IsPrintable words.now
+        → Say schema.tables words.now (Ok query)
         → IfOk result (λ text. Reads schema text.items query) }
 {
     words_are_read_again();

@@ -1,7 +1,9 @@
-ghost use Rattle.std.specs.Prelude.{◌≡◌, ◌≢◌, ◌⊎◌, ◌<◌, ◌≤◌, ◌++◌, ◌∷◌, [], ℕ, List, Some, None, IfOk, OnOk, Contains, length, map, set};
+ghost use Rattle.std.specs.Prelude.{◌≡◌, ◌≢◌, ◌⊎◌, ◌<◌, ◌≤◌, ◌++◌, ◌∷◌, [], ℕ, List, Some, None, IfOk, OnOk, Contains};
+ghost use Rattle.std.specs.Prelude.{length, map, set};
 ghost use Rattle.update_model.specs.Batch.{IsTooMuch, store_limits};
 ghost use Rattle.ready_batch.specs.Ready.{AddsReady, IsBehind};
-ghost use Rattle.ready_batch.specs.Steps.{AreSlots, AllPlaced, AllStuck, IsAllOf, IsOverSome, KeepsSlots, AddsFrom, kept_of, left_at};
+ghost use Rattle.ready_batch.specs.Steps.{AreSlots, AllPlaced, AllStuck, IsAllOf, IsOverSome, KeepsSlots, AddsFrom};
+ghost use Rattle.ready_batch.specs.Steps.{kept_of, left_at};
 
 use crate::parked::{park, release};
 use crate::tried::{Tried, try_member};
@@ -84,7 +86,8 @@ fn add_waves<M: Candidate + Drop>(
 ) -> Result<(), AddFault>
     ensures slots { OnOk result (KeepsSlots M.entry graph.old slots.old.items graph.new slots.new.items) }
     ensures from { AddsFrom M.entry graph.old slots.old.items graph.new }
-    ensures stuck { OnOk result ((batch : List M) → AreSlots M.entry (map M.entry graph.old) batch slots.old.items → IsAllOf first.items batch
+    ensures stuck { OnOk result ((batch : List M) → AreSlots M.entry (map M.entry graph.old) batch slots.old.items
+        → IsAllOf first.items batch
         → AllStuck M.entry (map M.entry graph.new) batch slots.new.items) }
     ensures full { result ≡ Err AddFault.Full → IsOverSome M.entry graph.old slots.old.items graph.new }
     ensures behind { IsBehind graph.old graph.new }
@@ -107,7 +110,8 @@ fn add_wave<M: Candidate + Drop>(
 ) -> Result<Vec<usize>, AddFault>
     ensures slots { OnOk result (KeepsSlots M.entry graph.old slots.old.items graph.new slots.new.items) }
     ensures from { AddsFrom M.entry graph.old slots.old.items graph.new }
-    ensures placed { IfOk result (λ next. (batch : List M) → AreSlots M.entry (map M.entry graph.old) batch slots.old.items
+    ensures placed { IfOk result (λ next. (batch : List M) → AreSlots M.entry (map M.entry graph.old) batch
+        slots.old.items
         → AllPlaced M.entry (map M.entry graph.old) batch slots.old.items parked.old wave.now
         → AllPlaced M.entry (map M.entry graph.new) batch slots.new.items parked.new next.items) }
     ensures further { IfOk result (λ next. (next.items ≡ []) ⊎ (length graph.old < length graph.new)) }
@@ -135,8 +139,10 @@ fn try_place<M: Candidate + Drop>(
 ) -> Result<(), AddFault>
     ensures slots { OnOk result (KeepsSlots M.entry graph.old slots.old.items graph.new slots.new.items) }
     ensures from { AddsFrom M.entry graph.old slots.old.items graph.new }
-    ensures placed { OnOk result ((batch : List M) (others : List ℕ) → AreSlots M.entry (map M.entry graph.old) batch slots.old.items
-        → AllPlaced M.entry (map M.entry graph.old) batch slots.old.items parked.old ((place ∷ others) ++ next.old.items)
+    ensures placed { OnOk result ((batch : List M) (others : List ℕ) → AreSlots M.entry (map M.entry graph.old) batch
+        slots.old.items
+        → AllPlaced M.entry (map M.entry graph.old) batch slots.old.items parked.old
+        ((place ∷ others) ++ next.old.items)
         → AllPlaced M.entry (map M.entry graph.new) batch slots.new.items parked.new (others ++ next.new.items)) }
     ensures further { OnOk result ((next.new.items ≡ next.old.items) ⊎ (length graph.old < length graph.new)) }
     ensures full { result ≡ Err AddFault.Full → IsOverSome M.entry graph.old slots.old.items graph.new }

@@ -62,7 +62,8 @@ pub fn try_member<M: Member + Drop>(
 
 /// The position of the first of these ids, from a position on, that no member has.
 fn first_lacking<M: Member>(graph: &Graph<M>, ids: &[UpdateId], from: usize) -> Option<usize>
-    ensures { IfSome result (λ found. (id : UpdateId) × (slice_get ids.now found ≡ Some id) × (holds (map M.entry graph.now) id ≡ false)) }
+    ensures { IfSome result (λ found. (id : UpdateId) × (slice_get ids.now found ≡ Some id)
+        × (holds (map M.entry graph.now) id ≡ false)) }
 {
     for position in from..ids.len() {
         if graph.position(&ids[position]).is_none() {

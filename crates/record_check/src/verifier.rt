@@ -14,8 +14,8 @@ use update_model::DbRule;
 /// What the check of updates says of a record: the update, or the fault for which it is refused.
 pub type Answer = Result<Checked, CheckFault>;
 
-/// Whoever checks records, and computes the leaves of keys: which threads do it is its own affair. [`OneThread`] starts none, and
-/// [`ManyThreads`] starts one for each processor, and checks all itself where no thread can be started.
+/// Whoever checks records, and computes the leaves of keys: which threads do it is its own affair. [`OneThread`] starts
+/// none, and [`ManyThreads`] starts one for each processor, and checks all itself where no thread can be started.
 pub trait Verifier: LeafGenerator {
     /// What the check of updates says of each record under the rule, in order. It takes the records over.
     fn check_each(
@@ -123,7 +123,8 @@ fn answer_of(checked: Result<Checked, CheckError>) -> Result<Answer, AllocError>
 
 /// The checked updates of the records in front of the first that is refused, by what the check says of each.
 fn front_of(alloc: Global, answers: Vec<Answer>) -> Result<Vec<Checked>, AllocError>
-    ensures { IfOk result (λ front. (rule : RuleData) (records : List (List ℕ)) → AreAnswers rule records answers.items → IsCheckedFront rule records front.items) }
+    ensures { IfOk result (λ front. (rule : RuleData) (records : List (List ℕ)) → AreAnswers rule records answers.items
+        → IsCheckedFront rule records front.items) }
 {
     let mut front = Vec::with_capacity(alloc, answers.len())?;
     take_front(&mut front, answers);
@@ -134,7 +135,8 @@ fn front_of(alloc: Global, answers: Vec<Answer>) -> Result<Vec<Checked>, AllocEr
 fn take_front(front: &mut Vec<Checked>, answers: Vec<Answer>)
     requires empty { front.old.items ≡ [] }
     requires room { vec_len answers ≤ vec_capacity front.old }
-    ensures { (rule : RuleData) (records : List (List ℕ)) → AreAnswers rule records answers.items → IsCheckedFront rule records front.new.items }
+    ensures { (rule : RuleData) (records : List (List ℕ)) → AreAnswers rule records answers.items
+        → IsCheckedFront rule records front.new.items }
 {
     no_cause();
     for answer in answers {

@@ -1,6 +1,7 @@
 //! Adding an update that is made behind all others.
 
-ghost use Rattle.std.specs.Prelude.{◌≡◌, ◌≤◌, ◌++◌, ◌∷◌, ◌⊎◌, ◌↔◌, [], ℕ, None, All, Err, IsTrue, IfOk, IfErr, OnErr, OnOk, length, map, true};
+ghost use Rattle.std.specs.Prelude.{◌≡◌, ◌≤◌, ◌++◌, ◌∷◌, ◌⊎◌, ◌↔◌, [], ℕ, None, All, Err, IsTrue, IfOk, IfErr, OnErr};
+ghost use Rattle.std.specs.Prelude.{OnOk, length, map, true};
 ghost use Rattle.bec_bytes.specs.Causes.{Rose};
 ghost use Rattle.bec_bytes.specs.Framed.{stream_of};
 ghost use Rattle.bec_disk.specs.Disk.{EveryImage, LeavesOnly};
@@ -37,8 +38,8 @@ use update_check::Checked;
 use update_log::Log;
 use update_model::{IdList, MAX_PREDS, Member, UpdateId};
 
-/// Signs an update that says this after these predecessors, adds it behind all others, in memory and on the disk, and answers its id. After an
-/// error the updates are as they were.
+/// Signs an update that says this after these predecessors, adds it behind all others, in memory and on the disk, and
+/// answers its id. After an error the updates are as they were.
 pub fn sign_and_add<D: Disk, L: Relation, C: Checks<L>>(
     alloc: Global,
     history: &mut History<L, C>,
@@ -58,16 +59,19 @@ pub fn sign_and_add<D: Disk, L: Relation, C: Checks<L>>(
     requires listed { IsListed history.old.schema.rule.authors (public_key key.old.secret) }
     requires members { AreMembers history.old.schema.rule history.old.members }
     requires log { IsLogOf history.old.members log.old }
-    ensures added { IfOk result (λ id. AddsMade L.answer has_to_be_valid history.old key.old.secret key.old.taken preds says c.now id history.new) }
+    ensures added { IfOk result (λ id. AddsMade L.answer has_to_be_valid history.old key.old.secret key.old.taken preds
+        says c.now id history.new) }
     ensures same { OnErr result (history.new ≡ history.old) }
     ensures schema { history.new.schema ≡ history.old.schema }
-    ensures refused { IfErr result (λ why. IsSignCause history.old key.old.secret key.old.taken preds says c.now why ⊎ IsAddCause why) }
+    ensures refused { IfErr result (λ why. IsSignCause history.old key.old.secret key.old.taken preds says c.now why
+        ⊎ IsAddCause why) }
     ensures form { IsBody (body_with history.old (public_key key.old.secret) preds says) }
     ensures log { IsLogOf history.new.members log.new }
     ensures clean { IsTrue log.old.disk.tells → OnOk result (IsClean log.new.end log.new.disk) }
     ensures key { KeyAfter key.old result key.new }
     ensures any_moment { LeavesOnly log.old.disk log.new.disk (BeginsWith (stream_of history.old.members)) }
-    ensures used { (index : ℕ) → (IsTrue key.old.parts.used.tells → EveryImage key.old.parts.used.now (IsUsed index)) → LeavesOnly key.old.parts.used key.new.parts.used (IsUsed index) }
+    ensures used { (index : ℕ) → (IsTrue key.old.parts.used.tells → EveryImage key.old.parts.used.now (IsUsed index))
+        → LeavesOnly key.old.parts.used key.new.parts.used (IsUsed index) }
     ensures later { log.old.faults ≤ log.new.faults }
     ensures key_later { key.old.parts.used_faults ≤ key.new.parts.used_faults }
     ensures key_failed { result ≡ Err (DiskFailed KeySide) → Rose key.old.parts.used_faults key.new.parts.used_faults }
@@ -80,9 +84,9 @@ pub fn sign_and_add<D: Disk, L: Relation, C: Checks<L>>(
     Ok(id)
 }
 
-/// Adds a signed update behind all others, in memory and on the disk. Where it has to be valid and is not, it is not added: that takes an update that
-/// names its own digest, since it was judged under another id before, and the answer is as for want of memory. After an error the updates are as they
-/// were.
+/// Adds a signed update behind all others, in memory and on the disk. Where it has to be valid and is not, it is not
+/// added: that takes an update that names its own digest, since it was judged under another id before, and the answer
+/// is as for want of memory. After an error the updates are as they were.
 #[tactic(auto, using(crate::proofs::Mapped::add_cause, crate::proofs::Mapped::add_disk))]
 fn add_last<D: Disk, L: Relation, C: Checks<L>>(
     alloc: Global,
@@ -93,7 +97,10 @@ fn add_last<D: Disk, L: Relation, C: Checks<L>>(
 ) -> Result<(), MakeFault>
     requires next { AreMembers history.old.schema.rule (history.old.members ++ update ∷ []) }
     requires log { IsLogOf history.old.members log.old }
-    ensures added { OnOk result (history.new ≡ record { schema = history.old.schema; members = history.old.members ++ update ∷ [] }) }
+    ensures added { OnOk result (history.new ≡ record {
+      schema = history.old.schema;
+      members = history.old.members ++ update ∷ [];
+    }) }
     ensures valid { OnOk result (IsTrue has_to_be_valid → verdict_after L.answer history.old (node_of update) ≡ Valid) }
     ensures same { OnErr result (history.new ≡ history.old) }
     ensures schema { history.new.schema ≡ history.old.schema }

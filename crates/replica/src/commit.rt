@@ -1,6 +1,7 @@
 //! Adding updates that came from elsewhere.
 
-ghost use Rattle.std.specs.Prelude.{◌≡◌, ◌≤◌, ℕ, List, All, IsTrue, IfOk, OnOk, OnErr, IsErrOf, drop, false, length, map, take};
+ghost use Rattle.std.specs.Prelude.{◌≡◌, ◌≤◌, ℕ, List, All, IsTrue, IfOk, OnOk, OnErr, IsErrOf, drop, false, length};
+ghost use Rattle.std.specs.Prelude.{map, take};
 ghost use Rattle.bec_bytes.specs.Causes.{HasCause, Rose};
 ghost use Rattle.bec_bytes.specs.Framed.{stream_of};
 ghost use Rattle.bec_disk.specs.Disk.{LeavesOnly};
@@ -24,21 +25,24 @@ use update_log::Log;
 use update_model::{IdList, Member};
 
 impl<D: Disk, L: Relation, C: Checks<L>> Replica<D, L, C> {
-    /// Adds each update of a batch that can be added in some order, each once, and passes over known ones. The rest waits. What is added is on
-    /// the disk.
+    /// Adds each update of a batch that can be added in some order, each once, and passes over known ones. The rest
+    /// waits. What is added is on the disk.
     ///
-    /// [`CommitFault::Full`] comes where all that can be added would pass a limit of a store, and [`CommitFault::DiskFault`] only where the
-    /// count of the log's disk rose. After a refusal the updates are as they were, and the batch is given up; the disk may hold whole further
-    /// records until the next call, which cuts them first.
+    /// [`CommitFault::Full`] comes where all that can be added would pass a limit of a store, and
+    /// [`CommitFault::DiskFault`] only where the count of the log's disk rose. After a refusal the updates are as they
+    /// were, and the batch is given up; the disk may hold whole further records until the next call, which cuts them
+    /// first.
     #[tactic(auto, using(crate::proofs::Declaring::still_taken, crate::proofs::Mapped::commits))]
     pub fn commit(&mut self, alloc: Global, batch: Vec<Checked>) -> Result<Committed, CommitFault>
         requires { All (IsChecked self.old.history.schema.rule) batch.items }
-        ensures commits { Commits store_limits self.old.history.members batch.items result self.old.log.faults self.new.log.faults self.new.history.members }
+        ensures commits { Commits store_limits self.old.history.members batch.items result self.old.log.faults
+            self.new.log.faults self.new.history.members }
         ensures store { IsSameStore self.old self.new }
         ensures clean { IsTrue self.old.log.disk.tells → OnOk result (IsClean self.new.log.end self.new.log.disk) }
 
         // A crash at any moment of it leaves what was held in front.
-        ensures any_moment { LeavesOnly self.old.log.disk self.new.log.disk (BeginsWith (stream_of self.old.history.members)) }
+        ensures any_moment { LeavesOnly self.old.log.disk self.new.log.disk
+            (BeginsWith (stream_of self.old.history.members)) }
         ensures later { self.old.log.faults ≤ self.new.log.faults }
     {
         self.log.is_unsure(); // what is acknowledged stands in front
@@ -81,8 +85,8 @@ fn tail_fault(error: DiskError) -> CommitFault
     }
 }
 
-/// Writes the updates from a position on behind the log's records, after a repair where it is unsure, and answers their ids. Memory is taken
-/// before anything is written.
+/// Writes the updates from a position on behind the log's records, after a repair where it is unsure, and answers their
+/// ids. Memory is taken before anything is written.
 pub fn write_tail<D: Disk, L: Relation, C: Checks<L>>(
     alloc: Global,
     log: &mut Log<D>,
@@ -123,16 +127,17 @@ fn settle_and_append<D: Disk, L: Relation, C: Checks<L>>(
     ensures any_moment { LeavesOnly log.old.disk log.new.disk (BeginsWith (stream_of (take from history.now.members))) }
     ensures cause { HasCause log.old.faults log.new.faults result }
 {
-    settle(log)?;
+    repair_if_unsure(log)?;
     history.len(); // what holds of every history
     log.append(history.tail(from))
 }
 
 /// Cuts what stands behind the acknowledged records, where a call failed before.
-fn settle<D: Disk>(log: &mut Log<D>) -> Result<(), DiskFault>
+fn repair_if_unsure<D: Disk>(log: &mut Log<D>) -> Result<(), DiskFault>
     ensures kept { (members : List (List ℕ)) → IsLogOf members log.old → IsLogOf members log.new }
     ensures sure { OnOk result (log.new.is_unsure ≡ false) }
-    ensures any_moment { (members : List (List ℕ)) → IsLogOf members log.old → LeavesOnly log.old.disk log.new.disk (BeginsWith (stream_of members)) }
+    ensures any_moment { (members : List (List ℕ)) → IsLogOf members log.old
+        → LeavesOnly log.old.disk log.new.disk (BeginsWith (stream_of members)) }
     ensures cause { HasCause log.old.faults log.new.faults result }
 {
     if !log.is_unsure() {

@@ -21,8 +21,8 @@ use std::alloc::{AllocError, Global};
 use update_log::{one_logset, whole_logset};
 use update_model::ByteList;
 
-/// Creates a store without updates, where the part Schema is absent: empties the part Updates, and then writes the part Schema, which makes it a
-/// store. Both parts have to be settled.
+/// Creates a store without updates, where the part Schema is absent: empties the part Updates, and then writes the part
+/// Schema, which makes it a store. Both parts have to be settled.
 #[tactic(auto, using(crate::proofs::Mapped::creates))]
 pub fn create<D: Disk, L: Relation, C: Checks<L>>(
     alloc: Global,
@@ -34,17 +34,22 @@ pub fn create<D: Disk, L: Relation, C: Checks<L>>(
 ) -> Result<Replica<D, L, C>, CreateFault<D, L, C>>
     requires schema { IsTrue (D.state schema.old).tells → IsSettled (D.state schema.old) }
     requires updates { IsTrue (D.state updates).tells → IsSettled (D.state updates) }
-    ensures created { IfOk result (λ replica. IsCreated L.answer (D.state schema.old) (D.state updates) node text.now replica (D.state schema.new)) }
+    ensures created { IfOk result (λ replica. IsCreated L.answer (D.state schema.old) (D.state updates) node text.now
+        replica (D.state schema.new)) }
     ensures refused { IfErr result (λ fault. IsCreateCause L.answer (D.state schema.old) text.now fault.why) }
 
     // A crash at any moment of it leaves no store, or the old part Schema, or the new store without updates.
-    ensures creating { IfOk result (λ replica. Creating (D.state schema.old) (D.state updates) (node ++ text.now) (D.state schema.new) replica.log.disk) }
-    ensures creating_err { IfErr result (λ fault. Creating (D.state schema.old) (D.state updates) (node ++ text.now) (D.state schema.new) (D.state fault.updates)) }
-    ensures untouched { IfErr result (λ fault. WritesNothing fault.why → (D.state schema.new ≡ D.state schema.old) × (D.state fault.updates ≡ D.state updates)) }
+    ensures creating { IfOk result (λ replica. Creating (D.state schema.old) (D.state updates) (node ++ text.now)
+        (D.state schema.new) replica.log.disk) }
+    ensures creating_err { IfErr result (λ fault. Creating (D.state schema.old) (D.state updates) (node ++ text.now)
+        (D.state schema.new) (D.state fault.updates)) }
+    ensures untouched { IfErr result (λ fault. WritesNothing fault.why → (D.state schema.new ≡ D.state schema.old)
+        × (D.state fault.updates ≡ D.state updates)) }
     ensures schema_later { D.faults schema.old ≤ D.faults schema.new }
     ensures later { IfOk result (λ replica. D.faults updates ≤ replica.log.faults) }
     ensures later_err { IfErr result (λ fault. D.faults updates ≤ D.faults fault.updates) }
-    ensures failed { IfErr result (λ fault. fault.why ≡ DiskFailed → Rose (D.faults schema.old) (D.faults schema.new) ⊎ Rose (D.faults updates) (D.faults fault.updates)) }
+    ensures failed { IfErr result (λ fault. fault.why ≡ DiskFailed → Rose (D.faults schema.old) (D.faults schema.new)
+        ⊎ Rose (D.faults updates) (D.faults fault.updates)) }
 {
     let Plan { declared, payload } = match plan_store(alloc, schema, node, text, &native) {
         Ok(plan) => plan,
@@ -160,7 +165,8 @@ fn open_empty<D: Disk, L: Relation, C: Checks<L>>(
     native: Native<L, C>,
 ) -> Result<Replica<D, L, C>, NotOpened<D, L, C>>
     requires { TakesSchema L.answer declared.schema.text declared.schema }
-    ensures declared { IfOk result (λ replica. (replica.node ≡ declared.node) × (replica.history.schema ≡ declared.schema)) }
+    ensures declared { IfOk result (λ replica. (replica.node ≡ declared.node)
+        × (replica.history.schema ≡ declared.schema)) }
     ensures members { IsTrue (D.state updates).tells → IfOk result (λ replica. replica.history.members ≡ []) }
     ensures clean { IsTrue (D.state updates).tells → IfOk result (λ replica. IsClean replica.log.end replica.log.disk) }
     ensures empty { IsTrue (D.state updates).tells → IfOk result (λ replica. replica.log.disk.seen ≡ []) }
@@ -168,7 +174,8 @@ fn open_empty<D: Disk, L: Relation, C: Checks<L>>(
     ensures disk_err { IfErr result (λ fault. IsSameDisk (D.state updates) (D.state fault.updates)) }
     ensures later { IfOk result (λ replica. D.faults updates ≤ replica.log.faults) }
     ensures later_err { IfErr result (λ fault. D.faults updates ≤ D.faults fault.updates) }
-    ensures failed { IfErr result (λ fault. fault.why ≡ DiskError.DiskFault → Rose (D.faults updates) (D.faults fault.updates)) }
+    ensures failed { IfErr result (λ fault. fault.why ≡ DiskError.DiskFault
+        → Rose (D.faults updates) (D.faults fault.updates)) }
 {
     one_logset();
     whole_logset();

@@ -16,8 +16,8 @@ use update_model::{AuthorKey, IdList, Node, Op, OpList, UpdateId, Value};
 /// How many ids are tried for a draft: more than updates can be held and operations can name.
 const TRIES: u32 = 262_144;
 
-/// These operations by an author after these predecessors, under an id that no held update has and no operation names. There is always one; where
-/// none of those that are tried serves, the answer is as for want of memory.
+/// These operations by an author after these predecessors, under an id that no held update has and no operation names.
+/// There is always one; where none of those that are tried serves, the answer is as for want of memory.
 pub fn draft_of<L: Relation, C: Checks<L>>(
     alloc: Global,
     history: &History<L, C>,

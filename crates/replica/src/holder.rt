@@ -15,7 +15,8 @@ impl<D: Disk> Counted for Replica<D, Luhn, Luhn> {
     ghost faults = { λ replica. replica.log.faults };
 }
 
-/// It holds as many updates as a store may have, under the rule of its schema. Its count of faults is that of the log's disk.
+/// It holds as many updates as a store may have, under the rule of its schema. Its count of faults is that of the log's
+/// disk.
 impl<D: Disk> Holder for Replica<D, Luhn, Luhn> {
     ghost members = { λ replica. replica.history.members };
 

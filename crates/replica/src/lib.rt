@@ -1,8 +1,9 @@
 //! A store that is open: what a node holds of a database, in memory and on disks.
 //!
-//! A [`Replica`] is a node's id, the history of its updates (heads, ancestors, tables), and the log that keeps them. [`create`] makes a store where
-//! there is none, and [`open_store`] opens one. [`Replica::commit`] takes updates that came from elsewhere, [`Replica::make`] signs an update of
-//! operations by a key, and [`Replica::join`] joins the heads. What was answered `Ok` stays, whatever stops the program later.
+//! A [`Replica`] is a node's id, the history of its updates (heads, ancestors, tables), and the log that keeps them.
+//! [`create`] makes a store where there is none, and [`open_store`] opens one. [`Replica::commit`] takes updates that
+//! came from elsewhere, [`Replica::make`] signs an update of operations by a key, and [`Replica::join`] joins the
+//! heads. What was answered `Ok` stays, whatever stops the program later.
 //!
 //! ```text
 //! let mut replica = open_store(verifier, alloc, &mut schema, updates, native)?;
@@ -12,7 +13,8 @@
 //! let (updates, native) = replica.into_parts();
 //! ```
 //!
-//! It opens no files and draws no random bytes: disks are handed over (`bec_disk`), and so are the bytes behind which a message is digested.
+//! It opens no files and draws no random bytes: disks are handed over (`bec_disk`), and so are the bytes behind which a
+//! message is digested.
 #![tactic(auto)]
 
 mod adding;

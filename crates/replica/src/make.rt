@@ -1,6 +1,7 @@
 //! Making updates by a key.
 
-ghost use Rattle.std.specs.Prelude.{◌≡◌, ◌≤◌, ℕ, Some, Err, IsTrue, IfOk, IfErr, IfNone, IfSome, OnErr, OnOk, List, length, map, take};
+ghost use Rattle.std.specs.Prelude.{◌≡◌, ◌≤◌, ℕ, Some, Err, IsTrue, IfOk, IfErr, IfNone, IfSome, OnErr, OnOk, List};
+ghost use Rattle.std.specs.Prelude.{length, map, take};
 ghost use Rattle.bec_bytes.specs.Causes.{Rose};
 ghost use Rattle.bec_bytes.specs.Framed.{stream_of};
 ghost use Rattle.bec_disk.specs.Disk.{EveryImage, LeavesOnly};
@@ -13,7 +14,8 @@ ghost use Rattle.update_model.specs.Rows.{AreOps};
 ghost use Rattle.key_index.specs.Used.{IsUsed};
 ghost use Rattle.update_log.specs.Log.{IsClean};
 ghost use Rattle.update_log.specs.Logset.{BeginsWith};
-ghost use Rattle.replica.specs.Making.{IsJoinCause, IsMakeCause, IsMakeCauseWith, JoinsTo, Makes, MakesWith, SignsBody, SignsBodyWith, noted, plain};
+ghost use Rattle.replica.specs.Making.{IsJoinCause, IsMakeCause, IsMakeCauseWith, JoinsTo, Makes, MakesWith, SignsBody};
+ghost use Rattle.replica.specs.Making.{SignsBodyWith, noted, plain};
 ghost use Rattle.replica.specs.Replicas.{IsSameStore};
 ghost use Rattle.replica.specs.Signing.{KeyAfter, KeyAfterJoin};
 ghost use Rattle.replica.specs.declared.make_fault.Side.TheVariants.{Key as KeySide, Log as LogSide};
@@ -32,12 +34,13 @@ use std::alloc::{AllocError, Global};
 use update_model::{IdList, MAX_PLAIN_OPS, MAX_PREDS, OpList, TextValue, UpdateId};
 
 impl<D: Disk, L: Relation, C: Checks<L>> Replica<D, L, C> {
-    /// Makes an update of these operations by a key, after all heads, adds it behind all others, and answers its id. It is valid, and it is on
-    /// the disk. `c` are the 32 random bytes that the signed message is digested behind.
+    /// Makes an update of these operations by a key, after all heads, adds it behind all others, and answers its id. It
+    /// is valid, and it is on the disk. `c` are the 32 random bytes that the signed message is digested behind.
     ///
-    /// There are at most 256 operations, of which `update_model::check_ops` is true; where there are more than 64, the update has an empty note.
-    /// After a refusal the updates are as they were. Where the id is taken, or the log's disk failed, an index of the key was used for one
-    /// signature, which is given up; where the key's disk failed, the index that was tried is used and no signature was made.
+    /// There are at most 256 operations, of which `update_model::check_ops` is true; where there are more than 64, the
+    /// update has an empty note. After a refusal the updates are as they were. Where the id is taken, or the log's disk
+    /// failed, an index of the key was used for one signature, which is given up; where the key's disk failed, the
+    /// index that was tried is used and no signature was made.
     pub fn make(
         &mut self,
         alloc: Global,
@@ -47,20 +50,26 @@ impl<D: Disk, L: Relation, C: Checks<L>> Replica<D, L, C> {
     ) -> Result<UpdateId, MakeFault>
         requires few { length ops ≤ MAX_OPS }
         requires form { AreOps 0 ops }
-        ensures made { IfOk result (λ id. Makes L.answer self.old.history key.old.secret key.old.taken ops c.now id self.new.history) }
+        ensures made { IfOk result (λ id. Makes L.answer self.old.history key.old.secret key.old.taken ops c.now id
+            self.new.history) }
         ensures same { OnErr result (self.new.history ≡ self.old.history) }
         ensures store { IsSameStore self.old self.new }
-        ensures refused { IfErr result (λ why. IsMakeCause L.answer self.old.history key.old.secret key.old.taken ops c.now why) }
+        ensures refused { IfErr result (λ why. IsMakeCause L.answer self.old.history key.old.secret key.old.taken ops
+            c.now why) }
         ensures clean { IsTrue self.old.log.disk.tells → OnOk result (IsClean self.new.log.end self.new.log.disk) }
         ensures key { KeyAfter key.old result key.new }
         ensures signs { SignsBody result self.old.history key.old.secret ops }
 
         // A crash at any moment of it leaves what was held in front, and each index used that was used.
-        ensures any_moment { LeavesOnly self.old.log.disk self.new.log.disk (BeginsWith (stream_of self.old.history.members)) }
-        ensures used { (index : ℕ) → (IsTrue key.old.parts.used.tells → EveryImage key.old.parts.used.now (IsUsed index)) → LeavesOnly key.old.parts.used key.new.parts.used (IsUsed index) }
+        ensures any_moment { LeavesOnly self.old.log.disk self.new.log.disk
+            (BeginsWith (stream_of self.old.history.members)) }
+        ensures used { (index : ℕ)
+            → (IsTrue key.old.parts.used.tells → EveryImage key.old.parts.used.now (IsUsed index))
+            → LeavesOnly key.old.parts.used key.new.parts.used (IsUsed index) }
         ensures later { self.old.log.faults ≤ self.new.log.faults }
         ensures key_later { key.old.parts.used_faults ≤ key.new.parts.used_faults }
-        ensures key_failed { result ≡ Err (DiskFailed KeySide) → Rose key.old.parts.used_faults key.new.parts.used_faults }
+        ensures key_failed { result ≡ Err (DiskFailed KeySide)
+            → Rose key.old.parts.used_faults key.new.parts.used_faults }
         ensures log_failed { result ≡ Err (DiskFailed LogSide) → Rose self.old.log.faults self.new.log.faults }
     {
         self.make_of(alloc, plain_of(alloc, ops), key, c)
@@ -78,20 +87,26 @@ impl<D: Disk, L: Relation, C: Checks<L>> Replica<D, L, C> {
         requires few { length ops ≤ MAX_OPS }
         requires form { AreOps 0 ops }
         requires short { length note ≤ MAX_NOTE }
-        ensures made { IfOk result (λ id. MakesWith L.answer self.old.history key.old.secret key.old.taken (noted ops note) c.now id self.new.history) }
+        ensures made { IfOk result (λ id. MakesWith L.answer self.old.history key.old.secret key.old.taken
+            (noted ops note) c.now id self.new.history) }
         ensures same { OnErr result (self.new.history ≡ self.old.history) }
         ensures store { IsSameStore self.old self.new }
-        ensures refused { IfErr result (λ why. IsMakeCauseWith L.answer self.old.history key.old.secret key.old.taken (noted ops note) c.now why) }
+        ensures refused { IfErr result (λ why. IsMakeCauseWith L.answer self.old.history key.old.secret key.old.taken
+            (noted ops note) c.now why) }
         ensures clean { IsTrue self.old.log.disk.tells → OnOk result (IsClean self.new.log.end self.new.log.disk) }
         ensures key { KeyAfter key.old result key.new }
         ensures signs { SignsBodyWith result self.old.history key.old.secret (noted ops note) }
 
         // A crash at any moment of it leaves what was held in front, and each index used that was used.
-        ensures any_moment { LeavesOnly self.old.log.disk self.new.log.disk (BeginsWith (stream_of self.old.history.members)) }
-        ensures used { (index : ℕ) → (IsTrue key.old.parts.used.tells → EveryImage key.old.parts.used.now (IsUsed index)) → LeavesOnly key.old.parts.used key.new.parts.used (IsUsed index) }
+        ensures any_moment { LeavesOnly self.old.log.disk self.new.log.disk
+            (BeginsWith (stream_of self.old.history.members)) }
+        ensures used { (index : ℕ)
+            → (IsTrue key.old.parts.used.tells → EveryImage key.old.parts.used.now (IsUsed index))
+            → LeavesOnly key.old.parts.used key.new.parts.used (IsUsed index) }
         ensures later { self.old.log.faults ≤ self.new.log.faults }
         ensures key_later { key.old.parts.used_faults ≤ key.new.parts.used_faults }
-        ensures key_failed { result ≡ Err (DiskFailed KeySide) → Rose key.old.parts.used_faults key.new.parts.used_faults }
+        ensures key_failed { result ≡ Err (DiskFailed KeySide)
+            → Rose key.old.parts.used_faults key.new.parts.used_faults }
         ensures log_failed { result ≡ Err (DiskFailed LogSide) → Rose self.old.log.faults self.new.log.faults }
     {
         let note = note_of(note);
@@ -110,20 +125,26 @@ impl<D: Disk, L: Relation, C: Checks<L>> Replica<D, L, C> {
         requires few { length says.ops ≤ most_ops says.note }
         requires form { AreOps 0 says.ops }
         requires note { IsNote says.note }
-        ensures made { IfOk result (λ id. MakesWith L.answer self.old.history key.old.secret key.old.taken says c.now id self.new.history) }
+        ensures made { IfOk result (λ id. MakesWith L.answer self.old.history key.old.secret key.old.taken says c.now id
+            self.new.history) }
         ensures same { OnErr result (self.new.history ≡ self.old.history) }
         ensures store { IsSameStore self.old self.new }
-        ensures refused { IfErr result (λ why. IsMakeCauseWith L.answer self.old.history key.old.secret key.old.taken says c.now why) }
+        ensures refused { IfErr result (λ why. IsMakeCauseWith L.answer self.old.history key.old.secret key.old.taken
+            says c.now why) }
         ensures clean { IsTrue self.old.log.disk.tells → OnOk result (IsClean self.new.log.end self.new.log.disk) }
         ensures key { KeyAfter key.old result key.new }
         ensures signs { SignsBodyWith result self.old.history key.old.secret says }
 
         // A crash at any moment of it leaves what was held in front, and each index used that was used.
-        ensures any_moment { LeavesOnly self.old.log.disk self.new.log.disk (BeginsWith (stream_of self.old.history.members)) }
-        ensures used { (index : ℕ) → (IsTrue key.old.parts.used.tells → EveryImage key.old.parts.used.now (IsUsed index)) → LeavesOnly key.old.parts.used key.new.parts.used (IsUsed index) }
+        ensures any_moment { LeavesOnly self.old.log.disk self.new.log.disk
+            (BeginsWith (stream_of self.old.history.members)) }
+        ensures used { (index : ℕ)
+            → (IsTrue key.old.parts.used.tells → EveryImage key.old.parts.used.now (IsUsed index))
+            → LeavesOnly key.old.parts.used key.new.parts.used (IsUsed index) }
         ensures later { self.old.log.faults ≤ self.new.log.faults }
         ensures key_later { key.old.parts.used_faults ≤ key.new.parts.used_faults }
-        ensures key_failed { result ≡ Err (DiskFailed KeySide) → Rose key.old.parts.used_faults key.new.parts.used_faults }
+        ensures key_failed { result ≡ Err (DiskFailed KeySide)
+            → Rose key.old.parts.used_faults key.new.parts.used_faults }
         ensures log_failed { result ≡ Err (DiskFailed LogSide) → Rose self.old.log.faults self.new.log.faults }
     {
         self.log.is_unsure(); // what is acknowledged stands in front
@@ -142,8 +163,8 @@ impl<D: Disk, L: Relation, C: Checks<L>> Replica<D, L, C> {
         )
     }
 
-    /// Joins the heads by an update without operations, which names the least 1,024 of them, and answers its id. Where there are fewer than two,
-    /// nothing is made and the answer is `None`, before every refusal.
+    /// Joins the heads by an update without operations, which names the least 1,024 of them, and answers its id. Where
+    /// there are fewer than two, nothing is made and the answer is `None`, before every refusal.
     ///
     /// Of the refusals only `NotListed`, `Full`, `Spent`, `Taken`, `DiskFault` and `Memory` come.
     #[tactic(auto, using(crate::proofs::Declaring::still_taken))]
@@ -153,20 +174,26 @@ impl<D: Disk, L: Relation, C: Checks<L>> Replica<D, L, C> {
         key: &mut KeyStore<D>,
         c: &[u8; 32],
     ) -> Result<Option<UpdateId>, MakeFault>
-        ensures joined { IfOk result (λ id. JoinsTo self.old.history key.old.secret key.old.taken c.now id self.new.history) }
+        ensures joined { IfOk result (λ id. JoinsTo self.old.history key.old.secret key.old.taken c.now id
+            self.new.history) }
         ensures same { OnErr result (self.new.history ≡ self.old.history) }
         ensures store { IsSameStore self.old self.new }
         ensures refused { IfErr result (λ why. IsJoinCause self.old.history key.old.secret key.old.taken c.now why) }
-        ensures clean { IsTrue self.old.log.disk.tells → IfOk result (λ id. IfSome id (λ _. IsClean self.new.log.end self.new.log.disk)) }
+        ensures clean { IsTrue self.old.log.disk.tells
+            → IfOk result (λ id. IfSome id (λ _. IsClean self.new.log.end self.new.log.disk)) }
         ensures untouched { IfOk result (λ id. IfNone id (self.new ≡ self.old)) }
         ensures key { KeyAfterJoin key.old result key.new }
 
         // A crash at any moment of it leaves what was held in front, and each index used that was used.
-        ensures any_moment { LeavesOnly self.old.log.disk self.new.log.disk (BeginsWith (stream_of self.old.history.members)) }
-        ensures used { (index : ℕ) → (IsTrue key.old.parts.used.tells → EveryImage key.old.parts.used.now (IsUsed index)) → LeavesOnly key.old.parts.used key.new.parts.used (IsUsed index) }
+        ensures any_moment { LeavesOnly self.old.log.disk self.new.log.disk
+            (BeginsWith (stream_of self.old.history.members)) }
+        ensures used { (index : ℕ)
+            → (IsTrue key.old.parts.used.tells → EveryImage key.old.parts.used.now (IsUsed index))
+            → LeavesOnly key.old.parts.used key.new.parts.used (IsUsed index) }
         ensures later { self.old.log.faults ≤ self.new.log.faults }
         ensures key_later { key.old.parts.used_faults ≤ key.new.parts.used_faults }
-        ensures key_failed { result ≡ Err (DiskFailed KeySide) → Rose key.old.parts.used_faults key.new.parts.used_faults }
+        ensures key_failed { result ≡ Err (DiskFailed KeySide)
+            → Rose key.old.parts.used_faults key.new.parts.used_faults }
         ensures log_failed { result ≡ Err (DiskFailed LogSide) → Rose self.old.log.faults self.new.log.faults }
     {
         self.log.is_unsure(); // what is acknowledged stands in front
@@ -226,7 +253,8 @@ fn least_heads<L: Relation, C: Checks<L>>(
     alloc: Global,
     history: &History<L, C>,
 ) -> Result<IdList, AllocError>
-    ensures { IfOk result (λ preds. (heads : List Id) × AreHeads (map entry_of history.now.members) heads × (preds ≡ take MAX_PREDS heads)) }
+    ensures { IfOk result (λ preds. (heads : List Id) × AreHeads (map entry_of history.now.members) heads
+        × (preds ≡ take MAX_PREDS heads)) }
 {
     let mut heads = history.heads(alloc)?;
     heads.truncate(usize::from(MAX_PREDS));

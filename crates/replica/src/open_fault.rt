@@ -11,8 +11,8 @@ pub enum OpenKind {
     /// The part Schema is absent.
     #[error("there is no store")]
     NoStore,
-    /// The part Schema is damaged, its payload has fewer than 32 bytes, or its text is refused or has an invariant that does not survive
-    /// merging.
+    /// The part Schema is damaged, its payload has fewer than 32 bytes, or its text is refused or has an invariant that
+    /// does not survive merging.
     #[error("the store is damaged")]
     BadSchema,
     /// Memory ran out.

@@ -23,8 +23,8 @@ use schema_text::one_schema;
 use std::alloc::Global;
 use update_log::{Log, LogFault};
 
-/// Opens the store of two parts that are settled. What stands behind the longest front of records that are a closed list under the schema's
-/// rule is cut. The verifier checks the records, and each update is judged once.
+/// Opens the store of two parts that are settled. What stands behind the longest front of records that are a closed
+/// list under the schema's rule is cut. The verifier checks the records, and each update is judged once.
 #[tactic(auto, using(crate::proofs::Mapped::open_cause, crate::proofs::Mapped::open_disk))]
 pub fn open_store<V: Verifier, D: Disk, L: Relation, C: Checks<L>>(
     verifier: &V,
@@ -41,12 +41,15 @@ pub fn open_store<V: Verifier, D: Disk, L: Relation, C: Checks<L>>(
     ensures same { D.state schema.new ≡ D.state schema.old }
 
     // A crash at any moment of it leaves the list that stood there in front, whatever it answers.
-    ensures any_moment { IfOk result (λ replica. KeepsStore L.answer (D.state schema.old) (D.state updates) replica.log.disk) }
-    ensures any_moment_err { IfErr result (λ fault. KeepsStore L.answer (D.state schema.old) (D.state updates) (D.state fault.updates)) }
+    ensures any_moment { IfOk result (λ replica. KeepsStore L.answer (D.state schema.old) (D.state updates)
+        replica.log.disk) }
+    ensures any_moment_err { IfErr result (λ fault. KeepsStore L.answer (D.state schema.old) (D.state updates)
+        (D.state fault.updates)) }
     ensures schema_later { D.faults schema.old ≤ D.faults schema.new }
     ensures later { IfOk result (λ replica. D.faults updates ≤ replica.log.faults) }
     ensures later_err { IfErr result (λ fault. D.faults updates ≤ D.faults fault.updates) }
-    ensures failed { IfErr result (λ fault. fault.why ≡ OpenKind.DiskFault → Rose (D.faults schema.old) (D.faults schema.new) ⊎ Rose (D.faults updates) (D.faults fault.updates)) }
+    ensures failed { IfErr result (λ fault. fault.why ≡ OpenKind.DiskFault
+        → Rose (D.faults schema.old) (D.faults schema.new) ⊎ Rose (D.faults updates) (D.faults fault.updates)) }
 {
     one_schema();
     let declared = match read_declared(alloc, schema, &native) {
@@ -91,7 +94,8 @@ fn read_declared<D: Disk, L: Relation, C: Checks<L>>(
     part: &mut D,
     native: &Native<L, C>,
 ) -> Result<Declared, OpenKind>
-    ensures declared { IsTrue (D.state part.old).tells → IfOk result (λ declared. DeclaresStore L.answer (D.state part.old).seen declared.node declared.schema) }
+    ensures declared { IsTrue (D.state part.old).tells
+        → IfOk result (λ declared. DeclaresStore L.answer (D.state part.old).seen declared.node declared.schema) }
     ensures taken { IfOk result (λ declared. TakesSchema L.answer declared.schema.text declared.schema) }
     ensures refused { IfErr result (λ why. IsOpenCause L.answer (D.state part.old) why) }
     ensures same { D.state part.new ≡ D.state part.old }
@@ -101,19 +105,20 @@ fn read_declared<D: Disk, L: Relation, C: Checks<L>>(
     match read_gated(alloc, part) {
         Ok(Gated::Absent) => Err(OpenKind::NoStore),
         Ok(Gated::Damaged) => Err(OpenKind::BadSchema),
-        Ok(Gated::Whole(payload)) => declared_by(alloc, payload.as_slice(), native),
+        Ok(Gated::Whole(payload)) => read_declaration(alloc, payload.as_slice(), native),
         Err(error) => Err(opening_kind(error)),
     }
 }
 
 /// What a payload declares: the id of a node, and the text of a schema.
-fn declared_by<L: Relation, C: Checks<L>>(
+fn read_declaration<L: Relation, C: Checks<L>>(
     alloc: Global,
     payload: &[u8],
     native: &Native<L, C>,
 ) -> Result<Declared, OpenKind>
     ensures declared { IfOk result (λ declared. DeclaresBoth L.answer payload.now declared.node declared.schema) }
-    ensures none { result ≡ Err OpenKind.BadSchema → (node : List ℕ) (schema : SchemaData) → DeclaresBoth L.answer payload.now node schema → ⊥ }
+    ensures none { result ≡ Err OpenKind.BadSchema → (node : List ℕ) (schema : SchemaData)
+        → DeclaresBoth L.answer payload.now node schema → ⊥ }
     ensures only { IfErr result (λ why. (why ≡ OpenKind.BadSchema) ⊎ (why ≡ OpenKind.Memory)) }
 {
     taken_or_refused();
@@ -162,16 +167,21 @@ pub fn open_declared<V: Verifier, D: Disk, L: Relation, C: Checks<L>>(
 ) -> Result<Replica<D, L, C>, NotOpened<D, L, C>>
     requires taken { TakesSchema L.answer declared.schema.text declared.schema }
     requires updates { IsTrue (D.state updates).tells → IsSettled (D.state updates) }
-    ensures declared { IfOk result (λ replica. (replica.node ≡ declared.node) × (replica.history.schema ≡ declared.schema)) }
-    ensures list { IsTrue (D.state updates).tells → IfOk result (λ replica. IsLogset declared.schema.rule (D.state updates).seen replica.history.members) }
+    ensures declared { IfOk result (λ replica. (replica.node ≡ declared.node)
+        × (replica.history.schema ≡ declared.schema)) }
+    ensures list { IsTrue (D.state updates).tells
+        → IfOk result (λ replica. IsLogset declared.schema.rule (D.state updates).seen replica.history.members) }
     ensures clean { IsTrue (D.state updates).tells → IfOk result (λ replica. IsClean replica.log.end replica.log.disk) }
     ensures sure { IfOk result (λ replica. replica.log.is_unsure ≡ false) }
-    ensures size { IsTrue (D.state updates).tells → IfOk result (λ replica. replica.log.end ≤ length (D.state updates).seen) }
+    ensures size { IsTrue (D.state updates).tells
+        → IfOk result (λ replica. replica.log.end ≤ length (D.state updates).seen) }
     ensures any_moment { IfOk result (λ replica. KeepsLogset declared.schema.rule (D.state updates) replica.log.disk) }
-    ensures any_moment_err { IfErr result (λ fault. KeepsLogset declared.schema.rule (D.state updates) (D.state fault.updates)) }
+    ensures any_moment_err { IfErr result (λ fault. KeepsLogset declared.schema.rule (D.state updates)
+        (D.state fault.updates)) }
     ensures later { IfOk result (λ replica. D.faults updates ≤ replica.log.faults) }
     ensures later_err { IfErr result (λ fault. D.faults updates ≤ D.faults fault.updates) }
-    ensures failed { IfErr result (λ fault. fault.why ≡ DiskError.DiskFault → Rose (D.faults updates) (D.faults fault.updates)) }
+    ensures failed { IfErr result (λ fault. fault.why ≡ DiskError.DiskFault
+        → Rose (D.faults updates) (D.faults fault.updates)) }
 {
     accepted_is_unlimited();
     let Declared { node, schema } = declared;

@@ -42,7 +42,8 @@ fn heads_for<D: Disk, L: Relation, C: Checks<L>>(
     key: &KeyStore<D>,
 ) -> Result<Vec<UpdateId>, MakeFault>
     ensures heads { IfOk result (λ heads. MayMake history.now key.now.secret heads.items) }
-    ensures refused { (ops : List Operation) → IfErr result (λ why. IsPlanCause L.answer history.now key.now.secret ops why) }
+    ensures refused { (ops : List Operation)
+        → IfErr result (λ why. IsPlanCause L.answer history.now key.now.secret ops why) }
 {
     if !history.schema().rule().lists(&key.public()) {
         return Err(MakeFault::NotListed);

@@ -1,4 +1,5 @@
-ghost use Rattle.std.specs.Prelude.{◌≡◌, ◌≤◌, ◌<◌, ℕ, List, All, Some, IsTrue, IfOk, IfErr, OnOk, OnErr, IsErrOf, length, map, slice_get};
+ghost use Rattle.std.specs.Prelude.{◌≡◌, ◌≤◌, ◌<◌, ℕ, List, All, Some, IsTrue, IfOk, IfErr, OnOk, OnErr, IsErrOf};
+ghost use Rattle.std.specs.Prelude.{length, map, slice_get};
 ghost use Rattle.bec_bytes.specs.Causes.{Rose};
 ghost use Rattle.bec_bytes.specs.Framed.{stream_of};
 ghost use Rattle.bec_disk.specs.Disk.{EveryImage, LeavesOnly};
@@ -36,8 +37,9 @@ use update_model::{OpList, UpdateId};
 
 /// A store that is open: a node's id, the history of its updates, and the log that they stand in.
 ///
-/// Its type keeps that each invariant of the schema survives merging, that the updates are a closed list under the schema's rule, that
-/// heads, ancestors and tables are those of this list, and that a crash at this moment leaves a log that begins with it.
+/// Its type keeps that each invariant of the schema survives merging, that the updates are a closed list under the
+/// schema's rule, that heads, ancestors and tables are those of this list, and that a crash at this moment leaves a log
+/// that begins with it.
 #[derive(Drop)]
 pub struct Replica<D: Disk, L: Relation, C: Checks<L>> {
     pub(crate) node: [u8; 32],
@@ -73,7 +75,8 @@ impl<D: Disk, L: Relation, C: Checks<L>> Replica<D, L, C> {
         ensures taken { TakesSchema L.answer self.now.history.schema.text self.now.history.schema }
         ensures history { IsHistory self.now.history }
         ensures log { IsLogOf self.now.history.members self.now.log }
-        ensures on_disk { IsTrue self.now.log.disk.tells → EveryImage self.now.log.disk.now (BeginsWith (stream_of self.now.history.members)) }
+        ensures on_disk { IsTrue self.now.log.disk.tells
+            → EveryImage self.now.log.disk.now (BeginsWith (stream_of self.now.history.members)) }
     {
         self.log.is_unsure(); // what is acknowledged stands in front
         self.history.len()
@@ -102,7 +105,8 @@ impl<D: Disk, L: Relation, C: Checks<L>> Replica<D, L, C> {
 
     /// The tables of the updates.
     pub fn tables(&self) -> &Tables
-        ensures { IsStateOf (rules_with L.answer self.now.history.schema.tables) (nodes_of self.now.history.members) result.now }
+        ensures { IsStateOf (rules_with L.answer self.now.history.schema.tables) (nodes_of self.now.history.members)
+            result.now }
     {
         self.history.tables()
     }

@@ -1,6 +1,7 @@
 //! Signing an update.
 
-ghost use Rattle.std.specs.Prelude.{◌≡◌, ◌<◌, ◌≤◌, ◌+◌, ◌++◌, ◌∷◌, ◌↔◌, [], ℕ, None, Some, Err, IsTrue, IfOk, IfErr, OnErr, OnOk, false, length, map};
+ghost use Rattle.std.specs.Prelude.{◌≡◌, ◌<◌, ◌≤◌, ◌+◌, ◌++◌, ◌∷◌, ◌↔◌, [], ℕ, None, Some, Err, IsTrue, IfOk, IfErr};
+ghost use Rattle.std.specs.Prelude.{OnErr, OnOk, false, length, map};
 ghost use Rattle.std.specs.Int.{w32, to_be_bytes};
 ghost use Rattle.std.specs.List.{AllByRecursion};
 ghost use Rattle.bec_bytes.specs.Causes.{Rose};
@@ -16,7 +17,8 @@ ghost use Rattle.update_check.specs.Signed.{IsChecked};
 ghost use Rattle.key_index.specs.Used.{IsUsed};
 ghost use Rattle.lms_tree.specs.SecretKey.{public_key};
 ghost use Rattle.replica.specs.Faults.{message_fault};
-ghost use Rattle.replica.specs.Making.{AreSignedBy, HasLength, HasRoom, IsBytesCause, IsMadeWith, IsMessageCause, IsNewCause, IsSignCause, IsSignedBy, body_with};
+ghost use Rattle.replica.specs.Making.{AreSignedBy, HasLength, HasRoom, IsBytesCause, IsMadeWith, IsMessageCause};
+ghost use Rattle.replica.specs.Making.{IsNewCause, IsSignCause, IsSignedBy, body_with};
 ghost use Rattle.replica.specs.Signing.{KeyAfter};
 ghost use Rattle.replica.specs.declared.make_fault.Side.TheVariants.{Key as KeySide};
 ghost use Rattle.replica.specs.declared.make_fault.MakeFault.TheVariants.{DiskFault as DiskFailed};
@@ -56,7 +58,8 @@ pub fn sign_update<D: Disk, L: Relation, C: Checks<L>>(
     ensures new { IfOk result (λ update. holds (map entry_of history.now.members) (id_of update) ≡ false) }
     ensures refused { IfErr result (λ why. IsSignCause history.now key.old.secret key.old.taken preds says c.now why) }
     ensures key { KeyAfter key.old result key.new }
-    ensures used { (index : ℕ) → (IsTrue key.old.parts.used.tells → EveryImage key.old.parts.used.now (IsUsed index)) → LeavesOnly key.old.parts.used key.new.parts.used (IsUsed index) }
+    ensures used { (index : ℕ) → (IsTrue key.old.parts.used.tells → EveryImage key.old.parts.used.now (IsUsed index))
+        → LeavesOnly key.old.parts.used key.new.parts.used (IsUsed index) }
     ensures later { key.old.parts.used_faults ≤ key.new.parts.used_faults }
     ensures failed { result ≡ Err (DiskFailed KeySide) → Rose key.old.parts.used_faults key.new.parts.used_faults }
 {
@@ -165,7 +168,8 @@ fn has_room<L: Relation, C: Checks<L>>(history: &History<L, C>, len: usize) -> b
     history.len() < MAX_MEMBERS && len as u64 <= MAX_BYTES - history.byte_len()
 }
 
-/// The bytes of an update: its message, and the signature behind its length. Memory is taken before the index is reserved.
+/// The bytes of an update: its message, and the signature behind its length. Memory is taken before the index is
+/// reserved.
 fn signed_bytes<D: Disk>(
     alloc: Global,
     key: &mut KeyStore<D>,
@@ -179,19 +183,20 @@ fn signed_bytes<D: Disk>(
     ensures short { IfOk result (λ bytes. length bytes.items ≤ UPDATE_LIMIT) }
     ensures spent { IfErr result (λ why. IsBytesCause key.old.taken why) }
     ensures key { KeyAfter key.old result key.new }
-    ensures used { (index : ℕ) → (IsTrue key.old.parts.used.tells → EveryImage key.old.parts.used.now (IsUsed index)) → LeavesOnly key.old.parts.used key.new.parts.used (IsUsed index) }
+    ensures used { (index : ℕ) → (IsTrue key.old.parts.used.tells → EveryImage key.old.parts.used.now (IsUsed index))
+        → LeavesOnly key.old.parts.used key.new.parts.used (IsUsed index) }
     ensures later { key.old.parts.used_faults ≤ key.new.parts.used_faults }
     ensures failed { result ≡ Err (DiskFailed KeySide) → Rose key.old.parts.used_faults key.new.parts.used_faults }
 {
     let mut signature = vec![in alloc; 0u8; size]?;
     let mut bytes = Vec::with_capacity(alloc, message.len() + 4 + size)?;
-    sign_to(key, c, message, &mut signature)?;
+    sign_into(key, c, message, &mut signature)?;
     put_signed(&mut bytes, message, &signature)?;
     Ok(bytes)
 }
 
 /// Signs a message at the least index that is not used.
-fn sign_to<D: Disk>(
+fn sign_into<D: Disk>(
     key: &mut KeyStore<D>,
     c: &[u8; 32],
     message: &[u8],
@@ -201,7 +206,8 @@ fn sign_to<D: Disk>(
     ensures made { OnOk result (IsSignedBy key.old.secret key.old.taken c.now message.now out.new) }
     ensures refused { IfErr result (λ why. IsBytesCause key.old.taken why) }
     ensures key { KeyAfter key.old result key.new }
-    ensures used { (index : ℕ) → (IsTrue key.old.parts.used.tells → EveryImage key.old.parts.used.now (IsUsed index)) → LeavesOnly key.old.parts.used key.new.parts.used (IsUsed index) }
+    ensures used { (index : ℕ) → (IsTrue key.old.parts.used.tells → EveryImage key.old.parts.used.now (IsUsed index))
+        → LeavesOnly key.old.parts.used key.new.parts.used (IsUsed index) }
     ensures later { key.old.parts.used_faults ≤ key.new.parts.used_faults }
     ensures failed { result ≡ Err (DiskFailed KeySide) → Rose key.old.parts.used_faults key.new.parts.used_faults }
 {
@@ -215,7 +221,8 @@ fn sign_to<D: Disk>(
 /// Writes a message, and a signature behind its length.
 fn put_signed(out: &mut Vec<u8>, message: &[u8], signature: &[u8]) -> Result<(), AllocError>
     requires { length signature.now < 65536 }
-    ensures items { OnOk result (out.new.items ≡ out.old.items ++ (message.now ++ (to_be_bytes w32 (length signature.now) ++ signature.now))) }
+    ensures items { OnOk result
+        (out.new.items ≡ out.old.items ++ (message.now ++ (to_be_bytes w32 (length signature.now) ++ signature.now))) }
     ensures block { IsBlock (length signature.now) signature.now }
 {
     out.extend_from_slice(message)?;

@@ -10,10 +10,12 @@ ghost use Rattle.row_check.specs.Trees.{holds_tree, tree_of};
 
 /// An expression that fits the kinds of columns fits each row of them, so that it may be asked of it.
 pub fn kinds_fit_rows()
-    ensures { (kinds : List Kind) (row : List Value) (expr : Expr) → HasKinds kinds (tree_of expr) → FitsKinds kinds row → FitsRow row expr }
+    ensures { (kinds : List Kind) (row : List Value) (expr : Expr) → HasKinds kinds (tree_of expr) → FitsKinds kinds row
+        → FitsRow row expr }
 {}
 
 /// What an expression says of a row is what its tree says.
 pub fn trees_hold()
-    ensures { (relation : ℕ → List Value → Bool) (row : List Value) (expr : Expr) → holds relation row expr ≡ holds_tree relation row (tree_of expr) }
+    ensures { (relation : ℕ → List Value → Bool) (row : List Value) (expr : Expr)
+        → holds relation row expr ≡ holds_tree relation row (tree_of expr) }
 {}

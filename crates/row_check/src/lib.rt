@@ -12,8 +12,8 @@
 //! eval(alloc, &short, row, &native)?       // whether the text in column 0 has at most 8 bytes
 //! ```
 //!
-//! What an expression asks, apart from where its parts lie in memory, is a tree (`Trees` of the definitions). A tree that fits
-//! the kinds of columns ([`Kind`]) may be asked of each row that has values of these kinds.
+//! What an expression asks, apart from where its parts lie in memory, is a tree (`Trees` of the definitions). A tree
+//! that fits the kinds of columns ([`Kind`]) may be asked of each row that has values of these kinds.
 //!
 //! It reads no text of expressions and knows no tables.
 #![tactic(auto)]

@@ -1,13 +1,14 @@
 //! Schemas: what a database's tables are.
 //!
-//! A [`Schema`] has tables with their columns, the references between them, and what holds of each row. It says whose updates
-//! the database takes, and keeps the text that declares it. Its numbers name what is there, each expression may be asked of
-//! every row that fits, and samples fit (`IsSchema` of the definitions).
+//! A [`Schema`] has tables with their columns, the references between them, and what holds of each row. It says whose
+//! updates the database takes, and keeps the text that declares it. Its numbers name what is there, each expression may
+//! be asked of every row that fits, and samples fit (`IsSchema` of the definitions).
 //!
-//! Whether a value fits a column is [`fits_column`], and whether the `CHECK` lines of a table are true of a row [`checks_hold`].
+//! Whether a value fits a column is [`fits_column`], and whether the `CHECK` lines of a table are true of a row
+//! [`checks_hold`].
 //!
-//! No text is read here (crate `schema_text`), no rows are kept, and no invariant is judged (crate `table_model`): a schema may
-//! still be refused for its invariants.
+//! No text is read here (crate `schema_text`), no rows are kept, and no invariant is judged (crate `table_model`): a
+//! schema may still be refused for its invariants.
 #![tactic(auto)]
 
 mod action;

@@ -35,8 +35,8 @@ impl Model for Schema {
 }
 
 impl Schema {
-    /// Puts a schema together, of tables that keep what a schema promises. The crate `schema_text` does so with what a text
-    /// declares, whose digest is the id of the database.
+    /// Puts a schema together, of tables that keep what a schema promises. The crate `schema_text` does so with what a
+    /// text declares, whose digest is the id of the database.
     pub fn new(rule: DbRule, tables: TableList, text: ByteList) -> Schema
         requires { IsSchema (record { tables = tables; rule = rule; text = text }) }
         ensures { result ≡ record { tables = tables; rule = rule; text = text } }

@@ -8,7 +8,8 @@ ghost use Rattle.text_words.specs.Names.{is_a_name};
 ghost use Rattle.schema_text.specs.Drafts.{kind_declared, with_column};
 ghost use Rattle.schema_text.specs.Faults.{AreBounds};
 ghost use Rattle.schema_text.specs.Kept.{IsDraft, CanAdd, IsRowValue};
-ghost use Rattle.schema_text.specs.Steps.{IsAfter, IsCheckAdded, kept_after, number_of, target_number, match_rule, with_match, with_unique, with_sample, with_table};
+ghost use Rattle.schema_text.specs.Steps.{IsAfter, IsCheckAdded, kept_after, number_of, target_number, match_rule};
+ghost use Rattle.schema_text.specs.Steps.{with_match, with_unique, with_sample, with_table};
 
 use crate::MAX_TOKENS;
 use crate::draft::{Draft, Phase, no_table};
@@ -107,7 +108,12 @@ impl Draft {
         line: u32,
     ) -> Result<(), AllocError>
         requires { IsTrue (is_a_name name.now) }
-        ensures { OnOk result (self.new ≡ with_column self.old (record { name = name.now; kind = kind; null = null; line = line })) }
+        ensures { OnOk result (self.new ≡ with_column self.old (record {
+          name = name.now;
+          kind = kind;
+          null = null;
+          line = line;
+        })) }
     {
         let name = text_of(alloc, name)?;
         self.table.columns.push(Column {

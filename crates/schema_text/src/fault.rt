@@ -14,8 +14,8 @@ pub enum SchemaKind {
     Name,
     /// Bounds or kinds that do not go together.
     WrongType,
-    /// A reference to no table that it may refer to, or without the NULL that it needs; a `RESTRICT` reference to rows that
-    /// may be hidden for a lesser one; or a `CASCADE` of a table to itself that keeps the least row.
+    /// A reference to no table that it may refer to, or without the NULL that it needs; a `RESTRICT` reference to rows
+    /// that may be hidden for a lesser one; or a `CASCADE` of a table to itself that keeps the least row.
     Target,
     /// A `MATCH` along a `RESTRICT` reference.
     MatchKind,

@@ -68,7 +68,8 @@ pub(crate) enum PlainKind {
     Flag,
 }
 
-/// A value as a `SAMPLE` writes it, with a text of whatever length. The name of a row is one, though no plain column has it.
+/// A value as a `SAMPLE` writes it, with a text of whatever length. The name of a row is one, though no plain column
+/// has it.
 #[derive(Drop)]
 pub(crate) enum SampleValue {
     Literal(Literal),

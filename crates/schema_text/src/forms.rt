@@ -1,7 +1,10 @@
 //! The forms of lines.
 
 ghost use Rattle.std.specs.Prelude.{◌≡◌, ◌↔◌, ℕ, All, IsTrue, IfOk, IsUtf8, option_map};
-ghost use Rattle.schema_text.specs.Forms.{HasUtf8, HasUtf8Text, IsWhole, IsForm, author_form, author_in, keeps_in, kind_in, at_most_form, after_check, check_form, column_form, database_form, form_at, form_with, match_form, plain_form, ref_form, sample_form, table_form, unique_form};
+ghost use Rattle.schema_text.specs.Forms.{HasUtf8, HasUtf8Text, IsWhole, IsForm, author_form, author_in, keeps_in};
+ghost use Rattle.schema_text.specs.Forms.{kind_in, at_most_form, after_check, check_form, column_form, database_form};
+ghost use Rattle.schema_text.specs.Forms.{form_at, form_with, match_form, plain_form, ref_form, sample_form};
+ghost use Rattle.schema_text.specs.Forms.{table_form, unique_form};
 
 use crate::form::{Form, PlainKind, SampleValue};
 use crate::keyword::Keyword;

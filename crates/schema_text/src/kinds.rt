@@ -4,8 +4,10 @@ ghost use Rattle.std.specs.Prelude.{◌≡◌, ◌↔◌, ◌≤◌, length, IsT
 ghost use Rattle.update_model.specs.Form.{IsKnownKey};
 ghost use Rattle.expression_text.specs.Columns.{IsKnown, HasRowText};
 ghost use Rattle.expression_text.specs.Grammar.{IsExpression};
-ghost use Rattle.schema.specs.Columns.{is_set_null, is_restrict, is_reference, is_comparable, are_comparable, kind_seen, kinds_of, names_of};
-ghost use Rattle.schema_text.specs.Faults.{HasTarget, HasGoodTarget, IsReference, MayKeep, targets_with, IsTyped, AreBounds, IsTypedCheck, IsTypedMatch, IsTypedUnique, IsMatchable, MayMatch};
+ghost use Rattle.schema.specs.Columns.{is_set_null, is_restrict, is_reference, is_comparable, are_comparable};
+ghost use Rattle.schema.specs.Columns.{kind_seen, kinds_of, names_of};
+ghost use Rattle.schema_text.specs.Faults.{HasTarget, HasGoodTarget, IsReference, MayKeep, targets_with, IsTyped};
+ghost use Rattle.schema_text.specs.Faults.{AreBounds, IsTypedCheck, IsTypedMatch, IsTypedUnique, IsMatchable, MayMatch};
 ghost use Rattle.schema_text.specs.Kept.{CanBuild};
 ghost use Rattle.schema.specs.Least.{holds_steady, steady_tables};
 
@@ -60,7 +62,8 @@ fn holds_steady_with(
     table: &[u8],
     action: Action,
 ) -> Result<bool, AllocError>
-    ensures { IfOk result (λ answer. answer ≡ holds_steady (steady_tables draft.now.tables) draft.now.table.kept (targets_with draft.now table.now action)) }
+    ensures { IfOk result (λ answer. answer ≡ holds_steady (steady_tables draft.now.tables) draft.now.table.kept
+        (targets_with draft.now table.now action)) }
 {
     let known = steady_tables(alloc, draft.tables.as_slice())?;
     let targets = targets_with(alloc, draft, table, action)?;

@@ -40,23 +40,26 @@ pub fn no_fault()
 
 /// Every schema that a text declares keeps what [`Schema`](schema::Schema) promises.
 pub fn declared_is_sound()
-    ensures { (relation : Meaning) (text : List ℕ) (schema : SchemaData) → Declares relation text schema → IsSchema schema }
+    ensures { (relation : Meaning) (text : List ℕ) (schema : SchemaData) → Declares relation text schema
+        → IsSchema schema }
 {
     one_expression();
 }
 
 /// The samples of a schema that a text declares pass under the meaning of native checks under which it is declared.
 pub fn declared_samples_pass()
-    ensures { (relation : Meaning) (text : List ℕ) (schema : SchemaData) → Declares relation text schema → SamplesPass relation schema.tables }
+    ensures { (relation : Meaning) (text : List ℕ) (schema : SchemaData) → Declares relation text schema
+        → SamplesPass relation schema.tables }
 {
     one_expression();
 }
 
-/// What is printed of a form is read as that form. Its names are to be words as they stand, as every name is, and a table that is
-/// owned has to be deletable.
+/// What is printed of a form is read as that form. Its names are to be words as they stand, as every name is, and a
+/// table that is owned has to be deletable.
 pub fn forms_are_read_again()
     ensures words { (form : Form) → HasLine form → form_at (skip_blanks (form_text form)) ≡ Some form }
-    ensures form { (form : Form) → HasLine form → IsUtf8 (form_text form) → IsWhole form → HasForm (form_text form) form }
+    ensures form { (form : Form) → HasLine form → IsUtf8 (form_text form) → IsWhole form
+        → HasForm (form_text form) form }
 {
     words_are_by_rule();
     integers_are_as_printed();

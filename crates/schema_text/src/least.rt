@@ -3,7 +3,8 @@
 ghost use Rattle.std.specs.Prelude.{◌≡◌, IfOk, false, slice_index_or};
 ghost use Rattle.schema.specs.Columns.{is_cascade, target_of};
 ghost use Rattle.std.specs.List.{list_all};
-ghost use Rattle.schema.specs.Least.{holds_steady, is_held_steady, is_led_away, is_led_steady, is_steady_behind, leaves_itself, steady_tables, targets_of};
+ghost use Rattle.schema.specs.Least.{holds_steady, is_held_steady, is_led_away, is_led_steady, is_steady_behind};
+ghost use Rattle.schema.specs.Least.{leaves_itself, steady_tables, targets_of};
 
 use crate::lookups::target_of;
 use schema::{Action, Column, ColumnKind, TableDef};

@@ -1,6 +1,7 @@
 ghost use Rattle.std.specs.Prelude.{◌≡◌, ◌==◌, ◌↔◌, IsTrue, All};
 ghost use Rattle.std.specs.List.{list_any};
-ghost use Rattle.schema_text.specs.Faults.{IsWithinLimits, IsShort, MayHaveMore, AreFewAndShort, HasShortName, HasShortValue, is_unique, is_overlong, may_be_unique};
+ghost use Rattle.schema_text.specs.Faults.{IsWithinLimits, IsShort, MayHaveMore, AreFewAndShort, HasShortName};
+ghost use Rattle.schema_text.specs.Faults.{HasShortValue, is_unique, is_overlong, may_be_unique};
 
 use crate::draft::Draft;
 use crate::form::{Form, SampleValue};

@@ -1,10 +1,12 @@
 //! Reading a whole text.
 
-ghost use Rattle.std.specs.Prelude.{◌≡◌, ◌≤◌, ◌+◌, ◌<◌, ◌^◌, length, Ok, Err, true, IfOk, OnOk, IfErr, IsTrue, MatchOption};
+ghost use Rattle.std.specs.Prelude.{◌≡◌, ◌≤◌, ◌+◌, ◌<◌, ◌^◌, length, Ok, Err, true, IfOk, OnOk, IfErr, IsTrue};
+ghost use Rattle.std.specs.Prelude.{MatchOption};
 ghost use Rattle.text_words.specs.Lines.{lines_of};
 ghost use Rattle.schema_text.specs.Drafts.{start, is_turn};
 ghost use Rattle.schema_text.specs.Outcome.{HasCause, HasLineCause, HasFaultIn, Answers};
-ghost use Rattle.schema_text.specs.Schemas.{Declares, FirstFault, Leads, LeadOn, FaultIn, IsGood, FormFault, IsComplete, schema_of};
+ghost use Rattle.schema_text.specs.Schemas.{Declares, FirstFault, Leads, LeadOn, FaultIn, IsGood, FormFault};
+ghost use Rattle.schema_text.specs.Schemas.{IsComplete, schema_of};
 ghost use Rattle.schema.specs.Data.{SchemaData};
 ghost use Rattle.text_words.specs.Words.{passed_over};
 ghost use Rattle.schema_text.specs.Forms.{HasForm, IsWhole};
@@ -32,8 +34,8 @@ use update_model::{ByteList, DbRule, KeyList};
 /// The schema that a text declares.
 ///
 /// A fault is the first one: the first line that has one, and in a line the first kind in the order Line, Limit, Name,
-/// Target, WrongType, MatchKind, BadSample. A text of more than [`MAX_SCHEMA_BYTES`] is Limit at line 0. Samples are tested by
-/// these native checks. The time is linear in the text.
+/// Target, WrongType, MatchKind, BadSample. A text of more than [`MAX_SCHEMA_BYTES`] is Limit at line 0. Samples are
+/// tested by these native checks. The time is linear in the text.
 pub fn read_schema<L: Relation, C: Checks<L>>(
     alloc: Global,
     text: &[u8],
@@ -200,7 +202,8 @@ fn judge<L: Relation, C: Checks<L>>(
 ) -> Result<Option<SchemaKind>, AllocError>
     requires draft { IsDraft draft.now }
     requires whole { IsWhole form.now }
-    ensures { IfOk result (λ found. MatchOption found (IsGood L.answer draft.now form.now) (λ kind. FormFault L.answer draft.now form.now kind)) }
+    ensures { IfOk result (λ found. MatchOption found (IsGood L.answer draft.now form.now) (λ kind.
+        FormFault L.answer draft.now form.now kind)) }
 {
     if !is_within_limits(draft, form) {
         return Ok(Some(SchemaKind::Limit));

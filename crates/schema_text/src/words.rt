@@ -2,7 +2,9 @@
 
 ghost use Rattle.std.specs.Prelude.{◌≡◌, ◌==◌, ◌<◌, ◌∷◌, length, position, IfOk, IfSome, bytes_eq, option_map};
 ghost use Rattle.text_words.specs.Literals.{value_of};
-ghost use Rattle.schema_text.specs.Forms.{is_word, spelled, number_in, sign_in, action_in, null_at_end, key_in, rights_in, bounds_in, path_in, values_of, value_in, row_in, keyword_of, keyword_in};
+ghost use Rattle.schema_text.specs.Forms.{is_word, spelled, number_in, sign_in, action_in, null_at_end, key_in};
+ghost use Rattle.schema_text.specs.Forms.{rights_in, bounds_in, path_in, values_of, value_in, row_in, keyword_of};
+ghost use Rattle.schema_text.specs.Forms.{keyword_in};
 
 use crate::form::SampleValue;
 use crate::keyword::Keyword;

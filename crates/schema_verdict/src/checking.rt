@@ -11,12 +11,15 @@ use crate::status::{DONE, OUT_OF_MEMORY, REFUSED, STREAM_FAULT};
 use bec_bytes::{Sink, Source};
 use std::alloc::Global;
 
-/// Reads the text of a schema, writes the verdict on it, and answers the exit status: `confluent` where each invariant survives
-/// merging, or the line for the first fault of the text, or the lines for the first invariant that does not survive, with a history
-/// that breaks it. Where the source fails that is said, and where memory runs out nothing is written.
+/// Reads the text of a schema, writes the verdict on it, and answers the exit status: `confluent` where each invariant
+/// survives merging, or the line for the first fault of the text, or the lines for the first invariant that does not
+/// survive, with a history that breaks it. Where the source fails that is said, and where memory runs out nothing is
+/// written.
 pub fn check<S: Source, K: Sink>(alloc: Global, input: &mut S, out: &mut K) -> u8
-    ensures { Checks (record { left = S.left input.old; faults = S.faults input.old }) (record { left = S.left input.new; faults = S.faults input.new })
-        (record { held = K.held out.old; faults = K.faults out.old }) (record { held = K.held out.new; faults = K.faults out.new }) result }
+    ensures { Checks (record { left = S.left input.old; faults = S.faults input.old })
+        (record { left = S.left input.new; faults = S.faults input.new })
+        (record { held = K.held out.old; faults = K.faults out.old })
+        (record { held = K.held out.new; faults = K.faults out.new }) result }
 {
     match verdict(alloc, input) {
         Ok(text) => put(out, &text, DONE),
@@ -28,8 +31,8 @@ pub fn check<S: Source, K: Sink>(alloc: Global, input: &mut S, out: &mut K) -> u
     }
 }
 
-/// Does what the words of a command line ask for, where they are the one word `check`, and answers the exit status. It is
-/// what [`check`] does. Other words are no command, and leave the source as it was.
+/// Does what the words of a command line ask for, where they are the one word `check`, and answers the exit status. It
+/// is what [`check`] does. Other words are no command, and leave the source as it was.
 pub fn run_check<S: Source, K: Sink>(
     alloc: Global,
     words: &[String],
@@ -37,8 +40,10 @@ pub fn run_check<S: Source, K: Sink>(
     out: &mut K,
 ) -> u8
     ensures { RunsCheck (map string_bytes words.now) input.old input.new
-        (record { left = S.left input.old; faults = S.faults input.old }) (record { left = S.left input.new; faults = S.faults input.new })
-        (record { held = K.held out.old; faults = K.faults out.old }) (record { held = K.held out.new; faults = K.faults out.new }) result }
+        (record { left = S.left input.old; faults = S.faults input.old })
+        (record { left = S.left input.new; faults = S.faults input.new })
+        (record { held = K.held out.old; faults = K.faults out.old })
+        (record { held = K.held out.new; faults = K.faults out.new }) result }
 {
     if is_check(words) {
         check(alloc, input, out)

@@ -9,8 +9,10 @@ use confluence_test::{refused_once, taken_or_refused};
 
 /// An input has one verdict, so each status and each text comes exactly where its cause stands.
 pub fn one_verdict()
-    ensures { (input : List ℕ) (after other : Told (List ℕ)) (verdict another : Verdict) → CheckAnswer (λ why. why) (Some input) after verdict
-        → CheckAnswer (λ why. why) (Some input) other another → (status_of verdict ≡ status_of another) × (text_of verdict ≡ text_of another) }
+    ensures { (input : List ℕ) (after other : Told (List ℕ)) (verdict another : Verdict)
+        → CheckAnswer (λ why. why) (Some input) after verdict
+        → CheckAnswer (λ why. why) (Some input) other another → (status_of verdict ≡ status_of another)
+        × (text_of verdict ≡ text_of another) }
 {
     refused_once();
     taken_or_refused();

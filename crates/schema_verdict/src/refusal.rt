@@ -10,7 +10,8 @@ use std::alloc::AllocError;
 /// Why a schema gets no `confluent`.
 #[derive(Drop)]
 pub enum VerdictRefusal {
-    /// Its text is not taken: for its first fault, or the first invariant that does not survive merging; or memory ran out.
+    /// Its text is not taken: for its first fault, or the first invariant that does not survive merging; or memory ran
+    /// out.
     NotTaken(SchemaRefusal),
     /// The source failed.
     Stream,

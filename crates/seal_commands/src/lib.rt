@@ -1,7 +1,7 @@
 //! The commands over seals by a two-level key: what each comes to, by what stands outside.
 //!
-//! [`hsskey_in`] draws a two-level key, [`seal_in`] seals the input by one, and [`unseal_in`] tells whether a seal is one of the input, by a
-//! public key. Each command answers the text that it prints, or a [`SealRefusal`].
+//! [`hsskey`] draws a two-level key, [`seal`] seals the input by one, and [`unseal`] tells whether a seal is one of the
+//! input, by a public key. Each command answers the text that it prints, or a [`SealRefusal`].
 #![tactic(auto)]
 
 mod reading;
@@ -12,5 +12,5 @@ mod unsealing;
 
 pub use reading::INPUT_LIMIT;
 pub use refusal::SealRefusal;
-pub use sealing::{hsskey_in, seal_in};
-pub use unsealing::unseal_in;
+pub use sealing::{hsskey, seal};
+pub use unsealing::unseal;

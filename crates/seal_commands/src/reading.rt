@@ -14,8 +14,10 @@ pub const INPUT_LIMIT: usize = 16_777_216;
 
 /// Reads the input whole. Of one that is too long, one byte more than the limit is read.
 pub(crate) fn read_input<S: Source>(alloc: Global, input: &mut S) -> Result<Vec<u8>, SealRefusal>
-    ensures whole { IfOk result (λ text. IsWholeText INPUT_LIMIT (S.left input.old) (S.left input.new) text.items × (length text.items ≤ INPUT_LIMIT)) }
-    ensures refused { IfErr result (λ why. ((why ≡ SealRefusal.InputTooLong) × IsLongText INPUT_LIMIT (S.left input.old) (S.left input.new))
+    ensures whole { IfOk result (λ text. IsWholeText INPUT_LIMIT (S.left input.old) (S.left input.new) text.items
+        × (length text.items ≤ INPUT_LIMIT)) }
+    ensures refused { IfErr result (λ why. ((why ≡ SealRefusal.InputTooLong)
+        × IsLongText INPUT_LIMIT (S.left input.old) (S.left input.new))
         ⊎ IsInputFault (S.faults input.old) (S.faults input.new) why) }
 {
     let text = read_text(alloc, input, INPUT_LIMIT)?;

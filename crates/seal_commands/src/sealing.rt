@@ -18,8 +18,9 @@ use lms_tree::{KeyTypes, LeafGenerator};
 use rand_core::Rng;
 use std::alloc::Global;
 
-/// Draws a two-level key whose levels are of these types for a directory that has none, and answers the line of its public key.
-pub fn hsskey_in<G: LeafGenerator, H: Shelf, R: Rng>(
+/// Draws a two-level key whose levels are of these types for a directory that has none, and answers the line of its
+/// public key.
+pub fn hsskey<G: LeafGenerator, H: Shelf, R: Rng>(
     generator: &G,
     alloc: Global,
     shelf: &mut H,
@@ -28,7 +29,8 @@ pub fn hsskey_in<G: LeafGenerator, H: Shelf, R: Rng>(
     random: &mut R,
 ) -> Result<Vec<u8>, SealRefusal>
     requires { IsTrue (H.state shelf.old).tells → IsHome (H.state shelf.old) }
-    ensures comes { HsskeyRun types.lms types.ots (R.stream random.old) dir.now (H.state shelf.old) (H.state shelf.new) result }
+    ensures comes { HsskeyRun types.lms types.ots (R.stream random.old) dir.now (H.state shelf.old) (H.state shelf.new)
+        result }
     ensures home { IsTrue (H.state shelf.old).tells → IsHome (H.state shelf.new) }
     ensures failed { IsErrOf result SealRefusal.Store → Rose (H.faults shelf.old) (H.faults shelf.new) }
 {
@@ -41,8 +43,9 @@ pub fn hsskey_in<G: LeafGenerator, H: Shelf, R: Rng>(
     Ok(hex_line(alloc, &public)?)
 }
 
-/// Seals the input by the two-level key of a directory, and answers the line of the seal. The input is read once the key is open.
-pub fn seal_in<G: LeafGenerator, H: Shelf, R: Rng, S: Source>(
+/// Seals the input by the two-level key of a directory, and answers the line of the seal. The input is read once the
+/// key is open.
+pub fn seal<G: LeafGenerator, H: Shelf, R: Rng, S: Source>(
     generator: &G,
     alloc: Global,
     shelf: &mut H,
@@ -51,7 +54,8 @@ pub fn seal_in<G: LeafGenerator, H: Shelf, R: Rng, S: Source>(
     input: &mut S,
 ) -> Result<Vec<u8>, SealRefusal>
     requires { IsTrue (H.state shelf.old).tells → IsHome (H.state shelf.old) }
-    ensures comes { SealRun dir.now (H.state shelf.old) (H.state shelf.new) (R.stream random.old) (S.left input.old) (S.left input.new) (S.faults input.old) (S.faults input.new) result }
+    ensures comes { SealRun dir.now (H.state shelf.old) (H.state shelf.new) (R.stream random.old) (S.left input.old)
+        (S.left input.new) (S.faults input.old) (S.faults input.new) result }
     ensures home { IsTrue (H.state shelf.old).tells → IsHome (H.state shelf.new) }
     ensures failed { IsErrOf result SealRefusal.Store → Rose (H.faults shelf.old) (H.faults shelf.new) }
 {
@@ -75,10 +79,12 @@ fn seal_input<G: LeafGenerator, H: Shelf, R: Rng, S: Source>(
 ) -> Result<Vec<u8>, SealRefusal>
     requires held { IsTrue (H.state shelf.old).tells → Holds (H.state shelf.old) hss.old }
     requires sound { IsSound hss.old }
-    ensures seals { SealsInput hss.old (H.state shelf.old) (R.stream random.old) (S.left input.old) (S.left input.new) (S.faults input.old) (S.faults input.new) result hss.new (H.state shelf.new) }
+    ensures seals { SealsInput hss.old (H.state shelf.old) (R.stream random.old) (S.left input.old) (S.left input.new)
+        (S.faults input.old) (S.faults input.new) result hss.new (H.state shelf.new) }
     ensures keeps { KeepsHss (H.state shelf.old) hss.old (H.state shelf.new) hss.new }
     ensures later { H.faults shelf.old ≤ H.faults shelf.new }
-    ensures failed { IsErrOf result SealRefusal.Store → Rose (H.faults shelf.old) (H.faults shelf.new) ⊎ HeldRose hss.old hss.new }
+    ensures failed { IsErrOf result SealRefusal.Store → Rose (H.faults shelf.old) (H.faults shelf.new)
+        ⊎ HeldRose hss.old hss.new }
 {
     let msg = read_input(alloc, input)?;
     seal_message(generator, alloc, shelf, hss, random, msg.as_slice())
@@ -95,10 +101,12 @@ fn seal_message<G: LeafGenerator, H: Shelf, R: Rng>(
 ) -> Result<Vec<u8>, SealRefusal>
     requires held { IsTrue (H.state shelf.old).tells → Holds (H.state shelf.old) hss.old }
     requires sound { IsSound hss.old }
-    ensures seals { SealsMessage hss.old (H.state shelf.old) (R.stream random.old) msg.now result hss.new (H.state shelf.new) }
+    ensures seals { SealsMessage hss.old (H.state shelf.old) (R.stream random.old) msg.now result hss.new
+        (H.state shelf.new) }
     ensures keeps { KeepsHss (H.state shelf.old) hss.old (H.state shelf.new) hss.new }
     ensures later { H.faults shelf.old ≤ H.faults shelf.new }
-    ensures failed { IsErrOf result SealRefusal.Store → Rose (H.faults shelf.old) (H.faults shelf.new) ⊎ HeldRose hss.old hss.new }
+    ensures failed { IsErrOf result SealRefusal.Store → Rose (H.faults shelf.old) (H.faults shelf.new)
+        ⊎ HeldRose hss.old hss.new }
 {
     match hss.sign(generator, alloc, shelf, random, msg) {
         Ok(seal) => Ok(hex_line(alloc, seal.as_slice())?),

@@ -43,7 +43,7 @@ pub(crate) fn read_updates<S: Source>(
 }
 
 /// Reads updates, no more than so many, and commits them as one batch.
-pub(crate) fn take_in<S: Source>(
+pub(crate) fn take_updates<S: Source>(
     alloc: Global,
     holder: &mut MemHolder,
     input: &mut S,

@@ -1,12 +1,14 @@
 //! Holders in memory that are synced, for `bench/session` to time from outside.
 //!
-//! The words are the work, and how many updates the first holder has. The updates of the input, a stream of records, are read
-//! first, each of the database whose id is 32 zero bytes, by any author: those of the first holder, and then the rest.
+//! The words are the work, and how many updates the first holder has. The updates of the input, a stream of records,
+//! are read first, each of the database whose id is 32 zero bytes, by any author: those of the first holder, and then
+//! the rest.
 //!
 //! - `commit`: the rest is committed to that holder as one batch.
 //! - `session`: the rest are the updates of a second holder, and the two have a session, which the first one begins.
 //!
-//! How many updates each holder has is printed before the work and after it, and between the two of a session how it ended and its turns.
+//! How many updates each holder has is printed before the work and after it, and between the two of a session how it
+//! ended and its turns.
 #![tactic(auto)]
 
 mod holding;

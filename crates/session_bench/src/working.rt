@@ -5,7 +5,7 @@ ghost use Rattle.std.specs.List.Sorted.{IsStrictlySortedBy};
 ghost use Rattle.session_rules.specs.declared.limits.TheConstants.{MAX_NEEDS};
 ghost use Rattle.update_model.specs.Entry.{id_cmp};
 
-use crate::holding::{DATABASE, empty, read_updates, take_in};
+use crate::holding::{DATABASE, empty, read_updates, take_updates};
 use bec_bytes::{Sink, Source, write_all_of};
 use mem_holder::MemHolder;
 use session_rules::End;
@@ -22,7 +22,7 @@ pub(crate) fn commit_rest<S: Source, K: Sink>(
     output: &mut K,
 ) -> anyhow::Result<()> {
     let mut holder = empty(alloc);
-    take_in(alloc, &mut holder, input, count)?;
+    take_updates(alloc, &mut holder, input, count)?;
     let rest = read_updates(alloc, holder.rule(), input, MAX_MEMBERS)?;
     tell_held(alloc, output, holder.len())?;
     holder.commit(alloc, rest)?;
@@ -37,9 +37,9 @@ pub(crate) fn hold_session<S: Source, K: Sink>(
     output: &mut K,
 ) -> anyhow::Result<()> {
     let mut first = empty(alloc);
-    take_in(alloc, &mut first, input, count)?;
+    take_updates(alloc, &mut first, input, count)?;
     let mut second = empty(alloc);
-    take_in(alloc, &mut second, input, MAX_MEMBERS)?;
+    take_updates(alloc, &mut second, input, MAX_MEMBERS)?;
     tell_and_sync(alloc, &mut first, &mut second, output)
 }
 

@@ -5,9 +5,9 @@
 //! lists may grow from outside (`Pair`). Its functions are the laws of that definition. They run nothing, and each is
 //! proved.
 //!
-//! An end begins with a Hello: the heads of its store, the heads that it remembers of the peer, and a summary of what it
-//! has had since then. Turns alternate. A turn is some updates and a Turn frame, which says whether all of the peer's
-//! heads are held, and if not, which updates are asked for.
+//! An end begins with a Hello: the heads of its store, the heads that it remembers of the peer, and a summary of what
+//! it has had since then. Turns alternate. A turn is some updates and a Turn frame, which says whether all of the
+//! peer's heads are held, and if not, which updates are asked for.
 //!
 //! ```text
 //! initiator                          responder

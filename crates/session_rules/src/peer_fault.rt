@@ -16,12 +16,13 @@ pub enum PeerFault {
     AskedUnknown(UpdateId),
     /// The peer asks for an update that it asked for before. It is the least such id.
     AskedAgain(UpdateId),
-    /// A Turn, other than turn 1, that neither says that all is held nor asks for anything. Or one after whose commit this
-    /// end lacks a head of the peer's and has nothing to ask for: updates that wait for each other in a ring.
+    /// A Turn, other than turn 1, that neither says that all is held nor asks for anything. Or one after whose commit
+    /// this end lacks a head of the peer's and has nothing to ask for: updates that wait for each other in a ring.
     Stalled,
     /// A Turn that no longer says that all is held, after one that said so.
     TakenBack,
-    /// A frame that the order of turns does not allow, needs in turn 1, or more than [`crate::MAX_ITEMS`] updates in one turn.
+    /// A frame that the order of turns does not allow, needs in turn 1, or more than [`crate::MAX_ITEMS`] updates in
+    /// one turn.
     OutOfTurn,
     /// A Hello of another version.
     Version,

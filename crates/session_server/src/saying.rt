@@ -32,7 +32,8 @@ pub(crate) fn say<R: Wait, K: Link, D: Disk>(
     requires seen { All (λ p. p < length (updates_of pass.seen)) out.now.send }
     ensures still { IsStill pass result.0 }
     ensures quiet { IsQuiet pass result.0 }
-    ensures said { Says (K.held link.old) (K.held link.new) result.1 (frames_of (out_of (map entry_of (updates_of pass.seen)) out.now)) }
+    ensures said { Says (K.held link.old) (K.held link.new) result.1
+        (frames_of (out_of (map entry_of (updates_of pass.seen)) out.now)) }
     ensures left { K.left link.new ≡ K.left link.old }
     ensures cause { HasCause (K.faults link.old) (K.faults link.new) result.1 }
 {
@@ -61,7 +62,8 @@ fn say_updates<R: Wait, K: Link, D: Disk>(
     requires seen { All (λ p. p < length (updates_of pass.seen)) positions.now }
     ensures still { IsStill pass result.0 }
     ensures quiet { IsQuiet pass result.0 }
-    ensures said { Says (K.held link.old) (K.held link.new) result.1 (map Item (filter_map (slice_get (map entry_of (updates_of pass.seen))) positions.now)) }
+    ensures said { Says (K.held link.old) (K.held link.new) result.1
+        (map Item (filter_map (slice_get (map entry_of (updates_of pass.seen))) positions.now)) }
     ensures left { K.left link.new ≡ K.left link.old }
     ensures cause { HasCause (K.faults link.old) (K.faults link.new) result.1 }
 {

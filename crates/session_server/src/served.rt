@@ -16,7 +16,8 @@ pub struct Served {
     pub turns: u32,
     /// The id of the peer's node, where its Hello came.
     pub peer: Option<[u8; 32]>,
-    /// The ids to remember of the peer: of a session that is done the least 4,096 of both Hellos' heads, and of any other none.
+    /// The ids to remember of the peer: of a session that is done the least 4,096 of both Hellos' heads, and of any
+    /// other none.
     pub heads: IdList,
 }
 

@@ -12,18 +12,15 @@ ghost use Rattle.shared_replica.specs.Sessions.{IsRuledBy};
 ghost use Rattle.session_server.specs.Accepting.{Accepts, GoesOn, IsDue};
 ghost use Rattle.session_server.specs.Serving.{Ran, Serves};
 
-use crate::running::{Child, Ended, start};
-use crate::{Served, ServedAll, ServedList};
+use crate::running::{Child, Ended, Starter, start};
+use crate::{Common, Served, ServedAll, ServedList};
 use bec_disk::Disk;
 use bec_links::Net;
-use peer_memory::Peers;
 use shared_replica::{Pass, Shared};
-use std::alloc::Global;
 use std::collections::VecDeque;
 use std::sync::Wait;
 use std::thread;
-use std::thread::{Scope, Threads};
-use update_model::DbRule;
+use std::thread::Threads;
 
 /// What the sessions came to so far.
 #[derive(Drop)]
@@ -36,28 +33,34 @@ pub(crate) struct Tally {
     pub(crate) memory: bool,
 }
 
-/// Accepts `sessions` links, and runs the session of each in a thread of its own as it is accepted. Where no thread can be started, the accepting thread runs
-/// the session itself. All have ended when it returns.
+/// Accepts `sessions` links, and runs the session of each in a thread of its own as it is accepted. Where no thread can
+/// be started, the accepting thread runs the session itself. All have ended when it returns.
 ///
-/// The rule is that of the replica's schema. Each session is one of `run_session` as the Responder. The links are put back in the order of acceptance, and the answer has
-/// an entry for each session in this order. There are exactly as many as were asked for, unless `net_failed` or `memory` is true. `net_failed` is true only where `listen` or `accept`
-/// failed, and then there are fewer. Where `memory` is true, a session may be missing in the answer, and the pass may not have seen what a session added.
+/// The rule is that of the replica's schema. Each session is one of `run_session` as the Responder. The links are put
+/// back in the order of acceptance, and the answer has an entry for each session in this order. There are exactly as
+/// many as were asked for, unless `net_failed` or `memory` is true. `net_failed` is true only where `listen` or
+/// `accept` failed, and then there are fewer. Where `memory` is true, a session may be missing in the answer, and the
+/// pass may not have seen what a session added.
 pub fn serve<R: Threads + Wait + Sync, N: Net, D: Disk + Send>(
     rt: &R,
-    alloc: Global,
+    common: &Common<'_, D>,
     net: &mut N,
-    shared: &Shared<D>,
-    rule: &DbRule,
     pass: Pass<D>,
     address: &str,
     sessions: u32,
-    peers: &Peers,
 ) -> ServedAll<D>
-    requires lock { pass.lock ≡ shared.now.lock }
-    requires rule { IsRuledBy pass.seen rule.now }
+    requires lock { pass.lock ≡ common.now.shared.now.lock }
+    requires rule { IsRuledBy pass.seen common.now.rule.now }
     requires some { 0 < sessions }
-    ensures { Serves rule.now peers.now sessions pass result.pass (N.state net.old) (N.state net.new) (N.faults net.old) (N.faults net.new) result.sessions result.net_failed result.memory }
+    ensures { Serves common.now.rule.now common.now.peers.now sessions pass result.pass (N.state net.old)
+        (N.state net.new) (N.faults net.old) (N.faults net.new) result.sessions result.net_failed result.memory }
 {
+    let Common {
+        alloc,
+        shared,
+        rule,
+        peers,
+    } = *common;
     if let Err(_) = net.listen(address) {
         return ServedAll {
             pass,
@@ -74,9 +77,17 @@ pub fn serve<R: Threads + Wait + Sync, N: Net, D: Disk + Send>(
             requires rule { IsRuledBy pass.seen rule.now }
             requires some { 0 < sessions }
             ensures same { result.1.ghost_name ≡ net.entry.ghost_name }
-            ensures serves { Serves rule.entry.now peers.entry.now sessions pass result.0.pass (N.state net.entry.now) (N.state result.1.now) (N.faults net.entry.now) (N.faults result.1.now) result.0.sessions result.0.net_failed result.0.memory }
+            ensures serves { Serves rule.entry.now peers.entry.now sessions pass result.0.pass (N.state net.entry.now)
+                (N.state result.1.now) (N.faults net.entry.now) (N.faults result.1.now) result.0.sessions
+                result.0.net_failed result.0.memory }
         {
-            let all = serve_in(rt, scope, alloc, net, shared, rule, pass, sessions, peers);
+            let common = Common {
+                alloc,
+                shared,
+                rule,
+                peers,
+            };
+            let all = accept_links(&Starter { rt, scope }, &common, net, pass, sessions);
             (all, net)
         },
     );
@@ -84,25 +95,23 @@ pub fn serve<R: Threads + Wait + Sync, N: Net, D: Disk + Send>(
 }
 
 /// Accepts links, and gives each to a thread of the scope. All have ended when it returns.
-fn serve_in<'s, E, R: Threads + Wait + Sync, N: Net, D: Disk + Send>(
-    rt: &'s R,
-    scope: &'s Scope<'s, E>,
-    alloc: Global,
+fn accept_links<'s, E, R: Threads + Wait + Sync, N: Net, D: Disk + Send>(
+    starter: &Starter<'s, E, R>,
+    common: &Common<'s, D>,
     net: &mut N,
-    shared: &'s Shared<D>,
-    rule: &'s DbRule,
     pass: Pass<D>,
     sessions: u32,
-    peers: &'s Peers,
 ) -> ServedAll<D>
 where
     N::L: 's,
     D: 's,
-    requires lock { pass.lock ≡ shared.now.lock }
-    requires rule { IsRuledBy pass.seen rule.now }
+    requires lock { pass.lock ≡ common.now.shared.now.lock }
+    requires rule { IsRuledBy pass.seen common.now.rule.now }
     requires some { 0 < sessions }
-    ensures { Serves rule.now peers.now sessions pass result.pass (N.state net.old) (N.state net.new) (N.faults net.old) (N.faults net.new) result.sessions result.net_failed result.memory }
+    ensures { Serves common.now.rule.now common.now.peers.now sessions pass result.pass (N.state net.old)
+        (N.state net.new) (N.faults net.old) (N.faults net.new) result.sessions result.net_failed result.memory }
 {
+    let alloc = common.alloc;
     let mut pass = pass;
     let mut children = VecDeque::new(alloc);
     let mut tally = Tally {
@@ -114,20 +123,16 @@ where
     let mut goes_on = true;
     while goes_on && tries < sessions {
         tries += 1;
-        (pass, goes_on) = accept_one(
-            rt,
-            scope,
-            alloc,
-            net,
-            shared,
-            rule,
-            pass,
-            peers,
-            &mut children,
-            &mut tally,
-        );
+        (pass, goes_on) = accept_one(starter, common, net, pass, &mut children, &mut tally);
     }
-    let pass = settle_all(rt, net, shared, pass, &mut children, &mut tally);
+    let pass = end_sessions(
+        starter.rt,
+        net,
+        common.shared,
+        pass,
+        &mut children,
+        &mut tally,
+    );
     let Tally {
         served,
         net_failed,
@@ -143,30 +148,39 @@ where
 
 /// Accepts a link, and gives it to a thread of the scope, or runs its session here. Answers whether it did.
 fn accept_one<'s, E, R: Threads + Wait + Sync, N: Net, D: Disk + Send>(
-    rt: &'s R,
-    scope: &'s Scope<'s, E>,
-    alloc: Global,
+    starter: &Starter<'s, E, R>,
+    common: &Common<'s, D>,
     net: &mut N,
-    shared: &'s Shared<D>,
-    rule: &'s DbRule,
     pass: Pass<D>,
-    peers: &'s Peers,
     children: &mut VecDeque<Child<D, N::L>>,
     tally: &mut Tally,
 ) -> (Pass<D>, bool)
 where
     N::L: 's,
     D: 's,
-    requires lock { pass.lock ≡ shared.now.lock }
-    requires rule { IsRuledBy pass.seen rule.now }
-    requires due { All (λ h. IsDue rule.now peers.now pass h.promise) children.old.items }
+    requires lock { pass.lock ≡ common.now.shared.now.lock }
+    requires rule { IsRuledBy pass.seen common.now.rule.now }
+    requires due { All (λ h. IsDue common.now.rule.now common.now.peers.now pass h.promise) children.old.items }
     requires out { length children.old.items ≤ (N.state net.old).out }
     requires still { tally.old.net_failed ≡ false }
-    ensures due { All (λ h. IsDue rule.now peers.now result.0 h.promise) children.new.items }
-    ensures accepts { Accepts rule.now peers.now
-        (record { net = N.state net.old; faults = N.faults net.old; running = map (λ h. h.promise.begun) children.old.items; pass = pass; tally = tally.old })
-        (record { net = N.state net.new; faults = N.faults net.new; running = map (λ h. h.promise.begun) children.new.items; pass = result.0; tally = tally.new }) result.1 }
+    ensures due { All (λ h. IsDue common.now.rule.now common.now.peers.now result.0 h.promise) children.new.items }
+    ensures accepts { Accepts common.now.rule.now common.now.peers.now
+        (record {
+          net = N.state net.old;
+          faults = N.faults net.old;
+          running = map (λ h. h.promise.begun) children.old.items;
+          pass = pass;
+          tally = tally.old;
+        })
+        (record {
+          net = N.state net.new;
+          faults = N.faults net.new;
+          running = map (λ h. h.promise.begun) children.new.items;
+          pass = result.0;
+          tally = tally.new;
+        }) result.1 }
 {
+    let (rt, shared) = (starter.rt, common.shared);
     if children.reserve(1).is_err() {
         tally.memory = true;
         return (pass, false);
@@ -179,18 +193,18 @@ where
         }
     };
     match shared.split(pass) {
-        Ok((mine, theirs)) => match start(rt, scope, alloc, shared, rule, peers, theirs, link) {
+        Ok((mine, theirs)) => match start(starter, common, theirs, link) {
             Ok(child) => {
                 children.push_back_reserved(child);
                 (mine, true)
             }
             Err(ended) => {
-                let pass = settle_all(rt, net, shared, mine, children, tally);
-                (settle(net, shared, pass, ended, tally), true)
+                let pass = end_sessions(rt, net, shared, mine, children, tally);
+                (end_session(net, shared, pass, ended, tally), true)
             }
         },
         Err(refused) => {
-            let pass = settle_all(rt, net, shared, refused.back, children, tally);
+            let pass = end_sessions(rt, net, shared, refused.back, children, tally);
             net.put_back(link);
             tally.memory = true;
             (pass, false)
@@ -199,7 +213,7 @@ where
 }
 
 /// Joins the threads in the order of acceptance, whatever rule and peers their sessions were given.
-fn settle_all<R: Threads, N: Net, D: Disk>(
+fn end_sessions<R: Threads, N: Net, D: Disk>(
     rt: &R,
     net: &mut N,
     shared: &Shared<D>,
@@ -213,21 +227,29 @@ fn settle_all<R: Threads, N: Net, D: Disk>(
     ensures children { children.new.items ≡ [] }
     ensures lock { result.lock ≡ pass.lock }
     ensures out { (N.state net.new).out + length children.old.items ≡ (N.state net.old).out }
-    ensures goes { (rule : RuleData) (peers : List Peer) → All (λ h. IsDue rule peers pass h.promise) children.old.items → (ended : List Ran) × GoesOn rule peers
-        (record { net = N.state net.old; faults = N.faults net.old; running = map (λ h. h.promise.begun) children.old.items; pass = pass; tally = tally.old })
-        (record { net = N.state net.new; faults = N.faults net.new; running = []; pass = result; tally = tally.new }) [] ended }
+    ensures goes { (rule : RuleData) (peers : List Peer) → All (λ h. IsDue rule peers pass h.promise) children.old.items
+        → (ended : List Ran) × GoesOn rule peers
+        (record {
+          net = N.state net.old;
+          faults = N.faults net.old;
+          running = map (λ h. h.promise.begun) children.old.items;
+          pass = pass;
+          tally = tally.old;
+        })
+        (record { net = N.state net.new; faults = N.faults net.new; running = []; pass = result; tally = tally.new }) []
+        ended }
     ensures failed { tally.new.net_failed ≡ tally.old.net_failed }
 {
     let mut pass = pass;
     while let Some(child) = children.pop_front() {
         let ended = child.join(rt);
-        pass = settle(net, shared, pass, ended, tally);
+        pass = end_session(net, shared, pass, ended, tally);
     }
     pass
 }
 
 /// Puts the link of a session back, counts the session, and takes in what its pass has seen.
-fn settle<N: Net, D: Disk>(
+fn end_session<N: Net, D: Disk>(
     net: &mut N,
     shared: &Shared<D>,
     pass: Pass<D>,
@@ -242,9 +264,12 @@ fn settle<N: Net, D: Disk>(
     ensures later { N.faults net.old ≤ N.faults net.new }
     ensures faulted { 0 < N.L.faults ended.link → Rose (N.faults net.old) (N.faults net.new) }
     ensures failed { tally.new.net_failed ≡ tally.old.net_failed }
-    ensures counted { tally.new.memory ≡ false → (tally.old.memory ≡ false) × (tally.new.served.items ≡ tally.old.served.items ++ ended.served ∷ []) × IsPrefix ended.pass.seen result.seen }
+    ensures counted { tally.new.memory ≡ false → (tally.old.memory ≡ false)
+        × (tally.new.served.items ≡ tally.old.served.items ++ ended.served ∷ [])
+        × IsPrefix ended.pass.seen result.seen }
     ensures few { length tally.new.served.items ≤ length tally.old.served.items + 1 }
-    ensures numbers { tally.new.memory ≡ false → (result.others ≡ pass.others ++ numbers_of ended.pass) × AreApart (numbers_of result) }
+    ensures numbers { tally.new.memory ≡ false → (result.others ≡ pass.others ++ numbers_of ended.pass)
+        × AreApart (numbers_of result) }
 {
     let Ended {
         pass: theirs,

@@ -7,49 +7,49 @@ ghost use Rattle.session_server.specs.Recalling.{recalled as recalled_by};
 ghost use Rattle.session_server.specs.Sessions.{IsSession};
 ghost use Rattle.session_server.specs.Talks.{Concludes, IsToKeep};
 
-use crate::talk::{Talk, begin, go_through};
-use crate::{Ending, Served};
+use crate::talk::{Side, Talk, begin, go_through};
+use crate::{Common, Ending, Served};
 use bec_disk::Disk;
 use bec_links::Link;
 use link_frames::{Halt, say_hello};
 use peer_memory::Peers;
 use session_rules::Role;
-use shared_replica::{Pass, Shared};
+use shared_replica::Pass;
 use std::alloc::Global;
 use std::sync::Wait;
 use std::thread::Threads;
 use sync_session::Session;
-use update_model::{DbRule, IdList, UpdateId};
+use update_model::{IdList, UpdateId};
 
 /// Runs a session over a link, from its first frame to its end.
 ///
-/// The rule is that of the replica's schema. An initiator begins with what is remembered under `name`, the name of its peer, and with nothing where there is
-/// none; a responder with what is remembered under the node of the peer's Hello.
+/// The rule is that of the replica's schema. An initiator begins with what is remembered under `name`, the name of its
+/// peer, and with nothing where there is none; a responder with what is remembered under the node of the peer's Hello.
 ///
-/// The session is one by the rules of sessions over the frames that the link gave, and over growing fronts of what the pass has seen then. It ends `Done`,
-/// `Peer` or `Full` by those rules, once all that was to be said is on the link; `Store` where an act met a fault of the disk besides; `Cut` where the
-/// link ended first; `Broken` only where the link counted a fault. No act of the replica takes the link.
+/// The session is one by the rules of sessions over the frames that the link gave, and over growing fronts of what the
+/// pass has seen then. It ends `Done`, `Peer` or `Full` by those rules, once all that was to be said is on the link;
+/// `Store` where an act met a fault of the disk besides; `Cut` where the link ended first; `Broken` only where the link
+/// counted a fault. No act of the replica takes the link.
 pub fn run_session<R: Threads + Wait, K: Link, D: Disk>(
     rt: &R,
-    alloc: Global,
-    shared: &Shared<D>,
-    rule: &DbRule,
+    common: &Common<'_, D>,
     pass: Pass<D>,
     link: &mut K,
     role: Role,
-    peers: &Peers,
     name: Option<[u8; 32]>,
 ) -> (Pass<D>, Served)
-    requires lock { pass.lock ≡ shared.now.lock }
-    requires rule { IsRuledBy pass.seen rule.now }
-    ensures { IsSession rule.now role peers.now name pass result.0 (K.left link.old) (K.left link.new) (K.held link.old) (K.held link.new) (K.faults link.old) (K.faults link.new) result.1 }
+    requires lock { pass.lock ≡ common.now.shared.now.lock }
+    requires rule { IsRuledBy pass.seen common.now.rule.now }
+    ensures { IsSession common.now.rule.now role common.now.peers.now name pass result.0 (K.left link.old)
+        (K.left link.new) (K.held link.old) (K.held link.new) (K.faults link.old) (K.faults link.new) result.1 }
 {
-    let recalled = recalled_of(peers, role, &name);
-    match begin(rt, alloc, shared, pass, role, recalled) {
+    let alloc = common.alloc;
+    let recalled = recalled_of(common.peers, role, &name);
+    match begin(rt, alloc, common.shared, pass, role, recalled) {
         Err(pass) => (pass, Served::never_begun(alloc)),
         Ok((talk, out)) => match say_hello(alloc, link, &out.hello) {
             Ok(()) => {
-                let (talk, ending) = go_through(rt, alloc, shared, rule, peers, role, link, talk);
+                let (talk, ending) = go_through(rt, &Side { common, role }, link, talk);
                 concluded(alloc, talk, ending)
             }
             Err(Halt::Broken) => concluded(alloc, talk, Ending::Broken),

@@ -1,6 +1,7 @@
 //! One end of a session over a link, frame by frame.
 
-ghost use Rattle.std.specs.Prelude.{◌≡◌, ◌≤◌, ◌<◌, ◌++◌, ◌∷◌, [], ℕ, None, Some, true, false, IfOk, IfErr, List, Option, length};
+ghost use Rattle.std.specs.Prelude.{◌≡◌, ◌≤◌, ◌<◌, ◌++◌, ◌∷◌, [], ℕ, None, Some, true, false, IfOk, IfErr, List};
+ghost use Rattle.std.specs.Prelude.{Option, length};
 ghost use Rattle.std.specs.List.Sorted.{IsStrictlySortedBy};
 ghost use Rattle.session_rules.specs.declared.limits.TheConstants.{MAX_NEEDS};
 ghost use Rattle.session_rules.specs.State.{FrameData, Item as item};
@@ -14,15 +15,15 @@ ghost use Rattle.update_model.specs.declared.update_id.UpdateId.{UpdateId as Id}
 ghost use Rattle.shared_replica.specs.Sessions.{BelongsIn, IsRuledBy, IsUnder};
 ghost use Rattle.session_server.specs.Recalling.{recalled as recalled_by};
 ghost use Rattle.link_frames.specs.Hearing.{Reads};
-ghost use Rattle.session_server.specs.Talks.{Begins, Goes, HeardFront, HeardOne, IsStill, IsTalk, IsTalkWith, ReadsBy, ReadsTo, Start, TookOne, first_node_of, is_cut, over_by};
+ghost use Rattle.session_server.specs.Talks.{Begins, Goes, HeardFront, HeardOne, IsStill, IsTalk, IsTalkWith, ReadsBy};
+ghost use Rattle.session_server.specs.Talks.{ReadsTo, Start, TookOne, first_node_of, is_cut, over_by};
 ghost use Rattle.session_server.specs.declared.ending.Ending.TheVariants.{Memory as memory};
 
-use crate::Ending;
 use crate::saying::say;
+use crate::{Common, Ending};
 use bec_disk::Disk;
 use bec_links::Link;
 use link_frames::{Halt, Heard, checked_all, listen};
-use peer_memory::Peers;
 use record_check::ManyThreads;
 use session_rules::{End, Role};
 use shared_replica::{Acted, Pass, Shared};
@@ -32,7 +33,7 @@ use std::thread::Threads;
 use sync_frames::{Frame, Frames};
 use sync_session::{CheckedFrame, Out, Session};
 use update_check::Checked;
-use update_model::{DbRule, IdList, UpdateId};
+use update_model::{IdList, UpdateId};
 
 /// How many bytes are read at once at most.
 const PIECE: usize = 262_144;
@@ -46,6 +47,15 @@ pub(crate) struct Talk<D: Disk> {
     pub(crate) session: Session,
     /// Whether no frame was heard yet.
     pub(crate) is_fresh: bool,
+}
+
+/// One side of a session.
+#[derive(Drop)]
+pub(crate) struct Side<'a, D: Disk> {
+    /// What it has in common with the others of its node.
+    pub(crate) common: &'a Common<'a, D>,
+    /// Its role.
+    pub(crate) role: Role,
 }
 
 /// Begins a session with what is remembered of the peer. Where there is no memory, the pass comes back.
@@ -81,32 +91,38 @@ pub(crate) fn begin<R: Wait, D: Disk>(
     }
 }
 
-/// A responder knows its peer by the first Hello: its session begins again then, with what is remembered of that node. Where there is no memory, the
-/// session comes back as it was.
+/// A responder knows its peer by the first Hello: its session begins again then, with what is remembered of that node.
+/// Where there is no memory, the session comes back as it was.
 fn recall<R: Wait, D: Disk>(
     rt: &R,
-    alloc: Global,
-    shared: &Shared<D>,
-    peers: &Peers,
-    role: Role,
+    side: &Side<'_, D>,
     talk: Talk<D>,
     frame: &CheckedFrame,
 ) -> Result<Talk<D>, Talk<D>>
-    requires lock { talk.pass.lock ≡ shared.now.lock }
+    requires lock { talk.pass.lock ≡ side.now.common.now.shared.now.lock }
     requires belongs { BelongsIn talk.pass.seen talk.session }
     ensures fresh { IfOk result (λ next. next.is_fresh ≡ talk.is_fresh) }
     ensures ok { IfOk result (λ next. Goes talk.pass next.pass next.session
-        × ((rule : RuleData) (start : Start) (held : Option (List ℕ)) (faults : ℕ) (heard : List FrameData) → IsTalkWith rule role peers.now start talk.pass talk.session talk.is_fresh held faults heard None
-        → (old : List Id) × (old ≡ recalled_by role peers.now start.name (heard ++ frame_of frame.now ∷ [])) × IsTalk rule role start old next.pass next.session next.is_fresh held faults heard None)) }
+        × ((rule : RuleData) (start : Start) (held : Option (List ℕ)) (faults : ℕ) (heard : List FrameData)
+        → IsTalkWith rule side.now.role side.now.common.now.peers.now start talk.pass talk.session talk.is_fresh held
+        faults heard None
+        → (old : List Id) × (old ≡ recalled_by side.now.role side.now.common.now.peers.now start.name
+        (heard ++ frame_of frame.now ∷ [])) × IsTalk rule side.now.role start old next.pass next.session next.is_fresh
+        held faults heard None)) }
     ensures err { IfErr result (λ next. Goes talk.pass next.pass next.session
-        × ((rule : RuleData) (start : Start) (held : Option (List ℕ)) (faults : ℕ) (heard : List FrameData) → IsTalkWith rule role peers.now start talk.pass talk.session talk.is_fresh held faults heard None
-        → IsTalkWith rule role peers.now start next.pass next.session next.is_fresh held faults heard (Some memory))) }
+        × ((rule : RuleData) (start : Start) (held : Option (List ℕ)) (faults : ℕ) (heard : List FrameData)
+        → IsTalkWith rule side.now.role side.now.common.now.peers.now start talk.pass talk.session talk.is_fresh held
+        faults heard None
+        → IsTalkWith rule side.now.role side.now.common.now.peers.now start next.pass next.session next.is_fresh held
+        faults heard (Some memory))) }
 {
-    let Some(node) = first_node(role, talk.is_fresh, frame) else {
+    let Some(node) = first_node(side.role, talk.is_fresh, frame) else {
         return Ok(talk);
     };
     let Talk { pass, session, .. } = talk;
-    match begin(rt, alloc, shared, pass, role, peers.heads_of(&node)) {
+    let Common { alloc, shared, .. } = *side.common;
+    let recalled = side.common.peers.heads_of(&node);
+    match begin(rt, alloc, shared, pass, side.role, recalled) {
         Ok((talk, _)) => Ok(talk),
         Err(pass) => Err(Talk {
             pass,
@@ -141,9 +157,13 @@ fn take<R: Wait, K: Link, D: Disk>(
     ensures goes { Goes talk.pass result.0.pass result.0.session }
     ensures uncut { is_cut result.1 ≡ false }
     ensures left { K.left link.new ≡ K.left link.old }
-    ensures talk { (rule : RuleData) (role : AnyRole) (start : Start) (old : List Id) (heard : List FrameData) → IsTalk rule role start old talk.pass talk.session talk.is_fresh (K.held link.old) (K.faults link.old) heard None
-        → (all : List FrameData) × TookOne (frame_of frame) heard result.1 all result.0.session talk.is_fresh result.0.is_fresh (K.held link.old) (K.held link.new) (K.faults link.old) (K.faults link.new)
-        × IsTalk rule role start old result.0.pass result.0.session result.0.is_fresh (K.held link.new) (K.faults link.new) all result.1 }
+    ensures talk { (rule : RuleData) (role : AnyRole) (start : Start) (old : List Id) (heard : List FrameData)
+        → IsTalk rule role start old talk.pass talk.session talk.is_fresh (K.held link.old) (K.faults link.old) heard
+        None
+        → (all : List FrameData) × TookOne (frame_of frame) heard result.1 all result.0.session talk.is_fresh
+        result.0.is_fresh (K.held link.old) (K.held link.new) (K.faults link.old) (K.faults link.new)
+        × IsTalk rule role start old result.0.pass result.0.session result.0.is_fresh (K.held link.new)
+        (K.faults link.new) all result.1 }
 {
     match frame {
         CheckedFrame::Item(update) => gather(alloc, talk, update),
@@ -157,9 +177,11 @@ fn gather<D: Disk>(alloc: Global, talk: Talk<D>, update: Checked) -> (Talk<D>, O
     requires under { IsUnder talk.pass.seen (an_item update) }
     ensures goes { Goes talk.pass result.0.pass result.0.session }
     ensures uncut { is_cut result.1 ≡ false }
-    ensures talk { (rule : RuleData) (role : AnyRole) (start : Start) (old : List Id) (held : Option (List ℕ)) (faults : ℕ) (heard : List FrameData)
+    ensures talk { (rule : RuleData) (role : AnyRole) (start : Start) (old : List Id) (held : Option (List ℕ))
+        (faults : ℕ) (heard : List FrameData)
         → IsTalk rule role start old talk.pass talk.session talk.is_fresh held faults heard None
-        → (all : List FrameData) × TookOne (item (entry_of update)) heard result.1 all result.0.session talk.is_fresh result.0.is_fresh held held faults faults
+        → (all : List FrameData) × TookOne (item (entry_of update)) heard result.1 all result.0.session talk.is_fresh
+        result.0.is_fresh held held faults faults
         × IsTalk rule role start old result.0.pass result.0.session result.0.is_fresh held faults all result.1 }
 {
     let Talk {
@@ -202,9 +224,13 @@ fn take_in_turn<R: Wait, K: Link, D: Disk>(
     ensures goes { Goes talk.pass result.0.pass result.0.session }
     ensures uncut { is_cut result.1 ≡ false }
     ensures left { K.left link.new ≡ K.left link.old }
-    ensures talk { (rule : RuleData) (role : AnyRole) (start : Start) (old : List Id) (heard : List FrameData) → IsTalk rule role start old talk.pass talk.session talk.is_fresh (K.held link.old) (K.faults link.old) heard None
-        → (all : List FrameData) × TookOne (frame_of frame) heard result.1 all result.0.session talk.is_fresh result.0.is_fresh (K.held link.old) (K.held link.new) (K.faults link.old) (K.faults link.new)
-        × IsTalk rule role start old result.0.pass result.0.session result.0.is_fresh (K.held link.new) (K.faults link.new) all result.1 }
+    ensures talk { (rule : RuleData) (role : AnyRole) (start : Start) (old : List Id) (heard : List FrameData)
+        → IsTalk rule role start old talk.pass talk.session talk.is_fresh (K.held link.old) (K.faults link.old) heard
+        None
+        → (all : List FrameData) × TookOne (frame_of frame) heard result.1 all result.0.session talk.is_fresh
+        result.0.is_fresh (K.held link.old) (K.held link.new) (K.faults link.old) (K.faults link.new)
+        × IsTalk rule role start old result.0.pass result.0.session result.0.is_fresh (K.held link.new)
+        (K.faults link.new) all result.1 }
 {
     let Talk {
         pass,
@@ -254,58 +280,64 @@ fn over(told: Result<(), Halt>, end: Option<End>) -> Option<Ending>
 /// Hears a frame that was checked: the first Hello tells a responder who its peer is.
 fn hear_checked<R: Wait, K: Link, D: Disk>(
     rt: &R,
-    alloc: Global,
-    shared: &Shared<D>,
-    peers: &Peers,
-    role: Role,
+    side: &Side<'_, D>,
     link: &mut K,
     talk: Talk<D>,
     frame: CheckedFrame,
 ) -> (Talk<D>, Option<Ending>)
-    requires lock { talk.pass.lock ≡ shared.now.lock }
+    requires lock { talk.pass.lock ≡ side.now.common.now.shared.now.lock }
     requires belongs { BelongsIn talk.pass.seen talk.session }
     requires under { IsUnder talk.pass.seen frame }
     ensures goes { Goes talk.pass result.0.pass result.0.session }
     ensures uncut { is_cut result.1 ≡ false }
     ensures left { K.left link.new ≡ K.left link.old }
-    ensures talk { (rule : RuleData) (start : Start) (heard : List FrameData) → IsTalkWith rule role peers.now start talk.pass talk.session talk.is_fresh (K.held link.old) (K.faults link.old) heard None
-        → (all : List FrameData) × HeardOne (frame_of frame) heard result.1 all × IsTalkWith rule role peers.now start result.0.pass result.0.session result.0.is_fresh (K.held link.new) (K.faults link.new) all result.1 }
+    ensures talk { (rule : RuleData) (start : Start) (heard : List FrameData)
+        → IsTalkWith rule side.now.role side.now.common.now.peers.now start talk.pass talk.session talk.is_fresh
+        (K.held link.old) (K.faults link.old) heard None
+        → (all : List FrameData) × HeardOne (frame_of frame) heard result.1 all
+        × IsTalkWith rule side.now.role side.now.common.now.peers.now start result.0.pass result.0.session
+        result.0.is_fresh (K.held link.new) (K.faults link.new) all result.1 }
 {
-    match recall(rt, alloc, shared, peers, role, talk, &frame) {
-        Ok(talk) => take(rt, alloc, shared, link, talk, frame),
+    match recall(rt, side, talk, &frame) {
+        Ok(talk) => take(rt, side.common.alloc, side.common.shared, link, talk, frame),
         Err(talk) => (talk, Some(Ending::Memory)),
     }
 }
 
-/// Has the updates among frames checked outside the turn, on as many threads as there are processors, and hears the frames in order, up to the one at which the
-/// session ends. Where memory runs out in the check, it hears none.
+/// Has the updates among frames checked outside the turn, on as many threads as there are processors, and hears the
+/// frames in order, up to the one at which the session ends. Where memory runs out in the check, it hears none.
 fn hear_all<R: Threads + Wait, K: Link, D: Disk>(
     rt: &R,
-    alloc: Global,
-    shared: &Shared<D>,
-    rule: &DbRule,
-    peers: &Peers,
-    role: Role,
+    side: &Side<'_, D>,
     link: &mut K,
     talk: Talk<D>,
     frames: Vec<Frame>,
 ) -> (Talk<D>, Option<Ending>)
-    requires lock { talk.pass.lock ≡ shared.now.lock }
+    requires lock { talk.pass.lock ≡ side.now.common.now.shared.now.lock }
     requires belongs { BelongsIn talk.pass.seen talk.session }
-    requires ruled { IsRuledBy talk.pass.seen rule.now }
+    requires ruled { IsRuledBy talk.pass.seen side.now.common.now.rule.now }
     ensures goes { Goes talk.pass result.0.pass result.0.session }
     ensures uncut { is_cut result.1 ≡ false }
     ensures left { K.left link.new ≡ K.left link.old }
-    ensures talk { (start : Start) (heard : List FrameData) → IsTalkWith rule.now role peers.now start talk.pass talk.session talk.is_fresh (K.held link.old) (K.faults link.old) heard None
-        → (all : List FrameData) × HeardFront rule.now frames.items heard result.1 all × IsTalkWith rule.now role peers.now start result.0.pass result.0.session result.0.is_fresh (K.held link.new) (K.faults link.new) all result.1 }
+    ensures talk { (start : Start) (heard : List FrameData) → IsTalkWith side.now.common.now.rule.now side.now.role
+        side.now.common.now.peers.now start talk.pass talk.session talk.is_fresh (K.held link.old) (K.faults link.old)
+        heard None
+        → (all : List FrameData) × HeardFront side.now.common.now.rule.now frames.items heard result.1 all
+        × IsTalkWith side.now.common.now.rule.now side.now.role side.now.common.now.peers.now start result.0.pass
+        result.0.session result.0.is_fresh (K.held link.new) (K.faults link.new) all result.1 }
 {
-    let Ok(all) = checked_all(alloc, &ManyThreads::new(rt), rule, frames) else {
+    let Ok(all) = checked_all(
+        side.common.alloc,
+        &ManyThreads::new(rt),
+        side.common.rule,
+        frames,
+    ) else {
         return (talk, Some(Ending::Memory));
     };
     let mut talk = talk;
     let mut frames = all.into_iter();
     'frames: while let Some(frame) = frames.next() {
-        let (next, over) = hear_checked(rt, alloc, shared, peers, role, link, talk, frame);
+        let (next, over) = hear_checked(rt, side, link, talk, frame);
         talk = next;
         if over.is_some() {
             return (talk, over);
@@ -317,82 +349,64 @@ fn hear_all<R: Threads + Wait, K: Link, D: Disk>(
 /// Reads a piece of the link, and hears the frames that are whole then.
 fn go_on<R: Threads + Wait, K: Link, D: Disk>(
     rt: &R,
-    alloc: Global,
-    shared: &Shared<D>,
-    rule: &DbRule,
-    peers: &Peers,
-    role: Role,
+    side: &Side<'_, D>,
     link: &mut K,
     talk: Talk<D>,
     frames: &mut Frames,
     buffer: &mut [u8],
 ) -> (Talk<D>, Option<Ending>)
-    requires lock { talk.pass.lock ≡ shared.now.lock }
+    requires lock { talk.pass.lock ≡ side.now.common.now.shared.now.lock }
     requires belongs { BelongsIn talk.pass.seen talk.session }
-    requires ruled { IsRuledBy talk.pass.seen rule.now }
+    requires ruled { IsRuledBy talk.pass.seen side.now.common.now.rule.now }
     requires room { 0 < length buffer.old }
     ensures goes { Goes talk.pass result.0.pass result.0.session }
     ensures len { length buffer.new ≡ length buffer.old }
-    ensures talk { (start : Start) (before : Option (List ℕ)) (heard : List FrameData) → IsTalkWith rule.now role peers.now start talk.pass talk.session talk.is_fresh (K.held link.old) (K.faults link.old) heard None
-        → Reads rule.now before (K.left link.old) frames.old heard
-        → (all : List FrameData) × IsTalkWith rule.now role peers.now start result.0.pass result.0.session result.0.is_fresh (K.held link.new) (K.faults link.new) all result.1
-        × ReadsBy result.1 rule.now before (K.left link.new) frames.new all }
+    ensures talk { (start : Start) (before : Option (List ℕ)) (heard : List FrameData)
+        → IsTalkWith side.now.common.now.rule.now side.now.role side.now.common.now.peers.now start talk.pass
+        talk.session talk.is_fresh (K.held link.old) (K.faults link.old) heard None
+        → Reads side.now.common.now.rule.now before (K.left link.old) frames.old heard
+        → (all : List FrameData) × IsTalkWith side.now.common.now.rule.now side.now.role side.now.common.now.peers.now
+        start result.0.pass result.0.session result.0.is_fresh (K.held link.new) (K.faults link.new) all result.1
+        × ReadsBy result.1 side.now.common.now.rule.now before (K.left link.new) frames.new all }
 {
-    match listen(alloc, link, frames, buffer) {
-        Heard::Frames(all) => hear_all(rt, alloc, shared, rule, peers, role, link, talk, all),
-        Heard::NoFrame(place) => hear_checked(
-            rt,
-            alloc,
-            shared,
-            peers,
-            role,
-            link,
-            talk,
-            CheckedFrame::BadFrame(place),
-        ),
+    match listen(side.common.alloc, link, frames, buffer) {
+        Heard::Frames(all) => hear_all(rt, side, link, talk, all),
+        Heard::NoFrame(place) => {
+            hear_checked(rt, side, link, talk, CheckedFrame::BadFrame(place))
+        }
         Heard::End => (talk, Some(Ending::Cut)),
         Heard::Broken => (talk, Some(Ending::Broken)),
         Heard::Memory => (talk, Some(Ending::Memory)),
     }
 }
 
-/// Goes on with a session until it ends, and answers how. Where there is no memory for what is read at once, nothing is read.
+/// Goes on with a session until it ends, and answers how. Where there is no memory for what is read at once, nothing is
+/// read.
 pub(crate) fn go_through<R: Threads + Wait, K: Link, D: Disk>(
     rt: &R,
-    alloc: Global,
-    shared: &Shared<D>,
-    rule: &DbRule,
-    peers: &Peers,
-    role: Role,
+    side: &Side<'_, D>,
     link: &mut K,
     talk: Talk<D>,
 ) -> (Talk<D>, Ending)
-    requires lock { talk.pass.lock ≡ shared.now.lock }
+    requires lock { talk.pass.lock ≡ side.now.common.now.shared.now.lock }
     requires belongs { BelongsIn talk.pass.seen talk.session }
-    requires ruled { IsRuledBy talk.pass.seen rule.now }
+    requires ruled { IsRuledBy talk.pass.seen side.now.common.now.rule.now }
     ensures lock { result.0.pass.lock ≡ talk.pass.lock }
-    ensures talk { (start : Start) (heard : List FrameData) → IsTalkWith rule.now role peers.now start talk.pass talk.session talk.is_fresh (K.held link.old) (K.faults link.old) heard None → heard ≡ []
-        → (all : List FrameData) × IsTalkWith rule.now role peers.now start result.0.pass result.0.session result.0.is_fresh (K.held link.new) (K.faults link.new) all (Some result.1)
-        × ReadsTo rule.now (K.left link.old) (K.left link.new) all result.1 }
+    ensures talk { (start : Start) (heard : List FrameData) → IsTalkWith side.now.common.now.rule.now side.now.role
+        side.now.common.now.peers.now start talk.pass talk.session talk.is_fresh (K.held link.old) (K.faults link.old)
+        heard None → heard ≡ []
+        → (all : List FrameData) × IsTalkWith side.now.common.now.rule.now side.now.role side.now.common.now.peers.now
+        start result.0.pass result.0.session result.0.is_fresh (K.held link.new) (K.faults link.new) all (Some result.1)
+        × ReadsTo side.now.common.now.rule.now (K.left link.old) (K.left link.new) all result.1 }
 {
+    let alloc = side.common.alloc;
     let mut frames = Frames::new(alloc);
     let Ok(mut buffer) = vec![in alloc; 0u8; PIECE] else {
         return (talk, Ending::Memory);
     };
     let mut talk = talk;
     for _ in rt.forever() {
-        let (next, over) = go_on(
-            rt,
-            alloc,
-            shared,
-            rule,
-            peers,
-            role,
-            link,
-            talk,
-            &mut frames,
-            &mut buffer,
-        );
+        let (next, over) = go_on(rt, side, link, talk, &mut frames, &mut buffer);
         talk = next;
         if let Some(ending) = over {
             return (talk, ending);

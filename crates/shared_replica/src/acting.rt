@@ -1,5 +1,6 @@
 //! What an act does to the replica and its list.
-ghost use Rattle.std.specs.Prelude.{◌≡◌, ◌<◌, ◌≤◌, ◌+◌, All, List, Some, ℕ, Err, IsTrue, IfOk, IfErr, OnErr, OnOk, true, false, length, map, slice_get};
+ghost use Rattle.std.specs.Prelude.{◌≡◌, ◌<◌, ◌≤◌, ◌+◌, All, List, Some, ℕ, Err, IsTrue, IfOk, IfErr, OnErr, OnOk};
+ghost use Rattle.std.specs.Prelude.{true, false, length, map, slice_get};
 ghost use Rattle.std.specs.List.Sorted.{IsStrictlySortedBy};
 ghost use Rattle.bec_bytes.specs.Causes.{Rose};
 ghost use Rattle.bec_disk.specs.Disk.{EveryImage, LeavesOnly};
@@ -53,15 +54,20 @@ impl<D: Disk> Stored<D> {
         requires few { length ops ≤ MAX_OPS }
         requires form { AreOps 0 ops }
         ensures grows { Grows self.old self.new seat act (met_fault result) }
-        ensures made { IfOk result (λ id. Makes is_luhn self.old.store.history key.old.secret key.old.taken ops c.now id self.new.store.history) }
+        ensures made { IfOk result (λ id. Makes is_luhn self.old.store.history key.old.secret key.old.taken ops c.now id
+            self.new.store.history) }
         ensures same { OnErr result (self.new.store.history ≡ self.old.store.history) }
-        ensures refused { IfErr result (λ why. IsMakeCause is_luhn self.old.store.history key.old.secret key.old.taken ops c.now why) }
+        ensures refused { IfErr result (λ why. IsMakeCause is_luhn self.old.store.history key.old.secret key.old.taken
+            ops c.now why) }
         ensures key { KeyAfter key.old result key.new }
 
         // A crash at any moment of it leaves each index used that was used.
-        ensures used { (index : ℕ) → (IsTrue key.old.parts.used.tells → EveryImage key.old.parts.used.now (IsUsed index)) → LeavesOnly key.old.parts.used key.new.parts.used (IsUsed index) }
+        ensures used { (index : ℕ)
+            → (IsTrue key.old.parts.used.tells → EveryImage key.old.parts.used.now (IsUsed index))
+            → LeavesOnly key.old.parts.used key.new.parts.used (IsUsed index) }
         ensures key_later { key.old.parts.used_faults ≤ key.new.parts.used_faults }
-        ensures key_failed { result ≡ Err (DiskFailed KeySide) → Rose key.old.parts.used_faults key.new.parts.used_faults }
+        ensures key_failed { result ≡ Err (DiskFailed KeySide)
+            → Rose key.old.parts.used_faults key.new.parts.used_faults }
     {
         self.runs.reserve(1)?;
         let made = self.replica.make(alloc, ops, key, c);
@@ -131,7 +137,8 @@ impl<D: Disk> Stored<D> {
     /// The heads and the tables of the updates of the list.
     pub fn snapshot(&self, alloc: Global) -> Result<Picture, AllocError>
         ensures heads { IfOk result (λ p. AreHeads (map entry_of (updates_of self.now.entries)) p.heads) }
-        ensures tables { IfOk result (λ p. IsStateOf (rules_with is_luhn self.now.store.history.schema.tables) (nodes_of (updates_of self.now.entries)) p.tables) }
+        ensures tables { IfOk result (λ p. IsStateOf (rules_with is_luhn self.now.store.history.schema.tables)
+            (nodes_of (updates_of self.now.entries)) p.tables) }
         ensures list { IsStoreOf self.now.entries self.now.store }
     {
         let heads = IdList::from_vec(self.replica.heads(alloc)?);
@@ -148,8 +155,10 @@ impl<D: Disk> Stored<D> {
     ) -> Result<(Session, Out), AllocError>
         requires few { length recalled ≤ MAX_NEEDS }
         requires rising { IsStrictlySortedBy id_cmp recalled }
-        ensures starts { IfOk result (λ p. StartsAs role self.now.store.history.schema.rule.database self.now.store.node recalled (updates_of self.now.entries) p.0 p.1) }
-        ensures belongs { IfOk result (λ p. BelongsTo store_limits self.now.store.history.schema.rule p.0 (updates_of self.now.entries)) }
+        ensures starts { IfOk result (λ p. StartsAs role self.now.store.history.schema.rule.database self.now.store.node
+            recalled (updates_of self.now.entries) p.0 p.1) }
+        ensures belongs { IfOk result (λ p. BelongsTo store_limits self.now.store.history.schema.rule p.0
+            (updates_of self.now.entries)) }
         ensures list { IsStoreOf self.now.entries self.now.store }
     {
         let database = self.replica.schema().rule().database;
@@ -157,7 +166,8 @@ impl<D: Disk> Stored<D> {
         Session::start(alloc, &self.replica, role, database, node, recalled)
     }
 
-    /// One frame to a session, as an act of this seat. The room for what it may add is taken first; where there is none, the session is over.
+    /// One frame to a session, as an act of this seat. The room for what it may add is taken first; where there is
+    /// none, the session is over.
     pub fn session_step(
         &mut self,
         alloc: Global,
@@ -169,8 +179,10 @@ impl<D: Disk> Stored<D> {
         requires belongs { BelongsIn self.old.entries session.old }
         requires under { IsUnder self.old.entries frame }
         ensures grows { Grows self.old self.new seat act (met_store result) }
-        ensures steps { IfOk result (λ out. StepsTo store_limits session.old (updates_of self.old.entries) frame session.new out (updates_of self.new.entries)) }
-        ensures belongs { BelongsTo store_limits self.old.store.history.schema.rule session.new (updates_of self.new.entries) }
+        ensures steps { IfOk result (λ out. StepsTo store_limits session.old (updates_of self.old.entries) frame
+            session.new out (updates_of self.new.entries)) }
+        ensures belongs { BelongsTo store_limits self.old.store.history.schema.rule session.new
+            (updates_of self.new.entries) }
         ensures within { IfOk result (λ out. All (λ p. p < length self.new.store.history.members) out.send) }
         ensures failed { OnErr result (session.new.failed ≡ true) }
         ensures gains { GrowsBy (updates_in session.old) (updates_of self.old.entries) (updates_of self.new.entries) }

@@ -1,5 +1,6 @@
 //! The acts of a shared replica.
-ghost use Rattle.std.specs.Prelude.{◌≡◌, ◌<◌, ◌≤◌, ℕ, All, List, false, true, Err, IsTrue, IfOk, IfErr, OnErr, length, map};
+ghost use Rattle.std.specs.Prelude.{◌≡◌, ◌<◌, ◌≤◌, ℕ, All, List, false, true, Err, IsTrue, IfOk, IfErr, OnErr, length};
+ghost use Rattle.std.specs.Prelude.{map};
 ghost use Rattle.std.specs.List.Sorted.{IsStrictlySortedBy};
 ghost use Rattle.history.specs.Histories.{nodes_of};
 ghost use Rattle.bec_bytes.specs.Causes.{Rose};
@@ -41,8 +42,9 @@ use sync_session::{CheckedFrame, Out, Session};
 use update_model::{ByteList, IdList, OpList, UpdateId};
 
 impl<D: Disk> Shared<D> {
-    /// Makes an update of these operations by a key, after all heads, as `Replica::make` does, and answers its id. There are at most 64
-    /// operations, of which `update_model::check_ops` is true. The answer is [`MakeFault::Memory`] too where there is no room for an entry.
+    /// Makes an update of these operations by a key, after all heads, as `Replica::make` does, and answers its id.
+    /// There are at most 64 operations, of which `update_model::check_ops` is true. The answer is [`MakeFault::Memory`]
+    /// too where there is no room for an entry.
     pub fn make<R: Wait>(
         &self,
         rt: &R,
@@ -55,16 +57,20 @@ impl<D: Disk> Shared<D> {
         requires lock { pass.lock ≡ self.now.lock }
         requires few { length ops ≤ MAX_OPS }
         requires form { AreOps 0 ops }
-        ensures act { (P : List Entry) × (old : ReplicaState) × (new : ReplicaState) × IsAct pass result.pass P old new (met_fault result.answer)
+        ensures act { (P : List Entry) × (old : ReplicaState) × (new : ReplicaState)
+            × IsAct pass result.pass P old new (met_fault result.answer)
             × IfOk result.answer (λ id. Makes is_luhn old.history key.old.secret key.old.taken ops c.now id new.history)
             × IfErr result.answer (λ why. IsMakeCause is_luhn old.history key.old.secret key.old.taken ops c.now why)
             × OnErr result.answer (new.history ≡ old.history) }
         ensures key { KeyAfter key.old result.answer key.new }
 
         // A crash at any moment of it leaves each index used that was used.
-        ensures used { (index : ℕ) → (IsTrue key.old.parts.used.tells → EveryImage key.old.parts.used.now (IsUsed index)) → LeavesOnly key.old.parts.used key.new.parts.used (IsUsed index) }
+        ensures used { (index : ℕ)
+            → (IsTrue key.old.parts.used.tells → EveryImage key.old.parts.used.now (IsUsed index))
+            → LeavesOnly key.old.parts.used key.new.parts.used (IsUsed index) }
         ensures key_later { key.old.parts.used_faults ≤ key.new.parts.used_faults }
-        ensures key_failed { result.answer ≡ Err (DiskFailed KeySide) → Rose key.old.parts.used_faults key.new.parts.used_faults }
+        ensures key_failed { result.answer ≡ Err (DiskFailed KeySide)
+            → Rose key.old.parts.used_faults key.new.parts.used_faults }
     {
         let (held, mut stored) = self.lock.take(rt, pass);
         let answer = stored.make(alloc, ops, key, c, held.seat(), held.act());
@@ -122,7 +128,8 @@ impl<D: Disk> Shared<D> {
         requires { pass.lock ≡ self.now.lock }
         ensures { (P : List Entry) × (store : ReplicaState) × IsAct pass result.pass P store store false
             × IfOk result.answer (λ p. AreHeads (map entry_of (updates_of P)) p.heads)
-            × IfOk result.answer (λ p. IsStateOf (rules_with is_luhn store.history.schema.tables) (nodes_of (updates_of P)) p.tables) }
+            × IfOk result.answer (λ p. IsStateOf (rules_with is_luhn store.history.schema.tables)
+            (nodes_of (updates_of P)) p.tables) }
     {
         let (held, stored) = self.lock.take(rt, pass);
         let answer = stored.snapshot(alloc);
@@ -132,8 +139,9 @@ impl<D: Disk> Shared<D> {
         }
     }
 
-    /// Begins a session over the updates of the list, of the replica's database and under its node id, as `Session::start` does. `recalled` are
-    /// the ids that were remembered of the peer when they last met, which rise: none where they never did. The error is want of memory.
+    /// Begins a session over the updates of the list, of the replica's database and under its node id, as
+    /// `Session::start` does. `recalled` are the ids that were remembered of the peer when they last met, which rise:
+    /// none where they never did. The error is want of memory.
     pub fn session_start<R: Wait>(
         &self,
         rt: &R,
@@ -146,7 +154,8 @@ impl<D: Disk> Shared<D> {
         requires few { length recalled ≤ MAX_NEEDS }
         requires rising { IsStrictlySortedBy id_cmp recalled }
         ensures { (P : List Entry) × (store : ReplicaState) × IsAct pass result.pass P store store false
-            × IfOk result.answer (λ p. StartsAs role store.history.schema.rule.database store.node recalled (updates_of P) p.0 p.1)
+            × IfOk result.answer (λ p. StartsAs role store.history.schema.rule.database store.node recalled
+            (updates_of P) p.0 p.1)
             × IfOk result.answer (λ p. BelongsTo store_limits store.history.schema.rule p.0 (updates_of P)) }
     {
         let (held, stored) = self.lock.take(rt, pass);
@@ -157,12 +166,13 @@ impl<D: Disk> Shared<D> {
         }
     }
 
-    /// Takes the peer's next frame, and answers what is to be sent, as `Session::step` does. An update has to be under the rule of the schema with
-    /// which the pass's list begins, and the session has to belong to what the pass has seen, as it does after [`Shared::session_start`] and after
-    /// each call of this, however many acts the pass has made since.
+    /// Takes the peer's next frame, and answers what is to be sent, as `Session::step` does. An update has to be under
+    /// the rule of the schema with which the pass's list begins, and the session has to belong to what the pass has
+    /// seen, as it does after [`Shared::session_start`] and after each call of this, however many acts the pass has
+    /// made since.
     ///
-    /// The act adds what the step added, and one fault exactly where the session ends by the store. The error is want of memory, also of room for
-    /// an entry. The session is over then, and what was added stays.
+    /// The act adds what the step added, and one fault exactly where the session ends by the store. The error is want
+    /// of memory, also of room for an entry. The session is over then, and what was added stays.
     pub fn session_step<R: Wait>(
         &self,
         rt: &R,
@@ -174,8 +184,10 @@ impl<D: Disk> Shared<D> {
         requires lock { pass.lock ≡ self.now.lock }
         requires belongs { BelongsIn pass.seen session.old }
         requires under { IsUnder pass.seen frame }
-        ensures { (P : List Entry) × (old : ReplicaState) × (new : ReplicaState) × IsAct pass result.pass P old new (met_store result.answer)
-            × IfOk result.answer (λ out. StepsTo store_limits session.old (updates_of P) frame session.new out (updates_of result.pass.seen))
+        ensures { (P : List Entry) × (old : ReplicaState) × (new : ReplicaState)
+            × IsAct pass result.pass P old new (met_store result.answer)
+            × IfOk result.answer (λ out. StepsTo store_limits session.old (updates_of P) frame session.new out
+            (updates_of result.pass.seen))
             × BelongsTo store_limits old.history.schema.rule session.new (updates_of result.pass.seen)
             × OnErr result.answer (session.new.failed ≡ true)
             × GrowsBy (updates_in session.old) (updates_of P) (updates_of result.pass.seen)

@@ -4,7 +4,8 @@ use schema::Schema;
 use update_check::Checked;
 use update_model::ByteList;
 
-/// What one act added: so many updates, and a fault behind them where it met one. The updates themselves are the replica's.
+/// What one act added: so many updates, and a fault behind them where it met one. The updates themselves are the
+/// replica's.
 #[derive(Clone, Copy)]
 pub struct Run {
     /// The number of the seat.

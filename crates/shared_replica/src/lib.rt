@@ -1,8 +1,8 @@
 //! One replica for many callers.
 //!
-//! A [`Shared`] is a replica under a turn lock. A caller has a [`Pass`], which knows a beginning of one list: what the replica was at the start,
-//! and each update and each fault of the log's disk since, with the seat and the act that added it. Each act has its turn, and answers what the
-//! replica answers at that point of the list.
+//! A [`Shared`] is a replica under a turn lock. A caller has a [`Pass`], which knows a beginning of one list: what the
+//! replica was at the start, and each update and each fault of the log's disk since, with the seat and the act that
+//! added it. Each act has its turn, and answers what the replica answers at that point of the list.
 //!
 //! ```text
 //! let (shared, first) = Shared::new(alloc, replica)?;

@@ -34,12 +34,21 @@ pub struct Shared<D: Disk> {
 }
 
 impl<D: Disk> Shared<D> {
-    /// The pass has seen the first entry and an opening entry for each update. Where there is no memory, the replica comes back.
+    /// The pass has seen the first entry and an opening entry for each update. Where there is no memory, the replica
+    /// comes back.
     pub fn new(
         alloc: Global,
         replica: Replica<D, Luhn, Luhn>,
     ) -> Result<(Shared<D>, Pass<D>), Back<Replica<D, Luhn, Luhn>>>
-        ensures ok { IfOk result (λ r. r.1 ≡ record { lock = r.0.lock; seen = First (opening_of replica) ∷ map Opened replica.history.members; number = None; acts = 0; others = [] }) }
+        ensures ok { IfOk result
+            (λ r. r.1 ≡ record {
+              lock = r.0.lock;
+              seen = First (opening_of replica) ∷ map Opened replica.history.members;
+              number = None;
+              acts = 0;
+              others =
+                  [];
+            }) }
         ensures err { IfErr result (λ b. b.back ≡ replica) }
     {
         match TurnLock::new(alloc, Stored::new(alloc, replica)) {
@@ -54,17 +63,20 @@ impl<D: Disk> Shared<D> {
     /// Two passes that have seen as much. The first has the number and the acts of the one that was given.
     pub fn split(&self, pass: Pass<D>) -> Result<(Pass<D>, Pass<D>), Back<Pass<D>>>
         requires { pass.lock ≡ self.now.lock }
-        ensures ok { IfOk result (λ r. (r.0 ≡ pass) × (r.1 ≡ record { lock = pass.lock; seen = pass.seen; number = None; acts = 0; others = [] })) }
+        ensures ok { IfOk result (λ r. (r.0 ≡ pass)
+            × (r.1 ≡ record { lock = pass.lock; seen = pass.seen; number = None; acts = 0; others = [] })) }
         ensures err { IfErr result (λ b. b.back ≡ pass) }
     {
         self.lock.split(pass)
     }
 
-    /// One pass that has seen what both have seen, with the number and the acts of the first. What one has seen begins what the other has seen.
+    /// One pass that has seen what both have seen, with the number and the acts of the first. What one has seen begins
+    /// what the other has seen.
     pub fn meet(&self, a: Pass<D>, b: Pass<D>) -> Result<Pass<D>, Back<(Pass<D>, Pass<D>)>>
         requires locks { (a.lock ≡ self.now.lock) × (b.lock ≡ self.now.lock) }
         ensures seat { IfOk result (λ s. (s.lock ≡ a.lock) × (s.number ≡ a.number) × (s.acts ≡ a.acts)) }
-        ensures seen { IfOk result (λ s. IsPrefix a.seen s.seen × IsPrefix b.seen s.seen × ((s.seen ≡ a.seen) ⊎ (s.seen ≡ b.seen))) }
+        ensures seen { IfOk result (λ s. IsPrefix a.seen s.seen × IsPrefix b.seen s.seen
+            × ((s.seen ≡ a.seen) ⊎ (s.seen ≡ b.seen))) }
         ensures others { IfOk result (λ s. s.others ≡ a.others ++ numbers_of b) }
         ensures apart { IfOk result (λ s. AreApart (numbers_of s)) }
         ensures err { IfErr result (λ e. (e.back.0 ≡ a) × (e.back.1 ≡ b)) }

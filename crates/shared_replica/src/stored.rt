@@ -1,5 +1,6 @@
 //! A replica with its list.
-ghost use Rattle.std.specs.Prelude.{◌≡◌, ◌<◌, ◌≤◌, ◌+◌, ◌∷◌, ℕ, List, Some, IfOk, IfErr, OnErr, OnOk, false, length, map, slice_get};
+ghost use Rattle.std.specs.Prelude.{◌≡◌, ◌<◌, ◌≤◌, ◌+◌, ◌∷◌, ℕ, List, Some, IfOk, IfErr, OnErr, OnOk, false, length};
+ghost use Rattle.std.specs.Prelude.{map, slice_get};
 ghost use Rattle.replica.specs.Making.{IsMakeCause, Makes};
 ghost use Rattle.replica.specs.Signing.{KeyAfter};
 ghost use Rattle.shared_replica.specs.declared.entry.Entry.TheVariants.{First, Opened};
@@ -27,7 +28,8 @@ use update_model::{ByteList, IdList, OpList, UpdateId};
 
 /// A replica, what it was at the start, and what each act added since.
 ///
-/// Its type keeps that the replica is as its list says, and that a crash at this moment leaves the updates of the list in front of the log.
+/// Its type keeps that the replica is as its list says, and that a crash at this moment leaves the updates of the list
+/// in front of the log.
 #[derive(Drop)]
 pub struct Stored<D: Disk> {
     pub(crate) replica: Replica<D, Luhn, Luhn>,

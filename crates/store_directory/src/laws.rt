@@ -16,7 +16,10 @@ pub fn one_store()
 
 /// There is no store, or a bad one, or the parts read as a store: no two of these.
 pub fn store_or_not()
-    ensures not_bad { (ask : Meaning) (schema updates : Option (List ℕ)) → IsNoStore schema → IsBadStore ask schema updates → ⊥ }
-    ensures no_store { (ask : Meaning) (schema updates : Option (List ℕ)) (store : StoreData) → IsNoStore schema → ReadsAs ask schema updates store → ⊥ }
-    ensures bad_store { (ask : Meaning) (schema updates : Option (List ℕ)) (store : StoreData) → IsBadStore ask schema updates → ReadsAs ask schema updates store → ⊥ }
+    ensures not_bad { (ask : Meaning) (schema updates : Option (List ℕ)) → IsNoStore schema
+        → IsBadStore ask schema updates → ⊥ }
+    ensures no_store { (ask : Meaning) (schema updates : Option (List ℕ)) (store : StoreData) → IsNoStore schema
+        → ReadsAs ask schema updates store → ⊥ }
+    ensures bad_store { (ask : Meaning) (schema updates : Option (List ℕ)) (store : StoreData)
+        → IsBadStore ask schema updates → ReadsAs ask schema updates store → ⊥ }
 {}

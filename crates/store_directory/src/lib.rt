@@ -1,10 +1,11 @@
 //! A directory that is open: its store, and its key where that is needed, taken from a shelf, opened once and put back.
 //!
-//! A directory has a part Schema and a part Updates where it has a store. [`open`] hands out what is needed, and [`close`] puts it back;
-//! where the store or the key is refused, every part is in its place again. [`take_store`] and [`put_store`] are the same of the store alone,
-//! as `key_directory` has them of the key, and [`new_store`] makes a store where there is none. What holds of each store that is open says
-//! [`each_stands`], and [`settle`] leaves its log with its updates and nothing else. What the directory remembers of peers, in its part Peers,
-//! is a hint: [`peers_of`] and [`keep_peers`], over [`read_memory`] and [`write_memory`].
+//! A directory has a part Schema and a part Updates where it has a store. [`open`] hands out what is needed, and
+//! [`close`] puts it back; where the store or the key is refused, every part is in its place again. [`take_store`] and
+//! [`put_store`] are the same of the store alone, as `key_directory` has them of the key, and [`new_store`] makes a
+//! store where there is none. What holds of each store that is open says [`each_stands`], and [`settle`] leaves its log
+//! with its updates and nothing else. What the directory remembers of peers, in its part Peers, is a hint: [`peers_of`]
+//! and [`keep_peers`], over [`read_memory`] and [`write_memory`].
 //!
 //! ```text
 //! let mut opened = open(verifier, alloc, shelf, dir, Needs::Store)?;
@@ -12,7 +13,8 @@
 //! close(shelf, dir, opened);
 //! ```
 //!
-//! Its definitions say what a run leaves of a directory: the list of its store with what was added, at each moment, and every other part as it was.
+//! Its definitions say what a run leaves of a directory: the list of its store with what was added, at each moment, and
+//! every other part as it was.
 #![tactic(auto)]
 
 mod laws;

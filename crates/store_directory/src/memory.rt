@@ -12,13 +12,17 @@ use key_directory::find_or_make;
 use std::alloc::Global;
 use update_model::ByteList;
 
-/// What stands behind the gate of the part Peers of a directory; nothing where the part is not there, absent or damaged. It writes nothing.
+/// What stands behind the gate of the part Peers of a directory; nothing where the part is not there, absent or
+/// damaged. It writes nothing.
 pub fn read_memory<H: Shelf>(alloc: Global, shelf: &mut H, dir: &str) -> Result<ByteList, DiskError>
     requires { IsTrue (H.state shelf.old).tells → part_in (H.state shelf.old) dir.now Peers ≢ out }
-    ensures value { IsTrue (H.state shelf.old).tells → IfOk result (λ payload. payload ≡ remembered_in (reading (part_in (H.state shelf.old) dir.now Peers))) }
+    ensures value { IsTrue (H.state shelf.old).tells
+        → IfOk result (λ payload. payload ≡ remembered_in (reading (part_in (H.state shelf.old) dir.now Peers))) }
     ensures tells { (H.state shelf.new).tells ≡ (H.state shelf.old).tells }
-    ensures untouched { IsTrue (H.state shelf.old).tells → IsUntouched (part_in (H.state shelf.old) dir.now Peers) (part_in (H.state shelf.new) dir.now Peers) }
-    ensures others { IsTrue (H.state shelf.old).tells → KeepsAllBut (Peers ∷ []) dir.now (H.state shelf.old) (H.state shelf.new) }
+    ensures untouched { IsTrue (H.state shelf.old).tells → IsUntouched (part_in (H.state shelf.old) dir.now Peers)
+        (part_in (H.state shelf.new) dir.now Peers) }
+    ensures others { IsTrue (H.state shelf.old).tells → KeepsAllBut (Peers ∷ []) dir.now (H.state shelf.old)
+        (H.state shelf.new) }
     ensures later { H.faults shelf.old ≤ H.faults shelf.new }
     ensures failed { IsErrOf result DiskError.DiskFault → Rose (H.faults shelf.old) (H.faults shelf.new) }
 {
@@ -41,14 +45,17 @@ fn payload_of(alloc: Global, gated: Gated) -> ByteList
     }
 }
 
-/// Puts a payload behind the gate of the part Peers of a directory. A part that is not there is made. Where it failed, the part may be absent.
+/// Puts a payload behind the gate of the part Peers of a directory. A part that is not there is made. Where it failed,
+/// the part may be absent.
 pub fn write_memory<H: Shelf>(shelf: &mut H, dir: &str, payload: &[u8]) -> Result<(), DiskFault>
     requires in_place { IsTrue (H.state shelf.old).tells → part_in (H.state shelf.old) dir.now Peers ≢ out }
     requires fits { length payload.now < 2 ^ 32 }
-    ensures written { IsTrue (H.state shelf.old).tells → OnOk result (remembered_in (reading (part_in (H.state shelf.new) dir.now Peers)) ≡ payload.now) }
+    ensures written { IsTrue (H.state shelf.old).tells
+        → OnOk result (remembered_in (reading (part_in (H.state shelf.new) dir.now Peers)) ≡ payload.now) }
     ensures tells { (H.state shelf.new).tells ≡ (H.state shelf.old).tells }
     ensures in_place { IsTrue (H.state shelf.old).tells → part_in (H.state shelf.new) dir.now Peers ≢ out }
-    ensures others { IsTrue (H.state shelf.old).tells → KeepsAllBut (Peers ∷ []) dir.now (H.state shelf.old) (H.state shelf.new) }
+    ensures others { IsTrue (H.state shelf.old).tells → KeepsAllBut (Peers ∷ []) dir.now (H.state shelf.old)
+        (H.state shelf.new) }
     ensures later { H.faults shelf.old ≤ H.faults shelf.new }
     ensures cause { HasCause (H.faults shelf.old) (H.faults shelf.new) result }
 {

@@ -20,7 +20,7 @@ use schema_text::one_schema;
 use std::alloc::Global;
 
 /// What is needed of a directory.
-#[derive(Clone, Copy, Debug, PartialEq, Eq)]
+#[derive(Clone, Copy)]
 pub enum Needs {
     /// Its store.
     Store,
@@ -37,8 +37,9 @@ pub struct Opened<D: Disk> {
     pub key: Option<KeyStore<D>>,
 }
 
-/// Takes what is needed of a directory from the shelf, and opens it: the store first, and then the key. The verifier checks
-/// the records of the store, and computes the leaves of the key. Where either is refused, every part is in its place again.
+/// Takes what is needed of a directory from the shelf, and opens it: the store first, and then the key. The verifier
+/// checks the records of the store, and computes the leaves of the key. Where either is refused, every part is in its
+/// place again.
 pub fn open<V: Verifier, H: Shelf>(
     verifier: &V,
     alloc: Global,
@@ -49,12 +50,15 @@ pub fn open<V: Verifier, H: Shelf>(
     requires schema_in { IsTrue (H.state shelf.old).tells → part_in (H.state shelf.old) dir.now Schema ≢ out }
     requires updates_in { IsTrue (H.state shelf.old).tells → part_in (H.state shelf.old) dir.now Updates ≢ out }
     requires key_in { IsTrue (H.state shelf.old).tells → IsKeyIn needs (H.state shelf.old) dir.now }
-    ensures opens { IfOk result (λ opened. Opens needs (H.state shelf.old) dir.now opened.store opened.key (H.state shelf.new)) }
+    ensures opens { IfOk result (λ opened. Opens needs (H.state shelf.old) dir.now opened.store opened.key
+        (H.state shelf.new)) }
     ensures lets_go { IfErr result (λ _. LetsAllGo needs (H.state shelf.old) dir.now (H.state shelf.new)) }
     ensures refused { IfErr result (λ why. Refuses why needs (H.state shelf.old) dir.now) }
     ensures later { H.faults shelf.old ≤ H.faults shelf.new }
-    ensures store_failed { IsErrOf result (OpenRefusal.Store StoreRefusal.DiskFault) → Rose (H.faults shelf.old) (H.faults shelf.new) }
-    ensures key_failed { IsErrOf result (OpenRefusal.Key KeyRefusal.DiskFault) → Rose (H.faults shelf.old) (H.faults shelf.new) }
+    ensures store_failed { IsErrOf result (OpenRefusal.Store StoreRefusal.DiskFault)
+        → Rose (H.faults shelf.old) (H.faults shelf.new) }
+    ensures key_failed { IsErrOf result (OpenRefusal.Key KeyRefusal.DiskFault)
+        → Rose (H.faults shelf.old) (H.faults shelf.new) }
 {
     one_schema();
     let store = take_store(verifier, alloc, shelf, dir, Native::new(Luhn))?;
@@ -74,12 +78,14 @@ pub fn open<V: Verifier, H: Shelf>(
     }
 }
 
-/// Puts back what was opened of a directory: the key first, and then the store. A disk that counted a fault makes the shelf's
-/// count rise.
+/// Puts back what was opened of a directory: the key first, and then the store. A disk that counted a fault makes the
+/// shelf's count rise.
 pub fn close<H: Shelf>(shelf: &mut H, dir: &str, opened: Opened<H::D>)
-    requires store_of { IsTrue (H.state shelf.old).tells → IsStoreOut (H.state shelf.old) dir.now opened.store.schema opened.store.replica }
+    requires store_of { IsTrue (H.state shelf.old).tells → IsStoreOut (H.state shelf.old) dir.now opened.store.schema
+        opened.store.replica }
     requires key_of { IsTrue (H.state shelf.old).tells → IfSome opened.key (IsKeyOut (H.state shelf.old) dir.now) }
-    ensures closes { Closes (H.state shelf.old) (H.faults shelf.old) dir.now opened.store opened.key (H.state shelf.new) (H.faults shelf.new) }
+    ensures closes { Closes (H.state shelf.old) (H.faults shelf.old) dir.now opened.store opened.key (H.state shelf.new)
+        (H.faults shelf.new) }
 {
     let Opened { store, key } = opened;
     match key {

@@ -17,10 +17,13 @@ use update_model::IdList;
 /// What a directory remembers of peers. Its part Peers is at most read, and put back.
 pub fn peers_of<H: Shelf>(alloc: Global, shelf: &mut H, dir: &str) -> Result<Peers, DiskError>
     requires { IsTrue (H.state shelf.old).tells → part_in (H.state shelf.old) dir.now PeersPart ≢ out }
-    ensures reads { IsTrue (H.state shelf.old).tells → IfOk result (λ peers. Reads (memory_in (H.state shelf.old) dir.now) peers) }
+    ensures reads { IsTrue (H.state shelf.old).tells
+        → IfOk result (λ peers. Reads (memory_in (H.state shelf.old) dir.now) peers) }
     ensures keeps { KeepsPeers dir.now (H.state shelf.old) (H.state shelf.new) }
-    ensures untouched { IsTrue (H.state shelf.old).tells → IsUntouched (part_in (H.state shelf.old) dir.now PeersPart) (part_in (H.state shelf.new) dir.now PeersPart) }
-    ensures same { IsTrue (H.state shelf.old).tells → memory_in (H.state shelf.new) dir.now ≡ memory_in (H.state shelf.old) dir.now }
+    ensures untouched { IsTrue (H.state shelf.old).tells → IsUntouched (part_in (H.state shelf.old) dir.now PeersPart)
+        (part_in (H.state shelf.new) dir.now PeersPart) }
+    ensures same { IsTrue (H.state shelf.old).tells → memory_in (H.state shelf.new) dir.now ≡ memory_in
+        (H.state shelf.old) dir.now }
     ensures later { H.faults shelf.old ≤ H.faults shelf.new }
     ensures failed { IsErrOf result DiskError.DiskFault → Rose (H.faults shelf.old) (H.faults shelf.new) }
 {
@@ -28,8 +31,8 @@ pub fn peers_of<H: Shelf>(alloc: Global, shelf: &mut H, dir: &str) -> Result<Pee
     Ok(read_peers(alloc, payload.as_slice())?)
 }
 
-/// Remembers these ids of a peer in a directory, under the name of the peer, in place of what was remembered under it. At most
-/// the part Peers is touched, and put back.
+/// Remembers these ids of a peer in a directory, under the name of the peer, in place of what was remembered under it.
+/// At most the part Peers is touched, and put back.
 pub fn keep_peers<H: Shelf>(
     alloc: Global,
     shelf: &mut H,
@@ -39,7 +42,8 @@ pub fn keep_peers<H: Shelf>(
     ids: &IdList,
 ) -> Result<(), DiskError>
     requires { IsTrue (H.state shelf.old).tells → part_in (H.state shelf.old) dir.now PeersPart ≢ out }
-    ensures remembers { IsTrue (H.state shelf.old).tells → OnOk result (RemembersIn peers name ids.now (memory_in (H.state shelf.new) dir.now)) }
+    ensures remembers { IsTrue (H.state shelf.old).tells
+        → OnOk result (RemembersIn peers name ids.now (memory_in (H.state shelf.new) dir.now)) }
     ensures keeps { KeepsPeers dir.now (H.state shelf.old) (H.state shelf.new) }
     ensures later { H.faults shelf.old ≤ H.faults shelf.new }
     ensures failed { IsErrOf result DiskError.DiskFault → Rose (H.faults shelf.old) (H.faults shelf.new) }

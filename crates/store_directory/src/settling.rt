@@ -11,18 +11,20 @@ use row_check::Luhn;
 use std::alloc::Global;
 use update_check::CommitFault;
 
-/// Commits nothing: that cuts what an act that failed may have left behind the updates. As nothing is added, no limit is
-/// passed, and only a disk's fault or want of memory is in the way.
+/// Commits nothing: that cuts what an act that failed may have left behind the updates. As nothing is added, no limit
+/// is passed, and only a disk's fault or want of memory is in the way.
 pub fn settle<D: Disk>(alloc: Global, replica: &mut Replica<D, Luhn, Luhn>) -> Result<(), DiskError>
     ensures grows { KeepsGrowing replica.old replica.new }
     ensures clean { IsTrue replica.old.log.disk.tells → OnOk result (IsClean replica.new.log.end replica.new.log.disk) }
     ensures failed { IsErrOf result DiskError.DiskFault → Rose replica.old.log.faults replica.new.log.faults }
     ensures later { replica.old.log.faults ≤ replica.new.log.faults }
 {
+    replica.len(); // what it holds is within the limits
     match replica.commit(alloc, Vec::new(alloc)) {
         Ok(_) => Ok(()),
         Err(CommitFault::DiskFault) => Err(DiskError::DiskFault),
+        Err(CommitFault::Memory) => Err(DiskError::Memory),
         // Nothing is added, so that no limit is passed.
-        Err(CommitFault::Full | CommitFault::Memory) => Err(DiskError::Memory),
+        Err(CommitFault::Full) => unreachable!(),
     }
 }

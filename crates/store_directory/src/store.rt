@@ -6,7 +6,8 @@ ghost use Rattle.bec_disk.specs.declared.part.Part.TheVariants.{Schema, Updates}
 ghost use Rattle.bec_disk.specs.Disk.{IsSettled};
 ghost use Rattle.bec_disk.specs.Shelf.{out};
 ghost use Rattle.bec_disk.specs.Slot.{slot};
-ghost use Rattle.store_directory.specs.Holding.{IsRefusalCause, IsStoreCause, LetsGo, LetsUpdatesGo, PutsStore, TakesStore, TakesUpdates};
+ghost use Rattle.store_directory.specs.Holding.{IsRefusalCause, IsStoreCause, LetsGo, LetsUpdatesGo, PutsStore};
+ghost use Rattle.store_directory.specs.Holding.{TakesStore, TakesUpdates};
 ghost use Rattle.key_directory.specs.Parts.{part_in, reading};
 
 use crate::store_refusal::StoreRefusal;
@@ -38,7 +39,8 @@ impl<D: Disk, L: Relation, C: Checks<L>> Model for OpenStore<D, L, C> {
     ghost view = { λ o. record { schema = D.state o.schema; schema_faults = D.faults o.schema; replica = o.replica } };
 }
 
-/// Takes the store of a directory from the shelf and opens it; the verifier checks its records. Where it is refused, every part is in its place again.
+/// Takes the store of a directory from the shelf and opens it; the verifier checks its records. Where it is refused,
+/// every part is in its place again.
 pub fn take_store<V: Verifier, H: Shelf, L: Relation, C: Checks<L>>(
     verifier: &V,
     alloc: Global,
@@ -50,7 +52,8 @@ pub fn take_store<V: Verifier, H: Shelf, L: Relation, C: Checks<L>>(
     requires updates_in { IsTrue (H.state shelf.old).tells → part_in (H.state shelf.old) dir.now Updates ≢ out }
     ensures takes { IfOk result (λ store. TakesStore L.answer (H.state shelf.old) dir.now store (H.state shelf.new)) }
     ensures lets_go { IfErr result (λ _. LetsGo L.answer (H.state shelf.old) dir.now (H.state shelf.new)) }
-    ensures refused { IfErr result (λ why. IsTrue (H.state shelf.old).tells → IsStoreCause L.answer (H.state shelf.old) dir.now why) }
+    ensures refused { IfErr result (λ why. IsTrue (H.state shelf.old).tells
+        → IsStoreCause L.answer (H.state shelf.old) dir.now why) }
     ensures later { H.faults shelf.old ≤ H.faults shelf.new }
     ensures failed { IsErrOf result StoreRefusal.DiskFault → Rose (H.faults shelf.old) (H.faults shelf.new) }
 {
@@ -77,14 +80,18 @@ fn take_updates<V: Verifier, H: Shelf, L: Relation, C: Checks<L>>(
 ) -> Result<Replica<H::D, L, C>, StoreRefusal>
     requires updates_in { IsTrue (H.state shelf.old).tells → part_in (H.state shelf.old) dir.now Updates ≢ out }
     requires settled { IsTrue (H.D.state schema.old).tells → IsSettled (H.D.state schema.old) }
-    ensures takes { IfOk result (λ replica. TakesUpdates L.answer (H.state shelf.old) dir.now (H.D.state schema.old) replica (H.state shelf.new)) }
-    ensures lets_go { IfErr result (λ _. LetsUpdatesGo L.answer (H.state shelf.old) dir.now (H.D.state schema.old) (H.state shelf.new)) }
+    ensures takes { IfOk result (λ replica. TakesUpdates L.answer (H.state shelf.old) dir.now (H.D.state schema.old)
+        replica (H.state shelf.new)) }
+    ensures lets_go { IfErr result (λ _. LetsUpdatesGo L.answer (H.state shelf.old) dir.now (H.D.state schema.old)
+        (H.state shelf.new)) }
     ensures refused { IfErr result (λ why. IsTrue (H.state shelf.old).tells → IsTrue (H.D.state schema.old).tells
-        → IsRefusalCause L.answer (Some (H.D.state schema.old).seen) (reading (part_in (H.state shelf.old) dir.now Updates)) why) }
+        → IsRefusalCause L.answer (Some (H.D.state schema.old).seen)
+        (reading (part_in (H.state shelf.old) dir.now Updates)) why) }
     ensures same { H.D.state schema.new ≡ H.D.state schema.old }
     ensures later { H.faults shelf.old ≤ H.faults shelf.new }
     ensures schema_later { H.D.faults schema.old ≤ H.D.faults schema.new }
-    ensures failed { IsErrOf result StoreRefusal.DiskFault → Rose (H.faults shelf.old) (H.faults shelf.new) ⊎ Rose (H.D.faults schema.old) (H.D.faults schema.new) }
+    ensures failed { IsErrOf result StoreRefusal.DiskFault → Rose (H.faults shelf.old) (H.faults shelf.new)
+        ⊎ Rose (H.D.faults schema.old) (H.D.faults schema.new) }
 {
     if let Gated::Absent = read_gated(alloc, schema)? {
         return Err(StoreRefusal::NoStore);
@@ -108,8 +115,10 @@ pub fn put_store<H: Shelf, L: Relation, C: Checks<L>>(
     dir: &str,
     store: OpenStore<H::D, L, C>,
 )
-    requires schema_of { IsTrue (H.state shelf.old).tells → (store.schema.slot ≡ Some (slot dir.now Schema)) × (part_in (H.state shelf.old) dir.now Schema ≡ out) }
-    requires updates_of { IsTrue (H.state shelf.old).tells → (store.replica.log.disk.slot ≡ Some (slot dir.now Updates)) × (part_in (H.state shelf.old) dir.now Updates ≡ out) }
+    requires schema_of { IsTrue (H.state shelf.old).tells → (store.schema.slot ≡ Some (slot dir.now Schema))
+        × (part_in (H.state shelf.old) dir.now Schema ≡ out) }
+    requires updates_of { IsTrue (H.state shelf.old).tells → (store.replica.log.disk.slot ≡ Some (slot dir.now Updates))
+        × (part_in (H.state shelf.old) dir.now Updates ≡ out) }
     ensures puts { PutsStore (H.state shelf.old) dir.now store.schema store.replica.log.disk (H.state shelf.new) }
     ensures later { H.faults shelf.old ≤ H.faults shelf.new }
     ensures schema_faulted { 0 < store.schema_faults → Rose (H.faults shelf.old) (H.faults shelf.new) }

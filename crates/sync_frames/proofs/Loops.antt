@@ -3,8 +3,8 @@ use Rattle.std.proofs.Common.{◌≡◌, ℕ, suc, ◌+◌, ◌-◌, ◌<◌, �
 use Rattle.std.proofs.lemmas.List.{append-nil}
 use Rattle.std.specs.Prelude.{Option, Some, None}
 use Rattle.update_model.specs.declared.update_id.UpdateId.{UpdateId}
-use Rattle.sync_frames.specs.declared.fields.ReadError.{ReadError}
-use Rattle.sync_frames.specs.declared.fields.ReadError.TheVariants.{Memory, NoForm}
+use Rattle.sync_frames.specs.declared.fields.PayloadError.{PayloadError}
+use Rattle.sync_frames.specs.declared.fields.PayloadError.TheVariants.{Memory, NoForm}
 use Rattle.sync_frames.specs.Reading.{Read, Stops, ◌>>=◌, judge, id_at, ids_at, is_next}
 
 abbrev Ids : Type 0
@@ -29,7 +29,7 @@ unfolding ids_at
 ids_next count done last bytes h = let e : count - done ≡ suc (count - (done + 1)) = omega arith in rw e refl
 
 -- Where no id can be read, none of the rest can.
-pub id_fails : (e : ReadError) (front : List UpdateId) (count done : ℕ) (last : Option UpdateId) (bytes : List ℕ) (total : Read (List UpdateId)) → done < count
+pub id_fails : (e : PayloadError) (front : List UpdateId) (count done : ℕ) (last : Option UpdateId) (bytes : List ℕ) (total : Read (List UpdateId)) → done < count
     → Stops e (id_at bytes) → with_front front (ids_at (count - done) last bytes) ≡ total → Stops e total
 id_fails Memory front count done last bytes total h stops so_far = tt
 id_fails NoForm front count done last bytes total h stops so_far =

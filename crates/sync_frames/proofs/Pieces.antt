@@ -6,10 +6,10 @@ use Rattle.sync_frames.specs.declared.frame.Frame.{Frame}
 use Rattle.sync_frames.specs.Stream.{AreSpelled, Spells, IsBegun, IsBroken}
 use Rattle.sync_frames.specs.Fed.{FedData, Feeds, IsFed, Fronts}
 use Rattle.std.specs.Prelude.{Option, None}
-use Rattle.sync_frames.specs.declared.fields.ReadError.{ReadError}
-use Rattle.sync_frames.specs.declared.fields.ReadError.TheVariants.{NoForm}
-use Rattle.sync_frames.specs.declared.finding.Found.{Found}
-use Rattle.sync_frames.specs.declared.finding.Found.TheVariants.{Partial, Broken, Whole}
+use Rattle.sync_frames.specs.declared.fields.PayloadError.{PayloadError}
+use Rattle.sync_frames.specs.declared.fields.PayloadError.TheVariants.{NoForm}
+use Rattle.sync_frames.specs.declared.finding.FoundFrame.{FoundFrame}
+use Rattle.sync_frames.specs.declared.finding.FoundFrame.TheVariants.{Partial, Broken, Whole}
 use Rattle.sync_frames.specs.Reading.{Finds, Stops}
 use Rattle.sync_frames.proofs.Splitting.{AreSpelled-append}
 
@@ -70,22 +70,22 @@ nothing_fed = record { none = λ h. absurd cc; begun = λ e. inl (omega arith) }
 
 -- ---- what was found behind the frames so far
 
-pub whole_behind : (bytes : List ℕ) (frames : List Frame) (len : ℕ) (found : Found) (frame : Frame) (more : ℕ) → found ≡ Whole frame more
+pub whole_behind : (bytes : List ℕ) (frames : List Frame) (len : ℕ) (found : FoundFrame) (frame : Frame) (more : ℕ) → found ≡ Whole frame more
     → Finds found (take (length bytes - len) (drop len bytes)) → SoFar bytes frames len → SoFar bytes (frames ++ frame ∷ []) (len + more)
 whole_behind bytes frames len found frame more is finds so_far =
-    let whole : Finds (Whole frame more) (drop len bytes) = subst (λ (f : Found). Finds f (drop len bytes)) is (subst (λ (w : List ℕ). Finds found w) (from_place bytes len) finds) in
+    let whole : Finds (Whole frame more) (drop len bytes) = subst (λ (f : FoundFrame). Finds f (drop len bytes)) is (subst (λ (w : List ℕ). Finds found w) (from_place bytes len) finds) in
     one_more bytes frames len frame more so_far whole.0 whole.2
 
-pub broken_behind : (bytes : List ℕ) (frames : List Frame) (len : ℕ) (found : Found) → found ≡ Broken
+pub broken_behind : (bytes : List ℕ) (frames : List Frame) (len : ℕ) (found : FoundFrame) → found ≡ Broken
     → Finds found (take (length bytes - len) (drop len bytes)) → SoFar bytes frames len → Fronts bytes frames len true
 broken_behind bytes frames len found is finds so_far =
-    fronts_broken bytes frames len so_far (subst (λ (f : Found). Finds f (drop len bytes)) is (subst (λ (w : List ℕ). Finds found w) (from_place bytes len) finds))
+    fronts_broken bytes frames len so_far (subst (λ (f : FoundFrame). Finds f (drop len bytes)) is (subst (λ (w : List ℕ). Finds found w) (from_place bytes len) finds))
 
-pub begun_behind : (bytes : List ℕ) (frames : List Frame) (len : ℕ) (found : Found) → found ≡ Partial
+pub begun_behind : (bytes : List ℕ) (frames : List Frame) (len : ℕ) (found : FoundFrame) → found ≡ Partial
     → Finds found (take (length bytes - len) (drop len bytes)) → SoFar bytes frames len → Fronts bytes frames len false
 begun_behind bytes frames len found is finds so_far =
-    fronts_begun bytes frames len so_far (subst (λ (f : Found). Finds f (drop len bytes)) is (subst (λ (w : List ℕ). Finds found w) (from_place bytes len) finds))
+    fronts_begun bytes frames len so_far (subst (λ (f : FoundFrame). Finds f (drop len bytes)) is (subst (λ (w : List ℕ). Finds found w) (from_place bytes len) finds))
 
 -- a reader that found no form
-pub no_form : (error : ReadError) (read : Option Frame) → error ≡ NoForm → Stops error read → read ≡ None
-no_form error read is stops = subst (λ (e : ReadError). Stops e read) is stops
+pub no_form : (error : PayloadError) (read : Option Frame) → error ≡ NoForm → Stops error read → read ≡ None
+no_form error read is stops = subst (λ (e : PayloadError). Stops e read) is stops

@@ -8,10 +8,10 @@ use Rattle.bloom_summary.specs.declared.limits.TheConstants.{MAX_SUMMARY_BYTES}
 use Rattle.sync_frames.specs.declared.limits.TheConstants.{MAX_OLD, MAX_NEEDS}
 use Rattle.sync_frames.specs.declared.frame.Frame.{Frame}
 use Rattle.sync_frames.specs.declared.frame.Frame.TheVariants as frames
-use Rattle.sync_frames.specs.declared.fields.ReadError.{ReadError}
-use Rattle.sync_frames.specs.declared.fields.ReadError.TheVariants.{Memory, NoForm}
-use Rattle.sync_frames.specs.declared.finding.Found.{Found}
-use Rattle.sync_frames.specs.declared.finding.Found.TheVariants.{Partial, Broken, Whole}
+use Rattle.sync_frames.specs.declared.fields.PayloadError.{PayloadError}
+use Rattle.sync_frames.specs.declared.fields.PayloadError.TheVariants.{Memory, NoForm}
+use Rattle.sync_frames.specs.declared.finding.FoundFrame.{FoundFrame}
+use Rattle.sync_frames.specs.declared.finding.FoundFrame.TheVariants.{Partial, Broken, Whole}
 use Rattle.sync_frames.specs.Payload.{HelloData, TurnData}
 use Rattle.sync_frames.specs.Stream.{IsBegun, IsBroken, Spells}
 
@@ -26,12 +26,12 @@ abbrev pub ◌>>=◌ : {A B : Type 0} → Option A → (A → Option B) → Opti
 None >>= f = None
 
 -- a reader failed as this reading does
-abbrev pub Stops : {Y : Type 0} → ReadError → Option Y → Type 0
+abbrev pub Stops : {Y : Type 0} → PayloadError → Option Y → Type 0
 Stops Memory read = Unit {0}
 Stops NoForm read = read ≡ None
 
 -- what a reader returned, seen by view, is this reading, unless memory ran out
-abbrev pub Gives : {X Y : Type 0} → (X → Y) → Result X ReadError → Option Y → Type 0
+abbrev pub Gives : {X Y : Type 0} → (X → Y) → Result X PayloadError → Option Y → Type 0
 Gives view (Ok x) read = read ≡ Some (view x)
 Gives view (Err error) read = Stops error read
 
@@ -121,7 +121,7 @@ frame_in kind payload =
     else turn_in payload >>= λ turn. Some (frames.Turn turn)
 
 -- less than a frame; what is none; or a frame, of so many bytes
-abbrev pub Finds : Found → List ℕ → Type 0
+abbrev pub Finds : FoundFrame → List ℕ → Type 0
 Finds Partial bytes = IsBegun bytes
 Finds Broken bytes = IsBroken bytes
 Finds (Whole frame len) bytes = (len ≤ length bytes) × (5 ≤ len) × Spells frame (take len bytes)

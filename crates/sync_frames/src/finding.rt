@@ -5,7 +5,7 @@ ghost use Rattle.sync_frames.specs.Stream.{is_head, length_of};
 ghost use Rattle.sync_frames.specs.Reading.{Finds};
 ghost use Rattle.sync_frames.specs.Fed.{Fronts};
 
-use crate::fields::ReadError;
+use crate::fields::PayloadError;
 use crate::payloads::frame_of;
 use crate::{Frame, PAYLOAD_LIMIT};
 use byteorder::{BigEndian, ByteOrder};
@@ -14,7 +14,7 @@ use update_codec::UPDATE_LIMIT;
 
 /// What stands at the front of some bytes.
 #[derive(Debug, Drop)]
-pub(crate) enum Found {
+pub(crate) enum FoundFrame {
     /// Less than a frame.
     Partial,
     /// Something that is no frame.
@@ -50,24 +50,24 @@ fn length_at(bytes: &[u8]) -> u32
 }
 
 /// What stands at the front.
-fn find_frame(alloc: Global, bytes: &[u8]) -> Result<Found, AllocError>
+fn find_frame(alloc: Global, bytes: &[u8]) -> Result<FoundFrame, AllocError>
     ensures { IfOk result (λ found. Finds found bytes.now) }
 {
     if bytes.len() < 5 {
-        return Ok(Found::Partial);
+        return Ok(FoundFrame::Partial);
     }
     let len = length_at(bytes);
     if !head_is_fine(bytes[0], len) {
-        return Ok(Found::Broken);
+        return Ok(FoundFrame::Broken);
     }
     let end = 5 + len as usize;
     if bytes.len() < end {
-        return Ok(Found::Partial);
+        return Ok(FoundFrame::Partial);
     }
     match frame_of(alloc, bytes[0], &bytes[5..end]) {
-        Ok(frame) => Ok(Found::Whole(frame, end)),
-        Err(ReadError::NoForm) => Ok(Found::Broken),
-        Err(ReadError::Memory) => Err(AllocError),
+        Ok(frame) => Ok(FoundFrame::Whole(frame, end)),
+        Err(PayloadError::NoForm) => Ok(FoundFrame::Broken),
+        Err(PayloadError::Memory) => Err(AllocError),
     }
 }
 
@@ -79,18 +79,18 @@ pub(crate) fn split(alloc: Global, bytes: &[u8]) -> Result<Front, AllocError>
     let mut len = 0;
     loop {
         match find_frame(alloc, &bytes[len..])? {
-            Found::Whole(frame, more) => {
+            FoundFrame::Whole(frame, more) => {
                 frames.push(frame)?;
                 len += more;
             }
-            Found::Partial => {
+            FoundFrame::Partial => {
                 return Ok(Front {
                     frames,
                     len,
                     broken: false,
                 });
             }
-            Found::Broken => {
+            FoundFrame::Broken => {
                 return Ok(Front {
                     frames,
                     len,

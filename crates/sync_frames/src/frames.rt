@@ -6,7 +6,8 @@ use crate::{FeedError, Frame, FrameFault};
 use std::alloc::Global;
 use std::marker::Model;
 
-/// A decoder of a stream of frames. A contract sees how many bytes the frames that were given have, and what came since.
+/// A decoder of a stream of frames. A contract sees how many bytes the frames that were given have, and what came
+/// since.
 ///
 /// It takes memory for the bytes of one frame, and for what a piece brings besides.
 #[derive(Debug, Drop)]
@@ -44,8 +45,8 @@ impl Frames {
     /// Takes the next bytes of the stream, and gives the frames that are whole now and were not before.
     ///
     /// The stream's frames are given in order, each once, however it is cut into pieces: see
-    /// [`one_split`](crate::one_split) and [`pieces_join`](crate::pieces_join). [`FeedError::Fault`] comes exactly where
-    /// what follows the frames that were given is no frame; frames that were whole before it are given first. It
+    /// [`one_split`](crate::one_split) and [`pieces_join`](crate::pieces_join). [`FeedError::Fault`] comes exactly
+    /// where what follows the frames that were given is no frame; frames that were whole before it are given first. It
     /// names the fault's first byte, and every later call answers the same. Kind and length are judged as soon as five
     /// bytes are there. An `Err` changes nothing, so a call that lacked memory may be made again with its piece.
     ///
@@ -74,7 +75,8 @@ impl Frames {
         }
     }
 
-    /// How many bytes the frames that were given have; after a fault, its place. It stays at 2^64 - 1 when it comes there.
+    /// How many bytes the frames that were given have; after a fault, its place. It stays at 2^64 - 1 when it comes
+    /// there.
     pub fn place(&self) -> u64
         ensures { result ≡ self.now.place }
     {

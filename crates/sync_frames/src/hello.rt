@@ -9,8 +9,8 @@ use update_model::{ByteList, IdList, MAX_MEMBERS};
 
 /// How an end of a session greets the other.
 ///
-/// Its type keeps that both lists of ids rise, and that there are no more than 131,072 heads, 4,096 old heads and 163,840
-/// bytes of a filter.
+/// Its type keeps that both lists of ids rise, and that there are no more than 131,072 heads, 4,096 old heads and
+/// 163,840 bytes of a filter.
 #[derive(Debug, Drop)]
 pub struct Hello {
     /// The id of the database.
@@ -30,9 +30,21 @@ impl Model for Hello {
 
     ghost Value = { HelloData };
 
-    ghost view = { λ hello. record { database = hello.database; node = hello.node; heads = hello.heads; old = hello.old; filter = hello.filter } };
+    ghost view = { λ hello. record {
+      database = hello.database;
+      node = hello.node;
+      heads = hello.heads;
+      old = hello.old;
+      filter = hello.filter;
+    } };
 
-    ghost invariant = { λ hello. IsHello (record { database = hello.database; node = hello.node; heads = hello.heads; old = hello.old; filter = hello.filter }) };
+    ghost invariant = { λ hello. IsHello (record {
+      database = hello.database;
+      node = hello.node;
+      heads = hello.heads;
+      old = hello.old;
+      filter = hello.filter;
+    }) };
 }
 
 impl Hello {

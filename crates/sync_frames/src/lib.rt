@@ -1,9 +1,9 @@
 //! The frames of a session between two nodes: reading them from a stream that comes in any pieces, and writing them.
 //!
 //! A frame is a kind, the length of its payload in four bytes, and the payload. A Hello (kind 1) tells the version, the
-//! database, the node, the heads of what the node holds, the heads that it remembers of the other, and a summary of what
-//! it has had since then. An Item (kind 2) is the bytes of an update. A Turn (kind 3) ends a turn: it says whether all
-//! heads of the other's Hello are held, and else asks for ids.
+//! database, the node, the heads of what the node holds, the heads that it remembers of the other, and a summary of
+//! what it has had since then. An Item (kind 2) is the bytes of an update. A Turn (kind 3) ends a turn: it says whether
+//! all heads of the other's Hello are held, and else asks for ids.
 //!
 //! ```text
 //! let mut frames = Frames::new(alloc);
@@ -13,8 +13,8 @@
 //! let bytes = write_turn(alloc, &Turn::all_held(alloc))?;
 //! ```
 //!
-//! How a stream is cut into pieces makes no difference: see [`one_split`], [`pieces_join`] and [`faults_stay`]. A fault is told at once
-//! where kind or length is wrong, and else when the frame is whole. What a writer wrote is read again.
+//! How a stream is cut into pieces makes no difference: see [`one_split`], [`pieces_join`] and [`faults_stay`]. A fault
+//! is told at once where kind or length is wrong, and else when the frame is whole. What a writer wrote is read again.
 //!
 //! It judges no update (see `update_check`) and no order of frames: both are a session's.
 #![tactic(auto)]

@@ -42,8 +42,8 @@ impl Session {
         }
     }
 
-    /// The ids to remember of the peer: of a session that is done the least 4,096 of both Hellos' heads, and of any other
-    /// none.
+    /// The ids to remember of the peer: of a session that is done the least 4,096 of both Hellos' heads, and of any
+    /// other none.
     pub fn remembered(&self, alloc: Global) -> Result<IdList, AllocError>
         ensures remembers { IfOk result (RemembersBy self.now.failed self.now) }
         ensures few { IfOk result (λ ids. length ids ≤ MAX_NEEDS) }
@@ -65,7 +65,8 @@ fn least_heads(
     heads: &[UpdateId],
     peer: &Option<Hello>,
 ) -> Result<IdList, AllocError>
-    ensures least { IfOk result (AreLeast (λ id. has heads.now id || has (heads_in (option_map hello_of peer.now)) id) MAX_NEEDS) }
+    ensures least { IfOk result (AreLeast (λ id. has heads.now id || has (heads_in (option_map hello_of peer.now)) id)
+        MAX_NEEDS) }
     ensures few { IfOk result (λ ids. length ids ≤ MAX_NEEDS) }
     ensures rising { IfOk result (λ ids. IsStrictlySortedBy id_cmp ids) }
 {

@@ -73,7 +73,8 @@ pub(crate) fn burst<H: Holder>(
 ) -> Result<Vec<u32>, AllocError>
     requires within { below ≤ length (H.members holder.now) }
     requires closed { IsClosed (map entry_of (H.members holder.now)) }
-    ensures exact { IfOk result (λ positions. IsBurst (take below (map entry_of (H.members holder.now))) peer.now.old (is_member peer.now.filter)
+    ensures exact { IfOk result (λ positions. IsBurst (take below (map entry_of (H.members holder.now))) peer.now.old
+        (is_member peer.now.filter)
         (filter_map (slice_get (map entry_of (H.members holder.now))) positions.items)) }
     ensures within { IfOk result (λ positions. All (λ p. p < length (H.members holder.now)) positions.items) }
 {

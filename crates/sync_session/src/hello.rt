@@ -7,7 +7,8 @@ ghost use Rattle.update_check.specs.Holding.{IsHeld};
 ghost use Rattle.update_codec.specs.Parts.{entry_of};
 ghost use Rattle.update_model.specs.Batch.{Limits};
 ghost use Rattle.update_model.specs.Entry.{Entry};
-ghost use Rattle.sync_session.specs.Kept.{hello_fault_at, hello_of, out_of, reading_of, seen, with_hello, with_peer, GreetsOver, IsRunning, Stands};
+ghost use Rattle.sync_session.specs.Kept.{hello_fault_at, hello_of, out_of, reading_of, seen, with_hello, with_peer};
+ghost use Rattle.sync_session.specs.Kept.{GreetsOver, IsRunning, Stands};
 ghost use Rattle.sync_session.specs.Wants.{SeeksToo};
 
 use crate::greeting::burst;
@@ -32,8 +33,10 @@ impl Session {
         requires running { IsRunning self.old }
         requires stands { Stands (H.rule holder.now) self.old (H.members holder.now) }
         ensures takes { IfOk result (λ out. (limits : Limits) →
-            Takes limits (seen (H.members holder.now) self.old) (map entry_of (H.members holder.now)) (hello_frame (hello_of hello))
-            (seen (H.members holder.now) self.new) (out_of (map entry_of (H.members holder.now)) out) (map entry_of (H.members holder.now))) }
+            Takes limits (seen (H.members holder.now) self.old) (map entry_of (H.members holder.now))
+            (hello_frame (hello_of hello))
+            (seen (H.members holder.now) self.new) (out_of (map entry_of (H.members holder.now)) out)
+            (map entry_of (H.members holder.now))) }
         ensures within { IfOk result (λ out. All (λ p. p < length (H.members holder.now)) out.send) }
         ensures stands { OnOk result (Stands (H.rule holder.now) self.new (H.members holder.now)) }
         ensures failed { OnOk result (self.new.failed ≡ self.old.failed) }
@@ -71,7 +74,8 @@ impl Session {
     ) -> Result<Out, AllocError>
         requires running { IsRunning self.old }
         requires stands { Stands (H.rule holder.now) self.old (H.members holder.now) }
-        ensures greets { IfOk result (λ out. GreetsOver (map entry_of (H.members holder.now)) hello self.old self.new out) }
+        ensures greets { IfOk result (λ out. GreetsOver (map entry_of (H.members holder.now)) hello self.old self.new
+            out) }
         ensures within { IfOk result (λ out. All (λ p. p < length (H.members holder.now)) out.send) }
         ensures below { OnOk result (self.new.below ≡ length (H.members holder.now)) }
     {
@@ -89,7 +93,8 @@ impl Session {
     ) -> Result<Out, AllocError>
         requires running { IsRunning self.old }
         requires stands { Stands (H.rule holder.now) self.old (H.members holder.now) }
-        ensures greets { IfOk result (λ out. GreetsOver (map entry_of (H.members holder.now)) hello.now self.old (with_peer hello.now self.new) out) }
+        ensures greets { IfOk result (λ out. GreetsOver (map entry_of (H.members holder.now)) hello.now self.old
+            (with_peer hello.now self.new) out) }
         ensures within { IfOk result (λ out. All (λ p. p < length (H.members holder.now)) out.send) }
         ensures below { OnOk result (self.new.below ≡ length (H.members holder.now)) }
     {

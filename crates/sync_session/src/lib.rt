@@ -1,8 +1,9 @@
-//! One end of a session: it takes the peer's frames one by one, adds what comes to its holder, and says what is to be sent.
+//! One end of a session: it takes the peer's frames one by one, adds what comes to its holder, and says what is to be
+//! sent.
 //!
-//! The holder is any `Holder` of `update_check`. [`Session::start`] begins, and [`Session::step`] takes a frame. What each
-//! does is what the rules of `session_rules` say, on the list that the holder has at that moment. Between two calls the
-//! list may grow.
+//! The holder is any `Holder` of `update_check`. [`Session::start`] begins, and [`Session::step`] takes a frame. What
+//! each does is what the rules of `session_rules` say, on the list that the holder has at that moment. Between two
+//! calls the list may grow.
 //!
 //! ```text
 //! let (mut session, out) = Session::start(alloc, &holder, Role::Initiator, database, node, recalled)?;
@@ -14,7 +15,8 @@
 //! let ids = session.remembered(alloc)?;
 //! ```
 //!
-//! It reads no bytes (see `sync_frames`) and checks no update (see `update_check`). It carries nothing between two ends.
+//! It reads no bytes (see `sync_frames`) and checks no update (see `update_check`). It carries nothing between two
+//! ends.
 #![tactic(auto)]
 
 mod answers;
@@ -32,10 +34,10 @@ mod pair;
 mod pending;
 mod reading;
 mod session;
-mod settle;
 mod sought;
 mod start;
 mod step;
+mod taking;
 mod turn;
 
 pub use checked_frame::CheckedFrame;

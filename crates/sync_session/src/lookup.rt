@@ -1,5 +1,5 @@
-//! What a session asks its holder, by the holder's list and the first part of it that is the start set; and whether an id
-//! is among others.
+//! What a session asks its holder, by the holder's list and the first part of it that is the start set; and whether an
+//! id is among others.
 
 ghost use Rattle.std.specs.Prelude.{◌≡◌, ◌<◌, ◌≤◌, All, map, take, length, not, find, filter_map, slice_get, IfOk};
 ghost use Rattle.std.specs.List.{list_all};
@@ -45,14 +45,16 @@ pub(crate) fn first_unknown<H: Holder>(holder: &H, below: u32, ids: &[UpdateId])
     None
 }
 
-/// The positions of the updates with these ids among the first so many, in the order of the ids. Other ids are passed over.
+/// The positions of the updates with these ids among the first so many, in the order of the ids. Other ids are passed
+/// over.
 pub(crate) fn positions_of<H: Holder>(
     alloc: Global,
     holder: &H,
     below: u32,
     ids: &[UpdateId],
 ) -> Result<Vec<u32>, AllocError>
-    ensures exact { IfOk result (λ positions. filter_map (slice_get (map entry_of (H.members holder.now))) positions.items
+    ensures exact { IfOk result (λ positions. filter_map (slice_get (map entry_of (H.members holder.now)))
+        positions.items
         ≡ answers (take below (map entry_of (H.members holder.now))) ids.now) }
     ensures within { IfOk result (λ positions. All (λ p. p < length (H.members holder.now)) positions.items) }
 {

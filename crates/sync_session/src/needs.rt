@@ -18,8 +18,8 @@ use std::collections::BTreeSet;
 use update_check::Holder;
 use update_model::UpdateId;
 
-/// The least ids, as many as a turn asks for, that are heads of the peer's Hello or predecessors of what waits, are neither
-/// held nor wait, and were not asked for before.
+/// The least ids, as many as a turn asks for, that are heads of the peer's Hello or predecessors of what waits, are
+/// neither held nor wait, and were not asked for before.
 ///
 /// They are taken out of what is sought, and with them whatever stands below them there: that is held, waits, was asked
 /// for or is named no longer, all for good. So no id is looked at twice.
@@ -32,9 +32,12 @@ pub(crate) fn needs<H: Holder>(
     sought: &mut Sought,
 ) -> Result<Vec<UpdateId>, AllocError>
     requires settled { pending.now.gathered ≡ [] }
-    requires sought { AreSought heads.now (map entry_of (H.members holder.now)) pending.now (keys asked.now) (keys_in sought.old) }
-    ensures least { IfOk result (λ ids. AreLeast (is_wanted heads.now (map entry_of (H.members holder.now)) (map entry_of pending.now.waiting) (keys asked.now)) MAX_NEEDS ids.items) }
-    ensures left { IfOk result (λ ids. StaySought (is_wanted heads.now (map entry_of (H.members holder.now)) (map entry_of pending.now.waiting) (keys asked.now)) ids.items (keys_in sought.new)) }
+    requires sought { AreSought heads.now (map entry_of (H.members holder.now)) pending.now (keys asked.now)
+        (keys_in sought.old) }
+    ensures least { IfOk result (λ ids. AreLeast (is_wanted heads.now (map entry_of (H.members holder.now))
+        (map entry_of pending.now.waiting) (keys asked.now)) MAX_NEEDS ids.items) }
+    ensures left { IfOk result (λ ids. StaySought (is_wanted heads.now (map entry_of (H.members holder.now))
+        (map entry_of pending.now.waiting) (keys asked.now)) ids.items (keys_in sought.new)) }
 {
     sought.len(); // its ids rise
     let mut ids = Vec::new(alloc);
@@ -57,7 +60,8 @@ fn is_open<H: Holder>(
     asked: &BTreeSet<UpdateId>,
 ) -> bool
     requires { pending.now.gathered ≡ [] }
-    ensures { result ≡ is_open (map entry_of (H.members holder.now)) (map entry_of pending.now.waiting) (keys asked.now) id.now }
+    ensures { result ≡ is_open (map entry_of (H.members holder.now)) (map entry_of pending.now.waiting) (keys asked.now)
+        id.now }
 {
     if holder.position(id).is_some() {
         return false;
@@ -68,8 +72,8 @@ fn is_open<H: Holder>(
     !asked.contains(id)
 }
 
-/// Whether an id is a head, or a predecessor of what waits. The one that named it is looked at first: it still does, unless
-/// two updates share an id.
+/// Whether an id is a head, or a predecessor of what waits. The one that named it is looked at first: it still does,
+/// unless two updates share an id.
 fn is_named(heads: &[UpdateId], pending: &Pending, id: &UpdateId, namer: Option<UpdateId>) -> bool
     ensures { result ≡ (has heads.now id.now || names (map entry_of pending.now.waiting) id.now) }
 {

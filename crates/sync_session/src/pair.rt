@@ -20,7 +20,8 @@ use std::alloc::{AllocError, Global};
 use update_check::{Holder, no_cause};
 use update_model::IdList;
 
-/// What two ends begin with. Each list of ids rises and has at most 4,096: what that end remembers of the other, or none.
+/// What two ends begin with. Each list of ids rises and has at most 4,096: what that end remembers of the other, or
+/// none.
 #[derive(Drop)]
 pub struct PairStart {
     /// The id of the database that the first end speaks of.
@@ -60,13 +61,14 @@ pub struct PairEnd {
 
 /// Syncs two holders: runs a session between them, of which the first is the initiator, up to its end.
 ///
-/// The frames are handed over as values, in order. An update that is not under the receiver's rule arrives as a bad one, which
-/// ends the session. Where both holders have one rule and the ends one database, no two updates of theirs share an id, no
-/// end is full and no disk fails, both lists are then the union of what both were; and where that union is within the limits
-/// of both, no end is full.
+/// The frames are handed over as values, in order. An update that is not under the receiver's rule arrives as a bad
+/// one, which ends the session. Where both holders have one rule and the ends one database, no two updates of theirs
+/// share an id, no end is full and no disk fails, both lists are then the union of what both were; and where that union
+/// is within the limits of both, no end is full.
 ///
-/// Whatever comes, want of memory included, each list begins with the one before, and what it gained was in one of both lists.
-/// The end is `Store` only where a holder's count of faults rose. Where it is `Done`, two holders that were whole are whole.
+/// Whatever comes, want of memory included, each list begins with the one before, and what it gained was in one of both
+/// lists. The end is `Store` only where a holder's count of faults rose. Where it is `Done`, two holders that were
+/// whole are whole.
 pub fn sync_pair<A: Holder, B: Holder>(
     alloc: Global,
     a: &mut A,
@@ -77,18 +79,25 @@ pub fn sync_pair<A: Holder, B: Holder>(
     requires rising_a { IsStrictlySortedBy id_cmp start.old_a }
     requires few_b { length start.old_b ≤ MAX_NEEDS }
     requires rising_b { IsStrictlySortedBy id_cmp start.old_b }
-    ensures syncs { IfOk result (λ ended. Syncs (A.limits a.old) (B.limits b.old) (A.rule a.old) (B.rule b.old) start (A.members a.old) (B.members b.old) ended (A.members a.new) (B.members b.new)) }
+    ensures syncs { IfOk result (λ ended. Syncs (A.limits a.old) (B.limits b.old) (A.rule a.old) (B.rule b.old) start
+        (A.members a.old) (B.members b.old) ended (A.members a.new) (B.members b.new)) }
     ensures unites { IfOk result (λ ended. A.rule a.old ≡ B.rule b.old → start.database_a ≡ start.database_b
-        → NoCollision (map entry_of (A.members a.old)) (map entry_of (B.members b.old)) → ended.a ≢ full → ended.a ≢ store
+        → NoCollision (map entry_of (A.members a.old)) (map entry_of (B.members b.old)) → ended.a ≢ full
+        → ended.a ≢ store
         → Unites (A.members a.old) (B.members b.old) ended (A.members a.new) (B.members b.new)) }
     ensures room { IfOk result (λ ended. NoCollision (map entry_of (A.members a.old)) (map entry_of (B.members b.old))
-        → HasRoom (A.limits a.old) (A.members a.old) (B.members b.old) → HasRoom (B.limits b.old) (B.members b.old) (A.members a.old) → ended.a ≢ full) }
-    ensures store { IfOk result (λ ended. ended.a ≡ store → Rose (A.faults a.old) (A.faults a.new) ⊎ Rose (B.faults b.old) (B.faults b.new)) }
+        → HasRoom (A.limits a.old) (A.members a.old) (B.members b.old)
+        → HasRoom (B.limits b.old) (B.members b.old) (A.members a.old) → ended.a ≢ full) }
+    ensures store { IfOk result (λ ended. ended.a ≡ store → Rose (A.faults a.old) (A.faults a.new)
+        ⊎ Rose (B.faults b.old) (B.faults b.new)) }
     ensures keeps_a { A.keeps a.old a.new }
     ensures keeps_b { B.keeps b.old b.new }
-    ensures whole { A.is_whole a.old → B.is_whole b.old → IfOk result (λ ended. ended.a ≡ done → A.is_whole a.new × B.is_whole b.new) }
-    ensures moves_a { Moves (A.members a.old ++ B.members b.old) (A.limits a.old) (A.rule a.old) (A.members a.old) (A.faults a.old) (A.limits a.new) (A.rule a.new) (A.members a.new) (A.faults a.new) }
-    ensures moves_b { Moves (A.members a.old ++ B.members b.old) (B.limits b.old) (B.rule b.old) (B.members b.old) (B.faults b.old) (B.limits b.new) (B.rule b.new) (B.members b.new) (B.faults b.new) }
+    ensures whole { A.is_whole a.old → B.is_whole b.old → IfOk result (λ ended. ended.a ≡ done → A.is_whole a.new
+        × B.is_whole b.new) }
+    ensures moves_a { Moves (A.members a.old ++ B.members b.old) (A.limits a.old) (A.rule a.old) (A.members a.old)
+        (A.faults a.old) (A.limits a.new) (A.rule a.new) (A.members a.new) (A.faults a.new) }
+    ensures moves_b { Moves (A.members a.old ++ B.members b.old) (B.limits b.old) (B.rule b.old) (B.members b.old)
+        (B.faults b.old) (B.limits b.new) (B.rule b.new) (B.members b.new) (B.faults b.new) }
 {
     no_cause();
     a.len(); // what every holder keeps
@@ -116,13 +125,19 @@ fn run<A: Holder, B: Holder>(
 ) -> Result<PairEnd, AllocError>
     requires fresh_a { IsFresh initiator session_a.old }
     requires fresh_b { IsFresh responder session_b.old }
-    ensures syncs { IfOk result (λ ended. Syncs (A.limits a.old) (B.limits b.old) (A.rule a.old) (B.rule b.old) (start_of session_a.old session_b.old) (A.members a.old) (B.members b.old) ended (A.members a.new) (B.members b.new)) }
-    ensures store { IfOk result (λ ended. ended.a ≡ store → Rose (A.faults a.old) (A.faults a.new) ⊎ Rose (B.faults b.old) (B.faults b.new)) }
+    ensures syncs { IfOk result (λ ended. Syncs (A.limits a.old) (B.limits b.old) (A.rule a.old) (B.rule b.old)
+        (start_of session_a.old session_b.old) (A.members a.old) (B.members b.old) ended (A.members a.new)
+        (B.members b.new)) }
+    ensures store { IfOk result (λ ended. ended.a ≡ store → Rose (A.faults a.old) (A.faults a.new)
+        ⊎ Rose (B.faults b.old) (B.faults b.new)) }
     ensures keeps_a { A.keeps a.old a.new }
     ensures keeps_b { B.keeps b.old b.new }
-    ensures whole { A.is_whole a.old → B.is_whole b.old → IfOk result (λ ended. ended.a ≡ done → A.is_whole a.new × B.is_whole b.new) }
-    ensures moves_a { Moves (A.members a.old ++ B.members b.old) (A.limits a.old) (A.rule a.old) (A.members a.old) (A.faults a.old) (A.limits a.new) (A.rule a.new) (A.members a.new) (A.faults a.new) }
-    ensures moves_b { Moves (A.members a.old ++ B.members b.old) (B.limits b.old) (B.rule b.old) (B.members b.old) (B.faults b.old) (B.limits b.new) (B.rule b.new) (B.members b.new) (B.faults b.new) }
+    ensures whole { A.is_whole a.old → B.is_whole b.old → IfOk result (λ ended. ended.a ≡ done → A.is_whole a.new
+        × B.is_whole b.new) }
+    ensures moves_a { Moves (A.members a.old ++ B.members b.old) (A.limits a.old) (A.rule a.old) (A.members a.old)
+        (A.faults a.old) (A.limits a.new) (A.rule a.new) (A.members a.new) (A.faults a.new) }
+    ensures moves_b { Moves (A.members a.old ++ B.members b.old) (B.limits b.old) (B.rule b.old) (B.members b.old)
+        (B.faults b.old) (B.limits b.new) (B.rule b.new) (B.members b.new) (B.faults b.new) }
 {
     let mut out = meet(alloc, a, session_a, b, session_b)?;
     'rounds: while out.turn.is_some() {
@@ -132,8 +147,8 @@ fn run<A: Holder, B: Holder>(
     closed(alloc, session_a, session_b, out.end.unwrap())
 }
 
-/// Begins a session at two ends that are fresh: hands the first end's Hello to the second. What that one answers is to be
-/// carried.
+/// Begins a session at two ends that are fresh: hands the first end's Hello to the second. What that one answers is to
+/// be carried.
 fn meet<A: Holder, B: Holder>(
     alloc: Global,
     a: &A,
@@ -143,9 +158,12 @@ fn meet<A: Holder, B: Holder>(
 ) -> Result<Out, AllocError>
     requires fresh_a { IsFresh initiator session_a.old }
     requires fresh_b { IsFresh responder session_b.old }
-    ensures going { IfOk result (λ out. Going (start_of session_a.old session_b.old) (A.limits a.now) (B.limits b.old) (A.rule a.now) (B.rule b.old) (A.members a.now) (B.members b.old) (A.faults a.now) (B.faults b.old)
-        session_a.new (A.members a.now) (A.limits a.now) (A.rule a.now) (A.faults a.now) session_b.new (B.members b.new) (B.limits b.new) (B.rule b.new) (B.faults b.new) out) }
-    ensures moves { Moves (A.members a.now ++ B.members b.old) (B.limits b.old) (B.rule b.old) (B.members b.old) (B.faults b.old) (B.limits b.new) (B.rule b.new) (B.members b.new) (B.faults b.new) }
+    ensures going { IfOk result (λ out. Going (start_of session_a.old session_b.old) (A.limits a.now) (B.limits b.old)
+        (A.rule a.now) (B.rule b.old) (A.members a.now) (B.members b.old) (A.faults a.now) (B.faults b.old)
+        session_a.new (A.members a.now) (A.limits a.now) (A.rule a.now) (A.faults a.now) session_b.new (B.members b.new)
+        (B.limits b.new) (B.rule b.new) (B.faults b.new) out) }
+    ensures moves { Moves (A.members a.now ++ B.members b.old) (B.limits b.old) (B.rule b.old) (B.members b.old)
+        (B.faults b.old) (B.limits b.new) (B.rule b.new) (B.members b.new) (B.faults b.new) }
     ensures keeps { B.keeps b.old b.new }
     ensures whole { B.is_whole b.old → IfOk result (λ out. IsUnrefused out → B.is_whole b.new) }
 {

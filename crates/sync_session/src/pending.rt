@@ -11,8 +11,9 @@ use std::mem;
 use update_check::Checked;
 use update_model::{MAX_BYTES, MAX_MEMBERS, Member, UpdateId};
 
-/// The updates of a session that its holder does not have yet: those that wait for predecessors since an earlier commit,
-/// and those that were gathered since. They are found by id: each id has a place in the one list behind the other.
+/// The updates of a session that its holder does not have yet: those that wait for predecessors since an earlier
+/// commit, and those that were gathered since. They are found by id: each id has a place in the one list behind the
+/// other.
 #[derive(Drop)]
 pub(crate) struct Pending {
     waiting: Vec<Checked>,
@@ -46,14 +47,15 @@ impl Pending {
 
     /// Whether an update with this id was gathered or waits.
     pub fn contains(&self, id: &UpdateId) -> bool
-        ensures found { result ≡ (holds (map entry_of self.now.gathered) id.now || holds (map entry_of self.now.waiting) id.now) }
+        ensures found { result ≡ (holds (map entry_of self.now.gathered) id.now || holds (map entry_of self.now.waiting)
+            id.now) }
         ensures within { is_within (entries_in self.now) ≡ true }
     {
         self.ids.contains_key(id)
     }
 
-    /// Whether an update that waits with this id has an id as a predecessor. Where two share the id, the other one is not
-    /// looked at.
+    /// Whether an update that waits with this id has an id as a predecessor. Where two share the id, the other one is
+    /// not looked at.
     pub fn is_named_by(&self, namer: &UpdateId, id: &UpdateId) -> bool
         ensures { result ≡ true → names (map entry_of self.now.waiting) id.now ≡ true }
     {
@@ -89,7 +91,10 @@ impl Pending {
     /// Gathers an update, for which there is room.
     pub fn gather(&mut self, update: Checked) -> Result<(), AllocError>
         requires { has_room_for self.old update ≡ true }
-        ensures { OnOk result (self.new ≡ record { waiting = self.old.waiting; gathered = self.old.gathered ++ update ∷ [] }) }
+        ensures { OnOk result (self.new ≡ record {
+          waiting = self.old.waiting;
+          gathered = self.old.gathered ++ update ∷ [];
+        }) }
     {
         let place = self.waiting.len() + self.gathered.len();
         self.gathered.reserve(1)?;

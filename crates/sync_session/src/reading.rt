@@ -1,5 +1,6 @@
 ghost use Rattle.std.specs.Prelude.{◌≡◌, ◌<◌, IfNone, Some, None, if◌then◌else◌, cond, not, ◌&&◌};
-ghost use Rattle.session_rules.specs.declared.peer_fault.PeerFault.TheVariants.{OutOfTurn as out_of_turn, TakenBack as taken_back_fault};
+ghost use Rattle.session_rules.specs.declared.peer_fault.PeerFault.TheVariants.{OutOfTurn as out_of_turn};
+ghost use Rattle.session_rules.specs.declared.peer_fault.PeerFault.TheVariants.{TakenBack as taken_back_fault};
 ghost use Rattle.session_rules.specs.declared.limits.TheConstants.{MAX_ITEMS};
 ghost use Rattle.session_rules.specs.Steps.{after_item, answer_fault, in_burst, is_first, takes_hello, takes_item};
 ghost use Rattle.sync_session.specs.Kept.{reading_of, turn_fault_at, turn_of};
@@ -22,7 +23,8 @@ pub(crate) enum Reading {
 
 /// Which fault an update with this id shows here, after so many updates of its turn.
 pub(crate) fn item_fault(reading: &Reading, items: u32, id: UpdateId) -> Option<PeerFault>
-    ensures fault { result ≡ (if takes_item (reading_of reading.now) items then answer_fault (reading_of reading.now) id else Some out_of_turn) }
+    ensures fault { result ≡ (if takes_item (reading_of reading.now) items then answer_fault (reading_of reading.now)
+        id else Some out_of_turn) }
     ensures few { IfNone result (items < MAX_ITEMS) }
 {
     match reading {

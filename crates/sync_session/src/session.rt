@@ -1,4 +1,5 @@
-ghost use Rattle.std.specs.Prelude.{◌≡◌, ◌++◌, ◌∷◌, [], ◌+◌, ◌<◌, ◌≤◌, ◌^◌, ◌&&◌, ◌||◌, true, ℕ, IfOk, OnOk, List, length, map, take};
+ghost use Rattle.std.specs.Prelude.{◌≡◌, ◌++◌, ◌∷◌, [], ◌+◌, ◌<◌, ◌≤◌, ◌^◌, ◌&&◌, ◌||◌, true, ℕ, IfOk, OnOk, List};
+ghost use Rattle.std.specs.Prelude.{length, map, take};
 ghost use Rattle.std.specs.BTreeSet.{keys};
 ghost use Rattle.session_rules.specs.State.{Item as item, BadItem as bad_item};
 ghost use Rattle.session_rules.specs.Steps.{closing, in_burst, Takes};
@@ -117,7 +118,11 @@ impl Session {
         requires running { IsRunning self.old }
         requires few { self.old.state.items < MAX_ITEMS }
         requires room { has_room_for self.old.pending update ≡ true }
-        ensures state { OnOk result (self.new ≡ record (with_item self.old (record { waiting = self.old.pending.waiting; gathered = self.old.pending.gathered ++ update ∷ [] })) { sought = self.new.sought }) }
+        ensures state { OnOk result
+            (self.new ≡ record (with_item self.old (record {
+              waiting = self.old.pending.waiting;
+              gathered = self.old.pending.gathered ++ update ∷ [];
+            })) { sought = self.new.sought }) }
         ensures sought { OnOk result (SeeksToo self.old.sought (preds_of update) self.new.sought) }
     {
         seek(&mut self.sought, update.preds(), Some(update.id()))?;
@@ -131,7 +136,8 @@ impl Session {
 
     /// Whether an update of a burst was there already.
     fn is_repeated(&self, id: &UpdateId) -> bool
-        ensures there { result ≡ (in_burst self.now.state.reading && (holds (map entry_of self.now.pending.gathered) id.now || holds (map entry_of self.now.pending.waiting) id.now)) }
+        ensures there { result ≡ (in_burst self.now.state.reading && (holds (map entry_of self.now.pending.gathered)
+            id.now || holds (map entry_of self.now.pending.waiting) id.now)) }
         ensures within { is_within (entries_in self.now.pending) ≡ true }
     {
         let there = self.pending.contains(id);
@@ -142,9 +148,11 @@ impl Session {
     pub(crate) fn take_item(&mut self, alloc: Global, update: Checked) -> Result<Out, AllocError>
         requires { IsRunning self.old }
         ensures takes { IfOk result (λ out. (limits : Limits) (start list : List Entry) →
-            Takes limits (whole start self.old) list (item (entry_of update)) (whole start self.new) (out_of list out) list) }
+            Takes limits (whole start self.old) list (item (entry_of update)) (whole start self.new) (out_of list out)
+            list) }
         ensures nothing { IfOk result (λ out. out.send ≡ []) }
-        ensures stands { OnOk result ((rule : RuleData) (members : List (List ℕ)) → IsChecked rule update → Stands rule self.old members → Stands rule self.new members) }
+        ensures stands { OnOk result ((rule : RuleData) (members : List (List ℕ)) → IsChecked rule update
+            → Stands rule self.old members → Stands rule self.new members) }
         ensures below { OnOk result (self.new.below ≡ self.old.below) }
         ensures failed { OnOk result (self.new.failed ≡ self.old.failed) }
     {
@@ -166,9 +174,11 @@ impl Session {
     /// What is no update comes.
     pub(crate) fn take_bad_item(&mut self, alloc: Global, fault: CheckFault) -> Out
         ensures takes { (limits : Limits) (start list : List Entry) →
-            Takes limits (whole start self.old) list (bad_item (number_of fault)) (whole start self.new) (out_of list result) list }
+            Takes limits (whole start self.old) list (bad_item (number_of fault)) (whole start self.new)
+            (out_of list result) list }
         ensures nothing { result.send ≡ [] }
-        ensures stands { (rule : RuleData) (members : List (List ℕ)) → Stands rule self.old members → Stands rule self.new members }
+        ensures stands { (rule : RuleData) (members : List (List ℕ)) → Stands rule self.old members
+            → Stands rule self.new members }
         ensures below { self.new.below ≡ self.old.below }
         ensures failed { self.new.failed ≡ self.old.failed }
     {

@@ -8,8 +8,8 @@ use std::alloc::AllocError;
 use std::collections::BTreeMap;
 use update_model::UpdateId;
 
-/// Ids among which is each one that an end is to ask for. Each is kept with the id of an update that named it, or with none
-/// where it is a head of the peer's Hello.
+/// Ids among which is each one that an end is to ask for. Each is kept with the id of an update that named it, or with
+/// none where it is a head of the peer's Hello.
 pub(crate) type Sought = BTreeMap<UpdateId, Option<UpdateId>>;
 
 /// Takes in ids that this one names.

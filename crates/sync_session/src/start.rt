@@ -21,8 +21,8 @@ use update_check::Holder;
 use update_model::{IdList, PositionList};
 
 impl Session {
-    /// Begins a session of this database, under this id of the own node. `recalled` are the ids that were remembered of the
-    /// peer when they last met, which rise: none where they never did.
+    /// Begins a session of this database, under this id of the own node. `recalled` are the ids that were remembered of
+    /// the peer when they last met, which rise: none where they never did.
     ///
     /// The initiator makes its Hello from what the holder has now, and hands it out. The responder waits for the
     /// initiator's.
@@ -38,7 +38,8 @@ impl Session {
         requires rising { IsStrictlySortedBy id_cmp recalled }
         ensures starts { IfOk result (λ p. StartsAs role database node recalled (H.members holder.now) p.0 p.1) }
         ensures within { IfOk result (λ p. All (λ i. i < length (H.members holder.now)) p.1.send) }
-        ensures belongs { IfOk result (λ p. BelongsTo (H.limits holder.now) (H.rule holder.now) p.0 (H.members holder.now)) }
+        ensures belongs { IfOk result (λ p. BelongsTo (H.limits holder.now) (H.rule holder.now) p.0
+            (H.members holder.now)) }
     {
         let mut session = Session::fresh(alloc, role, database, node, recalled);
         let out = session.open(alloc, holder)?;
@@ -48,9 +49,11 @@ impl Session {
     /// Opens a session that is fresh over its holder's list: the initiator hands out its Hello.
     pub(crate) fn open<H: Holder>(&mut self, alloc: Global, holder: &H) -> Result<Out, AllocError>
         requires { IsFresh self.old.state.role self.old }
-        ensures starts { IfOk result (StartsAs self.old.state.role self.old.state.database self.old.state.node self.old.state.old (H.members holder.now) self.new) }
+        ensures starts { IfOk result (StartsAs self.old.state.role self.old.state.database self.old.state.node
+            self.old.state.old (H.members holder.now) self.new) }
         ensures within { IfOk result (λ out. All (λ i. i < length (H.members holder.now)) out.send) }
-        ensures belongs { OnOk result (BelongsTo (H.limits holder.now) (H.rule holder.now) self.new (H.members holder.now)) }
+        ensures belongs { OnOk result (BelongsTo (H.limits holder.now) (H.rule holder.now) self.new
+            (H.members holder.now)) }
     {
         holder.len(); // what every holder keeps
         match self.role {
@@ -74,8 +77,12 @@ impl Session {
         alloc: Global,
         holder: &H,
     ) -> Result<Hello, AllocError>
-        ensures hello { IfOk result (IsHelloOver self.old.state.database self.old.state.node self.old.state.old (map entry_of (H.members holder.now))) }
-        ensures state { IfOk result (λ own. self.new ≡ record self.old { below = length (H.members holder.now); heads = own.heads }) }
+        ensures hello { IfOk result (IsHelloOver self.old.state.database self.old.state.node self.old.state.old
+            (map entry_of (H.members holder.now))) }
+        ensures state { IfOk result (λ own. self.new ≡ record self.old {
+          below = length (H.members holder.now);
+          heads = own.heads;
+        }) }
     {
         self.heads = IdList::from_vec(holder.heads(alloc)?);
         self.below = holder.len();

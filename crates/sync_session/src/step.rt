@@ -6,7 +6,8 @@ ghost use Rattle.session_rules.specs.declared.end.End.TheVariants.{Full as full,
 ghost use Rattle.session_rules.specs.Steps.{Takes};
 ghost use Rattle.update_check.specs.Holding.{IsHeld};
 ghost use Rattle.update_codec.specs.Parts.{entry_of};
-ghost use Rattle.sync_session.specs.Kept.{frame_of, out_of, seen, updates_in, BelongsTo, GrowsBy, IsFrameUnder, IsRunning, Stands, StepsTo};
+ghost use Rattle.sync_session.specs.Kept.{frame_of, out_of, seen, updates_in, BelongsTo, GrowsBy, IsFrameUnder};
+ghost use Rattle.sync_session.specs.Kept.{IsRunning, Stands, StepsTo};
 ghost use Rattle.sync_session.specs.Turns.{IsOrdered};
 
 use crate::{CheckedFrame, Out, Session};
@@ -18,13 +19,13 @@ impl Session {
     /// Takes the peer's next frame, and answers what is to be sent. Each position that is handed out is one of the
     /// holder's list as this leaves it.
     ///
-    /// The session has to belong to the holder, as it does after [`Session::start`] and after each call of this: since then
-    /// the holder's list has at most grown. An update has to be under the holder's rule. A session that has ended, or
-    /// whose memory ran out in an earlier call, answers nothing and leaves the holder alone.
+    /// The session has to belong to the holder, as it does after [`Session::start`] and after each call of this: since
+    /// then the holder's list has at most grown. An update has to be under the holder's rule. A session that has ended,
+    /// or whose memory ran out in an earlier call, answers nothing and leaves the holder alone.
     ///
-    /// Where memory runs out the session is over. What the holder added in the same call it keeps: some of what the session
-    /// had gathered and of what waited. The end is `Store` only where the holder's count of faults rose. Where the end is
-    /// neither `Full` nor `Store`, a holder that was whole is whole.
+    /// Where memory runs out the session is over. What the holder added in the same call it keeps: some of what the
+    /// session had gathered and of what waited. The end is `Store` only where the holder's count of faults rose. Where
+    /// the end is neither `Full` nor `Store`, a holder that was whole is whole.
     pub fn step<H: Holder>(
         &mut self,
         alloc: Global,
@@ -33,7 +34,8 @@ impl Session {
     ) -> Result<Out, AllocError>
         requires belongs { BelongsTo (H.limits holder.old) (H.rule holder.old) self.old (H.members holder.old) }
         requires under { IsFrameUnder (H.rule holder.old) frame }
-        ensures steps { IfOk result (λ out. StepsTo (H.limits holder.old) self.old (H.members holder.old) frame self.new out (H.members holder.new)) }
+        ensures steps { IfOk result (λ out. StepsTo (H.limits holder.old) self.old (H.members holder.old) frame self.new
+            out (H.members holder.new)) }
         ensures within { IfOk result (λ out. All (λ p. p < length (H.members holder.new)) out.send) }
         ensures belongs { BelongsTo (H.limits holder.old) (H.rule holder.old) self.new (H.members holder.new) }
         ensures failed { OnErr result (self.new.failed ≡ true) }
@@ -41,7 +43,8 @@ impl Session {
         ensures later { H.faults holder.old ≤ H.faults holder.new }
         ensures store { IfOk result (λ out. out.end ≡ Some store → Rose (H.faults holder.old) (H.faults holder.new)) }
         ensures keeps { H.keeps holder.old holder.new }
-        ensures whole { H.is_whole holder.old → IfOk result (λ out. out.end ≢ Some full → out.end ≢ Some store → H.is_whole holder.new) }
+        ensures whole { H.is_whole holder.old → IfOk result (λ out. out.end ≢ Some full → out.end ≢ Some store
+            → H.is_whole holder.new) }
         ensures limits { H.limits holder.new ≡ H.limits holder.old }
         ensures rule { H.rule holder.new ≡ H.rule holder.old }
     {
@@ -85,8 +88,10 @@ impl Session {
         requires stands { Stands (H.rule holder.old) self.old (H.members holder.old) }
         requires rising { IsOrdered self.old }
         requires under { IsFrameUnder (H.rule holder.old) frame }
-        ensures takes { IfOk result (λ out. Takes (H.limits holder.old) (seen (H.members holder.old) self.old) (map entry_of (H.members holder.old)) (frame_of frame)
-            (seen (H.members holder.new) self.new) (out_of (map entry_of (H.members holder.new)) out) (map entry_of (H.members holder.new))) }
+        ensures takes { IfOk result (λ out. Takes (H.limits holder.old) (seen (H.members holder.old) self.old)
+            (map entry_of (H.members holder.old)) (frame_of frame)
+            (seen (H.members holder.new) self.new) (out_of (map entry_of (H.members holder.new)) out)
+            (map entry_of (H.members holder.new))) }
         ensures within { IfOk result (λ out. All (λ p. p < length (H.members holder.new)) out.send) }
         ensures stands { OnOk result (Stands (H.rule holder.old) self.new (H.members holder.new)) }
         ensures failed { OnOk result (self.new.failed ≡ self.old.failed) }
@@ -94,7 +99,8 @@ impl Session {
         ensures later { H.faults holder.old ≤ H.faults holder.new }
         ensures store { IfOk result (λ out. out.end ≡ Some store → Rose (H.faults holder.old) (H.faults holder.new)) }
         ensures keeps { H.keeps holder.old holder.new }
-        ensures whole { H.is_whole holder.old → IfOk result (λ out. out.end ≢ Some full → out.end ≢ Some store → H.is_whole holder.new) }
+        ensures whole { H.is_whole holder.old → IfOk result (λ out. out.end ≢ Some full → out.end ≢ Some store
+            → H.is_whole holder.new) }
         ensures limits { H.limits holder.new ≡ H.limits holder.old }
         ensures rule { H.rule holder.new ≡ H.rule holder.old }
     {

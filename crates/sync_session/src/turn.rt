@@ -1,6 +1,7 @@
 //! What a session does with the peer's Turn.
 
-ghost use Rattle.std.specs.Prelude.{◌≡◌, [], ◌+◌, ◌<◌, ◌≤◌, ◌^◌, true, All, IfOk, OnOk, List, length, map, take, slice_get, filter_map, not, ◌&&◌, ◌||◌};
+ghost use Rattle.std.specs.Prelude.{◌≡◌, [], ◌+◌, ◌<◌, ◌≤◌, ◌^◌, true, All, IfOk, OnOk, List, length, map, take};
+ghost use Rattle.std.specs.Prelude.{slice_get, filter_map, not, ◌&&◌, ◌||◌};
 ghost use Rattle.std.specs.BTreeMap.{keys as keys_in};
 ghost use Rattle.std.specs.BTreeSet.{keys};
 ghost use Rattle.session_rules.specs.Steps.{closing, is_empty, is_wanted, IsSent, IsTurn};
@@ -8,7 +9,8 @@ ghost use Rattle.session_rules.specs.declared.limits.TheConstants.{MAX_TURNS};
 ghost use Rattle.update_codec.specs.Parts.{entry_of};
 ghost use Rattle.update_model.specs.Entry.{Entry};
 ghost use Rattle.update_model.specs.Graph.{is_within, IsClosed};
-ghost use Rattle.sync_session.specs.Kept.{late_fault_at, out_of, seen, turn_of, whole, with_commit, with_refusal, IsRunning, LeavesSought, Seeks, TurnsFor};
+ghost use Rattle.sync_session.specs.Kept.{late_fault_at, out_of, seen, turn_of, whole, with_commit, with_refusal};
+ghost use Rattle.sync_session.specs.Kept.{IsRunning, LeavesSought, Seeks, TurnsFor};
 ghost use Rattle.sync_session.specs.Wants.{AreSought, StaySought};
 
 use crate::greeting::burst;
@@ -67,8 +69,11 @@ impl Session {
     ) -> Result<Turn, AllocError>
         requires settled { self.old.pending.gathered ≡ [] }
         requires seeks { Seeks (map entry_of (H.members holder.now)) self.old }
-        ensures turn { IfOk result (λ own. (start : List Entry) → IsTurn (whole start self.old) (map entry_of (H.members holder.now)) (map entry_of self.old.pending.waiting) (turn_of own)) }
-        ensures left { IfOk result (λ own. LeavesSought (map entry_of (H.members holder.now)) (turn_of own) self.old self.new.sought) }
+        ensures turn { IfOk result (λ own. (start : List Entry)
+            → IsTurn (whole start self.old) (map entry_of (H.members holder.now))
+            (map entry_of self.old.pending.waiting) (turn_of own)) }
+        ensures left { IfOk result (λ own. LeavesSought (map entry_of (H.members holder.now)) (turn_of own) self.old
+            self.new.sought) }
         ensures state { OnOk result (self.new ≡ record self.old { sought = self.new.sought }) }
     {
         match &self.peer {
@@ -94,7 +99,8 @@ impl Session {
     ) -> Result<Vec<u32>, AllocError>
         requires within { self.now.below ≤ length (H.members holder.now) }
         requires closed { IsClosed (map entry_of (H.members holder.now)) }
-        ensures exact { IfOk result (λ positions. IsSent first (seen (H.members holder.now) self.now) (turn_of turn.now) (filter_map (slice_get (map entry_of (H.members holder.now))) positions.items)) }
+        ensures exact { IfOk result (λ positions. IsSent first (seen (H.members holder.now) self.now) (turn_of turn.now)
+            (filter_map (slice_get (map entry_of (H.members holder.now))) positions.items)) }
         ensures within { IfOk result (λ positions. All (λ p. p < length (H.members holder.now)) positions.items) }
     {
         if !first {
@@ -117,9 +123,12 @@ fn turn_for<H: Holder>(
     sought: &mut Sought,
 ) -> Result<Turn, AllocError>
     requires settled { pending.now.gathered ≡ [] }
-    requires sought { AreSought heads.now (map entry_of (H.members holder.now)) pending.now (keys asked.now) (keys_in sought.old) }
-    ensures turn { IfOk result (λ own. TurnsFor heads.now (map entry_of (H.members holder.now)) (map entry_of pending.now.waiting) (keys asked.now) (turn_of own)) }
-    ensures left { IfOk result (λ own. StaySought (is_wanted heads.now (map entry_of (H.members holder.now)) (map entry_of pending.now.waiting) (keys asked.now)) own.needs (keys_in sought.new)) }
+    requires sought { AreSought heads.now (map entry_of (H.members holder.now)) pending.now (keys asked.now)
+        (keys_in sought.old) }
+    ensures turn { IfOk result (λ own. TurnsFor heads.now (map entry_of (H.members holder.now))
+        (map entry_of pending.now.waiting) (keys asked.now) (turn_of own)) }
+    ensures left { IfOk result (λ own. StaySought (is_wanted heads.now (map entry_of (H.members holder.now))
+        (map entry_of pending.now.waiting) (keys asked.now)) own.needs (keys_in sought.new)) }
 {
     if has_all(holder, heads) {
         return Ok(Turn::all_held(alloc));
@@ -137,7 +146,8 @@ pub(crate) fn late_fault<H: Holder>(
     turn: &Turn,
     own: &Turn,
 ) -> Option<PeerFault>
-    ensures { result ≡ late_fault_at first (take below (map entry_of (H.members holder.now))) (keys peer_asked.now) (turn_of turn.now) (turn_of own.now) }
+    ensures { result ≡ late_fault_at first (take below (map entry_of (H.members holder.now))) (keys peer_asked.now)
+        (turn_of turn.now) (turn_of own.now) }
 {
     if is_stalled(first, turn, own) {
         return Some(PeerFault::Stalled);
@@ -153,7 +163,8 @@ pub(crate) fn late_fault<H: Holder>(
 
 /// Whether a Turn goes nowhere: the peer's, other than turn 1, or the own one neither has all nor asks for anything.
 fn is_stalled(first: bool, turn: &Turn, own: &Turn) -> bool
-    ensures { result ≡ ((not first && (not turn.now.have && is_empty turn.now.needs)) || (not own.now.have && is_empty own.now.needs)) }
+    ensures { result ≡ ((not first && (not turn.now.have && is_empty turn.now.needs)) || (not own.now.have && is_empty
+        own.now.needs)) }
 {
     !first && is_idle(turn) || is_idle(own)
 }

@@ -1,11 +1,11 @@
 //! Tables: what a set of updates makes of the tables of a schema.
 //!
-//! The definitions are those of specs/: closed lists of updates (`Nodes`), which rows are visible after them (`Visible`),
-//! why a row is not (`Counts`), the verdict on each update (`Verdicts`), what rows answer that are asked for (`Answers`), the
-//! tables (`Tables`), and the invariants of a schema (`Invariants`).
+//! The definitions are those of specs/: closed lists of updates (`Nodes`), which rows are visible after them
+//! (`Visible`), why a row is not (`Counts`), the verdict on each update (`Verdicts`), what rows answer that are asked
+//! for (`Answers`), the tables (`Tables`), and the invariants of a schema (`Invariants`).
 //!
-//! Each law about them is a function that does nothing: its contract is a theorem for callers to cite. What follows of sets of
-//! updates, and which invariants survive merging, stands in the crate `confluence_laws`.
+//! Each law about them is a function that does nothing: its contract is a theorem for callers to cite. What follows of
+//! sets of updates, and which invariants survive merging, stands in the crate `confluence_laws`.
 #![tactic(auto)]
 
 mod counterexample;

@@ -61,7 +61,8 @@ fn push_step(
     id: &UpdateId,
     operation: &Op,
 ) -> Result<(), AllocError>
-    ensures added { OnOk result (out.new.items ≡ out.old.items ++ step_text schema.now.tables side.now id.now operation.now) }
+    ensures added { OnOk result (out.new.items ≡ out.old.items ++ step_text schema.now.tables side.now id.now
+        operation.now) }
     ensures kept { OnErr result (IsPrefix out.old.items out.new.items) }
 {
     out.extend_from_slice(side)?;

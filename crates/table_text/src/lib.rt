@@ -9,7 +9,8 @@
 //! // 5c6f..:0 "Home" 9
 //! ```
 //!
-//! A call that wants memory and gets none answers an error, and then a front of the text may have been added: what stood before is kept.
+//! A call that wants memory and gets none answers an error, and then a front of the text may have been added: what
+//! stood before is kept.
 #![tactic(auto)]
 
 mod examples;

@@ -41,7 +41,8 @@ fn push_insert(
     table: u8,
     values: &[Value],
 ) -> Result<(), AllocError>
-    ensures added { OnOk result (out.new.items ≡ out.old.items ++ (codes "INSERT " ++ table_word schema.now.tables table ++ values_text style values.now)) }
+    ensures added { OnOk result (out.new.items ≡ out.old.items ++ (codes "INSERT " ++ table_word schema.now.tables
+        table ++ values_text style values.now)) }
     ensures kept { OnErr result (IsPrefix out.old.items out.new.items) }
 {
     out.extend_from_slice(b"INSERT ")?;

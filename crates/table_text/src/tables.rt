@@ -11,8 +11,8 @@ use schema::{Schema, TableDef};
 use std::alloc::AllocError;
 use table_model::{ShownRow, ShownRowList, VoidLine};
 
-/// Adds the tables of a schema at the end, each with the rows of the list that has its number, and then the updates that
-/// do nothing. A table without a list is not printed, nor is a list without a table.
+/// Adds the tables of a schema at the end, each with the rows of the list that has its number, and then the updates
+/// that do nothing. A table without a list is not printed, nor is a list without a table.
 pub fn push_tables(
     out: &mut Vec<u8>,
     schema: &Schema,
@@ -79,7 +79,8 @@ fn push_numbered(
     lists: &[ShownRowList],
 ) -> Result<(), AllocError>
     requires { number < length schema.now.tables }
-    ensures added { OnOk result (out.new.items ≡ out.old.items ++ pair_text (slice_get schema.now.tables number) (slice_get lists.now number)) }
+    ensures added { OnOk result (out.new.items ≡ out.old.items ++ pair_text (slice_get schema.now.tables number)
+        (slice_get lists.now number)) }
     ensures kept { OnErr result (IsPrefix out.old.items out.new.items) }
 {
     match lists.get(usize::from(number)) {

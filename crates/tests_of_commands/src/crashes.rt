@@ -121,8 +121,8 @@ const ON_BOTH: &[Crash<'static>] = &[
     },
 ];
 
-/// Whether a command may have ended so whose disk stops after so many calls: it fails where the disk passes none, and is done
-/// where it passes all.
+/// Whether a command may have ended so whose disk stops after so many calls: it fails where the disk passes none, and
+/// is done where it passes all.
 fn is_stopped(calls: u64, status: u8) -> bool {
     if calls == 0 {
         return status == 3;

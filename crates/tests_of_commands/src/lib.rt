@@ -1,5 +1,5 @@
-//! Tests of the commands over the store and the key of a directory: steps that are run one after another over one shelf in
-//! memory. What they answer comes from the formats' own description.
+//! Tests of the commands over the store and the key of a directory: steps that are run one after another over one shelf
+//! in memory. What they answer comes from the formats' own description.
 #![tactic(auto)]
 
 #[cfg(test)]

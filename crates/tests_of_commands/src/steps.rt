@@ -13,8 +13,8 @@ use std::alloc::{AllocError, Global};
 use std::mem;
 
 /// A run: its words, its input, and the status and the text that it answers. An answer `ID` stands for any id, which is
-/// remembered, and `#n` in later texts for the id that was remembered as number n, counted from 0. An answer `KEY` stands for any
-/// public key.
+/// remembered, and `#n` in later texts for the id that was remembered as number n, counted from 0. An answer `KEY`
+/// stands for any public key.
 pub type Step<'a> = (&'a str, &'a str, u8, &'a str);
 
 /// What a run answers.

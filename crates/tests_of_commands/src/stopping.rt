@@ -10,8 +10,8 @@ use bec_disk::{DiskFault, MemDisk, MemShelf, Part, Shelf};
 use std::alloc::{AllocError, Global};
 use std::marker::Model;
 
-/// A shelf in memory. The disk that it hands out as one certain part of a directory passes so many calls, and fails every later
-/// one.
+/// A shelf in memory. The disk that it hands out as one certain part of a directory passes so many calls, and fails
+/// every later one.
 #[derive(Drop)]
 pub struct StoppingShelf {
     alloc: Global,

@@ -79,7 +79,8 @@ pub(crate) fn insert(
     })
 }
 
-/// How many rows two tables have, how many updates do nothing, and whether the only row of the second table ends in null.
+/// How many rows two tables have, how many updates do nothing, and whether the only row of the second table ends in
+/// null.
 fn summary(list: &TableList) -> (usize, usize, usize, bool) {
     match list.tables.as_slice() {
         [first, second] => (

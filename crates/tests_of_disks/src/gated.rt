@@ -35,8 +35,8 @@ fn after_crash(alloc: Global, disk: &MemDisk, choice: u64) -> Result<Left, Alloc
     Ok(left_on(alloc, &mut left))
 }
 
-// The first payload takes ten calls: len, cut, sync, one byte, sync, length, payload, sync, gate, sync. The second takes
-// thirteen: len, read, gate, sync, and those from the cut on.
+// The first payload takes ten calls: len, cut, sync, one byte, sync, length, payload, sync, gate, sync. The second
+// takes thirteen: len, read, gate, sync, and those from the cut on.
 #[test]
 fn a_stop_leaves_the_old_the_new_or_nothing(rt: HostRuntime) -> Result<(), Fail> {
     let alloc = rt.alloc();

@@ -137,7 +137,7 @@ fn is_told(alloc: Global, said: &str, asked: &Asked, shown: &str) -> Result<bool
 }
 
 /// What was asked.
-fn asked_by<'a>(
+fn asking_of<'a>(
     command: &'a str,
     directory: &'a str,
     other: &'a str,
@@ -156,11 +156,11 @@ fn asked_by<'a>(
 /// Refusals of schemas.
 fn schemas(alloc: Global) -> Result<bool, AllocError> {
     let mut all = true;
-    let asked = asked_by("check", "", "", 1, "DATABASE club\r\ntable item\r\n");
+    let asked = asking_of("check", "", "", 1, "DATABASE club\r\ntable item\r\n");
     all = all && is_told(alloc, "! schema line 2: line", &asked, SCHEMAS_1)?;
-    let asked = asked_by("init", "club", "", 1, "\u{feff}DATABASE club\n");
+    let asked = asking_of("init", "club", "", 1, "\u{feff}DATABASE club\n");
     all = all && is_told(alloc, "! schema line 1: line", &asked, SCHEMAS_2)?;
-    let asked = asked_by(
+    let asked = asking_of(
         "check",
         "",
         "",
@@ -174,7 +174,7 @@ fn schemas(alloc: Global) -> Result<bool, AllocError> {
 /// Refusals of transactions.
 fn transactions(alloc: Global) -> Result<bool, AllocError> {
     let mut all = true;
-    let asked = asked_by(
+    let asked = asking_of(
         "apply",
         "club",
         "",
@@ -188,7 +188,7 @@ fn transactions(alloc: Global) -> Result<bool, AllocError> {
             &asked,
             TRANSACTIONS_1,
         )?;
-    let asked = asked_by(
+    let asked = asking_of(
         "apply",
         "club",
         "",
@@ -202,7 +202,7 @@ fn transactions(alloc: Global) -> Result<bool, AllocError> {
             &asked,
             TRANSACTIONS_2,
         )?;
-    let asked = asked_by("apply", "club", "", 1, "INSERT item 1\n");
+    let asked = asking_of("apply", "club", "", 1, "INSERT item 1\n");
     all = all && is_told(alloc, "! transaction 1:1: too long", &asked, TRANSACTIONS_3)?;
     Ok(all)
 }
@@ -210,7 +210,7 @@ fn transactions(alloc: Global) -> Result<bool, AllocError> {
 /// Refusals of queries.
 fn queries(alloc: Global) -> Result<bool, AllocError> {
     let mut all = true;
-    let asked = asked_by(
+    let asked = asking_of(
         "query",
         "club",
         "SELECT COUNT(name) FROM item",
@@ -218,7 +218,7 @@ fn queries(alloc: Global) -> Result<bool, AllocError> {
         "SELECT COUNT(name) FROM item\n",
     );
     all = all && is_told(alloc, "! query 1:8: unknown word", &asked, QUERIES_1)?;
-    let asked = asked_by(
+    let asked = asking_of(
         "query",
         "club",
         "select name FROM item",
@@ -226,7 +226,7 @@ fn queries(alloc: Global) -> Result<bool, AllocError> {
         "select name FROM item\n",
     );
     all = all && is_told(alloc, "! query 1:1: unknown word", &asked, QUERIES_2)?;
-    let asked = asked_by("query", "club", "", 1, "\n");
+    let asked = asking_of("query", "club", "", 1, "\n");
     all = all && is_told(alloc, "! query 1:1: unknown word", &asked, QUERIES_3)?;
     Ok(all)
 }
@@ -234,7 +234,7 @@ fn queries(alloc: Global) -> Result<bool, AllocError> {
 /// Refusals of operations and updates.
 fn updates(alloc: Global) -> Result<bool, AllocError> {
     let mut all = true;
-    let asked = asked_by(
+    let asked = asking_of(
         "apply",
         "club",
         "",
@@ -242,9 +242,9 @@ fn updates(alloc: Global) -> Result<bool, AllocError> {
         "INSERT list\t\"Ho\x01me\" 9\n \t\nDELETE 0123456789abcdef0123456789abcdef0123456789abcdef0123456789abcdef:1\n",
     );
     all = all && is_told(alloc, "! invalid reason 4 operation 1", &asked, UPDATES_1)?;
-    let asked = asked_by("heads", "", "", 1, "");
+    let asked = asking_of("heads", "", "", 1, "");
     all = all && is_told(alloc, "! update 3: version at 17", &asked, UPDATES_2)?;
-    let asked = asked_by("heads", "", "", 1, "");
+    let asked = asking_of("heads", "", "", 1, "");
     all = all
         && is_told(
             alloc,
@@ -252,7 +252,7 @@ fn updates(alloc: Global) -> Result<bool, AllocError> {
             &asked,
             UPDATES_3,
         )?;
-    let asked = asked_by("apply", "club", "", 1, "");
+    let asked = asking_of("apply", "club", "", 1, "");
     all = all && is_told(alloc, "! author not listed", &asked, UPDATES_4)?;
     Ok(all)
 }
@@ -260,17 +260,17 @@ fn updates(alloc: Global) -> Result<bool, AllocError> {
 /// Words, faults and statuses.
 fn statuses(alloc: Global) -> Result<bool, AllocError> {
     let mut all = true;
-    let asked = asked_by("frob", "club", "", 2, "");
+    let asked = asking_of("frob", "club", "", 2, "");
     all = all && is_told(alloc, "! words", &asked, STATUSES_1)?;
-    let asked = asked_by("apply", "", "", 2, "");
+    let asked = asking_of("apply", "", "", 2, "");
     all = all && is_told(alloc, "! words", &asked, STATUSES_2)?;
-    let asked = asked_by("apply", "club", "", 3, "");
+    let asked = asking_of("apply", "club", "", 3, "");
     all = all && is_told(alloc, "! store fault", &asked, STATUSES_3)?;
-    let asked = asked_by("sync", "club", "1.2.3.4:1", 4, "");
+    let asked = asking_of("sync", "club", "1.2.3.4:1", 4, "");
     all = all && is_told(alloc, "! stream fault", &asked, STATUSES_4)?;
-    let asked = asked_by("dump", "club", "", 4, "");
+    let asked = asking_of("dump", "club", "", 4, "");
     all = all && is_told(alloc, "! stream fault", &asked, STATUSES_5)?;
-    let asked = asked_by("dump", "club", "", 5, "");
+    let asked = asking_of("dump", "club", "", 5, "");
     all = all && is_told(alloc, "", &asked, STATUSES_6)?;
     Ok(all)
 }
@@ -278,9 +278,9 @@ fn statuses(alloc: Global) -> Result<bool, AllocError> {
 /// Sessions, keys and stores.
 fn stores_and_peers(alloc: Global) -> Result<bool, AllocError> {
     let mut all = true;
-    let asked = asked_by("sync", "club", "1.2.3.4:1", 6, "");
+    let asked = asking_of("sync", "club", "1.2.3.4:1", 6, "");
     all = all && is_told(alloc, "! peer stalled", &asked, STORES_AND_PEERS_1)?;
-    let asked = asked_by("serve", "club", "1.2.3.4:1", 6, "");
+    let asked = asking_of("serve", "club", "1.2.3.4:1", 6, "");
     all = all
         && is_told(
             alloc,
@@ -288,11 +288,11 @@ fn stores_and_peers(alloc: Global) -> Result<bool, AllocError> {
             &asked,
             STORES_AND_PEERS_2,
         )?;
-    let asked = asked_by("serve", "club", "1.2.3.4:1", 6, "");
+    let asked = asking_of("serve", "club", "1.2.3.4:1", 6, "");
     all = all && is_told(alloc, "session 3 cut", &asked, STORES_AND_PEERS_3)?;
-    let asked = asked_by("apply", "club", "", 7, "");
+    let asked = asking_of("apply", "club", "", 7, "");
     all = all && is_told(alloc, "! key spent 1024", &asked, STORES_AND_PEERS_4)?;
-    let asked = asked_by(
+    let asked = asking_of(
         "apply",
         "a rather long name of a directory that fills a row by itself, for a test of that",
         "",
@@ -300,7 +300,7 @@ fn stores_and_peers(alloc: Global) -> Result<bool, AllocError> {
         "",
     );
     all = all && is_told(alloc, "! heads 1024", &asked, STORES_AND_PEERS_5)?;
-    let asked = asked_by("merge", "club or lake", "lake", 8, "");
+    let asked = asking_of("merge", "club or lake", "lake", 8, "");
     all = all && is_told(alloc, "! bad store", &asked, STORES_AND_PEERS_6)?;
     Ok(all)
 }

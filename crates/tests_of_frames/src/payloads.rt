@@ -24,8 +24,8 @@ const TURNS: &[Row] = &[
     (&[&[0, 0x10, 1], LOW], false),
 ];
 
-/// What stands in a Hello behind its node: heads behind a count in four bytes, old ids behind one in two, and a filter behind its
-/// length in four.
+/// What stands in a Hello behind its node: heads behind a count in four bytes, old ids behind one in two, and a filter
+/// behind its length in four.
 const HELLOS: &[Row] = &[
     (&[&[0, 0, 0, 1], LOW, &[0, 0, 0, 0, 0, 0]], true),
     (&[&[0, 0, 0, 2], LOW, HIGH, &[0, 0, 0, 0, 0, 0]], true),

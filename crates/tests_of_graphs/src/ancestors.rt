@@ -97,7 +97,8 @@ fn grows_roots(ancestry: &mut Ancestry, roots: &[u32]) -> Result<bool, AllocErro
     adds(ancestry, roots)
 }
 
-/// Whether each of 66 roots, of which two are in no chain, is an ancestor of the member behind them that names them all.
+/// Whether each of 66 roots, of which two are in no chain, is an ancestor of the member behind them that names them
+/// all.
 fn counts(alloc: Global, ancestry: &mut Ancestry) -> Result<bool, AllocError> {
     let roots: Vec<u32> = (0..66).collect(alloc)?;
     if !grows_roots(ancestry, &roots)? || ancestry.len() != 67 {

@@ -2,7 +2,8 @@ use bec_host::HashRng;
 use rand_core::Rng;
 use std::test::Fail;
 
-/// The digests were computed by another implementation of SHA-256, of the bytes 0 to 31 as the key and a block number of eight bytes.
+/// The digests were computed by another implementation of SHA-256, of the bytes 0 to 31 as the key and a block number
+/// of eight bytes.
 #[test]
 fn words_are_digests_of_the_key_and_the_block(rt: HostRuntime) -> Result<(), Fail> {
     let mut key = [0u8; 32];

@@ -28,8 +28,8 @@ fn left_after_crash(
     }
 }
 
-/// What is left where the disk of Used passes so many calls and three indices are asked for: the last that was answered, and how many
-/// indices are left after a crash that leaves what is synced, and one that leaves what is read.
+/// What is left where the disk of Used passes so many calls and three indices are asked for: the last that was
+/// answered, and how many indices are left after a crash that leaves what is synced, and one that leaves what is read.
 fn after_stop(alloc: Global, calls: u32) -> Result<(Option<u32>, Option<u32>, Option<u32>), Fail> {
     let mut store = created(alloc, u32::MAX, calls)?;
     let last = last_reserved(&mut store);

@@ -42,7 +42,8 @@ fn meet<R: Abort>(rt: &R, lock: &TurnLock<Turns>, a: Seat<Turns>, b: Seat<Turns>
     }
 }
 
-/// Splits a seat again and again. Each time both seats take turns, and then the older one meets the newer, and the other way round.
+/// Splits a seat again and again. Each time both seats take turns, and then the older one meets the newer, and the
+/// other way round.
 fn split_and_meet<R: Abort + Wait>(
     rt: &R,
     lock: &TurnLock<Turns>,

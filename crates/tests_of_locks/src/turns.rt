@@ -28,7 +28,8 @@ impl Kept for Turns {
 
 /// Adds an entry of this act, unless there is no memory.
 fn add(turns: &mut Turns, held: &Held<Turns>)
-    ensures { (new : List (ℕ × ℕ)) × (turns.new.all.items ≡ turns.old.all.items ++ new) × MadeBy (λ e. Some e) held.now.seat held.now.act new }
+    ensures { (new : List (ℕ × ℕ)) × (turns.new.all.items ≡ turns.old.all.items ++ new)
+        × MadeBy (λ e. Some e) held.now.seat held.now.act new }
 {
     let entry = (held.seat(), held.act());
     let _added = turns.all.push(entry);

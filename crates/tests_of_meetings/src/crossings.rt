@@ -19,7 +19,8 @@ const TWO_HEADS: usize = 130;
 /// The words that print the updates of B and those of C, in the order in which they came.
 const EXPORTS: (&str, &str) = ("export B --updates", "export C --updates");
 
-/// What three nodes come to, of which the first serves two sessions with its store in A, and the others call it at once with theirs in B and C.
+/// What three nodes come to, of which the first serves two sessions with its store in A, and the others call it at once
+/// with theirs in B and C.
 fn all_met<T: Threads + Wait + Sync>(
     rt: &T,
     alloc: Global,
@@ -84,8 +85,8 @@ fn two_callers_at_once(rt: HostRuntime) -> Result<(), Fail> {
     Ok(())
 }
 
-/// What two nodes come to, of which one serves a session with its store in B, and the other calls it with its store in C, over a pipe whose call of this number
-/// fails at the end of each. No call is numbered 0.
+/// What two nodes come to, of which one serves a session with its store in B, and the other calls it with its store in
+/// C, over a pipe whose call of this number fails at the end of each. No call is numbered 0.
 fn both_met<T: Threads + Wait + Sync>(
     rt: &T,
     alloc: Global,
@@ -161,7 +162,8 @@ fn endings(nodes: &(Node, Node)) -> (Ending, Ending) {
 struct Outcome {
     /// How each end says that it ended.
     endings: (Ending, Ending),
-    /// Whether each store prints what it held before anything else, and a session that follows over a whole link makes the stores equal.
+    /// Whether each store prints what it held before anything else, and a session that follows over a whole link makes
+    /// the stores equal.
     is_kept: bool,
 }
 
@@ -192,8 +194,9 @@ fn crossed<T: Threads + Wait + Sync>(
     })
 }
 
-/// At how many of its calls the link can break at one end. At each of them this end says that it broke, the other that it was cut or is done, and what was held
-/// and will be is kept; at the call behind them nothing breaks. `None` if anything else comes.
+/// At how many of its calls the link can break at one end. At each of them this end says that it broke, the other that
+/// it was cut or is done, and what was held and will be is kept; at the call behind them nothing breaks. `None` if
+/// anything else comes.
 fn breaks<T: Threads + Wait + Sync>(
     rt: &T,
     alloc: Global,

@@ -17,7 +17,8 @@ const SERVES: &str = "serve A here --sessions 1";
 /// The words that have the store in B call.
 const SYNCS: &str = "sync B here";
 
-/// What is answered over a link that ends at once: the words, which call of the net fails, the status and the text. No call is numbered 0.
+/// What is answered over a link that ends at once: the words, which call of the net fails, the status and the text. No
+/// call is numbered 0.
 const ROWS: &[(&str, u32, u8, &str)] = &[
     ("sync A here", 0, 6, "! cut\n"),
     ("sync A", 0, 2, "! words\n"),
@@ -83,7 +84,8 @@ fn tried<T: Threads + Wait + Sync>(
     Ok((said, copy))
 }
 
-/// Carries what each end says to the other, in runs that begin anew over copies of one shelf, so often; these words call. It answers what both say last.
+/// Carries what each end says to the other, in runs that begin anew over copies of one shelf, so often; these words
+/// call. It answers what both say last.
 pub fn carried<T: Threads + Wait + Sync>(
     rt: &T,
     alloc: Global,
@@ -117,14 +119,14 @@ fn tried_and_told<T: Threads + Wait + Sync>(
     Ok((said, heads))
 }
 
-/// Whether a front of so many of these bytes is tried: each one in the Hello, in the first bytes of the update behind it, and in the Turn at the end; in the
-/// rest of the update, whose bytes a session only gathers, one of 64.
+/// Whether a front of so many of these bytes is tried: each one in the Hello, in the first bytes of the update behind
+/// it, and in the Turn at the end; in the rest of the update, whose bytes a session only gathers, one of 64.
 fn is_tried(end: usize, len: usize) -> bool {
     end < 160 || len.saturating_sub(end) < 20 || end % 64 == 0
 }
 
-/// The length of the first front of these bytes of those that are tried, all of them left out, over which a run prints anything but this or leaves an update
-/// in A. Where there is none, that of all.
+/// The length of the first front of these bytes of those that are tried, all of them left out, over which a run prints
+/// anything but this or leaves an update in A. Where there is none, that of all.
 fn first_uncut<T: Threads + Wait + Sync>(
     rt: &T,
     alloc: Global,

@@ -151,8 +151,9 @@ fn first_frame(bytes: &[u8]) -> usize
     }
 }
 
-/// What `serve` answers over two links in memory: the first gives its second frame only once all was said over the second. What is said there, and what both give, is that
-/// of sessions that were recorded one by one over copies of the shelf.
+/// What `serve` answers over two links in memory: the first gives its second frame only once all was said over the
+/// second. What is said there, and what both give, is that of sessions that were recorded one by one over copies of the
+/// shelf.
 fn at_once<T: Threads + Wait + Sync>(
     rt: &T,
     alloc: Global,

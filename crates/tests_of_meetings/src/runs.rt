@@ -27,7 +27,8 @@ pub struct Said {
 /// The text of the schema.
 const MEMBERS: &[u8] = b"DATABASE club\nTABLE member\nCOLUMN name TEXT 1 40\nSAMPLE \"Ann\"\n";
 
-/// Stores in A, B and C, and in B and C a key and an update. The keys are drawn from the same random words, and differ by their widths.
+/// Stores in A, B and C, and in B and C a key and an update. The keys are drawn from the same random words, and differ
+/// by their widths.
 const BEGIN: &[(&str, &[u8])] = &[
     ("init A", MEMBERS),
     ("init B", MEMBERS),
@@ -72,7 +73,8 @@ pub fn run_over<T: Threads + Wait + Sync, N: Net>(
     Ok((status, out.bytes().to_vec(alloc)?))
 }
 
-/// Runs the program over a shelf and a net whose one link gives these bytes. The call of the net that `failing` numbers, counted from 1, fails.
+/// Runs the program over a shelf and a net whose one link gives these bytes. The call of the net that `failing`
+/// numbers, counted from 1, fails.
 pub fn answer<T: Threads + Wait + Sync>(
     rt: &T,
     alloc: Global,

@@ -1,5 +1,5 @@
-//! Tests of what the program does: worked examples of each command over sources and sinks in memory. The bytes, the ids and
-//! the signatures come from a separate model of the formats and another implementation of LMS.
+//! Tests of what the program does: worked examples of each command over sources and sinks in memory. The bytes, the ids
+//! and the signatures come from a separate model of the formats and another implementation of LMS.
 #![tactic(auto)]
 
 #[cfg(test)]

@@ -9,7 +9,7 @@ use crate::runs::{Answer, draw, seal};
 use bec_bytes::MemSource;
 use bec_disk::{MemShelf, Part};
 use lm_ots::OtsType;
-use seal_commands::{INPUT_LIMIT, SealRefusal, unseal_in};
+use seal_commands::{INPUT_LIMIT, SealRefusal, unseal};
 use std::alloc::{AllocError, Global};
 use std::test::Fail;
 
@@ -167,7 +167,7 @@ const KEY: [u8; 60] = [0; 60];
 /// What `unseal` says of a message of so many bytes, with a seal that is none.
 fn unsealed(alloc: Global, length: usize) -> Result<Answer, AllocError> {
     let mut input = MemSource::new(vec![in alloc; 0u8; length]?, Vec::new(alloc));
-    Ok(unseal_in(alloc, &KEY, &[], &mut input))
+    Ok(unseal(alloc, &KEY, &[], &mut input))
 }
 
 #[test]

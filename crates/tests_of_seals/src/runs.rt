@@ -10,7 +10,7 @@ use hss_chain::verify_hss;
 use lm_ots::OtsType;
 use lms_tree::{KeyTypes, LmsType, OneThread};
 use rand_pcg::Pcg32;
-use seal_commands::{SealRefusal, hsskey_in, seal_in};
+use seal_commands::{SealRefusal, hsskey};
 use std::alloc::{AllocError, Global};
 
 /// The bytes that a command prints in digits, or why it is refused.
@@ -38,7 +38,7 @@ pub fn draw(alloc: Global, shelf: &mut MemShelf, ots: OtsType) -> Answer
         ots,
     };
     let mut random = Pcg32::new(42, 54);
-    match hsskey_in(&OneThread, alloc, shelf, "A", types, &mut random) {
+    match hsskey(&OneThread, alloc, shelf, "A", types, &mut random) {
         Ok(line) => bytes_of(alloc, &line),
         Err(why) => Err(why),
     }
@@ -54,7 +54,7 @@ pub fn seal(alloc: Global, shelf: &mut MemShelf, number: u64, msg: &[u8]) -> Ans
         return Err(SealRefusal::Memory);
     };
     let mut input = MemSource::new(bytes, Vec::new(alloc));
-    match seal_in(&OneThread, alloc, shelf, "A", &mut random, &mut input) {
+    match seal_commands::seal(&OneThread, alloc, shelf, "A", &mut random, &mut input) {
         Ok(line) => bytes_of(alloc, &line),
         Err(why) => Err(why),
     }

@@ -1,8 +1,8 @@
 //! Sessions as words: a letter for each frame that comes, and letters for what is answered.
 //!
-//! A frame is a letter of [`frame_for`]. What it is answered with is a word, and each word ends with a bar: `h` a Hello, `i` an
-//! update, `f` a Turn that says that all is held, `n` one that asks, `t` one that does neither, `D` done, `#` full, `!` a fault of
-//! the store, `v` another version, and the other faults of a peer by number.
+//! A frame is a letter of [`frame_for`]. What it is answered with is a word, and each word ends with a bar: `h` a
+//! Hello, `i` an update, `f` a Turn that says that all is held, `n` one that asks, `t` one that does neither, `D` done,
+//! `#` full, `!` a fault of the store, `v` another version, and the other faults of a peer by number.
 
 ghost use Rattle.std.specs.Prelude.{◌≡◌, ◌≤◌, IfOk, length};
 ghost use Rattle.std.specs.List.Sorted.{IsStrictlySortedBy};

@@ -5,8 +5,8 @@ use lm_ots::{OtsType, candidate, public_of, sign};
 use sha2::{Digest, Sha256};
 use std::test::Fail;
 
-/// BouncyCastle 1.72 signed "abc" with a leaf of four keys of height 5, one of each type. Stated here are the leaf and the
-/// SHA-256 digest of the LM-OTS signature.
+/// BouncyCastle 1.72 signed "abc" with a leaf of four keys of height 5, one of each type. Stated here are the leaf and
+/// the SHA-256 digest of the LM-OTS signature.
 static SIGNATURES: [(OtsType, u32, [u8; 32]); 4] = [
     (
         OtsType::W1,

@@ -16,8 +16,8 @@ pub struct Parts {
     pub random: [u8; 32],
 }
 
-/// The parts that BouncyCastle was given for the key of two types: the digests of two texts. It digests a message behind
-/// H(I, q, 0xfffd, 0xff, SEED).
+/// The parts that BouncyCastle was given for the key of two types: the digests of two texts. It digests a message
+/// behind H(I, q, 0xfffd, 0xff, SEED).
 pub fn parts_of_key(alloc: Global, tree: u32, one_time: u32, q: u32) -> Result<Parts, Fail> {
     let text = format!(in alloc; "lms vector I {tree} {one_time}")?;
     let mut ident = [0; 16];
@@ -66,9 +66,9 @@ fn signatures_are_made_again(rt: HostRuntime) -> Result<(), Fail> {
     Ok(())
 }
 
-/// Of height 15 the one-time signature is made, and the path is taken over. Signatures that differ from it in one byte were
-/// refused by another program written from the RFC: another q, a q beyond the leaves, another LM-OTS type, C, y[0], the last
-/// y, another LMS type, the path's ends.
+/// Of height 15 the one-time signature is made, and the path is taken over. Signatures that differ from it in one byte
+/// were refused by another program written from the RFC: another q, a q beyond the leaves, another LM-OTS type, C,
+/// y[0], the last y, another LMS type, the path's ends.
 #[test]
 fn a_tall_tree_verifies(rt: HostRuntime) -> Result<(), Fail> {
     let (lms, ots) = (LmsType::H15, OtsType::W8);

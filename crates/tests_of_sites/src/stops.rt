@@ -3,7 +3,7 @@ use lms_tree::{KeyTypes, LmsType};
 use numbered_words::Words;
 use std::alloc::{AllocError, Global};
 use update_model::OpList;
-use world_site::Site;
+use world_rules::Site;
 
 const TEXT: &[u8] = b"DATABASE tasks\nTABLE list\nCOLUMN title TEXT 1 40\nSAMPLE \"Home\"\n";
 

@@ -90,7 +90,8 @@ fn found(alloc: Global, rule: &DbRule, disk: &MemDisk, choice: u64) -> Result<(u
     Ok((graph.byte_len(), log.dropped()))
 }
 
-/// How many bytes of updates three crashes leave: what was synced, what is read, and a mixture as long as what was synced.
+/// How many bytes of updates three crashes leave: what was synced, what is read, and a mixture as long as what was
+/// synced.
 fn left_on(alloc: Global, rule: &DbRule, disk: &MemDisk) -> Result<[u64; 3], Fail> {
     let (synced, _) = found(alloc, rule, disk, 0)?;
     let (read, _) = found(alloc, rule, disk, 1)?;
@@ -108,8 +109,8 @@ fn two_updates(alloc: Global, rule: &DbRule) -> Result<Graph<Checked>, Fail>
     Ok(graph)
 }
 
-/// Appends a batch to an empty log, and once more after a repair where that failed and it `repairs`, and answers whether it
-/// was done.
+/// Appends a batch to an empty log, and once more after a repair where that failed and it `repairs`, and answers
+/// whether it was done.
 fn append_to(
     log: &mut Log<MemDisk>,
     held: &Graph<Checked>,

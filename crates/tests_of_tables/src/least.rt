@@ -23,8 +23,8 @@ fn row_of(update: UpdateId) -> RowName {
     RowName { update, index: 0 }
 }
 
-/// Two updates that insert one value apart, the lesser id first; one behind the second that inserts it again; and one that
-/// deletes the row of the first.
+/// Two updates that insert one value apart, the lesser id first; one behind the second that inserts it again; and one
+/// that deletes the row of the first.
 fn updates(alloc: Global) -> Result<Vec<Checked>, Fail> {
     let seed = KeySeed {
         lms: LmsType::H5,

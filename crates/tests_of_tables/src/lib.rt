@@ -1,5 +1,5 @@
-//! Tests of tables that are kept while signed updates arrive: what hides a row is counted in whatever order it arrives, and no
-//! chain of rows is walked to tell whether its last row is visible.
+//! Tests of tables that are kept while signed updates arrive: what hides a row is counted in whatever order it arrives,
+//! and no chain of rows is walked to tell whether its last row is visible.
 #![tactic(auto)]
 
 #[cfg(test)]

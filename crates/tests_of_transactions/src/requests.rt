@@ -1,6 +1,6 @@
 //! Words of the command line.
 
-use command_words::{net_request_in, request_in};
+use command_words::{parse_net_request, parse_request};
 use std::alloc::{AllocError, Global};
 
 /// Words, parted by `|`, and what they ask for.
@@ -153,8 +153,8 @@ fn words_of(alloc: Global, line: &str) -> Result<Vec<String>, AllocError> {
 
 /// What words ask for, alone or over a net, and nothing where they do so neither way.
 fn asked(alloc: Global, words: &[String]) -> Result<String, AllocError> {
-    let alone = request_in(alloc, words)?;
-    let over_a_net = net_request_in(alloc, words)?;
+    let alone = parse_request(alloc, words)?;
+    let over_a_net = parse_net_request(alloc, words)?;
     match (&alone, &over_a_net) {
         (None, None) => Ok(String::new(alloc)),
         (Some(request), None) => format!(in alloc; "{request:?}"),

@@ -19,8 +19,8 @@ SAMPLE \"Buy\" 3 NULL\n";
 /// What `@` stands for in a text: the name of a row.
 const NAME: &str = "00112233445566778899aabbccddeeff00112233445566778899aabbccddeeff:0";
 
-/// A text, and how many operations it is or its first fault. `@` stands for the name of a row, and `~` for a byte that is
-/// not UTF-8.
+/// A text, and how many operations it is or its first fault. `@` stands for the name of a row, and `~` for a byte that
+/// is not UTF-8.
 const TEXTS: &[(&str, &str)] = &[
     ("", "0"),
     (" \t\n\n", "0"),

@@ -23,8 +23,8 @@ fn is_answered(
     })
 }
 
-/// The place of the byte that is changed, the rule's database, whether each author that it lists is the one who signed, and
-/// the words.
+/// The place of the byte that is changed, the rule's database, whether each author that it lists is the one who signed,
+/// and the words.
 const REFUSED: &[(usize, u8, &[bool], &str)] = &[
     (9999, 0xdd, &[], ""),
     (9999, 0xdd, &[false, true], ""),

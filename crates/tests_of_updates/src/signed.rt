@@ -11,8 +11,8 @@ pub const PLAIN: &[u8] = b"\x00\x00\x00\x00";
 /// The database of the updates.
 pub const DATABASE: [u8; 32] = [0xdd; 32];
 
-/// The spelling of an update with what stands behind its author, and its author: a key of types 5 and 2, whose own bytes
-/// are 0 to 15, and whose seed has 32 bytes 7. A signature has 4,460 bytes, and verifying it is cheap.
+/// The spelling of an update with what stands behind its author, and its author: a key of types 5 and 2, whose own
+/// bytes are 0 to 15, and whose seed has 32 bytes 7. A signature has 4,460 bytes, and verifying it is cheap.
 pub fn signed(alloc: Global, rest: &[u8]) -> Result<(Vec<u8>, AuthorKey), AllocError> {
     let ident = *b"\x00\x01\x02\x03\x04\x05\x06\x07\x08\x09\x0a\x0b\x0c\x0d\x0e\x0f";
     let seed = KeySeed {

@@ -11,7 +11,7 @@ use record_check::OneThread;
 use std::alloc::{AllocError, Global};
 use std::mem;
 use std::test::Fail;
-use watch_command::{Watch, watch_in};
+use watch_command::{Watched, watch};
 
 /// Tasks on lists: deleting a list takes its tasks along, and deleting a task clears the references to it.
 const TASKS: &str =
@@ -215,13 +215,14 @@ fn is_told(
     requires home { IsHome (shelf_of shelf.old) }
     ensures home { IsHome (shelf_of shelf.new) }
 {
-    let what = Watch {
+    let what = Watched {
+        directory: "B",
         text: row.query,
         every: row.every,
     };
     let mut input = MemSource::new(Vec::from_slice(alloc, stream)?, Vec::new(alloc));
     let mut out = MemSink::new(alloc, Vec::new(alloc));
-    let came = watch_in(&OneThread, alloc, shelf, "B", &what, &mut input, &mut out);
+    let came = watch(&OneThread, alloc, shelf, &what, &mut input, &mut out);
     Ok(came == status && out.bytes() == told.as_bytes())
 }
 

@@ -1,5 +1,5 @@
-//! Tests of worlds: scripts and what they are read as, reports, and what scripts come to. The answers come from the formats' own
-//! description.
+//! Tests of worlds: scripts and what they are read as, reports, and what scripts come to. The answers come from the
+//! formats' own description.
 #![tactic(auto)]
 
 #[cfg(test)]

@@ -20,7 +20,8 @@ pub fn lines_are_the_text()
 
 /// The words that are read are those of the rules, so a line has at most one list of words.
 pub fn words_are_by_rule()
-    ensures { (style : Style) (line : List ℕ) (words : List Word) → AreWords style line words ↔ (words_of style line ≡ Some words) }
+    ensures { (style : Style) (line : List ℕ) (words : List Word) → AreWords style line words
+        ↔ (words_of style line ≡ Some words) }
 {}
 
 /// An integer is read from a word exactly where the word is what is printed of it, and 64 bits hold it.

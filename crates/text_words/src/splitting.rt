@@ -1,6 +1,8 @@
 ghost use Rattle.std.specs.Prelude.{◌≡◌, option_map, position, IfOk};
 ghost use Rattle.std.specs.List.{position_or_len};
-ghost use Rattle.text_words.specs.Words.{skip_blanks as after_blanks, passed_over, first_word as word_at_front, quoted_word as quoted_at, plain_word as plain_at, words_of, mark_of, is_end as is_end_byte, ends_word as word_ends};
+ghost use Rattle.text_words.specs.Words.{skip_blanks as after_blanks, passed_over, first_word as word_at_front};
+ghost use Rattle.text_words.specs.Words.{quoted_word as quoted_at, plain_word as plain_at, words_of, mark_of};
+ghost use Rattle.text_words.specs.Words.{is_end as is_end_byte, ends_word as word_ends};
 ghost use Rattle.text_words.specs.declared.style.Style.TheVariants.{Spaced, Punctuated};
 
 use crate::quoting::text_of;

@@ -8,7 +8,8 @@ ghost use Rattle.table_model.specs.Verdicts.{in_table};
 ghost use Rattle.std.specs.List.{list_any};
 ghost use Rattle.tuple_state.specs.declared.inserted.Inserted.{Inserted as Row};
 ghost use Rattle.tuple_state.specs.Kept.{are_grounded, are_layered, are_referred};
-ghost use Rattle.tuple_state.specs.Past.{AreKnownThen, Lasts, StandsAt, child_then, count_then, done_then, equal_then, row_then, visible_at};
+ghost use Rattle.tuple_state.specs.Past.{AreKnownThen, Lasts, StandsAt, child_then, count_then, done_then, equal_then};
+ghost use Rattle.tuple_state.specs.Past.{row_then, visible_at};
 ghost use Rattle.tuple_state.specs.State.{done_in, keep_any, row_of, rules_of_state};
 
 use crate::Tables;
@@ -16,26 +17,28 @@ use std::alloc::{AllocError, Global};
 use std::collections::BTreeSet;
 use update_model::{Ancestors, RowEntry, RowName, RowsAt, Value};
 
-/// The rows that are visible after the ancestors of one update, which [`Tables::at`] lends. Where a table keeps the least
-/// row of each value, it is counted once which rows these are, and each question is answered of that.
+/// The rows that are visible after the ancestors of one update, which [`Tables::at`] lends. Where a table keeps the
+/// least row of each value, it is counted once which rows these are, and each question is answered of that.
 #[derive(Drop)]
 pub struct At<'a, A: Ancestors> {
     tables: &'a Tables,
     ancestors: &'a A,
     position: u32,
-    /// Of each row a number that is 0 where it is visible then, where a table keeps the least row of each value, and else
-    /// nothing.
+    /// Of each row a number that is 0 where it is visible then, where a table keeps the least row of each value, and
+    /// else nothing.
     known: Vec<u32>,
     ghost founded: { are_layered (rules_of_state tables.now) (done_in tables.now).inserted ≡ true },
     ghost referred: { are_referred (rules_of_state tables.now) (done_in tables.now).inserted ≡ true },
     ghost lasting: { Lasts (A.ancestor ancestors.now) tables.now position },
-    ghost layered: { are_layered (rules_of_state tables.now) (done_then tables.now (λ p. A.ancestor ancestors.now p position)).inserted ≡ true },
-    ghost grounded: { are_grounded (rules_of_state tables.now) (done_then tables.now (λ p. A.ancestor ancestors.now p position)).inserted ≡ true },
+    ghost layered: { are_layered (rules_of_state tables.now)
+        (done_then tables.now (λ p. A.ancestor ancestors.now p position)).inserted ≡ true },
+    ghost grounded: { are_grounded (rules_of_state tables.now)
+        (done_then tables.now (λ p. A.ancestor ancestors.now p position)).inserted ≡ true },
     ghost counted: { AreKnownThen (A.ancestor ancestors.now) tables.now position known.items },
 }
 
-/// Of each row a number that is 0 where it is visible after the ancestors of the update at this position, where a table keeps
-/// the least row of each value, and else nothing.
+/// Of each row a number that is 0 where it is visible after the ancestors of the update at this position, where a table
+/// keeps the least row of each value, and else nothing.
 fn known_then<A: Ancestors>(
     alloc: Global,
     tables: &Tables,
@@ -53,8 +56,8 @@ fn known_then<A: Ancestors>(
 }
 
 impl<'a, A: Ancestors> At<'a, A> {
-    /// The rows of these tables that are visible after the ancestors of the update at this position. Where a table keeps the
-    /// least row of each value it goes over all rows.
+    /// The rows of these tables that are visible after the ancestors of the update at this position. Where a table
+    /// keeps the least row of each value it goes over all rows.
     pub(crate) fn new(
         alloc: Global,
         tables: &'a Tables,
@@ -75,10 +78,12 @@ impl<'a, A: Ancestors> At<'a, A> {
         })
     }
 
-    /// Whether there is a row with this name, and a column that refers to its table by `RESTRICT`. Else no row names it so,
-    /// since a reference names a row of the table that it is to.
+    /// Whether there is a row with this name, and a column that refers to its table by `RESTRICT`. Else no row names it
+    /// so, since a reference names a row of the table that it is to.
     fn may_be_held(&self, name: &RowName) -> bool
-        ensures { result ≡ false → child_then self.now.tables.now (λ p. A.ancestor self.now.ancestors.now p self.now.position) name.now ≡ false }
+        ensures { result ≡ false
+            → child_then self.now.tables.now (λ p. A.ancestor self.now.ancestors.now p self.now.position)
+            name.now ≡ false }
     {
         match self.tables.place(name) {
             Some(place) => self.tables.is_held(self.tables.row(place).entry.table),
@@ -91,7 +96,8 @@ impl<'a, A: Ancestors> At<'a, A> {
         requires { place < length self.now.tables.now.inserted }
         ensures { IfOk result (λ answer. (it : Row) → slice_get self.now.tables.now.inserted place ≡ Some it
             → answer ≡ (visible_at (A.ancestor self.now.ancestors.now) self.now.tables.now self.now.position it.name
-            && list_any (λ r. is_restrict r.action && same_row r.name name.now) (refs (rules_of_state self.now.tables.now) (row_of it)))) }
+            && list_any (λ r. is_restrict r.action && same_row r.name name.now)
+            (refs (rules_of_state self.now.tables.now) (row_of it)))) }
     {
         if self.tables.restricts(place, name) {
             self.stands(alloc, place)
@@ -148,9 +154,9 @@ impl<'a, A: Ancestors> At<'a, A> {
         }
     }
 
-    /// Whether the row at a place is visible then, where no table keeps the least row of each value. A row that is visible now
-    /// is, where its update is an ancestor. Of others it looks at the rows to which `CASCADE` references lead, which ancestors
-    /// inserted too, each once, the newest first: a row names only rows before it.
+    /// Whether the row at a place is visible then, where no table keeps the least row of each value. A row that is
+    /// visible now is, where its update is an ancestor. Of others it looks at the rows to which `CASCADE` references
+    /// lead, which ancestors inserted too, each once, the newest first: a row names only rows before it.
     fn climbs(&self, alloc: Global, place: usize) -> Result<bool, AllocError>
         requires plain { keep_any self.now.tables.now.shapes ≡ false }
         requires inside { place < length self.now.tables.now.inserted }
@@ -186,8 +192,8 @@ impl<'a, A: Ancestors> RowsAt for At<'a, A> {
     ghost count = { λ at. count_then at.tables.now (λ p. A.ancestor at.ancestors.now p at.position) };
 
     /// The row with this name, where it is visible then. It takes the time of a walk over the rows to which `CASCADE`
-    /// references lead from it, and over what deletes them, or, where a table keeps the least row of each value, of a look
-    /// at what is counted already.
+    /// references lead from it, and over what deletes them, or, where a table keeps the least row of each value, of a
+    /// look at what is counted already.
     fn row_at(&self, alloc: Global, name: &RowName) -> Result<Option<&RowEntry>, AllocError> {
         match self.tables.place(name) {
             Some(place) => {
@@ -201,8 +207,8 @@ impl<'a, A: Ancestors> RowsAt for At<'a, A> {
         }
     }
 
-    /// Whether a row that is visible then names this one by `RESTRICT`. It goes over all rows only where a column refers to
-    /// the row's table by `RESTRICT`. In no schema that is accepted may rows of such a table be deleted.
+    /// Whether a row that is visible then names this one by `RESTRICT`. It goes over all rows only where a column
+    /// refers to the row's table by `RESTRICT`. In no schema that is accepted may rows of such a table be deleted.
     fn restrict_child(&self, alloc: Global, name: &RowName) -> Result<bool, AllocError> {
         if !self.may_be_held(name) {
             return Ok(false);

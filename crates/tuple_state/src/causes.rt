@@ -1,9 +1,11 @@
 //! How many causes each row has to be absent, kept as they come.
 
-ghost use Rattle.std.specs.Prelude.{◌≡◌, ◌+◌, ◌<◌, ◌≤◌, ◌^◌, ◌⊎◌, ◌++◌, ℕ, List, [], true, IfOk, count_by, length, slice_index_or, vec_len};
+ghost use Rattle.std.specs.Prelude.{◌≡◌, ◌+◌, ◌<◌, ◌≤◌, ◌^◌, ◌⊎◌, ◌++◌, ℕ, List, [], true, IfOk, count_by, length};
+ghost use Rattle.std.specs.Prelude.{slice_index_or, vec_len};
 ghost use Rattle.std.specs.Vec.{vec_capacity};
 ghost use Rattle.tuple_state.specs.declared.links.Link.{Link as Pair};
-ghost use Rattle.tuple_state.specs.Causes.{AreRising, Raised, absent_times, are_below, one_at, pending_times, standing, times_in, times_of};
+ghost use Rattle.tuple_state.specs.Causes.{AreRising, Raised, absent_times, are_below, one_at, pending_times, standing};
+ghost use Rattle.tuple_state.specs.Causes.{times_in, times_of};
 ghost use Rattle.tuple_state.specs.Links.{are_inside, is_of};
 
 use crate::deleters::Added;
@@ -15,7 +17,8 @@ fn raise(causes: &mut [u32], pending: &mut Vec<usize>, place: usize)
     requires inside { place < length causes.old }
     requires few { slice_index_or causes.old place 0 + 1 < 2 ^ 32 }
     requires room { standing causes.old + vec_len pending.old ≤ vec_capacity pending.old }
-    ensures raised { (links : List Pair) → Raised links (one_at place) causes.old pending.old.items causes.new pending.new.items }
+    ensures raised { (links : List Pair) → Raised links (one_at place) causes.old pending.old.items causes.new
+        pending.new.items }
     ensures room { vec_capacity pending.old ≤ vec_capacity pending.new }
 {
     if causes[place] == 0 {
@@ -30,7 +33,8 @@ fn raise_children(causes: &mut [u32], pending: &mut Vec<usize>, children: &Links
     requires rising { AreRising 0 (length causes.old) children.now.links }
     requires few { (k : ℕ) → slice_index_or causes.old k 0 + times_in children.now.links k < 2 ^ 32 }
     requires room { standing causes.old + vec_len pending.old ≤ vec_capacity pending.old }
-    ensures raised { Raised children.now.links (times_of children.now.links place) causes.old pending.old.items causes.new pending.new.items }
+    ensures raised { Raised children.now.links (times_of children.now.links place) causes.old pending.old.items
+        causes.new pending.new.items }
     ensures room { vec_capacity pending.old ≤ vec_capacity pending.new }
 {
     let mut next = children.newest(place);
@@ -45,10 +49,12 @@ pub(crate) fn spread(causes: &mut [u32], pending: &mut Vec<usize>, children: &Li
     requires each { children.now.size ≡ length causes.old }
     requires rising { AreRising 0 (length causes.old) children.now.links }
     requires inside { are_below (length causes.old) pending.old.items ≡ true }
-    requires few { (k : ℕ) → slice_index_or causes.old k 0 + pending_times children.now.links pending.old.items k + times_in children.now.links k + times_in children.now.links k < 2 ^ 32 }
+    requires few { (k : ℕ) → slice_index_or causes.old k 0 + pending_times children.now.links pending.old.items
+        k + times_in children.now.links k + times_in children.now.links k < 2 ^ 32 }
     requires room { standing causes.old + vec_len pending.old ≤ vec_capacity pending.old }
     ensures { (k : ℕ) → slice_index_or causes.new k 0 + absent_times children.now.links causes.old k
-        ≡ slice_index_or causes.old k 0 + pending_times children.now.links pending.old.items k + absent_times children.now.links causes.new k }
+        ≡ slice_index_or causes.old k 0 + pending_times children.now.links pending.old.items k + absent_times
+        children.now.links causes.new k }
 {
     while let Some(place) = pending.pop() {
         raise_children(causes, pending, children, place);
@@ -60,7 +66,8 @@ pub(crate) fn raise_all(causes: &mut [u32], pending: &mut Vec<usize>, links: &[L
     requires inside { are_inside (length causes.old) links.now ≡ true }
     requires few { (k : ℕ) → slice_index_or causes.old k 0 + count_by (is_of k) links.now < 2 ^ 32 }
     requires room { standing causes.old + vec_len pending.old ≤ vec_capacity pending.old }
-    ensures raised { (all : List Pair) → Raised all (λ k. count_by (is_of k) links.now) causes.old pending.old.items causes.new pending.new.items }
+    ensures raised { (all : List Pair) → Raised all (λ k. count_by (is_of k) links.now) causes.old pending.old.items
+        causes.new pending.new.items }
     ensures room { vec_capacity pending.old ≤ vec_capacity pending.new }
 {
     for link in links {
@@ -83,7 +90,8 @@ pub(crate) fn count_places(causes: &mut [u32], links: &[Link])
 pub(crate) fn count_numbers(causes: &mut [u32], links: &[Link])
     requires rising { AreRising 0 (length causes.old) links.now }
     requires few { (k : ℕ) → slice_index_or causes.old k 0 + times_in links.now k < 2 ^ 32 }
-    ensures { (k : ℕ) → slice_index_or causes.new k 0 ≡ slice_index_or causes.old k 0 + absent_times links.now causes.new k }
+    ensures { (k : ℕ) → slice_index_or causes.new k 0 ≡ slice_index_or causes.old k 0 + absent_times links.now
+        causes.new k }
 {
     for link in links {
         if causes[link.place] != 0 {
@@ -101,8 +109,8 @@ pub(crate) fn clear(causes: &mut [u32])
     }
 }
 
-/// Adds the causes that come of new links: counts of the rows behind the known ones, whose counts are 0 before, and what
-/// deletions make absent.
+/// Adds the causes that come of new links: counts of the rows behind the known ones, whose counts are 0 before, and
+/// what deletions make absent.
 pub(crate) fn add_causes(
     causes: &mut [u32],
     pending: &mut Vec<usize>,
@@ -115,12 +123,15 @@ pub(crate) fn add_causes(
     requires dropped { are_inside (length causes.old) added.now.dropped.items ≡ true }
     requires idle { pending.old.items ≡ [] }
     requires room { (added.now.dropped.items ≡ []) ⊎ (length causes.old ≤ vec_capacity pending.old) }
-    requires few { (k : ℕ) → slice_index_or causes.old k 0 + times_in added.now.parents.items k + count_by (is_of k) added.now.dropped.items
+    requires few { (k : ℕ) → slice_index_or causes.old k 0 + times_in added.now.parents.items k + count_by (is_of k)
+        added.now.dropped.items
         + times_in children.now.links k + times_in children.now.links k + times_in children.now.links k < 2 ^ 32 }
-    ensures { (known : ℕ) (old deleted : List Pair) → children.now.links ≡ old ++ added.now.parents.items → AreRising known (length causes.old) added.now.parents.items
+    ensures { (known : ℕ) (old deleted : List Pair) → children.now.links ≡ old ++ added.now.parents.items
+        → AreRising known (length causes.old) added.now.parents.items
         → are_inside known old ≡ true
         → ((k : ℕ) → slice_index_or causes.old k 0 ≡ count_by (is_of k) deleted + absent_times old causes.old k)
-        → (k : ℕ) → slice_index_or causes.new k 0 ≡ count_by (is_of k) (deleted ++ added.now.dropped.items) + absent_times children.now.links causes.new k }
+        → (k : ℕ) → slice_index_or causes.new k 0 ≡ count_by (is_of k) (deleted ++ added.now.dropped.items)
+        + absent_times children.now.links causes.new k }
 {
     count_numbers(causes, added.parents.as_slice());
     if !added.dropped.is_empty() {

@@ -14,8 +14,8 @@ use std::alloc::{AllocError, Global};
 use std::collections::BTreeMap;
 use update_model::RowName;
 
-/// No more links are kept than this, so that a count of causes fits 32 bits. No history comes to as many: 131,072 updates of
-/// 256 operations of 16 columns are no more.
+/// No more links are kept than this, so that a count of causes fits 32 bits. No history comes to as many: 131,072
+/// updates of 256 operations of 16 columns are no more.
 const MAX_LINKS: usize = 536_870_912;
 
 /// The links that an update adds.
@@ -27,7 +27,8 @@ pub(crate) struct Added {
     pub(crate) dropped: Vec<Link>,
 }
 
-/// Adds so many places, the rows that name others, and the updates that delete rows. After an error nothing has changed.
+/// Adds so many places, the rows that name others, and the updates that delete rows. After an error nothing has
+/// changed.
 pub(crate) fn grow_links(
     alloc: Global,
     children: &mut Links,
@@ -45,10 +46,18 @@ pub(crate) fn grow_links(
     requires named { list_all (λ (drop : Drop). is_some (get name_cmp places.now drop.name)) parents.now ≡ true }
     requires found { list_all (λ (drop : Drop). is_some (get name_cmp places.now drop.name)) dropped.now ≡ true }
     requires inside { (name : Name) (place : ℕ) → get name_cmp places.now name ≡ Some place → place < size + more }
-    ensures children { MatchResult result (λ added. children.new ≡ record { size = size + more; links = children.old.links ++ added.parents.items }) (λ _. children.new ≡ children.old) }
-    ensures deleters { MatchResult result (λ added. deleters.new ≡ record { size = size + more; links = deleters.old.links ++ added.dropped.items }) (λ _. deleters.new ≡ deleters.old) }
-    ensures parents { IfOk result (λ added. pairs_of added.parents.items ≡ deletes_at (get name_cmp places.now) parents.now) }
-    ensures dropped { IfOk result (λ added. pairs_of added.dropped.items ≡ deletes_at (get name_cmp places.now) dropped.now) }
+    ensures children { MatchResult result (λ added. children.new ≡ record {
+      size = size + more;
+      links = children.old.links ++ added.parents.items;
+    }) (λ _. children.new ≡ children.old) }
+    ensures deleters { MatchResult result (λ added. deleters.new ≡ record {
+      size = size + more;
+      links = deleters.old.links ++ added.dropped.items;
+    }) (λ _. deleters.new ≡ deleters.old) }
+    ensures parents { IfOk result (λ added. pairs_of added.parents.items ≡ deletes_at (get name_cmp places.now)
+        parents.now) }
+    ensures dropped { IfOk result (λ added. pairs_of added.dropped.items ≡ deletes_at (get name_cmp places.now)
+        dropped.now) }
     ensures few_children { length children.new.links ≤ 536870912 }
     ensures few_deleters { length deleters.new.links ≤ 536870912 }
 {

@@ -1,6 +1,7 @@
 //! The rows of tables that keep the least row of each value, in groups of one value.
 
-ghost use Rattle.std.specs.Prelude.{◌≡◌, ◌+◌, ◌<◌, ◌≤◌, ◌==◌, ◌&&◌, ◌++◌, ◌∷◌, [], true, IfOk, OnOk, length, position, take};
+ghost use Rattle.std.specs.Prelude.{◌≡◌, ◌+◌, ◌<◌, ◌≤◌, ◌==◌, ◌&&◌, ◌++◌, ◌∷◌, [], true, IfOk, OnOk, length, position};
+ghost use Rattle.std.specs.Prelude.{take};
 ghost use Rattle.std.specs.Vec.{vec_capacity};
 ghost use Rattle.row_check.specs.declared.cmp.Cmp.TheVariants.{Eq};
 ghost use Rattle.row_check.specs.Comparisons.{compares};
@@ -46,9 +47,12 @@ impl Groups {
         ensures numbers { self.new.numbers.items ≡ self.old.numbers.items }
         ensures least { self.new.least.items ≡ self.old.least.items }
         ensures nexts { self.new.nexts.items ≡ self.old.nexts.items }
-        ensures room { OnOk result (keep_any shapes.now ≡ true → length self.old.numbers.items + more ≤ vec_capacity self.new.numbers) }
-        ensures space { OnOk result (keep_any shapes.now ≡ true → length self.old.least.items + more ≤ vec_capacity self.new.least) }
-        ensures way { OnOk result (keep_any shapes.now ≡ true → length self.old.nexts.items + more ≤ vec_capacity self.new.nexts) }
+        ensures room { OnOk result (keep_any shapes.now ≡ true → length self.old.numbers.items + more ≤ vec_capacity
+            self.new.numbers) }
+        ensures space { OnOk result (keep_any shapes.now ≡ true → length self.old.least.items + more ≤ vec_capacity
+            self.new.least) }
+        ensures way { OnOk result (keep_any shapes.now ≡ true → length self.old.nexts.items + more ≤ vec_capacity
+            self.new.nexts) }
     {
         if keep_any(shapes) {
             self.numbers.reserve(more)?;
@@ -123,7 +127,8 @@ fn group_of(rows: &[Inserted], groups: &[usize], shapes: &[Shape], place: usize)
 
 /// The place of the first of these rows that is of the table of a row and has its value in a column.
 fn first_alike(rows: &[Inserted], row: &Inserted, column: u8) -> Option<usize>
-    ensures { result ≡ position (λ other. (other.entry.table == row.now.entry.table) && are_equal column other row.now) rows.now }
+    ensures { result ≡ position (λ other. (other.entry.table == row.now.entry.table) && are_equal column other row.now)
+        rows.now }
 {
     rows.iter().position(|other| is_alike(other, row, column))
 }

@@ -68,7 +68,8 @@ fn shown_in<'a>(
     number: usize,
 ) -> Option<&'a Value>
     ensures { unwrap_or (option_copied result) Null
-        ≡ value_at (shown_values_by (is_visible (rules_of_state tables.now) (done_in tables.now)) columns.now values.now) number }
+        ≡ value_at (shown_values_by (is_visible (rules_of_state tables.now) (done_in tables.now)) columns.now
+        values.now) number }
 {
     match values.get(number) {
         Some(value) => match columns.get(number) {
@@ -81,7 +82,8 @@ fn shown_in<'a>(
 
 /// What a value shows in a column.
 fn shown_at<'a>(tables: &Tables, column: &Column, value: &'a Value) -> Option<&'a Value>
-    ensures { unwrap_or (option_copied result) Null ≡ shown_by (is_visible (rules_of_state tables.now) (done_in tables.now)) column.now.kind value.now }
+    ensures { unwrap_or (option_copied result) Null ≡ shown_by (is_visible (rules_of_state tables.now)
+        (done_in tables.now)) column.now.kind value.now }
 {
     if is_nulled(tables, column, value) {
         None
@@ -91,10 +93,11 @@ fn shown_at<'a>(tables: &Tables, column: &Column, value: &'a Value) -> Option<&'
 }
 
 impl Tables {
-    /// The row at a place among all rows in order of arrival, where it is one of the table with this number, and visible. It
-    /// takes no memory. Place after place these are the rows that the table lists, each once.
+    /// The row at a place among all rows in order of arrival, where it is one of the table with this number, and
+    /// visible. It takes no memory. Place after place these are the rows that the table lists, each once.
     pub fn lend(&self, table: u8, place: usize) -> Option<Lent<'_>>
-        ensures { option_to_list result ≡ listed_rows self.now table (option_to_list (slice_get self.now.inserted place)) }
+        ensures { option_to_list result ≡ listed_rows self.now table
+            (option_to_list (slice_get self.now.inserted place)) }
     {
         if place < self.row_len() && is_listed(self, table, place) {
             Some(Lent::new(self, self.row(place)))
@@ -103,7 +106,8 @@ impl Tables {
         }
     }
 
-    /// The visible row with this name, where the table with this number lists it. It takes no memory, and logarithmic time.
+    /// The visible row with this name, where the table with this number lists it. It takes no memory, and logarithmic
+    /// time.
     pub fn lend_named(&self, table: u8, name: &RowName) -> Option<Lent<'_>>
         ensures { result ≡ find (λ row. same_row row.name name.now) (arrived self.now table) }
     {

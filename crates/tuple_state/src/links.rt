@@ -1,6 +1,7 @@
 //! Numbers that belong to places.
 
-ghost use Rattle.std.specs.Prelude.{◌≡◌, ℕ, ◌+◌, ◌-◌, ◌<◌, ◌≤◌, [], ◌∷◌, ◌++◌, true, None, Some, IfOk, MatchResult, drop, length, slice_get, slice_index_or, take};
+ghost use Rattle.std.specs.Prelude.{◌≡◌, ℕ, ◌+◌, ◌-◌, ◌<◌, ◌≤◌, [], ◌∷◌, ◌++◌, true, None, Some, IfOk, MatchResult};
+ghost use Rattle.std.specs.Prelude.{drop, length, slice_get, slice_index_or, take};
 ghost use Rattle.std.specs.List.{list_any};
 ghost use Rattle.tuple_state.specs.declared.links.Link.{Link as Pair};
 ghost use Rattle.tuple_state.specs.Links.{IsBelow, IsLinked, are_inside, latest, numbers_from, numbers_of};
@@ -18,8 +19,8 @@ pub(crate) struct Link {
     pub(crate) number: u32,
 }
 
-/// For each place the numbers that belong to it: to the place of a row the positions of the updates that delete it. They
-/// are read from the newest to the oldest. A contract sees how many places there are, and the links in order.
+/// For each place the numbers that belong to it: to the place of a row the positions of the updates that delete it.
+/// They are read from the newest to the oldest. A contract sees how many places there are, and the links in order.
 #[derive(Drop)]
 pub(crate) struct Links {
     /// The links in the order in which they came.
@@ -56,7 +57,10 @@ impl Links {
     /// Adds so many places, and links. After an error nothing has changed.
     pub(crate) fn grow(&mut self, places: usize, links: &[Link]) -> Result<(), AllocError>
         requires inside { are_inside (self.old.size + places) links.now ≡ true }
-        ensures { MatchResult result (λ _. self.new ≡ record { size = self.old.size + places; links = self.old.links ++ links.now }) (λ _. self.new ≡ self.old) }
+        ensures { MatchResult result (λ _. self.new ≡ record {
+          size = self.old.size + places;
+          links = self.old.links ++ links.now;
+        }) (λ _. self.new ≡ self.old) }
     {
         let first = self.links.len();
         let size = self.newest.len();
@@ -137,7 +141,8 @@ impl Links {
     pub(crate) fn older(&self, index: usize) -> Option<usize>
         requires { index < length self.now.links }
         ensures below { IsBelow result index }
-        ensures numbers { (link : Pair) → slice_get self.now.links index ≡ Some link → numbers_from self.now.links (Some index) ≡ numbers_from self.now.links result ++ link.number ∷ [] }
+        ensures numbers { (link : Pair) → slice_get self.now.links index ≡ Some link
+            → numbers_from self.now.links (Some index) ≡ numbers_from self.now.links result ++ link.number ∷ [] }
     {
         self.older[index]
     }
@@ -159,7 +164,8 @@ impl Links {
         position: u32,
     ) -> Result<bool, AllocError>
         requires { place < self.now.size }
-        ensures { IfOk result (λ answer. answer ≡ list_any (λ number. A.ancestor ancestors.now number position) (numbers_of self.now.links place)) }
+        ensures { IfOk result (λ answer. answer ≡ list_any (λ number. A.ancestor ancestors.now number position)
+            (numbers_of self.now.links place)) }
     {
         let mut next = self.newest(place);
         while let Some(index) = next {
@@ -187,8 +193,10 @@ fn thread(newest: &mut [Option<usize>], older: &mut [Option<usize>], links: &[Li
     requires each { length older.old ≡ length links.now }
     requires inside { are_inside (length newest.old) links.now ≡ true }
     requires few { from ≤ length links.now }
-    requires last { (place : ℕ) → place < length newest.old → slice_index_or newest.old place None ≡ latest place (take from links.now) }
-    requires before { (index : ℕ) (link : Pair) → index < from → slice_get links.now index ≡ Some link → slice_index_or older.old index None ≡ latest link.place (take index links.now) }
+    requires last { (place : ℕ) → place < length newest.old → slice_index_or newest.old place None ≡ latest place
+        (take from links.now) }
+    requires before { (index : ℕ) (link : Pair) → index < from → slice_get links.now index ≡ Some link
+        → slice_index_or older.old index None ≡ latest link.place (take index links.now) }
     ensures { IsLinked newest.new older.new links.now }
 {
     for index in from..links.len() {

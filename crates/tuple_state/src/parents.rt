@@ -1,6 +1,7 @@
 //! The rows that a row names by `CASCADE`, and the places of rows.
 
-ghost use Rattle.std.specs.Prelude.{◌≡◌, ◌+◌, ◌<◌, ◌^◌, ℕ, Bool, ◌&&◌, ◌++◌, length, nat_lt, option_to_list, true, [], IfNone, IfSome, OnOk, OnErr};
+ghost use Rattle.std.specs.Prelude.{◌≡◌, ◌+◌, ◌<◌, ◌^◌, ℕ, Bool, ◌&&◌, ◌++◌, length, nat_lt, option_to_list, true, []};
+ghost use Rattle.std.specs.Prelude.{IfNone, IfSome, OnOk, OnErr};
 ghost use Rattle.std.specs.List.{list_all};
 ghost use Rattle.std.specs.BTreeMap.{get};
 ghost use Rattle.update_model.specs.declared.row_name.RowName.{RowName as Name};
@@ -72,7 +73,9 @@ pub(crate) fn remove_places(
 
 /// Adds the places of links.
 pub(crate) fn add_parents(links: &[Link], pending: &mut BTreeSet<usize>) -> Result<(), AllocError>
-    ensures { OnOk result ((test : ℕ → Bool) → list_all test pending.new.keys ≡ (list_all test pending.old.keys && list_all (λ link. test link.place) links.now)) }
+    ensures { OnOk result ((test : ℕ → Bool)
+        → list_all test pending.new.keys ≡ (list_all test pending.old.keys && list_all (λ link. test link.place)
+        links.now)) }
 {
     for link in links {
         pending.insert(link.place)?;
@@ -92,7 +95,8 @@ pub(crate) fn comes_last(places: &BTreeSet<usize>, place: usize) -> bool
 
 /// Takes the last of these places out.
 pub(crate) fn take_last(places: &mut BTreeSet<usize>) -> Option<usize>
-    ensures each { (test : ℕ → Bool) → list_all test (option_to_list result ++ places.new.keys) ≡ list_all test places.old.keys }
+    ensures each { (test : ℕ → Bool) → list_all test (option_to_list result ++ places.new.keys) ≡ list_all test
+        places.old.keys }
     ensures last { IfSome result (λ k. list_all (λ q. nat_lt q k) places.new.keys ≡ true) }
     ensures done { IfNone result (places.new.keys ≡ []) }
 {

@@ -1,15 +1,18 @@
-//! How many causes each row has to be absent, counted anew: table by table, since a row rests on rows of earlier tables, and on
-//! earlier rows of its own table where that keeps no least row. A thread leads from each row of a table to the next one, so that a
-//! table costs what it has of rows and links, and all of them together cost each row and each link once.
+//! How many causes each row has to be absent, counted anew: table by table, since a row rests on rows of earlier
+//! tables, and on earlier rows of its own table where that keeps no least row. A thread leads from each row of a table
+//! to the next one, so that a table costs what it has of rows and links, and all of them together cost each row and
+//! each link once.
 
-ghost use Rattle.std.specs.Prelude.{◌≡◌, ◌+◌, ◌<◌, ◌≤◌, ◌==◌, ◌^◌, ◌&&◌, ℕ, false, true, not, IfOk, IfSome, None, Some, count_by, length, slice_get, slice_index_or, if◌then◌else◌};
+ghost use Rattle.std.specs.Prelude.{◌≡◌, ◌+◌, ◌<◌, ◌≤◌, ◌==◌, ◌^◌, ◌&&◌, ℕ, false, true, not, IfOk, IfSome, None, Some};
+ghost use Rattle.std.specs.Prelude.{count_by, length, slice_get, slice_index_or, if◌then◌else◌};
 ghost use Rattle.std.specs.Vec.{vec_capacity};
 ghost use Rattle.std.specs.Ordering.{is_lt};
 ghost use Rattle.update_model.specs.Entry.{id_cmp};
 ghost use Rattle.table_model.specs.Counts.{one_where};
 ghost use Rattle.table_model.specs.Visible.{is_deleted, name_cmp};
 ghost use Rattle.tuple_state.specs.Causes.{AreParted, AreRising, absent_times, is_absent, times_in};
-ghost use Rattle.tuple_state.specs.Least.{AreGrouped, AreLeast, AreLevel, AreSettled, is_behind, is_first, is_in, is_lesser};
+ghost use Rattle.tuple_state.specs.Least.{AreGrouped, AreLeast, AreLevel, AreSettled, is_behind, is_first, is_in};
+ghost use Rattle.tuple_state.specs.Least.{is_lesser};
 ghost use Rattle.tuple_state.specs.Links.{are_inside, is_of};
 ghost use Rattle.tuple_state.specs.Past.{done_then};
 ghost use Rattle.tuple_state.specs.State.{keep_any};
@@ -27,8 +30,8 @@ use std::alloc::{AllocError, Global};
 use std::cmp::Ordering;
 use update_model::{Ancestors, RowName, UpdateId};
 
-/// Counts the causes of rows anew, where one of these tables keeps the least row of each value: by what deletes them, and by
-/// other rows. The groups of new rows are found first. It takes no memory.
+/// Counts the causes of rows anew, where one of these tables keeps the least row of each value: by what deletes them,
+/// and by other rows. The groups of new rows are found first. It takes no memory.
 pub(crate) fn recount(causes: &mut [u32], groups: &mut Groups, deleters: &Links, grounds: &Grounds)
     requires each { length causes.old ≡ length grounds.now.rows.now }
     requires rising { AreRising 0 (length grounds.now.rows.now) grounds.now.children.now }
@@ -41,12 +44,16 @@ pub(crate) fn recount(causes: &mut [u32], groups: &mut Groups, deleters: &Links,
     requires grouped { AreGrouped grounds.now.shapes.now grounds.now.rows.now groups.old.numbers.items }
     requires spare { length groups.old.least.items ≡ length groups.old.numbers.items }
     requires threaded { length groups.old.nexts.items ≡ length groups.old.numbers.items }
-    requires old { keep_any grounds.now.shapes.now ≡ true → length groups.old.numbers.items ≤ length grounds.now.rows.now }
-    requires room { keep_any grounds.now.shapes.now ≡ true → length grounds.now.rows.now ≤ vec_capacity groups.old.numbers }
-    requires space { keep_any grounds.now.shapes.now ≡ true → length grounds.now.rows.now ≤ vec_capacity groups.old.least }
+    requires old { keep_any grounds.now.shapes.now ≡ true
+        → length groups.old.numbers.items ≤ length grounds.now.rows.now }
+    requires room { keep_any grounds.now.shapes.now ≡ true
+        → length grounds.now.rows.now ≤ vec_capacity groups.old.numbers }
+    requires space { keep_any grounds.now.shapes.now ≡ true
+        → length grounds.now.rows.now ≤ vec_capacity groups.old.least }
     requires way { keep_any grounds.now.shapes.now ≡ true → length grounds.now.rows.now ≤ vec_capacity groups.old.nexts }
     ensures plain { keep_any grounds.now.shapes.now ≡ false → causes.new ≡ causes.old }
-    ensures counted { keep_any grounds.now.shapes.now ≡ true → AreSettled grounds.now.shapes.now grounds.now.rows.now grounds.now.children.now (λ k. count_by (is_of k) deleters.now.links) causes.new }
+    ensures counted { keep_any grounds.now.shapes.now ≡ true → AreSettled grounds.now.shapes.now grounds.now.rows.now
+        grounds.now.children.now (λ k. count_by (is_of k) deleters.now.links) causes.new }
     ensures grouped { AreGrouped grounds.now.shapes.now grounds.now.rows.now groups.new.numbers.items }
     ensures spare { length groups.new.least.items ≡ length groups.new.numbers.items }
     ensures threaded { length groups.new.nexts.items ≡ length groups.new.numbers.items }
@@ -58,7 +65,7 @@ pub(crate) fn recount(causes: &mut [u32], groups: &mut Groups, deleters: &Links,
     groups.grow(grounds.rows, grounds.shapes);
     clear(causes);
     count_places(causes, deleters.links());
-    settle(
+    spread_causes(
         causes,
         groups.least.as_mut_slice(),
         groups.nexts.as_mut_slice(),
@@ -75,7 +82,8 @@ pub(crate) fn own_causes<A: Ancestors>(
     position: u32,
 ) -> Result<Vec<u32>, AllocError>
     ensures own { IfOk result (λ causes. (k : ℕ) (it : Row) → slice_get tables.now.inserted k ≡ Some it
-        → (slice_index_or causes.items k 0 == 0) ≡ (A.ancestor ancestors.now it.position position && not (is_deleted (done_then tables.now (λ p. A.ancestor ancestors.now p position)) it.name))) }
+        → (slice_index_or causes.items k 0 == 0) ≡ (A.ancestor ancestors.now it.position position && not
+        (is_deleted (done_then tables.now (λ p. A.ancestor ancestors.now p position)) it.name))) }
     ensures few { IfOk result (λ causes. (k : ℕ) → slice_index_or causes.items k 0 ≤ 1) }
     ensures each { IfOk result (λ causes. length causes.items ≡ length tables.now.inserted) }
 {
@@ -96,7 +104,7 @@ fn count_of(left: bool) -> u32
 }
 
 /// Adds to counts, which are those of each row's own causes, what comes of other rows.
-pub(crate) fn settle(
+pub(crate) fn spread_causes(
     causes: &mut [u32],
     least: &mut [Option<usize>],
     nexts: &mut [usize],
@@ -112,8 +120,10 @@ pub(crate) fn settle(
     requires ends { length grounds.now.ends.now ≡ length grounds.now.rows.now }
     requires parted { AreParted grounds.now.children.now grounds.now.ends.now }
     requires grouped { AreGrouped grounds.now.shapes.now grounds.now.rows.now groups.now }
-    requires few { (k : ℕ) → slice_index_or causes.old k 0 + times_in grounds.now.children.now k + times_in grounds.now.children.now k + 2 < 2 ^ 32 }
-    ensures { AreSettled grounds.now.shapes.now grounds.now.rows.now grounds.now.children.now (λ k. slice_index_or causes.old k 0) causes.new }
+    requires few { (k : ℕ) → slice_index_or causes.old k 0 + times_in grounds.now.children.now k + times_in
+        grounds.now.children.now k + 2 < 2 ^ 32 }
+    ensures { AreSettled grounds.now.shapes.now grounds.now.rows.now grounds.now.children.now
+        (λ k. slice_index_or causes.old k 0) causes.new }
 {
     let mut firsts = [grounds.rows.len(); TABLES];
     thread(&mut firsts, nexts, grounds.rows);
@@ -139,8 +149,10 @@ fn settle_tables(
     requires ends { length grounds.now.ends.now ≡ length grounds.now.rows.now }
     requires parted { AreParted grounds.now.children.now grounds.now.ends.now }
     requires grouped { AreGrouped grounds.now.shapes.now grounds.now.rows.now groups.now }
-    requires few { (k : ℕ) → slice_index_or causes.old k 0 + times_in grounds.now.children.now k + times_in grounds.now.children.now k + 2 < 2 ^ 32 }
-    ensures { AreSettled grounds.now.shapes.now grounds.now.rows.now grounds.now.children.now (λ k. slice_index_or causes.old k 0) causes.new }
+    requires few { (k : ℕ) → slice_index_or causes.old k 0 + times_in grounds.now.children.now k + times_in
+        grounds.now.children.now k + 2 < 2 ^ 32 }
+    ensures { AreSettled grounds.now.shapes.now grounds.now.rows.now grounds.now.children.now
+        (λ k. slice_index_or causes.old k 0) causes.new }
 {
     for table in 0..grounds.shapes.len() {
         let members = members_of(grounds.rows, firsts, nexts, table);
@@ -165,8 +177,10 @@ fn count_passed(
     requires all { length groups.now ≡ length members.now.rows.now }
     requires inside { (k : ℕ) → k < length groups.now → slice_index_or groups.now k 0 ≤ k }
     requires few { (k : ℕ) → slice_index_or causes.old k 0 + 1 < 2 ^ 32 }
-    ensures least { keeps ≡ true → AreLeast members.now.rows.now causes.old groups.now members.now.table (length members.now.rows.now) least.new }
-    ensures behind { keeps ≡ true → (k : ℕ) → slice_index_or causes.new k 0 ≡ slice_index_or causes.old k 0 + one_where (is_behind members.now.rows.now groups.now least.new members.now.table k (slice_get members.now.rows.now k)) }
+    ensures least { keeps ≡ true → AreLeast members.now.rows.now causes.old groups.now members.now.table
+        (length members.now.rows.now) least.new }
+    ensures behind { keeps ≡ true → (k : ℕ) → slice_index_or causes.new k 0 ≡ slice_index_or causes.old k 0 + one_where
+        (is_behind members.now.rows.now groups.now least.new members.now.table k (slice_get members.now.rows.now k)) }
     ensures plain { keeps ≡ false → causes.new ≡ causes.old }
 {
     if keeps {
@@ -186,7 +200,9 @@ fn count_in(causes: &mut [u32], grounds: &Grounds, members: &Members)
     requires ends { length grounds.now.ends.now ≡ length grounds.now.rows.now }
     requires parted { AreParted grounds.now.children.now grounds.now.ends.now }
     requires few { (k : ℕ) → slice_index_or causes.old k 0 + times_in grounds.now.children.now k < 2 ^ 32 }
-    ensures { (k : ℕ) → slice_index_or causes.new k 0 ≡ slice_index_or causes.old k 0 + (if is_in members.now.table (slice_get grounds.now.rows.now k) then absent_times grounds.now.children.now causes.new k else 0) }
+    ensures { (k : ℕ) → slice_index_or causes.new k 0 ≡ slice_index_or causes.old k
+        0 + (if is_in members.now.table (slice_get grounds.now.rows.now k) then absent_times grounds.now.children.now
+        causes.new k else 0) }
 {
     let mut place = members.first;
     while place < grounds.rows.len() {
@@ -218,7 +234,8 @@ fn empty_groups(least: &mut [Option<usize>], groups: &[usize], members: &Members
     requires threaded { IsThread members.now.rows.now members.now.nexts.now members.now.table 0 members.now.first }
     requires all { length groups.now ≡ length members.now.rows.now }
     requires inside { (k : ℕ) → k < length groups.now → slice_index_or groups.now k 0 ≤ k }
-    ensures { (k : ℕ) → is_in members.now.table (slice_get members.now.rows.now k) ≡ true → slice_index_or least.new (slice_index_or groups.now k 0) None ≡ None }
+    ensures { (k : ℕ) → is_in members.now.table (slice_get members.now.rows.now k) ≡ true
+        → slice_index_or least.new (slice_index_or groups.now k 0) None ≡ None }
 {
     let mut place = members.first;
     while place < members.rows.len() {
@@ -235,8 +252,10 @@ fn find_least(least: &mut [Option<usize>], causes: &[u32], groups: &[usize], mem
     requires threaded { IsThread members.now.rows.now members.now.nexts.now members.now.table 0 members.now.first }
     requires all { length groups.now ≡ length members.now.rows.now }
     requires inside { (k : ℕ) → k < length groups.now → slice_index_or groups.now k 0 ≤ k }
-    requires none { (k : ℕ) → is_in members.now.table (slice_get members.now.rows.now k) ≡ true → slice_index_or least.old (slice_index_or groups.now k 0) None ≡ None }
-    ensures { AreLeast members.now.rows.now causes.now groups.now members.now.table (length members.now.rows.now) least.new }
+    requires none { (k : ℕ) → is_in members.now.table (slice_get members.now.rows.now k) ≡ true
+        → slice_index_or least.old (slice_index_or groups.now k 0) None ≡ None }
+    ensures { AreLeast members.now.rows.now causes.now groups.now members.now.table (length members.now.rows.now)
+        least.new }
 {
     let mut place = members.first;
     while place < members.rows.len() {
@@ -247,7 +266,8 @@ fn find_least(least: &mut [Option<usize>], causes: &[u32], groups: &[usize], mem
     }
 }
 
-/// Whether the count of the row at a place is 0, and its name is less than that of the row at another place, if there is one.
+/// Whether the count of the row at a place is 0, and its name is less than that of the row at another place, if there
+/// is one.
 fn is_better(causes: &[u32], rows: &[Inserted], place: usize, found: Option<usize>) -> bool
     requires inside { place < length rows.now }
     requires each { length causes.now ≡ length rows.now }
@@ -278,9 +298,12 @@ fn count_behind(causes: &mut [u32], least: &[Option<usize>], groups: &[usize], m
     requires threaded { IsThread members.now.rows.now members.now.nexts.now members.now.table 0 members.now.first }
     requires all { length groups.now ≡ length members.now.rows.now }
     requires inside { (k : ℕ) → k < length groups.now → slice_index_or groups.now k 0 ≤ k }
-    requires there { (k : ℕ) → is_in members.now.table (slice_get members.now.rows.now k) ≡ true → IfSome (slice_index_or least.now (slice_index_or groups.now k 0) None) (λ place. place < length members.now.rows.now) }
+    requires there { (k : ℕ) → is_in members.now.table (slice_get members.now.rows.now k) ≡ true
+        → IfSome (slice_index_or least.now (slice_index_or groups.now k 0) None) (λ place.
+        place < length members.now.rows.now) }
     requires few { (k : ℕ) → slice_index_or causes.old k 0 + 1 < 2 ^ 32 }
-    ensures { (k : ℕ) → slice_index_or causes.new k 0 ≡ slice_index_or causes.old k 0 + one_where (is_behind members.now.rows.now groups.now least.now members.now.table k (slice_get members.now.rows.now k)) }
+    ensures { (k : ℕ) → slice_index_or causes.new k 0 ≡ slice_index_or causes.old k 0 + one_where
+        (is_behind members.now.rows.now groups.now least.now members.now.table k (slice_get members.now.rows.now k)) }
 {
     let mut place = members.first;
     while place < members.rows.len() {

@@ -18,7 +18,8 @@ use update_model::{Value, ValueList};
 
 /// Whether a value is a `SETNULL` reference to a row that is not visible.
 pub(crate) fn is_nulled(tables: &Tables, column: &Column, value: &Value) -> bool
-    ensures { result ≡ is_shown_null (is_visible (rules_of_state tables.now) (done_in tables.now)) column.now.kind value.now }
+    ensures { result ≡ is_shown_null (is_visible (rules_of_state tables.now) (done_in tables.now)) column.now.kind
+        value.now }
 {
     match (value, column.kind) {
         (
@@ -39,7 +40,8 @@ fn shown_value(
     column: &Column,
     value: &Value,
 ) -> Result<Value, AllocError>
-    ensures { IfOk result (λ shown. shown ≡ shown_by (is_visible (rules_of_state tables.now) (done_in tables.now)) column.now.kind value.now) }
+    ensures { IfOk result (λ shown. shown ≡ shown_by (is_visible (rules_of_state tables.now) (done_in tables.now))
+        column.now.kind value.now) }
 {
     if is_nulled(tables, column, value) {
         return Ok(Value::Null);
@@ -55,7 +57,8 @@ fn push_shown(
     columns: &[Column],
     values: &[Value],
 ) -> Result<(), AllocError>
-    ensures { OnOk result (list.new.items ≡ list.old.items ++ shown_values_by (is_visible (rules_of_state tables.now) (done_in tables.now)) columns.now values.now) }
+    ensures { OnOk result (list.new.items ≡ list.old.items ++ shown_values_by (is_visible (rules_of_state tables.now)
+        (done_in tables.now)) columns.now values.now) }
 {
     match columns {
         [] => push_values(alloc, list, values),
@@ -86,7 +89,8 @@ fn shown_values(
     columns: &[Column],
     values: &[Value],
 ) -> Result<ValueList, AllocError>
-    ensures { IfOk result (λ list. list ≡ shown_values_by (is_visible (rules_of_state tables.now) (done_in tables.now)) columns.now values.now) }
+    ensures { IfOk result (λ list. list ≡ shown_values_by (is_visible (rules_of_state tables.now) (done_in tables.now))
+        columns.now values.now) }
 {
     let mut list = Vec::with_capacity(alloc, values.len())?;
     push_shown(alloc, &mut list, tables, columns, values)?;
@@ -95,7 +99,8 @@ fn shown_values(
 
 /// A row as its table lists it.
 fn shown_row(alloc: Global, tables: &Tables, row: &Inserted) -> Result<ShownRow, AllocError>
-    ensures { IfOk result (λ line. line ≡ listed (shown (rules_of_state tables.now) (done_in tables.now) (row_of row.now))) }
+    ensures { IfOk result (λ line. line ≡ listed (shown (rules_of_state tables.now) (done_in tables.now)
+        (row_of row.now))) }
 {
     let columns = tables.columns(row.entry.table);
     Ok(ShownRow {
@@ -113,8 +118,8 @@ pub(crate) fn is_listed(tables: &Tables, table: u8, place: usize) -> bool
     tables.is_in(place, table) && tables.is_marked(place)
 }
 
-/// The visible rows of the table with this number in rising order of names, as it lists them. It goes over the rows of all
-/// tables.
+/// The visible rows of the table with this number in rising order of names, as it lists them. It goes over the rows of
+/// all tables.
 pub(crate) fn listed_rows(
     alloc: Global,
     tables: &Tables,

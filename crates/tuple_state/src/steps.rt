@@ -7,7 +7,8 @@ use crate::{Dropped, Inserted};
 use std::alloc::{AllocError, Global};
 use update_model::{AuthorKey, Node, Op, RowEntry, RowName, UpdateId, Value, ValueList};
 
-/// The rows that a valid update at this position inserts, in the order of its operations. Their values are the update's own.
+/// The rows that a valid update at this position inserts, in the order of its operations. Their values are the update's
+/// own.
 pub(crate) fn inserted_by(
     alloc: Global,
     position: u32,

@@ -1,4 +1,6 @@
-ghost use Rattle.std.specs.Prelude.{◌≡◌, ℕ, ◌+◌, ◌*◌, ◌<◌, ◌≤◌, Bool, List, [], ◌∷◌, ◌++◌, IfOk, IfNone, IfSome, OnOk, MatchResult, length, map, nat_lt, option_to_list, slice_get, take, Contains, Some, true, not, ◌&&◌, ◌||◌};
+ghost use Rattle.std.specs.Prelude.{◌≡◌, ℕ, ◌+◌, ◌*◌, ◌<◌, ◌≤◌, Bool, List, [], ◌∷◌, ◌++◌, IfOk, IfNone, IfSome, OnOk};
+ghost use Rattle.std.specs.Prelude.{MatchResult, length, map, nat_lt, option_to_list, slice_get, take, Contains, Some};
+ghost use Rattle.std.specs.Prelude.{true, not, ◌&&◌, ◌||◌};
 ghost use Rattle.std.specs.List.{list_all, list_any};
 ghost use Rattle.std.specs.Vec.{vec_capacity};
 ghost use Rattle.table_model.specs.declared.verdict.Verdict.TheVariants.{Valid};
@@ -11,7 +13,8 @@ ghost use Rattle.update_model.specs.declared.row_name.RowName.{RowName as Name};
 ghost use Rattle.update_model.specs.Node.{NodeData};
 ghost use Rattle.table_model.specs.Tables.{AreRowsIn, AreVoidsIn, name_cmp};
 ghost use Rattle.table_model.specs.Verdicts.{effects_in, in_table};
-ghost use Rattle.table_model.specs.Visible.{Rules, TableRow, cascade_refs, is_deleted, is_visible, refs, rules_with, same_row};
+ghost use Rattle.table_model.specs.Visible.{Rules, TableRow, cascade_refs, is_deleted, is_visible, refs, rules_with};
+ghost use Rattle.table_model.specs.Visible.{same_row};
 ghost use Rattle.schema.specs.Columns.{is_restrict};
 ghost use Rattle.table_model.specs.Answers.{AreAnswers};
 ghost use Rattle.tuple_state.specs.Past.{AreCausesThen, IsNextVerdict, IsPastOf, StandsAt, done_then, effects_before};
@@ -20,7 +23,8 @@ ghost use Rattle.tuple_state.specs.Causes.{parents_from};
 ghost use Rattle.tuple_state.specs.Changes.{AreNextChanges};
 ghost use Rattle.tuple_state.specs.Kept.{are_grounded, are_layered, deletes_at, is_named, pairs_of, place_of};
 ghost use Rattle.tuple_state.specs.Parents.{columns_at, is_held, passes_place};
-ghost use Rattle.tuple_state.specs.State.{IsCut, IsHeld, IsStateOf, after, done_in, dropped_at, keep_any, row_of, rules_of_state, voided_at};
+ghost use Rattle.tuple_state.specs.State.{IsCut, IsHeld, IsStateOf, after, done_in, dropped_at, keep_any, row_of};
+ghost use Rattle.tuple_state.specs.State.{rules_of_state, voided_at};
 ghost use Rattle.tuple_state.specs.declared.inserted.Inserted.{Inserted as Row};
 
 use crate::causes::{add_causes, clear, count_numbers, count_places, room_for};
@@ -32,7 +36,7 @@ use crate::groups::Groups;
 use crate::links::{Link, Links};
 use crate::parents::{add_parents, add_places, comes_last, remove_places, take_last};
 use crate::restricts::{is_held, restricts};
-use crate::settling::{own_causes, recount, settle};
+use crate::settling::{own_causes, recount, spread_causes};
 use crate::shape::Shape;
 use crate::shapes::{copy_shapes, keep_any, shapes_of};
 use crate::showing::{copy_rows, listed_rows};
@@ -46,7 +50,8 @@ use std::marker::Model;
 use table_model::{ShownRowList, Verdict, VoidLine, VoidList, sort_lines};
 use update_model::{Ancestors, MAX_MEMBERS, Node, RowName, RowsAt, Value};
 
-/// What valid updates did, and which rows are visible for it. A contract sees the [state](mod@crate) of the definitions.
+/// What valid updates did, and which rows are visible for it. A contract sees the [state](mod@crate) of the
+/// definitions.
 #[derive(Drop)]
 pub struct Tables {
     /// Where memory comes from.
@@ -57,17 +62,17 @@ pub struct Tables {
     count: u32,
     /// The rows in order of arrival.
     rows: Vec<Inserted>,
-    /// Each row's place among these by its name. An ordered map, since strangers choose the names, and since tables list rows
-    /// in rising order of names.
+    /// Each row's place among these by its name. An ordered map, since strangers choose the names, and since tables
+    /// list rows in rising order of names.
     places: BTreeMap<RowName, usize>,
-    /// Of each row the number of its causes of absence: the updates that delete it, its `CASCADE` columns that name an absent
-    /// row, and 1 where its table keeps the least row of each value and a lesser candidate has its value. A row is visible
-    /// where it is 0.
+    /// Of each row the number of its causes of absence: the updates that delete it, its `CASCADE` columns that name an
+    /// absent row, and 1 where its table keeps the least row of each value and a lesser candidate has its value. A row
+    /// is visible where it is 0.
     causes: Vec<u32>,
     /// The deleted names in order of arrival.
     dropped: Vec<Dropped>,
-    /// To the place of each row the places of the rows that name it by `CASCADE`, once for each column. They come row by row
-    /// of those that name.
+    /// To the place of each row the places of the rows that name it by `CASCADE`, once for each column. They come row
+    /// by row of those that name.
     children: Links,
     /// To the place of each row the positions of the updates that delete it.
     deleters: Links,
@@ -85,7 +90,13 @@ impl Model for Tables {
 
     ghost Value = { State };
 
-    ghost view = { λ t. record { shapes = t.shapes.items; count = t.count; inserted = t.rows.items; dropped = t.dropped.items; voids = t.voids.items } };
+    ghost view = { λ t. record {
+      shapes = t.shapes.items;
+      count = t.count;
+      inserted = t.rows.items;
+      dropped = t.dropped.items;
+      voids = t.voids.items;
+    } };
 
     ghost invariant = { λ t. IsKept (record { shapes = t.shapes.items; count = t.count; inserted = t.rows.items; dropped = t.dropped.items; voids = t.voids.items })
         t.places t.causes.items t.children t.deleters t.ends.items t.groups.numbers.items t.groups.least.items t.groups.nexts.items };
@@ -94,7 +105,8 @@ impl Model for Tables {
 impl Tables {
     /// Tables of this schema with no row. It gives up where memory runs out.
     pub fn new(alloc: Global, schema: &Schema) -> Result<Tables, AllocError>
-        ensures { IfOk result (λ tables. (ask : ℕ → List Cell → Bool) → IsStateOf (rules_with ask schema.now.tables) [] tables) }
+        ensures { IfOk result (λ tables. (ask : ℕ → List Cell → Bool) → IsStateOf (rules_with ask schema.now.tables) []
+            tables) }
     {
         Ok(Tables {
             alloc,
@@ -112,8 +124,9 @@ impl Tables {
         })
     }
 
-    /// Takes the next update over with its verdict: a valid one's rows and deletions, or a void one's line. The verdict has to
-    /// be the right one, on the update's ancestors among those that were applied. After an error nothing has changed.
+    /// Takes the next update over with its verdict: a valid one's rows and deletions, or a void one's line. The verdict
+    /// has to be the right one, on the update's ancestors among those that were applied. After an error nothing has
+    /// changed.
     pub fn apply(&mut self, node: Node, verdict: Verdict) -> Result<(), AllocError>
         requires next { IsNextVerdict self.old node verdict }
         ensures { MatchResult result (λ _. self.new ≡ after self.old node verdict) (λ _. self.new ≡ self.old) }
@@ -155,7 +168,8 @@ impl Tables {
     /// Whether the row at a place is visible now.
     pub(crate) fn is_marked(&self, place: usize) -> bool
         requires { place < length self.now.inserted }
-        ensures { (it : Row) → slice_get self.now.inserted place ≡ Some it → result ≡ is_visible (rules_of_state self.now) (done_in self.now) it.name }
+        ensures { (it : Row) → slice_get self.now.inserted place ≡ Some it
+            → result ≡ is_visible (rules_of_state self.now) (done_in self.now) it.name }
     {
         self.causes[place] == 0
     }
@@ -192,23 +206,26 @@ impl Tables {
     fn parents(&self, place: usize) -> &[Link]
         requires { place < length self.now.inserted }
         ensures { (it : Row) → slice_get self.now.inserted place ≡ Some it
-            → pairs_of result.now ≡ deletes_at (place_of self.now.inserted) (map (λ r. dropped_at place r.name) (cascade_refs (rules_of_state self.now) (row_of it))) }
+            → pairs_of result.now ≡ deletes_at (place_of self.now.inserted)
+            (map (λ r. dropped_at place r.name) (cascade_refs (rules_of_state self.now) (row_of it))) }
     {
         let to = self.ends[place] as usize;
         self.children.part(self.links_before(place), to)
     }
 
-    /// Adds to the pending places those of the rows that the row at a place names by `CASCADE`, unless it is visible now, and
-    /// takes the last one out. Where a row names one alone, which comes last, that is never added.
+    /// Adds to the pending places those of the rows that the row at a place names by `CASCADE`, unless it is visible
+    /// now, and takes the last one out. Where a row names one alone, which comes last, that is never added.
     pub(crate) fn climb(
         &self,
         place: usize,
         pending: &mut BTreeSet<usize>,
     ) -> Result<Option<usize>, AllocError>
         requires { place < length self.now.inserted }
-        ensures each { IfOk result (λ next. (it : Row) → slice_get self.now.inserted place ≡ Some it → (test : ℕ → Bool) → list_all test (option_to_list next ++ pending.new.keys)
+        ensures each { IfOk result (λ next. (it : Row) → slice_get self.now.inserted place ≡ Some it → (test : ℕ → Bool)
+            → list_all test (option_to_list next ++ pending.new.keys)
             ≡ (list_all test pending.old.keys && (is_visible (rules_of_state self.now) (done_in self.now) it.name
-            || list_all (λ r. passes_place test (place_of self.now.inserted r.name)) (cascade_refs (rules_of_state self.now) (row_of it))))) }
+            || list_all (λ r. passes_place test (place_of self.now.inserted r.name))
+            (cascade_refs (rules_of_state self.now) (row_of it))))) }
         ensures last { IfOk result (λ next. IfSome next (λ k. list_all (λ q. nat_lt q k) pending.new.keys ≡ true)) }
         ensures done { IfOk result (λ next. IfNone next (pending.new.keys ≡ [])) }
     {
@@ -225,8 +242,8 @@ impl Tables {
         Ok(take_last(pending))
     }
 
-    /// How many rows were inserted, whether they are visible or not: their places are below this number. No update has more
-    /// than 256 operations, and no more than 131,072 updates are applied.
+    /// How many rows were inserted, whether they are visible or not: their places are below this number. No update has
+    /// more than 256 operations, and no more than 131,072 updates are applied.
     pub fn row_len(&self) -> usize
         ensures len { result ≡ length self.now.inserted }
         ensures few { result ≤ 256 * MAX_MEMBERS }
@@ -245,7 +262,8 @@ impl Tables {
     pub(crate) fn restricts(&self, place: usize, name: &RowName) -> bool
         requires { place < length self.now.inserted }
         ensures { (it : Row) → slice_get self.now.inserted place ≡ Some it
-            → result ≡ list_any (λ r. is_restrict r.action && same_row r.name name.now) (refs (rules_of_state self.now) (row_of it)) }
+            → result ≡ list_any (λ r. is_restrict r.action && same_row r.name name.now)
+            (refs (rules_of_state self.now) (row_of it)) }
     {
         let entry = &self.rows[place].entry;
         match self.shapes.get(usize::from(entry.table)) {
@@ -292,7 +310,12 @@ impl Tables {
         dropped: &mut Vec<Dropped>,
     ) -> Result<(), AllocError>
         requires next { AreNextChanges self.old inserted.old.items dropped.old.items }
-        ensures { MatchResult result (λ _. self.new ≡ record self.old { count = self.old.count + 1; inserted = self.old.inserted ++ inserted.old.items; dropped = self.old.dropped ++ dropped.old.items }) (λ _. self.new ≡ self.old) }
+        ensures { MatchResult result (λ _. self.new ≡ record self.old {
+          count = self.old.count + 1;
+          inserted = self.old.inserted ++ inserted.old.items;
+          dropped = self.old.dropped ++ dropped.old.items;
+        })
+            (λ _. self.new ≡ self.old) }
     {
         let first = self.rows.len();
         let more = inserted.len();
@@ -337,7 +360,8 @@ impl Tables {
     /// Takes the updates back that were applied after the first so many. It takes no memory, and goes over all rows.
     pub fn cut(&mut self, len: u32)
         requires { IsCut self.old len }
-        ensures { (rules : Rules) (newer older : List NodeData) → IsStateOf rules (newer ++ older) self.old → length older ≡ len → IsStateOf rules older self.new }
+        ensures { (rules : Rules) (newer older : List NodeData) → IsStateOf rules (newer ++ older) self.old
+            → length older ≡ len → IsStateOf rules older self.new }
     {
         let rows = rows_before(self.rows.as_slice(), len);
         let names = names_before(self.dropped.as_slice(), len);
@@ -369,8 +393,14 @@ impl Tables {
     /// Keeps the line of a void update.
     fn keep_void(&mut self, line: VoidLine) -> Result<(), AllocError>
         requires few { self.old.count < MAX_MEMBERS }
-        requires held { IsHeld (record self.old { count = self.old.count + 1; voids = self.old.voids ++ voided_at self.old.count line ∷ [] }) }
-        ensures { MatchResult result (λ _. self.new ≡ record self.old { count = self.old.count + 1; voids = self.old.voids ++ voided_at self.old.count line ∷ [] }) (λ _. self.new ≡ self.old) }
+        requires held { IsHeld (record self.old {
+          count = self.old.count + 1;
+          voids = self.old.voids ++ voided_at self.old.count line ∷ [];
+        }) }
+        ensures { MatchResult result (λ _. self.new ≡ record self.old {
+          count = self.old.count + 1;
+          voids = self.old.voids ++ voided_at self.old.count line ∷ [];
+        }) (λ _. self.new ≡ self.old) }
     {
         self.voids.push(Voided {
             position: self.count,
@@ -387,15 +417,18 @@ impl Tables {
         keep_any(self.shapes.as_slice())
     }
 
-    /// Of each row a number that is 0 where it is visible after the ancestors of the update at a position. It goes over all rows.
+    /// Of each row a number that is 0 where it is visible after the ancestors of the update at a position. It goes over
+    /// all rows.
     pub(crate) fn causes_then<A: Ancestors>(
         &self,
         alloc: Global,
         ancestors: &A,
         position: u32,
     ) -> Result<Vec<u32>, AllocError>
-        requires layered { are_layered (rules_of_state self.now) (done_then self.now (λ p. A.ancestor ancestors.now p position)).inserted ≡ true }
-        requires grounded { are_grounded (rules_of_state self.now) (done_then self.now (λ p. A.ancestor ancestors.now p position)).inserted ≡ true }
+        requires layered { are_layered (rules_of_state self.now)
+            (done_then self.now (λ p. A.ancestor ancestors.now p position)).inserted ≡ true }
+        requires grounded { are_grounded (rules_of_state self.now)
+            (done_then self.now (λ p. A.ancestor ancestors.now p position)).inserted ≡ true }
         requires keeps { keep_any self.now.shapes ≡ true }
         ensures { IfOk result (λ causes. AreCausesThen (A.ancestor ancestors.now) self.now position causes.items) }
     {
@@ -405,7 +438,7 @@ impl Tables {
         let mut nexts = Vec::new(alloc);
         nexts.resize(self.row_len(), 0)?;
         let shapes = self.shapes.as_slice();
-        settle(
+        spread_causes(
             causes.as_mut_slice(),
             least.as_mut_slice(),
             nexts.as_mut_slice(),
@@ -425,7 +458,8 @@ impl Tables {
     ) -> Result<bool, AllocError>
         requires { place < length self.now.inserted }
         ensures { IfOk result (λ left. (it : Row) → slice_get self.now.inserted place ≡ Some it
-            → left ≡ (A.ancestor ancestors.now it.position position && not (is_deleted (done_then self.now (λ p. A.ancestor ancestors.now p position)) it.name))) }
+            → left ≡ (A.ancestor ancestors.now it.position position && not
+            (is_deleted (done_then self.now (λ p. A.ancestor ancestors.now p position)) it.name))) }
     {
         if !ancestors.is_ancestor(alloc, self.rows[place].position, position)? {
             return Ok(false);
@@ -442,24 +476,28 @@ impl Tables {
 
     /// Whether a row with this name is visible. It takes no memory, and logarithmic time.
     pub fn visible(&self, row: &RowName) -> bool
-        ensures { (rules : Rules) (nodes : List NodeData) → IsStateOf rules nodes self.now → result ≡ is_visible rules (effects_in rules nodes) row.now }
+        ensures { (rules : Rules) (nodes : List NodeData) → IsStateOf rules nodes self.now
+            → result ≡ is_visible rules (effects_in rules nodes) row.now }
     {
         self.is_shown(row)
     }
 
-    /// Whether a valid update inserted a row with this name, which may be hidden. It takes no memory, and logarithmic time.
+    /// Whether a valid update inserted a row with this name, which may be hidden. It takes no memory, and logarithmic
+    /// time.
     pub fn has_inserted(&self, row: &RowName) -> bool
         ensures { result ≡ is_named (done_in self.now).inserted row.now }
     {
         self.place(row).is_some()
     }
 
-    /// The number of causes for which a row is absent that a valid update inserted: of the valid updates that delete it, and
-    /// of its `CASCADE` columns that name a row which is not visible, and 1 where its table keeps the least row of each
-    /// value and a lesser candidate has its value. It takes no memory, and logarithmic time.
+    /// The number of causes for which a row is absent that a valid update inserted: of the valid updates that delete
+    /// it, and of its `CASCADE` columns that name a row which is not visible, and 1 where its table keeps the least row
+    /// of each value and a lesser candidate has its value. It takes no memory, and logarithmic time.
     pub fn causes(&self, row: &RowName) -> &u32
         requires { is_named (done_in self.now).inserted row.now ≡ true }
-        ensures { (rules : Rules) (nodes : List NodeData) → IsStateOf rules nodes self.now → (it : TableRow) → Contains (effects_in rules nodes).inserted it → it.name ≡ row.now → result.now ≡ causes_of rules nodes it }
+        ensures { (rules : Rules) (nodes : List NodeData) → IsStateOf rules nodes self.now → (it : TableRow)
+            → Contains (effects_in rules nodes).inserted it → it.name ≡ row.now
+            → result.now ≡ causes_of rules nodes it }
     {
         match self.places.get(row) {
             Some(place) => &self.causes[*place],
@@ -487,9 +525,11 @@ impl Tables {
         }
     }
 
-    /// The visible rows of the table with this number, in rising order of names. A number that no table has gives no row.
+    /// The visible rows of the table with this number, in rising order of names. A number that no table has gives no
+    /// row.
     pub fn rows(&self, alloc: Global, table: u8) -> Result<ShownRowList, AllocError>
-        ensures { IfOk result (λ rows. (rules : Rules) (nodes : List NodeData) → IsStateOf rules nodes self.now → AreRowsIn rules nodes table rows) }
+        ensures { IfOk result (λ rows. (rules : Rules) (nodes : List NodeData) → IsStateOf rules nodes self.now
+            → AreRowsIn rules nodes table rows) }
     {
         let lines = listed_rows(alloc, self, table)?;
         Ok(ShownRowList::from_vec(lines))
@@ -497,7 +537,8 @@ impl Tables {
 
     /// The updates that do nothing, in rising order of ids, each with its reason.
     pub fn voids(&self, alloc: Global) -> Result<VoidList, AllocError>
-        ensures { IfOk result (λ lines. (rules : Rules) (nodes : List NodeData) → IsStateOf rules nodes self.now → AreVoidsIn rules nodes lines) }
+        ensures { IfOk result (λ lines. (rules : Rules) (nodes : List NodeData) → IsStateOf rules nodes self.now
+            → AreVoidsIn rules nodes lines) }
     {
         let lines = lines_of(alloc, self.voids.as_slice())?;
         Ok(VoidList::from_vec(sort_lines(lines)))
@@ -527,9 +568,9 @@ impl Tables {
         })
     }
 
-    /// The rows that are visible after the ancestors of the update at this position, where the first positions are those of
-    /// the updates that were applied. Where a table keeps the least row of each value it goes over all rows, and takes memory
-    /// for them, once for all that is asked of what it gives. Else it takes none.
+    /// The rows that are visible after the ancestors of the update at this position, where the first positions are
+    /// those of the updates that were applied. Where a table keeps the least row of each value it goes over all rows,
+    /// and takes memory for them, once for all that is asked of what it gives. Else it takes none.
     pub fn at<'a, A: Ancestors>(
         &'a self,
         alloc: Global,
@@ -537,7 +578,8 @@ impl Tables {
         position: u32,
     ) -> Result<At<'a, A>, AllocError>
         requires past { StandsAt self.now (λ p. A.ancestor ancestors.now p position) }
-        ensures answers { IfOk result (λ at. (rules : Rules) (nodes : List NodeData) (node : NodeData) → IsStateOf rules nodes self.now → IsPastOf rules nodes node (λ p. A.ancestor ancestors.now p position)
+        ensures answers { IfOk result (λ at. (rules : Rules) (nodes : List NodeData) (node : NodeData)
+            → IsStateOf rules nodes self.now → IsPastOf rules nodes node (λ p. A.ancestor ancestors.now p position)
             → AreAnswers rules (effects_before rules nodes node) (⟦<At<'a, A> as RowsAt>⟧.row at) (⟦<At<'a, A> as RowsAt>⟧.has_child at)
             (⟦<At<'a, A> as RowsAt>⟧.equal_count at) (⟦<At<'a, A> as RowsAt>⟧.count at)) }
     {

@@ -1,4 +1,5 @@
-//! Threads that lead from each row of a table to the next one, so that a table's rows are met with no other row between.
+//! Threads that lead from each row of a table to the next one, so that a table's rows are met with no other row
+//! between.
 
 ghost use Rattle.std.specs.Prelude.{◌≡◌, ℕ, ◌<◌, length, slice_index_or};
 ghost use Rattle.tuple_state.specs.Threads.{AreThreads, IsThread};

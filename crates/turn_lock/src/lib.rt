@@ -1,8 +1,9 @@
-//! A lock that gives one value to one caller at a time, in the order of the tickets that they draw, and knows what each caller
-//! has seen.
+//! A lock that gives one value to one caller at a time, in the order of the tickets that they draw, and knows what each
+//! caller has seen.
 //!
-//! The value ([`Kept`]) has a list of entries that grows. A caller has a [`Seat`], which knows a beginning of the list. In its
-//! turn it has the value, whose list begins with what the seat has seen; it gives the value back with entries of its own behind.
+//! The value ([`Kept`]) has a list of entries that grows. A caller has a [`Seat`], which knows a beginning of the list.
+//! In its turn it has the value, whose list begins with what the seat has seen; it gives the value back with entries of
+//! its own behind.
 //!
 //! ```text
 //! let (lock, first) = TurnLock::new(alloc, value)?;
@@ -13,8 +14,8 @@
 //! let value = lock.end(rt, both);
 //! ```
 //!
-//! The three words and the slot of the lock change only by the steps of a rule (specs/Turns): a ticket is drawn once, a turn is
-//! passed by the seat that has it, after the value lies in the slot again, and no seat forgets what it saw.
+//! The three words and the slot of the lock change only by the steps of a rule (specs/Turns): a ticket is drawn once, a
+//! turn is passed by the seat that has it, after the value lies in the slot again, and no seat forgets what it saw.
 #![tactic(auto)]
 
 mod kept;

@@ -1,5 +1,6 @@
 //! The lock.
-ghost use Rattle.std.specs.Prelude.{◌≡◌, ◌≢◌, ◌⊎◌, ℕ, ◌+◌, ◌<◌, ◌≤◌, ◌^◌, ◌%◌, [], ◌∷◌, ◌++◌, List, Option, Some, None, IfOk, IfErr, All, length, drop};
+ghost use Rattle.std.specs.Prelude.{◌≡◌, ◌≢◌, ◌⊎◌, ℕ, ◌+◌, ◌<◌, ◌≤◌, ◌^◌, ◌%◌, [], ◌∷◌, ◌++◌, List, Option, Some, None};
+ghost use Rattle.std.specs.Prelude.{IfOk, IfErr, All, length, drop};
 ghost use mathlib.Core.List.{IsPrefix};
 ghost use Rattle.atomic_table.specs.Seated.{TableId};
 ghost use Rattle.turn_lock.specs.declared.view.Stage.TheVariants.{Idle, Waiting, Turn};
@@ -45,7 +46,13 @@ impl<T: Kept> TurnLock<T> {
     /// A lock of this value, and the first seat, which has seen the whole list.
     pub fn new(alloc: Global, value: T) -> Result<(TurnLock<T>, Seat<T>), Back<T>>
         requires { All (λ e. T.maker e ≡ None) (T.list value) }
-        ensures ok { IfOk result (λ r. r.1 ≡ record { lock = r.0; seen = T.list value; number = None; acts = 0; others = [] }) }
+        ensures ok { IfOk result (λ r. r.1 ≡ record {
+          lock = r.0;
+          seen = T.list value;
+          number = None;
+          acts = 0;
+          others = [];
+        }) }
         ensures err { IfErr result (λ b. b.back ≡ value) }
     {
         let mut slots = Vec::new(alloc);
@@ -80,7 +87,8 @@ impl<T: Kept> TurnLock<T> {
     /// Two seats that have seen as much. The first has the number and the acts of the one that was given.
     pub fn split(&self, seat: Seat<T>) -> Result<(Seat<T>, Seat<T>), Back<Seat<T>>>
         requires { seat.lock ≡ self.now }
-        ensures ok { IfOk result (λ r. (r.0 ≡ seat) × (r.1 ≡ record { lock = seat.lock; seen = seat.seen; number = None; acts = 0; others = [] })) }
+        ensures ok { IfOk result (λ r. (r.0 ≡ seat)
+            × (r.1 ≡ record { lock = seat.lock; seen = seat.seen; number = None; acts = 0; others = [] })) }
         ensures err { IfErr result (λ b. b.back ≡ seat) }
     {
         let Seat {
@@ -108,7 +116,8 @@ impl<T: Kept> TurnLock<T> {
     pub fn meet(&self, a: Seat<T>, b: Seat<T>) -> Result<Seat<T>, Back<(Seat<T>, Seat<T>)>>
         requires locks { (a.lock ≡ self.now) × (b.lock ≡ self.now) }
         ensures seat { IfOk result (λ s. (s.lock ≡ a.lock) × (s.number ≡ a.number) × (s.acts ≡ a.acts)) }
-        ensures seen { IfOk result (λ s. IsPrefix a.seen s.seen × IsPrefix b.seen s.seen × ((s.seen ≡ a.seen) ⊎ (s.seen ≡ b.seen))) }
+        ensures seen { IfOk result (λ s. IsPrefix a.seen s.seen × IsPrefix b.seen s.seen
+            × ((s.seen ≡ a.seen) ⊎ (s.seen ≡ b.seen))) }
         ensures others { IfOk result (λ s. s.others ≡ a.others ++ numbers_of b) }
         ensures apart { IfOk result (λ s. AreApart (numbers_of s)) }
         ensures err { IfErr result (λ e. (e.back.0 ≡ a) × (e.back.1 ≡ b)) }
@@ -163,7 +172,8 @@ impl<T: Kept> TurnLock<T> {
         requires lock { chair.old.table_id ≡ self.now }
         requires stage { (chair.old.me.0.stage ≡ Waiting) × (chair.old.me.0.ticket ≡ ticket) }
         ensures lock { (chair.new.table_id ≡ chair.old.table_id) × (chair.new.id ≡ chair.old.id) }
-        ensures turn { (chair.new.me ≡ (at_stage Turn chair.old.me.0, chair.old.me.1)) × (chair.old.me.0.acts ≤ ticket) }
+        ensures turn { (chair.new.me ≡ (at_stage Turn chair.old.me.0, chair.old.me.1))
+            × (chair.old.me.0.acts ≤ ticket) }
     {
         let backoff = Backoff::new();
         for _ in rt.forever() {
@@ -180,7 +190,8 @@ impl<T: Kept> TurnLock<T> {
         unreachable!()
     }
 
-    /// Waits for a turn of this seat, and takes the value. Its list begins with what the seat has seen, and no entry is of this act.
+    /// Waits for a turn of this seat, and takes the value. Its list begins with what the seat has seen, and no entry is
+    /// of this act.
     pub fn take<R: Wait>(&self, rt: &R, seat: Seat<T>) -> (Held<T>, T)
         requires { seat.lock ≡ self.now }
         ensures lock { result.0.lock ≡ seat.lock }
@@ -190,7 +201,8 @@ impl<T: Kept> TurnLock<T> {
         ensures act { result.0.act ≡ seat.acts + 1 }
         ensures others { result.0.others ≡ seat.others }
         ensures unused { All (λ e. T.maker e ≢ Some (result.0.seat, result.0.act)) result.0.taken }
-        ensures alone { All (λ e. (act : ℕ) → T.maker e ≢ Some (result.0.seat, act)) (drop (length seat.seen) result.0.taken) }
+        ensures alone { All (λ e. (act : ℕ) → T.maker e ≢ Some (result.0.seat, act))
+            (drop (length seat.seen) result.0.taken) }
     {
         let Seat {
             mut chair,
@@ -214,8 +226,15 @@ impl<T: Kept> TurnLock<T> {
     /// Gives the value back, to whose list this act has added entries of its own.
     pub fn give(&self, held: Held<T>, value: T) -> Seat<T>
         requires lock { held.lock ≡ self.now }
-        requires added { (new : List T.Entry) × (T.list value ≡ held.taken ++ new) × MadeBy T.maker held.seat held.act new }
-        ensures { result ≡ record { lock = held.lock; seen = T.list value; number = Some held.seat; acts = held.act; others = held.others } }
+        requires added { (new : List T.Entry) × (T.list value ≡ held.taken ++ new)
+            × MadeBy T.maker held.seat held.act new }
+        ensures { result ≡ record {
+          lock = held.lock;
+          seen = T.list value;
+          number = Some held.seat;
+          acts = held.act;
+          others = held.others;
+        } }
     {
         let Held {
             mut chair,

@@ -1,7 +1,8 @@
 //! The first words of a line.
 
 ghost use Rattle.std.specs.Prelude.{◌≡◌, ◌<◌, length, Ok, Err, option_map, IfOk, IfErr, IfSome};
-ghost use Rattle.txn_text.specs.Operations.{wrong_at, keyword_in, keyword_at, table_named, insert_into, insert_at, verb_after, verb_at};
+ghost use Rattle.txn_text.specs.Operations.{wrong_at, keyword_in, keyword_at, table_named, insert_into, insert_at};
+ghost use Rattle.txn_text.specs.Operations.{verb_after, verb_at};
 ghost use Rattle.txn_text.specs.Outcome.{IsStop, IsVerb};
 
 use crate::TextKind;
@@ -80,7 +81,8 @@ fn verb_after<'a>(
 ) -> Result<(Verb, &'a [u8]), Stop>
     ensures found { IfOk result (λ read. verb_after schema.now.tables keyword after.now ≡ Ok (read.0, read.1.now)) }
     ensures form { IfOk result (λ read. IsVerb read.0) }
-    ensures wrong { IfErr result (λ stop. IsStop stop (λ wrong. verb_after schema.now.tables keyword after.now ≡ Err wrong)) }
+    ensures wrong { IfErr result (λ stop. IsStop stop (λ wrong. verb_after schema.now.tables keyword after.now ≡ Err
+        wrong)) }
 {
     match keyword {
         Keyword::Insert => insert_at(alloc, schema, skip_blanks(after)),

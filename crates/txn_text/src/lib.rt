@@ -9,14 +9,14 @@
 //! DELETE 5c6f..:0
 //! ```
 //!
-//! `INSERT` is followed by the name of a table and a value for each of its columns, `DELETE` by the name of a row. A value
-//! is `NULL`, `TRUE`, `FALSE`, an integer, a text in double quotes, the name of a row, or `$k` for the row that the k-th
-//! operation of this transaction inserts, which has to be an earlier one. Blank lines are passed over, and counted. There
-//! are no comments.
+//! `INSERT` is followed by the name of a table and a value for each of its columns, `DELETE` by the name of a row. A
+//! value is `NULL`, `TRUE`, `FALSE`, an integer, a text in double quotes, the name of a row, or `$k` for the row that
+//! the k-th operation of this transaction inserts, which has to be an earlier one. Blank lines are passed over, and
+//! counted. There are no comments.
 //!
-//! What a text says is a relation over its lines (`Reads` and `FirstFault` in specs/Transactions), which stands on what the
-//! words of a line say (specs/Operations). Whether values fit their columns, and whether rows are there, is not judged here
-//! (crate `validity`).
+//! What a text says is a relation over its lines (`Reads` and `FirstFault` in specs/Transactions), which stands on what
+//! the words of a line say (specs/Operations). Whether values fit their columns, and whether rows are there, is not
+//! judged here (crate `validity`).
 #![tactic(auto)]
 
 mod fault;

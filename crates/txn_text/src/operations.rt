@@ -57,7 +57,8 @@ fn next_value(
     before: u16,
     rest: &[u8],
 ) -> Result<Option<(Value, &[u8])>, Stop>
-    ensures found { IfOk result (λ found. next_value verb before rest.now ≡ Ok (option_map (λ read. (read.0, read.1.now)) found)) }
+    ensures found { IfOk result (λ found. next_value verb before rest.now ≡ Ok
+        (option_map (λ read. (read.0, read.1.now)) found)) }
     ensures form { IfOk result (λ found. IfSome found (λ read. IsValue before read.0)) }
     ensures wrong { IfErr result (λ stop. IsStop stop (λ wrong. next_value verb before rest.now ≡ Err wrong)) }
 {

@@ -1,13 +1,15 @@
 //! Reading a whole text.
 
-ghost use Rattle.std.specs.Prelude.{◌≡◌, ◌≤◌, ◌+◌, ◌<◌, ℕ, List, length, IfOk, IfErr, IfSome, OnOk, MatchOption, IsUtf8};
+ghost use Rattle.std.specs.Prelude.{◌≡◌, ◌≤◌, ◌+◌, ◌<◌, ℕ, List, length, IfOk, IfErr, IfSome, OnOk, MatchOption};
+ghost use Rattle.std.specs.Prelude.{IsUtf8};
 ghost use Rattle.std.specs.Str.{IsValidUpTo};
 ghost use Rattle.update_model.specs.declared.op.Op.{Op as Operation};
 ghost use Rattle.update_model.specs.Rows.{IsOp};
 ghost use Rattle.text_words.specs.Lines.{lines_of};
 ghost use Rattle.txn_text.specs.Operations.{IsBlank};
 ghost use Rattle.txn_text.specs.Outcome.{HasCause, HasLineCause, HasFaultIn, Answers, MayStand, IsTaken};
-ghost use Rattle.txn_text.specs.Transactions.{Reads, LineIs, LinesAre, IsSeen, IsCutShort, ends_before, place_in, is_not_utf8};
+ghost use Rattle.txn_text.specs.Transactions.{Reads, LineIs, LinesAre, IsSeen, IsCutShort, ends_before, place_in};
+ghost use Rattle.txn_text.specs.Transactions.{is_not_utf8};
 
 use crate::operations::operation_at;
 use crate::stop::{Stop, Wrong};
@@ -20,9 +22,9 @@ use update_model::{Op, OpList};
 
 /// The operations that a text is, over the tables of a schema.
 ///
-/// A fault is the first one: the first line that has one, and in a line the first from left to right. A text of more than
-/// [`MAX_TRANSACTION_BYTES`] is TooLong at 1:1. A body may hold the operations that are found. The time is linear in the
-/// text.
+/// A fault is the first one: the first line that has one, and in a line the first from left to right. A text of more
+/// than [`MAX_TRANSACTION_BYTES`] is TooLong at 1:1. A body may hold the operations that are found. The time is linear
+/// in the text.
 pub fn read_txn(alloc: Global, schema: &Schema, text: &[u8]) -> Result<OpList, TextError>
     ensures found { IfOk result (λ ops. Reads schema.now text.now ops) }
     ensures form { IfOk result (λ ops. MayStand ops) }
@@ -90,7 +92,8 @@ fn read_line(
     line: &[u8],
 ) -> Result<Option<Op>, TextError>
     requires { length line.now ≤ MAX_TRANSACTION_BYTES }
-    ensures found { IfOk result (λ found. MatchOption found (IsBlank line.now) (λ op. LineIs schema.now.tables before line.now op)) }
+    ensures found { IfOk result (λ found. MatchOption found (IsBlank line.now) (λ op. LineIs schema.now.tables before
+        line.now op)) }
     ensures form { IfOk result (λ found. IfSome found (λ op. IsOp before op)) }
     ensures fault { IfErr result (λ error. HasLineCause schema.now.tables before number line.now error) }
 {
@@ -127,7 +130,8 @@ fn seen(number: u32, line: &[u8], wrong: Wrong) -> TextFault
 
 /// How many bytes of UTF-8 a line begins with, where they end at what is wrong or before it.
 fn cut_short(line: &[u8], wrong: Wrong) -> Option<usize>
-    ensures { MatchOption result ((front : ℕ) → IsCutShort line.now wrong front → ⊥) (λ front. IsCutShort line.now wrong front) }
+    ensures { MatchOption result ((front : ℕ) → IsCutShort line.now wrong front
+        → ⊥) (λ front. IsCutShort line.now wrong front) }
 {
     match front_of_utf8(line) {
         Some(front) if ends_before(line, wrong, front) => Some(front),

@@ -6,7 +6,8 @@ ghost use Rattle.std.specs.List.{list_all};
 ghost use Rattle.std.specs.Str.Parse.{digits_value};
 ghost use Rattle.update_model.specs.Rows.{IsRowName, IsValue};
 ghost use Rattle.text_words.specs.Hexadecimal.{row_of};
-ghost use Rattle.txn_text.specs.Values.{value_for, value_in, row_in, plain_value, unmarked_value, literal_value, text_value, own_value, own_row, is_numeral};
+ghost use Rattle.txn_text.specs.Values.{value_for, value_in, row_in, plain_value, unmarked_value, literal_value};
+ghost use Rattle.txn_text.specs.Values.{text_value, own_value, own_row, is_numeral};
 ghost use Rattle.text_words.specs.Integers.{is_positive_numeral};
 
 use crate::TextKind;
@@ -54,7 +55,8 @@ fn row_in(word: &Word) -> Result<Value, TextKind>
 
 /// The row that bytes name.
 fn row_named(bytes: &[u8]) -> Option<RowName>
-    ensures value { result ≡ option_map (λ row. record { update = record { 0 = row.0 }; index = row.1 }) (row_of bytes.now) }
+    ensures value { result ≡ option_map (λ row. record { update = record { 0 = row.0 }; index = row.1 })
+        (row_of bytes.now) }
     ensures form { IfSome result (λ row. IsRowName row) }
 {
     let (update, index) = row_name_of(bytes)?;

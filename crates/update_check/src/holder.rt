@@ -93,19 +93,21 @@ pub trait Holder: Counted {
     fn heads(&self, alloc: Global) -> Result<Vec<UpdateId>, AllocError>
         ensures { IfOk result (λ heads. AreHeads (map entry_of (members self.now)) heads.items) };
 
-    /// Of the first `below` updates, the positions of those that are neither among these ids nor ancestors of one, rising.
-    /// Ids that none of them has are passed over.
+    /// Of the first `below` updates, the positions of those that are neither among these ids nor ancestors of one,
+    /// rising. Ids that none of them has are passed over.
     fn since(&self, alloc: Global, below: u32, old: &[UpdateId]) -> Result<Vec<u32>, AllocError>
         requires { below ≤ length (members self.now) }
         ensures { IfOk result (λ positions. ArePositionsSince (members self.now) below old.now positions.items) };
 
-    /// Adds each update of a batch that can be added in some order, each once, and passes over known ones. The rest waits.
+    /// Adds each update of a batch that can be added in some order, each once, and passes over known ones. The rest
+    /// waits.
     ///
-    /// [`CommitFault::Full`] comes where all that can be added would pass a limit, and [`CommitFault::DiskFault`] only where
-    /// the count of faults rose. After a refusal the list is as it was, and the batch is given up.
+    /// [`CommitFault::Full`] comes where all that can be added would pass a limit, and [`CommitFault::DiskFault`] only
+    /// where the count of faults rose. After a refusal the list is as it was, and the batch is given up.
     fn commit(&mut self, alloc: Global, batch: Vec<Checked>) -> Result<Committed, CommitFault>
         requires { All (IsChecked (rule self.old)) batch.items }
-        ensures commits { Commits (limits self.old) (members self.old) batch.items result (Self.faults self.old) (Self.faults self.new) (members self.new) }
+        ensures commits { Commits (limits self.old) (members self.old) batch.items result (Self.faults self.old)
+            (Self.faults self.new) (members self.new) }
         ensures later { Self.faults self.old ≤ Self.faults self.new }
         ensures keeps { keeps self.old self.new }
         ensures whole { OnOk result (is_whole self.new) }

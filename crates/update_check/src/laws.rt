@@ -21,7 +21,8 @@ pub fn one_cause()
 
 /// What is checked is not refused.
 pub fn no_cause()
-    ensures { (rule : RuleData) (bytes : List ℕ) (fault : CheckFault) → IsCause rule bytes fault → IsChecked rule bytes → ⊥ }
+    ensures { (rule : RuleData) (bytes : List ℕ) (fault : CheckFault) → IsCause rule bytes fault → IsChecked rule bytes
+        → ⊥ }
 {
     one_update();
     no_fault();

@@ -16,8 +16,8 @@
 //! Where the rule is to come from the bytes, as the first record of a stream sets it, [`update_codec::spelled`] and
 //! [`check_spelled`] are the two halves of `check`.
 //!
-//! A [`Holder`] is whoever keeps such updates: a closed list under a rule that grows by whole batches. What exchanges updates
-//! between two of them knows only this trait.
+//! A [`Holder`] is whoever keeps such updates: a closed list under a rule that grows by whole batches. What exchanges
+//! updates between two of them knows only this trait.
 //!
 //! It keeps no graph (`hash_graph`), and does not look at whether predecessors are known.
 #![tactic(auto)]

@@ -5,8 +5,8 @@ use Rattle.std.specs.Prelude.{Result, Ok, Err, Option, Some}
 use Rattle.update_model.specs.declared.update_id.UpdateId.{UpdateId}
 use Rattle.update_codec.specs.declared.codec_fault.CodecKind.TheVariants.{Order}
 use Rattle.update_codec.specs.declared.halt.Halt.{Halt}
-use Rattle.update_codec.specs.declared.halt.ReadError.{ReadError}
-use Rattle.update_codec.specs.declared.halt.ReadError.TheVariants.{Halted, Memory}
+use Rattle.update_codec.specs.declared.halt.UpdateReadError.{UpdateReadError}
+use Rattle.update_codec.specs.declared.halt.UpdateReadError.TheVariants.{Halted, Memory}
 use Rattle.update_codec.specs.Reading.{Read, Stops, ◌>>=◌, judge, id_at, ids_at, is_next, value_at, values_at, op_at, ops_at}
 use Rattle.update_codec.proofs.Steps.{failed, halt_at}
 
@@ -23,7 +23,7 @@ regroup {A} front n (Ok x) = ap (λ (ns : List A). Ok (ns, x.1)) (simp append_as
 regroup front n (Err f) = refl
 
 -- Reading what is left begins with an item: where that fails, so does the whole.
-pub ends : {X A : Type 0} (e : ReadError) (front : List A) (item : Result X Halt) (f : X → Read (List A)) (total : Read (List A)) → Stops e item → with_front front (item >>= f) ≡ total → Stops e total
+pub ends : {X A : Type 0} (e : UpdateReadError) (front : List A) (item : Result X Halt) (f : X → Read (List A)) (total : Read (List A)) → Stops e item → with_front front (item >>= f) ≡ total → Stops e total
 ends Memory front item f total stops so_far = tt
 ends {X} {A} (Halted h) front item f total stops so_far = let bound : with_front front (item >>= f) ≡ failed (List A × List ℕ) h = rw stops refl in sym so_far ∙ bound
 
@@ -66,7 +66,7 @@ unfolding ids_at
 ids_next count done last bytes h = let e : count - done ≡ suc (count - (done + 1)) = omega arith in rw e refl
 
 -- Where no id can be read, none of the rest can.
-pub id_fails : (e : ReadError) (front : List UpdateId) (count done : ℕ) (last : Option UpdateId) (bytes : List ℕ) (total : Read (List UpdateId)) → done < count
+pub id_fails : (e : UpdateReadError) (front : List UpdateId) (count done : ℕ) (last : Option UpdateId) (bytes : List ℕ) (total : Read (List UpdateId)) → done < count
     → Stops e (id_at bytes) → with_front front (ids_at (count - done) last bytes) ≡ total → Stops e total
 id_fails Memory front count done last bytes total h stops so_far = tt
 id_fails (Halted halt) front count done last bytes total h stops so_far =

@@ -17,8 +17,8 @@ use Rattle.update_codec.specs.declared.codec_fault.CodecKind.{CodecKind}
 use Rattle.update_codec.specs.declared.codec_fault.CodecKind.TheVariants as kinds
 use Rattle.update_codec.specs.declared.codec_fault.CodecFault.{CodecFault}
 use Rattle.update_codec.specs.declared.halt.Halt.{Halt}
-use Rattle.update_codec.specs.declared.halt.ReadError.{ReadError}
-use Rattle.update_codec.specs.declared.halt.ReadError.TheVariants as errors
+use Rattle.update_codec.specs.declared.halt.UpdateReadError.{UpdateReadError}
+use Rattle.update_codec.specs.declared.halt.UpdateReadError.TheVariants as errors
 
 -- a value and the bytes after it, or the first fault
 abbrev pub Read : Type 0 → Type 0
@@ -31,12 +31,12 @@ abbrev pub ◌>>=◌ : {A B : Type 0} → Result A Halt → (A → Result B Halt
 (Err e) >>= f = Err e
 
 -- a reader failed as this reading does
-abbrev pub Stops : {Y : Type 0} → ReadError → Result Y Halt → Type 0
+abbrev pub Stops : {Y : Type 0} → UpdateReadError → Result Y Halt → Type 0
 Stops errors.Memory read = Unit {0}
 Stops (errors.Halted halt) read = read ≡ Err halt
 
 -- what a reader returned, seen by view, is this reading, unless memory ran out
-abbrev pub Gives : {X Y : Type 0} → (X → Y) → Result X ReadError → Result Y Halt → Type 0
+abbrev pub Gives : {X Y : Type 0} → (X → Y) → Result X UpdateReadError → Result Y Halt → Type 0
 Gives view (Ok x) read = read ≡ Ok (view x)
 Gives view (Err error) read = Stops error read
 

@@ -4,11 +4,12 @@ ghost use Rattle.std.specs.Prelude.{◌≡◌, ◌+◌, List, ℕ, Ok, Err, IfOk
 ghost use Rattle.update_model.specs.Form.{BodyData, UpdateData, most_ops as most_by};
 ghost use Rattle.update_codec.specs.Outcome.{Shows, Answers, Fails, HasCause};
 ghost use Rattle.update_codec.specs.Parts.{body_of as body_by, update_of};
-ghost use Rattle.update_codec.specs.Reading.{Gives, Stops, first_note as first_by, before_ops_at, note_at, body_at, whole, placed as placed_in, first_of};
+ghost use Rattle.update_codec.specs.Reading.{Gives, Stops, first_note as first_by, before_ops_at, note_at, body_at};
+ghost use Rattle.update_codec.specs.Reading.{whole, placed as placed_in, first_of};
 ghost use Rattle.update_codec.specs.Spelling.{Spells};
 
 use crate::fields::{array_of, author_of, block_of, byte_of, u16_of, u32_of};
-use crate::halt::{ReadError, fault_at};
+use crate::halt::{UpdateReadError, fault_at};
 use crate::limits::{NOTED_VERSION, PLAIN_VERSION, UPDATE_LIMIT};
 use crate::operations::ops_of;
 use crate::predecessors::preds_of;
@@ -54,8 +55,8 @@ pub(crate) fn parts_of(alloc: Global, bytes: &[u8]) -> Result<(Body, &[u8]), Dec
     }
     match whole_of(alloc, bytes) {
         Ok(parts) => Ok(parts),
-        Err(ReadError::Memory) => Err(DecodeError::Memory),
-        Err(ReadError::Halted(halt)) => Err(DecodeError::Fault(CodecFault {
+        Err(UpdateReadError::Memory) => Err(DecodeError::Memory),
+        Err(UpdateReadError::Halted(halt)) => Err(DecodeError::Fault(CodecFault {
             kind: halt.kind,
             place: bytes.len().saturating_sub(halt.left) as u32,
         })),
@@ -75,7 +76,7 @@ pub(crate) fn spelled_body(alloc: Global, bytes: &[u8]) -> Result<Body, AllocErr
 }
 
 #[tactic(auto, unfolding(crate::specs::Reading::whole, crate::specs::Reading::update_at))]
-fn whole_of(alloc: Global, bytes: &[u8]) -> Result<(Body, &[u8]), ReadError>
+fn whole_of(alloc: Global, bytes: &[u8]) -> Result<(Body, &[u8]), UpdateReadError>
     ensures { Gives (λ read. record { body = read.0; signature = read.1.now }) result (whole bytes.now) }
 {
     let (body, after_body) = body_of(alloc, bytes)?;
@@ -92,7 +93,7 @@ fn whole_of(alloc: Global, bytes: &[u8]) -> Result<(Body, &[u8]), ReadError>
 
 /// All that is signed.
 #[tactic(auto, unfolding(crate::specs::Reading::body_at))]
-fn body_of(alloc: Global, bytes: &[u8]) -> Result<(Body, &[u8]), ReadError>
+fn body_of(alloc: Global, bytes: &[u8]) -> Result<(Body, &[u8]), UpdateReadError>
     ensures { Gives (λ read. (read.0, read.1.now)) result (body_at bytes.now) }
 {
     let (before, after_preds) = before_ops_of(alloc, bytes)?;
@@ -129,7 +130,7 @@ fn note_of<'a>(
     alloc: Global,
     first: &Option<TextValue>,
     bytes: &'a [u8],
-) -> Result<(Option<TextValue>, &'a [u8]), ReadError>
+) -> Result<(Option<TextValue>, &'a [u8]), UpdateReadError>
     ensures { Gives (λ read. (read.0, read.1.now)) result (note_at first.now bytes.now) }
 {
     match first {
@@ -154,7 +155,7 @@ fn first_note(alloc: Global, version: u8) -> Option<TextValue>
 
 /// All that stands before the number of operations: a body that has none.
 #[tactic(auto, unfolding(crate::specs::Reading::before_ops_at))]
-fn before_ops_of(alloc: Global, bytes: &[u8]) -> Result<(Body, &[u8]), ReadError>
+fn before_ops_of(alloc: Global, bytes: &[u8]) -> Result<(Body, &[u8]), UpdateReadError>
     ensures { Gives (λ read. (read.0, read.1.now)) result (before_ops_at bytes.now) }
 {
     let (version, rest) = byte_of(bytes)?;

@@ -2,7 +2,8 @@
 
 ghost use Rattle.std.specs.Prelude.{◌≡◌, ◌+◌, ◌≤◌, ◌<◌, ◌++◌, length, IfOk, OnOk};
 ghost use Rattle.update_codec.specs.Outcome.{Writes, Refuses};
-ghost use Rattle.update_codec.specs.Spelling.{Spells, before_ops, message, note as note_bytes, signed_length, spelling, version as version_by};
+ghost use Rattle.update_codec.specs.Spelling.{Spells, before_ops, message, note as note_bytes, signed_length, spelling};
+ghost use Rattle.update_codec.specs.Spelling.{version as version_by};
 
 use crate::limits::{NOTED_VERSION, PLAIN_VERSION, UPDATE_LIMIT};
 use crate::writing_ops::{put_ops, put_text, put_u16, put_u32};

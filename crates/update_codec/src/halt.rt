@@ -2,7 +2,7 @@
 
 ghost use Rattle.std.specs.Prelude.{◌≡◌, length};
 ghost use Rattle.update_codec.specs.declared.codec_fault.CodecKind.TheVariants as kinds;
-ghost use Rattle.update_codec.specs.declared.halt.ReadError.TheVariants.{Halted, Memory};
+ghost use Rattle.update_codec.specs.declared.halt.UpdateReadError.TheVariants.{Halted, Memory};
 
 use crate::CodecKind;
 use std::alloc::{AllocError, AllocFailed};
@@ -16,38 +16,38 @@ pub(crate) struct Halt {
 
 /// Why a reader stopped.
 #[derive(Clone, Copy, Drop)]
-pub(crate) enum ReadError {
+pub(crate) enum UpdateReadError {
     Halted(Halt),
     Memory,
 }
 
-impl From<AllocError> for ReadError {
+impl From<AllocError> for UpdateReadError {
     ghost from_gives = { λ _ error. error ≡ Memory };
 
-    fn from(_error: AllocError) -> ReadError {
-        ReadError::Memory
+    fn from(_error: AllocError) -> UpdateReadError {
+        UpdateReadError::Memory
     }
 }
 
-impl<T: Drop> From<AllocFailed<T>> for ReadError {
+impl<T: Drop> From<AllocFailed<T>> for UpdateReadError {
     ghost from_gives = { λ _ error. error ≡ Memory };
 
-    fn from(_error: AllocFailed<T>) -> ReadError {
-        ReadError::Memory
+    fn from(_error: AllocFailed<T>) -> UpdateReadError {
+        UpdateReadError::Memory
     }
 }
 
 /// The bytes end in a field, or before one.
-pub(crate) const SHORT: ReadError = ReadError::Halted(Halt {
+pub(crate) const SHORT: UpdateReadError = UpdateReadError::Halted(Halt {
     kind: CodecKind::Short,
     left: 0,
 });
 
 /// A fault at the first of the bytes that are still to come.
-pub(crate) fn fault_at(kind: CodecKind, here: &[u8]) -> ReadError
+pub(crate) fn fault_at(kind: CodecKind, here: &[u8]) -> UpdateReadError
     ensures { result ≡ Halted (record { kind = kind; left = length here.now }) }
 {
-    ReadError::Halted(Halt {
+    UpdateReadError::Halted(Halt {
         kind,
         left: here.len(),
     })

@@ -45,12 +45,15 @@ pub fn some_fault()
 
 /// The parts of an update stand at their places in its spelling.
 pub fn fields_of_spelling()
-    ensures database { (bytes : List ℕ) (update : UpdateData) → Spells bytes update → database_of bytes ≡ update.body.database }
-    ensures author { (bytes : List ℕ) (update : UpdateData) → Spells bytes update → author_of bytes ≡ update.body.author }
+    ensures database { (bytes : List ℕ) (update : UpdateData) → Spells bytes update
+        → database_of bytes ≡ update.body.database }
+    ensures author { (bytes : List ℕ) (update : UpdateData) → Spells bytes update
+        → author_of bytes ≡ update.body.author }
     ensures preds { (bytes : List ℕ) (update : UpdateData) → Spells bytes update → preds_of bytes ≡ update.body.preds }
     ensures ops { (bytes : List ℕ) (update : UpdateData) → Spells bytes update → ops_of bytes ≡ update.body.ops }
     ensures note { (bytes : List ℕ) (update : UpdateData) → Spells bytes update → note_of bytes ≡ update.body.note }
-    ensures signature { (bytes : List ℕ) (update : UpdateData) → Spells bytes update → signature_of bytes ≡ update.signature }
+    ensures signature { (bytes : List ℕ) (update : UpdateData) → Spells bytes update
+        → signature_of bytes ≡ update.signature }
     ensures update { (bytes : List ℕ) (update : UpdateData) → Spells bytes update → update_of bytes ≡ update }
 {}
 
@@ -61,5 +64,6 @@ pub fn spells_its_parts()
 
 /// What begins with 1 spells what it spelled when version 1 was all there was, and nothing else.
 pub fn first_version_stays()
-    ensures { (bytes : List ℕ) (update : UpdateData) → (Spells bytes update × (slice_index bytes 0 ≡ 1)) ↔ SpellsFirst bytes update }
+    ensures { (bytes : List ℕ) (update : UpdateData) → (Spells bytes update × (slice_index bytes 0 ≡ 1))
+        ↔ SpellsFirst bytes update }
 {}

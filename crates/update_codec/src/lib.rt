@@ -1,10 +1,10 @@
 //! The one spelling of each update in bytes: encoding, decoding, and the id of an update.
 //!
-//! The format: version, database, author's key, predecessors, operations, in version 2 a note, and the author's signature.
-//! An update without a note is spelled in version 1, and one with a note in version 2.
-//! [`encode`] gives the spelling of an update and [`decode`] the update whose spelling bytes are; each answers exactly
-//! where there is one. Other bytes have one first fault, with its kind and place. [`spelled`] checks bytes in the same
-//! way and keeps them, as a member of a graph does.
+//! The format: version, database, author's key, predecessors, operations, in version 2 a note, and the author's
+//! signature. An update without a note is spelled in version 1, and one with a note in version 2. [`encode`] gives the
+//! spelling of an update and [`decode`] the update whose spelling bytes are; each answers exactly where there is one.
+//! Other bytes have one first fault, with its kind and place. [`spelled`] checks bytes in the same way and keeps them,
+//! as a member of a graph does.
 //!
 //! ```text
 //! let bytes = encode(alloc, &update)?;

@@ -5,14 +5,14 @@ ghost use Rattle.update_codec.specs.Reading.{Gives, insert_at, op_at, ops_at};
 
 use crate::CodecKind;
 use crate::fields::{byte_of, row_of};
-use crate::halt::{ReadError, SHORT, fault_at};
+use crate::halt::{SHORT, UpdateReadError, fault_at};
 use crate::values::values_of;
 use std::alloc::Global;
 use update_model::{MAX_VALUES, Op, ValueList};
 
 /// An insert, behind its tag, that is the operation with this number.
 #[tactic(auto, unfolding(crate::specs::Reading::insert_at))]
-fn insert_of(alloc: Global, number: u16, bytes: &[u8]) -> Result<(Op, &[u8]), ReadError>
+fn insert_of(alloc: Global, number: u16, bytes: &[u8]) -> Result<(Op, &[u8]), UpdateReadError>
     ensures { Gives (λ read. (read.0, read.1.now)) result (insert_at number bytes.now) }
 {
     let (table, after_table) = byte_of(bytes)?;
@@ -27,7 +27,7 @@ fn insert_of(alloc: Global, number: u16, bytes: &[u8]) -> Result<(Op, &[u8]), Re
 
 /// The operation with this number.
 #[tactic(auto, unfolding(crate::specs::Reading::op_at))]
-fn op_of(alloc: Global, number: u16, bytes: &[u8]) -> Result<(Op, &[u8]), ReadError>
+fn op_of(alloc: Global, number: u16, bytes: &[u8]) -> Result<(Op, &[u8]), UpdateReadError>
     ensures { Gives (λ read. (read.0, read.1.now)) result (op_at number bytes.now) }
 {
     match bytes {
@@ -42,7 +42,11 @@ fn op_of(alloc: Global, number: u16, bytes: &[u8]) -> Result<(Op, &[u8]), ReadEr
 }
 
 /// This many operations, which number from 0, and the bytes after them.
-pub(crate) fn ops_of(alloc: Global, count: u16, bytes: &[u8]) -> Result<(Vec<Op>, &[u8]), ReadError>
+pub(crate) fn ops_of(
+    alloc: Global,
+    count: u16,
+    bytes: &[u8],
+) -> Result<(Vec<Op>, &[u8]), UpdateReadError>
     ensures { Gives (λ read. (read.0.items, read.1.now)) result (ops_at count 0 bytes.now) }
 {
     let mut ops = Vec::with_capacity(alloc, count as usize)?;

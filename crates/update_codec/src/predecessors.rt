@@ -5,7 +5,7 @@ ghost use Rattle.update_codec.specs.Reading.{Gives, ids_at, is_next as may_follo
 
 use crate::CodecKind;
 use crate::fields::id_of_update;
-use crate::halt::{ReadError, fault_at};
+use crate::halt::{UpdateReadError, fault_at};
 use std::alloc::Global;
 use update_model::UpdateId;
 
@@ -24,7 +24,7 @@ pub(crate) fn preds_of(
     alloc: Global,
     count: usize,
     bytes: &[u8],
-) -> Result<(Vec<UpdateId>, &[u8]), ReadError>
+) -> Result<(Vec<UpdateId>, &[u8]), UpdateReadError>
     ensures { Gives (λ read. (read.0.items, read.1.now)) result (ids_at count None bytes.now) }
 {
     let mut ids = Vec::with_capacity(alloc, count)?;

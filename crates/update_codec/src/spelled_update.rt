@@ -14,9 +14,10 @@ use update_model::{AuthorKey, Body, Member, TextValue, UpdateId, signature_len};
 /// An update as it is kept: its bytes, and beside them its id and what it says beside its operations, which agree
 /// with the bytes.
 ///
-/// A contract sees it as its bytes. Of the bytes, the database, the author's key, the predecessors and the note are kept
-/// a second time, so that it takes little more than twice the memory of its bytes. The operations are not, which would
-/// take many times their bytes: [`Spelled::body`] reads them again. Nor is the signature, which is lent from the bytes.
+/// A contract sees it as its bytes. Of the bytes, the database, the author's key, the predecessors and the note are
+/// kept a second time, so that it takes little more than twice the memory of its bytes. The operations are not, which
+/// would take many times their bytes: [`Spelled::body`] reads them again. Nor is the signature, which is lent from the
+/// bytes.
 #[derive(Debug, Drop)]
 pub struct Spelled {
     bytes: Vec<u8>,
@@ -77,7 +78,8 @@ impl Spelled {
     /// The bytes that its author signed: its spelling up to the signature's length.
     pub fn message(&self) -> &[u8]
         ensures value { result.now ≡ message_bytes (body_of self.now) }
-        ensures parts { self.now ≡ result.now ++ (to_be_bytes w32 (length (signature_of self.now)) ++ signature_of self.now) }
+        ensures parts { self.now ≡ result.now ++ (to_be_bytes w32 (length (signature_of self.now)) ++ signature_of
+            self.now) }
     {
         let len = signature_len(self.author()) as usize;
         &self.bytes[..self.bytes.len() - len - 4]

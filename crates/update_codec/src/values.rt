@@ -7,13 +7,13 @@ ghost use Rattle.update_codec.specs.Reading.{Gives, int_at, text_at, flag_at, ow
 
 use crate::CodecKind;
 use crate::fields::{block_of, row_of, u16_of, u64_of};
-use crate::halt::{ReadError, SHORT, fault_at};
+use crate::halt::{SHORT, UpdateReadError, fault_at};
 use std::alloc::Global;
 use std::str;
 use update_model::{MAX_TEXT, TextValue, Value};
 
 #[tactic(auto, unfolding(crate::specs::Reading::int_at))]
-fn int_of(bytes: &[u8]) -> Result<(Value, &[u8]), ReadError>
+fn int_of(bytes: &[u8]) -> Result<(Value, &[u8]), UpdateReadError>
     ensures { Gives (λ read. (read.0, read.1.now)) result (int_at bytes.now) }
 {
     let (bits, rest) = u64_of(bytes)?;
@@ -32,7 +32,7 @@ pub(crate) fn text_of(
     alloc: Global,
     most: u16,
     bytes: &[u8],
-) -> Result<(TextValue, &[u8]), ReadError>
+) -> Result<(TextValue, &[u8]), UpdateReadError>
     requires { most ≤ MAX_TEXT }
     ensures { Gives (λ read. (read.0, read.1.now)) result (text_at most bytes.now) }
 {
@@ -49,7 +49,7 @@ pub(crate) fn text_of(
 }
 
 #[tactic(auto, unfolding(crate::specs::Reading::flag_at))]
-fn flag_of(bytes: &[u8]) -> Result<(Value, &[u8]), ReadError>
+fn flag_of(bytes: &[u8]) -> Result<(Value, &[u8]), UpdateReadError>
     ensures { Gives (λ read. (read.0, read.1.now)) result (flag_at bytes.now) }
 {
     match bytes {
@@ -62,7 +62,7 @@ fn flag_of(bytes: &[u8]) -> Result<(Value, &[u8]), ReadError>
 
 /// A reference to an operation before the one with this number.
 #[tactic(auto, unfolding(crate::specs::Reading::own_at))]
-fn own_of(number: u16, bytes: &[u8]) -> Result<(Value, &[u8]), ReadError>
+fn own_of(number: u16, bytes: &[u8]) -> Result<(Value, &[u8]), UpdateReadError>
     ensures { Gives (λ read. (read.0, read.1.now)) result (own_at number bytes.now) }
 {
     let (index, rest) = u16_of(bytes)?;
@@ -74,7 +74,7 @@ fn own_of(number: u16, bytes: &[u8]) -> Result<(Value, &[u8]), ReadError>
 
 /// A value in the operation with this number.
 #[tactic(auto, unfolding(crate::specs::Reading::value_at))]
-fn value_of(alloc: Global, number: u16, bytes: &[u8]) -> Result<(Value, &[u8]), ReadError>
+fn value_of(alloc: Global, number: u16, bytes: &[u8]) -> Result<(Value, &[u8]), UpdateReadError>
     ensures { Gives (λ read. (read.0, read.1.now)) result (value_at number bytes.now) }
 {
     match bytes {
@@ -101,7 +101,7 @@ pub(crate) fn values_of(
     number: u16,
     count: u8,
     bytes: &[u8],
-) -> Result<(Vec<Value>, &[u8]), ReadError>
+) -> Result<(Vec<Value>, &[u8]), UpdateReadError>
     ensures { Gives (λ read. (read.0.items, read.1.now)) result (values_at number count bytes.now) }
 {
     let mut values = Vec::with_capacity(alloc, count as usize)?;

@@ -107,7 +107,8 @@ fn put_op(out: &mut Vec<u8>, op: &Op) -> Result<(), AllocError>
 pub(crate) fn put_ops(out: &mut Vec<u8>, ops: &[Op]) -> Result<(), AllocError>
     requires few { length ops.now ≤ 65535 }
     requires counted { All IsCounted ops.now }
-    ensures { OnOk result (out.new.items ≡ out.old.items ++ (to_be_bytes w16 (length ops.now) ++ flat_map spell.op ops.now)) }
+    ensures { OnOk result (out.new.items ≡ out.old.items ++ (to_be_bytes w16 (length ops.now) ++ flat_map spell.op
+        ops.now)) }
 {
     put_u16(out, ops.len() as u16)?;
     for op in ops {

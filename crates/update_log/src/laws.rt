@@ -21,5 +21,6 @@ pub fn logset_begins()
 
 /// The records of a list, and nothing else, stand for that list.
 pub fn whole_logset()
-    ensures { (rule : RuleData) (members : List (List ℕ)) → AreMembers rule members → IsLogset rule (stream_of members) members }
+    ensures { (rule : RuleData) (members : List (List ℕ)) → AreMembers rule members
+        → IsLogset rule (stream_of members) members }
 {}

@@ -1,4 +1,4 @@
-use crate::opening::{Opened, open_at};
+use crate::opening::{OpenedLog, open_at};
 use crate::piece_reader::PIECE;
 use crate::writing::write_records;
 use bec_disk::{Disk, DiskError, DiskFault, MemDisk, cut_synced};
@@ -9,8 +9,8 @@ use std::marker::Model;
 use update_check::Checked;
 use update_model::DbRule;
 
-/// A log of updates on a disk: records that are acknowledged, which a crash leaves as they are, and behind them, where a
-/// call failed, bytes of records that are not.
+/// A log of updates on a disk: records that are acknowledged, which a crash leaves as they are, and behind them, where
+/// a call failed, bytes of records that are not.
 #[derive(Drop)]
 pub struct Log<D: Disk> {
     disk: D,
@@ -29,13 +29,21 @@ impl<D: Disk> Model for Log<D> {
 
     ghost Value = { LogState };
 
-    ghost view = { λ l. record { disk = D.state l.disk; faults = D.faults l.disk; end = l.end; dropped = l.dropped; is_unsure = l.is_unsure } };
+    ghost view = { λ l. record {
+      disk = D.state l.disk;
+      faults = D.faults l.disk;
+      end = l.end;
+      dropped = l.dropped;
+      is_unsure = l.is_unsure;
+    } };
 
-    ghost invariant = { λ l. (IsTrue (D.state l.disk).tells → IsKept l.end l.is_unsure (D.state l.disk)) × (length l.piece.items ≡ PIECE) };
+    ghost invariant = { λ l. (IsTrue (D.state l.disk).tells → IsKept l.end l.is_unsure (D.state l.disk))
+        × (length l.piece.items ≡ PIECE) };
 }
 
 impl<D: Disk> Log<D> {
-    ghost use Rattle.std.specs.Prelude.{◌≡◌, ◌≤◌, ◌+◌, ◌++◌, ℕ, List, IsTrue, false, is_err, IfOk, IfErr, OnOk, OnErr, length};
+    ghost use Rattle.std.specs.Prelude.{◌≡◌, ◌≤◌, ◌+◌, ◌++◌, ℕ, List, IsTrue, false, is_err, IfOk, IfErr, OnOk, OnErr};
+    ghost use Rattle.std.specs.Prelude.{length};
     ghost use Rattle.bec_bytes.specs.Causes.{HasCause, Rose};
     ghost use Rattle.bec_bytes.specs.Framed.{stream_of};
     ghost use Rattle.bec_disk.specs.Disk.{EveryImage, IsSettled, LeavesOnly};
@@ -43,8 +51,9 @@ impl<D: Disk> Log<D> {
     ghost use Rattle.update_log.specs.Logset.{BeginsWith, IsLogset};
     ghost use Rattle.update_check.specs.Members.{AreMembers};
 
-    /// Opens a log on a disk that is settled, and answers it with the graph of its updates: those of the longest front of
-    /// whole records that are a closed list under the rule. What stands behind them is cut. The verifier checks the records.
+    /// Opens a log on a disk that is settled, and answers it with the graph of its updates: those of the longest front
+    /// of whole records that are a closed list under the rule. What stands behind them is cut. The verifier checks the
+    /// records.
     pub fn open_log<V: Verifier>(
         verifier: &V,
         alloc: Global,
@@ -52,23 +61,26 @@ impl<D: Disk> Log<D> {
         rule: &DbRule,
     ) -> Result<(Log<D>, Graph<Checked>), LogFault<D>>
         requires { IsTrue (D.state disk).tells → IsSettled (D.state disk) }
-        ensures list { IsTrue (D.state disk).tells → IfOk result (λ opened. IsLogset rule.now (D.state disk).seen opened.1) }
+        ensures list { IsTrue (D.state disk).tells
+            → IfOk result (λ opened. IsLogset rule.now (D.state disk).seen opened.1) }
         ensures members { IfOk result (λ opened. AreMembers rule.now opened.1) }
         ensures log { IfOk result (λ opened. IsLogOf opened.1 opened.0) }
         ensures clean { IsTrue (D.state disk).tells → IfOk result (λ opened. IsClean opened.0.end opened.0.disk) }
         ensures sure { IfOk result (λ opened. opened.0.is_unsure ≡ false) }
-        ensures dropped { IsTrue (D.state disk).tells → IfOk result (λ opened. length (D.state disk).seen ≡ opened.0.end + opened.0.dropped) }
+        ensures dropped { IsTrue (D.state disk).tells
+            → IfOk result (λ opened. length (D.state disk).seen ≡ opened.0.end + opened.0.dropped) }
 
         // A crash at any moment of it leaves the list that stood there in front, whatever it answers.
         ensures any_moment { IfOk result (λ opened. KeepsLogset rule.now (D.state disk) opened.0.disk) }
         ensures any_moment_err { IfErr result (λ fault. KeepsLogset rule.now (D.state disk) (D.state fault.disk)) }
         ensures later { IfOk result (λ opened. D.faults disk ≤ opened.0.faults) }
         ensures later_err { IfErr result (λ fault. D.faults disk ≤ D.faults fault.disk) }
-        ensures fault { IfErr result (λ fault. fault.why ≡ DiskError.DiskFault → Rose (D.faults disk) (D.faults fault.disk)) }
+        ensures fault { IfErr result (λ fault. fault.why ≡ DiskError.DiskFault
+            → Rose (D.faults disk) (D.faults fault.disk)) }
     {
         match open_at(verifier, alloc, &mut disk, rule) {
             Ok(opened) => {
-                let Opened {
+                let OpenedLog {
                     graph,
                     end,
                     dropped,
@@ -102,12 +114,13 @@ impl<D: Disk> Log<D> {
         self.is_unsure
     }
 
-    /// Adds records behind the acknowledged ones, and syncs. At `Ok` they are acknowledged. After an `Err` the log is unsure
-    /// until [`Log::repair`] succeeds.
+    /// Adds records behind the acknowledged ones, and syncs. At `Ok` they are acknowledged. After an `Err` the log is
+    /// unsure until [`Log::repair`] succeeds.
     pub fn append(&mut self, batch: &[Checked]) -> Result<(), DiskFault>
         requires sure { self.old.is_unsure ≡ false }
         requires next { IsNextBatch self.old batch.now }
-        ensures added { (members : List (List ℕ)) → IsLogOf members self.old → OnOk result (IsLogOf (members ++ batch.now) self.new) }
+        ensures added { (members : List (List ℕ)) → IsLogOf members self.old
+            → OnOk result (IsLogOf (members ++ batch.now) self.new) }
         ensures kept { (members : List (List ℕ)) → IsLogOf members self.old → OnErr result (IsLogOf members self.new) }
         ensures clean { IsTrue self.old.disk.tells → OnOk result (IsClean self.new.end self.new.disk) }
         ensures sure { self.new.is_unsure ≡ is_err result }

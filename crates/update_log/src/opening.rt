@@ -22,7 +22,7 @@ use update_model::DbRule;
 
 /// What stands on the disk of a log that is opened.
 #[derive(Drop)]
-pub struct Opened {
+pub struct OpenedLog {
     pub graph: Graph<Checked>,
     /// Where the records of the graph's members end.
     pub end: u64,
@@ -38,15 +38,18 @@ pub fn open_at<V: Verifier, D: Disk>(
     alloc: Global,
     disk: &mut D,
     rule: &DbRule,
-) -> Result<Opened, DiskError>
+) -> Result<OpenedLog, DiskError>
     requires { IsTrue (D.state disk.old).tells → IsSettled (D.state disk.old) }
     ensures members { IfOk result (λ opened. AreMembers rule.now opened.graph) }
     ensures end { IfOk result (λ opened. opened.end ≡ length (stream_of opened.graph)) }
     ensures room { IfOk result (λ opened. length opened.piece.items ≡ PIECE) }
-    ensures list { IsTrue (D.state disk.old).tells → IfOk result (λ opened. IsLogset rule.now (D.state disk.old).seen opened.graph) }
-    ensures seen { IsTrue (D.state disk.old).tells → IfOk result (λ opened. (D.state disk.new).seen ≡ stream_of opened.graph) }
+    ensures list { IsTrue (D.state disk.old).tells
+        → IfOk result (λ opened. IsLogset rule.now (D.state disk.old).seen opened.graph) }
+    ensures seen { IsTrue (D.state disk.old).tells
+        → IfOk result (λ opened. (D.state disk.new).seen ≡ stream_of opened.graph) }
     ensures settled { IsTrue (D.state disk.old).tells → IfOk result (λ opened. IsSettled (D.state disk.new)) }
-    ensures dropped { IsTrue (D.state disk.old).tells → IfOk result (λ opened. length (D.state disk.old).seen ≡ opened.end + opened.dropped) }
+    ensures dropped { IsTrue (D.state disk.old).tells
+        → IfOk result (λ opened. length (D.state disk.old).seen ≡ opened.end + opened.dropped) }
     ensures any_moment { KeepsLogset rule.now (D.state disk.old) (D.state disk.new) }
     ensures later { D.faults disk.old ≤ D.faults disk.new }
     ensures failed { IsErrOf result DiskError.DiskFault → Rose (D.faults disk.old) (D.faults disk.new) }
@@ -55,7 +58,7 @@ pub fn open_at<V: Verifier, D: Disk>(
     let mut reader = PieceReader::new(alloc, len)?;
     let graph = scan(verifier, alloc, disk, rule, &mut reader)?;
     let end = end_of(&graph);
-    let opened = Opened {
+    let opened = OpenedLog {
         graph,
         end,
         dropped: len - end,
@@ -86,7 +89,8 @@ fn scan<V: Verifier, D: Disk>(
     requires { IsOver reader.old (D.state disk.old) }
     ensures members { IfOk result (AreMembers rule.now) }
     ensures within { IfOk result (λ graph. length (stream_of graph) ≤ count_left reader.old) }
-    ensures stops { IsTrue (D.state disk.old).tells → IfOk result (StopsAt rule.now (left_of reader.old (D.state disk.old).seen)) }
+    ensures stops { IsTrue (D.state disk.old).tells
+        → IfOk result (StopsAt rule.now (left_of reader.old (D.state disk.old).seen)) }
     ensures same { D.state disk.new ≡ D.state disk.old }
     ensures later { D.faults disk.old ≤ D.faults disk.new }
     ensures failed { IsErrOf result DiskError.DiskFault → Rose (D.faults disk.old) (D.faults disk.new) }
@@ -103,7 +107,8 @@ fn scan<V: Verifier, D: Disk>(
     }
 }
 
-/// Takes the records of a part into the graph, up to the first that can't stand there next, and tells whether these are all.
+/// Takes the records of a part into the graph, up to the first that can't stand there next, and tells whether these are
+/// all.
 fn take_part<V: Verifier>(
     verifier: &V,
     alloc: Global,

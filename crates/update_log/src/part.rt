@@ -1,6 +1,7 @@
 //! Reading records in parts, which are checked together.
 
-ghost use Rattle.std.specs.Prelude.{◌≡◌, ◌≤◌, ◌+◌, ◌∷◌, ◌++◌, ℕ, List, [], IsTrue, IfOk, OnOk, IsErrOf, length, vec_len};
+ghost use Rattle.std.specs.Prelude.{◌≡◌, ◌≤◌, ◌+◌, ◌∷◌, ◌++◌, ℕ, List, [], IsTrue, IfOk, OnOk, IsErrOf, length};
+ghost use Rattle.std.specs.Prelude.{vec_len};
 ghost use Rattle.bec_bytes.specs.Causes.{Rose};
 ghost use Rattle.bec_bytes.specs.Framed.{HoldsPiece, stream_of};
 ghost use Rattle.record_check.specs.Records.{bytes_of};
@@ -24,10 +25,13 @@ pub fn next_part<D: Disk>(
     reader: &mut PieceReader,
 ) -> Result<Vec<Vec<u8>>, DiskError>
     requires { IsOver reader.old (D.state disk.old) }
-    ensures found { IsTrue (D.state disk.old).tells → IfOk result (λ records. HoldsRecords (left_of reader.old (D.state disk.old).seen) (bytes_of records.items) (left_of reader.new (D.state disk.old).seen)) }
+    ensures found { IsTrue (D.state disk.old).tells
+        → IfOk result (λ records. HoldsRecords (left_of reader.old (D.state disk.old).seen) (bytes_of records.items)
+        (left_of reader.new (D.state disk.old).seen)) }
     ensures none { IsTrue (D.state disk.old).tells → IfOk result (λ records. vec_len records ≡ 0
         → (r rest : List ℕ) → HoldsPiece UPDATE_LIMIT (left_of reader.old (D.state disk.old).seen) r rest → ⊥) }
-    ensures count { IfOk result (λ records. length (stream_of (bytes_of records.items)) + count_left reader.new ≡ count_left reader.old) }
+    ensures count { IfOk result (λ records. length (stream_of (bytes_of records.items)) + count_left
+        reader.new ≡ count_left reader.old) }
     ensures over { IsOver reader.new (D.state disk.new) }
     ensures same { D.state disk.new ≡ D.state disk.old }
     ensures later { D.faults disk.old ≤ D.faults disk.new }

@@ -1,6 +1,7 @@
 //! Reading a disk from front to back, in large pieces.
 
-ghost use Rattle.std.specs.Prelude.{◌≡◌, ◌≤◌, ◌<◌, ◌+◌, ◌^◌, [], IsTrue, IfOk, IfNone, IfSome, OnOk, OnErr, IsErrOf, length, take, drop};
+ghost use Rattle.std.specs.Prelude.{◌≡◌, ◌≤◌, ◌<◌, ◌+◌, ◌^◌, [], IsTrue, IfOk, IfNone, IfSome, OnOk, OnErr, IsErrOf};
+ghost use Rattle.std.specs.Prelude.{length, take, drop};
 ghost use Rattle.std.specs.Int.{w32, to_be_bytes};
 ghost use Rattle.bec_bytes.specs.Causes.{HasCause, Rose};
 ghost use Rattle.update_log.specs.Reading.{FindsRecord, IsOver, count_left, left_of};
@@ -33,7 +34,11 @@ impl Model for PieceReader {
 
     ghost Value = { ReaderState };
 
-    ghost view = { λ r. record { ahead = take (r.to - r.from) (drop r.from r.piece.items); at = r.at; unread = r.unread } };
+    ghost view = { λ r. record {
+      ahead = take (r.to - r.from) (drop r.from r.piece.items);
+      at = r.at;
+      unread = r.unread;
+    } };
 
     ghost invariant = { λ r. HasRoom (length r.piece.items) r.from r.to r.at r.unread };
 }
@@ -67,10 +72,15 @@ impl PieceReader {
         disk: &mut D,
     ) -> Result<Option<Vec<u8>>, DiskError>
         requires { IsOver self.old (D.state disk.old) }
-        ensures found { IsTrue (D.state disk.old).tells → IfOk result (λ found. FindsRecord (left_of self.old (D.state disk.old).seen) (left_of self.new (D.state disk.old).seen) found) }
-        ensures left { IsTrue (D.state disk.old).tells → IfOk result (λ found. IfNone found (left_of self.new (D.state disk.old).seen ≡ left_of self.old (D.state disk.old).seen)) }
+        ensures found { IsTrue (D.state disk.old).tells
+            → IfOk result (λ found. FindsRecord (left_of self.old (D.state disk.old).seen)
+            (left_of self.new (D.state disk.old).seen) found) }
+        ensures left { IsTrue (D.state disk.old).tells
+            → IfOk result (λ found. IfNone found (left_of self.new (D.state disk.old).seen ≡ left_of self.old
+            (D.state disk.old).seen)) }
         ensures count_none { IfOk result (λ found. IfNone found (count_left self.new ≡ count_left self.old)) }
-        ensures count { IfOk result (λ found. IfSome found (λ r. count_left self.new + (4 + length r.items) ≡ count_left self.old)) }
+        ensures count { IfOk result (λ found. IfSome found (λ r. count_left self.new + (4 + length r.items) ≡ count_left
+            self.old)) }
         ensures over { IsOver self.new (D.state disk.new) }
         ensures same { D.state disk.new ≡ D.state disk.old }
         ensures later { D.faults disk.old ≤ D.faults disk.new }
@@ -101,7 +111,8 @@ impl PieceReader {
         requires there { count ≤ count_left self.old }
         requires over { IsOver self.old (D.state disk.old) }
         ensures ready { OnOk result (count ≤ length self.new.ahead) }
-        ensures left { IsTrue (D.state disk.old).tells → OnOk result (left_of self.new (D.state disk.old).seen ≡ left_of self.old (D.state disk.old).seen) }
+        ensures left { IsTrue (D.state disk.old).tells
+            → OnOk result (left_of self.new (D.state disk.old).seen ≡ left_of self.old (D.state disk.old).seen) }
         ensures count { OnOk result (count_left self.new ≡ count_left self.old) }
         ensures over { IsOver self.new (D.state disk.new) }
         ensures same { D.state disk.new ≡ D.state disk.old }
@@ -137,7 +148,11 @@ impl PieceReader {
     fn take(&mut self, alloc: Global, size: usize) -> Result<Vec<u8>, AllocError>
         requires { 4 + size ≤ length self.old.ahead }
         ensures bytes { IfOk result (λ bytes. bytes.items ≡ take size (drop 4 self.old.ahead)) }
-        ensures ahead { OnOk result (self.new ≡ record { ahead = drop (4 + size) self.old.ahead; at = self.old.at; unread = self.old.unread }) }
+        ensures ahead { OnOk result (self.new ≡ record {
+          ahead = drop (4 + size) self.old.ahead;
+          at = self.old.at;
+          unread = self.old.unread;
+        }) }
         ensures kept { OnErr result (self.new ≡ self.old) }
     {
         let start = self.from + 4;

@@ -25,7 +25,8 @@ pub fn write_records<D: Disk>(
     requires fits { start + length (stream_of batch.now) < 2 ^ 64 }
     requires clean { IsTrue (D.state disk.old).tells → IsClean start (D.state disk.old) }
     ensures end { IfOk result (λ end. end ≡ start + length (stream_of batch.now)) }
-    ensures written { IsTrue (D.state disk.old).tells → OnOk result ((D.state disk.new).seen ≡ (D.state disk.old).seen ++ stream_of batch.now) }
+    ensures written { IsTrue (D.state disk.old).tells
+        → OnOk result ((D.state disk.new).seen ≡ (D.state disk.old).seen ++ stream_of batch.now) }
 
     // A crash at any moment of it leaves what stood there before in front.
     ensures any_moment { LeavesOnly (D.state disk.old) (D.state disk.new) (BeginsWith (D.state disk.old).seen) }

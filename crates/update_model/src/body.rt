@@ -29,9 +29,21 @@ impl Model for Body {
 
     ghost Value = { BodyData };
 
-    ghost view = { λ body. record { database = body.database; author = body.author; preds = body.preds; ops = body.ops; note = body.note } };
+    ghost view = { λ body. record {
+      database = body.database;
+      author = body.author;
+      preds = body.preds;
+      ops = body.ops;
+      note = body.note;
+    } };
 
-    ghost invariant = { λ body. IsBody (record { database = body.database; author = body.author; preds = body.preds; ops = body.ops; note = body.note }) };
+    ghost invariant = { λ body. IsBody (record {
+      database = body.database;
+      author = body.author;
+      preds = body.preds;
+      ops = body.ops;
+      note = body.note;
+    }) };
 }
 
 impl Body {

@@ -19,5 +19,6 @@ pub fn heads_cover_members()
 
 /// A closed list that is not empty has a head.
 pub fn nonempty_has_head()
-    ensures { (graph : List Entry) → IsClosed graph → graph ≢ [] → (head : Entry) × Contains graph head × IsHead graph head }
+    ensures { (graph : List Entry) → IsClosed graph → graph ≢ [] → (head : Entry) × Contains graph head
+        × IsHead graph head }
 {}

@@ -28,7 +28,12 @@ impl Model for Node {
 
     ghost view = { λ node. record { id = node.id; preds = node.preds; author = node.author; ops = node.ops } };
 
-    ghost invariant = { λ node. IsNode (record { id = node.id; preds = node.preds; author = node.author; ops = node.ops }) };
+    ghost invariant = { λ node. IsNode (record {
+      id = node.id;
+      preds = node.preds;
+      author = node.author;
+      ops = node.ops;
+    }) };
 }
 
 impl Node {

@@ -10,7 +10,8 @@ use update_check::{no_cause, one_cause};
 
 /// A stream that is whole has one graph.
 pub fn one_graph()
-    ensures { (given : Option RuleData) (input : List ℕ) (members others : List (List ℕ)) → IsWhole given input members → IsWhole given input others → members ≡ others }
+    ensures { (given : Option RuleData) (input : List ℕ) (members others : List (List ℕ)) → IsWhole given input members
+        → IsWhole given input others → members ≡ others }
 {}
 
 /// A stream is refused at one record, for one fault.
@@ -32,5 +33,6 @@ pub fn whole_or_refused()
 
 /// A whole stream under a rule has members of its database.
 pub fn whole_has_members()
-    ensures { (rule : RuleData) (input : List ℕ) (members : List (List ℕ)) → IsWhole (Some rule) input members → AreMembers rule members }
+    ensures { (rule : RuleData) (input : List ℕ) (members : List (List ℕ)) → IsWhole (Some rule) input members
+        → AreMembers rule members }
 {}

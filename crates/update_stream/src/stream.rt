@@ -26,7 +26,8 @@ pub const MAX_RECORDS: u32 = 262_144;
 /// author is listed.
 ///
 /// [`ReadError::Failed`] comes only where a call of the source failed, and after that nothing is read.
-/// [`ReadError::Memory`] comes only where a record may still stand: behind [`MAX_RECORDS`] of them memory is not asked for.
+/// [`ReadError::Memory`] comes only where a record may still stand: behind [`MAX_RECORDS`] of them memory is not asked
+/// for.
 pub fn read_stream<S: Source>(
     alloc: Global,
     rule: &Option<DbRule>,

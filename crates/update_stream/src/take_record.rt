@@ -24,7 +24,8 @@ pub fn take_record(
     graph: &mut Graph<Checked>,
     bytes: Vec<u8>,
 ) -> Result<Option<RecordFault>, AllocError>
-    ensures ok { IfOk result (λ fault. Takes (rule_for given.now set.old bytes.items) graph.old bytes.items graph.new fault) }
+    ensures ok { IfOk result (λ fault. Takes (rule_for given.now set.old bytes.items) graph.old bytes.items graph.new
+        fault) }
     ensures kept { IfOk result (λ fault. IfSome fault (λ _. graph.new ≡ graph.old)) }
     ensures set { IfOk result (λ fault. IfNone fault (set.new ≡ set_after given.now set.old bytes.items)) }
 {
@@ -41,7 +42,8 @@ pub fn take_record(
 
 /// Adds a checked update to the graph, or tells its fault and leaves the graph as it was.
 fn add_next(graph: &mut Graph<Checked>, update: Checked) -> Result<Option<RecordFault>, AllocError>
-    ensures ok { IfOk result (λ fault. (rule : RuleData) → IsChecked rule update → Takes rule graph.old update graph.new fault) }
+    ensures ok { IfOk result (λ fault. (rule : RuleData) → IsChecked rule update
+        → Takes rule graph.old update graph.new fault) }
     ensures kept { IfOk result (λ fault. IfSome fault (λ _. graph.new ≡ graph.old)) }
 
     // Memory may run out only for an update that would stand last.

@@ -23,7 +23,8 @@ pub(crate) fn delete_reason<Q: RowsAt>(
     deleted: &[RowName],
     rows: &Q,
 ) -> Result<Option<u8>, AllocError>
-    ensures { IfOk result (λ reason. (ask : Meaning) → reason ≡ delete_asked (rules_with ask schema.now.tables) (Q.RowsAt.row rows.now) (Q.RowsAt.has_child rows.now) deleted.now author.now name.now) }
+    ensures { IfOk result (λ reason. (ask : Meaning) → reason ≡ delete_asked (rules_with ask schema.now.tables)
+        (Q.RowsAt.row rows.now) (Q.RowsAt.has_child rows.now) deleted.now author.now name.now) }
 {
     let Some(row) = rows.row_at(alloc, name)? else {
         return Ok(Some(reason::NOT_DELETABLE));

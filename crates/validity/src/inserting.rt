@@ -12,8 +12,8 @@ use std::alloc::{AllocError, Global};
 use table_model::reason;
 use update_model::{RowEntry, RowsAt, Value};
 
-/// The number of the first reason for which a row may not be inserted beside the update's own rows so far and the visible
-/// ones, from 1 to 5, or `None` where it may.
+/// The number of the first reason for which a row may not be inserted beside the update's own rows so far and the
+/// visible ones, from 1 to 5, or `None` where it may.
 pub(crate) fn insert_reason<L: Relation, C: Checks<L>, Q: RowsAt>(
     alloc: Global,
     schema: &Schema,
@@ -22,7 +22,8 @@ pub(crate) fn insert_reason<L: Relation, C: Checks<L>, Q: RowsAt>(
     own: &[OwnRow],
     rows: &Q,
 ) -> Result<Option<u8>, AllocError>
-    ensures { IfOk result (λ reason. reason ≡ insert_asked (rules_with L.answer schema.now.tables) own.now (Q.RowsAt.row rows.now) row.now) }
+    ensures { IfOk result (λ reason. reason ≡ insert_asked (rules_with L.answer schema.now.tables) own.now
+        (Q.RowsAt.row rows.now) row.now) }
 {
     if row.table >= schema.tables() {
         return Ok(Some(reason::NO_TABLE));

@@ -4,7 +4,8 @@ ghost use Rattle.schema.specs.Data.{Meaning};
 ghost use Rattle.table_model.specs.Verdicts.{is_unlimited, verdict_on};
 ghost use Rattle.table_model.specs.Visible.{Effects, rules_with};
 ghost use Rattle.table_model.specs.Answers.{AreAnswers};
-ghost use Rattle.validity.specs.Asked.{delete_asked, deleted_after, end_asked, insert_asked, op_asked, own_after, verdict_asked};
+ghost use Rattle.validity.specs.Asked.{delete_asked, deleted_after, end_asked, insert_asked, op_asked, own_after};
+ghost use Rattle.validity.specs.Asked.{verdict_asked};
 
 use crate::deleting::delete_reason;
 use crate::inserting::insert_reason;
@@ -29,11 +30,11 @@ struct Done {
 
 /// Judges an update on what its ancestors did, of which `rows` answers which rows are visible.
 ///
-/// The verdict is the first reason that applies, operation by operation, each after the ones before it; [`Verdict::Void`]
-/// says what the reasons are. A reference to the row of an earlier operation of the update may be written as
-/// [`Own`](update_model::Value::Own) or as that row's name. Since no table has an `ATMOST`, or a `UNIQUE` without
-/// `KEEP LEAST`, the ninth reason comes by `KEEP LEAST` alone: where a new row has a value that an earlier row of the
-/// update has, or a visible one that the update does not delete.
+/// The verdict is the first reason that applies, operation by operation, each after the ones before it;
+/// [`Verdict::Void`] says what the reasons are. A reference to the row of an earlier operation of the update may be
+/// written as [`Own`](update_model::Value::Own) or as that row's name. Since no table has an `ATMOST`, or a `UNIQUE`
+/// without `KEEP LEAST`, the ninth reason comes by `KEEP LEAST` alone: where a new row has a value that an earlier row
+/// of the update has, or a visible one that the update does not delete.
 ///
 /// It gives up where memory runs out.
 pub fn judge<L: Relation, C: Checks<L>, Q: RowsAt>(
@@ -45,7 +46,8 @@ pub fn judge<L: Relation, C: Checks<L>, Q: RowsAt>(
 ) -> Result<Verdict, AllocError>
     requires { IsTrue (list_all is_unlimited schema.now.tables) }
     ensures { IfOk result (λ verdict. (past : Effects)
-        → AreAnswers (rules_with L.answer schema.now.tables) past (Q.RowsAt.row rows.now) (Q.RowsAt.has_child rows.now) (Q.RowsAt.equal_count rows.now) (Q.RowsAt.count rows.now)
+        → AreAnswers (rules_with L.answer schema.now.tables) past (Q.RowsAt.row rows.now) (Q.RowsAt.has_child rows.now)
+        (Q.RowsAt.equal_count rows.now) (Q.RowsAt.count rows.now)
         → verdict ≡ verdict_on (rules_with L.answer schema.now.tables) past node.now) }
 {
     unlimited_tables_hold();
@@ -61,7 +63,9 @@ fn judge_operations<L: Relation, C: Checks<L>, Q: RowsAt>(
     node: &Node,
     rows: &Q,
 ) -> Result<Verdict, AllocError>
-    ensures { IfOk result (λ verdict. verdict ≡ verdict_asked (rules_with L.answer schema.now.tables) (Q.RowsAt.row rows.now) (Q.RowsAt.has_child rows.now) (Q.RowsAt.equal_count rows.now) node.now 0 [] [] node.now.ops) }
+    ensures { IfOk result (λ verdict. verdict ≡ verdict_asked (rules_with L.answer schema.now.tables)
+        (Q.RowsAt.row rows.now) (Q.RowsAt.has_child rows.now) (Q.RowsAt.equal_count rows.now) node.now 0 [] []
+        node.now.ops) }
 {
     let mut done = Done {
         number: 0,
@@ -85,7 +89,9 @@ fn end_verdict<Q: RowsAt>(
     done: &Done,
     rows: &Q,
 ) -> Result<Verdict, AllocError>
-    ensures { IfOk result (λ verdict. (ask : Meaning) → verdict ≡ end_asked (rules_with ask schema.now.tables) (Q.RowsAt.row rows.now) (Q.RowsAt.equal_count rows.now) done.now.number done.now.own.items done.now.deleted.items) }
+    ensures { IfOk result (λ verdict. (ask : Meaning) → verdict ≡ end_asked (rules_with ask schema.now.tables)
+        (Q.RowsAt.row rows.now) (Q.RowsAt.equal_count rows.now) done.now.number done.now.own.items
+        done.now.deleted.items) }
 {
     if are_free(
         alloc,
@@ -114,10 +120,14 @@ fn do_operation<L: Relation, C: Checks<L>, Q: RowsAt>(
     op: &Op,
 ) -> Result<Option<u8>, AllocError>
     requires { done.old.number < 256 }
-    ensures reason { IfOk result (λ reason. reason ≡ op_asked (rules_with L.answer schema.now.tables) (Q.RowsAt.row rows.now) (Q.RowsAt.has_child rows.now) node.now done.old.number done.old.own.items done.old.deleted.items op.now) }
+    ensures reason { IfOk result (λ reason. reason ≡ op_asked (rules_with L.answer schema.now.tables)
+        (Q.RowsAt.row rows.now) (Q.RowsAt.has_child rows.now) node.now done.old.number done.old.own.items
+        done.old.deleted.items op.now) }
     ensures number { IfOk result (λ reason. reason ≡ None → done.new.number ≡ done.old.number + 1) }
-    ensures own { IfOk result (λ reason. reason ≡ None → done.new.own.items ≡ own_after node.now done.old.number done.old.own.items op.now) }
-    ensures deleted { IfOk result (λ reason. reason ≡ None → done.new.deleted.items ≡ deleted_after done.old.deleted.items op.now) }
+    ensures own { IfOk result (λ reason. reason ≡ None → done.new.own.items ≡ own_after node.now done.old.number
+        done.old.own.items op.now) }
+    ensures deleted { IfOk result (λ reason. reason ≡ None
+        → done.new.deleted.items ≡ deleted_after done.old.deleted.items op.now) }
 {
     match op {
         Op::Insert { table, values } => {
@@ -138,7 +148,8 @@ fn insert<L: Relation, C: Checks<L>, Q: RowsAt>(
     row: OwnRow,
 ) -> Result<Option<u8>, AllocError>
     requires { done.old.number < 256 }
-    ensures reason { IfOk result (λ reason. reason ≡ insert_asked (rules_with L.answer schema.now.tables) done.old.own.items (Q.RowsAt.row rows.now) row.entry) }
+    ensures reason { IfOk result (λ reason. reason ≡ insert_asked (rules_with L.answer schema.now.tables)
+        done.old.own.items (Q.RowsAt.row rows.now) row.entry) }
     ensures number { IfOk result (λ reason. reason ≡ None → done.new.number ≡ done.old.number + 1) }
     ensures own { IfOk result (λ reason. reason ≡ None → done.new.own.items ≡ done.old.own.items ++ row ∷ []) }
     ensures deleted { IfOk result (λ reason. reason ≡ None → done.new.deleted.items ≡ done.old.deleted.items) }
@@ -162,10 +173,12 @@ fn delete<Q: RowsAt>(
     name: &RowName,
 ) -> Result<Option<u8>, AllocError>
     requires { done.old.number < 256 }
-    ensures reason { IfOk result (λ reason. (ask : Meaning) → reason ≡ delete_asked (rules_with ask schema.now.tables) (Q.RowsAt.row rows.now) (Q.RowsAt.has_child rows.now) done.old.deleted.items author.now name.now) }
+    ensures reason { IfOk result (λ reason. (ask : Meaning) → reason ≡ delete_asked (rules_with ask schema.now.tables)
+        (Q.RowsAt.row rows.now) (Q.RowsAt.has_child rows.now) done.old.deleted.items author.now name.now) }
     ensures number { IfOk result (λ reason. reason ≡ None → done.new.number ≡ done.old.number + 1) }
     ensures own { IfOk result (λ reason. reason ≡ None → done.new.own.items ≡ done.old.own.items) }
-    ensures deleted { IfOk result (λ reason. reason ≡ None → done.new.deleted.items ≡ done.old.deleted.items ++ name.now ∷ []) }
+    ensures deleted { IfOk result (λ reason. reason ≡ None
+        → done.new.deleted.items ≡ done.old.deleted.items ++ name.now ∷ []) }
 {
     let reason = delete_reason(alloc, schema, author, name, done.deleted.as_slice(), rows)?;
     if reason.is_some() {

@@ -24,8 +24,8 @@ pub(crate) struct Freed {
     pub(crate) value: Value,
 }
 
-/// Whether each row that an update inserts has a value of its own, where its table keeps the least row of each: no earlier
-/// row of the update has it, and no visible one but those that the update deletes.
+/// Whether each row that an update inserts has a value of its own, where its table keeps the least row of each: no
+/// earlier row of the update has it, and no visible one but those that the update deletes.
 pub(crate) fn are_free<Q: RowsAt>(
     alloc: Global,
     schema: &Schema,
@@ -33,7 +33,8 @@ pub(crate) fn are_free<Q: RowsAt>(
     deleted: &[RowName],
     rows: &Q,
 ) -> Result<bool, AllocError>
-    ensures { IfOk result (λ answer. answer ≡ are_free schema.now.tables (Q.RowsAt.equal_count rows.now) (freed_by schema.now.tables (Q.RowsAt.row rows.now) deleted.now) [] own.now) }
+    ensures { IfOk result (λ answer. answer ≡ are_free schema.now.tables (Q.RowsAt.equal_count rows.now)
+        (freed_by schema.now.tables (Q.RowsAt.row rows.now) deleted.now) [] own.now) }
 {
     if !is_one_kept(schema, own) {
         return Ok(true);
@@ -97,7 +98,8 @@ fn add_freed(
     row: &RowEntry,
     freed: &mut Vec<Freed>,
 ) -> Result<(), AllocError>
-    ensures { IfOk result (λ unit. freed.new.items ≡ freed.old.items ++ freed_at row.now (table_number schema.now.tables row.now.table).kept) }
+    ensures { IfOk result (λ unit. freed.new.items ≡ freed.old.items ++ freed_at row.now
+        (table_number schema.now.tables row.now.table).kept) }
 {
     if let Some(column) = kept_column(schema, row.table) {
         let value = value_at(alloc, row, column)?;
@@ -119,7 +121,8 @@ fn value_at(alloc: Global, row: &RowEntry, column: u8) -> Result<Value, AllocErr
     }
 }
 
-/// Whether a row that the update inserts behind these has a value of its own, where its table keeps the least row of each.
+/// Whether a row that the update inserts behind these has a value of its own, where its table keeps the least row of
+/// each.
 fn is_free<Q: RowsAt>(
     alloc: Global,
     schema: &Schema,
@@ -128,7 +131,8 @@ fn is_free<Q: RowsAt>(
     freed: &[Freed],
     rows: &Q,
 ) -> Result<bool, AllocError>
-    ensures { IfOk result (λ answer. answer ≡ is_free (Q.RowsAt.equal_count rows.now) freed.now before.now row.now (table_number schema.now.tables row.now.table).kept) }
+    ensures { IfOk result (λ answer. answer ≡ is_free (Q.RowsAt.equal_count rows.now) freed.now before.now row.now
+        (table_number schema.now.tables row.now.table).kept) }
 {
     match kept_column(schema, row.table) {
         Some(column) => is_free_in(alloc, before, row, column, freed, rows),
@@ -145,7 +149,8 @@ fn is_free_in<Q: RowsAt>(
     freed: &[Freed],
     rows: &Q,
 ) -> Result<bool, AllocError>
-    ensures { IfOk result (λ answer. answer ≡ is_free_in (Q.RowsAt.equal_count rows.now) freed.now before.now row.now.table column (value_at row.now.values column)) }
+    ensures { IfOk result (λ answer. answer ≡ is_free_in (Q.RowsAt.equal_count rows.now) freed.now before.now
+        row.now.table column (value_at row.now.values column)) }
 {
     let value = value_at(alloc, row, column)?;
     if is_among(before, row.table, column, &value) {

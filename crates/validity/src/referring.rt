@@ -20,7 +20,8 @@ pub(crate) fn references_stand<Q: RowsAt>(
     own: &[OwnRow],
     rows: &Q,
 ) -> Result<bool, AllocError>
-    ensures { IfOk result (λ answer. answer ≡ list_all (λ r. stands_asked own.now (Q.RowsAt.row rows.now) r.name r.target) (refs_in columns.now values.now)) }
+    ensures { IfOk result (λ answer. answer ≡ list_all (λ r. stands_asked own.now (Q.RowsAt.row rows.now) r.name
+        r.target) (refs_in columns.now values.now)) }
 {
     match columns {
         [] => Ok(true),
@@ -42,7 +43,8 @@ fn reference_stands<Q: RowsAt>(
     own: &[OwnRow],
     rows: &Q,
 ) -> Result<bool, AllocError>
-    ensures { IfOk result (λ answer. answer ≡ list_all (λ r. stands_asked own.now (Q.RowsAt.row rows.now) r.name r.target) (ref_in kind.now value.now)) }
+    ensures { IfOk result (λ answer. answer ≡ list_all (λ r. stands_asked own.now (Q.RowsAt.row rows.now) r.name
+        r.target) (ref_in kind.now value.now)) }
 {
     match (kind, value) {
         (ColumnKind::Reference { target, .. }, Value::Row(name)) => {
@@ -96,7 +98,8 @@ pub(crate) fn matches_hold<Q: RowsAt>(
     own: &[OwnRow],
     rows: &Q,
 ) -> Result<bool, AllocError>
-    ensures { IfOk result (λ answer. answer ≡ list_all (λ rule. match_asked own.now (Q.RowsAt.row rows.now) values.now rule (value_at values.now rule.reference)) rules.now) }
+    ensures { IfOk result (λ answer. answer ≡ list_all (λ rule. match_asked own.now (Q.RowsAt.row rows.now) values.now
+        rule (value_at values.now rule.reference)) rules.now) }
 {
     for rule in rules {
         let holds = match_holds(alloc, rule, values, own, rows)?;
@@ -115,7 +118,8 @@ fn match_holds<Q: RowsAt>(
     own: &[OwnRow],
     rows: &Q,
 ) -> Result<bool, AllocError>
-    ensures { IfOk result (λ answer. answer ≡ match_asked own.now (Q.RowsAt.row rows.now) values.now rule.now (value_at values.now rule.now.reference)) }
+    ensures { IfOk result (λ answer. answer ≡ match_asked own.now (Q.RowsAt.row rows.now) values.now rule.now
+        (value_at values.now rule.now.reference)) }
 {
     match values.get(usize::from(rule.reference)) {
         Some(Value::Row(name)) => is_matched(alloc, name, rule, values, own, rows),
@@ -132,7 +136,8 @@ fn is_matched<Q: RowsAt>(
     own: &[OwnRow],
     rows: &Q,
 ) -> Result<bool, AllocError>
-    ensures { IfOk result (λ answer. answer ≡ match_asked own.now (Q.RowsAt.row rows.now) values.now rule.now (Value.Row name.now)) }
+    ensures { IfOk result (λ answer. answer ≡ match_asked own.now (Q.RowsAt.row rows.now) values.now rule.now
+        (Value.Row name.now)) }
 {
     Ok(
         is_matched_own(name, rule, values, own)

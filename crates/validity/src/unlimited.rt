@@ -6,8 +6,8 @@ ghost use Rattle.table_model.specs.Verdicts.{is_unlimited, keeps_least};
 
 use schema::{Schema, TableDef, UniqueRule};
 
-/// Whether no table of a schema has an `ATMOST`, or a `UNIQUE` without `KEEP LEAST`, as [`judge`](crate::judge) asks. Every
-/// schema of which each invariant survives merging is one of these.
+/// Whether no table of a schema has an `ATMOST`, or a `UNIQUE` without `KEEP LEAST`, as [`judge`](crate::judge) asks.
+/// Every schema of which each invariant survives merging is one of these.
 pub fn is_unlimited(schema: &Schema) -> bool
     ensures { result ≡ list_all is_unlimited schema.now.tables }
 {

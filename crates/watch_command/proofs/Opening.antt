@@ -3,6 +3,11 @@ use Rattle.std.proofs.Common.{◌≡◌, ◌⊎◌, inl, inr, ℕ, ◌≤◌, Bo
 use Rattle.std.specs.Option.{is_none}
 use Rattle.std.specs.Io.KnownBytes.{Appends}
 use Rattle.std.proofs.KnownBytes.{Appends-nil}
+use Rattle.live_view.specs.Named.{IsNamed}
+use Rattle.live_view.specs.declared.live_view.WatchError.{WatchError}
+use Rattle.live_view.specs.declared.live_view.WatchError.TheVariants as watch_errors
+use Rattle.query.specs.Queries.{QueryData, Reads}
+use Rattle.schema.specs.Data.{SchemaData}
 use Rattle.replica.specs.Holding.{IsWhole, KeepsOn, keeps_itself}
 use Rattle.replica.specs.Replicas.{ReplicaState}
 use Rattle.schema_verdict.specs.Written.{SinkState}
@@ -13,6 +18,7 @@ use Rattle.outcomes.specs.declared.refusal.Refusal.{Refusal}
 use Rattle.outcomes.specs.declared.refusal.Refusal.TheVariants as refusals
 use Rattle.watch_command.specs.Blocks.{block}
 use Rattle.watch_command.specs.Ending.{HasCause, Streams, Writes}
+use Rattle.watch_command.specs.Refusals.{not_watched}
 use Rattle.watch_command.specs.Runs.{IsOpeningFault, OpenAnswer, WatchesOpen, lacks_memory, no_query, not_named, refused, watched}
 use Rattle.watch_command.specs.Steps.{FollowsOpen, RefusesQuery, WritesShown, moment}
 use Rattle.watch_command.specs.Watching.{CountView, Follows, Opens, WatchData}
@@ -20,6 +26,12 @@ use Rattle.watch_command.specs.declared.stop.Stop.{Stop}
 use Rattle.watch_command.specs.declared.stop.Stop.TheVariants.{Refused, Unwritten}
 use Rattle.watch_command.proofs.Stopping.{alone, unread}
 use Rattle.watch_command.proofs.Writing.{writes_then}
+
+-- no view is opened of a query
+pub not_opened : (schema : SchemaData) (text : List ℕ) (query : QueryData) (error : WatchError) → Reads schema text query → (error ≡ watch_errors.NotNamed → IsNamed query → ⊥)
+    → RefusesQuery schema text (not_watched error)
+not_opened schema text query watch_errors.NotNamed reads unnamed = (query, reads, unnamed refl)
+not_opened schema text query watch_errors.Memory reads unnamed = tt
 
 -- a store that is as it was
 keeps_none : (old : ReplicaState) → KeepsOn old old

@@ -1,8 +1,8 @@
 -- Reading a record, and taking it.
-use Rattle.std.proofs.Common.{◌≡◌, inl, ℕ, ◌+◌, ◌<◌, List, [], refl, sym, subst, Option, Some, None}
+use Rattle.std.proofs.Common.{◌≡◌, inl, inr, ℕ, ◌+◌, ◌<◌, List, [], refl, sym, subst, Option, Some, None}
 use Rattle.std.specs.Io.KnownBytes.{Consumes}
 use Rattle.std.proofs.KnownBytes.{Consumes-nil}
-use Rattle.bec_bytes.specs.Framed.{StandsFirst, framed}
+use Rattle.bec_bytes.specs.Framed.{HoldsPiece, StandsFirst, framed}
 use Rattle.bec_bytes.specs.Moved.{IfTold}
 use Rattle.bec_bytes.specs.declared.framed.Framed.{Framed}
 use Rattle.bec_bytes.specs.declared.framed.Framed.TheVariants.{Cut, TooLong}
@@ -10,7 +10,10 @@ use Rattle.bec_bytes.proofs.ReadFrames.{behind}
 use Rattle.update_model.specs.Rule.{RuleData}
 use Rattle.update_codec.specs.declared.codec_fault.CodecKind.TheVariants as kinds
 use Rattle.update_codec.specs.declared.limits.TheConstants.{UPDATE_LIMIT}
+use Rattle.update_check.specs.Causes.{HasCause}
 use Rattle.update_check.specs.Signed.{IsChecked}
+use Rattle.update_check.specs.declared.check_error.CheckError.{CheckError}
+use Rattle.update_check.specs.declared.check_error.CheckError.TheVariants as check_errors
 use Rattle.update_check.specs.declared.check_error.CheckFault.TheVariants.{Codec}
 use Rattle.update_stream.specs.Steps.{Adds}
 use Rattle.update_stream.specs.Stream.{short, too_long}
@@ -20,6 +23,7 @@ use Rattle.outcomes.specs.declared.refusal.Refusal.{Refusal}
 use Rattle.outcomes.specs.declared.refusal.Refusal.TheVariants as refusals
 use Rattle.watch_command.specs.Ending.{Leaves, StopsAt}
 use Rattle.watch_command.specs.Records.{IsUnread, StandsNext, StopsReading, StopsTaking}
+use Rattle.watch_command.specs.Refusals.{not_checked}
 use Rattle.watch_command.specs.Steps.{TakesRecord}
 use Rattle.watch_command.specs.declared.stop.Stop.TheVariants.{Refused}
 
@@ -44,11 +48,13 @@ module _ (rule : RuleData) (number : ℕ) (b c : Option (List ℕ)) (old new : �
         weaker b c (λ bytes rest. StandsFirst UPDATE_LIMIT bytes rest TooLong) (IsUnread rule (Codec (record { kind = kinds.TooLong; place = UPDATE_LIMIT }))) (subst P is stands) (λ bytes rest p. inl (too_long p)),
       )
 
-  -- memory ran out for the update
-  pub reads_untold : (why : Refusal) → why ≡ refusals.Memory → StopsReading rule number b c old new why
-  reads_untold why so =
-      subst (λ (w : Refusal). StopsReading rule number b c old new w) (sym so)
-      (weaker b c (λ bytes rest. StandsFirst UPDATE_LIMIT bytes rest found) (λ _ _. Unit {0}) stands (λ bytes rest p. tt))
+-- a piece that does not pass the checks, or memory ran out for it
+pub reads_unchecked : (rule : RuleData) (number : ℕ) (b c : Option (List ℕ)) (old new : ℕ) (piece : List ℕ) (error : CheckError) → IfTold b c (λ bytes rest. HoldsPiece UPDATE_LIMIT bytes piece rest)
+    → HasCause rule piece error → StopsReading rule number b c old new (not_checked number error)
+reads_unchecked rule number b c old new piece (check_errors.Fault fault) came cause =
+    (refl, weaker b c (λ bytes rest. HoldsPiece UPDATE_LIMIT bytes piece rest) (IsUnread rule fault) came (λ bytes rest p. inr (piece, p, cause)))
+reads_unchecked rule number b c old new piece check_errors.Memory came cause =
+    weaker b c (λ bytes rest. HoldsPiece UPDATE_LIMIT bytes piece rest) (λ _ _. Unit {0}) came (λ bytes rest p. tt)
 
 -- a piece that was read is what came
 consumed : (b c : Option (List ℕ)) (bytes : List ℕ) → IfTold b c (StandsNext (Some bytes)) → Consumes b c (framed bytes)

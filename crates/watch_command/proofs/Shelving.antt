@@ -1,24 +1,27 @@
 -- Watching the store of a directory.
-use Rattle.std.proofs.Common.{◌≡◌, ◌≢◌, ◌⊎◌, inl, inr, ℕ, ◌≤◌, ◌<◌, List, [], ◌∷◌, IsTrue, refl, sym, subst, ◌∙◌, arith, Option, Some}
+use Rattle.std.proofs.Common.{◌≡◌, ◌≢◌, ◌⊎◌, inl, inr, ℕ, ◌≤◌, ◌<◌, List, [], ◌∷◌, IsTrue, ap, refl, sym, subst, arith, Option, Some}
 use Rattle.std.specs.Option.{is_none}
 use Rattle.std.proofs.KnownBytes.{Appends-nil}
 use Rattle.row_check.specs.Checksum.{is_luhn}
 use Rattle.bec_bytes.specs.Causes.{Rose}
-use Rattle.bec_disk.specs.Disk.{handed_out}
 use Rattle.bec_disk.specs.declared.part.Part.TheVariants.{Schema, Updates}
 use Rattle.bec_disk.specs.Shelf.{ShelfState, out}
-use Rattle.bec_disk.specs.Slot.{slot}
 use Rattle.replica.specs.Replicas.{ReplicaState}
 use Rattle.store_directory.specs.Holding.{IsStoreCause, LetsGo, OpenData, PutsStore, TakesStore, WorksOn}
-use Rattle.key_directory.specs.Parts.{IsHome, part_in}
+use Rattle.key_directory.specs.Parts.{IsHome}
+use Rattle.store_directory.specs.Opening.{IsStoreOut, LetsAllGo, Refuses}
+use Rattle.store_directory.specs.declared.open_refusal.OpenRefusal.{OpenRefusal}
+use Rattle.store_directory.specs.declared.open_refusal.OpenRefusal.TheVariants as open_refusals
+use Rattle.store_directory.specs.declared.opening.Needs.TheVariants as needed
 use Rattle.store_directory.specs.declared.store_refusal.StoreRefusal.{StoreRefusal}
 use Rattle.store_directory.specs.declared.store_refusal.StoreRefusal.TheVariants as store_refusals
 use Rattle.key_directory.proofs.Places.{keeps_through}
-use Rattle.key_directory.proofs.Putting.{slot_of, told}
+use Rattle.key_directory.proofs.Putting.{told}
+use Rattle.store_directory.proofs.OnceOpen.{disks_of, no_store_taken}
 use Rattle.store_directory.proofs.Readings.{OneSchema}
 use Rattle.store_directory.proofs.Working.{home_after_store, read_before, store_of, worked_run}
 use Rattle.outcomes.specs.Comes.{readings}
-use Rattle.outcomes.specs.Outcome.{from_store}
+use Rattle.outcomes.specs.Outcome.{from_open, from_store}
 use Rattle.outcomes.specs.StoreAnswers.{bad_store, no_store}
 use Rattle.outcomes.specs.declared.refusal.Refusal.{Refusal}
 use Rattle.outcomes.specs.declared.refusal.Refusal.TheVariants as refusals
@@ -33,7 +36,7 @@ use Rattle.watch_command.proofs.Writing.{rose_later}
 
 module _ (Unused : Type 0) (watch : WatchData) (dir : List ℕ) (before after : ShelfState) (old new : ℕ) where
   -- where no store was taken
-  pub storeless : (streams : Streams) (why : StoreRefusal) → Unused → (IsTrue before.tells → IsHome before) → LetsGo is_luhn before dir after → (IsTrue before.tells → IsStoreCause is_luhn before dir why)
+  storeless : (streams : Streams) (why : StoreRefusal) → Unused → (IsTrue before.tells → IsHome before) → LetsGo is_luhn before dir after → (IsTrue before.tells → IsStoreCause is_luhn before dir why)
       → (why ≡ store_refusals.DiskFault → Rose old new) → WatchesShelf Unused watch dir before after old new streams streams (Some (Refused (from_store why)))
   storeless streams why unused home lets cause failed = by why cause failed
     where
@@ -58,25 +61,27 @@ module _ (Unused : Type 0) (watch : WatchData) (dir : List ℕ) (before after : 
       by store_refusals.DiskFault so f = ends_so refusals.StoreFault (inr (store_failed refl refl refl)) (f refl)
       by store_refusals.Memory so f = ends_so refusals.Memory (inr (lacks_memory refl refl refl)) tt
 
+  -- where nothing was opened
+  pub unopened : (streams : Streams) (why : OpenRefusal) → Unused → (IsTrue before.tells → IsHome before) → LetsAllGo needed.Store before dir after → Refuses why needed.Store before dir
+      → (why ≡ open_refusals.Store store_refusals.DiskFault → Rose old new) → WatchesShelf Unused watch dir before after old new streams streams (Some (Refused (from_open why)))
+  unopened streams (open_refusals.Store why) unused home lets cause failed =
+      storeless streams why unused home (no_store_taken before after dir lets) cause (λ is. failed (ap open_refusals.Store is))
+  unopened streams (open_refusals.Key why) unused home lets cause failed = absurd cause
+
   -- where one was taken, watched and put back
   module _ (one : OneSchema) (opened : ShelfState) (opened_faults : ℕ) (taken : OpenData) (now : ReplicaState) (streams streams_new : Streams) (stop : Option Stop)
       (home : IsTrue before.tells → IsHome before) (takes : TakesStore is_luhn before dir taken opened) (work : WatchesOpen Unused watch taken.replica now streams streams_new stop) where
     opened_told : IsTrue before.tells → IsTrue opened.tells
     opened_told tells = told before.tells opened.tells takes.tells tells
 
-    works : IsTrue before.tells → WorksOn taken now work.added (is_none stop)
-    works tells = work.works (λ log_tells. (takes.updates tells).2.clean refl) taken refl
+    works : WorksOn taken now work.added (is_none stop)
+    works = work.works (λ log_tells. (takes.updates (told taken.replica.log.disk.tells before.tells (sym takes.updates_tells) log_tells)).2.clean refl) taken refl
 
     -- the disks of the store are those of its parts
-    pub store_slots : IsTrue opened.tells
-        → ((taken.schema.slot ≡ Some (slot dir Schema)) × (part_in opened dir Schema ≡ out)) × ((now.log.disk.slot ≡ Some (slot dir Updates)) × (part_in opened dir Updates ≡ out))
-    store_slots tells =
-        let before_tells : IsTrue before.tells = told opened.tells before.tells (sym takes.tells) tells in
-        let s = takes.schema before_tells in
-        let u = takes.updates before_tells in (
-          (slot_of (slot dir Schema) s.0 taken.schema s.2, takes.schema_out before_tells),
-          ((works before_tells).any_moment.disk.slot ∙ u.3.disk.slot ∙ slot_of (slot dir Updates) u.0 (handed_out (slot dir Updates) u.0) refl, takes.updates_out before_tells),
-        )
+    pub store_out : IsTrue opened.tells → IsStoreOut opened dir taken.schema now
+    store_out tells =
+        let disks = disks_of dir before opened opened taken now takes refl works.any_moment.disk.slot (λ opened_tells. (refl, refl)) tells in
+        record { schema_of = disks.0; updates_of = disks.1 }
 
     module _ (puts : PutsStore opened dir taken.schema now.log.disk after) (later : old ≤ opened_faults) (faulted : 0 < now.log.faults → Rose opened_faults new) where
       cause_there : (stop : Option Stop) → HasCause taken.replica.log.faults now.log.faults streams.faults streams_new.faults stop → HasCause old new streams.faults streams_new.faults stop
@@ -97,7 +102,7 @@ module _ (Unused : Type 0) (watch : WatchData) (dir : List ℕ) (before after : 
         comes = comes_there work.comes;
         cause = cause_there stop work.cause;
         written = work.written;
-        run = λ tells. worked_run one is_luhn before opened opened after dir taken now work.added (is_none stop) tells (opened_told tells) takes (works tells) puts;
+        run = λ tells. worked_run one is_luhn before opened opened after dir taken now work.added (is_none stop) tells (opened_told tells) takes works puts;
         others = λ tells. keeps_through (Schema ∷ Updates ∷ []) dir before opened after takes.others (puts.others (opened_told tells));
         home = λ tells. home_after_store opened after dir taken.schema now.log.disk (opened_told tells) puts (λ other away. subst (λ p. p ≢ out) (sym (takes.others other away)) (home tells other));
         sink_later = work.sink_later;

@@ -1,5 +1,5 @@
 -- Taking an update into a store by itself.
-use Rattle.std.proofs.Common.{◌≡◌, inl, inr, ℕ, zero, suc, arith, true, false, List, [], ◌∷◌, ◌++◌, map, refl, sym, ap, subst, ◌∙◌, append-nil, Option, Some, None}
+use Rattle.std.proofs.Common.{◌≡◌, Err, inl, inr, ℕ, zero, suc, arith, true, false, List, [], ◌∷◌, ◌++◌, map, refl, sym, ap, subst, ◌∙◌, append-nil, Option, Some, None}
 use Rattle.std.specs.Prelude.{Contains, is_some}
 use Rattle.std.specs.List.{AllByRecursion}
 use Rattle.std.proofs.lemmas.Bool.{true≢false}
@@ -10,11 +10,15 @@ use Rattle.update_model.specs.Graph.{IsNext, holds, is_within, lacking, position
 use Rattle.update_model.specs.declared.update_id.UpdateId.{UpdateId}
 use Rattle.update_model.proofs.Closed.{IsNext-from_tests, position_of-held}
 use Rattle.update_codec.specs.Parts.{entry_of}
-use Rattle.update_check.specs.Holding.{IsAdded}
+use Rattle.update_check.specs.Holding.{Commits, IsAdded}
+use Rattle.update_check.specs.declared.holder.CommitFault.{CommitFault}
+use Rattle.update_check.specs.declared.holder.CommitFault.TheVariants.{DiskFault, Full, Memory}
 use Rattle.update_check.specs.declared.holder.Committed.{Committed}
 use Rattle.update_stream.specs.Steps.{Adds}
 use Rattle.update_stream.specs.Stream.{LacksPredecessor, PassesLimit}
 use Rattle.ready_batch.proofs.Holding.{holds_last, lacks_none}
+use Rattle.watch_command.specs.Records.{StopsTaking}
+use Rattle.watch_command.specs.Refusals.{not_added}
 
 -- an update that is held is known
 pub known : (members : List (List ℕ)) (bytes : List ℕ) → is_some (position_of (map entry_of members) (entry_of bytes).id) ≡ true → Adds members bytes members
@@ -71,10 +75,24 @@ committed members bytes done after is added =
     let behind : after ≡ members ++ bytes ∷ [] = added.behind ∙ ap (λ (l : List (List ℕ)). members ++ l) alone in
     inr (is, ap is_within (sym (map-append entry_of members (bytes ∷ [])) ∙ ap (map entry_of) (sym behind)) ∙ added.fit, behind)
 
-pub too_much : (members : List (List ℕ)) (bytes : List ℕ) → IsNext (map entry_of members) (entry_of bytes) → IsTooMuch store_limits (map entry_of members) (entry_of bytes ∷ [])
+too_much : (members : List (List ℕ)) (bytes : List ℕ) → IsNext (map entry_of members) (entry_of bytes) → IsTooMuch store_limits (map entry_of members) (entry_of bytes ∷ [])
     → PassesLimit (map entry_of members) (entry_of bytes)
 too_much members bytes is much = record {
   new = is.new;
   preds = lacks_none (map entry_of members) (entry_of bytes) is.preds;
   over = subst (λ (l : List Entry). is_within (map entry_of members ++ l) ≡ false) (one_added (map entry_of members) much.added much.waiting (entry_of bytes) is much.adds) much.passes;
 }
+
+module _ (members : List (List ℕ)) (bytes : List ℕ) (after : List (List ℕ)) (old new : ℕ) where
+  -- why it is not added
+  pub not_taken : (number : ℕ) (fault : CommitFault) → IsNext (map entry_of members) (entry_of bytes) → Commits store_limits members (bytes ∷ []) (Err fault) old new after
+      → StopsTaking members number bytes old new (not_added number fault)
+  not_taken number Full is much = (refl, too_much members bytes is much.0)
+  not_taken number DiskFault is rose = (rose.0, is)
+  not_taken number Memory is same = tt
+
+  -- and the list is as it was
+  pub not_changed : (batch : List (List ℕ)) (fault : CommitFault) → Commits store_limits members batch (Err fault) old new after → after ≡ members
+  not_changed batch Full much = much.1
+  not_changed batch DiskFault rose = rose.1
+  not_changed batch Memory same = same

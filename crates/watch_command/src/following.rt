@@ -55,11 +55,14 @@ fn turn<D: Disk, S: Source, K: Sink>(
     out: &mut K,
 ) -> Result<bool, Stop>
     requires { count < MAX_RECORDS }
-    ensures taken { IfOk result (λ more. IsTrue more → TakesTurn count replica.old replica.new view.old view.new (streams S.left S.faults K.held K.faults input.old out.old)
+    ensures taken { IfOk result (λ more. IsTrue more → TakesTurn count replica.old replica.new view.old view.new
+        (streams S.left S.faults K.held K.faults input.old out.old)
         (streams S.left S.faults K.held K.faults input.new out.new)) }
-    ensures end { IfOk result (λ more. more ≡ false → FindsEnd replica.old replica.new view.old view.new (streams S.left S.faults K.held K.faults input.old out.old)
+    ensures end { IfOk result (λ more. more ≡ false → FindsEnd replica.old replica.new view.old view.new
+        (streams S.left S.faults K.held K.faults input.old out.old)
         (streams S.left S.faults K.held K.faults input.new out.new)) }
-    ensures stopped { IfErr result (λ stop. FollowsOpen count replica.old replica.new view.old (streams S.left S.faults K.held K.faults input.old out.old)
+    ensures stopped { IfErr result (λ stop. FollowsOpen count replica.old replica.new view.old
+        (streams S.left S.faults K.held K.faults input.old out.old)
         (streams S.left S.faults K.held K.faults input.new out.new) (Some stop)) }
 {
     if !take_next(alloc, replica, count, input)? {
@@ -78,7 +81,8 @@ fn told<D: Disk>(
     count: u32,
 ) -> Result<Vec<u8>, AllocError>
     ensures { IfOk result (λ text. (change : Told Difference)
-        × RefreshesOn is_at_least (rules_of replica.now.history.schema) (nodes_of replica.now.history.members) view.old change view.new × (text.items ≡ told_block change count)) }
+        × RefreshesOn is_at_least (rules_of replica.now.history.schema) (nodes_of replica.now.history.members) view.old
+        change view.new × (text.items ≡ told_block change count)) }
 {
     let native: Native<Luhn, Luhn> = Native::new(Luhn);
     match view.refresh(alloc, &native, replica.schema(), replica.tables())? {
@@ -95,9 +99,11 @@ fn close<D: Disk, K: Sink>(
     count: u32,
     out: &mut K,
 ) -> Result<(), Stop>
-    ensures told { OnOk result ((text : List ℕ) × Closes replica.now.history.schema count (moment replica.now view.old) text × Appends (K.held out.old) (K.held out.new) text) }
+    ensures told { OnOk result ((text : List ℕ) × Closes replica.now.history.schema count (moment replica.now view.old)
+        text × Appends (K.held out.old) (K.held out.new) text) }
     ensures stopped { IfErr result (λ stop. StopsClosing replica.now.history.schema count (moment replica.now view.old)
-        (record { held = K.held out.old; faults = K.faults out.old }) (record { held = K.held out.new; faults = K.faults out.new }) stop) }
+        (record { held = K.held out.old; faults = K.faults out.old })
+        (record { held = K.held out.new; faults = K.faults out.new }) stop) }
     ensures later { K.faults out.old ≤ K.faults out.new }
 {
     let text = last_told(alloc, replica, view, count)?;

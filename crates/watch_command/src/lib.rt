@@ -1,7 +1,7 @@
 //! Watching a store, as a command `watch` does it: what a stream of updates changes in the answer of a query, told
 //! block by block while its records are taken into the store of a directory.
 //!
-//! [`watch_in`] opens the store, shows the answer of a query that is named, and then reads record after record. Each is
+//! [`watch`] opens the store, shows the answer of a query that is named, and then reads record after record. Each is
 //! checked as `heads` checks a stream, under the rule of the store, and committed by itself; then the view of the query
 //! is refreshed, and where its change has as many lines as the subscriber wants, a block is written. At the end of the
 //! stream the view is flushed.
@@ -25,4 +25,4 @@ mod stop;
 mod watching;
 
 pub use stop::Stop;
-pub use watching::{Watch, watch_in};
+pub use watching::{Watched, watch};

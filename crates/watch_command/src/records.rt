@@ -1,6 +1,7 @@
 //! Reading the records of a stream, and taking them into a store.
 
-ghost use Rattle.std.specs.Prelude.{◌≡◌, ◌≤◌, ◌<◌, ◌∷◌, [], ℕ, List, IfErr, IfOk, IfSome, IsTrue, OnErr, OnOk, false, find, map, not};
+ghost use Rattle.std.specs.Prelude.{◌≡◌, ◌≤◌, ◌<◌, ◌∷◌, [], ℕ, List, IfErr, IfOk, IfSome, IsTrue, OnErr, OnOk, false};
+ghost use Rattle.std.specs.Prelude.{find, map, not};
 ghost use Rattle.bec_bytes.specs.Moved.{IfTold};
 ghost use Rattle.update_codec.specs.Parts.{entry_of};
 ghost use Rattle.update_check.specs.Signed.{IsChecked};
@@ -13,6 +14,7 @@ ghost use Rattle.replica.specs.Holding.{IsWhole, KeepsOn};
 ghost use Rattle.update_model.specs.Rule.{RuleData};
 ghost use Rattle.watch_command.specs.Ending.{StopsAt};
 ghost use Rattle.watch_command.specs.Records.{StandsNext, StopsReading, StopsTaking};
+ghost use Rattle.watch_command.specs.Refusals.{not_added, not_checked};
 ghost use Rattle.watch_command.specs.Steps.{IsAtEnd, TakesRecord};
 
 use bec_bytes::{Failed, Framed, Source, read_framed, read_full};
@@ -35,7 +37,8 @@ fn next_update<S: Source>(
 ) -> Result<Option<Checked>, Refusal>
     ensures stands { IfOk result (λ update. IfTold (S.left input.old) (S.left input.new) (StandsNext update)) }
     ensures checked { IfOk result (λ update. IfSome update (IsChecked rule.now)) }
-    ensures stopped { IfErr result (λ why. StopsReading rule.now number (S.left input.old) (S.left input.new) (S.faults input.old) (S.faults input.new) why) }
+    ensures stopped { IfErr result (λ why. StopsReading rule.now number (S.left input.old) (S.left input.new)
+        (S.faults input.old) (S.faults input.new) why) }
     ensures later { S.faults input.old ≤ S.faults input.new }
 {
     match read_framed(alloc, input, UPDATE_LIMIT)? {
@@ -44,8 +47,7 @@ fn next_update<S: Source>(
         Framed::TooLong => Err(cut(number, CodecKind::TooLong, UPDATE_LIMIT as u32)),
         Framed::Whole(bytes) => match check(alloc, rule, bytes) {
             Ok(update) => Ok(Some(update)),
-            Err(CheckError::Fault(fault)) => Err(refused(number, RecordFault::Check(fault))),
-            Err(CheckError::Memory) => Err(Refusal::Memory),
+            Err(error) => Err(not_checked(number, error)),
         },
     }
 }
@@ -58,6 +60,16 @@ fn cut(number: u32, kind: CodecKind, place: u32) -> Refusal
         number,
         RecordFault::Check(CheckFault::Codec(CodecFault { kind, place })),
     )
+}
+
+/// The refusal of a record with this number that does not pass the checks.
+fn not_checked(number: u32, error: CheckError) -> Refusal
+    ensures { result ≡ not_checked number error }
+{
+    match error {
+        CheckError::Fault(fault) => refused(number, RecordFault::Check(fault)),
+        CheckError::Memory => Refusal::Memory,
+    }
 }
 
 /// The refusal of a record with this number.
@@ -76,7 +88,8 @@ fn take_update<D: Disk>(
 ) -> Result<(), Refusal>
     requires { IsChecked replica.old.history.schema.rule update }
     ensures taken { OnOk result (Adds replica.old.history.members update replica.new.history.members) }
-    ensures stopped { IfErr result (λ why. StopsTaking replica.old.history.members number update replica.old.log.faults replica.new.log.faults why) }
+    ensures stopped { IfErr result (λ why. StopsTaking replica.old.history.members number update replica.old.log.faults
+        replica.new.log.faults why) }
     ensures same { OnErr result (replica.new.history.members ≡ replica.old.history.members) }
     ensures keeps { KeepsOn replica.old replica.new }
     ensures whole { OnOk result (IsWhole replica.old → IsWhole replica.new) }
@@ -92,9 +105,18 @@ fn take_update<D: Disk>(
     let batch = batch_of(alloc, update)?;
     match Holder::commit(replica, alloc, batch) {
         Ok(_committed) => Ok(()),
-        Err(CommitFault::Full) => Err(refused(number, RecordFault::Full)),
-        Err(CommitFault::DiskFault) => Err(Refusal::StoreFault),
-        Err(CommitFault::Memory) => Err(Refusal::Memory),
+        Err(fault) => Err(not_added(number, fault)),
+    }
+}
+
+/// The refusal of a record with this number that the store does not add.
+fn not_added(number: u32, fault: CommitFault) -> Refusal
+    ensures { result ≡ not_added number fault }
+{
+    match fault {
+        CommitFault::Full => refused(number, RecordFault::Full),
+        CommitFault::DiskFault => Refusal::StoreFault,
+        CommitFault::Memory => Refusal::Memory,
     }
 }
 
@@ -130,9 +152,12 @@ pub(crate) fn take_next<D: Disk, S: Source>(
     input: &mut S,
 ) -> Result<bool, Refusal>
     requires { count < MAX_RECORDS }
-    ensures taken { IfOk result (λ more. IsTrue more → TakesRecord replica.old.history.schema.rule (S.left input.old) (S.left input.new) replica.old.history.members replica.new.history.members) }
-    ensures end { IfOk result (λ more. more ≡ false → IfTold (S.left input.old) (S.left input.new) IsAtEnd × (replica.new ≡ replica.old)) }
-    ensures stopped { IfErr result (λ why. StopsAt replica.old.history.schema.rule replica.old.history.members count (S.left input.old) (S.left input.new)
+    ensures taken { IfOk result (λ more. IsTrue more → TakesRecord replica.old.history.schema.rule (S.left input.old)
+        (S.left input.new) replica.old.history.members replica.new.history.members) }
+    ensures end { IfOk result (λ more. more ≡ false → IfTold (S.left input.old) (S.left input.new) IsAtEnd
+        × (replica.new ≡ replica.old)) }
+    ensures stopped { IfErr result (λ why. StopsAt replica.old.history.schema.rule replica.old.history.members count
+        (S.left input.old) (S.left input.new)
         replica.old.log.faults replica.new.log.faults (S.faults input.old) (S.faults input.new) why) }
     ensures same { OnErr result (replica.new.history.members ≡ replica.old.history.members) }
     ensures keeps { KeepsOn replica.old replica.new }
@@ -153,7 +178,8 @@ pub(crate) fn take_next<D: Disk, S: Source>(
 pub(crate) fn at_end<S: Source>(input: &mut S) -> Result<(), Refusal>
     ensures end { OnOk result (IfTold (S.left input.old) (S.left input.new) IsAtEnd) }
     ensures stopped { IfErr result (λ why. (rule : RuleData) (members : List (List ℕ)) (faults : ℕ)
-        → StopsAt rule members MAX_RECORDS (S.left input.old) (S.left input.new) faults faults (S.faults input.old) (S.faults input.new) why) }
+        → StopsAt rule members MAX_RECORDS (S.left input.old) (S.left input.new) faults faults (S.faults input.old)
+        (S.faults input.new) why) }
     ensures later { S.faults input.old ≤ S.faults input.new }
 {
     let mut more = [0u8; 1];

@@ -1,6 +1,7 @@
 //! Why a watch stops before the end of its stream.
 
 ghost use Rattle.std.specs.Prelude.{◌≡◌, ◌≤◌, ℕ, List};
+ghost use Rattle.outcomes.specs.Outcome.{from_open};
 ghost use Rattle.outcomes.specs.declared.refusal.Refusal.TheVariants.{Memory};
 ghost use Rattle.schema_verdict.specs.Written.{SinkState};
 ghost use Rattle.watch_command.specs.Ending.{Says, Writes, stop_of};
@@ -10,6 +11,7 @@ use bec_bytes::{Failed, Sink};
 use outcomes::status::{DONE, STREAM_FAULT};
 use outcomes::{Refusal, finish};
 use std::alloc::{AllocError, Global};
+use store_directory::OpenRefusal;
 
 /// Why a watch stops before the end of its stream.
 #[derive(Drop)]
@@ -25,6 +27,14 @@ impl From<Refusal> for Stop {
 
     fn from(refusal: Refusal) -> Stop {
         Stop::Refused(refusal)
+    }
+}
+
+impl From<OpenRefusal> for Stop {
+    ghost from_gives = { λ why stop. stop ≡ Refusing (from_open why) };
+
+    fn from(why: OpenRefusal) -> Stop {
+        Stop::Refused(Refusal::from(why))
     }
 }
 
@@ -46,8 +56,10 @@ impl From<Failed> for Stop {
 
 /// Ends a watch: writes the lines of what it stopped for, if anything, and answers the exit status.
 pub(crate) fn end<K: Sink>(alloc: Global, out: &mut K, ended: Result<(), Stop>) -> u8
-    ensures { (old : SinkState) (text : List ℕ) → Writes old (record { held = K.held out.old; faults = K.faults out.old }) text (stop_of ended)
-        → old.faults ≤ K.faults out.old → Says old (record { held = K.held out.new; faults = K.faults out.new }) text (stop_of ended) result }
+    ensures { (old : SinkState) (text : List ℕ)
+        → Writes old (record { held = K.held out.old; faults = K.faults out.old }) text (stop_of ended)
+        → old.faults ≤ K.faults out.old → Says old (record { held = K.held out.new; faults = K.faults out.new }) text
+        (stop_of ended) result }
 {
     match ended {
         Ok(()) => DONE,

@@ -3,6 +3,7 @@
 ghost use Rattle.std.specs.Prelude.{◌≡◌, ◌≤◌, IfErr, IfOk, IsTrue};
 ghost use Rattle.key_directory.specs.Parts.{IsHome};
 ghost use Rattle.watch_command.specs.Ending.{stop_of, streams};
+ghost use Rattle.watch_command.specs.Refusals.{not_watched};
 ghost use Rattle.watch_command.specs.Runs.{WatchesIn, WatchesOpen, WatchesShelf};
 ghost use Rattle.watch_command.specs.Steps.{RefusesQuery, WritesShown};
 ghost use Rattle.watch_command.specs.Watching.{Opens};
@@ -12,7 +13,7 @@ use crate::following::follow;
 use crate::stop::{Stop, end};
 use bec_bytes::{Sink, Source, write_all_of};
 use bec_disk::{Disk, Shelf};
-use live_view::{AtLeast, LiveView, WatchError, When, watch};
+use live_view::{AtLeast, LiveView, WatchError, When};
 use outcomes::Refusal;
 use query::{no_fault, one_fault, one_query, read_query};
 use record_check::Verifier;
@@ -20,11 +21,13 @@ use replica::Replica;
 use row_check::{Luhn, Native};
 use schema_text::one_schema;
 use std::alloc::Global;
-use store_directory::{each_stands, one_store, put_store, store_or_not, take_store};
+use store_directory::{Needs, close, each_stands, one_store, open, store_or_not};
 
 /// What is watched of a store.
-#[derive(Clone, Copy)]
-pub struct Watch<'a> {
+#[derive(Drop)]
+pub struct Watched<'a> {
+    /// The directory of the store.
+    pub directory: &'a str,
     /// The text of a query, which has to be named.
     pub text: &'a str,
     /// How many lines a change has at least that is told before the end.
@@ -40,18 +43,19 @@ pub struct Watch<'a> {
 /// written, unless there is none. What refuses a record, the store or the query ends it: its line stands behind the
 /// blocks so far, and the store keeps what was taken. A store that is refused, a text that is no query and a query that
 /// is not named are told exactly where they stand, unless memory ran out or the shelf failed, and then nothing is read.
-pub fn watch_in<V: Verifier, H: Shelf, S: Source, K: Sink>(
+pub fn watch<V: Verifier, H: Shelf, S: Source, K: Sink>(
     verifier: &V,
     alloc: Global,
     shelf: &mut H,
-    dir: &str,
-    what: &Watch<'_>,
+    what: &Watched<'_>,
     input: &mut S,
     out: &mut K,
 ) -> u8
     requires { IsTrue (H.state shelf.old).tells → IsHome (H.state shelf.old) }
-    ensures { WatchesIn (input.new ≡ input.old) (record { text = what.now.text.now; every = what.now.every }) dir.now (H.state shelf.old) (H.state shelf.new)
-        (H.faults shelf.old) (H.faults shelf.new) (streams S.left S.faults K.held K.faults input.old out.old)
+    ensures { WatchesIn (input.new ≡ input.old) (record { text = what.now.text.now; every = what.now.every })
+        what.now.directory.now
+        (H.state shelf.old) (H.state shelf.new) (H.faults shelf.old) (H.faults shelf.new)
+        (streams S.left S.faults K.held K.faults input.old out.old)
         (streams S.left S.faults K.held K.faults input.new out.new) result }
 {
     one_store();
@@ -59,7 +63,7 @@ pub fn watch_in<V: Verifier, H: Shelf, S: Source, K: Sink>(
     one_query();
     one_fault();
     no_fault();
-    let ended = watch_shelf(verifier, alloc, shelf, dir, what, input, out);
+    let ended = watch_shelf(verifier, alloc, shelf, what, input, out);
     end(alloc, out, ended)
 }
 
@@ -68,23 +72,21 @@ fn watch_shelf<V: Verifier, H: Shelf, S: Source, K: Sink>(
     verifier: &V,
     alloc: Global,
     shelf: &mut H,
-    dir: &str,
-    what: &Watch<'_>,
+    what: &Watched<'_>,
     input: &mut S,
     out: &mut K,
 ) -> Result<(), Stop>
     requires { IsTrue (H.state shelf.old).tells → IsHome (H.state shelf.old) }
-    ensures { WatchesShelf (input.new ≡ input.old) (record { text = what.now.text.now; every = what.now.every }) dir.now (H.state shelf.old) (H.state shelf.new)
-        (H.faults shelf.old) (H.faults shelf.new) (streams S.left S.faults K.held K.faults input.old out.old)
+    ensures { WatchesShelf (input.new ≡ input.old) (record { text = what.now.text.now; every = what.now.every })
+        what.now.directory.now
+        (H.state shelf.old) (H.state shelf.new) (H.faults shelf.old) (H.faults shelf.new)
+        (streams S.left S.faults K.held K.faults input.old out.old)
         (streams S.left S.faults K.held K.faults input.new out.new) (stop_of result) }
 {
     one_schema();
-    let mut store = match take_store(verifier, alloc, shelf, dir, Native::new(Luhn)) {
-        Ok(store) => store,
-        Err(why) => return Err(Stop::Refused(Refusal::from(why))),
-    };
-    let ended = watch_open(alloc, &mut store.replica, what, input, out);
-    put_store(shelf, dir, store);
+    let mut opened = open(verifier, alloc, shelf, what.directory, Needs::Store)?;
+    let ended = watch_open(alloc, &mut opened.store.replica, what, input, out);
+    close(shelf, what.directory, opened);
     ended
 }
 
@@ -92,12 +94,14 @@ fn watch_shelf<V: Verifier, H: Shelf, S: Source, K: Sink>(
 fn watch_open<D: Disk, S: Source, K: Sink>(
     alloc: Global,
     replica: &mut Replica<D, Luhn, Luhn>,
-    what: &Watch<'_>,
+    what: &Watched<'_>,
     input: &mut S,
     out: &mut K,
 ) -> Result<(), Stop>
-    ensures { WatchesOpen (input.new ≡ input.old) (record { text = what.now.text.now; every = what.now.every }) replica.old replica.new
-        (streams S.left S.faults K.held K.faults input.old out.old) (streams S.left S.faults K.held K.faults input.new out.new) (stop_of result) }
+    ensures { WatchesOpen (input.new ≡ input.old) (record { text = what.now.text.now; every = what.now.every })
+        replica.old replica.new
+        (streams S.left S.faults K.held K.faults input.old out.old) (streams S.left S.faults K.held K.faults input.new
+        out.new) (stop_of result) }
 {
     each_stands(replica);
     let mut view = open_view(alloc, replica, what)?;
@@ -111,15 +115,16 @@ fn watch_open<D: Disk, S: Source, K: Sink>(
 fn open_view<D: Disk>(
     alloc: Global,
     replica: &Replica<D, Luhn, Luhn>,
-    what: &Watch<'_>,
+    what: &Watched<'_>,
 ) -> Result<LiveView<AtLeast, AtLeast>, Refusal>
-    ensures opens { IfOk result (λ view. Opens replica.now.history.schema replica.now.history.members (record { text = what.now.text.now; every = what.now.every }) view) }
+    ensures opens { IfOk result (λ view. Opens replica.now.history.schema replica.now.history.members
+        (record { text = what.now.text.now; every = what.now.every }) view) }
     ensures refused { IfErr result (λ why. RefusesQuery replica.now.history.schema what.now.text.now why) }
 {
     let native: Native<Luhn, Luhn> = Native::new(Luhn);
     let query = read_query(alloc, replica.schema(), what.text.as_bytes())?;
     let when = When::new(what.every, AtLeast);
-    match watch(
+    match live_view::watch(
         alloc,
         &native,
         replica.schema(),
@@ -128,8 +133,17 @@ fn open_view<D: Disk>(
         when,
     ) {
         Ok(view) => Ok(view),
-        Err(WatchError::NotNamed) => Err(Refusal::QueryNotNamed),
-        Err(WatchError::Memory) => Err(Refusal::Memory),
+        Err(error) => Err(not_watched(error)),
+    }
+}
+
+/// The refusal of a query that is not watched.
+fn not_watched(error: WatchError) -> Refusal
+    ensures { result ≡ not_watched error }
+{
+    match error {
+        WatchError::NotNamed => Refusal::QueryNotNamed,
+        WatchError::Memory => Refusal::Memory,
     }
 }
 
@@ -139,7 +153,8 @@ fn write_shown<K: Sink>(
     view: &LiveView<AtLeast, AtLeast>,
     out: &mut K,
 ) -> Result<(), Stop>
-    ensures written { WritesShown view.now (record { held = K.held out.old; faults = K.faults out.old }) (record { held = K.held out.new; faults = K.faults out.new }) (stop_of result) }
+    ensures written { WritesShown view.now (record { held = K.held out.old; faults = K.faults out.old })
+        (record { held = K.held out.new; faults = K.faults out.new }) (stop_of result) }
     ensures later { K.faults out.old ≤ K.faults out.new }
 {
     let text = block(alloc, &[], view.shown(), 0)?;

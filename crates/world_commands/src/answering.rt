@@ -6,9 +6,9 @@ ghost use Rattle.world_commands.specs.Answers.{TellsRefusal, TellsWorld, text_fo
 ghost use Rattle.world_commands.specs.Demos.{TellsDemo};
 ghost use Rattle.world_commands.specs.declared.refusal.WorldRefusal.TheVariants.{NotTaken, Stream as StreamFailed};
 
-use crate::demo::demo_in;
+use crate::demo::run_demo;
 use crate::refusal::WorldRefusal;
-use crate::world::world_in;
+use crate::world::run_world;
 use bec_bytes::{Sink, Source};
 use confluence_test::SchemaRefusal;
 use schema_verdict::status::{DONE, OUT_OF_MEMORY, REFUSED, STREAM_FAULT};
@@ -18,10 +18,12 @@ use std::alloc::{AllocError, Global};
 /// Reads a script, writes the report of the world that it comes to, and answers the exit status; or writes the lines
 /// for why there is none. Where memory runs out nothing is written.
 pub fn tell_world<S: Source, K: Sink>(alloc: Global, audit: bool, input: &mut S, out: &mut K) -> u8
-    ensures { TellsWorld audit (record { left = S.left input.old; faults = S.faults input.old }) (record { left = S.left input.new; faults = S.faults input.new })
-        (record { held = K.held out.old; faults = K.faults out.old }) (record { held = K.held out.new; faults = K.faults out.new }) result }
+    ensures { TellsWorld audit (record { left = S.left input.old; faults = S.faults input.old })
+        (record { left = S.left input.new; faults = S.faults input.new })
+        (record { held = K.held out.old; faults = K.faults out.old })
+        (record { held = K.held out.new; faults = K.faults out.new }) result }
 {
-    match world_in(alloc, audit, input) {
+    match run_world(alloc, audit, input) {
         Ok(report) => put(out, report.as_slice(), DONE),
         Err(why) => refuse(alloc, out, &why),
     }
@@ -29,7 +31,8 @@ pub fn tell_world<S: Source, K: Sink>(alloc: Global, audit: bool, input: &mut S,
 
 /// Writes the lines for why there is no report, and answers the exit status.
 fn refuse<K: Sink>(alloc: Global, out: &mut K, why: &WorldRefusal) -> u8
-    ensures { TellsRefusal why.now (record { held = K.held out.old; faults = K.faults out.old }) (record { held = K.held out.new; faults = K.faults out.new }) result }
+    ensures { TellsRefusal why.now (record { held = K.held out.old; faults = K.faults out.old })
+        (record { held = K.held out.new; faults = K.faults out.new }) result }
 {
     if let WorldRefusal::Stream = why {
         return put(out, b"! stream fault\n", STREAM_FAULT);
@@ -42,7 +45,8 @@ fn refuse<K: Sink>(alloc: Global, out: &mut K, why: &WorldRefusal) -> u8
 
 /// The lines for why a script is refused. Want of memory and a source that failed have none here.
 fn refusal_lines(alloc: Global, why: &WorldRefusal) -> Result<Vec<u8>, AllocError>
-    ensures { IfOk result (λ lines. (lines.items ≡ text_for why.now) × (why.now ≢ NotTaken Memory) × (why.now ≢ StreamFailed)) }
+    ensures { IfOk result (λ lines. (lines.items ≡ text_for why.now) × (why.now ≢ NotTaken Memory)
+        × (why.now ≢ StreamFailed)) }
 {
     match why {
         WorldRefusal::NotTaken(SchemaRefusal::Schema(fault)) => {
@@ -65,9 +69,10 @@ fn refusal_lines(alloc: Global, why: &WorldRefusal) -> Result<Vec<u8>, AllocErro
 /// Writes what the four replicas of a demonstration come to, and answers the exit status. Where memory runs out
 /// nothing is written.
 pub fn tell_demo<K: Sink>(alloc: Global, number: u64, count: u32, out: &mut K) -> u8
-    ensures { TellsDemo number count (record { held = K.held out.old; faults = K.faults out.old }) (record { held = K.held out.new; faults = K.faults out.new }) result }
+    ensures { TellsDemo number count (record { held = K.held out.old; faults = K.faults out.old })
+        (record { held = K.held out.new; faults = K.faults out.new }) result }
 {
-    match demo_in(alloc, number, count) {
+    match run_demo(alloc, number, count) {
         Ok(counts) => put(out, counts.as_slice(), DONE),
         Err(_memory) => OUT_OF_MEMORY,
     }

@@ -11,8 +11,9 @@ use itoa::Buffer;
 use std::alloc::{AllocError, Global};
 
 /// What the replicas of a demonstration by this number come to that make so many updates, a line each.
-pub fn demo_in(alloc: Global, number: u64, count: u32) -> Result<Vec<u8>, AllocError>
-    ensures { IfOk result (λ text. (counts : Counted) × IsCounted is_luhn counts × IsDemo number count counts × (text.items ≡ counts_text counts)) }
+pub fn run_demo(alloc: Global, number: u64, count: u32) -> Result<Vec<u8>, AllocError>
+    ensures { IfOk result (λ text. (counts : Counted) × IsCounted is_luhn counts × IsDemo number count counts
+        × (text.items ≡ counts_text counts)) }
 {
     let counts = demonstrate(alloc, number, count)?;
     let mut text = Vec::new(alloc);

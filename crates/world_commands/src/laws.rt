@@ -8,5 +8,6 @@ ghost use Rattle.world_script.specs.declared.script.Script.{Script};
 
 /// The world that a report shows came about from a new one of the script's schema: so all laws of worlds hold of it.
 pub fn reported_worlds_are_reached()
-    ensures { (ask : Meaning) (audit : Bool) (script : Script) (text : List ℕ) (report : Reports ask audit script text) → IsReached ask report.schema report.last }
+    ensures { (ask : Meaning) (audit : Bool) (script : Script) (text : List ℕ) (report : Reports ask audit script text)
+        → IsReached ask report.schema report.last }
 {}

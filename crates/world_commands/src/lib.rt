@@ -22,7 +22,7 @@ mod script;
 mod world;
 
 pub use answering::{tell_demo, tell_world};
-pub use demo::demo_in;
+pub use demo::run_demo;
 pub use laws::reported_worlds_are_reached;
 pub use refusal::WorldRefusal;
-pub use world::world_in;
+pub use world::run_world;

@@ -19,7 +19,8 @@ pub(crate) fn push_world(
     report: &mut Vec<u8>,
 ) -> Result<(), AllocError>
     requires { world.now.is_over ≡ false }
-    ensures { OnOk result ((w : WorldData) → ShowsWorld world.now w → (text : List ℕ) × IsShown is_luhn audit w text × (report.new.items ≡ report.old.items ++ text)) }
+    ensures { OnOk result ((w : WorldData) → ShowsWorld world.now w → (text : List ℕ) × IsShown is_luhn audit w text
+        × (report.new.items ≡ report.old.items ++ text)) }
 {
     let replicas = world.replicas()?;
     let sessions = world.sessions()?;
@@ -39,7 +40,8 @@ fn push_audit(
     report: &mut Vec<u8>,
 ) -> Result<(), AllocError>
     requires { count ≡ length world.now.sites }
-    ensures { OnOk result ((text : List ℕ) × Audits audit world.now.sites text × (report.new.items ≡ report.old.items ++ text)) }
+    ensures { OnOk result ((text : List ℕ) × Audits audit world.now.sites text
+        × (report.new.items ≡ report.old.items ++ text)) }
 {
     if !audit {
         return Ok(());
@@ -67,7 +69,8 @@ fn doubled_counts(
 
 /// The same of the replica with this number. There are few replicas, so each number is one of 32 bits.
 fn doubled_count(alloc: Global, world: &World, number: usize) -> Result<Option<u64>, AllocError>
-    ensures { IfOk result (λ count. (site : SiteData) → slice_get world.now.sites number ≡ Some site → CountsDoubled site count) }
+    ensures { IfOk result (λ count. (site : SiteData) → slice_get world.now.sites number ≡ Some site
+        → CountsDoubled site count) }
 {
     let Ok(number) = u32::try_from(number) else {
         return Err(AllocError);

@@ -28,7 +28,8 @@ pub(crate) fn run_lines(
 ) -> Result<(), AllocError>
     requires form { AllByRecursion HasForm lines.now }
     requires runs { world.old.is_over ≡ false }
-    ensures happens { OnOk result ((w : WorldData) → ShowsWorld world.old w → LinesDone is_luhn w lines.now world.new report.old.items report.new.items) }
+    ensures happens { OnOk result ((w : WorldData) → ShowsWorld world.old w
+        → LinesDone is_luhn w lines.now world.new report.old.items report.new.items) }
     ensures runs { OnOk result (world.new.is_over ≡ false) }
 {
     let mut rest = lines;
@@ -43,7 +44,8 @@ pub(crate) fn run_lines(
 fn run_line(world: &mut World, line: &Line, report: &mut Vec<u8>) -> Result<(), AllocError>
     requires form { HasForm line.now }
     requires runs { world.old.is_over ≡ false }
-    ensures happens { OnOk result ((w : WorldData) → ShowsWorld world.old w → LineDone is_luhn w line.now world.new report.old.items report.new.items) }
+    ensures happens { OnOk result ((w : WorldData) → ShowsWorld world.old w
+        → LineDone is_luhn w line.now world.new report.old.items report.new.items) }
     ensures runs { OnOk result (world.new.is_over ≡ false) }
 {
     match line {
@@ -75,7 +77,8 @@ fn push_stepped(report: &mut Vec<u8>, line: u32, stepped: Stepped) -> Result<(),
 /// Sessions have few turns, so the loop ends long before its bound. The one error is want of memory.
 fn run_session(world: &mut World, session: u32) -> Result<(), AllocError>
     requires { world.old.is_over ≡ false }
-    ensures happens { OnOk result ((w : WorldData) → ShowsWorld world.old w → (next : WorldData) × RunsOut is_luhn session w next × ShowsWorld world.new next) }
+    ensures happens { OnOk result ((w : WorldData) → ShowsWorld world.old w → (next : WorldData)
+        × RunsOut is_luhn session w next × ShowsWorld world.new next) }
     ensures runs { OnOk result (world.new.is_over ≡ false) }
 {
     'rounds: for _ in 0..u64::MAX {
@@ -89,7 +92,8 @@ fn run_session(world: &mut World, session: u32) -> Result<(), AllocError>
 
 /// Carries a frame of a session forward and then one back, where there is one, and answers whether there was any.
 fn carry_both(world: &mut World, session: u32) -> Result<bool, AllocError>
-    ensures happens { IfOk result (λ found. (w : WorldData) → ShowsWorld world.old w → (next : WorldData) × CarriesRound is_luhn session w next found × ShowsWorld world.new next) }
+    ensures happens { IfOk result (λ found. (w : WorldData) → ShowsWorld world.old w → (next : WorldData)
+        × CarriesRound is_luhn session w next found × ShowsWorld world.new next) }
     ensures runs { OnOk result (world.new.is_over ≡ false) }
 {
     let forward = carry(world, session, true)?;
@@ -99,7 +103,8 @@ fn carry_both(world: &mut World, session: u32) -> Result<bool, AllocError>
 
 /// Carries a frame of a session this way, and answers whether there was one.
 fn carry(world: &mut World, session: u32, forward: bool) -> Result<bool, AllocError>
-    ensures happens { IfOk result (λ found. (w : WorldData) → ShowsWorld world.old w → (answer : SteppedData) × ((next : WorldData) × Happens is_luhn w (CarryEvent session forward) answer next
+    ensures happens { IfOk result (λ found. (w : WorldData) → ShowsWorld world.old w → (answer : SteppedData)
+        × ((next : WorldData) × Happens is_luhn w (CarryEvent session forward) answer next
         × ShowsWorld world.new next × (found ≡ has_carried answer))) }
     ensures runs { OnOk result (world.new.is_over ≡ false) }
 {

@@ -17,7 +17,7 @@ use world_script::{MAX_SCRIPT_BYTES, Script, ScriptError, ScriptFault, read_scri
 ///
 /// A text that is too long is refused first, then a schema that is not taken, and then the first line that says
 /// nothing.
-pub(crate) fn script_in(alloc: Global, text: &[u8]) -> Result<Script, WorldRefusal>
+pub(crate) fn parse_script(alloc: Global, text: &[u8]) -> Result<Script, WorldRefusal>
     ensures found { IfOk result (λ script. IsScript is_luhn text.now script) }
     ensures taken { IfOk result (λ script. IsTakenBefore is_luhn text.now) }
     ensures form { IfOk result (λ script. AllByRecursion HasForm script.lines) }

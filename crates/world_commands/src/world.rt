@@ -10,7 +10,7 @@ ghost use Rattle.world_script.specs.Lines.{HasForm};
 use crate::WorldRefusal;
 use crate::reporting::push_world;
 use crate::running::run_lines;
-use crate::script::script_in;
+use crate::script::parse_script;
 use bec_bytes::Source;
 use byzantine_world::World;
 use lms_tree::KeyTypes;
@@ -24,16 +24,17 @@ use world_script::{MAX_SCRIPT_BYTES, Script};
 ///
 /// No more than one byte past the longest script is read. A text is refused that is no script, or whose schema is not
 /// taken.
-pub fn world_in<S: Source>(
+pub fn run_world<S: Source>(
     alloc: Global,
     audit: bool,
     input: &mut S,
 ) -> Result<Vec<u8>, WorldRefusal>
     ensures reported { IfOk result (λ report. WorldAnswer audit (S.left input.old) (S.left input.new) (Ok report)) }
-    ensures refused { IfErr result (λ why. WorldAnswer audit (S.left input.old) (S.left input.new) (Err why) ⊎ IsFault (S.faults input.old) (S.faults input.new) why) }
+    ensures refused { IfErr result (λ why. WorldAnswer audit (S.left input.old) (S.left input.new) (Err why)
+        ⊎ IsFault (S.faults input.old) (S.faults input.new) why) }
 {
     let text = read_text(alloc, input, MAX_SCRIPT_BYTES)?;
-    let script = script_in(alloc, text.as_slice())?;
+    let script = parse_script(alloc, text.as_slice())?;
     let report = report_of(alloc, &script, audit)?;
     Ok(report)
 }

@@ -4,7 +4,9 @@ ghost use Rattle.std.specs.Prelude.{◌≡◌, ℕ, ◌∷◌, ◌++◌, OnOk, O
 ghost use mathlib.Core.List.{IsPrefix};
 ghost use Rattle.std.specs.Fmt.{decimal};
 ghost use Rattle.std.specs.List.{flat_map};
-ghost use Rattle.world_report.specs.Reports.{missed_text, replica_text, replicas_text, counts_text, count_text, doubled_text, doubled_texts, session_text, end_text, second_text, numbered};
+ghost use Rattle.world_report.specs.Reports.{missed_text, replica_text, replicas_text, counts_text, count_text};
+ghost use Rattle.world_report.specs.Reports.{doubled_text, doubled_texts, session_text, end_text, second_text};
+ghost use Rattle.world_report.specs.Reports.{numbered};
 
 use crate::{Counts, Missed, ShownEnd, ShownReplica, ShownSession};
 use itoa::Buffer;
@@ -80,8 +82,8 @@ fn push_rows(out: &mut Vec<u8>, rows: &[u32]) -> Result<(), AllocError>
     Ok(())
 }
 
-/// Adds a line for each replica that runs, which number from 0, of how many one-time keys signed twice among what it holds:
-/// `replica 0 doubled 0`. A replica that has stopped has `None`.
+/// Adds a line for each replica that runs, which number from 0, of how many one-time keys signed twice among what it
+/// holds: `replica 0 doubled 0`. A replica that has stopped has `None`.
 pub fn push_doubled(out: &mut Vec<u8>, counts: &[Option<u64>]) -> Result<(), AllocError>
     ensures added { OnOk result (out.new.items ≡ out.old.items ++ doubled_texts 0 counts.now) }
     ensures kept { OnErr result (IsPrefix out.old.items out.new.items) }

@@ -16,3 +16,9 @@ pub mod Sets
 pub mod Signing
 pub mod Sites
 pub mod Standing
+pub mod Outcomes
+pub mod Ending
+pub mod Drawing
+pub mod SignedSites
+pub mod Reopening
+pub mod NewSites

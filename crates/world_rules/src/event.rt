@@ -14,7 +14,8 @@ pub enum Event {
         first: u32,
         second: Option<u32>,
     },
-    /// The next frame on the way is read: by the end that answers where it goes forward, and else by the one that began.
+    /// The next frame on the way is read: by the end that answers where it goes forward, and else by the one that
+    /// began.
     Carry {
         session: u32,
         forward: bool,

@@ -9,8 +9,8 @@ use std::alloc::{AllocError, AllocFailed};
 pub enum ScriptFault {
     /// The lines before `WORLD` are no schema.
     Schema(SchemaFault),
-    /// The line with this number has no form that it may have. A text without a line `WORLD` has this fault one past its last
-    /// line, and a text of too many bytes at line 0.
+    /// The line with this number has no form that it may have. A text without a line `WORLD` has this fault one past
+    /// its last line, and a text of too many bytes at line 0.
     AtLine(u32),
 }
 

@@ -1,7 +1,8 @@
 //! The line that says what world there is.
 
 ghost use Rattle.std.specs.Prelude.{◌≡◌, ◌≤◌, IfSome, option_map};
-ghost use Rattle.world_script.specs.Headings.{begins_world as is_world_line, heading_of as heading_in, lms_of as lms_in, ots_of as ots_in, replica_count as count_in};
+ghost use Rattle.world_script.specs.Headings.{begins_world as is_world_line, heading_of as heading_in};
+ghost use Rattle.world_script.specs.Headings.{lms_of as lms_in, ots_of as ots_in, replica_count as count_in};
 
 use crate::MAX_REPLICAS;
 use crate::words::{is_end, next_word, number_at, number_below};

@@ -11,7 +11,8 @@ use txn_text::one_transaction;
 
 /// A text is at most one script.
 pub fn one_script()
-    ensures { (ask : Meaning) (text : List ℕ) (script other : Script) → IsScript ask text script → IsScript ask text other → script ≡ other }
+    ensures { (ask : Meaning) (text : List ℕ) (script other : Script) → IsScript ask text script
+        → IsScript ask text other → script ≡ other }
 {
     one_transaction();
     one_schema();
@@ -19,7 +20,8 @@ pub fn one_script()
 
 /// A text has at most one first fault.
 pub fn one_fault()
-    ensures { (ask : Meaning) (text : List ℕ) (fault other : ScriptFault) → FirstFault ask text fault → FirstFault ask text other → fault ≡ other }
+    ensures { (ask : Meaning) (text : List ℕ) (fault other : ScriptFault) → FirstFault ask text fault
+        → FirstFault ask text other → fault ≡ other }
 {
     one_transaction();
     one_schema();
@@ -29,7 +31,8 @@ pub fn one_fault()
 
 /// A text that is a script has no fault.
 pub fn no_fault()
-    ensures { (ask : Meaning) (text : List ℕ) (script : Script) (fault : ScriptFault) → IsScript ask text script → FirstFault ask text fault → ⊥ }
+    ensures { (ask : Meaning) (text : List ℕ) (script : Script) (fault : ScriptFault) → IsScript ask text script
+        → FirstFault ask text fault → ⊥ }
 {
     one_transaction();
     one_schema();

@@ -11,9 +11,9 @@
 //! RUN 0
 //! ```
 //!
-//! [`read_script`] answers the [`Script`], or the first fault with its line. The line `WORLD` has the number of replicas, the
-//! height and the width of their keys, and the number that all keys and random words come from. Each line after it has one of
-//! these forms, where words stand apart by blanks:
+//! [`read_script`] answers the [`Script`], or the first fault with its line. The line `WORLD` has the number of
+//! replicas, the height and the width of their keys, and the number that all keys and random words come from. Each line
+//! after it has one of these forms, where words stand apart by blanks:
 //!
 //! ```text
 //! MAKE r operation {; operation}     replica r makes an update of these operations
@@ -26,8 +26,8 @@
 //! RESTART r choice                   replica r stops, and opens what a crash left
 //! ```
 //!
-//! What a text says is a relation over its lines (`IsScript` in specs/Scripts), apart from the code that reads. One text has
-//! one reading ([`one_script`]).
+//! What a text says is a relation over its lines (`IsScript` in specs/Scripts), apart from the code that reads. One
+//! text has one reading ([`one_script`]).
 #![tactic(auto)]
 
 mod act;

@@ -4,7 +4,11 @@ ghost use Rattle.std.specs.Prelude.{◌≡◌, ◌<◌, ◌≤◌, ◌^◌, leng
 ghost use Rattle.std.specs.List.{list_all};
 ghost use Rattle.text_words.specs.Hexadecimal.{is_lower_digit};
 ghost use Rattle.world_script.specs.declared.line.Line.{Line as LineData};
-ghost use Rattle.world_script.specs.Lines.{act_of as act_in, act_at as act_here, replica_at as replica_here, session_at as session_here, second_of as second_in, open_of as open_in, way_of as way_in, carry_of as carry_in, run_of as run_in, cut_of as cut_in, stop_of as stop_in, restart_of as restart_in, feed_of as feed_in, bytes_of as bytes_in, Makes, Says, SaysAfter, HasForm, IsPlace};
+ghost use Rattle.world_script.specs.Lines.{act_of as act_in, act_at as act_here, replica_at as replica_here};
+ghost use Rattle.world_script.specs.Lines.{session_at as session_here, second_of as second_in, open_of as open_in};
+ghost use Rattle.world_script.specs.Lines.{way_of as way_in, carry_of as carry_in, run_of as run_in, cut_of as cut_in};
+ghost use Rattle.world_script.specs.Lines.{stop_of as stop_in, restart_of as restart_in, feed_of as feed_in};
+ghost use Rattle.world_script.specs.Lines.{bytes_of as bytes_in, Makes, Says, SaysAfter, HasForm, IsPlace};
 
 use crate::act::Act;
 use crate::operations::operations_of;
@@ -25,7 +29,8 @@ pub(crate) fn line_of(
 ) -> Result<Option<Line>, AllocError>
     requires place { IsPlace place }
     requires short { length line.now < 2 ^ 63 }
-    ensures found { IfOk result (λ found. MatchOption found ((said : LineData) → Says schema.now place line.now said → ⊥) (λ said. Says schema.now place line.now said)) }
+    ensures found { IfOk result (λ found. MatchOption found ((said : LineData) → Says schema.now place line.now said
+        → ⊥) (λ said. Says schema.now place line.now said)) }
     ensures form { IfOk result (λ found. IfSome found (λ said. HasForm said)) }
 {
     match act_at(line) {
@@ -44,7 +49,8 @@ fn said_after(
 ) -> Result<Option<Line>, AllocError>
     requires place { IsPlace place }
     requires short { length rest.now < 2 ^ 63 }
-    ensures found { IfOk result (λ found. MatchOption found ((said : LineData) → SaysAfter schema.now place act rest.now said → ⊥) (λ said. SaysAfter schema.now place act rest.now said)) }
+    ensures found { IfOk result (λ found. MatchOption found ((said : LineData)
+        → SaysAfter schema.now place act rest.now said → ⊥) (λ said. SaysAfter schema.now place act rest.now said)) }
     ensures form { IfOk result (λ found. IfSome found (λ said. HasForm said)) }
 {
     match act {
@@ -117,7 +123,8 @@ fn make_of(
 ) -> Result<Option<Line>, AllocError>
     requires place { IsPlace place }
     requires short { length rest.now < 2 ^ 63 }
-    ensures found { IfOk result (λ found. MatchOption found ((said : LineData) → Makes schema.now place rest.now said → ⊥) (λ said. Makes schema.now place rest.now said)) }
+    ensures found { IfOk result (λ found. MatchOption found ((said : LineData) → Makes schema.now place rest.now said
+        → ⊥) (λ said. Makes schema.now place rest.now said)) }
     ensures form { IfOk result (λ found. IfSome found (λ said. HasForm said)) }
 {
     let Some((replica, text)) = replica_at(place, rest) else {

@@ -37,7 +37,8 @@ pub(crate) fn operations_of(
     text: &[u8],
 ) -> Result<Option<OpList>, AllocError>
     requires { length text.now < 2 ^ 63 }
-    ensures found { IfOk result (λ found. MatchOption found ((ops : List Operation) → AreOperations schema.now text.now ops → ⊥) (λ ops. AreOperations schema.now text.now ops)) }
+    ensures found { IfOk result (λ found. MatchOption found ((ops : List Operation)
+        → AreOperations schema.now text.now ops → ⊥) (λ ops. AreOperations schema.now text.now ops)) }
     ensures form { IfOk result (λ found. IfSome found (λ ops. MayStand ops)) }
 {
     if has_cr(text) {

@@ -20,8 +20,8 @@ pub(crate) struct Parts<'a> {
     pub rest: &'a [u8],
 }
 
-/// The schema of a script: all that stands before the line `WORLD`, or the whole text where there is no such line. The text has
-/// at most [`MAX_SCRIPT_BYTES`].
+/// The schema of a script: all that stands before the line `WORLD`, or the whole text where there is no such line. The
+/// text has at most [`MAX_SCRIPT_BYTES`].
 pub fn schema_part(text: &[u8]) -> &[u8]
     requires { length text.now ≤ MAX_SCRIPT_BYTES }
     ensures { result.now ≡ schema_part text.now }

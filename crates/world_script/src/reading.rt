@@ -27,9 +27,9 @@ use update_model::ByteList;
 
 /// The script that a text is.
 ///
-/// A fault is the first one: a text of more than [`MAX_SCRIPT_BYTES`] has it at line 0, and a schema that is none has it as
-/// [`read_schema`] tells it, with these native checks; then comes the first line that says nothing. The operations of an
-/// update that are found are such as a body may hold. The time is linear in the text.
+/// A fault is the first one: a text of more than [`MAX_SCRIPT_BYTES`] has it at line 0, and a schema that is none has
+/// it as [`read_schema`] tells it, with these native checks; then comes the first line that says nothing. The
+/// operations of an update that are found are such as a body may hold. The time is linear in the text.
 pub fn read_script<L: Relation, C: Checks<L>>(
     alloc: Global,
     text: &[u8],
@@ -96,7 +96,8 @@ fn read_body(
 ) -> Result<Script, ScriptError>
     requires { number + length text.now ≤ MAX_SCRIPT_BYTES + 1 }
     ensures part { IfOk result (λ script. script.schema ≡ front.now) }
-    ensures says { IfOk result (λ script. BodySays schema.now number (lines_of text.now) (heading_in script) script.lines) }
+    ensures says { IfOk result (λ script. BodySays schema.now number (lines_of text.now) (heading_in script)
+        script.lines) }
     ensures form { IfOk result (λ script. AllByRecursion HasForm script.lines) }
     ensures fault { IfErr result (λ error. IfFault error (OfLine (BodyFault schema.now number (lines_of text.now)))) }
 {
@@ -168,7 +169,9 @@ fn read_line(alloc: Global, schema: &Schema, place: Place, line: &[u8]) -> Resul
     requires short { length line.now < 2 ^ 63 }
     ensures says { IfOk result (λ said. Says schema.now place line.now said) }
     ensures form { IfOk result (λ said. HasForm said) }
-    ensures nothing { IfErr result (λ error. IfFault error (OfLine (λ number. ((said : LineData) → Says schema.now place line.now said → ⊥) × (number ≡ place.number)))) }
+    ensures nothing { IfErr result (λ error.
+        IfFault error (OfLine (λ number. ((said : LineData) → Says schema.now place line.now said → ⊥)
+        × (number ≡ place.number)))) }
 {
     match line_of(alloc, schema, place, line)? {
         Some(said) => Ok(said),

@@ -5,7 +5,9 @@ ghost use Rattle.std.specs.Char.{is_ascii_digit};
 ghost use Rattle.std.specs.List.{list_all, position_or_len};
 ghost use Rattle.text_words.specs.Integers.{is_positive_numeral as is_positive};
 ghost use Rattle.text_words.specs.Words.{is_blank as is_blank_byte};
-ghost use Rattle.world_script.specs.Words.{next_word as word_at, is_end as ends_here, is_number_form as is_form, number_of as number_in, number_at as number_here, number_below as number_under};
+ghost use Rattle.world_script.specs.Words.{next_word as word_at, is_end as ends_here, is_number_form as is_form};
+ghost use Rattle.world_script.specs.Words.{number_of as number_in, number_at as number_here};
+ghost use Rattle.world_script.specs.Words.{number_below as number_under};
 
 use std::str;
 use text_words::skip_blanks;

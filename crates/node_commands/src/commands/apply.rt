@@ -11,7 +11,8 @@ ghost use Rattle.replica.specs.Making.{IsMakeCauseWith, MakesWith};
 ghost use Rattle.replica.specs.Signing.{KeyAfter};
 ghost use Rattle.replica.specs.declared.make_fault.Side.TheVariants.{Key as KeySide, Log as LogSide};
 ghost use Rattle.replica.specs.declared.make_fault.MakeFault.TheVariants.{DiskFault as DiskFailed};
-ghost use Rattle.node_commands.specs.Signing.{ApplyAnswer, IsNoStop, MakeAnswer, SignsOpen, StopsReading, TakesText, saying};
+ghost use Rattle.node_commands.specs.Signing.{ApplyAnswer, IsNoStop, MakeAnswer, SignsOpen, StopsReading, TakesText};
+ghost use Rattle.node_commands.specs.Signing.{saying};
 ghost use Rattle.outcomes.specs.Comes.{IsSourceFault};
 ghost use Rattle.outcomes.specs.StoreAnswers.{next_bytes};
 ghost use Rattle.txn_text.specs.Outcome.{MayStand};
@@ -30,9 +31,9 @@ use store_directory::each_stands;
 use txn_text::{MAX_TRANSACTION_BYTES, read_txn};
 use update_model::{OpList, TextValue, UpdateId};
 
-/// Makes an update of the transaction that is read in a store, by a key, with a note or without one, and answers the line of its
-/// id.
-pub fn apply_by<D: Disk, R: Rng, S: Source>(
+/// Makes an update of the transaction that is read in a store, by a key, with a note or without one, and answers the
+/// line of its id.
+pub fn apply<D: Disk, R: Rng, S: Source>(
     alloc: Global,
     replica: &mut Replica<D, Luhn, Luhn>,
     key: &mut KeyStore<D>,
@@ -41,19 +42,21 @@ pub fn apply_by<D: Disk, R: Rng, S: Source>(
     input: &mut S,
 ) -> Result<Vec<u8>, Refusal>
     requires { IfSome note (λ n. length n.now ≤ MAX_NOTE) }
-    ensures { SignsOpen (ApplyAnswer (option_map (λ n. n.now) note.entry) (S.left input.old) (S.left input.new) (R.stream random.old)) (IsSourceFault (S.faults input.old) (S.faults input.new))
+    ensures { SignsOpen (ApplyAnswer (option_map (λ n. n.now) note.entry) (S.left input.old) (S.left input.new)
+        (R.stream random.old)) (IsSourceFault (S.faults input.old) (S.faults input.new))
         (R.stream random.old) (R.stream random.new) replica.old key.old replica.new key.new result }
 {
     each_stands(replica);
     let ops = read_ops(alloc, replica.schema(), input)?;
-    make_by(alloc, replica, key, ops, note, random)
+    make_update(alloc, replica, key, ops, note, random)
 }
 
 /// The operations of the transaction that is read.
 fn read_ops<S: Source>(alloc: Global, schema: &Schema, input: &mut S) -> Result<OpList, Refusal>
     ensures read { IfOk result (λ ops. TakesText (S.left input.old) (S.left input.new) schema.now ops) }
     ensures form { IfOk result (λ ops. MayStand ops) }
-    ensures stopped { IfErr result (λ refusal. StopsReading (S.left input.old) (S.left input.new) (S.faults input.old) (S.faults input.new) schema.now refusal) }
+    ensures stopped { IfErr result (λ refusal. StopsReading (S.left input.old) (S.left input.new) (S.faults input.old)
+        (S.faults input.new) schema.now refusal) }
 {
     let text = read_text(alloc, input, MAX_TRANSACTION_BYTES)?;
     let ops = read_txn(alloc, schema, &text)?;
@@ -61,7 +64,7 @@ fn read_ops<S: Source>(alloc: Global, schema: &Schema, input: &mut S) -> Result<
 }
 
 /// Makes an update of these operations, with a note or without one. The memory for the line of its id is taken before.
-fn make_by<D: Disk, R: Rng>(
+fn make_update<D: Disk, R: Rng>(
     alloc: Global,
     replica: &mut Replica<D, Luhn, Luhn>,
     key: &mut KeyStore<D>,
@@ -71,7 +74,8 @@ fn make_by<D: Disk, R: Rng>(
 ) -> Result<Vec<u8>, Refusal>
     requires form { MayStand ops }
     requires short { IfSome note (λ n. length n.now ≤ MAX_NOTE) }
-    ensures { SignsOpen (MakeAnswer (saying (option_map (λ n. n.now) note.entry) ops) (next_bytes (R.stream random.old))) IsNoStop
+    ensures { SignsOpen (MakeAnswer (saying (option_map (λ n. n.now) note.entry) ops)
+        (next_bytes (R.stream random.old))) IsNoStop
         (R.stream random.old) (R.stream random.new) replica.old key.old replica.new key.new result }
 {
     each_stands(replica);
@@ -112,13 +116,17 @@ fn make<D: Disk>(
 ) -> Result<UpdateId, MakeFault>
     requires form { MayStand ops }
     requires short { IfSome note (λ n. length n ≤ MAX_NOTE) }
-    ensures made { IfOk result (λ id. MakesWith is_luhn replica.old.history key.old.secret key.old.taken (saying note ops) c.now id replica.new.history) }
+    ensures made { IfOk result (λ id. MakesWith is_luhn replica.old.history key.old.secret key.old.taken
+        (saying note ops) c.now id replica.new.history) }
     ensures same { OnErr result (replica.new.history ≡ replica.old.history) }
-    ensures refused { IfErr result (λ why. IsMakeCauseWith is_luhn replica.old.history key.old.secret key.old.taken (saying note ops) c.now why) }
+    ensures refused { IfErr result (λ why. IsMakeCauseWith is_luhn replica.old.history key.old.secret key.old.taken
+        (saying note ops) c.now why) }
     ensures clean { IsTrue replica.old.log.disk.tells → OnOk result (IsClean replica.new.log.end replica.new.log.disk) }
     ensures key { KeyAfter key.old result key.new }
-    ensures any_moment { LeavesOnly replica.old.log.disk replica.new.log.disk (BeginsWith (stream_of replica.old.history.members)) }
-    ensures used { (index : ℕ) → (IsTrue key.old.parts.used.tells → EveryImage key.old.parts.used.now (IsUsed index)) → LeavesOnly key.old.parts.used key.new.parts.used (IsUsed index) }
+    ensures any_moment { LeavesOnly replica.old.log.disk replica.new.log.disk
+        (BeginsWith (stream_of replica.old.history.members)) }
+    ensures used { (index : ℕ) → (IsTrue key.old.parts.used.tells → EveryImage key.old.parts.used.now (IsUsed index))
+        → LeavesOnly key.old.parts.used key.new.parts.used (IsUsed index) }
     ensures later { replica.old.log.faults ≤ replica.new.log.faults }
     ensures key_later { key.old.parts.used_faults ≤ key.new.parts.used_faults }
     ensures key_failed { result ≡ Err (DiskFailed KeySide) → Rose key.old.parts.used_faults key.new.parts.used_faults }

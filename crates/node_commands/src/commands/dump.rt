@@ -16,7 +16,8 @@ pub fn bundle_tables<S: Source>(
     input: &mut S,
     json: bool,
 ) -> Result<Vec<u8>, Refusal>
-    ensures { ComesTo (DumpAnswer json) (S.left input.old) (S.left input.new) (S.faults input.old) (S.faults input.new) result }
+    ensures { ComesTo (DumpAnswer json) (S.left input.old) (S.left input.new) (S.faults input.old) (S.faults input.new)
+        result }
 {
     let native: Native<Luhn, Luhn> = Native::new(Luhn);
     let declared = bundle_schema(alloc, input)?;

@@ -31,7 +31,8 @@ pub fn replica_heads<D: Disk>(
     alloc: Global,
     replica: &Replica<D, Luhn, Luhn>,
 ) -> Result<Vec<u8>, AllocError>
-    ensures { IfOk result (λ text. (heads : List Id) × AreHeads (map entry_of replica.now.history.members) heads × (text.items ≡ printed heads)) }
+    ensures { IfOk result (λ text. (heads : List Id) × AreHeads (map entry_of replica.now.history.members) heads
+        × (text.items ≡ printed heads)) }
 {
     let heads = replica.heads(alloc)?;
     let text = heads_text(alloc, &heads)?;

@@ -15,9 +15,9 @@ use schema_verdict::read_text;
 use std::alloc::{AllocError, Global};
 use store_directory::{each_stands, is_there, new_store, put_store};
 
-/// Makes a store in a directory that has none, of the schema that is read, and answers the line of its database. The line is
-/// there before anything is made.
-pub fn init_in<H: Shelf, R: Rng, S: Source>(
+/// Makes a store in a directory that has none, of the schema that is read, and answers the line of its database. The
+/// line is there before anything is made.
+pub fn init<H: Shelf, R: Rng, S: Source>(
     alloc: Global,
     shelf: &mut H,
     dir: &str,

@@ -12,15 +12,16 @@ use std::alloc::Global;
 use store_directory::each_stands;
 use update_model::UpdateId;
 
-/// Joins the heads of a store by a key, and answers the line of the update's id, or nothing. The memory for the line is taken
-/// before.
-pub fn join_by<D: Disk, R: Rng>(
+/// Joins the heads of a store by a key, and answers the line of the update's id, or nothing. The memory for the line is
+/// taken before.
+pub fn join<D: Disk, R: Rng>(
     alloc: Global,
     replica: &mut Replica<D, Luhn, Luhn>,
     key: &mut KeyStore<D>,
     random: &mut R,
 ) -> Result<Vec<u8>, Refusal>
-    ensures { SignsOpen (JoinAnswer (R.stream random.old)) IsNoStop (R.stream random.old) (R.stream random.new) replica.old key.old replica.new key.new result }
+    ensures { SignsOpen (JoinAnswer (R.stream random.old)) IsNoStop (R.stream random.old) (R.stream random.new)
+        replica.old key.old replica.new key.new result }
 {
     each_stands(replica);
     let room = room_for_id(alloc)?;

@@ -14,9 +14,9 @@ use update_model::AuthorKey;
 /// How many bytes the line of a public key has: 112 digits and the end.
 const KEY_LINE: usize = 113;
 
-/// Draws a key of these types for a directory that has none, and answers the line of its public key. Room for the line is
-/// there before anything is made.
-pub fn keygen_in<G: LeafGenerator, H: Shelf, R: Rng>(
+/// Draws a key of these types for a directory that has none, and answers the line of its public key. Room for the line
+/// is there before anything is made.
+pub fn keygen<G: LeafGenerator, H: Shelf, R: Rng>(
     generator: &G,
     alloc: Global,
     shelf: &mut H,
@@ -25,7 +25,8 @@ pub fn keygen_in<G: LeafGenerator, H: Shelf, R: Rng>(
     random: &mut R,
 ) -> Result<Vec<u8>, Refusal>
     requires { IsTrue (H.state shelf.old).tells → IsHome (H.state shelf.old) }
-    ensures { DrawsKey types.lms types.ots (R.stream random.old) (R.stream random.new) dir.now (H.state shelf.old) (H.state shelf.new) (H.faults shelf.old) (H.faults shelf.new) result }
+    ensures { DrawsKey types.lms types.ots (R.stream random.old) (R.stream random.new) dir.now (H.state shelf.old)
+        (H.state shelf.new) (H.faults shelf.old) (H.faults shelf.new) result }
 {
     let mut line = Vec::with_capacity(alloc, KEY_LINE)?;
     let key = new_key(generator, alloc, shelf, dir, types, random)?;

@@ -23,7 +23,7 @@ use sync_session::{PairEnd, PairStart, sync_pair};
 use update_model::IdList;
 
 /// Reconciles the stores of two directories, and answers the lines of what each gained and of the turns.
-pub fn merge_in<V: Verifier, H: Shelf>(
+pub fn merge<V: Verifier, H: Shelf>(
     verifier: &V,
     alloc: Global,
     shelf: &mut H,
@@ -32,7 +32,8 @@ pub fn merge_in<V: Verifier, H: Shelf>(
 ) -> Result<Vec<u8>, Refusal>
     requires home { IsTrue (H.state shelf.old).tells → IsHome (H.state shelf.old) }
     requires differ { first.now ≢ second.now }
-    ensures { MergesStores first.now second.now (H.state shelf.old) (H.state shelf.new) (H.faults shelf.old) (H.faults shelf.new) result }
+    ensures { MergesStores first.now second.now (H.state shelf.old) (H.state shelf.new) (H.faults shelf.old)
+        (H.faults shelf.new) result }
 {
     one_schema();
     let mut one = open(verifier, alloc, shelf, first, Needs::Store)?;
@@ -62,7 +63,8 @@ fn merge_beside<V: Verifier, H: Shelf>(
     requires schema_in { IsTrue (H.state shelf.old).tells → part_in (H.state shelf.old) second.now Schema ≢ out }
     requires updates_in { IsTrue (H.state shelf.old).tells → part_in (H.state shelf.old) second.now Updates ≢ out }
     requires peers_in_second { IsTrue (H.state shelf.old).tells → part_in (H.state shelf.old) second.now PeersPart ≢ out }
-    ensures { MergesBeside first.now second.now (H.state shelf.old) (H.state shelf.new) (H.faults shelf.old) (H.faults shelf.new) one.old one.new result }
+    ensures { MergesBeside first.now second.now (H.state shelf.old) (H.state shelf.new) (H.faults shelf.old)
+        (H.faults shelf.new) one.old one.new result }
 {
     one_schema();
     each_stands(one);
@@ -84,7 +86,8 @@ fn merge_open<H: Shelf>(
     requires differ { first.now ≢ second.now }
     requires peers_in { IsTrue (H.state shelf.old).tells → part_in (H.state shelf.old) first.now PeersPart ≢ out }
     requires peers_in_second { IsTrue (H.state shelf.old).tells → part_in (H.state shelf.old) second.now PeersPart ≢ out }
-    ensures { MergesOpen first.now second.now (H.state shelf.old) (H.state shelf.new) (H.faults shelf.old) (H.faults shelf.new) one.old other.old one.new other.new result }
+    ensures { MergesOpen first.now second.now (H.state shelf.old) (H.state shelf.new) (H.faults shelf.old)
+        (H.faults shelf.new) one.old other.old one.new other.new result }
 {
     each_stands(one);
     each_stands(other);
@@ -129,7 +132,8 @@ fn pair_start<D: Disk>(
     peers: &Peers,
     peers_other: &Peers,
 ) -> Result<PairStart, AllocError>
-    ensures is { IfOk result (λ start. start ≡ start_of (opened_store one.now) (opened_store other.now) peers.now peers_other.now) }
+    ensures is { IfOk result (λ start. start ≡ start_of (opened_store one.now) (opened_store other.now) peers.now
+        peers_other.now) }
     ensures few_a { IfOk result (λ start. length start.old_a ≤ MAX_NEEDS) }
     ensures rising_a { IfOk result (λ start. IsStrictlySortedBy id_cmp start.old_a) }
     ensures few_b { IfOk result (λ start. length start.old_b ≤ MAX_NEEDS) }

@@ -35,7 +35,8 @@ fn noted_of<D: Disk>(
     alloc: Global,
     replica: &Replica<D, Luhn, Luhn>,
 ) -> Result<Vec<&Checked>, AllocError>
-    ensures { IfOk result (λ noted. map (λ update. update.now) noted.items ≡ filter is_noted replica.now.history.members) }
+    ensures { IfOk result (λ noted. map (λ update. update.now) noted.items ≡ filter is_noted
+        replica.now.history.members) }
 {
     let mut noted = Vec::new(alloc);
     for position in 0..replica.len() {
@@ -59,7 +60,8 @@ pub fn note_of(update: &Checked) -> &[u8]
 
 /// Puts updates in order of ids. These rise, where the updates are those of a closed list that have a note.
 pub fn in_order<'a>(mut noted: Vec<&'a Checked>) -> Vec<&'a Checked>
-    ensures { (members : List (List ℕ)) → IsClosed (map entry_of members) → map (λ update. update.now) noted.entry.items ≡ filter is_noted members
+    ensures { (members : List (List ℕ)) → IsClosed (map entry_of members)
+        → map (λ update. update.now) noted.entry.items ≡ filter is_noted members
         → AreNoted members (map (λ update. update.now) result.items) }
 {
     noted.sort_unstable_by(|a, b| id_cmp(a, b));

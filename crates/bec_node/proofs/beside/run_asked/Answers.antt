@@ -17,30 +17,30 @@ returns-in-Seals g c = rw c.in-Seals.is (over_seals (seal_seen c.in-Seals.reques
 pub returns-in-Audits-Audit : goal.returns-in-Audits-Audit
 returns-in-Audits-Audit g c =
     let seen = outside g.S.Source.left g.S.Counted.faults g.H.Shelf.state g.H.Counted.faults g.R.Rng.stream c.args.outside.now.input c.args.outside.now.shelf c.args.outside.now.random in
-    let then = outside g.S.Source.left g.S.Counted.faults g.H.Shelf.state g.H.Counted.faults g.R.Rng.stream c.args.outside.now.input c.audit_in-outcome.new.shelf c.args.outside.now.random in
+    let then = outside g.S.Source.left g.S.Counted.faults g.H.Shelf.state g.H.Counted.faults g.R.Rng.stream c.args.outside.now.input c.audit-outcome.new.shelf c.args.outside.now.random in
     let sink : SinkState = record { held = g.K.Sink.held c.args.out.now; faults = g.K.Counted.faults c.args.out.now } in
     let sink_new : SinkState = record { held = g.K.Sink.held c.finish.new.out; faults = g.K.Counted.faults c.finish.new.out } in
     let dir = c.in-Audits-Audit.directory.now in
     let which = rw c.in-Audits-Audit.is at c.in-Audits-Audit.field-0-is in
     rw (c.in-Audits-Audit.is, which)
-    (of_keys (audit dir) (store_answered seen then sink sink_new c.finish.result (Printing ShowsDoubled) c.one_answer_of_audits.ensures.audit dir c.audit_in-outcome.result
-    (record { runs = c.audit_in-outcome.ensures; source = refl; random = refl }) c.finish.ensures))
+    (of_keys (audit dir) (store_answered seen then sink sink_new c.finish.result (Printing ShowsDoubled) c.one_answer_of_audits.ensures.audit dir c.audit-outcome.result
+    (record { runs = c.audit-outcome.ensures; source = refl; random = refl }) c.finish.ensures))
 
 pub returns-in-Audits-Confirm : goal.returns-in-Audits-Confirm
 returns-in-Audits-Confirm g c =
     let seen = outside g.S.Source.left g.S.Counted.faults g.H.Shelf.state g.H.Counted.faults g.R.Rng.stream c.args.outside.now.input c.args.outside.now.shelf c.args.outside.now.random in
-    let then = outside g.S.Source.left g.S.Counted.faults g.H.Shelf.state g.H.Counted.faults g.R.Rng.stream c.confirm_in-outcome.new.input c.args.outside.now.shelf c.args.outside.now.random in
+    let then = outside g.S.Source.left g.S.Counted.faults g.H.Shelf.state g.H.Counted.faults g.R.Rng.stream c.confirm-outcome.new.input c.args.outside.now.shelf c.args.outside.now.random in
     let sink : SinkState = record { held = g.K.Sink.held c.args.out.now; faults = g.K.Counted.faults c.args.out.now } in
     let sink_new : SinkState = record { held = g.K.Sink.held c.finish-in-Audits-Confirm.new.out; faults = g.K.Counted.faults c.finish-in-Audits-Confirm.new.out } in
     let which = rw c.in-Audits-Confirm.is at c.in-Audits-Confirm.field-0-is in
     rw (c.in-Audits-Confirm.is, which)
-    (of_keys confirm (source_answered seen then sink sink_new c.finish-in-Audits-Confirm.result ConfirmAnswer c.one_answer_of_audits.ensures.confirm c.confirm_in-outcome.result
-    (record { comes = c.confirm_in-outcome.ensures; shelf = refl; random = refl }) c.finish-in-Audits-Confirm.ensures))
+    (of_keys confirm (source_answered seen then sink sink_new c.finish-in-Audits-Confirm.result ConfirmAnswer c.one_answer_of_audits.ensures.confirm c.confirm-outcome.result
+    (record { comes = c.confirm-outcome.ensures; shelf = refl; random = refl }) c.finish-in-Audits-Confirm.ensures))
 
 pub returns-in-Views : goal.returns-in-Views
 returns-in-Views g c =
     rw c.in-Views.is
-    (over_views (watch_seen c.in-Views.request) (record { watches = c.watch_in.ensures; random = refl }))
+    (over_views (watch_seen c.in-Views.request) (record { watches = c.watch.ensures; random = refl }))
 
 pub returns-in-Worlds-World : goal.returns-in-Worlds-World
 returns-in-Worlds-World g c =

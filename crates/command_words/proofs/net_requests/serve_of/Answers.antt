@@ -1,10 +1,10 @@
 use Rattle.std.proofs.Common.{◌∙◌, ap, sym}
 use Rattle.std.specs.Prelude.{option_and_then}
-use Rattle.command_words.specs.NetCommands.{serve_by}
+use Rattle.command_words.specs.NetCommands.{serve_asked}
 use Rattle.command_words.proofs.net_requests.serve_of.Goals as goal
 
 pub returns-in-Some : goal.returns-in-Some
-returns-in-Some c = c.serve_by.ensures ∙ ap (option_and_then serve_by) (sym c.in-Some.is ∙ c.in_ok-given.ensures)
+returns-in-Some c = c.serve_asked.ensures ∙ ap (option_and_then serve_asked) (sym c.in-Some.is ∙ c.in_ok-given.ensures)
 
 pub returns-in-None : goal.returns-in-None
-returns-in-None c = ap (option_and_then serve_by) (sym c.in-None.is ∙ c.in_ok-given.ensures)
+returns-in-None c = ap (option_and_then serve_asked) (sym c.in-None.is ∙ c.in_ok-given.ensures)

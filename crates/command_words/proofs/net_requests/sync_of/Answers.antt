@@ -1,10 +1,10 @@
 use Rattle.std.proofs.Common.{◌∙◌, ap, sym}
 use Rattle.std.specs.Prelude.{option_and_then}
-use Rattle.command_words.specs.NetCommands.{sync_by}
+use Rattle.command_words.specs.NetCommands.{sync_asked}
 use Rattle.command_words.proofs.net_requests.sync_of.Goals as goal
 
 pub returns-in-Some : goal.returns-in-Some
-returns-in-Some c = c.sync_by.ensures ∙ ap (option_and_then sync_by) (sym c.in-Some.is ∙ c.in_ok-given.ensures)
+returns-in-Some c = c.sync_asked.ensures ∙ ap (option_and_then sync_asked) (sym c.in-Some.is ∙ c.in_ok-given.ensures)
 
 pub returns-in-None : goal.returns-in-None
-returns-in-None c = ap (option_and_then sync_by) (sym c.in-None.is ∙ c.in_ok-given.ensures)
+returns-in-None c = ap (option_and_then sync_asked) (sym c.in-None.is ∙ c.in_ok-given.ensures)

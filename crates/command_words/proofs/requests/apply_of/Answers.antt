@@ -1,10 +1,10 @@
 use Rattle.std.proofs.Common.{◌∙◌, ap, sym}
 use Rattle.std.specs.Prelude.{option_and_then}
-use Rattle.command_words.specs.Commands.{apply_by}
+use Rattle.command_words.specs.Commands.{apply_asked}
 use Rattle.command_words.proofs.requests.apply_of.Goals as goal
 
 pub returns-in-Some : goal.returns-in-Some
-returns-in-Some c = c.apply_by.ensures ∙ ap (option_and_then apply_by) (sym c.in-Some.is ∙ c.in_ok-given.ensures)
+returns-in-Some c = c.apply_asked.ensures ∙ ap (option_and_then apply_asked) (sym c.in-Some.is ∙ c.in_ok-given.ensures)
 
 pub returns-in-None : goal.returns-in-None
-returns-in-None c = ap (option_and_then apply_by) (sym c.in-None.is ∙ c.in_ok-given.ensures)
+returns-in-None c = ap (option_and_then apply_asked) (sym c.in-None.is ∙ c.in_ok-given.ensures)

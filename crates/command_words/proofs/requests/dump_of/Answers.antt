@@ -1,9 +1,9 @@
 use Rattle.std.proofs.Common.{◌∙◌, ap, sym, Some, option_map}
-use Rattle.command_words.specs.Commands.{dump_by}
+use Rattle.command_words.specs.Commands.{dump_asked}
 use Rattle.command_words.proofs.requests.dump_of.Goals as goal
 
 pub returns-in-Some : goal.returns-in-Some
-returns-in-Some c = ap Some c.dump_by.ensures ∙ ap (option_map dump_by) (sym c.in-Some.is ∙ c.in_ok-given.ensures)
+returns-in-Some c = ap Some c.dump_asked.ensures ∙ ap (option_map dump_asked) (sym c.in-Some.is ∙ c.in_ok-given.ensures)
 
 pub returns-in-None : goal.returns-in-None
-returns-in-None c = ap (option_map dump_by) (sym c.in-None.is ∙ c.in_ok-given.ensures)
+returns-in-None c = ap (option_map dump_asked) (sym c.in-None.is ∙ c.in_ok-given.ensures)

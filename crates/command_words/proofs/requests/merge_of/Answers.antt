@@ -1,10 +1,10 @@
 use Rattle.std.proofs.Common.{◌∙◌, ap, sym}
 use Rattle.std.specs.Prelude.{option_and_then}
-use Rattle.command_words.specs.Commands.{merge_by}
+use Rattle.command_words.specs.Commands.{merge_asked}
 use Rattle.command_words.proofs.requests.merge_of.Goals as goal
 
 pub returns-in-Some : goal.returns-in-Some
-returns-in-Some c = c.merge_by.ensures ∙ ap (option_and_then merge_by) (sym c.in-Some.is ∙ c.in_ok-given.ensures)
+returns-in-Some c = c.merge_asked.ensures ∙ ap (option_and_then merge_asked) (sym c.in-Some.is ∙ c.in_ok-given.ensures)
 
 pub returns-in-None : goal.returns-in-None
-returns-in-None c = ap (option_and_then merge_by) (sym c.in-None.is ∙ c.in_ok-given.ensures)
+returns-in-None c = ap (option_and_then merge_asked) (sym c.in-None.is ∙ c.in_ok-given.ensures)

@@ -1,10 +1,10 @@
 use Rattle.std.proofs.Common.{◌∙◌, ap, sym}
 use Rattle.std.specs.Prelude.{option_and_then}
-use Rattle.command_words.specs.WatchCommands.{watch_by}
+use Rattle.command_words.specs.WatchCommands.{watch_asked}
 use Rattle.command_words.proofs.watch_requests.watch_of.Goals as goal
 
 pub returns-in-Some : goal.returns-in-Some
-returns-in-Some c = c.watch_by.ensures ∙ ap (option_and_then watch_by) (sym c.in-Some.is ∙ c.in_ok-given.ensures)
+returns-in-Some c = c.watch_asked.ensures ∙ ap (option_and_then watch_asked) (sym c.in-Some.is ∙ c.in_ok-given.ensures)
 
 pub returns-in-None : goal.returns-in-None
-returns-in-None c = ap (option_and_then watch_by) (sym c.in-None.is ∙ c.in_ok-given.ensures)
+returns-in-None c = ap (option_and_then watch_asked) (sym c.in-None.is ∙ c.in_ok-given.ensures)

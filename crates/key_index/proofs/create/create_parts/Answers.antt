@@ -12,7 +12,7 @@ use Rattle.key_index.specs.Payload.{payload_of}
 use Rattle.key_index.specs.Used.{none_used}
 use Rattle.key_index.specs.declared.faults.CreateKeyKind.TheVariants.{DiskFault, KeyThere}
 use Rattle.key_index.specs.declared.faults.CreateKeyKind.{CreateKeyKind}
-use Rattle.key_index.specs.declared.opened.Opened.{Opened}
+use Rattle.key_index.specs.declared.opened.OpenedKey.{OpenedKey}
 use Rattle.key_index.proofs.CreateLaws.{not_there, nothing_written, parts_written, refused_early, unused_count, writing_failed}
 use Rattle.key_index.proofs.OpenLaws.{same_error}
 use Rattle.key_index.proofs.create.create_parts.Goals as goal
@@ -25,7 +25,7 @@ returns-in_err-read_gated-clause-creates g c =
     let secret = drawn_key c.args.types.lms c.args.types.ots (g.R.Rng.stream c.args.random.now) in
     let old = parts_of g.D.Disk.state g.D.Counted.faults c.args.key.now c.args.used.now in
     let new = parts_of g.D.Disk.state g.D.Counted.faults c.read_gated.new.disk c.args.used.now in
-    subst (λ (r : Result Opened CreateKeyKind). MatchResult r (λ opened. CreatesKey secret old (store_of g.D.Disk.state g.D.Counted.faults c.read_gated.new.disk c.args.used.now opened.secret opened.indices)) (λ why. RefusesToCreate secret old why new))
+    subst (λ (r : Result OpenedKey CreateKeyKind). MatchResult r (λ opened. CreatesKey secret old (store_of g.D.Disk.state g.D.Counted.faults c.read_gated.new.disk c.args.used.now opened.secret opened.indices)) (λ why. RefusesToCreate secret old why new))
     (sym is)
     (refused_early secret old new error c.requires (record { key_same = failed.same; used_same = refl }) (record { key_later = failed.later; used_later = omega arith })
     (λ why. inl (failed.failed (ap (λ (e : DiskError). Err e) why))))
@@ -70,7 +70,7 @@ returns-in_err-fresh-clause-creates g c =
     let mid = parts_of g.D.Disk.state g.D.Counted.faults c.read_gated.new.disk c.args.used.now in
     let same : AreSame old mid = record { key_same = there.same; used_same = refl } in
     let later : AreLater old mid = record { key_later = there.later; used_later = le_refl _ } in
-    subst (λ (r : Result Opened CreateKeyKind). MatchResult r (λ opened. CreatesKey secret old (store_of g.D.Disk.state g.D.Counted.faults c.read_gated.new.disk c.args.used.now opened.secret opened.indices)) (λ why. RefusesToCreate secret old why mid))
+    subst (λ (r : Result OpenedKey CreateKeyKind). MatchResult r (λ opened. CreatesKey secret old (store_of g.D.Disk.state g.D.Counted.faults c.read_gated.new.disk c.args.used.now opened.secret opened.indices)) (λ why. RefusesToCreate secret old why mid))
     (sym is)
     (refused_early secret old mid error c.requires same later (λ why. absurd (c.in_err-fresh.ensures.memory (ap (λ (e : DiskError). Err e) why))))
 
@@ -78,7 +78,7 @@ pub returns-in_err-fresh-clause-undrawn : goal.returns-in_err-fresh-clause-undra
 returns-in_err-fresh-clause-undrawn g c =
     let error = c.in_err-fresh.field-0.0 in
     let is = same_error _ (creating_kind error) c.from_residual-in_err-fresh.ensures.0 c.from_residual-in_err-fresh.ensures.1 in
-    subst (λ (r : Result Opened CreateKeyKind). IfErr r (λ why. why ≡ KeyThere → g.R.Rng.stream c.draw_seed-seed.new.random ≡ g.R.Rng.stream c.args.random.now)) (sym is) (λ why. absurd (not_there error why))
+    subst (λ (r : Result OpenedKey CreateKeyKind). IfErr r (λ why. why ≡ KeyThere → g.R.Rng.stream c.draw_seed-seed.new.random ≡ g.R.Rng.stream c.args.random.now)) (sym is) (λ why. absurd (not_there error why))
 
 pub returns-in_err-write_parts-clause-creates : goal.returns-in_err-write_parts-clause-creates
 returns-in_err-write_parts-clause-creates g c =
@@ -94,14 +94,14 @@ returns-in_err-write_parts-clause-creates g c =
     let spelled = c.deref.ensures.value ∙ c.in_ok-fresh.ensures.payload.spelled ∙ ap payload_of drawn in
     let long = unused_count c.deref-2.result.now (leaf_count secret.lms) (c.deref-2.ensures.value ∙ c.in_ok-fresh.ensures.unused ∙ ap (λ (s : SecretData). none_used (leaf_count s.lms)) drawn) in
     let new = parts_of g.D.Disk.state g.D.Counted.faults c.write_parts.new.key c.write_parts.new.used in
-    subst (λ (r : Result Opened CreateKeyKind). MatchResult r (λ opened. CreatesKey secret old (store_of g.D.Disk.state g.D.Counted.faults c.write_parts.new.key c.write_parts.new.used opened.secret opened.indices)) (λ why. RefusesToCreate secret old why new))
+    subst (λ (r : Result OpenedKey CreateKeyKind). MatchResult r (λ opened. CreatesKey secret old (store_of g.D.Disk.state g.D.Counted.faults c.write_parts.new.key c.write_parts.new.used opened.secret opened.indices)) (λ why. RefusesToCreate secret old why new))
     (sym is)
     (writing_failed secret old mid new c.deref.result.now (length c.deref-2.result.now) _ same later absent spelled long c.in_err-write_parts.ensures)
 
 pub returns-in_err-write_parts-clause-undrawn : goal.returns-in_err-write_parts-clause-undrawn
 returns-in_err-write_parts-clause-undrawn g c =
     let is = same_error _ DiskFault c.from_residual-in_err-write_parts.ensures.0 c.from_residual-in_err-write_parts.ensures.1 in
-    subst (λ (r : Result Opened CreateKeyKind). IfErr r (λ why. why ≡ KeyThere → g.R.Rng.stream c.draw_seed-seed.new.random ≡ g.R.Rng.stream c.args.random.now)) (sym is) (λ why. absurd cc)
+    subst (λ (r : Result OpenedKey CreateKeyKind). IfErr r (λ why. why ≡ KeyThere → g.R.Rng.stream c.draw_seed-seed.new.random ≡ g.R.Rng.stream c.args.random.now)) (sym is) (λ why. absurd cc)
 
 pub returns-clause-creates : goal.returns-clause-creates
 returns-clause-creates g c =

@@ -5,7 +5,7 @@ use Rattle.lms_tree.specs.SecretKey.{SecretData}
 use Rattle.key_index.specs.KeyState.{parts_of, store_of}
 use Rattle.key_index.specs.Opening.{Holds, OpensKey, RefusesToOpen}
 use Rattle.key_index.specs.declared.faults.KeyFaultKind.{KeyFaultKind}
-use Rattle.key_index.specs.declared.opened.Opened.{Opened}
+use Rattle.key_index.specs.declared.opened.OpenedKey.{OpenedKey}
 use Rattle.key_index.proofs.OpenLaws.{same_error, same_size}
 use Rattle.key_index.proofs.open.read_parts.Goals as goal
 
@@ -15,7 +15,7 @@ returns-in_err-seed-clause-opens g c =
     let is = same_error _ c.in_err-seed.field-0.0 c.from_residual.ensures.0 c.from_residual.ensures.1 in
     let old = parts_of g.D.Disk.state g.D.Counted.faults c.args.key.now c.args.used.now in
     let new = parts_of g.D.Disk.state g.D.Counted.faults c.read_seed.new.key c.args.used.now in
-    subst (λ (r : Result Opened KeyFaultKind). MatchResult r (λ opened. OpensKey old (store_of g.D.Disk.state g.D.Counted.faults c.read_seed.new.key c.args.used.now opened.secret opened.indices)) (λ why. RefusesToOpen old why new))
+    subst (λ (r : Result OpenedKey KeyFaultKind). MatchResult r (λ opened. OpensKey old (store_of g.D.Disk.state g.D.Counted.faults c.read_seed.new.key c.args.used.now opened.secret opened.indices)) (λ why. RefusesToOpen old why new))
     (sym is)
     record {
       same = record { key_same = failed.same; used_same = refl };

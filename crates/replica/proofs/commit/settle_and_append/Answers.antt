@@ -9,9 +9,9 @@ append-requires-clause-next g c =
     let members = c.args.history.now.members in
     let front = take c.args.from members in
     let all : members ≡ front ++ c.tail.result.now = sym (take-append-drop c.args.from members) ∙ ap (λ (l : List (List ℕ)). front ++ l) (sym c.tail.ensures) in
-    (c.args.history.now.schema.rule, (front, c.settle.ensures.kept front c.requires.log, subst (AreMembers c.args.history.now.schema.rule) all c.len.ensures.kept.members))
+    (c.args.history.now.schema.rule, (front, c.repair_if_unsure.ensures.kept front c.requires.log, subst (AreMembers c.args.history.now.schema.rule) all c.len.ensures.kept.members))
 
 pub returns-clause-any_moment : goal.returns-clause-any_moment
 returns-clause-any_moment g c =
     let front = take c.args.from c.args.history.now.members in
-    log_follows front c.args.log.now c.settle.new.log c.append.new.self (c.settle.ensures.any_moment front c.requires.log) (c.settle.ensures.kept front c.requires.log) c.append.ensures.any_moment
+    log_follows front c.args.log.now c.repair_if_unsure.new.log c.append.new.self (c.repair_if_unsure.ensures.any_moment front c.requires.log) (c.repair_if_unsure.ensures.kept front c.requires.log) c.append.ensures.any_moment

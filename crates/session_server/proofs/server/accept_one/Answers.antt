@@ -43,9 +43,9 @@ returns-in-Ok-start-clause-due g c =
     let lock : mine.lock ≡ c.args.pass.lock = ap (λ (p : Known Entry). p.lock) same.0 in
     let theirs : c.in-Ok-split.theirs.lock ≡ mine.lock = ap (λ (p : Known Entry). p.lock) same.1 ∙ sym lock in
     let items : c.push_back_reserved.new.self.items ≡ c.args.children.now.items ++ child ∷ [] = search rules in
-    All-same (λ h. IsDue c.args.rule.now c.args.peers.now mine h.promise) _ _ items
-    (All-push (λ h. IsDue c.args.rule.now c.args.peers.now mine h.promise) c.args.children.now.items child
-    (All-weaker (λ h. IsDue c.args.rule.now c.args.peers.now c.args.pass h.promise) (λ h. IsDue c.args.rule.now c.args.peers.now mine h.promise)
+    All-same (λ h. IsDue c.args.common.now.rule.now c.args.common.now.peers.now mine h.promise) _ _ items
+    (All-push (λ h. IsDue c.args.common.now.rule.now c.args.common.now.peers.now mine h.promise) c.args.children.now.items child
+    (All-weaker (λ h. IsDue c.args.common.now.rule.now c.args.common.now.peers.now c.args.pass h.promise) (λ h. IsDue c.args.common.now.rule.now c.args.common.now.peers.now mine h.promise)
     (λ h d. due_at c.args.pass mine h.promise lock d) c.args.children.now.items c.requires.due)
     (due_given mine c.in-Ok-split.theirs _ _ _ child.promise c.in-Ok-start.ensures.there theirs))
 
@@ -70,11 +70,11 @@ returns-in-Ok-start-clause-accepts g c =
 pub returns-in-Err-start-clause-accepts : goal.returns-in-Err-start-clause-accepts
 returns-in-Err-start-clause-accepts g c =
     let e = c.in-Ok.ensures in let h = e.handed in let link = c.in-Ok.link in let mine = c.in-Ok-split.mine in let theirs = c.in-Ok-split.theirs in let back = c.in-Err-start.ended in
-    let all = c.settle_all-pass.ensures in let did = c.settle.ensures in let same = c.in-Ok-split.ensures.ok in
-    let due = All-same (λ h. IsDue c.args.rule.now c.args.peers.now mine h.promise) _ _ c.reserve.ensures.items
-    (All-weaker (λ h. IsDue c.args.rule.now c.args.peers.now c.args.pass h.promise) (λ h. IsDue c.args.rule.now c.args.peers.now mine h.promise)
+    let all = c.end_sessions-pass.ensures in let did = c.end_session.ensures in let same = c.in-Ok-split.ensures.ok in
+    let due = All-same (λ h. IsDue c.args.common.now.rule.now c.args.common.now.peers.now mine h.promise) _ _ c.reserve.ensures.items
+    (All-weaker (λ h. IsDue c.args.common.now.rule.now c.args.common.now.peers.now c.args.pass h.promise) (λ h. IsDue c.args.common.now.rule.now c.args.common.now.peers.now mine h.promise)
     (λ h d. due_at c.args.pass mine h.promise (ap (λ (p : Known Entry). p.lock) same.0) d) c.args.children.now.items c.requires.due) in
-    let settled = all.goes c.args.rule.now c.args.peers.now due in let goes = settled.1 in
+    let settled = all.goes c.args.common.now.rule.now c.args.common.now.peers.now due in let goes = settled.1 in
     let begun : Begun = record { before = theirs; left = g.N.L.Source.left link; held = g.N.L.Sink.held link; faults = g.N.L.Counted.faults link } in
     let r : Ran = record {
       before = theirs;
@@ -88,7 +88,7 @@ returns-in-Err-start-clause-accepts g c =
       served = back.served;
     } in
     let kept = ap length c.reserve.ensures.items in let within = c.requires.out in let away = all.out in let more = h.out in
-    let some : 0 < (g.N.Net.state c.settle_all-pass.new.net).out = omega (arith, kept, within, away, more) in
+    let some : 0 < (g.N.Net.state c.end_sessions-pass.new.net).out = omega (arith, kept, within, away, more) in
     let first = goes_link _ _ begun h.first h.given h.out h.failed e.cause.later (ap (λ l. map (λ h. h.promise.begun) l ++ begun ∷ []) c.reserve.ensures.items)
     same.0 (ap (λ (p : Known Entry). p.seen) same.1) e.clean refl in
     let last = goes_end _ _ r did.net some did.later did.faulted refl did.pass did.seen
@@ -107,11 +107,11 @@ returns-in-Err-start-clause-accepts g c =
 pub returns-in-Err-split-clause-accepts : goal.returns-in-Err-split-clause-accepts
 returns-in-Err-split-clause-accepts g c =
     let e = c.in-Ok.ensures in let h = e.handed in let link = c.in-Ok.link in let pass = c.in-Err-split.refused.back in
-    let all = c.settle_all-pass-in-Err-split.ensures in let did = c.put_back.ensures in let same = c.in-Err-split.ensures.err in
-    let due = All-same (λ h. IsDue c.args.rule.now c.args.peers.now pass h.promise) _ _ c.reserve.ensures.items
-    (All-weaker (λ h. IsDue c.args.rule.now c.args.peers.now c.args.pass h.promise) (λ h. IsDue c.args.rule.now c.args.peers.now pass h.promise)
+    let all = c.end_sessions-pass-in-Err-split.ensures in let did = c.put_back.ensures in let same = c.in-Err-split.ensures.err in
+    let due = All-same (λ h. IsDue c.args.common.now.rule.now c.args.common.now.peers.now pass h.promise) _ _ c.reserve.ensures.items
+    (All-weaker (λ h. IsDue c.args.common.now.rule.now c.args.common.now.peers.now c.args.pass h.promise) (λ h. IsDue c.args.common.now.rule.now c.args.common.now.peers.now pass h.promise)
     (λ h d. due_at c.args.pass pass h.promise (ap (λ (p : Known Entry). p.lock) same) d) c.args.children.now.items c.requires.due) in
-    let settled = all.goes c.args.rule.now c.args.peers.now due in let goes = settled.1 in
+    let settled = all.goes c.args.common.now.rule.now c.args.common.now.peers.now due in let goes = settled.1 in
     let r : Ran = record {
       before = pass;
       after = pass;
@@ -125,9 +125,9 @@ returns-in-Err-split-clause-accepts g c =
     } in
     let begun : Begun = record { before = pass; left = g.N.L.Source.left link; held = g.N.L.Sink.held link; faults = g.N.L.Counted.faults link } in
     let kept = ap length c.reserve.ensures.items in let within = c.requires.out in let away = all.out in let more = h.out in let clean = e.clean in
-    let some : 0 < (g.N.Net.state c.settle_all-pass-in-Err-split.new.net).out = omega (arith, kept, within, away, more) in
-    let told : 0 < r.faults' → Rose (g.N.Counted.faults c.settle_all-pass-in-Err-split.new.net) (g.N.Counted.faults c.put_back.new.self) = λ some. omega (arith, some, clean) in
-    let few : length c.settle_all-pass-in-Err-split.new.tally.served.items ≤ length c.settle_all-pass-in-Err-split.new.tally.served.items + 1 = omega arith in
+    let some : 0 < (g.N.Net.state c.end_sessions-pass-in-Err-split.new.net).out = omega (arith, kept, within, away, more) in
+    let told : 0 < r.faults' → Rose (g.N.Counted.faults c.end_sessions-pass-in-Err-split.new.net) (g.N.Counted.faults c.put_back.new.self) = λ some. omega (arith, some, clean) in
+    let few : length c.end_sessions-pass-in-Err-split.new.tally.served.items ≤ length c.end_sessions-pass-in-Err-split.new.tally.served.items + 1 = omega arith in
     let first = goes_link _ _ begun h.first h.given h.out h.failed e.cause.later (ap (λ l. map (λ h. h.promise.begun) l ++ begun ∷ []) c.reserve.ensures.items)
     same (ap (λ (p : Known Entry). p.seen) same) e.clean refl in
     let never = inr (record { same_lock = refl; seen = prefix_self pass.seen; ending = refl; heads = refl; gained = refl; turns = refl; peer = refl; unread = refl; unsaid = refl }) in

@@ -1,6 +1,5 @@
 use Rattle.session_rules.proofs.Bounds.{sorted_none}
 use Rattle.session_server.proofs.session.recalled_of.Goals as goal
 
--- src/session.rt:61:1
 pub returns-in_default-clause-rising : goal.returns-in_default-clause-rising
 returns-in_default-clause-rising c = sorted_none

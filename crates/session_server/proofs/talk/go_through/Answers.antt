@@ -17,7 +17,7 @@ loop-init g c =
     let left = g.K.Source.left c.args.link.now in (
       record { still = still_self c.args.talk.pass; belongs = c.requires.belongs },
       λ start heard t none.
-          (heard, t, subst (λ (f : FedData). Reads c.args.rule.now left left f heard) (sym c.new-frames.ensures) (subst (λ (l : List FrameData). Reads c.args.rule.now left left (record { place = 0; rest = [] }) l) (sym none) (reads_nothing c.args.rule.now left))),
+          (heard, t, subst (λ (f : FedData). Reads c.args.side.now.common.now.rule.now left left f heard) (sym c.new-frames.ensures) (subst (λ (l : List FrameData). Reads c.args.side.now.common.now.rule.now left left (record { place = 0; rest = [] }) l) (sym none) (reads_nothing c.args.side.now.common.now.rule.now left))),
       (let long = c.in-Ok.ensures.len in omega (arith, long)),
     )
 
@@ -27,9 +27,9 @@ returns-in_default-clause-lock g c = refl
 pub returns-in_default-clause-talk : goal.returns-in_default-clause-talk
 returns-in_default-clause-talk g c start heard t none = (
   heard,
-  with_stops c.args.rule.now c.args.role c.args.peers.now start c.args.talk.pass c.args.talk.pass c.args.talk.session c.args.talk.session c.args.talk.is_fresh c.args.talk.is_fresh _ _ _ _ heard t
+  with_stops c.args.side.now.common.now.rule.now c.args.side.now.role c.args.side.now.common.now.peers.now start c.args.talk.pass c.args.talk.pass c.args.talk.session c.args.talk.session c.args.talk.is_fresh c.args.talk.is_fresh _ _ _ _ heard t
       (still_self c.args.talk.pass) (inl refl) refl refl refl,
-  subst (λ (l : List FrameData). ReadsTo c.args.rule.now (g.K.Source.left c.args.link.now) (g.K.Source.left c.args.link.now) l Memory) (sym none) (reads_nothing_to c.args.rule.now (g.K.Source.left c.args.link.now) Memory refl),
+  subst (λ (l : List FrameData). ReadsTo c.args.side.now.common.now.rule.now (g.K.Source.left c.args.link.now) (g.K.Source.left c.args.link.now) l Memory) (sym none) (reads_nothing_to c.args.side.now.common.now.rule.now (g.K.Source.left c.args.link.now) Memory refl),
 )
 
 pub returns-in-Some-over-clause-talk : goal.returns-in-Some-over-clause-talk
@@ -37,9 +37,9 @@ returns-in-Some-over-clause-talk g c start heard t none =
     let u = c.loop.invariant.1 start heard t none in
     let h = c.go_on-next.ensures.talk start (g.K.Source.left c.args.link.now) u.0 u.1 u.2 in (
       h.0,
-      subst (λ (o : Option Ending). IsTalkWith c.args.rule.now c.args.role c.args.peers.now start c.go_on-next.result.0.pass c.go_on-next.result.0.session c.go_on-next.result.0.is_fresh (g.K.Sink.held c.go_on-next.new.link)
+      subst (λ (o : Option Ending). IsTalkWith c.args.side.now.common.now.rule.now c.args.side.now.role c.args.side.now.common.now.peers.now start c.go_on-next.result.0.pass c.go_on-next.result.0.session c.go_on-next.result.0.is_fresh (g.K.Sink.held c.go_on-next.new.link)
           (g.K.Counted.faults c.go_on-next.new.link) h.0 o) c.in-Some-over.is h.1,
-      subst (λ (o : Option Ending). ReadsBy o c.args.rule.now (g.K.Source.left c.args.link.now) (g.K.Source.left c.go_on-next.new.link) c.go_on-next.new.frames h.0) c.in-Some-over.is h.2,
+      subst (λ (o : Option Ending). ReadsBy o c.args.side.now.common.now.rule.now (g.K.Source.left c.args.link.now) (g.K.Source.left c.go_on-next.new.link) c.go_on-next.new.frames h.0) c.in-Some-over.is h.2,
     )
 
 pub loop-preserved : goal.loop-preserved
@@ -49,9 +49,9 @@ loop-preserved g c = (
       let u = c.loop.invariant.1 start heard t none in
       let h = c.go_on-next.ensures.talk start (g.K.Source.left c.args.link.now) u.0 u.1 u.2 in (
         h.0,
-        subst (λ (o : Option Ending). IsTalkWith c.args.rule.now c.args.role c.args.peers.now start c.go_on-next.result.0.pass c.go_on-next.result.0.session c.go_on-next.result.0.is_fresh (g.K.Sink.held c.go_on-next.new.link)
+        subst (λ (o : Option Ending). IsTalkWith c.args.side.now.common.now.rule.now c.args.side.now.role c.args.side.now.common.now.peers.now start c.go_on-next.result.0.pass c.go_on-next.result.0.session c.go_on-next.result.0.is_fresh (g.K.Sink.held c.go_on-next.new.link)
             (g.K.Counted.faults c.go_on-next.new.link) h.0 o) c.in_default-over.is h.1,
-        subst (λ (o : Option Ending). ReadsBy o c.args.rule.now (g.K.Source.left c.args.link.now) (g.K.Source.left c.go_on-next.new.link) c.go_on-next.new.frames h.0) c.in_default-over.is h.2,
+        subst (λ (o : Option Ending). ReadsBy o c.args.side.now.common.now.rule.now (g.K.Source.left c.args.link.now) (g.K.Source.left c.go_on-next.new.link) c.go_on-next.new.frames h.0) c.in_default-over.is h.2,
       ),
   (
       let new = c.go_on-next.new.buffer in

@@ -13,4 +13,4 @@ returns-clause-counted c e =
     let count = c.count_places.ensures k in
     let same = ap (λ (l : List Link). count_by (is_of k) l) c.links.ensures.links in
     omega (arith, zero_is, count, same) in
-    settled_based c.args.grounds.now.shapes.now c.args.grounds.now.rows.now c.args.grounds.now.children.now (λ k. get_or c.count_places.new.causes k 0) (λ k. count_by (is_of k) c.args.deleters.now.links) c.settle.new.causes based c.settle.ensures
+    settled_based c.args.grounds.now.shapes.now c.args.grounds.now.rows.now c.args.grounds.now.children.now (λ k. get_or c.count_places.new.causes k 0) (λ k. count_by (is_of k) c.args.deleters.now.links) c.spread_causes.new.causes based c.spread_causes.ensures

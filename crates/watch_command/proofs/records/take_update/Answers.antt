@@ -1,14 +1,12 @@
-use Rattle.std.proofs.Common.{◌≡◌, ◌∷◌, [], ◌∙◌, List, ℕ, Some, None, Err, ap, find, map, not, refl, subst, sym, true, false}
+use Rattle.std.proofs.Common.{◌≡◌, ◌∙◌, List, ℕ, Some, None, Err, ap, find, map, not, refl, subst, sym, true, false}
 use Rattle.std.specs.Prelude.{is_some}
 use Rattle.update_model.specs.Batch.{store_limits}
 use Rattle.update_model.specs.Graph.{holds, lacking, position_of}
 use Rattle.update_codec.specs.Parts.{entry_of}
 use Rattle.update_check.specs.Holding.{Commits, IsAdded}
-use Rattle.update_check.specs.declared.holder.CommitFault.{CommitFault}
-use Rattle.update_check.specs.declared.holder.CommitFault.TheVariants.{Full}
 use Rattle.outcomes.specs.declared.refusal.Refusal.{Refusal}
 use Rattle.watch_command.specs.Records.{StopsTaking}
-use Rattle.watch_command.proofs.Taking.{committed, known, lacks, next, too_much}
+use Rattle.watch_command.proofs.Taking.{committed, known, lacks, next, not_changed, not_taken}
 use Rattle.watch_command.proofs.records.take_update.Goals as goal
 
 pub returns-then-is_some-clause-taken : goal.returns-then-is_some-clause-taken
@@ -37,25 +35,21 @@ returns-in-Ok-clause-taken g c =
     let added = subst (λ (l : List (List ℕ)). IsAdded store_limits members l c.in-Ok._committed c.commit.new.self.history.members) c.in_ok-batch.ensures c.in-Ok.ensures.commits in
     committed members c.args.update c.in-Ok._committed c.commit.new.self.history.members (next members c.args.update new none) added
 
-pub returns-in-Err-Full-clause-stopped : goal.returns-in-Err-Full-clause-stopped
-returns-in-Err-Full-clause-stopped g c =
+pub returns-in-Err-clause-stopped : goal.returns-in-Err-clause-stopped
+returns-in-Err-clause-stopped g c =
     let members = c.args.replica.now.history.members in
+    let old = c.args.replica.now.log.faults in
+    let faults = c.commit.new.self.log.faults in
+    let after = c.commit.new.self.history.members in
     let new : is_some (position_of (map entry_of members) (entry_of c.args.update).id) ≡ false =
     (let a = c.is_some.ensures in let b = c.position.ensures in let d = c.id.ensures in let e = c.if-is_some.false in cc) in
     let none : lacking (map entry_of members) (entry_of c.args.update) ≡ None =
     ap (find (λ id. not (holds (map entry_of members) id))) (sym c.preds.ensures.value) ∙ sym c.first_lacking.ensures ∙ c.in_default.is in
-    let P : CommitFault → List (List ℕ) → Type 0 = λ w l. Commits store_limits members l (Err w) c.args.replica.now.log.faults c.commit.new.self.log.faults c.commit.new.self.history.members in
-    let much : P Full (c.args.update ∷ []) = subst (P Full) c.in_ok-batch.ensures (subst (λ (w : CommitFault). P w c.in_ok-batch.batch.items) c.in-Err-Full.field-0-is c.in-Err-Full.ensures.commits) in
-    subst (λ (w : Refusal). StopsTaking members c.args.number c.args.update c.args.replica.now.log.faults c.commit.new.self.log.faults w) (sym c.refused-in-Err-Full.ensures)
-    (refl, too_much members c.args.update (next members c.args.update new none) much.0)
+    let commits = subst (λ (l : List (List ℕ)). Commits store_limits members l (Err c.in-Err.fault) old faults after) c.in_ok-batch.ensures c.in-Err.ensures.commits in
+    subst (λ (w : Refusal). StopsTaking members c.args.number c.args.update old faults w) (sym c.not_added.ensures)
+    (not_taken members c.args.update after old faults c.args.number c.in-Err.fault (next members c.args.update new none) commits)
 
-pub returns-in-Err-DiskFault-clause-stopped : goal.returns-in-Err-DiskFault-clause-stopped
-returns-in-Err-DiskFault-clause-stopped g c =
-    let members = c.args.replica.now.history.members in
-    let new : is_some (position_of (map entry_of members) (entry_of c.args.update).id) ≡ false =
-    (let a = c.is_some.ensures in let b = c.position.ensures in let d = c.id.ensures in let e = c.if-is_some.false in cc) in
-    let none : lacking (map entry_of members) (entry_of c.args.update) ≡ None =
-    ap (find (λ id. not (holds (map entry_of members) id))) (sym c.preds.ensures.value) ∙ sym c.first_lacking.ensures ∙ c.in_default.is in
-    let P : CommitFault → Type 0 = λ w. Commits store_limits members c.in_ok-batch.batch.items (Err w) c.args.replica.now.log.faults c.commit.new.self.log.faults c.commit.new.self.history.members in
-    let rose = subst P c.in-Err-DiskFault.field-0-is c.in-Err-DiskFault.ensures.commits in
-    (rose.0, next members c.args.update new none)
+pub returns-in-Err-clause-same : goal.returns-in-Err-clause-same
+returns-in-Err-clause-same g c =
+    not_changed c.args.replica.now.history.members c.args.update c.commit.new.self.history.members c.args.replica.now.log.faults c.commit.new.self.log.faults c.in_ok-batch.batch.items c.in-Err.fault
+    c.in-Err.ensures.commits

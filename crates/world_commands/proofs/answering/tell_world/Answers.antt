@@ -16,7 +16,7 @@ returns-in-Ok g c =
 pub returns-in-Err : goal.returns-in-Err
 returns-in-Err g c =
     let source : SourceState = record { left = g.S.Source.left c.args.input.now; faults = g.S.Counted.faults c.args.input.now } in
-    let source_new : SourceState = record { left = g.S.Source.left c.world_in.new.input; faults = g.S.Counted.faults c.world_in.new.input } in
+    let source_new : SourceState = record { left = g.S.Source.left c.run_world.new.input; faults = g.S.Counted.faults c.run_world.new.input } in
     let sink : SinkState = record { held = g.K.Sink.held c.args.out.now; faults = g.K.Counted.faults c.args.out.now } in
     let sink_new : SinkState = record { held = g.K.Sink.held c.refuse.new.out; faults = g.K.Counted.faults c.refuse.new.out } in
     not_reported c.args.audit source source_new sink sink_new c.refuse.result c.in-Err.why c.in-Err.ensures.refused c.refuse.ensures

@@ -51,16 +51,16 @@ returns-in_err-lower-clause-keeps g c =
     subst (λ (h : HssState). KeepsHss before c.args.self.now after h) now
     (subst (λ (h : HssState). KeepsHss before h after (hss_of c.as_str-dir.result.now top None)) same c.in_err-lower.ensures.keeps_none)
 
-pub seal_by-sealed-requires-clause-signed : goal.seal_by-sealed-requires-clause-signed
-seal_by-sealed-requires-clause-signed g c =
+pub seal_below-sealed-requires-clause-signed : goal.seal_below-sealed-requires-clause-signed
+seal_below-sealed-requires-clause-signed g c =
     let lower : LowerState = c.in_ok-lower.lower in
     subst (λ (k : AuthorKey). Signed k (key_bytes (public_key lower.key.secret)) lower.top_sig) (sym c.public.ensures.value) c.in_ok-lower.ensures.keeps.sound.signed
 
-pub seal_by-sealed-requires-clause-has_left : goal.seal_by-sealed-requires-clause-has_left
-seal_by-sealed-requires-clause-has_left g c = c.in_ok-lower.ensures.has_left
+pub seal_below-sealed-requires-clause-has_left : goal.seal_below-sealed-requires-clause-has_left
+seal_below-sealed-requires-clause-has_left g c = c.in_ok-lower.ensures.has_left
 
-pub put_in-requires : goal.put_in-requires
-put_in-requires g c = c.take.ensures.after
+pub fill-requires : goal.fill-requires
+fill-requires g c = c.take.ensures.after
 
 pub returns-clause-signs : goal.returns-clause-signs
 returns-clause-signs g c =
@@ -71,12 +71,12 @@ returns-clause-signs g c =
     let between = g.R.Rng.stream c.ready_lower.new.random in
     let top = c.ready_lower.new.top in
     let lower : LowerState = c.in_ok-lower.lower in
-    let signed : LowerState = c.seal_by-sealed.new.lower in
+    let signed : LowerState = c.seal_below-sealed.new.lower in
     let ready : HssState = hss_of c.as_str-dir.result.now top (Some lower) in
     let same = hss_same c.as_str-dir.result.now (string_bytes here.dir) here.top c.take.result here.lower c.as_str-dir.ensures.value c.take.ensures.value ∙ c.self.view_is in
-    let now = hss_same (string_bytes here.dir) c.as_str-dir.result.now top c.put_in.new.place (Some signed) (sym c.as_str-dir.ensures.value) c.put_in.ensures in
+    let now = hss_same (string_bytes here.dir) c.as_str-dir.result.now top c.fill.new.place (Some signed) (sym c.as_str-dir.ensures.value) c.fill.ensures in
     let readies = subst (λ (h : HssState). Readies random before h ready after between) same c.in_ok-lower.ensures.readies in
-    one_ok c.seal_by-sealed.result _ _ (λ seal seals. record { ready = ready; between = between; readies = readies; lower = lower; is_lower = refl; signed = signed; seals = seals; now = now }) c.seal_by-sealed.ensures.seals
+    one_ok c.seal_below-sealed.result _ _ (λ seal seals. record { ready = ready; between = between; readies = readies; lower = lower; is_lower = refl; signed = signed; seals = seals; now = now }) c.seal_below-sealed.ensures.seals
 
 pub returns-clause-refused : goal.returns-clause-refused
 returns-clause-refused g c =
@@ -87,12 +87,12 @@ returns-clause-refused g c =
     let between = g.R.Rng.stream c.ready_lower.new.random in
     let top = c.ready_lower.new.top in
     let lower : LowerState = c.in_ok-lower.lower in
-    let signed : LowerState = c.seal_by-sealed.new.lower in
+    let signed : LowerState = c.seal_below-sealed.new.lower in
     let ready : HssState = hss_of c.as_str-dir.result.now top (Some lower) in
     let same = hss_same c.as_str-dir.result.now (string_bytes here.dir) here.top c.take.result here.lower c.as_str-dir.ensures.value c.take.ensures.value ∙ c.self.view_is in
-    let now = hss_same (string_bytes here.dir) c.as_str-dir.result.now top c.put_in.new.place (Some signed) (sym c.as_str-dir.ensures.value) c.put_in.ensures in
+    let now = hss_same (string_bytes here.dir) c.as_str-dir.result.now top c.fill.new.place (Some signed) (sym c.as_str-dir.ensures.value) c.fill.ensures in
     let readies = subst (λ (h : HssState). Readies random before h ready after between) same c.in_ok-lower.ensures.readies in
-    one_err c.seal_by-sealed.result _ _ (λ why none. not_sealed ready between lower signed readies refl none now) c.seal_by-sealed.ensures.refused
+    one_err c.seal_below-sealed.result _ _ (λ why none. not_sealed ready between lower signed readies refl none now) c.seal_below-sealed.ensures.refused
 
 pub returns-clause-sealed : goal.returns-clause-sealed
 returns-clause-sealed g c =
@@ -100,7 +100,7 @@ returns-clause-sealed g c =
     let top = c.ready_lower.new.top in
     let same = hss_same c.as_str-dir.result.now (string_bytes here.dir) here.top c.take.result here.lower c.as_str-dir.ensures.value c.take.ensures.value ∙ c.self.view_is in
     let key : c.public.result ≡ public_key c.args.self.now.top.secret = c.public.ensures.value ∙ ap public_key c.in_ok-lower.ensures.keeps.secret ∙ ap (λ (h : HssState). public_key h.top.secret) same in
-    one_ok c.seal_by-sealed.result _ _ (λ seal sealed. subst (λ (k : AuthorKey). SealedBy (public_bytes k) c.args.msg.now seal.items) key sealed) c.seal_by-sealed.ensures.sealed
+    one_ok c.seal_below-sealed.result _ _ (λ seal sealed. subst (λ (k : AuthorKey). SealedBy (public_bytes k) c.args.msg.now seal.items) key sealed) c.seal_below-sealed.ensures.sealed
 
 pub returns-clause-keeps : goal.returns-clause-keeps
 returns-clause-keeps g c =
@@ -108,16 +108,16 @@ returns-clause-keeps g c =
     let before = g.H.Shelf.state c.args.shelf.now in
     let after = g.H.Shelf.state c.ready_lower.new.shelf in
     let between = g.R.Rng.stream c.ready_lower.new.random in
-    let left = g.R.Rng.stream c.seal_by-sealed.new.random in
+    let left = g.R.Rng.stream c.seal_below-sealed.new.random in
     let top = c.ready_lower.new.top in
     let lower : LowerState = c.in_ok-lower.lower in
-    let signed : LowerState = c.seal_by-sealed.new.lower in
+    let signed : LowerState = c.seal_below-sealed.new.lower in
     let ready : HssState = hss_of c.as_str-dir.result.now top (Some lower) in
     let same = hss_same c.as_str-dir.result.now (string_bytes here.dir) here.top c.take.result here.lower c.as_str-dir.ensures.value c.take.ensures.value ∙ c.self.view_is in
-    let now = hss_same (string_bytes here.dir) c.as_str-dir.result.now top c.put_in.new.place (Some signed) (sym c.as_str-dir.ensures.value) c.put_in.ensures in
+    let now = hss_same (string_bytes here.dir) c.as_str-dir.result.now top c.fill.new.place (Some signed) (sym c.as_str-dir.ensures.value) c.fill.ensures in
     let keeps = subst (λ (h : HssState). KeepsHss before h after ready) same c.in_ok-lower.ensures.keeps in
-    let follows = sealing_follows c.seal_by-sealed.result (λ v. v.items) lower signed between left c.args.msg.now c.seal_by-sealed.ensures.seals c.seal_by-sealed.ensures.refused in
+    let follows = sealing_follows c.seal_below-sealed.result (λ v. v.items) lower signed between left c.args.msg.now c.seal_below-sealed.ensures.seals c.seal_below-sealed.ensures.refused in
     subst (λ (h : HssState). KeepsHss before c.args.self.now after h) (sym now) (sealing_keeps before after c.args.self.now ready lower signed keeps refl follows)
 
 pub returns-clause-failed : goal.returns-clause-failed
-returns-clause-failed g c is = inr (inr (subst (λ (l : Option LowerState). LowerRose l) (sym c.put_in.ensures) (c.in_ok-lower.lower.key.parts.used_faults, c.seal_by-sealed.ensures.failed is)))
+returns-clause-failed g c is = inr (inr (subst (λ (l : Option LowerState). LowerRose l) (sym c.fill.ensures) (c.in_ok-lower.lower.key.parts.used_faults, c.seal_below-sealed.ensures.failed is)))

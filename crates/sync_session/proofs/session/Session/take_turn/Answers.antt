@@ -22,25 +22,25 @@ returns-in-Some-clause-stands g c = stands_end _ c.args.self.now c.end.new.self 
 pub commit-requires : goal.commit-requires
 commit-requires g c = rw c.in_ok-batch.ensures.batch (subst (λ (k : Kept). All (IsChecked (g.H.Holder.rule c.args.holder.now)) (updates_in k)) (sym c.self.view_is) c.requires.stands.under)
 
-pub settle-requires-clause-within : goal.settle-requires-clause-within
-settle-requires-clause-within g c = waits_within _ _ _ c.self.inside.pending.waiting c.self.inside.pending.gathered _ _ c.in-Ok.ensures.commits c.in_ok-batch.ensures.batch c.in_ok-batch.ensures.within
+pub answer_turn-requires-clause-within : goal.answer_turn-requires-clause-within
+answer_turn-requires-clause-within g c = waits_within _ _ _ c.self.inside.pending.waiting c.self.inside.pending.gathered _ _ c.in-Ok.ensures.commits c.in_ok-batch.ensures.batch c.in_ok-batch.ensures.within
 
-pub settle-requires-clause-closed : goal.settle-requires-clause-closed
-settle-requires-clause-closed g c = closed_after _ _ _ _ _ c.in-Ok.ensures.commits c.requires.held.closed
+pub answer_turn-requires-clause-closed : goal.answer_turn-requires-clause-closed
+answer_turn-requires-clause-closed g c = closed_after _ _ _ _ _ c.in-Ok.ensures.commits c.requires.held.closed
 
 pub returns-in-Ok-clause-takes : goal.returns-in-Ok-clause-takes
 returns-in-Ok-clause-takes g c =
-    answers_turn (g.H.Holder.limits c.args.holder.now) c.args.self.now _ c.settle.new.self (g.H.Holder.members c.args.holder.now) c.in_ok-batch.batch.items (g.H.Holder.members c.commit.new.self) c.in-Ok.committed _ c.args.turn.now c.settle.result
+    answers_turn (g.H.Holder.limits c.args.holder.now) c.args.self.now _ c.answer_turn.new.self (g.H.Holder.members c.args.holder.now) c.in_ok-batch.batch.items (g.H.Holder.members c.commit.new.self) c.in-Ok.committed _ c.args.turn.now c.answer_turn.result
     (ap (λ (k : Kept). record k { pending = c.take.new.self }) c.self.view_is ∙ ap (λ (p : PendingData). record c.args.self.now { pending = p }) c.in_ok-batch.ensures.state)
     refl (fault_at _ c.args.self.now c.turn_fault-fault.result _ c.args.turn.now (g.H.Holder.members c.args.holder.now) c.self.view_is refl c.turn_fault-fault.ensures c.in_default.is)
     c.requires.stands.below
-    (subst (λ (k : Kept). c.in_ok-batch.batch.items ≡ k.pending.waiting ++ k.pending.gathered) c.self.view_is c.in_ok-batch.ensures.batch) c.in-Ok.ensures.commits c.settle.ensures.settles
+    (subst (λ (k : Kept). c.in_ok-batch.batch.items ≡ k.pending.waiting ++ k.pending.gathered) c.self.view_is c.in_ok-batch.ensures.batch) c.in-Ok.ensures.commits c.answer_turn.ensures.settles
 
 pub returns-in-Ok-clause-stands : goal.returns-in-Ok-clause-stands
 returns-in-Ok-clause-stands g c =
-    answers_stands (g.H.Holder.limits c.args.holder.now) (g.H.Holder.rule c.args.holder.now) c.args.self.now _ c.settle.new.self (g.H.Holder.members c.args.holder.now) c.in_ok-batch.batch.items (g.H.Holder.members c.commit.new.self) c.in-Ok.committed _ c.settle.result
+    answers_stands (g.H.Holder.limits c.args.holder.now) (g.H.Holder.rule c.args.holder.now) c.args.self.now _ c.answer_turn.new.self (g.H.Holder.members c.args.holder.now) c.in_ok-batch.batch.items (g.H.Holder.members c.commit.new.self) c.in-Ok.committed _ c.answer_turn.result
     (ap (λ (k : Kept). record k { pending = c.take.new.self }) c.self.view_is ∙ ap (λ (p : PendingData). record c.args.self.now { pending = p }) c.in_ok-batch.ensures.state)
-    (subst (λ (k : Kept). c.in_ok-batch.batch.items ≡ k.pending.waiting ++ k.pending.gathered) c.self.view_is c.in_ok-batch.ensures.batch) c.in-Ok.ensures.commits c.requires.stands c.settle.ensures.settles c.settle.ensures.seeks
+    (subst (λ (k : Kept). c.in_ok-batch.batch.items ≡ k.pending.waiting ++ k.pending.gathered) c.self.view_is c.in_ok-batch.ensures.batch) c.in-Ok.ensures.commits c.requires.stands c.answer_turn.ensures.settles c.answer_turn.ensures.seeks
 
 pub returns-in-Err-DiskFault-clause-takes : goal.returns-in-Err-DiskFault-clause-takes
 returns-in-Err-DiskFault-clause-takes g c =
@@ -61,8 +61,8 @@ returns-in-Ok-clause-grows g c =
 
 pub returns-in-Ok-clause-store : goal.returns-in-Ok-clause-store
 returns-in-Ok-clause-store g c =
-    store_free c.settle.result (λ out. SettlesTo (map entry_of (g.H.Holder.members c.commit.new.self)) (length c.in-Ok.committed.added) c.in-Ok.committed.waiting _ _ c.settle.new.self out) _
-    (λ out s. settles_not_store _ _ _ _ _ _ out s) c.settle.ensures.settles
+    store_free c.answer_turn.result (λ out. SettlesTo (map entry_of (g.H.Holder.members c.commit.new.self)) (length c.in-Ok.committed.added) c.in-Ok.committed.waiting _ _ c.answer_turn.new.self out) _
+    (λ out s. settles_not_store _ _ _ _ _ _ out s) c.answer_turn.ensures.settles
 
 pub returns-in-Err-Full-clause-store : goal.returns-in-Err-Full-clause-store
 returns-in-Err-Full-clause-store g c = λ is. absurd (closed_not_store Full c.refuse.result (λ h. cc) c.refuse.ensures.out is)
@@ -83,8 +83,8 @@ pub returns-in-Err-DiskFault-clause-within : goal.returns-in-Err-DiskFault-claus
 returns-in-Err-DiskFault-clause-within g c =
     none_within (g.H.Holder.members c.commit.new.self) c.refuse-in-Err-DiskFault.result.send (closing_sends Store c.refuse-in-Err-DiskFault.result c.refuse-in-Err-DiskFault.ensures.out)
 
-pub settle-requires-clause-seeks : goal.settle-requires-clause-seeks
-settle-requires-clause-seeks g c =
+pub answer_turn-requires-clause-seeks : goal.answer_turn-requires-clause-seeks
+answer_turn-requires-clause-seeks g c =
     seeks_committed (g.H.Holder.limits c.args.holder.now) c.args.self.now _ (g.H.Holder.members c.args.holder.now) c.in_ok-batch.batch.items (g.H.Holder.members c.commit.new.self) c.in-Ok.committed
     (ap (λ (k : Kept). record k { pending = c.take.new.self }) c.self.view_is ∙ ap (λ (p : PendingData). record c.args.self.now { pending = p }) c.in_ok-batch.ensures.state)
     (subst (λ (k : Kept). c.in_ok-batch.batch.items ≡ k.pending.waiting ++ k.pending.gathered) c.self.view_is c.in_ok-batch.ensures.batch) c.in-Ok.ensures.commits

@@ -1,6 +1,0 @@
-use Rattle.std.proofs.lemmas.List.{get_or-replicate}
-use Rattle.std.proofs.Common.{length}
-use Rattle.tuple_state.proofs.settling.settle.Goals as goal
-
-pub thread-requires-clause-none : goal.thread-requires-clause-none
-thread-requires-clause-none c table low = get_or-replicate 256 table (length c.args.grounds.now.rows.now) 0 low

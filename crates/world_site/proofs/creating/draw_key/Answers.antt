@@ -1,6 +1,0 @@
-use Rattle.world_site.proofs.Drawing.{holds_made}
-use Rattle.world_site.proofs.creating.draw_key.Goals as goal
-
-pub returns-in-Ok-clause-holds : goal.returns-in-Ok-clause-holds
-returns-in-Ok-clause-holds c =
-    holds_made c.args.types.lms c.args.types.ots c.args.words.now c.new-key.result c.new-used.result c.in-Ok.key c.new-key.ensures c.new-used.ensures c.in-Ok.ensures.creates

@@ -1,5 +1,0 @@
-use Rattle.std.proofs.Common.{◌≡◌, [], replicate}
-use Rattle.world_site.proofs.heads.no_heads.Given as goal
-
-abbrev pub invariant-loop : goal.invariant-loop
-invariant-loop l = l.none.items ≡ replicate l.counter []
