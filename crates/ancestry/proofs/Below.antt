@@ -1,14 +1,9 @@
 -- Numbers below a bound that pass a test.
 use Rattle.std.proofs.Common.{◌≡◌, ◌⊎◌, inl, inr, ℕ, zero, suc, ◌<◌, ◌≤◌, Bool, true, false, cond, refl, sym, subst, arith, ltb}
-use Rattle.std.proofs.lemmas.Bool.{ltb-true, ltb-false, cases_lt, cases_eq, or_parts, or_right, or_from, or_cases}
+use Rattle.std.proofs.lemmas.Bool.{ltb-true, ltb-false, cases_lt, cases_eq, or_parts, or_from, or_cases}
 use Rattle.ancestry.specs.Below.{any_below, count_below, first_below}
 
-pub any_intro : (t : ℕ → Bool) (n k : ℕ) → k < n → t k ≡ true → any_below t n ≡ true
 unfolding any_below
-any_intro t zero k low e = absurd (omega arith)
-any_intro t (suc n) k low e = elim (cases_eq k n) [
-  | inl same ↦ let here : t n ≡ true = subst (λ i. t i ≡ true) same e in rw here refl
-  | inr apart ↦ or_right (t n) (any_below t n) (any_intro t n k (omega arith) e)
 ]
 
 pub any_none : (t : ℕ → Bool) (n k : ℕ) → any_below t n ≡ false → k < n → t k ≡ false

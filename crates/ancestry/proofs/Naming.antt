@@ -123,11 +123,6 @@ named_push graph namers new preds lower earlier are same kept noted = record {
   ];
 }
 
-pub named_same : (graph namers new : List (List ℕ)) → AreNamers graph namers → length new ≡ length namers
-    → ((p q : ℕ) → q < length graph → is_noted namers p q ≡ true → is_noted new p q ≡ true) → AreNamers graph new
-named_same graph namers new are same kept = record {
-  long = same ∙ are.long;
-  all = λ p q low e. kept p q (names_there graph q p e) (are.all p q low e);
 }
 
 pub named_front : (graph more namers : List (List ℕ)) → AreLower (graph ++ more) → length namers ≡ length (graph ++ more)

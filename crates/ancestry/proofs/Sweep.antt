@@ -67,10 +67,6 @@ swept_first graph a b n k marks low is next are = record {
 
 -- ---- one more member
 
-pub swept_unmarked : (graph : List (List ℕ)) (a b k : ℕ) (marks : List Bool) → mark_at marks k ≡ false → IsSwept graph a b (k + 1) marks → IsSwept graph a b k marks
-swept_unmarked graph a b k marks none swept = record {
-  sound = swept.sound;
-  complete = λ above. let found = swept.complete above in (found.0, other found.0 found.1 found.2, found.2, found.3);
 }
   where
     other : (j : ℕ) → j < k + 1 → mark_at marks j ≡ true → j < k

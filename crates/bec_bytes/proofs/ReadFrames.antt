@@ -24,14 +24,6 @@ behind None b c front P Q came found each = tt
 behind (Some xs) None c front P Q came found each = absurd came
 behind (Some xs) (Some ys) c front P Q came found each = (found.0, found.1, subst (λ (w : List ℕ). Q w found.0) (sym came) (each ys found.0 found.2))
 
--- what is read of a length is within what stands there
-pub front_within : (limit : ℕ) (front rest : List ℕ) → length front ≤ 4 → StaysWithin limit (front ++ rest) rest
-front_within limit front rest few = (length front, least (nat_le (length_at (front ++ rest)) limit), sym (drop_at front rest (length front) refl))
-  where
-    least : (b : Bool) → length front ≤ (if b then 4 + length_at (front ++ rest) else 4)
-    least true = omega (arith, few)
-    least false = few
-
 -- a whole piece is what stands there
 pub held_within : (limit : ℕ) (bytes piece rest : List ℕ) → limit < 2 ^ 32 → HoldsPiece limit bytes piece rest → StaysWithin limit bytes rest
 held_within limit bytes piece rest fits h =

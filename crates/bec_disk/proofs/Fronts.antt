@@ -2,11 +2,10 @@
 use Rattle.std.proofs.Common.{◌≡◌, ◌⊎◌, inl, inr, ℕ, ◌<◌, ◌≤◌, List, [], ◌∷◌, length, take, refl, sym, ◌∙◌, ap, subst, arith, IsTrue, Result, Ok, Err}
 use Rattle.std.proofs.lemmas.List.{get_or-take, length-take-le}
 use Rattle.std.specs.Prelude.{OnOk, OnErr}
-use Rattle.bec_disk.specs.Disk.{Moment, DiskState, IsImage, IsSettled, IsUnwritten, IsSameDisk, Writes, Cuts, Syncs, moments, synced_at, written_at, cut_at}
+use Rattle.bec_disk.specs.Disk.{Moment, DiskState, IsImage, IsSettled, IsUnwritten, IsSameDisk, Writes, moments, synced_at, written_at}
 use Rattle.bec_disk.specs.Front.{AllBehind, Keeps, WritesBehind}
 use Rattle.bec_disk.proofs.Images.{same_numbers}
 use Rattle.bec_disk.proofs.Moments.{newest-same, no_moment, one_moment, stays, followed_by, told, told_before}
-use Rattle.bec_disk.proofs.Runs.{then_synced}
 
 unwritten_before : (n : ℕ) (ranges : List (ℕ × ℕ)) (i : ℕ) → i < n → AllBehind n ranges → IsUnwritten ranges i
 unwritten_before n [] i lt behind = tt
@@ -31,9 +30,6 @@ Keeps-settled n disk settled long = subst (λ (m : Moment). Keeps n (take n disk
 
 pub Keeps-written : (n : ℕ) (front : List ℕ) (m : Moment) (at k : ℕ) → Keeps n front m → n ≤ at → Keeps n front (written_at at k m)
 Keeps-written n front m at k keeps le = record { is_front = keeps.is_front; long = keeps.long; longer = keeps.longer; behind = (le, keeps.behind) }
-
-pub Keeps-cut : (n : ℕ) (front : List ℕ) (m : Moment) (len : ℕ) → Keeps n front m → n ≤ len → Keeps n front (cut_at len m)
-Keeps-cut n front m len keeps le = record { is_front = keeps.is_front; long = keeps.long; longer = omega (arith, keeps.longer); behind = keeps.behind }
 
 -- a run that begins with a front that is kept
 pub behind-kept : (n : ℕ) (front : List ℕ) (old : DiskState) → (IsTrue old.tells → Keeps n front old.now) → WritesBehind n front old old
@@ -63,18 +59,6 @@ pub behind-write : {T E : Type 0} (n : ℕ) (front : List ℕ) (old mid new : Di
 behind-write n front old mid new at bytes result so_far le writes =
     one_call n front old mid new (written_at at (length bytes) mid.now) so_far writes.disk writes.counts (λ keeps. Keeps-written n front mid.now at (length bytes) keeps le)
 
--- a cut behind the front
-pub behind-cut : {T E : Type 0} (n : ℕ) (front : List ℕ) (old mid new : DiskState) (len : ℕ) (result : Result T E) → WritesBehind n front old mid → n ≤ len → Cuts mid len result new
-    → WritesBehind n front old new
-behind-cut n front old mid new len result so_far le cuts =
-    one_call n front old mid new (cut_at len mid.now) so_far cuts.disk cuts.counts (λ keeps. Keeps-cut n front mid.now len keeps le)
-
--- a sync keeps the front too
-pub behind-sync : {T E : Type 0} (n : ℕ) (front : List ℕ) (old mid new : DiskState) (result : Result T E) → WritesBehind n front old mid → (IsTrue mid.tells → IsImage mid.now mid.seen) → Syncs mid result new
-    → WritesBehind n front old new
-behind-sync n front old mid new result so_far reads syncs = record {
-  keeps = λ tells. let mid_tells = told old mid so_far.run.disk tells in by_result result (syncs.counts mid_tells) (syncs.failed mid_tells) (so_far.keeps tells) (reads mid_tells);
-  run = then_synced old mid new (λ c. take n c ≡ front) result so_far.run reads syncs;
 }
   where
     by_result : {T E : Type 0} (result : Result T E) → OnOk result (moments new ≡ synced_at mid.seen ∷ moments mid) → OnErr result (new ≡ mid) → Keeps n front mid.now → IsImage mid.now mid.seen → Keeps n front new.now

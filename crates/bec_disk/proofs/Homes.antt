@@ -1,5 +1,5 @@
 -- Shelves on which no part is handed out.
-use Rattle.std.proofs.Common.{◌≡◌, ◌≢◌, ⊎_elim, ℕ, Bool, true, false, refl, sym, ◌∙◌, ap, subst, Some, None, Option, Ok, Err, Result, IfOk, OnErr, OnOk}
+use Rattle.std.proofs.Common.{◌≡◌, ◌≢◌, ⊎_elim, ℕ, Bool, true, false, refl, sym, ◌∙◌, ap, subst, Some, None, Option, Ok, Err, Result, OnErr, OnOk}
 use Rattle.std.specs.Prelude.{IsTrue}
 use Rattle.bec_disk.specs.Disk.{DiskState, made_part}
 use Rattle.bec_disk.specs.Left.{IsDiskLeft, IsPartLeft}
@@ -58,11 +58,3 @@ makes_home old new place (Err fault) makes home =
 pub makes_others : (old new : ShelfState) (place : Slot) (result : Result MemDiskState DiskFault) → Makes state_of old place result new → OnOk result (KeepsOthers old place new)
 makes_others old new place (Ok disk) makes = makes.others
 makes_others old new place (Err fault) makes = tt {0}
-
-pub makes_of : (old new : ShelfState) (place : Slot) (result : Result MemDiskState DiskFault) → IsTrue old.tells → Makes state_of old place result new → IfOk result (λ disk. disk.slot ≡ Some place)
-makes_of old new place (Ok disk) tells makes = ap (λ (s : DiskState). s.slot) (makes.part tells)
-makes_of old new place (Err fault) tells makes = tt {0}
-
-pub makes_out : (old new : ShelfState) (place : Slot) (result : Result MemDiskState DiskFault) → IsTrue old.tells → Makes state_of old place result new → OnOk result (new.parts place ≡ out)
-makes_out old new place (Ok disk) tells makes = makes.is_out tells
-makes_out old new place (Err fault) tells makes = tt {0}

@@ -3,7 +3,6 @@ use Rattle.std.proofs.Common.{◌≡◌, ◌≢◌, ◌⊎◌, inl, inr, ⊎_eli
 use Rattle.std.proofs.lemmas.List.{take_more}
 use Rattle.std.specs.Prelude.{nat_le, if◌then◌else◌, Option}
 use Rattle.std.proofs.lemmas.Bool.Decides.{nat_tests}
-use Rattle.std.proofs.lemmas.Bool.{false≢true}
 use Rattle.bec_bytes.specs.Causes.{one_more}
 use Rattle.bec_disk.specs.Disk.{Moment, IsImage, handed_out, Writes, Cuts, Syncs, overwritten, written_at}
 use Rattle.bec_disk.specs.Plan.{PlanState, IsToFail}
@@ -40,10 +39,6 @@ failed_recorded was calls mid plan call moment is same fails (inr none) = record
   failed = λ to_fail. inr (ap (λ (p : PlanState). p.unrecorded) none.1 ∙ ap one_more same);
   passed = λ passes. absurd (passes (fails refl));
 }
-
--- a call that was not to fail leaves nothing out
-pub passed_recorded : (was new : MemDiskState) (moment : Moment) → (IsToFail was.plan → false ≡ true) → new.plan.unrecorded ≡ was.plan.unrecorded → IsRecorded was moment new
-passed_recorded was new moment fails same = record { failed = λ to_fail. absurd (false≢true (fails to_fail)); passed = λ passes. same }
 
 -- a write that begins at or before the end
 pub after_write : (history : History) (at : ℕ) (bytes : List ℕ) → at ≤ length history.seen → after_call history (Wrote at bytes) ≡ goes_to history (overwritten history.seen at bytes) (written_at at (length bytes) history.now)

@@ -86,15 +86,6 @@ none_so_far ids n is = record {
   exact = λ k. ap (λ b. bit_at b (7 - k % 8) == 1) (zero_at n (k / 8)) ∙ ap (λ b. b == 1) (bit_at-zero (7 - k % 8));
 }
 
--- one more id
-pub one_more_id : (ids : List UpdateId) (i : ℕ) (now next : List ℕ) (d : UpdateId) → i < length ids → AreSoFar ids i now → length next ≡ length now
-    → ((j : ℕ) → is_bit_set next j ≡ (is_bit_set now j || is_position (8 * length now) (get_or ids i d) j)) → AreSoFar ids (i + 1) next
-one_more_id ids i now next d low so_far long more = record {
-  len = long ∙ so_far.len;
-  exact = λ k.
-      more k ∙ ap (λ b. b || is_position (8 * length now) (get_or ids i d) k) (so_far.exact k)
-      ∙ sym (list_any_more (λ id. is_position (8 * length now) id k) ids i d low)
-      ∙ ap (λ (n : ℕ). list_any (λ id. is_position (8 * n) id k) (take (i + 1) ids)) (sym long);
 }
 
 -- all bits that there are at the positions are set

@@ -30,14 +30,14 @@ use Rattle.byzantine_world.specs.declared.talk.Liar.{Liar}
 use Rattle.byzantine_world.specs.declared.talk.Side.{Side}
 use Rattle.byzantine_world.specs.declared.talk.Talk.{Talk}
 use Rattle.byzantine_world.specs.declared.talk.Talk.TheVariants as talks
-use Rattle.byzantine_world.proofs.Cutting.{none_steps, over_shown, session_shown}
+use Rattle.byzantine_world.proofs.Cutting.{over_shown, session_shown}
 use Rattle.byzantine_world.proofs.Talking.{list_now, talk_shows, talk_stands}
 use Rattle.world_rules.specs.Happens.{FeedsIn, HappensTo, TakesAll, all_met, can_feed, ending, is_store, none, one_more}
 use Rattle.world_rules.specs.declared.event.Event.TheVariants as events
 use Rattle.world_rules.specs.declared.event.Stepped.TheVariants as stepped
 use Rattle.world_rules.specs.Lists.{Extends}
 use Rattle.world_rules.specs.Worlds as worlds
-use Rattle.world_rules.specs.Worlds.{SessionOf, SiteData, WorldData, flat, held_by, is_over, session_at, site_at}
+use Rattle.world_rules.specs.Worlds.{SessionOf, SiteData, WorldData, flat, held_by, session_at}
 use Rattle.world_rules.proofs.Moving.{sunk_if}
 use Rattle.world_rules.proofs.Sites.{SiteMoves, same_extends, store_moves}
 
@@ -171,12 +171,6 @@ liar_shown : (sites : List SiteData) (sessions : List (Option Talk)) (w : WorldD
     → session_at w s ≡ Some (talk_over sites (talks.Liar liar))
 liar_shown sites sessions w s liar shows is =
     session_shown sites sessions w s shows ∙ ap (λ (o : Option (Option Talk)). flat (option_map (option_map (talk_over sites)) o)) is
-
-pub none_heard : (sites : List SiteData) (sessions : List (Option Talk)) (st : IsStanding sites sessions) (s : ℕ) (liar : Liar) (bytes : List ℕ) → slice_get sessions s ≡ Some (Some (talks.Liar liar))
-    → IsLiarSound st.schema.rule sites liar → is_over_code liar.end ≡ true → IsStep is_luhn sites sessions (events.Feed s bytes) stepped.NoSuch sites sessions
-none_heard sites sessions st s liar bytes at sound over =
-    none_steps sites sessions (events.Feed s bytes)
-    (λ w shows. ap can_feed (liar_shown sites sessions w s liar shows at) ∙ ap not (over_shown st.schema.rule sites liar.first liar.end sound.end ∙ over))
 
 module _ (sites : List SiteData) (sessions : List (Option Talk)) (st : IsStanding sites sessions) (liar next : Liar) (site new : SiteData) (failed : Bool) (bytes : List ℕ)
     (there : slice_get sites liar.first ≡ Some site) (sound : IsLiarSound st.schema.rule sites liar) (h : HearsLiar site liar bytes new next) where

@@ -21,17 +21,17 @@ use Rattle.byzantine_world.specs.declared.talk.Talk.{Talk}
 use Rattle.byzantine_world.specs.declared.talk.Talk.TheVariants as talks
 use Rattle.byzantine_world.proofs.Carried.{IsViewSound, both_sound, carry_stands, carry_steps, none_read, two_seen, view_over, view_sound}
 use Rattle.byzantine_world.proofs.Cutting.{can_cut_shown, cut_steps, none_steps, session_shown}
-use Rattle.byzantine_world.proofs.Fed.{feed_stands, feed_steps, none_heard}
+use Rattle.byzantine_world.proofs.Fed.{feed_stands, feed_steps}
 use Rattle.byzantine_world.proofs.Keeping.{talk_cut}
 use Rattle.byzantine_world.proofs.Started.{all_at}
 use Rattle.byzantine_world.proofs.Starting.{start_stands}
-use Rattle.world_rules.specs.Happens.{can_carry, can_cut, can_feed, is_store}
+use Rattle.world_rules.specs.Happens.{can_cut, is_store}
 use Rattle.world_rules.specs.Meetings.{TwoEnds, seen_from}
 use Rattle.world_rules.specs.declared.event.Event.TheVariants as events
 use Rattle.world_rules.specs.declared.event.Stepped.{Stepped}
 use Rattle.world_rules.specs.declared.event.Stepped.TheVariants as stepped
 use Rattle.world_rules.specs.Worlds as worlds
-use Rattle.world_rules.specs.Worlds.{SessionOf, SiteData, WorldData, flat, held_by}
+use Rattle.world_rules.specs.Worlds.{SessionOf, SiteData, flat, held_by}
 use Rattle.world_rules.proofs.Moving.{sunk_if}
 
 -- ---- lists
@@ -85,18 +85,6 @@ module _ (sites : List SiteData) (sessions : List (Option Talk)) (st : IsStandin
   cut_goes (Some talk) answer new there h = cuts_by (is_over_talk talk) talk answer new there refl h
 
 -- ---- Carry
-
-none_to_read : (sites : List SiteData) (forward : Bool) (o : Option (Option Talk)) → reader_in forward (both_in (flat o)) ≡ None → can_carry forward (flat (option_map (option_map (talk_over sites)) o)) ≡ false
-none_to_read sites forward None is = refl
-none_to_read sites forward (Some None) is = refl
-none_to_read sites forward (Some (Some (talks.Both both))) is = absurd cc
-none_to_read sites forward (Some (Some (talks.Liar liar))) is = refl
-
-pub none_reads : (sites : List SiteData) (sessions : List (Option Talk)) (s : ℕ) (forward : Bool) → reader_in forward (both_in (flat (slice_get sessions s))) ≡ None
-    → IsStep is_luhn sites sessions (events.Carry s forward) stepped.NoSuch sites sessions
-none_reads sites sessions s forward lacks =
-    none_steps sites sessions (events.Carry s forward)
-    (λ w shows. ap (can_carry forward) (session_shown sites sessions w s shows) ∙ none_to_read sites forward (slice_get sessions s) lacks)
 
 -- the session of which a replica reads
 pub read_at : (sessions : List (Option Talk)) (s : ℕ) (forward : Bool) (r : ℕ) → reader_in forward (both_in (flat (slice_get sessions s))) ≡ Some r
@@ -170,26 +158,6 @@ hear_at sessions s r is = by_talk (flat (slice_get sessions s)) refl is
     by_talk None e h = absurd cc
     by_talk (Some (talks.Both both)) e h = absurd cc
     by_talk (Some (talks.Liar liar)) e h = let p = by_over liar (is_over_code liar.end) refl h in (liar, flat_some (slice_get sessions s) (talks.Liar liar) e, p.0, p.1)
-
-pub none_hears : (sites : List SiteData) (sessions : List (Option Talk)) (st : IsStanding sites sessions) (s : ℕ) (bytes : List ℕ) → hearer_in (liar_in (flat (slice_get sessions s))) ≡ None
-    → IsStep is_luhn sites sessions (events.Feed s bytes) stepped.NoSuch sites sessions
-none_hears sites sessions st s bytes lacks = by_place (slice_get sessions s) refl lacks
-  where
-    by_none : (o : Option (Option Talk)) → slice_get sessions s ≡ o → can_feed (flat (option_map (option_map (talk_over sites)) o)) ≡ false → IsStep is_luhn sites sessions (events.Feed s bytes) stepped.NoSuch sites sessions
-    by_none o e is =
-        none_steps sites sessions (events.Feed s bytes)
-        (λ w shows. ap can_feed (session_shown sites sessions w s shows ∙ ap (λ (x : Option (Option Talk)). flat (option_map (option_map (talk_over sites)) x)) e) ∙ is)
-
-    by_over : (liar : Liar) (over : Bool) → is_over_code liar.end ≡ over → (if over then None else Some liar.first) ≡ None → is_over_code liar.end ≡ true
-    by_over liar true e h = e
-    by_over liar false e h = absurd cc
-
-    by_place : (o : Option (Option Talk)) → slice_get sessions s ≡ o → hearer_in (liar_in (flat o)) ≡ None → IsStep is_luhn sites sessions (events.Feed s bytes) stepped.NoSuch sites sessions
-    by_place None e h = by_none None e refl
-    by_place (Some None) e h = by_none (Some None) e refl
-    by_place (Some (Some (talks.Both both))) e h = by_none (Some (Some (talks.Both both))) e refl
-    by_place (Some (Some (talks.Liar liar))) e h =
-        none_heard sites sessions st s liar bytes e (all_at (IsTalkSound st.schema.rule sites) sessions s (Some (talks.Liar liar)) st.sessions_are e) (by_over liar (is_over_code liar.end) refl h)
 
 module _ (sites : List SiteData) (sessions : List (Option Talk)) (st : IsStanding sites sessions) (s : ℕ) (liar : Liar) (there : slice_get sessions s ≡ Some (Some (talks.Liar liar))) where
   liar_sound : IsLiarSound st.schema.rule sites liar

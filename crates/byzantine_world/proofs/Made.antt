@@ -1,5 +1,5 @@
 -- What a Make leaves.
-use Rattle.std.proofs.Common.{◌≡◌, ℕ, Bool, true, false, List, [], set, Option, Some, None, Result, Ok, Err, refl, sym, subst, ◌∙◌}
+use Rattle.std.proofs.Common.{◌≡◌, ℕ, Bool, true, false, List, [], set, Option, Some, None, Result, Ok, Err, refl, sym, subst}
 use Rattle.std.specs.Prelude.{IfOk, OnOk, slice_get}
 use Rattle.row_check.specs.Checksum.{is_luhn}
 use Rattle.key_index.specs.KeyState.{KeyState}
@@ -12,13 +12,10 @@ use Rattle.byzantine_world.specs.Events.{IsStep, cut_where}
 use Rattle.byzantine_world.specs.Standing.{IsStanding}
 use Rattle.byzantine_world.specs.declared.talk.Talk.{Talk}
 use Rattle.byzantine_world.proofs.Acts.{make_steps}
-use Rattle.byzantine_world.proofs.Cutting.{none_steps}
 use Rattle.byzantine_world.proofs.Keeping.{one_stands}
-use Rattle.byzantine_world.proofs.Starting.{up_shown}
 use Rattle.world_rules.specs.Happens.{Answers, MakesBy, MakesIn, Signs, ending, has_failed}
 use Rattle.world_rules.specs.declared.event.Event.TheVariants as events
 use Rattle.world_rules.specs.declared.event.Stepped.{Stepped}
-use Rattle.world_rules.specs.declared.event.Stepped.TheVariants as stepped
 use Rattle.world_rules.specs.Worlds.{SignedData, SiteData, WorldData, is_up}
 use Rattle.world_rules.proofs.Events.{make_site}
 use Rattle.world_rules.proofs.Moving.{sunk_if}
@@ -31,12 +28,6 @@ up_site sites r up = by_found (slice_get sites r) refl up
     by_found : (found : Option SiteData) → slice_get sites r ≡ found → is_up found ≡ true → (site : SiteData) × (slice_get sites r ≡ Some site) × (site.is_down ≡ false)
     by_found None is e = absurd cc
     by_found (Some site) is e = (site, is, not_true site.is_down e)
-
-pub none_makes : (sites : List SiteData) (sessions : List (Option Talk)) (r : ℕ) (ops : List Op) → is_up (slice_get sites r) ≡ false → IsStep is_luhn sites sessions (events.Make r ops) stepped.NoSuch sites sessions
-none_makes sites sessions r ops lacks = none_steps sites sessions (events.Make r ops) (λ w shows. up_shown sites sessions w r shows ∙ lacks)
-
-pub none_stops : (sites : List SiteData) (sessions : List (Option Talk)) (r calls : ℕ) → is_up (slice_get sites r) ≡ false → IsStep is_luhn sites sessions (events.Stop r calls) stepped.NoSuch sites sessions
-none_stops sites sessions r calls lacks = none_steps sites sessions (events.Stop r calls) (λ w shows. up_shown sites sessions w r shows ∙ lacks)
 
 -- What a step and what stands is said of, where the replica failed or not.
 abbrev pub Goes : List SiteData → List (Option Talk) → ℕ → List Op → SiteData → Bool → Stepped → Type 0

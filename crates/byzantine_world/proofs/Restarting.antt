@@ -1,5 +1,5 @@
 -- What a Restart does to what the code of a world shows.
-use Rattle.std.proofs.Common.{◌≡◌, ℕ, ◌+◌, Bool, true, false, List, [], ◌++◌, length, map, set, All, Option, Some, None, refl, sym, ap, subst, ◌∙◌}
+use Rattle.std.proofs.Common.{◌≡◌, ℕ, ◌+◌, Bool, true, false, List, [], ◌++◌, length, map, set, All, Option, Some, refl, sym, ap, subst, ◌∙◌}
 use Rattle.std.specs.Prelude.{is_some, slice_get, slice_set}
 use Rattle.std.proofs.lemmas.List.{length-map}
 use Rattle.row_check.specs.Checksum.{is_luhn}
@@ -7,7 +7,6 @@ use Rattle.byzantine_world.specs.Events.{IsStep, cut_code_with}
 use Rattle.byzantine_world.specs.Standing.{IsStanding, IsTalkSound}
 use Rattle.byzantine_world.specs.declared.talk.Talk.{Talk}
 use Rattle.byzantine_world.proofs.Acts.{all_sound, grow_one, talks_cut, talks_same}
-use Rattle.byzantine_world.proofs.Cutting.{none_steps}
 use Rattle.byzantine_world.proofs.Keeping.{all_cut, many_cut, one_each}
 use Rattle.byzantine_world.proofs.Showing.{Grow}
 use Rattle.world_rules.specs.Happens.{HappensTo, Restarts, met_by}
@@ -16,11 +15,6 @@ use Rattle.world_rules.specs.declared.event.Stepped.TheVariants as stepped
 use Rattle.world_rules.specs.Worlds.{SiteData, WorldData, cut_with, held_by, site_at}
 use Rattle.world_rules.proofs.Schemas.{SchemaLaws}
 use Rattle.world_rules.proofs.Sites.{SiteMoves, restart_moves}
-
-pub none_restarts : (sites : List SiteData) (sessions : List (Option Talk)) (r choice : ℕ) → slice_get sites r ≡ None
-    → IsStep is_luhn sites sessions (events.Restart r choice) stepped.NoSuch sites sessions
-none_restarts sites sessions r choice lacks =
-    none_steps sites sessions (events.Restart r choice) (λ w shows. ap (λ (xs : List SiteData). is_some (slice_get xs r)) shows.sites_are ∙ ap is_some lacks)
 
 module _ (laws : SchemaLaws) (sites : List SiteData) (sessions : List (Option Talk)) (st : IsStanding sites sessions) (r choice : ℕ) (site new : SiteData) (there : slice_get sites r ≡ Some site)
     (restarts : Restarts is_luhn site new) where

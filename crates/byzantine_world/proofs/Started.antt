@@ -10,15 +10,13 @@ use Rattle.confluence_test.specs.declared.refusal.SchemaRefusal.{SchemaRefusal}
 use Rattle.confluence_test.specs.declared.refusal.SchemaRefusal.TheVariants as refusals
 use Rattle.schema.specs.Data.{SchemaData}
 use Rattle.schema_text.specs.Schemas.{Declares}
-use Rattle.byzantine_world.specs.Begun.{AreNone, IsBegun, IsNewOf, IsWorldCause, refusal_fault, world_fault_of}
+use Rattle.byzantine_world.specs.Begun.{AreNone, IsBegun, IsNewOf, IsWorldCause, refusal_fault}
 use Rattle.byzantine_world.specs.Codes.{WorldCode, talk_over}
 use Rattle.byzantine_world.specs.Standing.{IsStanding, IsTalkSound}
 use Rattle.byzantine_world.specs.declared.talk.Talk.{Talk}
 use Rattle.world_rules.specs.Happens.{IsNew, IsNewSite, begins}
 use Rattle.world_rules.specs.Worlds.{SiteData, WorldData, flat}
 use Rattle.world_rules.proofs.Schemas.{SchemaLaws}
-use Rattle.world_rules.specs.Creating.{IsSiteCause}
-use Rattle.world_rules.specs.declared.fault.SiteFault.{SiteFault}
 use Rattle.world_rules.specs.declared.fault.SiteFault.TheVariants as sites
 use Rattle.world_rules.proofs.Standing.{stands_always}
 
@@ -115,10 +113,6 @@ pub new_more : (text : List ℕ) (count : ℕ) (sites : List SiteData) (site : S
 new_more text count sites site all new text_is many =
     All-append (IsNewOf text count) sites (site ∷ []) all (All-cons (IsNewOf text count) site [] (record { new = new; text_is = text_is; many = many }) (All-nil (IsNewOf text count)))
 
-pub none_one_more : (talks : List (Option Talk)) → AreNone talks → AreNone (talks ++ None ∷ [])
-none_one_more talks all =
-    All-append (λ (t : Option Talk). t ≡ None) talks (None ∷ []) all (All-cons (λ (t : Option Talk). t ≡ None) None [] refl (All-nil (λ (t : Option Talk). t ≡ None)))
-
 -- ---- why there is no world
 
 pub refusal_cause : (text : List ℕ) (refusal : SchemaRefusal) → RefusesSchema is_luhn text refusal ⊎ (refusal ≡ refusals.Memory) → (count : ℕ) → IsWorldCause is_luhn text count (refusal_fault refusal)
@@ -127,9 +121,3 @@ refusal_cause text (refusals.Schema fault) (inr memory) count = absurd cc
 refusal_cause text (refusals.NotConfluent declared which example) (inl refuses) count = (declared, which, example, refuses)
 refusal_cause text (refusals.NotConfluent declared which example) (inr memory) count = absurd cc
 refusal_cause text refusals.Memory cause count = tt
-
--- a cause of a replica is one of its world
-pub site_world_cause : (text : List ℕ) (count : ℕ) (why : SiteFault) → IsSiteCause is_luhn text why → IsWorldCause is_luhn text count (world_fault_of why)
-site_world_cause text count sites.BadSchema h = h
-site_world_cause text count sites.NotConfluent h = h
-site_world_cause text count sites.Memory h = tt

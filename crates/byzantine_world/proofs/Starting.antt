@@ -31,13 +31,13 @@ use Rattle.byzantine_world.specs.declared.talk.Both.{Both}
 use Rattle.byzantine_world.specs.declared.talk.Side.{Side}
 use Rattle.byzantine_world.specs.declared.talk.Talk.{Talk}
 use Rattle.byzantine_world.specs.declared.talk.Talk.TheVariants as talks
-use Rattle.byzantine_world.proofs.Cutting.{none_steps, session_shown}
+use Rattle.byzantine_world.proofs.Cutting.{session_shown}
 use Rattle.world_rules.specs.Happens.{HappensTo, Starts, began, can_start, is_free, recalled}
 use Rattle.world_rules.specs.declared.event.Event.TheVariants as events
 use Rattle.world_rules.specs.declared.event.Stepped.TheVariants as stepped
 use Rattle.world_rules.specs.Meetings.{EndData}
 use Rattle.world_rules.specs.Worlds as worlds
-use Rattle.world_rules.specs.Worlds.{SessionOf, SiteData, WorldData, flat, held_by, is_up, session_at, site_at}
+use Rattle.world_rules.specs.Worlds.{SessionOf, SiteData, WorldData, flat, held_by, is_up, site_at}
 
 -- ---- what is free
 
@@ -55,27 +55,6 @@ pub up_shown : (sites : List SiteData) (sessions : List (Option Talk)) (w : Worl
 up_shown sites sessions w r shows = ap (λ (xs : List SiteData). is_up (slice_get xs r)) shows.sites_are
 
 -- ---- nothing happens
-
-pub none_free : (sites : List SiteData) (sessions : List (Option Talk)) (s first : ℕ) (second : Option ℕ) → is_free_in sessions s ≡ false
-    → IsStep is_luhn sites sessions (events.Start s first second) stepped.NoSuch sites sessions
-none_free sites sessions s first second lacks =
-    none_steps sites sessions (events.Start s first second) (λ w shows. ap (λ (b : Bool). b && can_start w first second) (free_shown sites sessions w s shows ∙ lacks))
-
-and_false : (b : Bool) → (b && false) ≡ false
-and_false true = refl
-and_false false = refl
-
-pub none_alone : (sites : List SiteData) (sessions : List (Option Talk)) (s first : ℕ) → is_up (slice_get sites first) ≡ false → IsStep is_luhn sites sessions (events.Start s first None) stepped.NoSuch sites sessions
-none_alone sites sessions s first lacks =
-    none_steps sites sessions (events.Start s first None)
-    (λ w shows. ap (λ (b : Bool). is_free w s && b) (up_shown sites sessions w first shows ∙ lacks) ∙ and_false (is_free w s))
-
-pub none_two : (sites : List SiteData) (sessions : List (Option Talk)) (s first second : ℕ) → (is_up (slice_get sites first) && (is_up (slice_get sites second) && not (first == second))) ≡ false
-    → IsStep is_luhn sites sessions (events.Start s first (Some second)) stepped.NoSuch sites sessions
-none_two sites sessions s first second lacks =
-    none_steps sites sessions (events.Start s first (Some second))
-    (λ w shows. ap (λ (b : Bool). is_free w s && b)
-    (ap₂ (λ (a b : Bool). a && (b && not (first == second))) (up_shown sites sessions w first shows) (up_shown sites sessions w second shows) ∙ lacks) ∙ and_false (is_free w s))
 
 -- ---- an end that begins
 

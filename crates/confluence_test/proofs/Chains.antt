@@ -35,10 +35,6 @@ name_there rows table i row h e other =
     sym (ap (λ (b : Bool). cond b (row_numbered (suc (length (reverse (take i rows))))) (name_in (reverse (take i rows)) table)) other)
     ∙ sym (ap (λ (l : List Item). name_in l table) (reverse_next rows i row h e))
 
-pub chain_length : (items : List Item) → length (chain items) ≡ length items
-chain_length [] = refl
-chain_length (item ∷ items) = ap suc (chain_length items)
-
 -- one more update
 pub chain_next : (rows : List Item) (i : ℕ) (row : Item) (node : NodeData) (nodes : List NodeData) → i < length rows → row ≡ get_or rows i row → node ≡ after i (i + 1) row
     → nodes ≡ reverse (chain (reverse (take i rows))) → nodes ++ node ∷ [] ≡ reverse (chain (reverse (take (i + 1) rows)))

@@ -1,11 +1,10 @@
 -- Steps of growing a chain by what is needed.
-use Rattle.std.proofs.Common.{◌≡◌, ℕ, ◌+◌, ◌-◌, ◌<◌, ◌≤◌, zero, suc, Bool, true, false, cond, List, [], ◌∷◌, ◌++◌, length, drop, get_or, refl, sym, ap, ◌∙◌, arith, Option, None}
+use Rattle.std.proofs.Common.{◌≡◌, ℕ, ◌+◌, ◌-◌, ◌<◌, ◌≤◌, zero, suc, Bool, true, false, cond, List, [], ◌∷◌, ◌++◌, length, drop, refl, sym, ap, ◌∙◌, arith, Option, None}
 use Rattle.schema.specs.declared.column.Column.{Column}
 use Rattle.schema.specs.Columns.{target_of}
 use Rattle.table_model.specs.Visible.{Rules, table_of}
 use Rattle.confluence_laws.specs.Examples.{Item, has_table, item_of, needed_by, needed_tables, needed_but, for_each, need, base_of}
-use Rattle.confluence_test.specs.Plans.{needed_at, all_of}
-use Rattle.confluence_test.proofs.Listing.{drop_next, drop_all}
+use Rattle.confluence_test.proofs.Listing.{drop_all}
 
 pub needed_plain_but : (number : ℕ) (columns : List Column) → needed_but None number columns ≡ needed_tables columns
 needed_plain_but number [] = refl
@@ -14,15 +13,6 @@ needed_plain_but number (c ∷ cs) = ap (λ l. needed_by c.null (target_of c.kin
 pub each_of_both : (grow : List Item → ℕ → List Item) (xs ys : List ℕ) (items : List Item) → for_each grow (xs ++ ys) items ≡ for_each grow ys (for_each grow xs items)
 each_of_both grow [] ys items = refl
 each_of_both grow (x ∷ xs) ys items = each_of_both grow xs ys (grow items x)
-
--- one more column
-pub need_next : (grow : List Item → ℕ → List Item) (skip : Option ℕ) (columns : List Column) (i : ℕ) (column : Column) (o : Option ℕ) (items final : List Item)
-    → i < length columns → column ≡ get_or columns i column → all_of o ≡ needed_at skip i column
-    → for_each grow (needed_but skip i (drop i columns)) items ≡ final → for_each grow (needed_but skip (i + 1) (drop (i + 1) columns)) (for_each grow (all_of o) items) ≡ final
-need_next grow skip columns i column o items final h e is told =
-    let split : needed_but skip i (drop i columns) ≡ all_of o ++ needed_but skip (i + 1) (drop (i + 1) columns) =
-    ap (needed_but skip i) (drop_next columns i column h e) ∙ ap (λ (l : List ℕ). l ++ needed_but skip (i + 1) (drop (i + 1) columns)) (sym is) in
-    sym (each_of_both grow (all_of o) (needed_but skip (i + 1) (drop (i + 1) columns)) items) ∙ sym (ap (λ (l : List ℕ). for_each grow l items) split) ∙ told
 
 -- no more columns
 pub need_end : (grow : List Item → ℕ → List Item) (skip : Option ℕ) (columns : List Column) (i : ℕ) (grown final : List Item) → length columns ≤ i

@@ -11,30 +11,11 @@ use Rattle.table_model.specs.Visible.{Rules, table_of, is_cascade, bare_rules}
 use Rattle.confluence_laws.specs.Confluence.{is_permanent}
 use Rattle.confluence_laws.specs.Examples.{Item, Step, needed_but, for_each, need, step_by, next_step, path_by, path_from, path_items, item_naming, shared_of}
 use Rattle.confluence_test.specs.Plans.{permanent_at, SaysPermanent, AreBelow, step_to, or_later, next_step_by}
-use Rattle.confluence_test.proofs.Listing.{drop_next, drop_all, take_all, reverse_next}
+use Rattle.confluence_test.proofs.Listing.{drop_next, drop_all, reverse_next}
 use Rattle.confluence_test.proofs.Needing.{each_of_both}
 use Rattle.confluence_test.proofs.Sounds.{sound_columns, low_target}
 
 -- ---- the next step, column by column
-
-next_at : (permanence : List Bool) (table : ℕ) (columns : List Column) (i : ℕ) (column : Column) → i < length columns → column ≡ get_or columns i column
-    → next_step_by permanence table i (drop i columns) ≡ or_later i (step_to permanence table (target_of column.kind)) (next_step_by permanence table (i + 1) (drop (i + 1) columns))
-next_at permanence table columns i column h e = ap (next_step_by permanence table i) (drop_next columns i column h e)
-
-pub next_found : (permanence : List Bool) (table : ℕ) (columns : List Column) (i : ℕ) (column : Column) (target : ℕ) (all : Option (ℕ × ℕ)) → i < length columns → column ≡ get_or columns i column
-    → step_to permanence table (target_of column.kind) ≡ Some target → next_step_by permanence table i (drop i columns) ≡ all → Some (i, target) ≡ all
-next_found permanence table columns i column target all h e found told =
-    let later = next_step_by permanence table (i + 1) (drop (i + 1) columns) in
-    sym (next_at permanence table columns i column h e ∙ ap (λ (o : Option ℕ). or_later i o later) found) ∙ told
-
-pub next_past : (permanence : List Bool) (table : ℕ) (columns : List Column) (i : ℕ) (column : Column) (all : Option (ℕ × ℕ)) → i < length columns → column ≡ get_or columns i column
-    → step_to permanence table (target_of column.kind) ≡ None → next_step_by permanence table i (drop i columns) ≡ all → next_step_by permanence table (i + 1) (drop (i + 1) columns) ≡ all
-next_past permanence table columns i column all h e none told =
-    let later = next_step_by permanence table (i + 1) (drop (i + 1) columns) in
-    sym (next_at permanence table columns i column h e ∙ ap (λ (o : Option ℕ). or_later i o later) none) ∙ told
-
-pub next_end : (permanence : List Bool) (table : ℕ) (columns : List Column) (i : ℕ) (all : Option (ℕ × ℕ)) → length columns ≤ i → next_step_by permanence table i (drop i columns) ≡ all → None ≡ all
-next_end permanence table columns i all h told = sym (ap (next_step_by permanence table i) (drop_all columns i h)) ∙ told
 
 -- ---- the same by the rule
 
@@ -74,15 +55,6 @@ pub next_low : (rules : Rules) (t : ℕ) (columns : List Column) → AllByRecurs
 next_low rules t columns sound column target is = subst (λ (o : Option (ℕ × ℕ)). IfSome o (λ r. r.1 ≤ t)) is (low_next rules t 0 columns sound)
 
 -- ---- the path, step by step
-
-pub path_none : (rules : Rules) (depth t : ℕ) (steps : List Step) → depth ≡ 0 → steps ≡ steps ++ path_from rules depth t
-path_none rules zero t steps h = sym (append-nil steps)
-path_none rules (suc depth) t steps h = absurd (omega arith)
-
-pub path_end : (rules : Rules) (depth t : ℕ) → 0 < depth → (table_of rules t).deletable ≡ true → record { table = t; column = None } ∷ [] ≡ path_from rules depth t
-path_end rules zero t h goes = absurd (omega arith)
-path_end rules (suc depth) t h goes =
-    sym (ap (λ (b : Bool). cond b (record { table = t; column = None } ∷ []) (path_by t (path_from rules depth) (next_step rules t 0 (table_of rules t).columns))) goes)
 
 path_step : (rules : Rules) (depth t : ℕ) → 0 < depth → (table_of rules t).deletable ≡ false → path_from rules depth t ≡ path_by t (path_from rules (depth - 1)) (next_step rules t 0 (table_of rules t).columns)
 path_step rules zero t h stays = absurd (omega arith)
@@ -160,6 +132,3 @@ rows_next rules shared back i step row rows older h e many is made told =
     let n : length before ≡ older = (let a = length-append (reverse rows) shared in let b = length-reverse rows in let c = ap length told in omega arith) in
     ap (λ (l : List Item). l ++ shared) (reverse-append rows (row ∷ [])) ∙ ap (λ (x : Item). x ∷ (reverse rows ++ shared)) (made ∙ ap (item_naming rules shared step.table step.column) (sym n))
     ∙ ap (λ (l : List Item). item_naming rules shared step.table step.column (length before) ∷ l) told ∙ sym (ap (path_items rules shared) (reverse_next back i step h e))
-
-pub rows_end : (rules : Rules) (shared rows : List Item) (back : List Step) (i : ℕ) → length back ≤ i → reverse rows ++ shared ≡ path_items rules shared (reverse (take i back)) → reverse rows ++ shared ≡ path_items rules shared (reverse back)
-rows_end rules shared rows back i h told = told ∙ ap (λ (l : List Step). path_items rules shared (reverse l)) (take_all back i h)

@@ -1,5 +1,5 @@
 -- Looking for the first invariant that is refused.
-use Rattle.std.proofs.Common.{◌≡◌, ℕ, ◌+◌, ◌==◌, ◌<◌, ◌≤◌, suc, Bool, true, false, cond, not, List, [], ◌∷◌, ◌++◌, length, drop, get_or, refl, sym, ap, ◌∙◌, subst, arith, add-one, drop-cons, Option, Some, None, is_none, unwrap_or, slice_get, IfSome}
+use Rattle.std.proofs.Common.{◌≡◌, ℕ, ◌+◌, ◌==◌, ◌<◌, ◌≤◌, suc, Bool, true, false, cond, not, List, [], ◌∷◌, ◌++◌, length, drop, get_or, refl, sym, ap, ◌∙◌, arith, add-one, drop-cons, Option, Some, None, is_none, unwrap_or, slice_get, IfSome}
 use Rattle.std.specs.Option.{option_or, option_map}
 use Rattle.std.specs.List.{AllByRecursion}
 use Rattle.std.proofs.lemmas.Bool.{eq-eqb}
@@ -17,68 +17,18 @@ use Rattle.schema.specs.Sound.{IsSoundColumn, AreTables}
 use Rattle.schema.specs.Numbers.{no_table}
 use Rattle.table_model.specs.Verdicts.{keeps_least}
 use Rattle.table_model.specs.Visible.{Rules, table_of, bare_rules}
-use Rattle.table_model.specs.Invariants.{Unique, UniqueKept, Refers, Declared, declared_at, each_from, unique_declared, at_most_declared, refers_declared, reference_declared, check_declared, match_declared, table_declared}
+use Rattle.table_model.specs.Invariants.{Unique, UniqueKept, Declared, declared_at, each_from, unique_declared, at_most_declared, refers_declared, reference_declared, check_declared, match_declared, table_declared}
 use Rattle.confluence_laws.specs.Confluence.{accepts}
 use Rattle.confluence_test.specs.declared.finding.Finding.{Finding}
-use Rattle.confluence_test.specs.Plans.{permanent_at, SaysPermanent}
-use Rattle.confluence_test.specs.Findings.{declared_of, is_refused, first_refused, accepts_to, accepts_by, refused_by, unique_refused, dangling}
-use Rattle.confluence_test.proofs.Listing.{drop_next, each_append}
+use Rattle.confluence_test.specs.Plans.{SaysPermanent}
+use Rattle.confluence_test.specs.Findings.{declared_of, is_refused, first_refused, accepts_by, refused_by, unique_refused}
+use Rattle.confluence_test.proofs.Listing.{each_append}
 use Rattle.confluence_test.proofs.Sounds.{sound_columns, low_target}
 
 -- ---- references
 
--- the invariant that a reference is
-abbrev pub reference_of : ℕ → ℕ → ℕ → ℕ → Declared
-reference_of number place line target =
-    record { which = record { kind = kind.Reference; table = number; place = place; line = line }; claim = Refers number place target action.Restrict }
-
-one_found : (permanence : List Bool) (number place line target : ℕ) (o : Option (ℕ × Action)) → dangling permanence o ≡ Some target → (rest : List Declared)
-    → refused_by permanence (refers_declared number place line o ++ rest) ≡ Some (reference_of number place line target)
-one_found permanence number place line target None found rest = absurd (cc)
-one_found permanence number place line target (Some (t, action.Restrict)) found rest =
-    let declared : ℕ → Declared = λ u. reference_of number place line u in
-    let step : (b : Bool) → cond b None (Some t) ≡ Some target → cond (not b) (Some (declared t)) (refused_by permanence rest) ≡ Some (declared target) =
-    elim [ true ↦ λ e. absurd (cc) | false ↦ λ e. (let same : t ≡ target = cc in ap (λ (u : ℕ). Some (declared u)) same) ] in
-    step (permanent_at permanence t) found
-one_found permanence number place line target (Some (t, action.Cascade)) found rest = absurd (cc)
-one_found permanence number place line target (Some (t, action.SetNull)) found rest = absurd (cc)
-
-one_past : (permanence : List Bool) (number place line : ℕ) (o : Option (ℕ × Action)) → dangling permanence o ≡ None → (rest : List Declared)
-    → refused_by permanence (refers_declared number place line o ++ rest) ≡ refused_by permanence rest
-one_past permanence number place line None none rest = refl
-one_past permanence number place line (Some (t, action.Restrict)) none rest =
-    let step : (b : Bool) → cond b None (Some t) ≡ None → cond (not b) (Some (reference_of number place line t)) (refused_by permanence rest) ≡ refused_by permanence rest =
-    elim [ true ↦ λ e. refl | false ↦ λ e. absurd (cc) ] in
-    step (permanent_at permanence t) none
-one_past permanence number place line (Some (t, action.Cascade)) none rest = refl
-one_past permanence number place line (Some (t, action.SetNull)) none rest = refl
-
 abbrev pub references_from : ℕ → ℕ → List Column → List Declared
 references_from number place columns = each_from (reference_declared number) place columns
-
-pub reference_found : (permanence : List Bool) (number : ℕ) (columns : List Column) (i : ℕ) (column : Column) (target : ℕ) (all : Option Declared) → i < length columns → column ≡ get_or columns i column
-    → dangling permanence (target_of column.kind) ≡ Some target → refused_by permanence (references_from number i (drop i columns)) ≡ all → Some (reference_of number i column.line target) ≡ all
-reference_found permanence number columns i column target all h e found told =
-    let rest = references_from number (i + 1) (drop (i + 1) columns) in
-    sym (ap (λ (l : List Column). refused_by permanence (references_from number i l)) (drop_next columns i column h e) ∙ one_found permanence number i column.line target (target_of column.kind) found rest) ∙ told
-
-pub reference_past : (permanence : List Bool) (number : ℕ) (columns : List Column) (i : ℕ) (column : Column) (all : Option Declared) → i < length columns → column ≡ get_or columns i column
-    → dangling permanence (target_of column.kind) ≡ None → refused_by permanence (references_from number i (drop i columns)) ≡ all
-    → refused_by permanence (references_from number (i + 1) (drop (i + 1) columns)) ≡ all
-reference_past permanence number columns i column all h e none told =
-    let rest = references_from number (i + 1) (drop (i + 1) columns) in
-    sym (ap (λ (l : List Column). refused_by permanence (references_from number i l)) (drop_next columns i column h e) ∙ one_past permanence number i column.line (target_of column.kind) none rest) ∙ told
-
-pub dangling_low : (permanence : List Bool) (number : ℕ) (column : Column) → IsSoundColumn number column → (target : ℕ) → dangling permanence (target_of column.kind) ≡ Some target → target ≤ number
-dangling_low permanence number column sound target found =
-    let step : (o : Option (ℕ × Action)) → IfSome o (λ r. r.0 ≤ number) → IfSome (dangling permanence o) (λ t. t ≤ number) =
-    elim [
-      | None ↦ λ low. tt
-      | Some r ↦ λ low.
-          let at : (b : Bool) → IfSome (cond b None (Some r.0)) (λ (t : ℕ). t ≤ number) = elim [ true ↦ tt | false ↦ low ] in
-          at (accepts_to permanence r.0 r.1)
-    ] in
-    subst (λ (o : Option ℕ). IfSome o (λ t. t ≤ number)) found (step (target_of column.kind) (low_target number column.null column.kind sound))
 
 -- ---- a table
 

@@ -1,10 +1,10 @@
 -- What a byte more does to what was heard.
-use Rattle.std.proofs.Common.{◌≡◌, ◌∙◌, ℕ, ◌+◌, ◌-◌, ◌<◌, ◌≤◌, Bool, true, false, not, cond, ◌&&◌, ◌==◌, nat_lt, List, [], ◌∷◌, ◌++◌, length, take, get_or, refl, sym, ap, subst, append_assoc, arith, length-append}
+use Rattle.std.proofs.Common.{◌≡◌, ◌∙◌, ℕ, ◌+◌, ◌-◌, ◌<◌, ◌≤◌, Bool, true, false, not, cond, ◌&&◌, ◌==◌, nat_lt, List, [], ◌∷◌, ◌++◌, length, refl, sym, ap, subst, append_assoc, arith, length-append}
 use Rattle.std.specs.Prelude.{◌⊎◌}
 use Rattle.std.proofs.Common.{inl, inr}
 use Rattle.std.proofs.lemmas.Bool.{and_parts}
 use Rattle.std.proofs.lemmas.Bool.Decides.{nat_tests}
-use Rattle.std.proofs.lemmas.List.{append-nil, take_more}
+use Rattle.std.proofs.lemmas.List.{append-nil}
 use Rattle.explanations.specs.Heard.{AreHeard, no_line, passed_over, one_kept, HasHeard, Hearing, MayKeep, NeverHeard, heard_at_end, heard_behind, with_line, nothing, whole_line, begun_behind, ended_behind, is_report}
 
 ended_by : (here : Bool) (line bytes : List ℕ) (b c : ℕ) → (c == 10) ≡ here
@@ -160,12 +160,6 @@ due_kept h heard due (inr more) =
     not_true : (b : Bool) → not b ≡ true → b ≡ false
     not_true true e = absurd cc
     not_true false e = refl
-
-pub more_heard : (h : Hearing) (given bytes : List ℕ) (i : ℕ) → i < length bytes → HasHeard h ((given ++ take i bytes) ++ get_or bytes i 0 ∷ []) → HasHeard h (given ++ take (i + 1) bytes)
-more_heard h given bytes i inside has =
-    let same : (given ++ take i bytes) ++ get_or bytes i 0 ∷ [] ≡ given ++ take (i + 1) bytes =
-    append_assoc given (take i bytes) (get_or bytes i 0 ∷ []) ∙ ap (λ (more : List ℕ). given ++ more) (sym (take_more bytes i 0 inside)) in
-    subst (λ (all : List ℕ). HasHeard h all) same has
 
 -- nothing was given
 pub none_heard : (limit : ℕ) → HasHeard (record { heard = []; limit = limit; line = []; passes = false; is_over = false }) []

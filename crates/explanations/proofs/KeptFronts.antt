@@ -4,9 +4,6 @@ use Rattle.std.specs.Prelude.{Result, Ok, Err, is_err, is_ok, if◌then◌else�
 use Rattle.std.proofs.lemmas.List.{take-append-le}
 use Rattle.explanations.specs.Recorded.{IsFrontWithin}
 
-take_more : (b : ℕ) (bs : List ℕ) (n : ℕ) → take (suc n) (b ∷ bs) ≡ b ∷ take n bs
-take_more b bs n = refl
-
 -- a front of two texts is a front of the first, and of the second what there is room for
 take_both : (n : ℕ) (given more : List ℕ) → take n (given ++ more) ≡ take n given ++ take (n - length (take n given)) more
 take_both zero given more = refl
@@ -26,10 +23,6 @@ front_stays limit n kept given more within is =
     whole zero given = refl
     whole (suc n) [] = refl
     whole (suc n) (b ∷ bs) = ap (λ (xs : List ℕ). b ∷ xs) (whole n bs)
-
-pub front_over : (limit : ℕ) (kept given more : List ℕ) (over : Bool) → over ≡ true → IsFrontWithin limit over kept given → IsFrontWithin limit over kept (given ++ more)
-front_over limit kept given more true is front = front_stays limit front.0 kept given more front.1 front.2
-front_over limit kept given more false is front = absurd cc
 
 pub front_after : {T E : Type 0} (r : Result T E) (limit : ℕ) (before after : Bool) (kept some new given more : List ℕ) → before ≡ false → after ≡ is_err r
     → some ≡ take (limit - length kept) more → new ≡ (if is_ok r then kept ++ some else kept) → IsFrontWithin limit before kept given → IsFrontWithin limit after new (given ++ more)

@@ -1,29 +1,19 @@
 -- The part Peers of a directory, handed out, read or written, and put back.
-use Rattle.std.proofs.Common.{◌≡◌, ◌≢◌, inl, inr, ℕ, ◌<◌, ◌^◌, List, [], ◌∷◌, length, refl, sym, ◌∙◌, ap, subst, IsTrue, Result, Ok, Err}
-use Rattle.std.specs.Prelude.{OnOk}
+use Rattle.std.proofs.Common.{◌≡◌, ◌≢◌, inl, inr, ℕ, List, [], ◌∷◌, refl, ◌∙◌, ap, IsTrue}
 use Rattle.bec_disk.specs.declared.part.Part.TheVariants.{Peers}
-use Rattle.bec_disk.specs.declared.disk_fault.DiskFault.{DiskFault as DiskFailed}
-use Rattle.bec_disk.specs.declared.gated.Gated.TheVariants.{Absent}
 use Rattle.bec_disk.specs.Disk.{DiskState, IsSameDisk, IsSettled, LeavesOnly, LeavesSince}
-use Rattle.bec_disk.specs.Gated.{IsOldOrNew, gated_of, whole_of}
-use Rattle.bec_disk.specs.Shelf.{HandsOut, PartState, PutsBack, ShelfState, absent, moments_of, out, stands}
+use Rattle.bec_disk.specs.Gated.{IsOldOrNew}
+use Rattle.bec_disk.specs.Shelf.{HandsOut, PartState, ShelfState, moments_of, out, stands}
 use Rattle.bec_disk.specs.Slot.{Slot, same_slot, slot}
-use Rattle.bec_disk.proofs.Gates.{gated-whole}
 use Rattle.bec_disk.proofs.Images.{settled_image}
 use Rattle.bec_disk.proofs.Moments.{no_moment, stays}
 use Rattle.key_directory.specs.Parts.{HandsOutAny, IsLeftAlone, KeepsAllBut, MayMakeAny, part_in, seen_in}
-use Rattle.key_directory.proofs.Handing.{untouched_by}
 use Rattle.key_directory.proofs.Making.{gated_since, handed_settled, handed_slot, made_others, read_others, read_untouched}
 use Rattle.key_directory.proofs.Places.{stands-not-out}
 use Rattle.key_directory.proofs.Putting.{PutsAny, told}
-use Rattle.hss_directory.specs.Peers.{HasPeers, ReadsPeers, WritesPeers, peers_in}
+use Rattle.hss_directory.specs.Peers.{ReadsPeers, WritesPeers}
 use Rattle.hss_directory.proofs.Places.{false_of, in_by}
 
-pub peers_alone : (before after : ShelfState) (dir : List ℕ) → after ≡ before → ReadsPeers before dir after
-peers_alone before after dir same = record {
-  tells = ap (λ (s : ShelfState). s.tells) same;
-  part = λ tells. untouched_by (part_in before dir Peers) (part_in after dir Peers) (ap (λ (s : ShelfState). part_in s dir Peers) same);
-  others = λ tells other away. ap (λ (s : ShelfState). s.parts other) same;
 }
 
 pub peers_read : (before mid after : ShelfState) (dir : List ℕ) (found disk : DiskState) → HandsOut before (slot dir Peers) found mid → disk ≡ found → after.tells ≡ mid.tells → PutsAny mid disk after → ReadsPeers before dir after
@@ -32,18 +22,6 @@ peers_read before mid after dir found disk hands same tells puts = record {
   part = read_untouched before mid after dir Peers found disk hands same puts;
   others = read_others before mid after dir Peers found disk hands same puts;
 }
-
--- a part that is not there reads as absent
-pub none_absent : (shelf : ShelfState) (dir : List ℕ) → part_in shelf dir Peers ≡ absent → Absent ≡ peers_in shelf dir
-none_absent shelf dir none = sym (ap (λ (p : PartState). gated_of (seen_in p)) none)
-
-seen_handed : (place : Slot) (part disk : DiskState) (old : PartState) → old ≡ stands part → disk.seen ≡ part.seen → gated_of disk.seen ≡ gated_of (seen_in old)
-seen_handed place part disk old there seen = ap gated_of seen ∙ sym (ap (λ (p : PartState). gated_of (seen_in p)) there)
-
--- and one that is there as it is handed out
-pub gate_found : (before mid : ShelfState) (dir : List ℕ) (found : DiskState) → HandsOut before (slot dir Peers) found mid → IsTrue before.tells → gated_of found.seen ≡ peers_in before dir
-gate_found before mid dir found hands tells =
-    seen_handed (slot dir Peers) (hands.part tells).0 found (part_in before dir Peers) (hands.part tells).1 (ap (λ (d : DiskState). d.seen) (hands.part tells).2)
 
 alone_since : (place : Slot) (old new : PartState) (payload : List ℕ) → IsLeftAlone place old new → LeavesSince (moments_of old) (moments_of new) (IsOldOrNew (seen_in old) payload)
 alone_since place old new payload (inl same) = no_moment (moments_of old) (moments_of new) (IsOldOrNew (seen_in old) payload) (ap moments_of same)
@@ -80,13 +58,3 @@ peers_written payload before mid after dir found disk hands leaves same t puts =
   where
     back : IsTrue before.tells → part_in after dir Peers ≡ stands disk
     back tells = (puts (slot dir Peers) (same.slot ∙ handed_slot (slot dir Peers) (part_in before dir Peers) found (hands.part tells))).part (told before.tells mid.tells hands.tells tells)
-
-pub peers_whole : (payload : List ℕ) (before mid after : ShelfState) (dir : List ℕ) (found disk : DiskState) (result : Result (Unit {0}) DiskFailed) → length payload < 2 ^ 32
-    → HandsOutAny before (slot dir Peers) found mid → IsSameDisk found disk → (IsTrue found.tells → OnOk result (disk.seen ≡ whole_of payload)) → PutsAny mid disk after
-    → IsTrue before.tells → OnOk result (HasPeers payload after dir)
-peers_whole payload before mid after dir found disk (Err fault) fits hands same written puts tells = tt
-peers_whole payload before mid after dir found disk (Ok done) fits hands same written puts tells =
-    let back : part_in after dir Peers ≡ stands disk =
-    (puts (slot dir Peers) (same.slot ∙ handed_slot (slot dir Peers) (part_in before dir Peers) found (hands.part tells))).part (told before.tells mid.tells hands.tells tells) in
-    let seen : disk.seen ≡ whole_of payload = written (told before.tells found.tells hands.disk_tells tells) in
-    ap (λ (p : PartState). gated_of (seen_in p)) back ∙ ap gated_of seen ∙ gated-whole payload fits

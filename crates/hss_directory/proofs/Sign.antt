@@ -1,5 +1,5 @@
 -- Signing by a key, and how long what is signed is.
-use Rattle.std.proofs.Common.{◌≡◌, ◌≢◌, ℕ, ◌+◌, ◌-◌, ◌<◌, ◌≤◌, ◌^◌, Bool, true, false, List, [], ◌∷◌, ◌++◌, length, take, drop, refl, sym, ◌∙◌, ap, subst, arith, Some, None, Option, Result, Ok, Err, length-append}
+use Rattle.std.proofs.Common.{◌≡◌, ◌≢◌, ℕ, ◌+◌, ◌-◌, ◌≤◌, Bool, true, false, List, ◌++◌, length, take, drop, refl, sym, ◌∙◌, ap, arith, length-append}
 use Rattle.std.specs.Prelude.{not, if◌then◌else◌, ◌==◌}
 use Rattle.std.specs.Str.{bytes_eq}
 use Rattle.std.proofs.lemmas.Slice.Eq.{bytes_eq-Decides}
@@ -8,18 +8,6 @@ use Rattle.std.proofs.Math.Seq.{take-append_seam}
 use Rattle.std.proofs.lemmas.List.{append_cancel_left, take-append-drop}
 use Rattle.update_model.specs.Form.{ots_length, signature_length, tree_height}
 use Rattle.update_model.specs.declared.author_key.AuthorKey.{AuthorKey}
-use Rattle.key_index.specs.KeyState.{KeyState}
-use Rattle.key_index.specs.Reserving.{Reserves}
-use Rattle.key_index.specs.Used.{least_unused}
-use Rattle.key_index.specs.declared.reserve.Reserve.{Reserve}
-use Rattle.key_index.specs.declared.reserve.Reserve.TheVariants as reserve
-use Rattle.hss_chain.specs.Keys.{key_bytes}
-use Rattle.hss_directory.specs.Values.{HasLeft}
-
--- a key with an index left is refused for a fault of its disk alone
-pub failed_reserve : (old new : KeyState) (why : Reserve) → HasLeft old → Reserves old (Err why) new → Reserves old (Err reserve.DiskFault) new
-failed_reserve old new reserve.Spent left reserves = absurd (true≢false (sym left ∙ reserves.spent.0 refl))
-failed_reserve old new reserve.DiskFault left reserves = reserves
 
 at_most : (b : Bool) (x y n : ℕ) → x ≤ n → y ≤ n → (if b then x else y) ≤ n
 at_most true x y n p q = p

@@ -14,11 +14,8 @@ use Rattle.bec_disk.proofs.Moments.{no_moment, one_moment, since_then, since_wea
 use Rattle.lms_tree.specs.SecretKey.{SecretData}
 use Rattle.key_index.specs.Creating.{CreatesKey, IsOnDisk}
 use Rattle.key_index.specs.KeyState.{KeyParts, KeyState}
-use Rattle.key_index.specs.declared.faults.CreateKeyKind.{CreateKeyKind}
-use Rattle.key_index.specs.declared.faults.CreateKeyKind.TheVariants as key_kinds
-use Rattle.key_index.specs.declared.faults.CreateKeyKind.TheVariants.{KeyThere}
-use Rattle.key_directory.specs.Parts.{HandsOutAny, IsHanded, IsLeftAlone, LetsNewGo, MayMakeAny, seen_in, IsUntouched, KeepsAllBut, part_in, reading}
-use Rattle.key_directory.specs.Keys.{IsNewKeyCause, MakesKey}
+use Rattle.key_directory.specs.Parts.{HandsOutAny, IsHanded, IsLeftAlone, LetsNewGo, MayMakeAny, seen_in, IsUntouched, KeepsAllBut, part_in}
+use Rattle.key_directory.specs.Keys.{MakesKey}
 use Rattle.key_directory.proofs.Handing.{handed_since, put_untouched, untouched_by}
 use Rattle.key_directory.proofs.Places.{StaysIn, each_of_two, home_again, neither, stands-not-out, stays_in}
 use Rattle.key_directory.proofs.Putting.{PutsAny, slot_of, told}
@@ -210,13 +207,6 @@ first_still_out gated filled before mid taken between dir first first_new second
       same ∙ handed_slot (slot dir gated) (part_in before dir gated) first (h1.part t1),
       (p1 (slot dir filled) of_filled).others (slot dir gated) apart ∙ h2.others (slot dir gated) apart ∙ h1.is_out t1,
     )
-
-pub key_cause_before : (place : Slot) (old : PartState) (disk : DiskState) (why : CreateKeyKind) → IsHanded place old disk → (why ≡ KeyThere → gated_of disk.seen ≢ Absent) → IsNewKeyCause (reading old) why
-key_cause_before place absent disk KeyThere is cause = λ _. cause refl (ap (λ (d : DiskState). gated_of d.seen) is)
-key_cause_before place out disk KeyThere is cause = absurd is
-key_cause_before place (stands part) disk KeyThere is cause = subst (λ (d : DiskState). gated_of d.seen ≢ Absent) is (cause refl)
-key_cause_before place old disk key_kinds.DiskFault is cause = tt
-key_cause_before place old disk key_kinds.Memory is cause = tt
 
 -- Both parts were handed out, and a key was created of them.
 pub makes_key : (secret : SecretData) (before mid after : ShelfState) (dir : List ℕ) (parts : KeyParts) (store : KeyState) → HandsOutAny before (slot dir Key) parts.key mid → HandsOutAny mid (slot dir Used) parts.used after

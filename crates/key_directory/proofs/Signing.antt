@@ -1,20 +1,18 @@
 -- What a run that signs leaves of the parts of a key.
-use Rattle.std.proofs.Common.{◌≡◌, ◌≢◌, ◌⊎◌, inl, inr, ℕ, ◌+◌, List, [], ◌∷◌, refl, sym, ◌∙◌, ap, subst, IsTrue, false}
-use Rattle.std.specs.List.{list_any}
+use Rattle.std.proofs.Common.{◌≡◌, ◌⊎◌, inl, inr, ℕ, ◌+◌, List, refl, sym, ◌∙◌, ap, subst, IsTrue}
 use Rattle.bec_disk.specs.declared.part.Part.TheVariants.{Key, Used}
 use Rattle.bec_disk.specs.Disk.{DiskState, EveryImage, IsImage, LeavesOnly, handed_out}
 use Rattle.bec_disk.specs.Images.{IsTorn, IsTornFrom}
-use Rattle.bec_disk.specs.Shelf.{PartState, ShelfState, out, stands}
-use Rattle.bec_disk.specs.Slot.{Slot, same_slot, slot}
+use Rattle.bec_disk.specs.Shelf.{PartState, ShelfState, stands}
+use Rattle.bec_disk.specs.Slot.{Slot, slot}
 use Rattle.bec_disk.proofs.Images.{settled_image, torn_settled}
 use Rattle.bec_disk.proofs.Moments.{leaves_now}
 use Rattle.key_index.specs.KeyState.{KeyState}
 use Rattle.key_index.specs.Reserving.{Tries}
 use Rattle.key_index.specs.Used.{IsUsed}
 use Rattle.key_directory.specs.Keys.{KeepsUsed, PutsKey, TakesKey, WorksWith}
-use Rattle.key_directory.specs.Parts.{IsHome, IsUntouched, part_in}
+use Rattle.key_directory.specs.Parts.{IsUntouched, part_in}
 use Rattle.key_directory.proofs.Handing.{handed_since, put_untouched}
-use Rattle.key_directory.proofs.Places.{home_again, stands-not-out}
 
 -- what the part Used reads as after a run that tried at most one index
 used_reads : (place : Slot) (part : DiskState) (taken now : KeyState) → taken.parts.used ≡ handed_out place part → IsImage now.parts.used.now now.parts.used.seen → WorksWith taken now
@@ -63,10 +61,3 @@ keeps_key before opened closing after dir taken now tells tells' takes works put
     key_kept : (now ≡ taken) ⊎ ((index : ℕ) × Tries taken index now) → now.parts.key ≡ taken.parts.key
     key_kept (inl same) = ap (λ (s : KeyState). s.parts.key) same
     key_kept (inr tries) = tries.1.key
-
--- After it no part is handed out, where no other part is before the key is put back.
-pub home_after_key : (closing after : ShelfState) (dir : List ℕ) (now : KeyState) → IsTrue closing.tells → PutsKey closing dir now.parts after
-    → ((other : Slot) → list_any (λ part. same_slot (slot dir part) other) (Key ∷ Used ∷ []) ≡ false → closing.parts other ≢ out) → IsHome after
-home_after_key closing after dir now tells puts others =
-    home_again Key Used dir after (stands-not-out (part_in after dir Key) now.parts.key (puts.key_back tells)) (stands-not-out (part_in after dir Used) now.parts.used (puts.used_back tells))
-    (λ other away. subst (λ (p : PartState). p ≢ out) (sym (puts.others tells other away)) (others other away))

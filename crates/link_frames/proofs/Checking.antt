@@ -1,5 +1,5 @@
 -- Runs of updates that are checked at once, and the frames between them.
-use Rattle.std.proofs.Common.{◌≡◌, inl, inr, ℕ, List, [], ◌∷◌, ◌++◌, map, All, Vec, Result, Ok, Err, refl, sym, ap, subst, ◌∙◌, append_assoc, append-nil}
+use Rattle.std.proofs.Common.{◌≡◌, inl, inr, ℕ, List, [], ◌∷◌, ◌++◌, map, All, Vec, Result, Ok, Err, refl, sym, ap, subst, ◌∙◌, append-nil}
 use Rattle.std.specs.declared.alloc.Global.{Global}
 use Rattle.std.proofs.lemmas.List.{map-append}
 use Rattle.std.proofs.lemmas.List.Elements.{All-append, All-cons, All-nil, All-push}
@@ -54,17 +54,6 @@ pub record Checks (rule : RuleData) (before : List Frame) (run : List (List ℕ)
   pub arrive : AllArrive rule front (map frame_of all)
   pub under : All (IsFrameUnder rule) all
 
-pub checks_none : (rule : RuleData) → Checks rule [] [] []
-checks_none rule = record { front = []; are = refl; arrive = refl; under = All-nil (IsFrameUnder rule) }
-
--- one more update in the run
-pub checks_item : (rule : RuleData) (before : List Frame) (frame : Frame) (run more : List (Vec ℕ Global)) (bytes : Vec ℕ Global) (all : List CheckedFrame) → Checks rule before (bytes_of run) all → frame ≡ frames.Item bytes.items
-    → more ≡ run ++ bytes ∷ [] → Checks rule (before ++ frame ∷ []) (bytes_of more) all
-checks_item rule before frame run more bytes all c is grew = record {
-  front = c.front;
-  are = ap (λ (l : List Frame). l ++ frame ∷ []) c.are ∙ append_assoc c.front (items_of (bytes_of run)) (frame ∷ []) ∙ ap (λ (l : List Frame). c.front ++ l) (sym one_more);
-  arrive = c.arrive;
-  under = c.under;
 }
   where
     one_more : items_of (bytes_of more) ≡ items_of (bytes_of run) ++ frame ∷ []

@@ -121,14 +121,6 @@ fed_nothing old mid End is fed = absurd fed
 fed_nothing old mid Broken is fed = absurd fed
 fed_nothing old mid Memory is fed = absurd cc
 
--- frames were whole without another piece, or it was told what follows
-pub listens_early : (left : Option (List ℕ)) (old new : FedData) (faults : ℕ) (heard : Heard) → IsFed old new [] heard → Listens left left old new faults faults heard
-listens_early left old new faults (Frames frames) fed = inl (fed, refl)
-listens_early left old new faults (is_no_frame place) fed = (fed.0, fed.1, refl, fed.2)
-listens_early left old new faults End fed = absurd fed
-listens_early left old new faults Broken fed = absurd fed
-listens_early left old new faults Memory fed = ([], Consumes-nil left)
-
 -- nothing was whole before, and this is what a piece gave
 listens_next : (before left : Option (List ℕ)) (old mid new : FedData) (faults now : ℕ) (heard : Heard) → Feeds old mid [] [] → ReadsPiece before left mid new faults now heard → Listens before left old new faults now heard
 listens_next before left old mid new faults now (Frames frames) first r = inr (mid, r.0, first, r.1, r.2)
@@ -140,11 +132,3 @@ listens_next before left old mid new faults now Memory first r = r
 pub listens_then : (before left : Option (List ℕ)) (old mid new : FedData) (faults now : ℕ) (early heard : Heard) → is_none early ≡ true → IsFed old mid [] early → ReadsPiece before left mid new faults now heard
     → Listens before left old new faults now heard
 listens_then before left old mid new faults now early heard none fed r = listens_next before left old mid new faults now heard (fed_nothing old mid early none fed) r
-
--- what a piece of a link gave
-pub piece_given : (before left : Option (List ℕ)) (old new : FedData) (piece : List ℕ) (faults now : ℕ) (heard : Heard) → Consumes before left piece → IsFed old new piece heard → ReadsPiece before left old new faults now heard
-piece_given before left old new piece faults now (Frames frames) took fed = (piece, took, fed)
-piece_given before left old new piece faults now (is_no_frame place) took fed = fed.0
-piece_given before left old new piece faults now End took fed = absurd fed
-piece_given before left old new piece faults now Broken took fed = absurd fed
-piece_given before left old new piece faults now Memory took fed = (piece, took)

@@ -1,6 +1,6 @@
 -- What is said, piece after piece.
 use Rattle.std.proofs.Common.{inl, inr, ℕ, List, [], ◌∷◌, ◌++◌, refl, sym, ap, subst, ◌∙◌, append_assoc, append-nil, Option, Result, Ok, Err}
-use Rattle.std.proofs.KnownBytes.{Appends-nil, Appends-trans}
+use Rattle.std.proofs.KnownBytes.{Appends-trans}
 use mathlib.Core.List.{IsPrefix}
 use Rattle.session_rules.specs.State.{FrameData}
 use Rattle.sync_frames.specs.declared.frame.Frame.{Frame}
@@ -15,22 +15,10 @@ said_append (x ∷ xs) ys a b p q =
     let rest = said_append xs ys p.1 b p.3 q in
     (p.0, p.1 ++ b, p.2, rest, ap (λ (l : List ℕ). l ++ b) p.4 ∙ append_assoc p.0 p.1 b)
 
--- one frame
-pub said_one : (frame : Frame) (bytes : List ℕ) → Spells frame bytes → AreSaid (said_by frame ∷ []) bytes
-said_one frame bytes spells = (bytes, [], (frame, spells, refl), refl, sym (append-nil bytes))
-
 -- a front of the first frame
 pub front_one : (frame : Frame) (bytes front : List ℕ) → Spells frame bytes → IsPrefix front bytes → AreFrontOf (said_by frame ∷ []) front
 front_one frame bytes front spells p =
     record { done = []; left = said_by frame ∷ []; whole = []; begun = front; all = refl; each = refl; begins = inr (bytes, (frame, spells, refl), p); bytes_are = refl }
-
--- nothing yet
-pub front_none : (said : List FrameData) → AreFrontOf said []
-front_none said = record { done = []; left = said; whole = []; begun = []; all = refl; each = refl; begins = begins_none said; bytes_are = refl }
-  where
-    begins_none : (said : List FrameData) → Begins said []
-    begins_none [] = refl
-    begins_none (x ∷ xs) = inl refl
 
 -- all of it, and maybe more to come
 pub front_whole : (said more : List FrameData) (bytes : List ℕ) → AreSaid said bytes → AreFrontOf (said ++ more) bytes
@@ -72,10 +60,6 @@ front_of_more said more bytes q = record {
     more_left (x ∷ left) more begun b = b
 
 -- ---- with what the link holds
-
--- nothing was to be said
-pub says_nothing : {T : Type 0} (held : Option (List ℕ)) (t : T) → Says held held (Ok t) []
-says_nothing held t = ([], Appends-nil held, refl)
 
 -- one thing after the other
 pub says_then : {T U : Type 0} (a b c : Option (List ℕ)) (t : T) (r : Result U Halt) (said more : List FrameData) → Says a b (Ok t) said → Says b c r more → Says a c r (said ++ more)

@@ -4,7 +4,7 @@ use Rattle.std.specs.Prelude.{nat_le}
 use Rattle.std.proofs.lemmas.Bool.Decides.{nat_tests}
 use Rattle.std.proofs.lemmas.List.{length-map, map-append, take_at}
 use Rattle.update_model.specs.declared.limits.TheConstants.{MAX_BYTES, MAX_MEMBERS}
-use Rattle.update_model.specs.Batch.{IsTooMuch, fits, store_limits}
+use Rattle.update_model.specs.Batch.{IsTooMuch, fits}
 use Rattle.update_model.specs.Entry.{Entry}
 use Rattle.update_model.specs.Graph.{byte_count, is_within}
 use Rattle.update_codec.specs.Parts.{entry_of}
@@ -16,13 +16,6 @@ use Rattle.mem_holder.specs.Holders.{Grows, limits_of}
 fewer : (count bytes most : ℕ) → most ≤ MAX_MEMBERS → (nat_le count MAX_MEMBERS && nat_le bytes MAX_BYTES) ≡ false → (nat_le count most && nat_le bytes MAX_BYTES) ≡ false
 fewer count bytes most low passes = grind (arith, nat_tests)
 
--- what is too much for a store is too much
-pub still_too_much : (most : ℕ) (before batch : List Entry) → most ≤ MAX_MEMBERS → IsTooMuch store_limits before batch → IsTooMuch (limits_of most) before batch
-still_too_much most before batch low much = record {
-  added = much.added;
-  waiting = much.waiting;
-  adds = much.adds;
-  passes = fewer (length (before ++ much.added)) (byte_count (before ++ much.added)) most low much.passes;
 }
 
 over : (count bytes most : ℕ) → most < count → (nat_le count most && nat_le bytes MAX_BYTES) ≡ false

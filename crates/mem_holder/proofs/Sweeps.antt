@@ -16,7 +16,7 @@ use Rattle.update_model.proofs.Closed.{Follows-at, Follows-front}
 use Rattle.update_model.proofs.Heads.{any_from_member, holds-named, witness}
 use Rattle.update_model.proofs.Ids.{id_from_same}
 use Rattle.update_codec.specs.Parts.{entry_of}
-use Rattle.update_check.specs.Holding.{ArePositionsSince, at_positions}
+use Rattle.update_check.specs.Holding.{at_positions}
 use Rattle.mem_holder.proofs.Lists.{cons_cases, drop_next, held_at}
 
 -- ---- ancestors, by their successors
@@ -225,11 +225,6 @@ module _ (members : List (List ℕ)) (below : ℕ) (old : List UpdateId) (n : �
         ];
         sound = so.sound;
       }
-
--- all are looked at
-pub sweep_ends : (members : List (List ℕ)) (below : ℕ) (old behind : List UpdateId) (positions : List ℕ) → Swept members below old 0 behind positions
-    → ArePositionsSince members below old (reverse positions)
-sweep_ends members below old behind positions so = record { rising = so.rising; within = so.within; exact = so.picks }
 
 -- the position before
 pub position_before : (members : List (List ℕ)) (below : ℕ) (old : List UpdateId) (k : ℕ) (behind : List UpdateId) (positions : List ℕ) → 0 < k → Swept members below old k behind positions

@@ -38,9 +38,6 @@ use Rattle.outcomes.specs.StoreAnswers.{bad_store, no_store}
 use Rattle.outcomes.proofs.Working.{works_not}
 use Rattle.outcomes.proofs.Around.{of_store, of_peers, same_memory, opened_told, closing_told, tells_still, places_around, whole_before}
 
-abbrev pub no_updates : List (List ℕ)
-no_updates = []
-
 -- ---- places of two directories
 
 neither_of : (x y : Bool) → x ≡ false → y ≡ false → x || y ≡ false

@@ -1,15 +1,13 @@
 -- A directory that is opened, over which something is done, and that is closed.
-use Rattle.std.proofs.Common.{◌≡◌, ◌⊎◌, inl, inr, ℕ, ◌≤◌, List, refl, sym, ◌∙◌, ap, subst, IfSome, IsTrue, Option, None, Some, Ok, Err, Vec, arith, option_map}
-use Rattle.std.specs.declared.alloc.Global.{Global}
+use Rattle.std.proofs.Common.{◌≡◌, ℕ, ◌≤◌, List, refl, sym, ◌∙◌, ap, subst, IfSome, IsTrue, Option, None, Some, Err, arith, option_map}
 use Rattle.rand_core.specs.Stream.{Stream}
-use Rattle.row_check.specs.Checksum.{is_luhn}
 use Rattle.bec_bytes.specs.Causes.{Rose}
 use Rattle.bec_disk.specs.declared.part.Part.TheVariants.{Schema, Updates, Key, Used}
 use Rattle.bec_disk.specs.Disk.{DiskState}
-use Rattle.bec_disk.specs.Shelf.{PartState, ShelfState, out}
+use Rattle.bec_disk.specs.Shelf.{ShelfState}
 use Rattle.bec_disk.specs.Slot.{slot}
 use Rattle.key_index.specs.KeyState.{KeyState}
-use Rattle.key_directory.specs.Parts.{IsHome, part_in}
+use Rattle.key_directory.specs.Parts.{IsHome}
 use Rattle.key_directory.specs.declared.key_refusal.KeyRefusal.TheVariants as key_refusals
 use Rattle.key_directory.proofs.Putting.{told}
 use Rattle.store_directory.specs.declared.open_refusal.OpenRefusal.{OpenRefusal}
@@ -19,13 +17,10 @@ use Rattle.store_directory.specs.declared.opening.Needs.TheVariants as needed
 use Rattle.store_directory.specs.declared.store_refusal.StoreRefusal.TheVariants as store_refusals
 use Rattle.store_directory.specs.Holding.{OpenData, PutsStore}
 use Rattle.store_directory.specs.Opening.{Closes, IsKeyIn, IsKeyOut, IsStoreOut, LetsAllGo, Opens, Refuses}
-use Rattle.store_directory.specs.Standing.{Stands}
 use Rattle.store_directory.specs.Stores.{StoreData}
 use Rattle.store_directory.proofs.OnceOpen.{disks_of}
 use Rattle.store_directory.proofs.Readings.{OneSchema}
 use Rattle.outcomes.specs.Comes.{IsSourceFault, ReadsStoreOnly}
-use Rattle.outcomes.specs.declared.refusal.Refusal.TheVariants as refusals
-use Rattle.outcomes.specs.OpenStores.{opened_store}
 use Rattle.outcomes.specs.Outcome.{Outcome, from_open}
 use Rattle.outcomes.specs.Outside.{Outside}
 use Rattle.outcomes.specs.StoreAnswers.{Printing, ReadsStore}
@@ -52,16 +47,6 @@ key_for needed.StoreAndKey before after dir store None opens = opens
 key_for needed.StoreAndKey before after dir store (Some key) opens = tt
 
 -- ---- over what is open
-
--- a store is shown, and all is as it was
-pub reads_shown : {S R : Type 0} → (Shows : StoreData → List ℕ → Type 0) (sides : Beside S R) (store : OpenData) (key : Option KeyState) (text : Vec ℕ Global) → Stands store.replica → Shows (opened_store store.replica) text.items
-    → ReadsOpen (Printing Shows) sides sides store key store key (Ok text)
-reads_shown Shows sides store key text stands shows =
-    record { stands = stands; answers = inl (text.items, shows, refl); same_store = refl; same_key = refl; same_source = refl; same_random = refl }
-
--- memory ran out
-pub reads_lacked : {S R : Type 0} → (Answers : StoreData → Outcome → Type 0) (sides : Beside S R) (store : OpenData) (key : Option KeyState) → Stands store.replica → ReadsOpen Answers sides sides store key store key (Err refusals.Memory)
-reads_lacked Answers sides store key stands = record { stands = stands; answers = inr refl; same_store = refl; same_key = refl; same_source = refl; same_random = refl }
 
 -- ---- what is put back
 

@@ -1,11 +1,11 @@
 -- Bytes that are refused are no payload.
-use Rattle.std.proofs.Common.{◌≡◌, ◌≢◌, ◌<◌, ◌≤◌, ◌+◌, ◌*◌, ◌^◌, ℕ, true, false, List, [], ◌∷◌, ◌++◌, All, length, get_or, refl, sym, ap, subst, ◌∙◌, arith, append_assoc, length-append, append-nil, Result, Ok, Err}
+use Rattle.std.proofs.Common.{◌≡◌, ◌≢◌, ◌<◌, ◌≤◌, ◌+◌, ◌*◌, ◌^◌, ℕ, true, false, List, [], ◌∷◌, ◌++◌, All, length, get_or, refl, sym, ap, subst, ◌∙◌, arith, append_assoc, length-append, Result, Ok, Err}
 use Rattle.std.specs.Prelude.{IsErrOf}
 use Rattle.std.specs.Result.{IsErrAnd}
 use Rattle.std.specs.Int.{w16, to_be_bytes}
 use Rattle.std.specs.List.{AllPairs, flat_map, list_any}
 use Rattle.std.proofs.lemmas.Bool.{true≢false}
-use Rattle.std.proofs.lemmas.List.{flat_map_more, get_or_append_left, get_or_at, nil_from_length}
+use Rattle.std.proofs.lemmas.List.{flat_map_more, get_or_append_left, get_or_at}
 use Rattle.std.proofs.lemmas.List.Elements.{All-head, All-tail}
 use Rattle.std.proofs.lemmas.List.Folds.{Any-from_list_any, list_any_at}
 use Rattle.std.proofs.lemmas.List.Quantifiers.{all_pairs_push}
@@ -138,9 +138,3 @@ pub one_more : (bytes rest after : List ℕ) (count : ℕ) (front more : List Pe
 one_more bytes rest after count front more peer parts is last =
     parts ∙ ap (λ (b : List ℕ). to_be_bytes w16 count ++ b) (ap (λ (r : List ℕ). flat_map spelled_peer front ++ r) is ∙ sym (append_assoc (flat_map spelled_peer front) (spelled_peer peer) after)
     ∙ ap (λ (b : List ℕ). b ++ after) (flat_map_more spelled_peer [] front peer ∙ ap (λ (l : List Peer). flat_map spelled_peer l) (sym last)))
-
-pub all_read : (bytes rest : List ℕ) (count : ℕ) (peers : List Peer) → count ≤ 256 → bytes ≡ to_be_bytes w16 count ++ (flat_map spelled_peer peers ++ rest) → length peers ≡ count → length rest ≡ 0
-    → bytes ≡ to_be_bytes w16 (length peers) ++ flat_map spelled_peer peers
-all_read bytes rest count peers few parts long none =
-    parts ∙ ap (λ (r : List ℕ). to_be_bytes w16 count ++ (flat_map spelled_peer peers ++ r)) (nil_from_length rest none) ∙ ap (λ (l : List ℕ). to_be_bytes w16 count ++ l) (append-nil (flat_map spelled_peer peers))
-    ∙ ap (λ (n : ℕ). to_be_bytes w16 n ++ flat_map spelled_peer peers) (sym long)

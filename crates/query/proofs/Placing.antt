@@ -1,5 +1,5 @@
 -- Reading the words of a text one after another, as loops do.
-use Rattle.std.proofs.Common.{◌≡◌, ℕ, zero, suc, ◌+◌, ◌≤◌, ◌<◌, Bool, true, false, List, [], ◌∷◌, ◌++◌, length, Option, Some, None, refl, sym, ap, ◌∙◌, append_assoc, length-append, arith}
+use Rattle.std.proofs.Common.{◌≡◌, ℕ, zero, suc, ◌≤◌, ◌<◌, Bool, true, false, List, [], ◌∷◌, length, Option, Some, None, refl, sym, ap, ◌∙◌, append_assoc, arith}
 use Rattle.std.specs.Prelude.{IsTrue, ◌↔◌, nat_le}
 use Rattle.std.specs.Str.{is_utf8}
 use Rattle.std.proofs.lemmas.Bool.{and_parts, and_from, le-leb, leb-true}
@@ -7,7 +7,7 @@ use Rattle.std.proofs.lemmas.List.{append-nil}
 use Rattle.std.proofs.lemmas.Str.{IsUtf8-from_is_utf8, is_utf8-from_IsUtf8}
 use Rattle.update_model.specs.Text.{IsText}
 use Rattle.text_words.specs.declared.style.Style.TheVariants.{Punctuated}
-use Rattle.text_words.specs.Lines.{lines_of, Begins}
+use Rattle.text_words.specs.Lines.{lines_of}
 use Rattle.text_words.specs.Words.{Read, skip_blanks, first_word}
 use Rattle.text_words.proofs.WordsLemmas.{word_shorter, skipped_length}
 use Rattle.expression_text.specs.declared.token.Token.{Token}
@@ -77,19 +77,6 @@ pieces_more number total start front all some so_far =
     ∙ (ap (joined front) (sym (pieces_step number total start some)) ∙ so_far)
 
 -- ---- the lines of a text
-
-pub begins_length : (text line rest : List ℕ) → Begins text line rest → length line ≤ length text
-begins_length text line rest h =
-    let e = ap length h.parts in
-    let l = length-append line (h.end ++ rest) in
-    omega arith
-
-pub lines_more : (number : ℕ) (rest line after : List ℕ) (front all : Placed) → lines_of rest ≡ line ∷ lines_of after
-    → joined front (pieces_of_lines number (lines_of rest)) ≡ all
-    → joined (joined front (pieces_of_line number line)) (pieces_of_lines (number + 1) (lines_of after)) ≡ all
-lines_more number rest line after front all e so_far =
-    joined_assoc front (pieces_of_line number line) (pieces_of_lines (number + 1) (lines_of after))
-    ∙ (sym (ap (λ (lines : List (List ℕ)). joined front (pieces_of_lines number lines)) e) ∙ so_far)
 
 no_lines : lines_of [] ≡ []
 unfolding lines_of

@@ -1,30 +1,24 @@
 -- What words come to, from what each part of them comes to.
-use Rattle.std.proofs.Common.{◌≡◌, ℕ, ◌+◌, ◌≤◌, Bool, true, false, List, length, take, refl, sym, ap, subst, ◌∙◌, inl, inr, Option, Some, None, Ok, Err}
-use Rattle.std.specs.Prelude.{Result, IfOk, IfErr, IsUtf8, MatchOption, MatchBool}
+use Rattle.std.proofs.Common.{◌≡◌, ℕ, ◌≤◌, Bool, true, List, length, take, refl, sym, ap, subst, ◌∙◌, inl, inr, Option, Some, None, Ok, Err}
+use Rattle.std.specs.Prelude.{Result, IfOk, IfErr, IsUtf8, MatchBool}
 use Rattle.std.specs.Str.{IsValidUpTo}
 use Rattle.expression_text.specs.declared.token.Token.{Token}
-use Rattle.expression_text.specs.Columns.{column_in}
-use Rattle.expression_text.specs.Grammar.{Parses, Disjunction}
-use Rattle.row_check.specs.Kinds.{HasKinds}
-use Rattle.row_check.specs.Trees.{Tree}
 use Rattle.schema.specs.declared.table_def.TableDef.{TableDef}
 use Rattle.schema.specs.Data.{SchemaData}
 use Rattle.query.specs.declared.fault.QueryError.{QueryError}
 use Rattle.query.specs.declared.fault.QueryError.TheVariants as error
 use Rattle.query.specs.declared.fault.QueryKind.{QueryKind}
-use Rattle.query.specs.declared.fault.QueryKind.TheVariants.{TypesDiffer, NotUtf8}
+use Rattle.query.specs.declared.fault.QueryKind.TheVariants.{NotUtf8}
 use Rattle.query.specs.declared.query.Query.{Query}
 use Rattle.query.specs.declared.stop.Spot.{Spot}
 use Rattle.query.specs.declared.stop.Stop.{Stop}
 use Rattle.query.specs.declared.stop.Stop.TheVariants as stop
 use Rattle.query.specs.declared.stop.Wrong.{Wrong}
-use Rattle.query.specs.Columns.{kind_named, names_of, slots_of, seen_kinds}
-use Rattle.query.specs.Conditions.{wrong_in}
 use Rattle.query.specs.Data.{ConditionData}
-use Rattle.query.specs.Grammar.{condition_in, condition_place, has_condition, keys_in, keys_place, stop_of, wrong_at}
+use Rattle.query.specs.Grammar.{condition_in, condition_place, has_condition, keys_in, keys_place, stop_of}
 use Rattle.query.specs.Outcome.{Answers, HasCause, IsHead, IsStop, data_of, error_of, fault_at}
 use Rattle.query.specs.Pieces.{pieces_of, spot_after}
-use Rattle.query.specs.Queries.{QueryData, ConditionRead, IsTyped, ReadsCondition, HasGoodCondition, is_early, IsFormOf, head_by, table_of, lost_in, optional, IsConditionOf, query_of, ends_by, whole_by, Say, spot_of, Reads, FirstFault}
+use Rattle.query.specs.Queries.{QueryData, ConditionRead, ReadsCondition, HasGoodCondition, is_early, IsFormOf, head_by, table_of, lost_in, optional, IsConditionOf, query_of, ends_by, whole_by, Say, spot_of, Reads, FirstFault}
 
 pub stop_for : (P Q : Wrong → Type 0) (s : Stop) → ((w : Wrong) → P w → Q w) → IsStop s P → IsStop s Q
 stop_for P Q (stop.Fault wrong) f h = f wrong h
@@ -32,39 +26,7 @@ stop_for P Q stop.Memory f h = tt
 
 -- ---- a condition
 
--- an expression of the right kinds is a condition
-pub reads_typed : (tables : List TableDef) (table at : ℕ) (words : List Token) (tree : Tree) → wrong_in (kind_named tables table) at words ≡ None
-    → Parses (column_in (names_of words)) Disjunction words tree → HasKinds (seen_kinds (slots_of tables table (names_of words))) tree
-    → ReadsCondition tables table at words (Ok (record { tree = tree; slots = slots_of tables table (names_of words) }))
-reads_typed tables table at words tree none parses kinds =
-    let read : ConditionRead = Ok (record { tree = tree; slots = slots_of tables table (names_of words) }) in
-    subst (λ (m : Option Wrong). MatchOption m
-    ((t : Tree) × Parses (column_in (names_of words)) Disjunction words t × IsTyped tables table at words t read)
-    (λ wrong. read ≡ Err wrong)) (sym none) (tree, parses, inl (kinds, refl))
-
-pub reads_untyped : (tables : List TableDef) (table at : ℕ) (words : List Token) (tree : Tree) → wrong_in (kind_named tables table) at words ≡ None
-    → Parses (column_in (names_of words)) Disjunction words tree → (¬ HasKinds (seen_kinds (slots_of tables table (names_of words))) tree)
-    → ReadsCondition tables table at words (Err (wrong_at TypesDiffer (at + length words)))
-reads_untyped tables table at words tree none parses kinds =
-    let read : ConditionRead = Err (wrong_at TypesDiffer (at + length words)) in
-    subst (λ (m : Option Wrong). MatchOption m
-    ((t : Tree) × Parses (column_in (names_of words)) Disjunction words t × IsTyped tables table at words t read)
-    (λ wrong. read ≡ Err wrong)) (sym none) (tree, parses, inr (kinds, refl))
-
-pub reads_wrong : (tables : List TableDef) (table at : ℕ) (words : List Token) (wrong : Wrong) → wrong_in (kind_named tables table) at words ≡ Some wrong
-    → ReadsCondition tables table at words (Err wrong)
-reads_wrong tables table at words wrong e =
-    let read : ConditionRead = Err wrong in
-    subst (λ (m : Option Wrong). MatchOption m
-    ((t : Tree) × Parses (column_in (names_of words)) Disjunction words t × IsTyped tables table at words t read)
-    (λ wrong. read ≡ Err wrong)) (sym e) refl
-
 -- ---- the condition of a query
-
-pub condition_none : (tables : List TableDef) (words : List Token) → has_condition words ≡ false → IsConditionOf tables words (Ok None)
-condition_none tables words e =
-    let found : Result (Option ConditionData) Wrong = Ok None in
-    subst (λ (h : Bool). MatchBool h ((read : ConditionRead) × ReadsCondition tables (table_of tables words) (condition_place words) (condition_in words) read × (found ≡ optional read)) (found ≡ Ok None)) (sym e) refl
 
 pub condition_read : (tables : List TableDef) (words : List Token) (read : ConditionRead) → has_condition words ≡ true
     → ReadsCondition tables (table_of tables words) (condition_place words) (condition_in words) read → IsConditionOf tables words (optional read)

@@ -19,11 +19,6 @@ later_there y ys x c = let lt = c.1 in (suc c.0, omega arith, c.2)
 pub none_there : {X : Type 0} (x : X) → Contains [] x → ⊥
 none_there x c = let lt = c.1 in omega arith
 
--- what holds of each element
-pub each_of : {X : Type 0} (P : X → Type 0) (xs : List X) → ((x : X) → Contains xs x → P x) → AllByRecursion P xs
-each_of P [] f = tt
-each_of P (x ∷ xs) f = (f x (first_there x xs), each_of P xs (λ y c. f y (later_there x xs y c)))
-
 pub of_each : {X : Type 0} (P : X → Type 0) (xs : List X) (x : X) → AllByRecursion P xs → Contains xs x → P x
 of_each P xs x each c = All-contains P xs x (All-from_recursion P xs each) c
 

@@ -1,17 +1,16 @@
 -- Who waits after a batch was added.
 use Rattle.std.proofs.Common.{◌≡◌, ◌≢◌, inl, inr, ℕ, Bool, true, false, cond, not, zero, suc, List, [], ◌∷◌, ◌++◌, Option, Some, None, map, refl, sym, ap, subst, ◌∙◌, append-nil, arith}
-use Rattle.std.specs.Prelude.{Contains, All, filter}
+use Rattle.std.specs.Prelude.{Contains, filter}
 use Rattle.std.specs.List.{slice_get, AllByRecursion}
 use Rattle.std.proofs.lemmas.Option.{slice_get-get_or}
 use Rattle.std.proofs.lemmas.List.{length-map, map-append}
-use Rattle.std.proofs.lemmas.List.Elements.{All-contains, All-filter, All-from_recursion}
 use Rattle.update_model.specs.Batch.{not_held}
 use Rattle.update_model.specs.Entry.{Entry}
 use Rattle.update_model.specs.Graph.{holds, lacking, IsClosed, Follows}
 use Rattle.update_model.proofs.Closed.{Follows-split}
 use Rattle.ready_batch.specs.Ready.{AddsReady}
 use Rattle.ready_batch.specs.Steps.{left_at, AreSlots, AllStuck, kept_of, kept_if}
-use Rattle.ready_batch.proofs.Elements.{none_there, first_there, later_there, each_of, of_each, each_map, contains_filter_back, map_filter}
+use Rattle.ready_batch.proofs.Elements.{none_there, first_there, later_there, each_map, contains_filter_back, map_filter}
 use Rattle.ready_batch.proofs.Holding.{lacks_one}
 
 by_bool : {M : Type 0} (b : Bool) (m : M) (rest : List M) → kept_if b m rest ≡ cond (not b) (m ∷ rest) rest
@@ -113,13 +112,3 @@ kept_one {M} entry graph xs slot m b is held =
 pub kept_none : {M : Type 0} (entry : M → Entry) (graph : List Entry) (xs : List (Option M)) (slot : Option M) → slot ≡ None → kept_of entry graph (xs ++ slot ∷ []) ≡ kept_of entry graph xs
 kept_none {M} entry graph xs slot is =
     kept_of-append entry graph xs (slot ∷ []) ∙ ap (λ (o : Option M). kept_of entry graph xs ++ kept_of entry graph (o ∷ [])) is ∙ append-nil (kept_of entry graph xs)
-
--- What holds of each member of the batch holds of each that was added.
-pub added_all : {M : Type 0} (entry : M → Entry) (P : M → Type 0) (before batch after waiting : List M) (ready : AddsReady entry before batch after waiting) → All P batch → All P ready.added
-added_all entry P before batch after waiting ready all =
-    All-from_recursion P ready.added (each_of P ready.added (λ m c. All-contains P batch m all (of_each (Contains batch) ready.added m ready.from c)))
-
--- And of each that waits.
-pub waiting_all : {M : Type 0} (entry : M → Entry) (P : M → Type 0) (before batch after waiting : List M) → AddsReady entry before batch after waiting → All P batch → All P waiting
-waiting_all {M} entry P before batch after waiting ready all =
-    subst (All P) (sym ready.rest) (All-filter (λ (m : M). not (holds (map entry after) (entry m).id)) P batch all)

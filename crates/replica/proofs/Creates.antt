@@ -1,13 +1,12 @@
 -- Creating a store.
-use Rattle.std.proofs.Common.{◌≡◌, ◌⊎◌, inl, inr, ⊎_elim, ℕ, ◌≤◌, List, [], ◌∷◌, length, refl, subst, IsTrue, arith}
+use Rattle.std.proofs.Common.{◌≡◌, ◌⊎◌, inl, inr, ⊎_elim, ℕ, List, [], refl, subst, IsTrue, arith}
 use Rattle.bec_bytes.specs.Framed.{stream_of}
-use Rattle.bec_disk.specs.Disk.{DiskState, IsSameDisk, IsSettled, LeavesOnly}
+use Rattle.bec_disk.specs.Disk.{DiskState, IsSameDisk, IsSettled}
 use Rattle.bec_disk.specs.Gated.{IsOldOrNew, gated_of}
 use Rattle.bec_disk.proofs.Images.{settled_image}
 use Rattle.bec_disk.proofs.Moments.{same_disk, stays}
 use Rattle.update_model.specs.Rule.{RuleData}
 use Rattle.update_check.specs.Members.{AreMembers}
-use Rattle.update_log.specs.Log.{IsClean}
 use Rattle.update_log.specs.Logset.{IsLogset}
 use Rattle.schema.specs.Data.{Meaning}
 use Rattle.confluence_test.specs.Taking.{RefusesSchema}
@@ -32,14 +31,6 @@ creating_untouched schema schema_new updates updates_new payload settled same di
 pub creating_nothing : (schema schema_new updates : DiskState) (payload : List ℕ) → (IsTrue schema.tells → IsSettled schema) → schema_new ≡ schema → Creating schema updates payload schema_new updates
 creating_nothing schema schema_new updates payload settled same = creating_untouched schema schema_new updates updates payload settled same (same_disk updates updates refl)
 
--- the part Schema was written behind an empty part Updates
-pub creating_written : (schema mid schema_new updates updates_new : DiskState) (payload : List ℕ) (end : ℕ) → (IsTrue schema.tells → IsSettled schema) → mid ≡ schema
-    → ((IsTrue mid.tells → IsSettled mid) → LeavesOnly mid schema_new (IsOldOrNew mid.seen payload)) → IsSameDisk updates updates_new
-    → (IsTrue updates.tells → IsClean end updates_new) → (IsTrue updates.tells → updates_new.seen ≡ []) → Creating schema updates payload schema_new updates_new
-creating_written schema mid schema_new updates updates_new payload end settled same run disk clean empty = record {
-  schema_moments = subst (λ (s : DiskState). (IsTrue s.tells → IsSettled s) → LeavesOnly s schema_new (IsOldOrNew s.seen payload)) same run settled;
-  updates_disk = disk;
-  order = inr (λ tells. ((clean tells).0, empty tells));
 }
 
 no_members : (rule : RuleData) → AreMembers rule []
@@ -52,10 +43,6 @@ pub empty_logset : (rule : RuleData) (bytes : List ℕ) (members : List (List �
 unfolding stream_of
 empty_logset rule bytes members one whole none is =
     one rule [] members [] (subst (λ (l : List ℕ). IsLogset rule l members) none is) (whole rule [] (no_members rule))
-
-pub no_bytes : (xs : List ℕ) → length xs ≤ 0 → xs ≡ []
-no_bytes [] e = refl
-no_bytes (x ∷ xs) e = absurd (omega arith)
 
 memory_only : (ask : Meaning) (text : List ℕ) (refusal : SchemaRefusal) → (refusal ≡ Memory → ⊥) → (RefusesSchema ask text refusal ⊎ (refusal ≡ Memory)) → RefusesSchema ask text refusal
 memory_only ask text refusal other why = ⊎_elim (λ refused. refused) (λ memory. absurd (other memory)) why

@@ -1,21 +1,17 @@
 -- What a payload declares.
-use Rattle.std.proofs.Common.{◌≡◌, ◌⊎◌, ℕ, List, ◌++◌, length, take, drop, refl, sym, ap, subst, ◌∙◌, ⊎_elim, IsTrue}
+use Rattle.std.proofs.Common.{◌≡◌, ◌⊎◌, ℕ, List, ◌++◌, length, take, drop, sym, ap, subst, ◌∙◌, ⊎_elim, IsTrue}
 use Rattle.std.proofs.lemmas.List.{drop_at, take-append-drop}
-use Rattle.bec_bytes.specs.Framed.{stream_of}
-use Rattle.bec_disk.specs.Disk.{DiskState, IsSettled}
-use Rattle.bec_disk.specs.Gated.{gated_of}
+use Rattle.bec_disk.specs.Disk.{DiskState}
 use Rattle.bec_disk.specs.declared.gated.Gated.TheVariants.{Absent, Damaged, Whole}
-use Rattle.bec_disk.proofs.Images.{settled_image}
-use Rattle.bec_disk.proofs.Moments.{same_disk, stays}
 use Rattle.schema_text.specs.Schemas.{Declares}
 use Rattle.schema.specs.Data.{Meaning, SchemaData}
 use Rattle.update_log.specs.Log.{KeepsLogset}
-use Rattle.update_log.specs.Logset.{BeginsWith, IsLogset}
+use Rattle.update_log.specs.Logset.{IsLogset}
 use Rattle.replica.specs.Opening.{KeepsStore}
 use Rattle.confluence_test.specs.Taking.{RefusesSchema, TakesSchema}
 use Rattle.confluence_test.specs.declared.refusal.SchemaRefusal.{SchemaRefusal}
 use Rattle.confluence_test.specs.declared.refusal.SchemaRefusal.TheVariants.{Memory}
-use Rattle.replica.specs.Payload.{DeclaresBoth, DeclaresNone, DeclaresStore}
+use Rattle.replica.specs.Payload.{DeclaresBoth, DeclaresStore}
 
 -- the text of a schema that was taken is the text
 pub text_of_taken : (ask : Meaning) (text : List ℕ) (schema : SchemaData) → TakesSchema ask text schema → schema.text ≡ text
@@ -46,29 +42,15 @@ declares_none ask payload node text schema refusal law behind why other is =
 
 -- ---- the part Schema
 
-pub declares_store : (ask : Meaning) (part payload node : List ℕ) (schema : SchemaData) → Whole payload ≡ gated_of part → DeclaresBoth ask payload node schema → DeclaresStore ask part node schema
-declares_store ask part payload node schema whole is = record { whole = sym whole ∙ ap (λ (l : List ℕ). Whole l) is.payload_is; size = is.size; taken = is.taken }
-
 -- equal payloads are of parts that are whole
 whole_payload : (a b : List ℕ) → Whole a ≡ Whole b → a ≡ b
 whole_payload a b same = cc
 
-pub both_of_store : (ask : Meaning) (part payload node : List ℕ) (schema : SchemaData) → Whole payload ≡ gated_of part → DeclaresStore ask part node schema → DeclaresBoth ask payload node schema
-both_of_store ask part payload node schema whole is = record { payload_is = whole_payload payload (node ++ schema.text) (whole ∙ is.whole); size = is.size; taken = is.taken }
-
-pub none_declared : (ask : Meaning) (part payload : List ℕ) → Whole payload ≡ gated_of part → ((node : List ℕ) (schema : SchemaData) → DeclaresBoth ask payload node schema → ⊥) → DeclaresNone ask part
-none_declared ask part payload whole none = record {
-  there = λ absent. not_absent payload (whole ∙ absent);
-  none = λ node schema is. none node schema (both_of_store ask part payload node schema whole is);
 }
   where
     not_absent : (payload : List ℕ) → Whole payload ≡ Absent → ⊥
     not_absent payload same = cc
 
-pub damaged_none : (ask : Meaning) (part : List ℕ) → Damaged ≡ gated_of part → DeclaresNone ask part
-damaged_none ask part damaged = record {
-  there = λ absent. damaged_absent (damaged ∙ absent);
-  none = λ node schema is. damaged_whole (node ++ schema.text) (damaged ∙ is.whole);
 }
   where
     damaged_absent : Damaged ≡ Absent → ⊥
@@ -92,12 +74,4 @@ keeps_store ask part old new node schema law declared keeps = record {
   disk = keeps.disk;
   any_moment = λ tells node2 schema2 members is logset.
       keeps.any_moment members (λ told. subst (λ (s : SchemaData). IsLogset s.rule old.seen members) (same_store ask part.seen node2 node schema2 schema law is (declared tells)) (logset told));
-}
-
--- and so does one that is left alone
-pub keeps_untouched : (ask : Meaning) (part old : DiskState) → (IsTrue old.tells → IsSettled old) → KeepsStore ask part old old
-keeps_untouched ask part old settled = record {
-  disk = same_disk old old refl;
-  any_moment = λ tells node schema members is logset.
-      stays old old (BeginsWith (stream_of members)) refl (λ told. settled_image old (BeginsWith (stream_of members)) (settled told) (logset told).begins);
 }

@@ -1,5 +1,5 @@
 -- One line more, and what a text then declares.
-use Rattle.std.proofs.Common.{◌≡◌, ℕ, ◌+◌, ◌≤◌, List, [], ◌∷◌, length, refl, sym, ◌∙◌, subst, inl, inr, Result, Ok, Err, IfOk, IfErr}
+use Rattle.std.proofs.Common.{◌≡◌, ℕ, ◌≤◌, List, [], length, refl, sym, ◌∙◌, subst, inr, Result, Ok, Err, IfOk, IfErr}
 use Rattle.text_words.specs.Lines.{lines_of}
 use Rattle.schema_text.specs.declared.draft.Draft.{Draft}
 use Rattle.schema_text.specs.declared.fault.SchemaError.{SchemaError}
@@ -8,23 +8,11 @@ use Rattle.schema_text.specs.declared.fault.SchemaKind.{SchemaKind}
 use Rattle.schema_text.specs.declared.fault.SchemaKind.TheVariants as fault
 use Rattle.schema_text.specs.Outcome.{HasCause, HasFaultIn, Answers}
 use Rattle.schema.specs.Data.{Meaning, SchemaData}
-use Rattle.schema_text.specs.Schemas.{Leads, LeadOn, LineFault, FaultIn, IsComplete, Declares, FirstFault, schema_of}
+use Rattle.schema_text.specs.Schemas.{LeadOn, FaultIn, IsComplete, Declares, FirstFault, schema_of}
 
 no_lines : lines_of [] ≡ []
 unfolding lines_of
 no_lines = refl
-
-pub leads_more : (r : Meaning) (n : ℕ) (d next end : Draft) (rest line after : List ℕ) → lines_of rest ≡ line ∷ lines_of after → Leads r n d line next
-    → LeadOn r (n + 1) next (lines_of after) end → LeadOn r n d (lines_of rest) end
-leads_more r n d next end rest line after e l h = subst (λ (lines : List (List ℕ)). LeadOn r n d lines end) (sym e) (next, l, h)
-
-pub fails_more : (r : Meaning) (n : ℕ) (d next : Draft) (rest line after : List ℕ) (k : SchemaKind) (p : ℕ) → lines_of rest ≡ line ∷ lines_of after → Leads r n d line next
-    → FaultIn r (n + 1) next (lines_of after) k p → FaultIn r n d (lines_of rest) k p
-fails_more r n d next rest line after k p e l h = subst (λ (lines : List (List ℕ)). FaultIn r n d lines k p) (sym e) (inr (next, l, h))
-
-pub fails_here : (r : Meaning) (n : ℕ) (d : Draft) (rest line after : List ℕ) (k : SchemaKind) (p : ℕ) → lines_of rest ≡ line ∷ lines_of after → LineFault r d line k → p ≡ n
-    → FaultIn r n d (lines_of rest) k p
-fails_here r n d rest line after k p e f h = subst (λ (lines : List (List ℕ)). FaultIn r n d lines k p) (sym e) (inl (f, h))
 
 pub leads_end : (r : Meaning) (n : ℕ) (d : Draft) (rest : List ℕ) → rest ≡ [] → LeadOn r n d (lines_of rest) d
 leads_end r n d rest e =
@@ -55,12 +43,3 @@ pub answers_last : OneSchema → (r : Meaning) (text : List ℕ) (end : Draft) (
 answers_last law r text end (Ok s) wanted h e d w = h ∙ law r text (schema_of end text) wanted d w
 answers_last law r text end (Err (error.Fault f)) wanted h e d w = absurd cc
 answers_last law r text end (Err error.Memory) wanted h e d w = tt
-
-pub found_last : (r : Meaning) (text : List ℕ) (end : Draft) (result : Result SchemaData SchemaError) → IfOk result (λ s. s ≡ schema_of end text) → Declares r text (schema_of end text)
-    → IfOk result (λ s. Declares r text s)
-found_last r text end (Ok s) h d = subst (λ (x : SchemaData). Declares r text x) (sym h) d
-found_last r text end (Err e) h d = tt
-
-pub cause_last : (r : Meaning) (text : List ℕ) (result : Result SchemaData SchemaError) → IfErr result (λ e. e ≡ error.Memory) → IfErr result (λ e. HasCause r text e)
-cause_last r text (Ok s) h = tt
-cause_last r text (Err e) h = subst (λ (x : SchemaError). HasCause r text x) (sym h) tt

@@ -1,16 +1,9 @@
 -- Rows of samples.
-use Rattle.std.proofs.Common.{◌≡◌, ℕ, zero, suc, ◌+◌, ◌<◌, Bool, ◌&&◌, List, [], ◌∷◌, ◌++◌, length, drop, get_or, refl, sym, ◌∙◌, ap, subst, arith, append_assoc, drop-cons}
+use Rattle.std.proofs.Common.{◌≡◌, ℕ, suc, ◌+◌, ◌<◌, List, [], ◌∷◌, ◌++◌, length, drop, get_or, refl, sym, ◌∙◌, ap, arith, append_assoc, drop-cons}
 use Rattle.std.specs.Prelude.{Option, Some, None, option_map, option_and_then}
-use Rattle.std.specs.List.{AllByRecursion}
-use Rattle.update_model.specs.declared.value.Value.{Value}
 use Rattle.text_words.specs.declared.word.Word.{Word}
-use Rattle.row_check.specs.Trees.{holds_tree}
-use Rattle.schema.specs.declared.column.Column.{Column}
 use Rattle.schema_text.specs.declared.form.SampleValue.{SampleValue}
-use Rattle.schema.specs.Checks.{CheckData, checks_hold}
 use Rattle.schema_text.specs.Forms.{value_in, values_of}
-use Rattle.schema_text.specs.Written.{sample_row, value_at_column, values_after}
-use Rattle.schema.specs.Sound.{IsSoundCheck}
 
 -- the rest from a place on begins with what stands there
 pub at_drop : {X : Type 0} (xs : List X) (i : ℕ) (x : X) → i < length xs → x ≡ get_or xs i x → drop i xs ≡ x ∷ drop (i + 1) xs
@@ -32,16 +25,3 @@ values_next ws i w front v low is known h =
     h ∙ ap (λ l. with_front front (values_of l)) (at_drop ws i w low is)
     ∙ ap (λ o. with_front front (option_and_then (λ value. option_map (λ values. value ∷ values) (values_of (drop (i + 1) ws))) o)) known
     ∙ regroup front v (values_of (drop (i + 1) ws))
-
-pub values_none : (ws : List Word) (i : ℕ) (w : Word) (front : List SampleValue) → i < length ws → w ≡ get_or ws i w → value_in w ≡ None
-    → values_of ws ≡ with_front front (values_of (drop i ws)) → values_of ws ≡ None
-values_none ws i w front low is known h =
-    h ∙ ap (λ l. with_front front (values_of l)) (at_drop ws i w low is)
-    ∙ ap (λ o. with_front front (option_and_then (λ value. option_map (λ values. value ∷ values) (values_of (drop (i + 1) ws))) o)) known
-
--- a column more
-pub row_next : (cs : List Column) (i : ℕ) (c : Column) (front all : List Value) (ls : List SampleValue) → i < length cs → c ≡ get_or cs i c
-    → front ++ sample_row (drop i cs) ls ≡ all → (front ++ value_at_column c ls ∷ []) ++ sample_row (drop (i + 1) cs) (values_after c ls) ≡ all
-row_next cs i c front all ls low is h =
-    append_assoc front (value_at_column c ls ∷ []) (sample_row (drop (i + 1) cs) (values_after c ls))
-    ∙ sym (ap (λ l. front ++ sample_row l ls) (at_drop cs i c low is)) ∙ h

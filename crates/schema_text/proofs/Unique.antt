@@ -1,5 +1,5 @@
 -- Lines lead to one draft at most, or to one fault.
-use Rattle.std.proofs.Common.{◌≡◌, ℕ, ◌+◌, Bool, true, List, [], ◌∷◌, sym, ◌∙◌, ap, subst, arith, inl, inr, ◌↔◌}
+use Rattle.std.proofs.Common.{◌≡◌, ℕ, ◌+◌, List, [], ◌∷◌, sym, ◌∙◌, ap, subst, arith, inl, inr}
 use Rattle.std.specs.Prelude.{Some}
 use Rattle.text_words.specs.Lines.{lines_of}
 use Rattle.text_words.specs.Words.{skip_blanks}
@@ -11,10 +11,8 @@ use Rattle.schema_text.specs.declared.draft.Draft.{Draft}
 use Rattle.schema_text.specs.declared.fault.SchemaKind.{SchemaKind}
 use Rattle.schema_text.specs.declared.form.Form.{Form}
 use Rattle.schema_text.specs.declared.form.Form.TheVariants as form
-use Rattle.row_check.specs.Kinds.{HasKinds}
 use Rattle.schema.specs.declared.column.Column.{Column}
-use Rattle.schema.specs.Columns.{names_of, kinds_of}
-use Rattle.schema_text.specs.Faults.{Means, IsTypedCheck}
+use Rattle.schema.specs.Columns.{names_of}
 use Rattle.schema_text.specs.Drafts.{start}
 use Rattle.schema_text.specs.Forms.{form_at}
 use Rattle.schema_text.specs.Steps.{IsAfter, with_check}
@@ -100,9 +98,3 @@ first_one one r text k l p q (inr a) (inr b) = fault_one one r 1 start (lines_of
 pub declared_no_fault : (one : OneExpression) (r : Meaning) (text : List ℕ) (s : SchemaData) (k : SchemaKind) (p : ℕ) → Declares r text s → FirstFault r text k p → ⊥
 declared_no_fault one r text s k p h (inl a) = omega (arith, a.0, h.0)
 declared_no_fault one r text s k p h (inr a) = no_fault_in one r 1 start (lines_of text) h.1.0 k p h.1.1 h.1.2 a.1
-
--- whether an expression that is read fits its columns is told by its tree
-pub typed_told : OneExpression → (columns : List Column) (tokens : List Token) (tree : Tree) → Means (names_of columns) tokens tree → (b : Bool)
-    → ((b ≡ true) ↔ HasKinds (kinds_of columns) tree) → ((b ≡ true) ↔ IsTypedCheck columns tokens)
-typed_told one columns tokens tree means b h =
-    (λ e. (tree, means, h.0 e), λ t. h.1 (subst (λ (u : Tree). HasKinds (kinds_of columns) u) (one (column_in (names_of columns)) tokens t.0 tree t.1 means) t.2))

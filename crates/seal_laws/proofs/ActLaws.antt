@@ -39,10 +39,6 @@ goes_else : (old new : World) (dir : List ℕ) → new.held dir ≡ old.held dir
 goes_else old new dir held same =
     goes_same (old.held dir) (new.held dir) (part_in old.shelf dir Key) (part_in new.shelf dir Key) (part_in old.shelf dir Used) (part_in new.shelf dir Used) held same.0 same.1
 
-goes_all : (old new : World) → HoldsSame old new → new.shelf ≡ old.shelf → (dir : List ℕ) → GoesAt old new dir
-goes_all old new held same dir =
-    goes_else old new dir (held dir) (ap (λ (s : ShelfState). part_in s dir Key) same, ap (λ (s : ShelfState). part_in s dir Used) same)
-
 -- ---- one act after another
 
 taken_there : (before after : ShelfState) (dir : List ℕ) (key : KeyState) → TakesKey before dir key after → IsTrue before.tells → IsThere key.parts.key.seen

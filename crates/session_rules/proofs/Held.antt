@@ -39,12 +39,6 @@ holds_back xs ys id h = holds_append xs ys id ∙ or_right (holds xs id) (holds 
 abbrev pub Within : List Entry → List Entry → Type 0
 Within set es = AllByRecursion (Contains set) es
 
-pub holds_within : (set es : List Entry) (id : UpdateId) → Within set es → holds es id ≡ true → holds set id ≡ true
-holds_within set es id all h =
-    let w = held_witness es id h in
-    let there : holds set w.0.id ≡ true = held_member set w.0 (each_member (Contains set) es w.0 all w.1) in
-    rw w.2 there
-
 -- what members of a closed set name is in the set
 pub named_within : (set es : List Entry) (id : UpdateId) → IsClosed set → Within set es → names es id ≡ true → holds set id ≡ true
 named_within set es id closed all h =

@@ -101,9 +101,6 @@ and_turned true false h = refl
 and_turned false true h = refl
 and_turned false false h = refl
 
-either_not : (a b : Bool) → (a && b) ≡ true → (a ≡ true) × (b ≡ true)
-either_not a b h = and_both a b h
-
 -- what was asked for before, after the commit
 pub settled_turn : (before gathered waiting added waits : List Entry) (id : UpdateId) → Adds before (waiting ++ gathered) added waits
     → is_settled before waiting gathered [] id ≡ true → (holds (before ++ added) id || holds waits id) ≡ true

@@ -1,5 +1,5 @@
 -- What a seat adds while its session goes on.
-use Rattle.std.proofs.Common.{◌≡◌, ◌+◌, ℕ, Bool, List, length, map, refl, ap, sym, ◌∙◌, subst, arith}
+use Rattle.std.proofs.Common.{◌≡◌, ◌+◌, ℕ, Bool, List, length, map, ap, sym, ◌∙◌, subst, arith}
 use Rattle.std.proofs.lemmas.List.{length-append, length-map}
 use Rattle.replica.specs.Replicas.{ReplicaState}
 use Rattle.update_codec.specs.Parts.{entry_of}
@@ -14,9 +14,6 @@ use Rattle.shared_replica.specs.Entries.{added_by, updates_of}
 use Rattle.shared_replica.proofs.Counting.{act_adds, act_grows, looks_add}
 use Rattle.session_server.specs.Sessions.{HasAdded}
 use Rattle.session_server.specs.Talks.{IsQuiet, IsStill}
-
-pub quiet_self : (pass : Known Entry) → IsQuiet pass pass
-quiet_self pass seat is = refl
 
 pub quiet_then : (a b c : Known Entry) → IsStill a b → IsQuiet a b → IsQuiet b c → IsQuiet a c
 quiet_then a b c still p q seat is = q seat (still.numbered seat is) ∙ p seat is

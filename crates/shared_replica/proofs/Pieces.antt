@@ -1,5 +1,5 @@
 -- A piece of updates, one update after another.
-use Rattle.std.proofs.Common.{◌≡◌, ◌⊎◌, inl, inr, ℕ, ◌+◌, ◌<◌, ◌≤◌, true, false, List, [], ◌∷◌, ◌++◌, All, filter_map, get_or, length, slice_get, take, Some, refl, ap, ◌∙◌, sym, arith}
+use Rattle.std.proofs.Common.{◌≡◌, inr, ℕ, ◌+◌, ◌<◌, ◌≤◌, true, false, List, [], ◌∷◌, ◌++◌, All, filter_map, get_or, length, slice_get, take, Some, ap, ◌∙◌, sym, arith}
 use Rattle.std.specs.Prelude.{sum_by}
 use Rattle.std.specs.List.{cons_option}
 use Rattle.std.proofs.lemmas.Bool.Decides.{nat_tests}
@@ -18,21 +18,6 @@ pub record IsOpen (us : List (List ℕ)) (positions : List ℕ) (i size : ℕ) (
   pub few : i < PIECE_UPDATES
   pub small : size < PIECE_BYTES
   pub short : All (λ u. length u ≤ UPDATE_LIMIT) piece
-
-pub nothing_yet : (us : List (List ℕ)) (positions : List ℕ) (piece : List (List ℕ)) → piece ≡ [] → IsOpen us positions 0 0 piece
-nothing_yet us positions [] none = record { there = refl; count = refl; bytes = refl; few = omega arith; small = omega arith; short = All-nil _ }
-nothing_yet us positions (u ∷ piece) none = absurd cc
-
--- it ends where the positions end
-pub all_there : (us : List (List ℕ)) (positions : List ℕ) (i size : ℕ) (piece : List (List ℕ)) → IsOpen us positions i size piece → i ≡ length positions → IsPieceOf us positions piece
-all_there us positions i size piece o end = record {
-  there = ap (λ (n : ℕ). filter_map (slice_get us) (take n positions)) o.count ∙ o.there;
-  within = let c = o.count in omega arith;
-  ended = inl (o.count ∙ end);
-  few = let c = o.count in let f = o.few in omega arith;
-  small = let b = o.bytes in let s = o.small in omega arith;
-  short = o.short;
-}
 
 not_full : (count size : ℕ) → is_full count size ≡ false → (count < PIECE_UPDATES) × (size < PIECE_BYTES)
 not_full count size is = (grind (arith, nat_tests), grind (arith, nat_tests))
@@ -69,12 +54,3 @@ module _ (us : List (List ℕ)) (positions : List ℕ) (i size : ℕ) (piece mor
     small = let b = bytes_more in let s = o.small in omega (arith, length_is, bytes_are);
     short = short_more;
   }
-
--- of some positions it has one update at least
-pub piece_first : (us : List (List ℕ)) (positions : List ℕ) (piece : List (List ℕ)) → IsPieceOf us positions piece → 0 < length positions → 0 < length piece
-piece_first us positions [] p some = by p.ended
-  where
-    by : ((0 ≡ length positions) ⊎ (is_full 0 0 ≡ true)) → 0 < 0
-    by (inl all) = omega (arith, all, some)
-    by (inr full) = absurd cc
-piece_first us positions (u ∷ piece) p some = omega arith

@@ -2,8 +2,7 @@
 use Rattle.std.proofs.Common.{◌≡◌, ◌≤◌, ◌-◌, ℕ, List, [], ◌∷◌, ◌++◌, length, map, Result, IfOk, sym, ap, ◌∙◌, subst, arith, append-nil, length-append}
 use Rattle.std.proofs.lemmas.Bool.Decides.{nat_tests}
 use Rattle.std.proofs.lemmas.List.{length-map}
-use Rattle.std.proofs.lemmas.List.Elements.{All-nil}
-use Rattle.std.specs.Prelude.{Contains, nat_le, ◌&&◌, true}
+use Rattle.std.specs.Prelude.{nat_le, ◌&&◌, true}
 use Rattle.std.specs.declared.alloc.AllocError.{AllocError}
 use Rattle.bec_disk.specs.Disk.{IsSameDisk}
 use Rattle.replica.specs.Holding.{IsOnDisk, KeepsOn}
@@ -33,10 +32,6 @@ none_added before (u ∷ us) after behind none = absurd (omega arith)
 -- the log is on the same disk after a step
 pub same_after : (replica new : ReplicaState) → KeepsOn replica new → IsOnDisk replica → IsSameDisk replica.log.disk new.log.disk
 same_after replica new keeps here = (keeps.disk here).any_moment.disk
-
--- nothing comes from anywhere
-pub gains_none : (from members : List (List ℕ)) → GrowsBy from members members
-gains_none from members = record { added = []; behind = sym (append-nil members); of = All-nil (Contains from) }
 
 few_within : (members bytes : ℕ) → (nat_le members MAX_MEMBERS && nat_le bytes MAX_BYTES) ≡ true → members ≤ MAX_MEMBERS
 few_within members bytes within = grind (arith, nat_tests)

@@ -5,24 +5,22 @@ use Rattle.std.specs.List.{list_any}
 use Rattle.std.proofs.lemmas.Bool.{true≢false}
 use Rattle.bec_bytes.specs.Framed.{stream_of}
 use Rattle.bec_disk.specs.declared.part.Part.TheVariants.{Schema, Updates, Key, Used}
-use Rattle.bec_disk.specs.Disk.{DiskState, handed_out}
+use Rattle.bec_disk.specs.Disk.{handed_out}
 use Rattle.bec_disk.specs.Shelf.{PartState, ShelfState, absent, out, stands as standing}
 use Rattle.bec_disk.specs.Slot.{Slot, same_slot, slot}
 use Rattle.bec_disk.proofs.Moments as moments
 use Rattle.row_check.specs.Checksum.{is_luhn}
 use Rattle.update_log.specs.Logset.{BeginsWith}
-use Rattle.key_index.specs.KeyState.{KeyParts, KeyState}
+use Rattle.key_index.specs.KeyState.{KeyState}
 use Rattle.replica.specs.Replicas.{ReplicaState}
 use Rattle.key_directory.specs.declared.key_refusal.KeyRefusal.{KeyRefusal}
-use Rattle.key_directory.specs.Keys.{IsKeyCause, IsKeyRefusalCause, LetsKeyGo, PutsKey}
+use Rattle.key_directory.specs.Keys.{IsKeyCause, IsKeyRefusalCause, LetsKeyGo}
 use Rattle.key_directory.specs.Parts.{IsUntouched, part_in, reading}
-use Rattle.key_directory.proofs.Handing.{untouched_by}
 use Rattle.key_directory.proofs.Places.{place_again, stands-not-out}
 use Rattle.key_directory.proofs.Putting.{slot_of, told}
-use Rattle.store_directory.specs.declared.opening.Needs.{Needs}
 use Rattle.store_directory.specs.declared.opening.Needs.TheVariants as needed
 use Rattle.store_directory.specs.Holding.{LetsGo, OpenData, PutsStore, TakesStore, WorksOn}
-use Rattle.store_directory.specs.Opening.{Closes, ClosesStore, IsKeyIn, IsKeyOut, IsStoreOut, LetsAllGo, Opens, parts_for}
+use Rattle.store_directory.specs.Opening.{Closes, ClosesStore, IsKeyIn, IsKeyOut, LetsAllGo, Opens}
 use Rattle.store_directory.specs.Standing.{Stands}
 use Rattle.store_directory.specs.Stores.{IsStore, StoreData, StoreRun}
 use Rattle.store_directory.proofs.Readings.{OneSchema}
@@ -57,11 +55,6 @@ pub of_four_last : (dir : List ℕ) (other : Slot) → list_any (λ part. same_s
     → list_any (λ part. same_slot (slot dir part) other) (Key ∷ Used ∷ []) ≡ false
 of_four_last dir other = last_two (same_slot (slot dir Schema) other) (same_slot (slot dir Updates) other) (same_slot (slot dir Key) other) (same_slot (slot dir Used) other)
 
-of_needed : (needs : Needs) (dir : List ℕ) (other : Slot) → list_any (λ part. same_slot (slot dir part) other) (parts_for needs) ≡ false
-    → list_any (λ part. same_slot (slot dir part) other) (Schema ∷ Updates ∷ []) ≡ false
-of_needed needed.Store dir other away = away
-of_needed needed.StoreAndKey dir other away = of_four_first dir other away
-
 -- ---- disks
 
 -- the disks of a store that is taken are those of its parts, whatever was done to other parts
@@ -77,17 +70,6 @@ disks_of dir before opened closing taken now takes same same_slot_now kept tells
       (slot_of (slot dir Schema) s.0 taken.schema s.2, (kept opened_tells).0 ∙ takes.schema_out before_tells),
       (same_slot_now ∙ u.3.disk.slot ∙ slot_of (slot dir Updates) u.0 (handed_out (slot dir Updates) u.0) refl, (kept opened_tells).1 ∙ takes.updates_out before_tells),
     )
-
--- what is out beside a key is out when the key is back
-pub out_beside_key : (before mid : ShelfState) (dir : List ℕ) (parts : KeyParts) (schema : DiskState) (replica : ReplicaState) → PutsKey before dir parts mid
-    → (IsTrue before.tells → IsStoreOut before dir schema replica) → IsTrue mid.tells → IsStoreOut mid dir schema replica
-out_beside_key before mid dir parts schema replica puts is_out tells =
-    let before_tells : IsTrue before.tells = told mid.tells before.tells (sym puts.tells) tells in
-    let o = is_out before_tells in
-    record {
-      schema_of = (o.schema_of.0, puts.others before_tells (slot dir Schema) refl ∙ o.schema_of.1);
-      updates_of = (o.updates_of.0, puts.others before_tells (slot dir Updates) refl ∙ o.updates_of.1);
-    }
 
 -- ---- a store that is put back as it was taken
 
@@ -110,15 +92,6 @@ unworked_run one before opened closing after dir taken done tells tells' takes s
 
 -- ---- refusals
 
--- the store was refused
-pub store_refused : (needs : Needs) (before after : ShelfState) (dir : List ℕ) → LetsGo is_luhn before dir after → LetsAllGo needs before dir after
-store_refused needs before after dir lets = record {
-  tells = lets.tells;
-  run = lets.run;
-  key = λ tells. untouched_by (part_in before dir Key) (part_in after dir Key) (lets.others tells (slot dir Key) refl);
-  used = λ tells. untouched_by (part_in before dir Used) (part_in after dir Used) (lets.others tells (slot dir Used) refl);
-  others = λ tells other away. lets.others tells other (of_needed needs dir other away);
-  places = lets.places;
 }
 
 -- the parts of the key are in their places where the store is taken

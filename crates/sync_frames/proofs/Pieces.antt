@@ -9,7 +9,7 @@ use Rattle.std.specs.Prelude.{Option, None}
 use Rattle.sync_frames.specs.declared.fields.PayloadError.{PayloadError}
 use Rattle.sync_frames.specs.declared.fields.PayloadError.TheVariants.{NoForm}
 use Rattle.sync_frames.specs.declared.finding.FoundFrame.{FoundFrame}
-use Rattle.sync_frames.specs.declared.finding.FoundFrame.TheVariants.{Partial, Broken, Whole}
+use Rattle.sync_frames.specs.declared.finding.FoundFrame.TheVariants.{Broken, Whole}
 use Rattle.sync_frames.specs.Reading.{Finds, Stops}
 use Rattle.sync_frames.proofs.Splitting.{AreSpelled-append}
 
@@ -31,9 +31,6 @@ one_more bytes frames len frame more so_far fits spells = record {
       subst (λ (w : List ℕ). AreSpelled (frames ++ frame ∷ []) w) (sym (take-add len more bytes))
       (AreSpelled-append frames (frame ∷ []) (take len bytes) (take more (drop len bytes)) so_far.each (take more (drop len bytes), [], spells, refl, sym (append-nil (take more (drop len bytes)))));
 }
-
-pub fronts_begun : (bytes : List ℕ) (frames : List Frame) (len : ℕ) → SoFar bytes frames len → IsBegun (drop len bytes) → Fronts bytes frames len false
-fronts_begun bytes frames len so_far begun = record { within = so_far.within; each = so_far.each; rest = record { none = λ h. absurd cc; begun = λ e. begun } }
 
 pub fronts_broken : (bytes : List ℕ) (frames : List Frame) (len : ℕ) → SoFar bytes frames len → IsBroken (drop len bytes) → Fronts bytes frames len true
 fronts_broken bytes frames len so_far broken = record { within = so_far.within; each = so_far.each; rest = record { none = λ h. broken; begun = λ e. absurd cc } }
@@ -64,10 +61,6 @@ feeds_from old piece bytes rest frames len place broken joined fronts is says be
   fine = not_broken old.rest begun;
 }
 
--- nothing came yet
-pub nothing_fed : IsFed [] false
-nothing_fed = record { none = λ h. absurd cc; begun = λ e. inl (omega arith) }
-
 -- ---- what was found behind the frames so far
 
 pub whole_behind : (bytes : List ℕ) (frames : List Frame) (len : ℕ) (found : FoundFrame) (frame : Frame) (more : ℕ) → found ≡ Whole frame more
@@ -80,11 +73,6 @@ pub broken_behind : (bytes : List ℕ) (frames : List Frame) (len : ℕ) (found 
     → Finds found (take (length bytes - len) (drop len bytes)) → SoFar bytes frames len → Fronts bytes frames len true
 broken_behind bytes frames len found is finds so_far =
     fronts_broken bytes frames len so_far (subst (λ (f : FoundFrame). Finds f (drop len bytes)) is (subst (λ (w : List ℕ). Finds found w) (from_place bytes len) finds))
-
-pub begun_behind : (bytes : List ℕ) (frames : List Frame) (len : ℕ) (found : FoundFrame) → found ≡ Partial
-    → Finds found (take (length bytes - len) (drop len bytes)) → SoFar bytes frames len → Fronts bytes frames len false
-begun_behind bytes frames len found is finds so_far =
-    fronts_begun bytes frames len so_far (subst (λ (f : FoundFrame). Finds f (drop len bytes)) is (subst (λ (w : List ℕ). Finds found w) (from_place bytes len) finds))
 
 -- a reader that found no form
 pub no_form : (error : PayloadError) (read : Option Frame) → error ≡ NoForm → Stops error read → read ≡ None

@@ -32,13 +32,6 @@ pub judge_is : {B : Type 0} (good : Bool) (f : Unit {0} → Option B) (y : Optio
 judge_is true f y e g = g
 judge_is false f y e g = absurd cc
 
-pub judge_fails : {B : Type 0} (good : Bool) (f : Unit {0} → Option B) → good ≡ false → (judge good >>= f) ≡ None
-judge_fails true f e = absurd cc
-judge_fails false f e = refl
-
-pub fails_first : {A B : Type 0} (r : Option A) (f : A → Option B) → r ≡ None → (r >>= f) ≡ None
-fails_first r f e = rw e refl
-
 pub guard_is : {A : Type 0} (b : Bool) (x y : A) → b ≡ false → x ≡ y → cond b None (done x) ≡ done y
 guard_is true x y b e = absurd cc
 guard_is false x y b e = ap done e

@@ -11,7 +11,6 @@ use Rattle.update_model.specs.Batch.{Limits}
 use Rattle.update_model.specs.Entry.{Entry}
 use Rattle.session_rules.proofs.Words.{cons_cases, each_weaker, first_member, later_member}
 use Rattle.sync_session.specs.Kept.{GrowsBy}
-use Rattle.sync_session.proofs.TurnTaking.{bytes_back}
 
 pub grows_none : (from before after : List (List ℕ)) → after ≡ before → GrowsBy from before after
 grows_none from before after is = record { added = []; behind = is ∙ sym (append-nil before); of = All-nil (Contains from) }
@@ -67,7 +66,3 @@ grows_commit limits before batch (Err commit_faults.Memory) faults later after c
 -- a list that grew is of a set where it was before and where all that it gained is
 pub grown_within : (P : List ℕ → Type 0) (from before after : List (List ℕ)) → GrowsBy from before after → All P before → ((u : List ℕ) → Contains from u → P u) → All P after
 grown_within P from before after g all f = subst (All P) (sym g.behind) (All-append P before g.added all (All-weaker (Contains from) P f g.added g.of))
-
--- the same entries are the same updates
-pub same_updates : (us vs : List (List ℕ)) → map entry_of us ≡ map entry_of vs → us ≡ vs
-same_updates us vs same = sym (bytes_back us) ∙ ap (map (λ (e : Entry). e.bytes)) same ∙ bytes_back vs

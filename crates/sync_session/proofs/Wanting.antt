@@ -1,5 +1,5 @@
 -- What is sought, and what of it is asked for.
-use Rattle.std.proofs.Common.{◌≡◌, ◌⊎◌, ◌↔◌, IsSome, arith, ℕ, ◌+◌, ◌<◌, ◌≤◌, Bool, true, false, not, cond, ◌&&◌, ◌||◌, List, [], ◌∷◌, ◌++◌, length, get_or, take, map, filter, drop, is_some, Option, Some, None, Result, Ok, Err, IfOk, refl, sym, ap, subst, ◌∙◌, append_assoc, inl, inr}
+use Rattle.std.proofs.Common.{◌≡◌, ◌⊎◌, ◌↔◌, IsSome, arith, ℕ, ◌+◌, ◌<◌, ◌≤◌, Bool, true, false, not, cond, ◌&&◌, ◌||◌, List, [], ◌∷◌, ◌++◌, length, get_or, take, map, filter, drop, is_some, Option, Some, None, Result, Ok, Err, IfOk, refl, sym, ap, subst, ◌∙◌, inl, inr}
 use Rattle.std.specs.List.{HoldsAt}
 use Rattle.std.specs.List.Sorted.{IsSearchInRange, IsStrictlySortedBy}
 use Rattle.std.specs.Result.{is_ok}
@@ -68,18 +68,9 @@ seek_more was old new ids i d low s put q =
 
 -- ---- what is taken out
 
--- what is wanted is what is named and open
-named_open : (heads : List UpdateId) (now waiting : List Entry) (asked : List UpdateId) (id : UpdateId) → is_wanted heads now waiting asked id ≡ ((has heads id || names waiting id) && is_open now waiting asked id)
-named_open heads now waiting asked id = refl
-
 -- what passes, of what is among some
 has_filter : (t : UpdateId → Bool) (ids : List UpdateId) (q : UpdateId) → has (filter t ids) q ≡ (t q && has ids q)
 has_filter t ids q = any-filter_same (same_id q) t (t q) (λ k same. ap t (sym (id_from_same q k same))) ids
-
--- one that passes is taken over, one that fails is dropped
-pub taken_over : (t : UpdateId → Bool) (ids sought rest all : List UpdateId) (k : UpdateId) → ids ++ filter t sought ≡ all → sought ≡ k ∷ rest → t k ≡ true → (ids ++ k ∷ []) ++ filter t rest ≡ all
-taken_over t ids sought rest all k was is passes =
-    append_assoc ids (k ∷ []) (filter t rest) ∙ ap (λ xs. ids ++ xs) (rw (is, passes) refl) ∙ was
 
 pub dropped : (t : UpdateId → Bool) (ids sought rest all : List UpdateId) (k : UpdateId) → ids ++ filter t sought ≡ all → sought ≡ k ∷ rest → t k ≡ false → ids ++ filter t rest ≡ all
 dropped t ids sought rest all k was is fails = ap (λ xs. ids ++ xs) (rw (is, fails) refl) ∙ was
@@ -137,15 +128,6 @@ module _ (heads : List UpdateId) (now : List Entry) (p : PendingData) (asked bef
     | inl there ↦ or_left (has ids id) (has rest id) there
     | inr later ↦ absurd (let never : has after id ≡ false = ap (λ xs. has xs id) none in cc)
   ]
-
--- where nothing is taken out
-pub all_sought : (heads : List UpdateId) (now : List Entry) (p : PendingData) (asked sought : List UpdateId) → AreSought heads now p asked sought → StaySought (is_wanted heads now (map entry_of p.waiting) asked) [] sought
-all_sought heads now p asked sought are id is =
-    let both = and_both (has heads id || names (map entry_of p.waiting) id) (is_open now (map entry_of p.waiting) asked id) is in
-    are id both.1 (elim (or_cases (has heads id) (names (map entry_of p.waiting) id) both.0) [
-      | inl head ↦ or_left (has heads id) _ head
-      | inr named ↦ or_right (has heads id) _ (or_left (names (map entry_of p.waiting) id) _ named)
-    ])
 
 -- ---- whether an id is open
 

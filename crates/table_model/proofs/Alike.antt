@@ -60,14 +60,8 @@ Alike-trans a b = record { weighs = λ w. a.weighs w ∙ b.weighs w }
 pub Alike-cons : {X : Type 0} {xs ys : List X} (x : X) → Alike xs ys → Alike (x ∷ xs) (x ∷ ys)
 Alike-cons x a = record { weighs = λ w. ap (λ n. w x + n) (a.weighs w) }
 
-pub Alike-swap : {X : Type 0} (x y : X) (zs : List X) → Alike (x ∷ y ∷ zs) (y ∷ x ∷ zs)
-Alike-swap x y zs = record { weighs = λ w. omega arith }
-
 pub Alike-middle : {X : Type 0} (xs ys : List X) (x : X) → Alike (xs ++ x ∷ ys) (x ∷ (xs ++ ys))
 Alike-middle xs ys x = record { weighs = λ w. omega (arith, weight-append w xs (x ∷ ys), weight-append w xs ys) }
-
-pub Alike-tail : {X : Type 0} {xs ys : List X} (x : X) → Alike (x ∷ xs) (x ∷ ys) → Alike xs ys
-Alike-tail x a = record { weighs = λ w. let e = a.weighs w in omega arith }
 
 pub Alike-append : {X : Type 0} {ks bs cs ds : List X} → Alike ks cs → Alike bs ds → Alike (ks ++ bs) (cs ++ ds)
 Alike-append {X} {ks} {bs} {cs} {ds} a b = record { weighs = λ w. let e = a.weighs w in let f = b.weighs w in omega (arith, weight-append w ks bs, weight-append w cs ds) }
@@ -93,13 +87,6 @@ length-weight (x ∷ xs) = let e = length-weight xs in omega arith
 
 pub same_length : {X : Type 0} {xs ys : List X} → Alike xs ys → length xs ≡ length ys
 same_length {X} {xs} {ys} a = length-weight xs ∙ a.weighs (λ _. 1) ∙ sym (length-weight ys)
-
--- tests that agree at each element agree on the list
-pub any-each : {X : Type 0} (p q : X → Bool) (xs : List X) → ((x : X) → p x ≡ q x) → list_any p xs ≡ list_any q xs
-any-each p q xs h = λ i. list_any (λ x. h x i) xs
-
-pub all-each : {X : Type 0} (p q : X → Bool) (xs : List X) → ((x : X) → p x ≡ q x) → list_all p xs ≡ list_all q xs
-all-each p q xs h = λ i. list_all (λ x. h x i) xs
 
 pub filter-each : {X : Type 0} (p q : X → Bool) (xs : List X) → ((x : X) → p x ≡ q x) → filter p xs ≡ filter q xs
 filter-each p q xs h = λ i. filter (λ x. h x i) xs

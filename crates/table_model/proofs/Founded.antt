@@ -56,9 +56,6 @@ Sub-append ks {xs} {ys} s = record {
 pub Sub-right : {X : Type 0} (ks xs : List X) → Sub xs (ks ++ xs)
 Sub-right ks xs = record { more = λ p h. list_any-append p ks xs ∙ or_right (list_any p ks) _ h }
 
-pub Sub-left : {X : Type 0} (ks xs : List X) → Sub ks (ks ++ xs)
-Sub-left ks xs = record { more = λ p h. list_any-append p ks xs ∙ or_left _ _ h }
-
 -- a row passed the tests of an insert beside these older rows
 pub record IsFounded (rules : Rules) (older : List TableRow) (row : TableRow) : Type 0 where
   pub known : nat_le (length rules.tables) row.table ≡ false

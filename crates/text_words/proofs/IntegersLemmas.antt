@@ -89,6 +89,3 @@ parsed word (Ok n) form h =
     rw (form, small) (ap (λ n. Some n) h.1)
 parsed word (Err e) form h =
     rw form (sym (by_size (signed_digits_value 10 word) (is_within_64_bits (signed_digits_value 10 word)) refl (λ f. h ((is_decimal word form).0, f))))
-
-pub no_form : (word : List ℕ) → is_integer_form word ≡ false → None ≡ int_of word
-no_form word form = rw form refl

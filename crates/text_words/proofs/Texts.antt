@@ -1,5 +1,5 @@
 -- Reading a quoted text one piece after another, as a loop does.
-use Rattle.std.proofs.Common.{◌≡◌, ℕ, zero, suc, ◌≤◌, ◌<◌, Bool, true, false, ◌==◌, nat_lt, List, [], ◌∷◌, ◌++◌, length, Option, Some, None, option_map, cond, refl, sym, ap, subst, ◌∙◌, append_assoc, arith, IfSome}
+use Rattle.std.proofs.Common.{◌≡◌, ℕ, zero, suc, ◌≤◌, ◌<◌, Bool, true, false, ◌==◌, nat_lt, List, [], ◌∷◌, ◌++◌, length, Option, Some, None, option_map, cond, refl, sym, ap, ◌∙◌, append_assoc, arith, IfSome}
 use Rattle.std.specs.Option.{option_map_or}
 use Rattle.text_words.specs.Quoted.{text_within, text_at, piece_at, escape_at, hex_escape, byte_of, closing, with_byte}
 
@@ -46,9 +46,6 @@ piece_shortens (byte ∷ rest) =
     (chosen P (byte == 92) _ _ (escape_shortens n rest (omega arith))
     (chosen P (nat_lt byte 32) _ _ tt (omega arith)))
 
-pub piece_shorter : (bytes after : List ℕ) (byte : ℕ) → piece_at bytes ≡ Some (byte, after) → length after < length bytes
-piece_shorter bytes after byte e = subst (Shortens (length bytes)) e (piece_shortens bytes)
-
 -- the text that a piece begins, or else the quote
 abbrev pub onward : (List ℕ → Option (List ℕ × List ℕ)) → List ℕ → Option (ℕ × List ℕ) → Option (List ℕ × List ℕ)
 onward read bytes piece = option_map_or (λ p. with_byte p.0 (read p.1)) piece (closing bytes)
@@ -91,10 +88,6 @@ pub text_ends : (front rest : List ℕ) (total : Option (List ℕ × List ℕ)) 
 text_ends front rest total none so_far =
     let step : text_at rest ≡ closing rest = text_step rest ∙ ap (onward text_at rest) none in
     sym (ap (with_front front) step) ∙ so_far
-
-pub front_of_none : (read : Option (List ℕ × List ℕ)) → with_front [] read ≡ read
-front_of_none None = refl
-front_of_none (Some text) = refl
 
 -- what is read is followed by fewer bytes than these
 abbrev pub Leaves : ℕ → Option (List ℕ × List ℕ) → Type 0

@@ -78,10 +78,6 @@ parents_step shapes first rows n it names list below is so at =
     ∙ ap (λ m. parents_from rules first (take n rows) ++ parents_from rules (first + m) (it ∷ [])) (sym len)
     ∙ sym (ap (parents_from rules first) last ∙ parents-append rules first (take n rows) (it ∷ []))
 
--- a table that is not there has no columns
-pub no_names : (place : ℕ) (values : List Value) → names_in place [] values ≡ []
-no_names place values = refl
-
 -- ---- names that rise
 
 -- Each name's number is from one on and below another, none is below the one before it, and its row stands before its number.

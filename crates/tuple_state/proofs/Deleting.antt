@@ -1,6 +1,6 @@
 -- The updates that delete a row are found by its place.
 use Rattle.std.proofs.Common.{◌≡◌, ℕ, zero, suc, ◌+◌, ◌<◌, Bool, true, false, cond, ◌&&◌, ◌||◌, List, [], ◌∷◌, ◌++◌, length, get_or, map, reverse, take, refl, sym, ap, ◌∙◌, Option, Some, None, inl, inr, arith}
-use Rattle.std.specs.Prelude.{is_some, Result, Ok, Err, is_err, MatchResult}
+use Rattle.std.specs.Prelude.{is_some}
 use Rattle.std.specs.List.{list_all, list_any, position_from}
 use Rattle.std.proofs.lemmas.Bool.{and_parts, and_from, both_ways, cases_Bool, eqb-true, eq-eqb, false_from_ne_true}
 use Rattle.std.proofs.lemmas.Bool.Decides.{nat_tests}
@@ -149,14 +149,6 @@ drops_found rows dropped drops h =
     let whole = all_back t (map (λ (d : Dropped). d.name) (dropped ++ drops)) h in
     let split = sym (ap (list_all t) (map-append (λ (d : Dropped). d.name) dropped drops) ∙ list_all-append t (map (λ (d : Dropped). d.name) dropped) (map (λ (d : Dropped). d.name) drops)) ∙ whole in
     homed_back rows drops (and_parts (list_all t (map (λ (d : Dropped). d.name) dropped)) _ split).1
-
-pub match_ok : {T E P : Type 0} (Q : Type 0) (r : Result T E) → is_err r ≡ false → MatchResult r (λ _. P) (λ _. Q) → P
-match_ok Q (Ok x) _ given = given
-match_ok Q (Err e) none given = absurd (cc)
-
-pub match_err : {T E Q : Type 0} (P : Type 0) (r : Result T E) → is_err r ≡ true → MatchResult r (λ _. P) (λ _. Q) → Q
-match_err P (Ok x) some given = absurd (cc)
-match_err P (Err e) some given = given
 
 pub not_none : {X : Type 0} (o : Option X) → is_some o ≡ true → o ≡ None → ⊥
 not_none o some none = both_ways _ (ap is_some none) some

@@ -1,14 +1,10 @@
 -- What deletes a name after an update's ancestors.
 use Rattle.tuple_state.specs.declared.shape.Shape.{Shape}
-use Rattle.std.proofs.Common.{◌≡◌, ℕ, zero, suc, ◌+◌, ◌<◌, ◌≤◌, ◌==◌, nat_lt, Bool, true, false, cond, ◌&&◌, ◌||◌, List, [], ◌∷◌, ◌++◌, length, get_or, take, map, refl, sym, ap, ap₂, ◌∙◌, Some, arith}
-use Rattle.std.specs.Prelude.{slice_get, unwrap_or, filter, bytes_eq}
-use Rattle.std.specs.List.{list_all, list_any}
-use Rattle.std.proofs.lemmas.Bool.{and_parts, or_right}
-use Rattle.std.proofs.lemmas.Bool.Decides.{nat_tests}
+use Rattle.std.proofs.Common.{◌≡◌, ℕ, zero, suc, ◌<◌, ◌==◌, Bool, true, false, cond, ◌&&◌, ◌||◌, List, [], ◌∷◌, length, get_or, map, refl, sym, ap, ap₂, ◌∙◌, Some, arith}
+use Rattle.std.specs.Prelude.{slice_get, filter, bytes_eq}
+use Rattle.std.specs.List.{list_any}
 use Rattle.std.proofs.lemmas.Map.Text.{is_eq-slice_cmp}
 use Rattle.tuple_state.proofs.Growth.{same_row-symm}
-use Rattle.std.proofs.lemmas.List.{take_more, take_all}
-use Rattle.std.proofs.lemmas.List.Folds.{list_all-append, list_any-append}
 use Rattle.update_model.specs.declared.row_name.RowName.{RowName}
 use Rattle.table_model.specs.Visible.{is_deleted, same_row}
 use Rattle.tuple_state.specs.declared.dropped.Dropped.{Dropped}
@@ -32,18 +28,6 @@ deleted_then state past name =
     ∙ any_mapped (λ (d : Dropped). d.name) (same_row name) (filter (λ (d : Dropped). past d.position) state.dropped)
     ∙ any_kept (λ (d : Dropped). same_row name d.name) (λ (d : Dropped). past d.position) state.dropped
 
-pub any_at : (t : Dropped → Bool) (xs : List Dropped) (i : ℕ) (d : Dropped) → i < length xs → t (get_or xs i d) ≡ true → list_any t xs ≡ true
-any_at t [] i d below h = absurd (omega (arith, below))
-any_at t (x ∷ xs) zero d below h = ap (λ b. b || list_any t xs) h
-any_at t (x ∷ xs) (suc i) d below h = or_right (t x) _ (any_at t xs i d (omega (arith, below)) h)
-
-pub none_more : (t : Dropped → Bool) (xs : List Dropped) (i : ℕ) (d : Dropped) → i < length xs → list_any t (take i xs) ≡ false → t (get_or xs i d) ≡ false → list_any t (take (i + 1) xs) ≡ false
-none_more t xs i d below before h =
-    ap (list_any t) (take_more xs i d below) ∙ list_any-append t (take i xs) (get_or xs i d ∷ []) ∙ (λ j. before j || (h j || false))
-
-pub none_left : (t : Dropped → Bool) (xs : List Dropped) (i : ℕ) → length xs ≤ i → list_any t (take i xs) ≡ false → list_any t xs ≡ false
-none_left t xs i past before = ap (list_any t) (sym (take_all i xs past)) ∙ before
-
 -- two names as the code compares them
 pub names_equal : (a b : RowName) → same_row b a ≡ (bytes_eq a.update.0 b.update.0 && (a.index == b.index))
 names_equal a b = same_row-symm b a ∙ ap (λ x. x && (a.index == b.index)) (is_eq-slice_cmp a.update.0 b.update.0)
@@ -52,12 +36,6 @@ pub row_there : (rows : List Inserted) (k : ℕ) → k < length rows → (it : I
 row_there [] k below = absurd (omega (arith, below))
 row_there (row ∷ rows) zero below = (row, refl)
 row_there (row ∷ rows) (suc k) below = row_there rows k (omega (arith, below))
-
-pub popped_below : (keys before : List ℕ) (k n : ℕ) → before ≡ keys ++ k ∷ [] → list_all (λ x. nat_lt x n) before ≡ true → k < n
-popped_below keys before k n popped h =
-    let parts = and_parts (list_all (λ x. nat_lt x n) keys) _ (sym (ap (list_all (λ x. nat_lt x n)) popped ∙ list_all-append (λ x. nat_lt x n) keys (k ∷ [])) ∙ h) in
-    let here = (and_parts (nat_lt k n) true parts.1).0 in
-    grind (arith, nat_tests)
 
 -- an element by its index, found twice
 pub same_found : (rows : List Inserted) (k : ℕ) (row it : Inserted) → row ≡ get_or rows k row → slice_get rows k ≡ Some it → row ≡ it

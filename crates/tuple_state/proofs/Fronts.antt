@@ -1,5 +1,5 @@
 -- What the first updates left.
-use Rattle.std.proofs.Common.{◌≡◌, ℕ, zero, suc, ◌+◌, ◌*◌, ◌<◌, ◌≤◌, ◌==◌, ◌⊎◌, Bool, true, false, cond, not, List, [], ◌∷◌, ◌++◌, length, map, reverse, take, drop, refl, sym, ap, ◌∙◌, append_assoc, length-append, nat_lt, inl, inr, arith}
+use Rattle.std.proofs.Common.{◌≡◌, ℕ, zero, suc, ◌+◌, ◌*◌, ◌<◌, ◌≤◌, ◌==◌, ◌⊎◌, Bool, true, false, cond, not, List, [], ◌∷◌, ◌++◌, length, map, reverse, take, refl, sym, ap, ◌∙◌, append_assoc, length-append, nat_lt, inl, inr, arith}
 use Rattle.std.specs.Prelude.{count_by}
 use Rattle.std.specs.List.{list_all}
 use Rattle.std.proofs.lemmas.Bool.{and_parts, and_from, eqb-true, eq-eqb}
@@ -190,10 +190,6 @@ voids_parted rules newer older = parted (λ (it : Voided). it.position) (λ (s :
 pub take_front : {X : Type 0} (xs ys : List X) → take (length xs) (xs ++ ys) ≡ xs
 take_front [] ys = refl
 take_front (x ∷ xs) ys = ap (λ l. x ∷ l) (take_front xs ys)
-
-pub drop_front : {X : Type 0} (xs ys : List X) → drop (length xs) (xs ++ ys) ≡ ys
-drop_front [] ys = refl
-drop_front (x ∷ xs) ys = drop_front xs ys
 
 pub counted : {X : Type 0} (position : X → ℕ) (len : ℕ) (whole front : List X) → Parted position len whole front → count_by (λ x. nat_lt (position x) len) whole ≡ length front
 counted position len whole front p =

@@ -1,6 +1,6 @@
 -- The least row of each group.
 use Rattle.std.proofs.Common.{◌≡◌, ◌≢◌, ℕ, zero, suc, ◌+◌, ◌<◌, ◌≤◌, ◌==◌, Bool, true, false, ◌&&◌, ◌||◌, List, [], ◌∷◌, length, get_or, set, get_or-set_other, get_or-set_same, refl, sym, ap, ◌∙◌, subst, Option, Some, None, is_none, arith, inl, inr}
-use Rattle.std.specs.Prelude.{IfSome, count_by, slice_get}
+use Rattle.std.specs.Prelude.{count_by, slice_get}
 use Rattle.std.specs.declared.cmp.Ordering.{Ordering}
 use Rattle.std.specs.declared.cmp.Ordering.TheVariants.{Less, Equal, Greater}
 use Rattle.std.specs.Ordering.{is_lt, ordering_reverse}
@@ -106,15 +106,6 @@ module _ (rows : List Inserted) (standing : ℕ → Inserted → Bool) (n : ℕ)
           | inr last ↦ ap (λ (x : Inserted). is_lt (name_cmp x.name it.name)) (one_row rows n other it (ap (slice_get rows) (sym last) ∙ there) at) ∙ less_itself it.name
         ];
   }
-
-pub least_there : (rows : List Inserted) (standing : ℕ → Inserted → Bool) (n : ℕ) (o : Option ℕ) → IsLeastOf rows standing n o → IfSome o (λ k. k < length rows)
-least_there rows standing n None l = tt
-least_there rows standing n (Some q) f = slice_get_below rows q f.it f.at
-
--- after all rows
-pub least_end : (rows : List Inserted) (standing : ℕ → Inserted → Bool) (n : ℕ) (o : Option ℕ) → length rows ≤ n → IsLeastOf rows standing n o → IsLeastOf rows standing (length rows) o
-least_end rows standing n None past none = λ k it below at. none k it (omega (arith, below, past)) at
-least_end rows standing n (Some q) past f = record { it = f.it; at = f.at; stands = f.stands; least = λ k other below there stands. f.least k other (omega (arith, below, past)) there stands }
 
 module _ (rows : List Inserted) (causes groups : List ℕ) (least : List (Option ℕ)) (table n : ℕ) (it : Inserted) (at : slice_get rows n ≡ Some it)
     (g : ℕ) (are : IsLeastOf rows (is_standing causes groups table g) n (get_or least g None)) where

@@ -155,10 +155,6 @@ abbrev pub size_of : Option ℕ → ℕ
 size_of None = 0
 size_of (Some index) = suc index
 
-pub size_below : (o : Option ℕ) (n : ℕ) → IsBelow o n → size_of o ≤ n
-size_below None n h = omega arith
-size_below (Some k) n h = omega (arith, h)
-
 pub default_free : {X : Type 0} (xs : List X) (k : ℕ) (d e : X) → k < length xs → get_or xs k d ≡ get_or xs k e
 default_free [] k d e h = absurd (omega (arith, h))
 default_free (x ∷ xs) zero d e h = refl

@@ -1,12 +1,12 @@
 -- The rows that a table lists, by what a state holds.
 use Rattle.tuple_state.specs.declared.shape.Shape.{Shape}
-use Rattle.std.proofs.Common.{◌≡◌, ℕ, zero, suc, ◌+◌, ◌<◌, Bool, true, false, cond, ◌&&◌, List, [], ◌∷◌, ◌++◌, length, map, reverse, take, refl, sym, ap, ap₂, ◌∙◌, subst, None, Some}
-use Rattle.std.specs.Prelude.{filter, slice_get}
+use Rattle.std.proofs.Common.{◌≡◌, ℕ, zero, suc, ◌+◌, Bool, true, false, cond, ◌&&◌, List, [], ◌∷◌, ◌++◌, length, map, reverse, refl, sym, ap, ◌∙◌, subst, None}
+use Rattle.std.specs.Prelude.{filter}
 use Rattle.std.specs.Ordering.{eq_by_cmp}
 use Rattle.std.specs.List.Sorted.{IsPermutation, IsStrictlySortedBy}
 use Rattle.std.proofs.lemmas.Cmp.{eq_by_cmp_equiv}
 use Rattle.std.proofs.lemmas.List.{map-append}
-use Rattle.std.proofs.lemmas.List.Elements.{filter-append, filter_more}
+use Rattle.std.proofs.lemmas.List.Elements.{filter-append}
 use Rattle.std.proofs.lemmas.List.Sorted.{IsPermutation-map, IsPermutation-reverse, IsPermutation-sym, IsPermutation-trans}
 use Rattle.std.proofs.lemmas.Map.Keys.{IsDistinct-IsPermutation}
 use Rattle.update_model.specs.declared.row_name.RowName.{RowName}
@@ -22,13 +22,13 @@ use Rattle.table_model.proofs.Rising.{listed_distinct, name_cmp_total, shown_dis
 use Rattle.table_model.specs.Verdicts.{in_table}
 use Rattle.table_model.specs.Visible.{Effects, Rules, TableRow, is_visible, shown, shown_rows, shown_value, shown_values, table_of}
 use Rattle.tuple_state.specs.declared.inserted.Inserted.{Inserted}
-use Rattle.tuple_state.specs.Arrived.{arrived, listed_rows}
+use Rattle.tuple_state.specs.Arrived.{arrived}
 use Rattle.tuple_state.specs.Kept.{place_of}
 use Rattle.tuple_state.specs.Parents.{columns_at}
 use Rattle.tuple_state.specs.Showing.{shown_by, shown_values_by}
 use Rattle.tuple_state.specs.State.{IsStateOf, State, done_in, row_of, rules_of_state, rules_over}
 use Rattle.tuple_state.proofs.Layers.{SameShapes, same_visible, unnamed_hidden}
-use Rattle.tuple_state.proofs.Lookups.{shapes_same, did_same, get_or_from, reverse_cons, unnamed_from_none}
+use Rattle.tuple_state.proofs.Lookups.{shapes_same, did_same, reverse_cons, unnamed_from_none}
 
 -- ---- what values show
 
@@ -124,20 +124,6 @@ mapped_kept f g p (x ∷ xs) =
     ]
 
 -- ---- the rows that a state lists in a table, in order of arrival
-
--- one place more, whose row is listed or not
-pub listed_more : (state : State) (table place : ℕ) (it : Inserted) (b : Bool) (old new more : List ShownRow) → slice_get state.inserted place ≡ Some it → place < length state.inserted
-    → b ≡ (in_table table (row_of it) && is_visible (rules_of_state state) (done_in state) it.name)
-    → more ≡ map (λ (x : Inserted). listed (shown (rules_of_state state) (done_in state) (row_of x))) (cond b (it ∷ []) []) → new ≡ old ++ more
-    → old ≡ listed_rows state table (take place state.inserted) → new ≡ listed_rows state table (take (place + 1) state.inserted)
-listed_more state table place it b old new more at below answer last pushed before =
-    let p : Inserted → Bool = λ x. in_table table (row_of x) && is_visible (rules_of_state state) (done_in state) x.name in
-    let f : Inserted → ShownRow = λ x. listed (shown (rules_of_state state) (done_in state) (row_of x)) in
-    let front = filter p (take place state.inserted) in
-    let wanted : filter p (take (place + 1) state.inserted) ≡ front ++ cond b (it ∷ []) [] =
-    filter_more p state.inserted place it below ∙ ap (λ (x : Inserted). front ++ cond (p x) (x ∷ []) []) (get_or_from state.inserted place it it at)
-    ∙ ap (λ (c : Bool). front ++ cond c (it ∷ []) []) (sym answer) in
-    pushed ∙ ap₂ (λ (xs ys : List ShownRow). xs ++ ys) before last ∙ sym (map-append f front (cond b (it ∷ []) [])) ∙ ap (map f) (sym wanted)
 
 -- whether a row of a table is visible, and the row as the table lists it
 abbrev is_kept : State → ℕ → TableRow → Bool

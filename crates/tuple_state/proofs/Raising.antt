@@ -49,9 +49,6 @@ times_fewer links place k =
 
 -- ---- one count more
 
-same_number : (a b : ℕ) → a ≡ b → (a == b) ≡ true
-same_number a b e = eq-eqb a b e
-
 other_number : (a b : ℕ) → a ≢ b → (a == b) ≡ false
 other_number a b ne = false_from_ne_true (a == b) (λ e. ne (eqb-true a b e))
 

@@ -6,7 +6,6 @@ use Rattle.update_model.specs.declared.op.Op.TheVariants.{Insert, Delete}
 use Rattle.update_model.specs.Node.{NodeData}
 use Rattle.table_model.specs.Verdicts.{effects_after, effects_of, nothing, row_inserted}
 use Rattle.table_model.specs.Visible.{Effects}
-use Rattle.tuple_state.specs.declared.inserted.Inserted.{Inserted}
 use Rattle.tuple_state.specs.declared.dropped.Dropped.{Dropped}
 use Rattle.tuple_state.specs.State.{dropped_at, inserted_at}
 use Rattle.update_model.specs.declared.author_key.AuthorKey.{AuthorKey}
@@ -63,16 +62,9 @@ pub names_end : (position : ℕ) (ops total : List Op) (i : ℕ) (names : List D
 unfolding names_by
 names_end position ops total i names past inv = sym (append-nil names) ∙ ap (λ l. names ++ names_by position l) (sym (drop_past i ops past)) ∙ inv
 
-pub rows_step : (position : ℕ) (node : NodeData) (ops total : List Op) (i : ℕ) (op : Op) (rows new : List Inserted) → i < length ops → op ≡ get_or ops i op
-    → rows ++ rows_by position node i (drop i ops) ≡ rows_by position node 0 total → new ≡ rows ++ row_by position node i op → new ++ rows_by position node (i + 1) (drop (i + 1) ops) ≡ rows_by position node 0 total
 unfolding rows_by
-rows_step position node ops total i op rows new below is inv added =
-    ap (λ l. l ++ rows_by position node (i + 1) (drop (i + 1) ops)) added ∙ append_assoc rows (row_by position node i op) _
-    ∙ ap (λ l. rows ++ rows_by position node i l) (sym (drop_next ops i op below is)) ∙ inv
 
-pub rows_end : (position : ℕ) (node : NodeData) (ops total : List Op) (i : ℕ) (rows : List Inserted) → length ops ≤ i → rows ++ rows_by position node i (drop i ops) ≡ rows_by position node 0 total → rows ≡ rows_by position node 0 total
 unfolding rows_by
-rows_end position node ops total i rows past inv = sym (append-nil rows) ∙ ap (λ l. rows ++ rows_by position node i l) (sym (drop_past i ops past)) ∙ inv
 
 -- a node with this id and author
 abbrev pub made_of : UpdateId → AuthorKey → NodeData

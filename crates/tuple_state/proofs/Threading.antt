@@ -70,13 +70,6 @@ counted_onward n m k x old w ahead none before =
           ]
     ]
 
--- before the first row nothing is counted
-pub counted_first : (k x w : ℕ) → x ≡ x + cond (nat_lt k 0) w 0
-counted_first k x w =
-    let low : nat_lt k 0 ≡ false = grind (arith, nat_tests) in
-    let e : x + cond (nat_lt k 0) w 0 ≡ x + 0 = ap (λ b. x + cond b w 0) low in
-    omega (arith, e)
-
 -- one row more is counted
 pub counted_row : (n k x old more a b : ℕ) → (k ≤ n → b ≡ a) → (n ≡ k → more ≡ a) → x ≡ old + cond (nat_lt k n) a 0 → x + cond (n == k) more 0 ≡ old + cond (nat_lt k (n + 1)) b 0
 counted_row n k x old more a b same here before =
@@ -222,20 +215,6 @@ module _ (rows : List Inserted) (firsts nexts : List ℕ) (n : ℕ) (it : Insert
               subst (λ (f : ℕ). IsThread rows after_nexts table n f) (sym (get_or-set_other firsts table_at table n 0 ne)) (other_thread table (omega (arith, low, len)) ne)
         ];
   }
-
--- a table that has no thread has no row
-pub thread_none : (rows : List Inserted) (firsts nexts : List ℕ) (table : ℕ) → AreThreads rows firsts nexts 0 → length firsts ≤ table → IsThread rows nexts table 0 (length rows)
-thread_none rows firsts nexts table known past =
-    let none : (k : ℕ) → is_in table (slice_get rows k) ≡ false = λ k.
-    (let step : (o : Option Inserted) → slice_get rows k ≡ o → is_in table o ≡ false = elim [
-      | None ↦ λ e. refl
-      | Some it ↦ λ e. false_from_ne_true _ (λ h. let is = eqb-true it.entry.table table h in let lt = known.known k it (omega arith) e in absurd (omega (arith, is, lt, past)))
-    ] in
-    step (slice_get rows k) refl) in
-    record {
-      start = record { ahead = omega arith; none = λ k low high. none k; own = λ h. absurd (omega (arith, h)) };
-      onward = λ k low own. absurd (both_ways _ (none k) own);
-    }
 
 -- ---- what rows of other tables do not do
 

@@ -20,7 +20,7 @@ use Rattle.txn_text.specs.declared.keyword.Keyword.{Keyword}
 use Rattle.txn_text.specs.declared.stop.Wrong.{Wrong}
 use Rattle.txn_text.specs.declared.verb.Verb.{Verb}
 use Rattle.txn_text.specs.Operations.{keyword_at, verb_after, verb_by, wrong_at}
-use Rattle.txn_text.specs.Outcome.{HasCause, HasLineCause, HasFaultIn, Answers, MayStand, IsTaken}
+use Rattle.txn_text.specs.Outcome.{HasCause, HasFaultIn, Answers, MayStand, IsTaken}
 use Rattle.txn_text.specs.Transactions.{IsCutShort, ends_before, LineIs, LinesAre, FaultIn, Reads, FirstFault}
 
 -- ---- bytes that are not UTF-8
@@ -115,22 +115,12 @@ pub fail_more : (tables : List TableDef) (ops next : List Op) (number : ℕ) (re
 fail_more tables ops next number rest line after all e taken on =
     fail_line tables ops number line (lines_of after) next all taken (subst (λ (lines : List (List ℕ)). FailOn tables (length ops) number lines all) e on)
 
-pub fail_here : (tables : List TableDef) (ops : List Op) (number : ℕ) (rest line after : List ℕ) (text : List ℕ) (e : TextError) → lines_of rest ≡ line ∷ lines_of after
-    → HasLineCause tables (length ops) number line e → FailOn tables (length ops) number (lines_of rest) (lines_of text) → HasFaultIn tables text e
-fail_here tables ops number rest line after text (error.Fault fault) e cause on =
-    on fault.kind fault.line fault.column (subst (λ (lines : List (List ℕ)). FaultIn tables (length ops) number lines fault.kind fault.line fault.column) (sym e) (inl cause))
-fail_here tables ops number rest line after text error.Memory e cause on = tt
-
 pub read_end : (tables : List TableDef) (ops : List Op) (rest : List ℕ) (all : List (List ℕ)) → rest ≡ [] → ReadOn tables (lines_of rest) ops all → LinesAre tables 0 all ops
 read_end tables ops rest all e on =
     let lines : lines_of rest ≡ [] = ap lines_of e ∙ no_lines in
     subst (λ (o : List Op). LinesAre tables 0 all o) (append-nil ops) (on [] (subst (λ (ls : List (List ℕ)). LinesAre tables (length ops) ls []) (sym lines) refl))
 
 -- ---- a whole text
-
--- a text is one list of operations
-abbrev pub OneTransaction : Type 0
-OneTransaction = (schema : SchemaData) (text : List ℕ) (ops other : List Op) → Reads schema text ops → Reads schema text other → ops ≡ other
 
 -- a text that is a list of operations has no fault
 abbrev pub NoFault : Type 0

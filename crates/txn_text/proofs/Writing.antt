@@ -25,12 +25,6 @@ next_is verb before rest start after word written e h f w =
     let P : List ℕ → Type 0 = λ s. value_at verb before s ≡ placed start after written in
     subst P e (value_starts verb before start h ∙ ap (value_by verb before start) f ∙ ap (placed start after) (sym w))
 
-pub next_is_bad : (verb : Verb) (before : ℕ) (rest start : List ℕ) → start ≡ skip_blanks rest → 0 < length start → first_word Spaced start ≡ None
-    → next_value verb before rest ≡ value_by verb before start None
-next_is_bad verb before rest start e h f =
-    let P : List ℕ → Type 0 = λ s. value_at verb before s ≡ value_by verb before start None in
-    subst P e (value_starts verb before start h ∙ ap (value_by verb before start) f)
-
 placed_after : (start after left : List ℕ) (written : Written) (v : Value) → placed start left written ≡ Ok (Some (v, after)) → left ≡ after
 placed_after start after left (Ok w) v e =
     let here : Value × List ℕ = (w, left) in

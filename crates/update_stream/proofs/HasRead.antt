@@ -1,5 +1,5 @@
 -- What was read so far, and what it tells at the end, where a record is refused, or where the reading fails.
-use Rattle.std.proofs.Common.{◌≡◌, ℕ, inl, inr, ◌≤◌, ◌<◌, ◌+◌, List, [], ◌∷◌, ◌++◌, length, refl, sym, ap, subst, ◌∙◌, append-nil, append_assoc, length-append, drop, Option, Some, None, arith}
+use Rattle.std.proofs.Common.{◌≡◌, ℕ, inl, inr, ◌<◌, ◌+◌, List, [], ◌∷◌, ◌++◌, length, refl, sym, ap, subst, ◌∙◌, append_assoc, length-append, Option, Some, None, arith}
 use Rattle.std.specs.Io.KnownBytes.{Consumes}
 use Rattle.std.proofs.KnownBytes.{Consumes-nil}
 use Rattle.bec_bytes.specs.Framed.{framed, stream_of, HoldsPiece, StandsFirst, StaysWithin, IsLeft}
@@ -8,8 +8,7 @@ use Rattle.bec_bytes.specs.declared.framed.Framed.TheVariants.{Cut, TooLong}
 use Rattle.bec_bytes.specs.declared.read_error.ReadError.{ReadError}
 use Rattle.bec_bytes.specs.declared.read_error.ReadError.TheVariants.{Failed, Memory}
 use Rattle.bec_bytes.proofs.Frames.{stream_of-push, stream_of-nil}
-use Rattle.bec_bytes.proofs.ReadFrames.{told, behind, front_within, held_within, left_within}
-use Rattle.std.proofs.lemmas.List.{drop_at}
+use Rattle.bec_bytes.proofs.ReadFrames.{behind, held_within, left_within}
 use Rattle.update_model.specs.Rule.{RuleData}
 use Rattle.update_codec.specs.declared.limits.TheConstants.{UPDATE_LIMIT}
 use Rattle.update_codec.specs.declared.codec_fault.CodecKind.TheVariants as kinds
@@ -17,7 +16,7 @@ use Rattle.update_check.specs.declared.check_error.CheckFault.TheVariants.{Codec
 use Rattle.update_stream.specs.declared.record_fault.RecordFault.{RecordFault}
 use Rattle.update_stream.specs.declared.record_fault.RecordFault.TheVariants.{Check, Lacks, Full}
 use Rattle.update_stream.specs.declared.stream.TheConstants.{MAX_RECORDS}
-use Rattle.update_stream.specs.Stream.{firsts, rule_of, AreGood, IsWhole, IsRefused, IsStop, HasFault, short, too_long, MayFail, BreaksOff}
+use Rattle.update_stream.specs.Stream.{firsts, rule_of, AreGood, IsRefused, IsStop, HasFault, short, too_long, MayFail, BreaksOff}
 use Rattle.update_stream.specs.Steps.{Takes, rule_for, set_after}
 use Rattle.update_stream.proofs.Firsts.{firsts-held, firsts-new}
 use Rattle.update_stream.proofs.Good.{AreGood-none, AreGood-held, AreGood-new}
@@ -98,12 +97,6 @@ HasRead-more given set new a b c members after n r h few came taken is =
         let same : zs ≡ second.0 = (let e = second.1 in cc) in
         first ∙ ap (λ (w : List ℕ). stream_of h.records ++ w) (second.2.parts ∙ ap (λ (w : List ℕ). framed r ++ w) (sym same)) ∙ sym (append_assoc (stream_of h.records) (framed r) zs)
 
-pub told_end : (given set : Option RuleData) (a b c : Option (List ℕ)) (members : List (List ℕ)) (n : ℕ) → HasRead given set a b members n
-    → IfTold b c (λ bytes rest. (bytes ≡ []) × (rest ≡ [])) → IfTold a c (λ input rest. IsWhole given input members × (rest ≡ []))
-told_end given set a b c members n h found =
-    behind a b c (stream_of h.records) (λ bytes rest. (bytes ≡ []) × (rest ≡ [])) (λ input rest. IsWhole given input members × (rest ≡ [])) h.came found
-    (λ bytes rest ends. ((h.records, h.good, ap (λ (w : List ℕ). stream_of h.records ++ w) ends.0 ∙ append-nil (stream_of h.records), h.firsts_of), ends.1))
-
 -- what stands next has a fault
 told_stop : (given set : Option RuleData) (a b c : Option (List ℕ)) (members : List (List ℕ)) (n : ℕ) (fault : RecordFault) (P : List ℕ → List ℕ → Type 0) → (h : HasRead given set a b members n)
     → IfTold b c P → ((bytes rest : List ℕ) → P bytes rest → IsStop given h.records bytes rest fault) → IfTold a c (λ input rest. IsRefused given input rest (n + 1) fault)
@@ -138,14 +131,6 @@ told_fault given set a b c members after n r fault h few found taken =
     told_stop given set a b c members n fault (λ bytes rest. HoldsPiece UPDATE_LIMIT bytes r rest) h found
     (λ bytes rest p. inl (few_records given set a b members n h few, fault_of given h.records r bytes rest after fault p (taken_under given set h.records members after r (Some fault) h.rule h.firsts_of taken)))
 
--- as many records as a stream has at most came, and one byte more
-pub told_limit : (given set : Option RuleData) (a b c : Option (List ℕ)) (members : List (List ℕ)) (n : ℕ) (front : List ℕ) → HasRead given set a b members n → n ≡ MAX_RECORDS
-    → Consumes b c front → length front ≡ 1 → IfTold a c (λ input rest. IsRefused given input rest (n + 1) Full)
-told_limit given set a b c members n front h many came one =
-    told_stop given set a b c members n Full (λ bytes rest. (0 < length bytes) × (rest ≡ drop 1 bytes)) h
-    (told b c front (λ bytes rest. (0 < length bytes) × (rest ≡ drop 1 bytes)) came (λ rest. (omega (arith, length-append front rest, one), sym (drop_at front rest 1 one))))
-    (λ bytes rest p. inr (let counted = h.counted in omega arith, p.0, p.1, refl))
-
 -- the reading failed so in what stands next
 told_left : (given set : Option RuleData) (a b c : Option (List ℕ)) (members : List (List ℕ)) (n : ℕ) (error : ReadError) → (h : HasRead given set a b members n) → MayFail error h.records
     → IfTold b c (StaysWithin UPDATE_LIMIT) → IfTold a c (BreaksOff given error)
@@ -172,9 +157,3 @@ pub left_behind : (given set : Option RuleData) (a b c : Option (List ℕ)) (mem
     → IfTold b c (λ bytes rest. HoldsPiece UPDATE_LIMIT bytes r rest) → IfTold a c (BreaksOff given error)
 left_behind given set a b c members n error r h few found =
     told_left given set a b c members n error h (may_fail error h.records (few_records given set a b members n h few)) (weaker b c (λ bytes rest. HoldsPiece UPDATE_LIMIT bytes r rest) (StaysWithin UPDATE_LIMIT) found (λ bytes rest p. held_within UPDATE_LIMIT bytes r rest (omega arith) p))
-
--- at the limit, where a byte more may have come
-pub left_limit : (given set : Option RuleData) (a b c : Option (List ℕ)) (members : List (List ℕ)) (n : ℕ) (front : List ℕ) → HasRead given set a b members n
-    → Consumes b c front → length front ≤ 1 → IfTold a c (BreaksOff given Failed)
-left_limit given set a b c members n front h came few =
-    told_left given set a b c members n Failed h tt (told b c front (StaysWithin UPDATE_LIMIT) came (λ rest. front_within UPDATE_LIMIT front rest (omega (arith, few))))

@@ -1,6 +1,5 @@
 -- What taking a record does.
 use Rattle.std.proofs.Common.{◌≡◌, inl, inr, ℕ, Bool, true, false, List, [], ◌∷◌, ◌++◌, length, refl, sym, ap, ◌∙◌, map, Option, Some, None, Result, Ok, Err, IfOk, IfSome, OnErr}
-use Rattle.std.specs.Bool.{OnTrue, OnFalse}
 use Rattle.std.specs.Option.{is_some}
 use Rattle.update_model.specs.declared.update_id.UpdateId.{UpdateId}
 use Rattle.update_model.specs.Entry.{Entry}
@@ -17,14 +16,6 @@ use Rattle.update_check.specs.Signed.{IsChecked}
 use Rattle.update_stream.specs.Faults.{not_added}
 use Rattle.update_stream.specs.Stream.{LacksPredecessor, PassesLimit}
 use Rattle.update_stream.specs.Steps.{Adds, Takes}
-
-pub on_true : (b : Bool) (P : Type 0) → (b ≡ true → P) → OnTrue b P
-on_true true P f = f refl
-on_true false P f = tt
-
-pub on_false : (b : Bool) (P : Type 0) → (b ≡ false → P) → OnFalse b P
-on_false true P f = tt
-on_false false P f = f refl
 
 -- what stands at a position is held, and what stands at none is not
 held_at : (graph : List Entry) (id : UpdateId) (k : ℕ) → position_of graph id ≡ Some k → holds graph id ≡ true

@@ -33,12 +33,6 @@ pub record SameRows (own : List OwnRow) (rows : List TableRow) : Type 0 where
 pub record SameNames (names others : List RowName) : Type 0 where
   pub any : (p : RowName → Bool) → list_any p names ≡ list_any p others
 
-or_comm : (a b : Bool) → (a || b) ≡ (b || a)
-or_comm true true = refl
-or_comm true false = refl
-or_comm false true = refl
-or_comm false false = refl
-
 or_none : (a b : Bool) → (a || (b || false)) ≡ (b || a)
 or_none true true = refl
 or_none true false = refl

@@ -16,9 +16,6 @@ use Rattle.watch_command.specs.declared.stop.Stop.TheVariants.{Refused, Unwritte
 pub rose_later : (old mid new : ℕ) → old ≤ mid → Rose mid new → Rose old new
 rose_later old mid new later rose = omega (arith, later, rose)
 
-pub rose_sooner : (old mid new : ℕ) → mid ≤ new → Rose old mid → Rose old new
-rose_sooner old mid new later rose = omega (arith, later, rose)
-
 module _ (old mid new : SinkState) (front : List ℕ) (written : Appends old.held mid.held front) (later : old.faults ≤ mid.faults) where
   all_then : (rest : List ℕ) → Appends mid.held new.held rest → Appends old.held new.held (front ++ rest)
   all_then rest more = Appends-trans old.held mid.held new.held front rest written more

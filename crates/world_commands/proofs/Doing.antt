@@ -1,5 +1,5 @@
 -- Lines that happen one after another, and what is reported of them.
-use Rattle.std.proofs.Common.{◌≡◌, ◌∙◌, ℕ, suc, Bool, true, false, ◌||◌, List, [], ◌∷◌, ◌++◌, length, refl, sym, ap, subst, append-nil, append_assoc}
+use Rattle.std.proofs.Common.{◌≡◌, ◌∙◌, ℕ, suc, Bool, true, false, ◌||◌, List, [], ◌∷◌, ◌++◌, length, refl, sym, ap, append-nil, append_assoc}
 use Rattle.std.specs.List.{flat_map}
 use Rattle.std.proofs.lemmas.Grind.{flat_map-append}
 use Rattle.byzantine_world.specs.Begun.{IsBegun}
@@ -92,10 +92,6 @@ going_on ask all line after old code code' report mid report' g step = record {
         added = text;
       };
 }
-
-pub going_ends : (ask : Meaning) (all : List Line) (old code : WorldCode) (report report' : List ℕ) → Going ask all [] old code report report'
-    → (w : WorldData) → ShowsWorld old w → LinesDone ask w all code report report'
-going_ends ask all old code report report' g w shows = subst (λ (ls : List Line). LinesDone ask w ls code report report') (sym (g.are ∙ append-nil g.before)) (g.done w shows)
 
 -- ---- a report
 

@@ -157,9 +157,6 @@ cut_course_a : (rule : RuleData) (Met : List ℕ → Type 0) (broken : Bool) (m 
 cut_course_a rule Met true m list_a list_b c = course_cut rule Met m _ m.b.is_cut list_a list_b c
 cut_course_a rule Met false m list_a list_b c = c
 
-abbrev pub carry_site : (ask : Meaning) (w w' : WorldData) (s : ℕ) (forward : Bool) (answer : Stepped) → CarriesIn w s forward answer w' → SiteData
-carry_site ask w w' s forward answer m = record m.site { store = m.store; remembered = m.remembered }
-
 -- the end that began reads
 module _ (schema : SchemaData) (w : WorldData) (ends : TwoEnds) (both : IsBothSound schema w ends) (site : SiteData) (frame : FrameData) (rest : List FrameData) (next : SessionData) (out : OutData)
     (store : ReplicaState) where

@@ -166,9 +166,6 @@ store_moves schema site store remembered s keeps e =
 
 -- ---- it makes an update
 
-true_within : (xs : List Bool) (q : ℕ) → get_or xs q false ≡ true → (length xs ≤ q → ⊥)
-true_within xs q is behind = let past = get_or_past xs q false behind in cc
-
 taken_set : (xs : List Bool) (i q : ℕ) → i < length xs → get_or xs q false ≡ true → get_or (set xs i true) q false ≡ true
 taken_set xs i q low is = elim (cases_eq q i) [
   | inl same ↦ ap (λ k. get_or (set xs i true) k false) same ∙ get_or-set_same xs i true false low

@@ -1,24 +1,21 @@
 -- Lines one after another, as a loop reads them, and what a text then is.
-use Rattle.std.proofs.Common.{◌≡◌, ℕ, ◌+◌, ◌<◌, ◌≤◌, Bool, true, false, cond, List, [], ◌∷◌, ◌++◌, length, Option, Some, None, Result, Ok, Err, refl, sym, ap, subst, ◌∙◌, append_assoc, length-append, arith, inl, inr}
+use Rattle.std.proofs.Common.{◌≡◌, ℕ, ◌+◌, ◌≤◌, Bool, true, false, cond, List, [], ◌∷◌, ◌++◌, length, Result, Ok, Err, refl, sym, ap, subst, ◌∙◌, append_assoc, length-append, arith, inr}
 use Rattle.std.specs.Prelude.{IfErr, IfOk}
 use Rattle.std.specs.List.{AllByRecursion}
 use Rattle.std.proofs.lemmas.List.{append-nil}
 use Rattle.text_words.specs.Lines.{Begins, lines_of}
 use Rattle.schema.specs.Data.{Meaning, SchemaData}
-use Rattle.schema_text.specs.Schemas.{Declares}
 use Rattle.world_script.specs.declared.fault.ScriptError.{ScriptError}
 use Rattle.world_script.specs.declared.fault.ScriptError.TheVariants as error
 use Rattle.world_script.specs.declared.fault.ScriptFault.{ScriptFault}
 use Rattle.world_script.specs.declared.fault.ScriptFault.TheVariants.{Schema, AtLine}
-use Rattle.world_script.specs.declared.heading.Heading.{Heading}
 use Rattle.world_script.specs.declared.limits.TheConstants.{MAX_SCRIPT_BYTES}
 use Rattle.world_script.specs.declared.line.Line.{Line}
 use Rattle.world_script.specs.declared.place.Place.{Place}
 use Rattle.world_script.specs.declared.script.Script.{Script}
-use Rattle.world_script.specs.Headings.{heading_of}
 use Rattle.world_script.specs.Lines.{IsPlace, Says, opens, place_after}
-use Rattle.world_script.specs.Outcome.{Answers, HasCause, IfFault, OfLine, OfSchema}
-use Rattle.world_script.specs.Scripts.{BodyFault, BodySays, FaultIn, FirstFault, IsDivided, IsScript, LinesSay, body, heading_in, lines_before, place_in, schema_part}
+use Rattle.world_script.specs.Outcome.{Answers, HasCause, IfFault, OfLine}
+use Rattle.world_script.specs.Scripts.{BodyFault, FaultIn, FirstFault, IsScript, LinesSay}
 
 no_lines : lines_of [] ≡ []
 unfolding lines_of
@@ -53,14 +50,6 @@ pub fail_more : (schema : SchemaData) (place : Place) (rest line after : List �
 fail_more schema place rest line after first start all e says on = λ number f.
     on number (subst (λ (ls : List (List ℕ)). FaultIn schema place ls number) (sym e) (inr (first, says, f)))
 
-pub fail_here : (schema : SchemaData) (place : Place) (rest line after : List ℕ) (e : ScriptError) (start : Place) (all : List (List ℕ)) → lines_of rest ≡ line ∷ lines_of after
-    → IfFault e (OfLine (λ number. ((said : Line) → Says schema place line said → ⊥) × (number ≡ place.number))) → FailOn schema place (lines_of rest) start all
-    → IfFault e (OfLine (FaultIn schema start all))
-fail_here schema place rest line after (error.Fault (Schema fault)) start all e h on = absurd h
-fail_here schema place rest line after (error.Fault (AtLine number)) start all e h on =
-    on number (subst (λ (ls : List (List ℕ)). FaultIn schema place ls number) (sym e) (inl h))
-fail_here schema place rest line after error.Memory start all e h on = tt
-
 pub read_end : (schema : SchemaData) (place : Place) (rest : List ℕ) (said : List Line) (start : Place) (all : List (List ℕ)) → rest ≡ []
     → ReadOn schema place (lines_of rest) said start all → LinesSay schema start all said
 read_end schema place rest said start all e on =
@@ -80,10 +69,6 @@ all_more P (y ∷ ys) x h p = (h.0, all_more P ys x h.1 p)
 
 -- ---- the lines from `WORLD` on
 
-pub body_says : (schema : SchemaData) (number : ℕ) (text world rest : List ℕ) (heading : Heading) (said : List Line) → lines_of text ≡ world ∷ lines_of rest
-    → heading_of world ≡ Some heading → LinesSay schema (place_in number heading) (lines_of rest) said → BodySays schema number (lines_of text) heading said
-body_says schema number text world rest heading said e h says = subst (λ (ls : List (List ℕ)). BodySays schema number ls heading said) (sym e) (h, says)
-
 pub body_none : (schema : SchemaData) (number : ℕ) (text : List ℕ) (e : ScriptError) → text ≡ [] → IfFault e (OfLine (λ line. line ≡ number))
     → IfFault e (OfLine (BodyFault schema number (lines_of text)))
 body_none schema number text (error.Fault (Schema fault)) none h = absurd h
@@ -91,59 +76,6 @@ body_none schema number text (error.Fault (AtLine line)) none h =
     let lines : lines_of text ≡ [] = ap lines_of none ∙ no_lines in
     subst (λ (ls : List (List ℕ)). BodyFault schema number ls line) (sym lines) h
 body_none schema number text error.Memory none h = tt
-
-pub body_bad : (schema : SchemaData) (number : ℕ) (text world rest : List ℕ) (e : ScriptError) → lines_of text ≡ world ∷ lines_of rest → heading_of world ≡ None
-    → IfFault e (OfLine (λ line. line ≡ number)) → IfFault e (OfLine (BodyFault schema number (lines_of text)))
-body_bad schema number text world rest (error.Fault (Schema fault)) e none h = absurd h
-body_bad schema number text world rest (error.Fault (AtLine line)) e none h = subst (λ (ls : List (List ℕ)). BodyFault schema number ls line) (sym e) (inl (none, h))
-body_bad schema number text world rest error.Memory e none h = tt
-
-pub body_fault : (schema : SchemaData) (number : ℕ) (text world rest : List ℕ) (heading : Heading) (e : ScriptError) → lines_of text ≡ world ∷ lines_of rest
-    → heading_of world ≡ Some heading → IfFault e (OfLine (FaultIn schema (place_in number heading) (lines_of rest)))
-    → IfFault e (OfLine (BodyFault schema number (lines_of text)))
-body_fault schema number text world rest heading (error.Fault (Schema fault)) e h f = absurd f
-body_fault schema number text world rest heading (error.Fault (AtLine line)) e h f =
-    subst (λ (ls : List (List ℕ)). BodyFault schema number ls line) (sym e) (inr (heading, h, f))
-body_fault schema number text world rest heading error.Memory e h f = tt
-
--- ---- a whole text
-
-pub long_cause : (ask : Meaning) (text : List ℕ) (e : ScriptError) → MAX_SCRIPT_BYTES < length text → IfFault e (OfLine (λ line. line ≡ 0)) → HasCause ask text e
-long_cause ask text (error.Fault (Schema fault)) long h = absurd h
-long_cause ask text (error.Fault (AtLine number)) long h = inl (long, h)
-long_cause ask text error.Memory long h = tt
-
-pub schema_cause : (ask : Meaning) (text front : List ℕ) (e : ScriptError) → length text ≤ MAX_SCRIPT_BYTES → front ≡ schema_part text → IfFault e (OfSchema ask front) → HasCause ask text e
-schema_cause ask text front (error.Fault (Schema fault)) short same h =
-    (short, subst (λ (t : List ℕ). OfSchema ask t (Schema fault)) same h)
-schema_cause ask text front (error.Fault (AtLine number)) short same h = absurd h
-schema_cause ask text front error.Memory short same h = tt
-
-pub line_cause : (ask : Meaning) (text front rest : List ℕ) (number : ℕ) (schema : SchemaData) (e : ScriptError) → length text ≤ MAX_SCRIPT_BYTES → IsDivided text front number rest
-    → Declares ask front schema → IfFault e (OfLine (BodyFault schema number (lines_of rest))) → HasCause ask text e
-line_cause ask text front rest number schema (error.Fault (Schema fault)) short d declares h = absurd h
-line_cause ask text front rest number schema (error.Fault (AtLine line)) short d declares h =
-    inr (
-      short,
-      (
-        schema,
-        subst (λ (t : List ℕ). Declares ask t schema) d.front declares,
-        subst (λ (ls : List (List ℕ)). BodyFault schema (lines_before text + 1) ls line) d.rest (subst (λ n. BodyFault schema n (lines_of rest) line) d.number h),
-      ),
-    )
-line_cause ask text front rest number schema error.Memory short d declares h = tt
-
-pub script_is : (ask : Meaning) (text front rest : List ℕ) (number : ℕ) (schema : SchemaData) (script : Script) → length text ≤ MAX_SCRIPT_BYTES → IsDivided text front number rest
-    → Declares ask front schema → script.schema ≡ front → BodySays schema number (lines_of rest) (heading_in script) script.lines → IsScript ask text script
-script_is ask text front rest number schema script short d declares part says = record {
-  short = short;
-  schema = schema;
-  declares = subst (λ (t : List ℕ). Declares ask t schema) d.front declares;
-  part = part ∙ d.front;
-  says =
-      subst (λ (ls : List (List ℕ)). BodySays schema (lines_before text + 1) ls (heading_in script) script.lines) d.rest
-      (subst (λ n. BodySays schema n (lines_of rest) (heading_in script) script.lines) d.number says);
-}
 
 -- a text is one script
 abbrev pub OneScript : Type 0
