@@ -3,9 +3,6 @@ use Rattle.std.proofs.Common.{◌≡◌, ◌⊎◌, inl, inr, ℕ, zero, suc, �
 use Rattle.std.proofs.lemmas.Bool.{ltb-true, ltb-false, cases_lt, cases_eq, or_parts, or_from, or_cases}
 use Rattle.ancestry.specs.Below.{any_below, count_below, first_below}
 
-unfolding any_below
-]
-
 pub any_none : (t : ℕ → Bool) (n k : ℕ) → any_below t n ≡ false → k < n → t k ≡ false
 unfolding any_below
 any_none t zero k none low = absurd (omega arith)

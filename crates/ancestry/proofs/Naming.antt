@@ -123,8 +123,6 @@ named_push graph namers new preds lower earlier are same kept noted = record {
   ];
 }
 
-}
-
 pub named_front : (graph more namers : List (List ℕ)) → AreLower (graph ++ more) → length namers ≡ length (graph ++ more)
     → ((p q : ℕ) → p < length graph → q < length graph → names (graph ++ more) q p ≡ true → is_noted namers p q ≡ true) → AreNamers graph (take (length graph) namers)
 named_front graph more namers lower same kept =

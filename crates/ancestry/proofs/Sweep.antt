@@ -67,14 +67,6 @@ swept_first graph a b n k marks low is next are = record {
 
 -- ---- one more member
 
-}
-  where
-    other : (j : ℕ) → j < k + 1 → mark_at marks j ≡ true → j < k
-    other j low marked = elim (eqb_tells j k) [
-      | inl same ↦ absurd (let e = same.1 in cc)
-      | inr apart ↦ let e = apart.1 in omega arith
-    ]
-
 module _ (graph : List (List ℕ)) (a b k : ℕ) (marks new : List Bool) (lower : AreLower graph) (high : 0 < k) (within : k < length marks) (marked : mark_at marks k ≡ true)
     (are : (j : ℕ) → j < length marks → mark_at new j ≡ (mark_at marks j || list_any (λ p. p == a + j) (preds_at graph (a + k)))) where
   -- a predecessor that meets `a` shows that `a` is an ancestor

@@ -58,12 +58,3 @@ pub behind-write : {T E : Type 0} (n : ℕ) (front : List ℕ) (old mid new : Di
     → WritesBehind n front old new
 behind-write n front old mid new at bytes result so_far le writes =
     one_call n front old mid new (written_at at (length bytes) mid.now) so_far writes.disk writes.counts (λ keeps. Keeps-written n front mid.now at (length bytes) keeps le)
-
-}
-  where
-    by_result : {T E : Type 0} (result : Result T E) → OnOk result (moments new ≡ synced_at mid.seen ∷ moments mid) → OnErr result (new ≡ mid) → Keeps n front mid.now → IsImage mid.now mid.seen → Keeps n front new.now
-    by_result (Ok value) more same keeps is_image =
-        let long : n ≤ length mid.seen = omega (arith, keeps.longer, is_image.no_shorter) in
-        subst (λ (m : Moment). Keeps n front m) (sym (newest-same new.now (synced_at mid.seen) new.past (moments mid) more))
-        (subst (λ (f : List ℕ). Keeps n f (synced_at mid.seen)) (image-front n front mid.now mid.seen keeps is_image) (Keeps-synced n mid.seen long))
-    by_result (Err error) more same keeps is_image = subst (λ (s : DiskState). Keeps n front s.now) (sym same) keeps

@@ -86,8 +86,6 @@ none_so_far ids n is = record {
   exact = λ k. ap (λ b. bit_at b (7 - k % 8) == 1) (zero_at n (k / 8)) ∙ ap (λ b. b == 1) (bit_at-zero (7 - k % 8));
 }
 
-}
-
 -- all bits that there are at the positions are set
 pub member_of : (bytes : List ℕ) (id : UpdateId) (answer : Bool) → 0 < length bytes
     → answer ≡ list_all (λ offset. is_bit_set bytes (position_at (8 * length bytes) id offset)) offsets → answer ≡ is_member bytes id

@@ -50,37 +50,7 @@ named = named_draft.0
 abbrev pub listed : Draft
 listed = with_sample list_capped list_values
 
-unfolding form_at plain_form after_check check_form first_word words_within text_within encode_utf8
-
-unfolding form_at plain_form after_check check_form first_word words_within text_within encode_utf8
-
-unfolding form_at plain_form after_check check_form first_word words_within text_within encode_utf8
-
-unfolding form_at plain_form after_check check_form first_word words_within text_within encode_utf8
-
-unfolding form_at plain_form after_check check_form first_word words_within text_within encode_utf8
-
 -- ---- the table of tasks
 
 abbrev pub ended : Draft
 ended = with_sample task_matched task_values
-
-unfolding form_at plain_form after_check check_form first_word words_within text_within encode_utf8
-
-unfolding form_at plain_form after_check check_form first_word words_within text_within encode_utf8
-
-unfolding form_at plain_form after_check check_form first_word words_within text_within encode_utf8
-
-unfolding form_at plain_form after_check check_form first_word words_within text_within encode_utf8
-
-unfolding form_at plain_form after_check check_form first_word words_within text_within encode_utf8
-
-unfolding form_at plain_form after_check check_form first_word words_within text_within encode_utf8
-
-unfolding form_at plain_form after_check check_form first_word words_within text_within encode_utf8
-
-unfolding form_at plain_form after_check check_form first_word words_within text_within encode_utf8
-
-unfolding form_at plain_form after_check check_form first_word words_within text_within encode_utf8
-
-unfolding form_at plain_form after_check check_form first_word words_within text_within encode_utf8

@@ -14,8 +14,6 @@ use Rattle.key_directory.proofs.Putting.{PutsAny, told}
 use Rattle.hss_directory.specs.Peers.{ReadsPeers, WritesPeers}
 use Rattle.hss_directory.proofs.Places.{false_of, in_by}
 
-}
-
 pub peers_read : (before mid after : ShelfState) (dir : List ℕ) (found disk : DiskState) → HandsOut before (slot dir Peers) found mid → disk ≡ found → after.tells ≡ mid.tells → PutsAny mid disk after → ReadsPeers before dir after
 peers_read before mid after dir found disk hands same tells puts = record {
   tells = tells ∙ hands.tells;

@@ -54,12 +54,6 @@ pub record Checks (rule : RuleData) (before : List Frame) (run : List (List ℕ)
   pub arrive : AllArrive rule front (map frame_of all)
   pub under : All (IsFrameUnder rule) all
 
-}
-  where
-    one_more : items_of (bytes_of more) ≡ items_of (bytes_of run) ++ frame ∷ []
-    one_more = ap (λ (l : List (Vec ℕ Global)). items_of (bytes_of l)) grew ∙ ap items_of (map-append (λ (r : Vec ℕ Global). r.items) run (bytes ∷ []))
-        ∙ map-append frames.Item (bytes_of run) (bytes.items ∷ []) ∙ ap (λ (f : Frame). items_of (bytes_of run) ++ f ∷ []) (sym is)
-
 -- the run was checked
 pub checks_run : (rule : RuleData) (before : List Frame) (run : List (List ℕ)) (all after : List CheckedFrame) → Checks rule before run all → Puts rule (items_of run) all after → Checks rule before [] after
 checks_run rule before run all after c p = record {

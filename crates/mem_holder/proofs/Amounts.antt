@@ -16,8 +16,6 @@ use Rattle.mem_holder.specs.Holders.{Grows, limits_of}
 fewer : (count bytes most : ℕ) → most ≤ MAX_MEMBERS → (nat_le count MAX_MEMBERS && nat_le bytes MAX_BYTES) ≡ false → (nat_le count most && nat_le bytes MAX_BYTES) ≡ false
 fewer count bytes most low passes = grind (arith, nat_tests)
 
-}
-
 over : (count bytes most : ℕ) → most < count → (nat_le count most && nat_le bytes MAX_BYTES) ≡ false
 over count bytes most high = grind (arith, nat_tests)
 

@@ -31,8 +31,6 @@ creating_untouched schema schema_new updates updates_new payload settled same di
 pub creating_nothing : (schema schema_new updates : DiskState) (payload : List ℕ) → (IsTrue schema.tells → IsSettled schema) → schema_new ≡ schema → Creating schema updates payload schema_new updates
 creating_nothing schema schema_new updates payload settled same = creating_untouched schema schema_new updates updates payload settled same (same_disk updates updates refl)
 
-}
-
 no_members : (rule : RuleData) → AreMembers rule []
 no_members rule = record { checked = λ k d few. absurd (omega arith); closed = tt; within = refl }
 

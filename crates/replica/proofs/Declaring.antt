@@ -46,19 +46,6 @@ declares_none ask payload node text schema refusal law behind why other is =
 whole_payload : (a b : List ℕ) → Whole a ≡ Whole b → a ≡ b
 whole_payload a b same = cc
 
-}
-  where
-    not_absent : (payload : List ℕ) → Whole payload ≡ Absent → ⊥
-    not_absent payload same = cc
-
-}
-  where
-    damaged_absent : Damaged ≡ Absent → ⊥
-    damaged_absent same = cc
-
-    damaged_whole : (payload : List ℕ) → Damaged ≡ Whole payload → ⊥
-    damaged_whole payload same = cc
-
 -- one part declares one schema
 same_store : (ask : Meaning) (part node node2 : List ℕ) (schema schema2 : SchemaData) → ((relation : Meaning) (text : List ℕ) (schema other : SchemaData) → Declares relation text schema → Declares relation text other → schema ≡ other)
     → DeclaresStore ask part node schema → DeclaresStore ask part node2 schema2 → schema ≡ schema2

@@ -92,8 +92,6 @@ unworked_run one before opened closing after dir taken done tells tells' takes s
 
 -- ---- refusals
 
-}
-
 -- the parts of the key are in their places where the store is taken
 pub key_still_in : (before opened : ShelfState) (dir : List ℕ) (taken : OpenData) → (IsTrue before.tells → IsKeyIn needed.StoreAndKey before dir) → TakesStore is_luhn before dir taken opened → IsTrue opened.tells
     → IsKeyIn needed.StoreAndKey opened dir

@@ -7,7 +7,3 @@ use Rattle.table_model.specs.Visible.{Rules}
 -- rules of these tables, of which no native check holds
 abbrev pub plain : List TableDef → Rules
 plain tables = record { tables = tables; ask = λ number values. false }
-
-unfolding judged judge_next verdict_on effects
-
-}

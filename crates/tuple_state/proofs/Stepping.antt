@@ -62,10 +62,6 @@ pub names_end : (position : ℕ) (ops total : List Op) (i : ℕ) (names : List D
 unfolding names_by
 names_end position ops total i names past inv = sym (append-nil names) ∙ ap (λ l. names ++ names_by position l) (sym (drop_past i ops past)) ∙ inv
 
-unfolding rows_by
-
-unfolding rows_by
-
 -- a node with this id and author
 abbrev pub made_of : UpdateId → AuthorKey → NodeData
 made_of id author = record { id = id; preds = []; author = author; ops = [] }
