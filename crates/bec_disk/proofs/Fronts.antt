@@ -1,7 +1,6 @@
 -- A front that is on the disk and left alone.
-use Rattle.std.proofs.Common.{◌≡◌, ◌⊎◌, inl, inr, ℕ, ◌<◌, ◌≤◌, List, [], ◌∷◌, length, take, refl, sym, ◌∙◌, ap, subst, arith, IsTrue, Result, Ok, Err}
+use Rattle.std.proofs.Common.{◌≡◌, ◌⊎◌, inl, inr, ℕ, ◌<◌, ◌≤◌, List, [], ◌∷◌, length, take, refl, sym, ◌∙◌, ap, subst, arith, IsTrue, Result}
 use Rattle.std.proofs.lemmas.List.{get_or-take, length-take-le}
-use Rattle.std.specs.Prelude.{OnOk, OnErr}
 use Rattle.bec_disk.specs.Disk.{Moment, DiskState, IsImage, IsSettled, IsUnwritten, IsSameDisk, Writes, moments, synced_at, written_at}
 use Rattle.bec_disk.specs.Front.{AllBehind, Keeps, WritesBehind}
 use Rattle.bec_disk.proofs.Images.{same_numbers}

@@ -1,16 +1,14 @@
 -- Each line of the text is good, and leads on.
 use Rattle.std.proofs.Common.{◌≡◌, ℕ, List, [], ◌∷◌, false, refl, sym, ◌∙◌, inr, Option, Some, None, IsTrue}
 use Rattle.std.specs.Prelude.{codes, IsSome, IsUtf8, All}
-use Rattle.std.specs.Char.{encode_utf8}
 use Rattle.std.specs.List.{AllByRecursion}
 use Rattle.std.proofs.lemmas.Bool.{false≢true}
 use Rattle.std.proofs.lemmas.List.Elements.{All-nil, All-cons}
-use Rattle.text_words.specs.Quoted.{text_within}
-use Rattle.text_words.specs.Words.{first_word, words_within, skip_blanks, passed_over}
+use Rattle.text_words.specs.Words.{skip_blanks, passed_over}
 use Rattle.text_words.specs.declared.word.Word.TheVariants.{Plain, Quoted}
 use Rattle.row_check.specs.Checksum.{is_luhn}
 use Rattle.schema_text.specs.Drafts.{start, is_turn}
-use Rattle.schema_text.specs.Forms.{form_at, plain_form, after_check, check_form, database_form, values_of, HasForm, IsWhole}
+use Rattle.schema_text.specs.Forms.{form_at, database_form, values_of, HasForm, IsWhole}
 use Rattle.schema_text.specs.Schemas.{Leads, IsGood, IsItsTurn}
 use Rattle.schema_text.specs.Steps.{IsAfter, with_sample}
 use Rattle.demonstration_laws.proofs.LinesAdd.{Draft, Form, TypeOf, line, found_in, list_capped, task_matched}

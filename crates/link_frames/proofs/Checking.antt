@@ -1,15 +1,13 @@
 -- Runs of updates that are checked at once, and the frames between them.
-use Rattle.std.proofs.Common.{◌≡◌, inl, inr, ℕ, List, [], ◌∷◌, ◌++◌, map, All, Vec, Result, Ok, Err, refl, sym, ap, subst, ◌∙◌, append-nil}
-use Rattle.std.specs.declared.alloc.Global.{Global}
+use Rattle.std.proofs.Common.{◌≡◌, inl, inr, ℕ, List, [], ◌∷◌, ◌++◌, map, All, Result, Ok, Err, refl, sym, ap, subst, ◌∙◌, append-nil}
 use Rattle.std.proofs.lemmas.List.{map-append}
 use Rattle.std.proofs.lemmas.List.Elements.{All-append, All-cons, All-nil, All-push}
 use Rattle.update_check.specs.declared.check_error.CheckFault.{CheckFault}
 use Rattle.update_codec.specs.Parts.{entry_of}
 use Rattle.update_model.specs.Rule.{RuleData}
-use Rattle.record_check.specs.Records.{AreAnswers, IsAnswer, bytes_of}
+use Rattle.record_check.specs.Records.{AreAnswers, IsAnswer}
 use Rattle.session_rules.specs.State.{Item}
 use Rattle.sync_frames.specs.declared.frame.Frame.{Frame}
-use Rattle.sync_frames.specs.declared.frame.Frame.TheVariants as frames
 use Rattle.sync_session.specs.Carrying.{Arrives}
 use Rattle.sync_session.specs.Kept.{frame_of, IsFrameUnder}
 use Rattle.sync_session.specs.declared.checked_frame.CheckedFrame.{CheckedFrame}

@@ -2,7 +2,7 @@
 use Rattle.std.proofs.Common.{◌≡◌, ◌⊎◌, ℕ, List, ◌++◌, length, take, drop, sym, ap, subst, ◌∙◌, ⊎_elim, IsTrue}
 use Rattle.std.proofs.lemmas.List.{drop_at, take-append-drop}
 use Rattle.bec_disk.specs.Disk.{DiskState}
-use Rattle.bec_disk.specs.declared.gated.Gated.TheVariants.{Absent, Damaged, Whole}
+use Rattle.bec_disk.specs.declared.gated.Gated.TheVariants.{Whole}
 use Rattle.schema_text.specs.Schemas.{Declares}
 use Rattle.schema.specs.Data.{Meaning, SchemaData}
 use Rattle.update_log.specs.Log.{KeepsLogset}

@@ -1,7 +1,6 @@
 -- What can be shown of tables before any update.
 use Rattle.std.proofs.Common.{false, List}
 use Rattle.schema.specs.declared.table_def.TableDef.{TableDef}
-use Rattle.table_model.specs.Verdicts.{effects, judge_next, judged, verdict_on}
 use Rattle.table_model.specs.Visible.{Rules}
 
 -- rules of these tables, of which no native check holds
