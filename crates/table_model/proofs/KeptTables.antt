@@ -25,6 +25,10 @@ pub record KeepsAt (table : TableDef) (number column : ℕ) : Type 0 where
 -- Each table that does is one.
 abbrev pub KeepsSoundly : Rules → Type 0
 KeepsSoundly rules = (number column : ℕ) → kept_of rules number ≡ Some column → KeepsAt (table_of rules number) number column
+
+-- A table is steady where it keeps no least row, and each other table that it refers to by CASCADE is steady. Here references are
+-- followed this deep.
+unfoldable pub steady_to : Rules → ℕ → ℕ → Bool
 steady_to rules zero table = false
 steady_to rules (suc depth) table =
     is_none (kept_of rules table) && list_all (λ target. (target == table) || steady_to rules depth target) (cascade_targets (table_of rules table).columns)
