@@ -1,21 +1,28 @@
 -- Errors of layers below, as they are told here.
-use Rattle.std.proofs.Common.{◌≡◌, ◌⊎◌, inl, inr, ℕ, ◌<◌, ◌≤◌, List, Err, refl, sym, subst, ◌∙◌}
+use Rattle.std.proofs.Common.{◌≡◌, ◌⊎◌, inl, inr, ℕ, ◌<◌, ◌≤◌, List, map, Err, refl, sym, subst, ◌∙◌}
 use Rattle.std.proofs.lemmas.Bool.{cases_lt}
+use Rattle.bec_bytes.specs.Causes.{Rose}
 use Rattle.bec_disk.specs.Disk.{DiskState}
 use Rattle.bec_disk.specs.declared.disk_error.DiskError.{DiskError}
 use Rattle.bec_disk.specs.declared.disk_error.DiskError.TheVariants as disk_errors
 use Rattle.confluence_test.specs.declared.refusal.SchemaRefusal.{SchemaRefusal}
 use Rattle.confluence_test.specs.declared.refusal.SchemaRefusal.TheVariants.{Memory, NotConfluent, Schema}
+use Rattle.ready_batch.specs.declared.add_fault.AddFault.{AddFault}
+use Rattle.ready_batch.specs.declared.add_fault.AddFault.TheVariants as adding
 use Rattle.schema.specs.Data.{Meaning}
+use Rattle.update_check.specs.Holding.{Commits}
+use Rattle.update_check.specs.declared.holder.CommitFault.{CommitFault}
 use Rattle.update_codec.specs.Outcome.{Refuses, Writes}
+use Rattle.update_codec.specs.Parts.{entry_of}
 use Rattle.update_codec.specs.Spelling.{message, signed_length}
 use Rattle.update_codec.specs.declared.encode_error.EncodeError.{EncodeError}
 use Rattle.update_codec.specs.declared.encode_error.EncodeError.TheVariants as encoding
 use Rattle.update_codec.specs.declared.limits.TheConstants.{UPDATE_LIMIT}
 use Rattle.update_model.specs.Form.{BodyData}
-use Rattle.replica.specs.Faults.{adding_fault, creating_kind, declaring_kind, message_fault, opening_kind}
+use Rattle.update_model.specs.Batch.{IsTooMuch, store_limits}
+use Rattle.replica.specs.Faults.{adding_fault, batch_fault, creating_kind, declaring_kind, message_fault, opening_kind, tail_fault}
 use Rattle.replica.specs.Making.{IsAddCause, IsMessageCause}
-use Rattle.replica.specs.Opening.{IsCreateCause, IsOpenCause}
+use Rattle.replica.specs.Opening.{IsCreateCause, IsOpenCause, WritesNothing}
 use Rattle.replica.specs.declared.create_fault.CreateKind.{CreateKind}
 use Rattle.replica.specs.declared.create_fault.CreateKind.TheVariants as creating
 use Rattle.replica.specs.declared.make_fault.MakeFault.{MakeFault}
@@ -44,6 +51,12 @@ pub create_disk : (error : DiskError) (kind : CreateKind) → kind ≡ creating_
 create_disk disk_errors.DiskFault kind is e = refl
 create_disk disk_errors.Memory kind is e = absurd cc
 
+pub create_writes : (error : DiskError) (kind : CreateKind) → kind ≡ creating_kind error → WritesNothing kind → ⊥
+create_writes disk_errors.DiskFault kind is w = subst WritesNothing is w
+create_writes disk_errors.Memory kind is w = subst WritesNothing is w
+
+pub ruleset creates = (create_cause, create_disk, create_writes)
+
 -- ---- a refusal of a text, where a store is opened
 
 pub declares_two : (refusal : SchemaRefusal) (kind : OpenKind) → kind ≡ declaring_kind refusal → (kind ≡ opening.BadSchema) ⊎ (kind ≡ opening.Memory)
@@ -57,6 +70,22 @@ bad_not_memory (NotConfluent schema which example) kind is bad e = cc
 bad_not_memory Memory kind is bad e = let never : opening.Memory ≡ opening.BadSchema = sym is ∙ bad in cc
 
 -- ---- a batch
+
+pub batch_refused : (before batch after : List (List ℕ)) (fault : AddFault) (why : CommitFault) (faults now : ℕ) → why ≡ batch_fault fault
+    → (fault ≡ adding.Full → IsTooMuch store_limits (map entry_of before) (map entry_of batch)) → after ≡ before → Commits store_limits before batch (Err why) faults now after
+batch_refused before batch after adding.Full why faults now is full same =
+    subst (λ (w : CommitFault). Commits store_limits before batch (Err w) faults now after) (sym is) (full refl, same)
+batch_refused before batch after adding.Memory why faults now is full same =
+    subst (λ (w : CommitFault). Commits store_limits before batch (Err w) faults now after) (sym is) same
+
+pub tail_refused : (before batch after : List (List ℕ)) (error : DiskError) (why : CommitFault) (faults now : ℕ) → why ≡ tail_fault error
+    → (error ≡ disk_errors.DiskFault → Rose faults now) → after ≡ before → Commits store_limits before batch (Err why) faults now after
+tail_refused before batch after disk_errors.DiskFault why faults now is rose same =
+    subst (λ (w : CommitFault). Commits store_limits before batch (Err w) faults now after) (sym is) (rose refl, same)
+tail_refused before batch after disk_errors.Memory why faults now is rose same =
+    subst (λ (w : CommitFault). Commits store_limits before batch (Err w) faults now after) (sym is) same
+
+pub ruleset commits = (batch_refused, tail_refused)
 
 -- ---- an update that was signed
 
