@@ -6,7 +6,7 @@ use Rattle.confluence_test.specs.declared.refusal.SchemaRefusal.TheVariants as t
 use Rattle.lms_tree.specs.SecretKey.{SecretData}
 use Rattle.replica.specs.declared.make_fault.MakeFault.{MakeFault}
 use Rattle.replica.specs.declared.make_fault.MakeFault.TheVariants as make_faults
-use Rattle.replica.specs.Making.{IsJoinCause}
+use Rattle.replica.specs.Making.{IsJoinCause, saying}
 use Rattle.schema.specs.Data.{SchemaData}
 use Rattle.lm_ots.specs.declared.ots_type.OtsType.{OtsType}
 use Rattle.lms_tree.specs.declared.lms_type.LmsType.{LmsType}
@@ -27,7 +27,7 @@ use Rattle.node_commands.specs.Creating.{DrawsKeyOnly, Inits, IsInitEnd, IsInitF
 use Rattle.node_commands.specs.Heads.{HeadsAnswer, done as heads_done, refused as heads_refused}
 use Rattle.node_commands.specs.Merging.{IsMergeEnd, Merges}
 use Rattle.node_commands.specs.Shows.{ShowsHeads, ShowsNotes, ShowsRecords, ShowsTables}
-use Rattle.node_commands.specs.Signing.{AnswersSomeKey, Applies, ApplyAnswer, IsNoStop, IsUnopened, JoinAnswer, JoinsHeads, MakeAnswer, answered as by_key, asked, bad_text, by_fault, joined, made, none, not_joined, not_made, saying, unopened}
+use Rattle.node_commands.specs.Signing.{AnswersSomeKey, Applies, ApplyAnswer, IsNoStop, IsUnopened, JoinAnswer, JoinsHeads, MakeAnswer, answered as by_key, asked, bad_text, by_fault, joined, made, none, not_joined, not_made, unopened}
 use Rattle.node_commands.specs.Verdict.{CheckAnswer}
 use Rattle.bec_node.specs.Own.{EndsAs, EndsOf, IsOfKey, IsOfOperations, IsOfQuery, IsOfRecord, IsOfSchema, IsOfSession, IsOfSigning, IsOfStore, IsOwn}
 use Rattle.bec_node.specs.RunAlone.{Comes}

@@ -12,7 +12,7 @@ use Rattle.schema.specs.Data.{Meaning, SchemaData}
 use Rattle.confluence_test.specs.Taking.{RefusesSchema}
 use Rattle.history.specs.Histories.{HistoryData}
 use Rattle.replica.specs.declared.contents.Contents.{Contents}
-use Rattle.replica.specs.Making.{HasNoneToJoin, IsJoinCause, IsMakeCauseWith, Joins, MakesWith}
+use Rattle.replica.specs.Making.{HasNoneToJoin, IsJoinCause, IsMakeCauseWith, Joins, MakesWith, saying}
 use Rattle.replica.specs.Told.{IsAfterVerdict, IsBeforeVerdict, IsTold}
 use Rattle.replica.specs.declared.make_fault.MakeFault.{MakeFault}
 use Rattle.replica.specs.declared.make_fault.MakeFault.TheVariants.{NotListed, TooManyHeads, Invalid, TooLong, Full, Spent, Taken, DiskFault, Memory}
@@ -27,7 +27,7 @@ use Rattle.node_commands.specs.Creating.{InitAnswer, KeygenAnswer, created, draw
 use Rattle.outcomes.specs.Comes.{IsRefused}
 use Rattle.outcomes.specs.Outcome.{Outcome, from_make, from_taking}
 use Rattle.schema_verdict.specs.Verdict.{Prints}
-use Rattle.node_commands.specs.Signing.{ApplyAnswer, IsBeforeOperations, IsInvalid, IsSureOfApply, JoinAnswer, KeyedAnswer, MakeAnswer, MayApply, SignAnswer, StoreAnswer, asked, bad_text, history_of, joined, made, none, not_joined, not_made, saying, taken_of, with_key, with_store, with_update, without_key, without_store}
+use Rattle.node_commands.specs.Signing.{ApplyAnswer, IsBeforeOperations, IsInvalid, IsSureOfApply, JoinAnswer, KeyedAnswer, MakeAnswer, MayApply, SignAnswer, StoreAnswer, asked, bad_text, history_of, joined, made, none, not_joined, not_made, taken_of, with_key, with_store, with_update, without_key, without_store}
 use Rattle.outcomes.specs.StoreAnswers.{RefusesKey, bad_key, no_key, Readings, next_bytes}
 use Rattle.outcomes.specs.Texts.{database_text, line_of}
 use Rattle.outcomes.proofs.Same.{Same, same_prints, same_refused}

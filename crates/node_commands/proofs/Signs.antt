@@ -28,7 +28,7 @@ use Rattle.replica.specs.declared.make_fault.MakeFault.{MakeFault}
 use Rattle.replica.specs.declared.make_fault.MakeFault.TheVariants.{NotListed, TooManyHeads, Invalid, TooLong, Full, Spent, Taken, DiskFault, Memory}
 use Rattle.replica.specs.declared.make_fault.Side.TheVariants.{Key as KeySide, Log as LogSide}
 use Rattle.replica.specs.declared.contents.Contents.{Contents}
-use Rattle.replica.specs.Making.{HasNoneToJoin, IsJoinCause, IsMakeCauseWith, Joins, JoinsTo, MakesWith}
+use Rattle.replica.specs.Making.{HasNoneToJoin, IsJoinCause, IsMakeCauseWith, Joins, JoinsTo, MakesWith, saying}
 use Rattle.replica.specs.Replicas.{ReplicaState}
 use Rattle.replica.specs.Signing.{KeyAfter, KeyAfterJoin, SignsAtLeast, TriesLeast}
 use Rattle.store_directory.specs.Holding.{OpenData, PutsStore, TakesStore}
@@ -59,7 +59,7 @@ use Rattle.outcomes.specs.declared.refusal.Refusal.TheVariants as refusals
 use Rattle.outcomes.specs.Comes.{IsShelfFault, is_done, readings, IsSourceFault}
 use Rattle.schema_verdict.specs.Inputs.{ReadsText}
 use Rattle.outcomes.specs.Outcome.{Outcome, from_make, from_open, from_text}
-use Rattle.node_commands.specs.Signing.{ApplyAnswer, IsInnerFault, IsNoStop, IsOpenFault, JoinAnswer, KeyedAnswer, MakeAnswer, MakesUpdate, SignAnswer, SignsIn, SignsOpen, StopsReading, StoreAnswer, TakesText, UsesKey, UsesKeyIn, AnswersSomeKey, DrawsFor, answered, by_fault, unopened, asked, bad_text, history_of, joined, made, none, not_joined, not_made, saying, taken_of, with_key, with_store, without_key, without_store}
+use Rattle.node_commands.specs.Signing.{ApplyAnswer, IsInnerFault, IsNoStop, IsOpenFault, JoinAnswer, KeyedAnswer, MakeAnswer, MakesUpdate, SignAnswer, SignsIn, SignsOpen, StopsReading, StoreAnswer, TakesText, UsesKey, UsesKeyIn, AnswersSomeKey, DrawsFor, answered, by_fault, unopened, asked, bad_text, history_of, joined, made, none, not_joined, not_made, taken_of, with_key, with_store, without_key, without_store}
 use Rattle.outcomes.specs.OpenStores.{WorksFrom}
 use Rattle.outcomes.specs.StoreAnswers.{after_bytes, bad_key, bad_store, next_bytes, no_key, no_store}
 use Rattle.store_directory.specs.Standing.{Stands}

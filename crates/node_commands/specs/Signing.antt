@@ -15,7 +15,7 @@ use Rattle.key_index.specs.KeyState.{KeyState}
 use Rattle.key_index.specs.Used.{least_unused, used_in}
 use Rattle.replica.specs.declared.make_fault.MakeFault.{MakeFault}
 use Rattle.replica.specs.declared.contents.Contents.{Contents}
-use Rattle.replica.specs.Making.{HasNoneToJoin, IsJoinCause, IsMakeCauseWith, Joins, MakesWith, noted, plain}
+use Rattle.replica.specs.Making.{HasNoneToJoin, IsJoinCause, IsMakeCauseWith, Joins, MakesWith, saying}
 use Rattle.replica.specs.Replicas.{ReplicaState}
 use Rattle.replica.specs.Signing.{SignsAtLeast, TriesLeast}
 use Rattle.key_directory.specs.Keys.{KeepsUsed, ReadsAsKey, WorksWith}
@@ -53,11 +53,6 @@ taken_of (Some used) = used_in used
 -- An answer over the updates of a store, a key, and which of its indices are used, with what is added to the updates.
 abbrev pub SignAnswer : Type 1
 SignAnswer = HistoryData → SecretData → List Bool → List (List ℕ) → Outcome → Type 0
-
--- what an update says of operations that are given this note, or none
-abbrev pub saying : Option (List ℕ) → List Op → Contents
-saying None ops = plain ops
-saying (Some note) ops = noted ops note
 
 -- What is answered where an update that says this is to be made, with C: it is made, stands last, and its id is printed; or why it is not made.
 pub data MakeAnswer (says : Contents) (c : List ℕ) (history : HistoryData) (secret : SecretData) (taken : List Bool) (added : List (List ℕ)) (outcome : Outcome) : Type 0 where

@@ -59,13 +59,18 @@ pub record IsDraft (history : HistoryData) (author : AuthorKey) (preds : List Up
 abbrev pub IsJudged : Meaning → HistoryData → AuthorKey → List UpdateId → List Op → Verdict → Type 0
 IsJudged ask history author preds ops verdict = (draft : NodeData) × IsDraft history author preds ops draft × (verdict_after ask history draft ≡ verdict)
 
--- what an update of operations says that are given no note: more than 64 have an empty one
-abbrev pub plain : List Op → Contents
-plain ops = record { ops = ops; note = if nat_le (length ops) MAX_PLAIN_OPS then None else Some [] }
+-- the note of an update of operations that are given this one, or none: without one more than 64 have an empty one
+abbrev pub note_for : Option (List ℕ) → List Op → Option (List ℕ)
+note_for None ops = if nat_le (length ops) MAX_PLAIN_OPS then None else Some []
+note_for (Some note) ops = Some note
 
--- what an update says that has this note
-abbrev pub noted : List Op → List ℕ → Contents
-noted ops note = record { ops = ops; note = Some note }
+-- what an update says of operations that are given this note, or none
+abbrev pub saying : Option (List ℕ) → List Op → Contents
+saying note ops = record { ops = ops; note = note_for note ops }
+
+-- what it says of operations that are given none
+abbrev pub plain : List Op → Contents
+plain ops = saying None ops
 
 -- the body that an author signs
 abbrev pub body_with : HistoryData → AuthorKey → List UpdateId → Contents → BodyData

@@ -1,6 +1,6 @@
 //! Making updates by a key.
 
-ghost use Rattle.std.specs.Prelude.{◌≡◌, ◌≤◌, ℕ, Some, Err, IsTrue, IfOk, IfErr, IfNone, IfSome, OnErr, OnOk, List};
+ghost use Rattle.std.specs.Prelude.{◌≡◌, ◌≤◌, ℕ, Err, IsTrue, IfOk, IfErr, IfNone, IfSome, OnErr, OnOk, List};
 ghost use Rattle.std.specs.Prelude.{length, map, take};
 ghost use Rattle.bec_bytes.specs.Causes.{Rose};
 ghost use Rattle.bec_bytes.specs.Framed.{stream_of};
@@ -15,7 +15,7 @@ ghost use Rattle.key_index.specs.Used.{IsUsed};
 ghost use Rattle.update_log.specs.Log.{IsClean};
 ghost use Rattle.update_log.specs.Logset.{BeginsWith};
 ghost use Rattle.replica.specs.Making.{IsJoinCause, IsMakeCause, IsMakeCauseWith, JoinsTo, Makes, MakesWith, SignsBody};
-ghost use Rattle.replica.specs.Making.{SignsBodyWith, noted, plain};
+ghost use Rattle.replica.specs.Making.{SignsBodyWith, saying};
 ghost use Rattle.replica.specs.Replicas.{IsSameStore};
 ghost use Rattle.replica.specs.Signing.{KeyAfter, KeyAfterJoin};
 ghost use Rattle.replica.specs.declared.make_fault.Side.TheVariants.{Key as KeySide, Log as LogSide};
@@ -72,68 +72,32 @@ impl<D: Disk, L: Relation, C: Checks<L>> Replica<D, L, C> {
             → Rose key.old.parts.used_faults key.new.parts.used_faults }
         ensures log_failed { result ≡ Err (DiskFailed LogSide) → Rose self.old.log.faults self.new.log.faults }
     {
-        self.make_of(alloc, plain_of(alloc, ops), key, c)
+        self.make_noted(alloc, ops, None, key, c)
     }
 
-    /// Makes an update of these operations that has this note, of at most 256 bytes. It is [`Replica::make`] otherwise.
+    /// Makes an update of these operations that has this note, of at most 256 bytes, or none. It is [`Replica::make`]
+    /// otherwise.
+    #[tactic(auto, using(crate::proofs::Declaring::still_taken))]
     pub fn make_noted(
         &mut self,
         alloc: Global,
         ops: OpList,
-        note: TextValue,
+        note: Option<TextValue>,
         key: &mut KeyStore<D>,
         c: &[u8; 32],
     ) -> Result<UpdateId, MakeFault>
         requires few { length ops ≤ MAX_OPS }
         requires form { AreOps 0 ops }
-        requires short { length note ≤ MAX_NOTE }
+        requires short { IfSome note (λ n. length n ≤ MAX_NOTE) }
         ensures made { IfOk result (λ id. MakesWith L.answer self.old.history key.old.secret key.old.taken
-            (noted ops note) c.now id self.new.history) }
+            (saying note ops) c.now id self.new.history) }
         ensures same { OnErr result (self.new.history ≡ self.old.history) }
         ensures store { IsSameStore self.old self.new }
         ensures refused { IfErr result (λ why. IsMakeCauseWith L.answer self.old.history key.old.secret key.old.taken
-            (noted ops note) c.now why) }
+            (saying note ops) c.now why) }
         ensures clean { IsTrue self.old.log.disk.tells → OnOk result (IsClean self.new.log.end self.new.log.disk) }
         ensures key { KeyAfter key.old result key.new }
-        ensures signs { SignsBodyWith result self.old.history key.old.secret (noted ops note) }
-
-        // A crash at any moment of it leaves what was held in front, and each index used that was used.
-        ensures any_moment { LeavesOnly self.old.log.disk self.new.log.disk
-            (BeginsWith (stream_of self.old.history.members)) }
-        ensures used { (index : ℕ)
-            → (IsTrue key.old.parts.used.tells → EveryImage key.old.parts.used.now (IsUsed index))
-            → LeavesOnly key.old.parts.used key.new.parts.used (IsUsed index) }
-        ensures later { self.old.log.faults ≤ self.new.log.faults }
-        ensures key_later { key.old.parts.used_faults ≤ key.new.parts.used_faults }
-        ensures key_failed { result ≡ Err (DiskFailed KeySide)
-            → Rose key.old.parts.used_faults key.new.parts.used_faults }
-        ensures log_failed { result ≡ Err (DiskFailed LogSide) → Rose self.old.log.faults self.new.log.faults }
-    {
-        let note = note_of(note);
-        self.make_of(alloc, Contents { ops, note }, key, c)
-    }
-
-    /// Makes an update that says this.
-    #[tactic(auto, using(crate::proofs::Declaring::still_taken))]
-    fn make_of(
-        &mut self,
-        alloc: Global,
-        says: Contents,
-        key: &mut KeyStore<D>,
-        c: &[u8; 32],
-    ) -> Result<UpdateId, MakeFault>
-        requires few { length says.ops ≤ most_ops says.note }
-        requires form { AreOps 0 says.ops }
-        requires note { IsNote says.note }
-        ensures made { IfOk result (λ id. MakesWith L.answer self.old.history key.old.secret key.old.taken says c.now id
-            self.new.history) }
-        ensures same { OnErr result (self.new.history ≡ self.old.history) }
-        ensures store { IsSameStore self.old self.new }
-        ensures refused { IfErr result (λ why. IsMakeCauseWith L.answer self.old.history key.old.secret key.old.taken
-            says c.now why) }
-        ensures clean { IsTrue self.old.log.disk.tells → OnOk result (IsClean self.new.log.end self.new.log.disk) }
-        ensures key { KeyAfter key.old result key.new }
-        ensures signs { SignsBodyWith result self.old.history key.old.secret says }
+        ensures signs { SignsBodyWith result self.old.history key.old.secret (saying note ops) }
 
         // A crash at any moment of it leaves what was held in front, and each index used that was used.
         ensures any_moment { LeavesOnly self.old.log.disk self.new.log.disk
@@ -148,9 +112,10 @@ impl<D: Disk, L: Relation, C: Checks<L>> Replica<D, L, C> {
         ensures log_failed { result ≡ Err (DiskFailed LogSide) → Rose self.old.log.faults self.new.log.faults }
     {
         self.log.is_unsure(); // what is acknowledged stands in front
-        let heads = plan(alloc, &self.history, key, &says.ops)?;
+        let heads = plan(alloc, &self.history, key, &ops)?;
         self.history.len(); // what is held is in order
         let preds = IdList::from_vec(heads);
+        let says = contents_of(alloc, ops, note);
         sign_and_add(
             alloc,
             &mut self.history,
@@ -221,31 +186,29 @@ impl<D: Disk, L: Relation, C: Checks<L>> Replica<D, L, C> {
     }
 }
 
-/// What an update of these operations says, which are given no note.
-fn plain_of(alloc: Global, ops: OpList) -> Contents
-    requires { length ops ≤ MAX_OPS }
-    ensures value { result ≡ plain ops }
+/// What an update of these operations says, which are given this note, or none.
+fn contents_of(alloc: Global, ops: OpList, note: Option<TextValue>) -> Contents
+    requires few { length ops ≤ MAX_OPS }
+    requires short { IfSome note (λ n. length n ≤ MAX_NOTE) }
+    ensures value { result ≡ saying note ops }
     ensures few { length result.ops ≤ most_ops result.note }
     ensures note { IsNote result.note }
 {
+    if let Some(text) = note {
+        text.as_slice(); // it is UTF-8
+        return Contents {
+            ops,
+            note: Some(text),
+        };
+    }
     if ops.as_slice().len() <= usize::from(MAX_PLAIN_OPS) {
         return Contents { ops, note: None };
     }
-    let note = TextValue::from_vec(Vec::new(alloc));
+    let empty = TextValue::from_vec(Vec::new(alloc));
     Contents {
         ops,
-        note: Some(note),
+        note: Some(empty),
     }
-}
-
-/// A text as a note.
-fn note_of(text: TextValue) -> Option<TextValue>
-    requires { length text ≤ MAX_NOTE }
-    ensures value { result ≡ Some text }
-    ensures note { IsNote result }
-{
-    text.as_slice(); // it is UTF-8
-    Some(text)
 }
 
 /// The least heads, as many as an update may name.

@@ -1,18 +1,7 @@
-ghost use Rattle.std.specs.Prelude.{◌≡◌, ◌≤◌, ℕ, Err, IfErr, IfOk, IfSome, IsTrue, OnErr, OnOk, length, option_map};
-ghost use Rattle.row_check.specs.Checksum.{is_luhn};
-ghost use Rattle.bec_bytes.specs.Causes.{Rose};
-ghost use Rattle.bec_bytes.specs.Framed.{stream_of};
-ghost use Rattle.bec_disk.specs.Disk.{EveryImage, LeavesOnly};
+ghost use Rattle.std.specs.Prelude.{◌≡◌, ◌≤◌, IfErr, IfOk, IfSome, length, option_map};
 ghost use Rattle.update_model.specs.declared.limits.TheConstants.{MAX_NOTE};
-ghost use Rattle.update_log.specs.Log.{IsClean};
-ghost use Rattle.update_log.specs.Logset.{BeginsWith};
-ghost use Rattle.key_index.specs.Used.{IsUsed};
-ghost use Rattle.replica.specs.Making.{IsMakeCauseWith, MakesWith};
-ghost use Rattle.replica.specs.Signing.{KeyAfter};
-ghost use Rattle.replica.specs.declared.make_fault.Side.TheVariants.{Key as KeySide, Log as LogSide};
-ghost use Rattle.replica.specs.declared.make_fault.MakeFault.TheVariants.{DiskFault as DiskFailed};
+ghost use Rattle.replica.specs.Making.{saying};
 ghost use Rattle.node_commands.specs.Signing.{ApplyAnswer, IsNoStop, MakeAnswer, SignsOpen, StopsReading, TakesText};
-ghost use Rattle.node_commands.specs.Signing.{saying};
 ghost use Rattle.outcomes.specs.Comes.{IsSourceFault};
 ghost use Rattle.outcomes.specs.StoreAnswers.{next_bytes};
 ghost use Rattle.txn_text.specs.Outcome.{MayStand};
@@ -22,14 +11,14 @@ use bec_disk::Disk;
 use key_index::KeyStore;
 use outcomes::{Refusal, id_line, made_refusal, room_for_id};
 use rand_core::Rng;
-use replica::{MakeFault, Replica};
+use replica::Replica;
 use row_check::Luhn;
 use schema::Schema;
 use schema_verdict::read_text;
 use std::alloc::{AllocError, Global};
 use store_directory::each_stands;
 use txn_text::{MAX_TRANSACTION_BYTES, read_txn};
-use update_model::{OpList, TextValue, UpdateId};
+use update_model::{OpList, TextValue};
 
 /// Makes an update of the transaction that is read in a store, by a key, with a note or without one, and answers the
 /// line of its id.
@@ -83,7 +72,7 @@ fn make_update<D: Disk, R: Rng>(
     let text = note_of(alloc, note)?;
     let mut c = [0; 32];
     random.fill_bytes(&mut c);
-    let made = make(alloc, replica, key, ops, text, &c);
+    let made = replica.make_noted(alloc, ops, text, key, &c);
     each_stands(replica);
     match made {
         Ok(id) => Ok(id_line(room, &id)),
@@ -102,38 +91,5 @@ fn note_of(alloc: Global, note: Option<&str>) -> Result<Option<TextValue>, Alloc
             Ok(Some(TextValue::from_vec(bytes)))
         }
         None => Ok(None),
-    }
-}
-
-/// Makes an update of these operations, with a note or without one, and answers its id.
-fn make<D: Disk>(
-    alloc: Global,
-    replica: &mut Replica<D, Luhn, Luhn>,
-    key: &mut KeyStore<D>,
-    ops: OpList,
-    note: Option<TextValue>,
-    c: &[u8; 32],
-) -> Result<UpdateId, MakeFault>
-    requires form { MayStand ops }
-    requires short { IfSome note (λ n. length n ≤ MAX_NOTE) }
-    ensures made { IfOk result (λ id. MakesWith is_luhn replica.old.history key.old.secret key.old.taken
-        (saying note ops) c.now id replica.new.history) }
-    ensures same { OnErr result (replica.new.history ≡ replica.old.history) }
-    ensures refused { IfErr result (λ why. IsMakeCauseWith is_luhn replica.old.history key.old.secret key.old.taken
-        (saying note ops) c.now why) }
-    ensures clean { IsTrue replica.old.log.disk.tells → OnOk result (IsClean replica.new.log.end replica.new.log.disk) }
-    ensures key { KeyAfter key.old result key.new }
-    ensures any_moment { LeavesOnly replica.old.log.disk replica.new.log.disk
-        (BeginsWith (stream_of replica.old.history.members)) }
-    ensures used { (index : ℕ) → (IsTrue key.old.parts.used.tells → EveryImage key.old.parts.used.now (IsUsed index))
-        → LeavesOnly key.old.parts.used key.new.parts.used (IsUsed index) }
-    ensures later { replica.old.log.faults ≤ replica.new.log.faults }
-    ensures key_later { key.old.parts.used_faults ≤ key.new.parts.used_faults }
-    ensures key_failed { result ≡ Err (DiskFailed KeySide) → Rose key.old.parts.used_faults key.new.parts.used_faults }
-    ensures log_failed { result ≡ Err (DiskFailed LogSide) → Rose replica.old.log.faults replica.new.log.faults }
-{
-    match note {
-        Some(note) => replica.make_noted(alloc, ops, note, key, c),
-        None => replica.make(alloc, ops, key, c),
     }
 }

@@ -4,9 +4,10 @@ use Rattle.std.proofs.lemmas.Result.{err_from_is_err_and}
 use Rattle.store_directory.proofs.Signing.{tried_by}
 use Rattle.lms_tree.specs.SecretKey.{SecretData}
 use Rattle.update_model.specs.declared.update_id.UpdateId.{UpdateId}
+use Rattle.replica.specs.Making.{saying}
 use Rattle.outcomes.specs.declared.refusal.Refusal.{Refusal}
 use Rattle.outcomes.specs.Outcome.{from_make}
-use Rattle.node_commands.specs.Signing.{IsNoStop, MakeAnswer, SignsOpen, saying}
+use Rattle.node_commands.specs.Signing.{IsNoStop, MakeAnswer, SignsOpen}
 use Rattle.outcomes.specs.StoreAnswers.{after_bytes, next_bytes}
 use Rattle.node_commands.proofs.Signs.{makes, makes_not, same_secret, signs_nothing}
 use Rattle.node_commands.proofs.commands.apply.make_update.Goals as goal
@@ -25,8 +26,8 @@ pub returns-in-Ok : goal.returns-in-Ok
 returns-in-Ok g c =
     let old = c.args.replica.now in
     let key = c.args.key.now in
-    let new = c.make-made.new.replica in
-    let key_new = c.make-made.new.key in
+    let new = c.make_noted-made.new.self in
+    let key_new = c.make_noted-made.new.key in
     let e = c.in-Ok.ensures in
     let stream = g.R.Rng.stream c.args.random.now in
     let stream_new = g.R.Rng.stream c.fill_bytes.new.self in
@@ -41,8 +42,8 @@ pub returns-in-Err : goal.returns-in-Err
 returns-in-Err g c =
     let old = c.args.replica.now in
     let key = c.args.key.now in
-    let new = c.make-made.new.replica in
-    let key_new = c.make-made.new.key in
+    let new = c.make_noted-made.new.self in
+    let key_new = c.make_noted-made.new.key in
     let e = c.in-Err.ensures in
     let tried = tried_by {T = UpdateId} key (Err c.in-Err.fault) key_new e.key in
     let stream = g.R.Rng.stream c.args.random.now in
