@@ -104,32 +104,11 @@ pub fn write_tail<D: Disk, L: Relation, C: Checks<L>>(
     ensures failed { IsErrOf result DiskError.DiskFault → Rose log.old.faults log.new.faults }
 {
     log.is_unsure(); // what is acknowledged stands in front
-    let Ok(ids) = ids_of(alloc, history.tail(from)) else {
-        return Err(DiskError::Memory);
-    };
-    match settle_and_append(log, history, from) {
-        Ok(()) => Ok(ids),
-        Err(DiskFault) => Err(DiskError::DiskFault),
-    }
-}
-
-/// Writes the updates from a position on behind the log's records, after a repair where it is unsure.
-fn settle_and_append<D: Disk, L: Relation, C: Checks<L>>(
-    log: &mut Log<D>,
-    history: &History<L, C>,
-    from: u32,
-) -> Result<(), DiskFault>
-    requires low { from ≤ length history.now.members }
-    requires log { IsLogOf (take from history.now.members) log.old }
-    ensures written { OnOk result (IsLogOf history.now.members log.new) }
-    ensures kept { OnErr result (IsLogOf (take from history.now.members) log.new) }
-    ensures clean { IsTrue log.old.disk.tells → OnOk result (IsClean log.new.end log.new.disk) }
-    ensures any_moment { LeavesOnly log.old.disk log.new.disk (BeginsWith (stream_of (take from history.now.members))) }
-    ensures cause { HasCause log.old.faults log.new.faults result }
-{
+    let ids = ids_of(alloc, history.tail(from))?;
     repair_if_unsure(log)?;
     history.len(); // what holds of every history
-    log.append(history.tail(from))
+    log.append(history.tail(from))?;
+    Ok(ids)
 }
 
 /// Cuts what stands behind the acknowledged records, where a call failed before.
