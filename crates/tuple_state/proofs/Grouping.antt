@@ -1,5 +1,5 @@
 -- Groups of rows of one value.
-use Rattle.std.proofs.Common.{◌≡◌, ◌≢◌, ℕ, zero, suc, ◌+◌, ◌<◌, ◌≤◌, ◌==◌, Bool, true, false, ◌&&◌, List, [], ◌∷◌, ◌++◌, length, get_or, take, refl, sym, ap, ◌∙◌, subst, Option, Some, None, is_none, length-append, arith, inl, inr, ◌⊎◌, nat_lt}
+use Rattle.std.proofs.Common.{◌≡◌, ◌≢◌, ℕ, zero, suc, ◌+◌, ◌<◌, ◌≤◌, ◌==◌, Bool, true, false, ◌&&◌, List, [], ◌∷◌, ◌++◌, length, get_or, take, refl, sym, ap, ◌∙◌, subst, Some, None, is_none, length-append, arith, inl, inr, ◌⊎◌, nat_lt}
 use Rattle.std.specs.Prelude.{is_some, position, slice_get}
 use Rattle.std.specs.List.{list_any, position_from}
 use Rattle.std.proofs.lemmas.Bool.{and_parts, both_ways, eq-eqb, eqb-true, false_from_ne_true, or_parts}
@@ -16,7 +16,6 @@ use Rattle.tuple_state.specs.Least.{AreGrouped, are_equal}
 use Rattle.tuple_state.specs.State.{keep_any, rules_over}
 use Rattle.tuple_state.proofs.Layers.{plain_shapes}
 use Rattle.tuple_state.proofs.Lookups.{found_at}
-use Rattle.tuple_state.proofs.Marking.{slice_get_below}
 
 -- ---- parts of lists
 

@@ -70,12 +70,19 @@ padded [] (suc m) (suc k) = padded [] m k
 padded (x ∷ xs) m zero = refl
 padded (x ∷ xs) m (suc k) = padded xs m k
 
-module _ (state : State) (node : NodeData) (places : BTreeMap RowName ℕ) (causes : List ℕ) (children deleters : Linked) (ends groups : List ℕ) (least : List (Option ℕ)) (nexts : List ℕ) (kept : IsKept state places causes children deleters ends groups least nexts) (next : IsNextVerdict state node verdict.Valid) where
+-- the rows that a valid update inserts, and the names that it deletes
+abbrev pub news_of : State → NodeData → List Inserted
+news_of state node = map (inserted_at state.count) (reverse (effects_of node).inserted)
+
+abbrev pub drops_of : State → NodeData → List Dropped
+drops_of state node = map (dropped_at state.count) (reverse (effects_of node).deleted)
+
+module _ {state : State} {node : NodeData} {places : BTreeMap RowName ℕ} {causes : List ℕ} {children deleters : Linked} {ends groups : List ℕ} {least : List (Option ℕ)} {nexts : List ℕ} (kept : IsKept state places causes children deleters ends groups least nexts) (next : IsNextVerdict state node verdict.Valid) where
   abbrev news : List Inserted
-  news = map (inserted_at state.count) (reverse (effects_of node).inserted)
+  news = news_of state node
 
   abbrev drops : List Dropped
-  drops = map (dropped_at state.count) (reverse (effects_of node).deleted)
+  drops = drops_of state node
 
   pub layered_next : are_layered (rules_of_state state) (done_in (after state node verdict.Valid)).inserted ≡ true
   layered_next = layered_now next.rules (node ∷ next.nodes) (after state node verdict.Valid) (state_next state node verdict.Valid next)
@@ -134,16 +141,16 @@ module _ (state : State) (node : NodeData) (places : BTreeMap RowName ℕ) (caus
       omega (arith, a, b, c, d)
 
   -- there are as many links as names
-  links_len : length children.links ≡ length (parents_from (rules_of_state state) 0 state.inserted)
+  pub links_len : length children.links ≡ length (parents_from (rules_of_state state) 0 state.inserted)
   links_len =
       let a = ap length kept.named in
       let b = length-map {B = Option ℕ × ℕ} children.links (λ (link : Link). (Some link.place, link.number)) in
       let c = length-map {B = Option ℕ × ℕ} (parents_from (rules_of_state state) 0 state.inserted) (λ (d : Dropped). (place_of state.inserted d.name, d.position)) in
       omega (arith, a, b, c)
 
-  pub ended_next : (more_ends : List ℕ) → more_ends ≡ ends_from (rules_of_state state) (length children.links) news → ends ++ more_ends ≡ ends_from (rules_of_state state) 0 whole
+  pub ended_next : (more_ends : List ℕ) → more_ends ≡ ends_from (rules_of_state state) (length (parents_from (rules_of_state state) 0 state.inserted)) news → ends ++ more_ends ≡ ends_from (rules_of_state state) 0 whole
   ended_next more_ends so =
-      let from : length children.links ≡ 0 + length (parents_from (rules_of_state state) 0 state.inserted) = omega (arith, links_len) in
+      let from = sym (zero-add (length (parents_from (rules_of_state state) 0 state.inserted))) in
       (λ i. kept.ended i ++ (so ∙ ap (λ n. ends_from (rules_of_state state) n news) from) i) ∙ sym (ends-append (rules_of_state state) 0 0 state.inserted news)
 
   module _ (refs : List Link) (refs_are : pairs_of refs ≡ deletes_at (place_of whole) parents) where
@@ -173,7 +180,7 @@ module _ (state : State) (node : NodeData) (places : BTreeMap RowName ℕ) (caus
 
     -- what is kept after a valid update
     pub kept_next : IsNode node → (after_places : BTreeMap RowName ℕ) (size : ℕ) (after_causes more_ends after_groups : List ℕ) (after_least : List (Option ℕ)) (after_nexts : List ℕ) (names : List Link)
-        → ((name : RowName) → get name_cmp after_places name ≡ place_of whole name) → pairs_of names ≡ deletes_at (place_of whole) drops → more_ends ≡ ends_from (rules_of_state state) (length children.links) news → size ≡ length whole → length after_causes ≡ length whole
+        → ((name : RowName) → get name_cmp after_places name ≡ place_of whole name) → pairs_of names ≡ deletes_at (place_of whole) drops → more_ends ≡ ends_from (rules_of_state state) (length (parents_from (rules_of_state state) 0 state.inserted)) news → size ≡ length whole → length after_causes ≡ length whole
         → length (children.links ++ refs) ≤ 536870912 → length (deleters.links ++ names) ≤ 536870912
         → AreSettled state.shapes whole (children.links ++ refs) (λ k. count_by (is_of k) (deleters.links ++ names)) after_causes
         → AreGrouped state.shapes whole after_groups → (keep_any state.shapes ≡ true → length after_groups ≡ length whole) → length after_least ≡ length after_groups → length after_nexts ≡ length after_groups

@@ -1,17 +1,15 @@
 -- Each row rests on rows of earlier tables, or on those of its own that keeps no least row.
-use Rattle.std.proofs.Common.{◌≡◌, ℕ, zero, suc, ◌+◌, ◌<◌, ◌==◌, Bool, true, false, ◌&&◌, ◌||◌, nat_le, List, [], ◌∷◌, ◌++◌, length, map, reverse, refl, sym, ap, ◌∙◌, subst, Option, Some, arith}
+use Rattle.std.proofs.Common.{◌≡◌, ℕ, zero, suc, ◌+◌, ◌<◌, true, false, ◌&&◌, nat_le, List, [], ◌∷◌, length, map, reverse, refl, sym, ap, ◌∙◌, subst, Some, arith}
 use Rattle.std.specs.Prelude.{slice_get}
 use Rattle.std.specs.List.{list_any, list_all, AllByRecursion}
 use Rattle.std.proofs.lemmas.Bool.{and_parts, and_from, leb-true, or_right}
 use Rattle.std.proofs.lemmas.List.{length-map}
 use Rattle.update_model.specs.declared.row_name.RowName.{RowName}
 use Rattle.update_model.specs.Node.{NodeData}
-use Rattle.schema.specs.declared.table_def.TableDef.{TableDef}
 use Rattle.table_model.specs.Verdicts.{effects_in}
 use Rattle.table_model.specs.Visible.{Effects, RowRef, Rules, TableRow, cascade_refs, same_row}
 use Rattle.table_model.proofs.Each.{each-append}
 use Rattle.table_model.proofs.Founded.{Founded, all_weaker, founded_closed}
-use Rattle.table_model.proofs.Order.{any_weaker}
 use Rattle.table_model.proofs.Settled.{are_resting, rests_on}
 use Rattle.table_model.proofs.Standing.{each-map}
 use Rattle.tuple_state.specs.declared.dropped.Dropped.{Dropped}

@@ -9,9 +9,7 @@ use Rattle.std.proofs.lemmas.List.Sums.{sum_by-cons}
 use Rattle.std.proofs.lemmas.List.{take-map}
 use Rattle.update_model.specs.declared.row_name.RowName.{RowName}
 use Rattle.update_model.specs.declared.limits.TheConstants.{MAX_MEMBERS}
-use Rattle.update_model.specs.Node.{NodeData}
 use Rattle.table_model.specs.Tables.{name_cmp}
-use Rattle.table_model.specs.Visible.{Rules}
 use Rattle.tuple_state.specs.declared.dropped.Dropped.{Dropped}
 use Rattle.tuple_state.specs.declared.inserted.Inserted.{Inserted}
 use Rattle.tuple_state.specs.declared.links.Link.{Link}
@@ -20,7 +18,7 @@ use Rattle.tuple_state.specs.Kept.{IsKept, are_layered, deletes_at, pairs_of, pl
 use Rattle.tuple_state.specs.Causes.{AreRising, absent_times, ends_from, parents_from}
 use Rattle.tuple_state.specs.Least.{AreGrouped, AreLevel, AreSettled, is_free, passed_by}
 use Rattle.tuple_state.specs.Links.{Linked, are_inside, is_of}
-use Rattle.tuple_state.specs.State.{IsHeld, IsStateOf, State, done_in, keep_any, row_of, rules_of_state, rules_over, state_of}
+use Rattle.tuple_state.specs.State.{IsCut, IsHeld, IsStateOf, State, done_in, keep_any, row_of, rules_of_state, rules_over, state_of}
 use Rattle.tuple_state.proofs.Adding.{NamesRise, all_rise, names_found, news_rise, parents-append, rising_inside, rising_links}
 use Rattle.tuple_state.proofs.Deleting.{drops_found, links_inside, pair_parts, place_stays}
 use Rattle.tuple_state.proofs.Effects.{shapes_are, count_is}
@@ -33,9 +31,9 @@ use Rattle.tuple_state.proofs.Spans.{ends-take}
 
 -- ---- the rest stays
 
-pub kept_places : (state : State) (places after_places : BTreeMap RowName ℕ) (causes : List ℕ) (children after_children deleters after_deleters : Linked) (ends groups : List ℕ) (least : List (Option ℕ)) (nexts : List ℕ) → IsKept state places causes children deleters ends groups least nexts
+pub kept_places : {state : State} {places : BTreeMap RowName ℕ} (after_places : BTreeMap RowName ℕ) {causes : List ℕ} {children after_children deleters after_deleters : Linked} {ends groups : List ℕ} {least : List (Option ℕ)} {nexts : List ℕ} → IsKept state places causes children deleters ends groups least nexts
     → ((name : RowName) → get name_cmp after_places name ≡ place_of state.inserted name) → after_children ≡ children → after_deleters ≡ deleters → IsKept state after_places causes after_children after_deleters ends groups least nexts
-kept_places state places after_places causes children after_children deleters after_deleters ends groups least nexts kept placed alike same = record {
+kept_places {state} after_places {causes} kept placed alike same = record {
   held = kept.held;
   few = kept.few;
   bounded = kept.bounded;
@@ -139,7 +137,9 @@ take_fewer zero xs = omega arith
 take_fewer (suc n) [] = omega arith
 take_fewer (suc n) (x ∷ xs) = let rest = take_fewer n xs in omega (arith, rest)
 
-module _ (rules : Rules) (newer older : List NodeData) (state : State) (len : ℕ) (held : IsStateOf rules (newer ++ older) state) (at : length older ≡ len) where
+module _ {state : State} {len : ℕ} (whole : IsCut state len) where
+  open whole use {rules, newer, older, is as held, at}
+
   abbrev pub old : State
   old = state_of rules older
 

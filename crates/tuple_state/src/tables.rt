@@ -1,6 +1,6 @@
 ghost use Rattle.std.specs.Prelude.{◌≡◌, ℕ, ◌+◌, ◌*◌, ◌<◌, ◌≤◌, Bool, List, [], ◌∷◌, ◌++◌, IfOk, IfNone, IfSome, OnOk};
 ghost use Rattle.std.specs.Prelude.{MatchResult, length, map, nat_lt, option_to_list, slice_get, take, Contains, Some};
-ghost use Rattle.std.specs.Prelude.{true, not, ◌&&◌, ◌||◌};
+ghost use Rattle.std.specs.Prelude.{true, not, ◌&&◌, ◌||◌, ◌⊎◌};
 ghost use Rattle.std.specs.List.{list_all, list_any};
 ghost use Rattle.std.specs.Vec.{vec_capacity};
 ghost use Rattle.table_model.specs.declared.verdict.Verdict.TheVariants.{Valid};
@@ -20,7 +20,7 @@ ghost use Rattle.table_model.specs.Answers.{AreAnswers};
 ghost use Rattle.tuple_state.specs.Past.{AreCausesThen, IsNextVerdict, IsPastOf, StandsAt, done_then, effects_before};
 ghost use Rattle.tuple_state.specs.Absence.{causes_of};
 ghost use Rattle.tuple_state.specs.Causes.{parents_from};
-ghost use Rattle.tuple_state.specs.Changes.{AreNextChanges};
+ghost use Rattle.tuple_state.specs.Changes.{AreNextChanges, AreWithParents};
 ghost use Rattle.tuple_state.specs.Kept.{are_grounded, are_layered, deletes_at, is_named, pairs_of, place_of};
 ghost use Rattle.tuple_state.specs.Parents.{columns_at, is_held, passes_place};
 ghost use Rattle.tuple_state.specs.State.{IsCut, IsHeld, IsStateOf, after, done_in, dropped_at, keep_any, row_of};
@@ -28,7 +28,7 @@ ghost use Rattle.tuple_state.specs.State.{rules_of_state, voided_at};
 ghost use Rattle.tuple_state.specs.declared.inserted.Inserted.{Inserted as Row};
 
 use crate::causes::{add_causes, clear, count_numbers, count_places, room_for};
-use crate::children::parents_of;
+use crate::children::{Parents, parents_of};
 use crate::cutting::{lines_of, names_before, numbers_before, rows_before, voids_before};
 use crate::deleters::grow_links;
 use crate::grounds::Grounds;
@@ -302,8 +302,7 @@ impl Tables {
         self.keep_changes(&mut inserted, &mut dropped)
     }
 
-    /// Takes over the rows that a valid update inserts, and the names that it deletes. Memory is taken before anything
-    /// changes.
+    /// Takes over the rows that a valid update inserts, and the names that it deletes.
     fn keep_changes(
         &mut self,
         inserted: &mut Vec<Inserted>,
@@ -318,14 +317,40 @@ impl Tables {
             (λ _. self.new ≡ self.old) }
     {
         let first = self.rows.len();
+        let shapes = self.shapes.as_slice();
+        let len = self.children.len();
+        let mut parents = parents_of(self.alloc, shapes, inserted.as_slice(), first, len)?;
+        let mut pending = room_for(self.alloc, dropped.len(), first + inserted.len())?;
+        self.take_over(inserted, dropped, &mut parents, &mut pending)
+    }
+
+    /// Takes these rows and names over, with what the rows name by `CASCADE` and room for the places of rows that the
+    /// names make absent. Memory is taken before anything changes.
+    fn take_over(
+        &mut self,
+        inserted: &mut Vec<Inserted>,
+        dropped: &mut Vec<Dropped>,
+        parents: &mut Parents,
+        pending: &mut Vec<usize>,
+    ) -> Result<(), AllocError>
+        requires next { AreWithParents self.old inserted.old.items dropped.old.items parents.old.names.items
+            parents.old.ends.items }
+        requires idle { pending.old.items ≡ [] }
+        requires room { (dropped.old.items ≡ []) ⊎ (length self.old.inserted + length inserted.old.items
+            ≤ vec_capacity pending.old) }
+        ensures { MatchResult result (λ _. self.new ≡ record self.old {
+          count = self.old.count + 1;
+          inserted = self.old.inserted ++ inserted.old.items;
+          dropped = self.old.dropped ++ dropped.old.items;
+        })
+            (λ _. self.new ≡ self.old) }
+    {
+        let first = self.rows.len();
         let more = inserted.len();
         reserve_rows(&mut self.rows, &mut self.causes, &mut self.ends, more)?;
         self.dropped.reserve(dropped.len())?;
         let shapes = self.shapes.as_slice();
         self.groups.reserve(shapes, more)?;
-        let len = self.children.len();
-        let mut parents = parents_of(self.alloc, shapes, inserted.as_slice(), first, len)?;
-        let mut pending = room_for(self.alloc, dropped.len(), first + more)?;
         add_places(&mut self.places, self.rows.as_slice(), inserted.as_slice())?;
         match grow_links(
             self.alloc,
@@ -340,7 +365,7 @@ impl Tables {
             Ok(added) => {
                 self.causes.resize(first + more, 0).unwrap();
                 let causes = self.causes.as_mut_slice();
-                add_causes(causes, &mut pending, &self.children, &added);
+                add_causes(causes, pending, &self.children, &added);
             }
             Err(error) => {
                 remove_places(&mut self.places, self.rows.as_slice(), inserted.as_slice());

@@ -1,5 +1,4 @@
 use Rattle.std.proofs.Common.{◌≡◌, ap, refl, sym, ◌∙◌, Some}
-use Rattle.std.specs.Prelude.{slice_get}
 use Rattle.table_model.specs.Visible.{kept_of}
 use Rattle.tuple_state.specs.declared.inserted.Inserted.{Inserted}
 use Rattle.tuple_state.specs.State.{rules_over}

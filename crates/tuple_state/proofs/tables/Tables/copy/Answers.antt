@@ -41,4 +41,4 @@ invariant_of-result c =
     (subst (λ (l : List ℕ). IsKept state places inside.causes.items children deleters inside.ends.items l least nexts) (sym c.in_ok-copy-3.ensures.numbers)
     (subst (λ (l : List (Option ℕ)). IsKept state places inside.causes.items children deleters inside.ends.items inside.groups.numbers.items l nexts) (sym c.in_ok-copy-3.ensures.least)
     (subst (λ (l : List ℕ). IsKept state places inside.causes.items children deleters inside.ends.items inside.groups.numbers.items inside.groups.least.items l) (sym c.in_ok-copy-3.ensures.nexts)
-    (kept_places state inside.places places inside.causes.items inside.children children inside.deleters deleters inside.ends.items inside.groups.numbers.items inside.groups.least.items inside.groups.nexts.items c.self.invariant placed c.in_ok-copy.ensures c.in_ok-copy-2.ensures))))))
+    (kept_places places c.self.invariant placed c.in_ok-copy.ensures c.in_ok-copy-2.ensures))))))
