@@ -51,7 +51,7 @@ pub fn tell<'a, E: Write, S: Source, W: Write>(
         read: input.kept(),
         heard: output.heard(),
     };
-    tell_run(rt.alloc(), errors, &run);
+    let _ = tell_run(rt.alloc(), errors, &run);
 }
 
 /// Whether nothing is to be explained.

@@ -1,17 +1,16 @@
 -- What is told of a line, put together.
-use Rattle.std.proofs.Common.{◌≡◌, ◌∙◌, ℕ, List, [], ◌++◌, Option, length, take, arith, Bool, true, false, ap, sym, append_assoc}
+use Rattle.std.proofs.Common.{◌≡◌, ◌∙◌, ℕ, List, [], ◌++◌, Option, Bool, true, false, ap, sym, append_assoc, inl, inr}
 use Rattle.explanations.specs.declared.marks.Marks.{Marks}
 use Rattle.explanations.specs.Explained.{Setting, explained, explained_by, front_of, habit_rows, key_of, marked_rows, the_table}
 use Rattle.explanations.specs.Habits.{habit_entry}
-use Rattle.explanations.specs.Run.{AddsFrontOf, note_of, said_of_run, told_from, told_of, word_placed}
+use Rattle.explanations.specs.Run.{Says, note_of, said_of_run, told_from, told_of, word_placed}
 use Rattle.explanations.specs.Shown.{shown}
 use Rattle.explanations.specs.Table.{entry_for}
 use Rattle.explanations.proofs.Tables.{no_lines}
-use Rattle.std.proofs.lemmas.List.{append-nil, take_all}
+use Rattle.std.proofs.lemmas.List.{append-nil}
 use Rattle.text_words.specs.Lines.{lines_of}
-use Rattle.std.proofs.Common.{subst}
 use Rattle.std.specs.Prelude.{Result, Ok, Err}
-use Rattle.std.specs.Io.KnownBytes.{Appends}
+use Rattle.bec_bytes.specs.Causes.{HasCause}
 use Rattle.bec_bytes.specs.Moved.{TakesAll}
 
 pub looked_up : (table command first key : List ℕ) (found : Option (Marks × List ℕ)) (setting : Setting) → found ≡ entry_for table command first → table ≡ the_table
@@ -52,9 +51,7 @@ unfolding said_of_run
 said_from words named status read heard command note new is_command is_note is_new =
     is_new ∙ ap (λ (n : List ℕ). n ++ told_of words named status read heard) (is_note ∙ ap (λ (c : List ℕ). note_of c read) is_command)
 
--- all of a text is a front of it
-pub front_written : {T E : Type 0} (before after : Option (List ℕ)) (r : Result T E) (text : List ℕ) → TakesAll before after r text → AddsFrontOf before after text
-front_written before after (Ok done) text takes =
-    let whole : take (length text) text ≡ text = take_all (length text) text (omega arith) in
-    (length text, subst (λ (bytes : List ℕ). Appends before after bytes) (sym whole) takes)
-front_written before after (Err fault) text takes = (takes.0, takes.2)
+-- what is written whole, or up to a fault
+pub text_said : {T E : Type 0} (before after : Option (List ℕ)) (faults now : ℕ) (r : Result T E) (text : List ℕ) → TakesAll before after r text → HasCause faults now r → Says before after faults now text
+text_said before after faults now (Ok done) text takes cause = record { later = cause.later; takes = inl takes }
+text_said before after faults now (Err fault) text takes cause = record { later = cause.later; takes = inr (cause.failed, (takes.0, takes.2)) }

@@ -1,8 +1,9 @@
 -- The words of a command line, and what is said of a run of the program. `-` is the byte 45.
-use Rattle.std.specs.Prelude.{ℕ, ◌-◌, Bool, true, false, not, ◌&&◌, ◌||◌, ◌==◌, nat_eq, List, [], ◌∷◌, ◌++◌, drop, length, slice_get, take, unwrap_or, codes, bytes_eq, if◌then◌else◌}
+use Rattle.std.specs.Prelude.{ℕ, ◌-◌, ◌≤◌, ◌⊎◌, Bool, true, false, not, ◌&&◌, ◌||◌, ◌==◌, nat_eq, List, [], ◌∷◌, ◌++◌, drop, length, slice_get, take, unwrap_or, codes, bytes_eq, if◌then◌else◌}
 use Rattle.std.specs.Io.KnownBytes.{Appends}
 use Rattle.std.specs.List.{starts_with}
 use Rattle.std.specs.declared.option.Option.{Option}
+use Rattle.bec_bytes.specs.Causes.{Rose}
 use Rattle.explanations.specs.declared.runs.TheConstants.{CR_LF, OF_SCHEMAS, OF_STORES, WITH_VALUES}
 use Rattle.explanations.specs.Explained.{Setting, explained}
 use Rattle.explanations.specs.Parts.{parts_of, stands_among}
@@ -101,3 +102,8 @@ said_of_run words named status read heard =
 -- A sink took a front of a text, where it tells that.
 abbrev pub AddsFrontOf : Option (List ℕ) → Option (List ℕ) → List ℕ → Type 0
 AddsFrontOf before after text = (n : ℕ) × Appends before after (take n text)
+
+-- A sink took a text, whole, or it failed and took a front of it. What it holds is known where it tells that.
+pub record Says (before after : Option (List ℕ)) (faults now : ℕ) (text : List ℕ) : Type 0 where
+  pub later : faults ≤ now
+  pub takes : Appends before after text ⊎ (Rose faults now × AddsFrontOf before after text)

@@ -1,12 +1,12 @@
 //! What a run of the program printed, explained.
 
-ghost use Rattle.std.specs.Prelude.{◌≡◌, ◌≤◌, [], ◌∷◌, ◌++◌, drop, false, map, slice_get, string_bytes};
-ghost use Rattle.std.specs.Prelude.{IfOk, OnOk, option_copied};
+ghost use Rattle.std.specs.Prelude.{◌≡◌, [], ◌∷◌, ◌++◌, drop, false, map, slice_get, string_bytes};
+ghost use Rattle.std.specs.Prelude.{IfOk, OnErr, OnOk, option_copied};
 ghost use Rattle.explanations.specs.Explained.{explained, setting_of};
 ghost use Rattle.explanations.specs.Parts.{parts_of, stands_among};
 ghost use Rattle.explanations.specs.Run.{cr_lf_note, directory_among, is_an_option, is_done_line, is_told, limit_of};
 ghost use Rattle.explanations.specs.Run.{note_of, of_schemas, of_stores, said_of_run, setting_by, text_of, told_from};
-ghost use Rattle.explanations.specs.Run.{AddsFrontOf, told_of, with_values, word_placed};
+ghost use Rattle.explanations.specs.Run.{Says, told_of, with_values, word_placed};
 ghost use Rattle.text_words.specs.Lines.{lines_of};
 
 use crate::asked::Asked;
@@ -34,22 +34,22 @@ pub struct Run<'a> {
     pub heard: &'a [u8],
 }
 
-/// Says what a run means that was refused, as far as the sink takes it and there is memory.
-pub fn tell_run<K: Sink>(alloc: Global, errors: &mut K, run: &Run)
-    ensures adds { AddsFrontOf (K.held errors.old) (K.held errors.new) (said_of_run (map string_bytes
-        run.now.words.now) run.now.directory.now run.now.status run.now.read.now run.now.heard.now) }
-    ensures later { K.faults errors.old ≤ K.faults errors.new }
+/// Says what a run means that was refused, as far as the sink takes it. Where memory runs out it gives up, and says
+/// nothing.
+pub fn tell_run<K: Sink>(alloc: Global, errors: &mut K, run: &Run) -> Result<(), AllocError>
+    ensures says { OnOk result (Says (K.held errors.old) (K.held errors.new) (K.faults errors.old) (K.faults errors.new)
+        (said_of_run (map string_bytes run.now.words.now) run.now.directory.now run.now.status run.now.read.now
+        run.now.heard.now)) }
+    ensures silent { OnErr result (errors.new ≡ errors.old) }
 {
-    let Ok(text) = explain_run(alloc, run) else {
-        return;
-    };
+    let text = explain_run(alloc, run)?;
     write_text(errors, text.as_slice());
+    Ok(())
 }
 
 /// Writes a text as far as the sink takes it.
 fn write_text<K: Sink>(errors: &mut K, text: &[u8])
-    ensures adds { AddsFrontOf (K.held errors.old) (K.held errors.new) text.now }
-    ensures later { K.faults errors.old ≤ K.faults errors.new }
+    ensures { Says (K.held errors.old) (K.held errors.new) (K.faults errors.old) (K.faults errors.new) text.now }
 {
     let _ = write_all_of(errors, text);
 }
