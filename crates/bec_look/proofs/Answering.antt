@@ -16,7 +16,7 @@ use Rattle.node_commands.specs.Bundle.{HoldsText}
 use Rattle.node_commands.specs.Heads.{StopsAt}
 use Rattle.outcomes.specs.Outcome.{ComesTo, IsFault, Outcome, from_taking}
 use Rattle.outcomes.proofs.Saying.{rose_later}
-use Rattle.bec_look.specs.Bundles.{BothShown, BundleHeld, BundleRefused, BundleShown, HoldsFirst, ShowsMembers, first, held, refused, refuses, second, shows, stopped}
+use Rattle.bec_look.specs.Bundles.{BothShown, BundleHeld, BundleRefused, BundleShown, FirstHeld, FirstRefused, HoldsFirst, ShowsMembers, first, held, refused, refuses, second, shows, stopped}
 
 pub refused_text : (before after : Option (List ℕ)) (old new : ℕ) (declared : List ℕ) (why : SchemaRefusal) → HoldsText before after declared → RefusesSchema is_luhn declared why ⊎ (why ≡ taking.Memory)
     → BundleRefused before after (from_taking why) ⊎ IsFault old new (from_taking why)
@@ -52,15 +52,19 @@ shown_done asked before after old new schema members outcome holds (inr memory) 
     subst (λ (o : Outcome). ComesTo (BundleShown asked) before after old new o) (sym memory) (inr (inl refl))
 
 -- of two bundles, the first one is refused, whose source never fails
-pub both_first : (style : Style) (before after left : Option (List ℕ)) (old new : ℕ) (bundle : List ℕ) (r : Refusal) → HoldsFirst before after bundle
-    → BundleRefused (Some bundle) left r ⊎ IsFault 0 0 r → ComesTo (BothShown style) before after old new (Err r)
-both_first style before after left old new bundle r holds (inl is) = inl (first bundle left r holds is refl)
-both_first style before after left old new bundle r holds (inr (inl memory)) = inr (inl memory)
-both_first style before after left old new bundle r holds (inr (inr failed)) = absurd (omega (arith, failed.1))
+pub first_refused : (before after left : Option (List ℕ)) (old new : ℕ) (bundle : List ℕ) (r : Refusal) → HoldsFirst before after bundle → BundleRefused (Some bundle) left r ⊎ IsFault 0 0 r
+    → FirstRefused before after r ⊎ IsFault old new r
+first_refused before after left old new bundle r holds (inl is) = inl (inr (bundle, left, holds, is))
+first_refused before after left old new bundle r holds (inr (inl memory)) = inr (inl memory)
+first_refused before after left old new bundle r holds (inr (inr failed)) = absurd (omega (arith, failed.1))
+
+pub both_first : (style : Style) (before after : Option (List ℕ)) (old new : ℕ) (r : Refusal) → FirstRefused before after r ⊎ IsFault old new r → ComesTo (BothShown style) before after old new (Err r)
+both_first style before after old new r (inl is) = inl (first r is refl)
+both_first style before after old new r (inr fault) = inr fault
 
 -- the second one is refused
-pub both_second : (style : Style) (before mid after left : Option (List ℕ)) (old between new : ℕ) (bundle : List ℕ) (schema : SchemaData) (members : List (List ℕ)) (r : Refusal) → HoldsFirst before mid bundle
-    → BundleHeld (Some bundle) left schema members → old ≤ between → BundleRefused mid after r ⊎ IsFault between new r → ComesTo (BothShown style) before after old new (Err r)
-both_second style before mid after left old between new bundle schema members r holds one later (inl is) = inl (second bundle left mid schema members r holds one is refl)
-both_second style before mid after left old between new bundle schema members r holds one later (inr (inl memory)) = inr (inl memory)
-both_second style before mid after left old between new bundle schema members r holds one later (inr (inr failed)) = inr (inr (failed.0, rose_later old between new later failed.1))
+pub both_second : (style : Style) (before mid after : Option (List ℕ)) (old between new : ℕ) (schema : SchemaData) (members : List (List ℕ)) (r : Refusal) → FirstHeld before mid schema members
+    → old ≤ between → BundleRefused mid after r ⊎ IsFault between new r → ComesTo (BothShown style) before after old new (Err r)
+both_second style before mid after old between new schema members r one later (inl is) = inl (second mid schema members r one is refl)
+both_second style before mid after old between new schema members r one later (inr (inl memory)) = inr (inl memory)
+both_second style before mid after old between new schema members r one later (inr (inr failed)) = inr (inr (failed.0, rose_later old between new later failed.1))

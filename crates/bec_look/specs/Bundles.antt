@@ -82,17 +82,27 @@ abbrev pub LacksFirst : Option (List ℕ) → Option (List ℕ) → Type 0
 LacksFirst before after =
     IfTold before after (λ input rest. (((input ≡ []) ⊎ IsCut MAX_FIRST_BYTES input) × (rest ≡ [])) ⊎ (IsTooLong MAX_FIRST_BYTES input × (rest ≡ drop 4 input)))
 
--- Of two bundles, the first behind its length, it is shown which updates only one has; or there is no first one, which is told as of one that lacks a schema; or
--- the first is refused, and no more is read; or the second is.
+-- The first of two bundles declares this schema, and its graph has these members.
+abbrev pub FirstHeld : Option (List ℕ) → Option (List ℕ) → SchemaData → List (List ℕ) → Type 0
+FirstHeld before after schema members = (bundle : List ℕ) × (left : Option (List ℕ)) × HoldsFirst before after bundle × BundleHeld (Some bundle) left schema members
+
+-- There is no first bundle, which is told as of one that lacks a schema; or it is refused, and no more is read.
+abbrev pub FirstRefused : Option (List ℕ) → Option (List ℕ) → Refusal → Type 0
+FirstRefused before after refusal = (LacksFirst before after × (refusal ≡ CutSchema))
+    ⊎ ((bundle : List ℕ) × (left : Option (List ℕ)) × HoldsFirst before after bundle × BundleRefused (Some bundle) left refusal)
+
+-- The text shows which updates only one of two bundles has.
+abbrev pub IsDifference : Style → SchemaData → List (List ℕ) → SchemaData → List (List ℕ) → List ℕ → Type 0
+IsDifference style one members other others text = (firsts : List Entry) × (seconds : List Entry)
+    × AreEntriesOf one members firsts × AreEntriesOf other others seconds × (text ≡ diff_text style firsts seconds)
+
+-- Of two bundles, the first behind its length, it is shown which updates only one has; or the first one is refused; or the second is.
 pub data BothShown (style : Style) (before after : Option (List ℕ)) (outcome : Outcome) : Type 0 where
-  cut : LacksFirst before after → outcome ≡ Err CutSchema → BothShown style before after outcome
-  first : (bundle : List ℕ) (left : Option (List ℕ)) (refusal : Refusal) → HoldsFirst before after bundle → BundleRefused (Some bundle) left refusal → outcome ≡ Err refusal
+  first : (refusal : Refusal) → FirstRefused before after refusal → outcome ≡ Err refusal → BothShown style before after outcome
+  second : (mid : Option (List ℕ)) (schema : SchemaData) (members : List (List ℕ)) (refusal : Refusal) → FirstHeld before mid schema members → BundleRefused mid after refusal → outcome ≡ Err refusal
       → BothShown style before after outcome
-  second : (bundle : List ℕ) (left mid : Option (List ℕ)) (schema : SchemaData) (members : List (List ℕ)) (refusal : Refusal) → HoldsFirst before mid bundle
-      → BundleHeld (Some bundle) left schema members → BundleRefused mid after refusal → outcome ≡ Err refusal → BothShown style before after outcome
-  differ : (bundle : List ℕ) (left mid : Option (List ℕ)) (one other : SchemaData) (members others : List (List ℕ)) (firsts seconds : List Entry) → HoldsFirst before mid bundle
-      → BundleHeld (Some bundle) left one members → BundleHeld mid after other others → AreEntriesOf one members firsts → AreEntriesOf other others seconds
-      → Prints outcome (diff_text style firsts seconds) → BothShown style before after outcome
+  differ : (mid : Option (List ℕ)) (one other : SchemaData) (members others : List (List ℕ)) (text : List ℕ) → FirstHeld before mid one members → BundleHeld mid after other others
+      → IsDifference style one members other others text → Prints outcome text → BothShown style before after outcome
 
 -- What a source has is shown as the words ask; or they ask for nothing, and nothing is read.
 abbrev pub ShowsAsked : {S : Type 0} → (S → Option (List ℕ)) → (S → ℕ) → Option Wanted → S → S → Outcome → Type 0

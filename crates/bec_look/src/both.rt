@@ -6,7 +6,8 @@ ghost use Rattle.table_model.specs.Invariants.{invariants_of};
 ghost use Rattle.outcomes.specs.Outcome.{ComesTo, IsFault};
 ghost use Rattle.outcomes.specs.Rules.{rules_of};
 ghost use Rattle.outcomes.specs.declared.refusal.Refusal.TheVariants.{CutSchema};
-ghost use Rattle.bec_look.specs.Bundles.{AreEntriesOf, BothShown, HoldsFirst, LacksFirst};
+ghost use Rattle.bec_look.specs.Bundles.{AreEntriesOf, BothShown, FirstHeld, FirstRefused, HoldsFirst, IsDifference};
+ghost use Rattle.bec_look.specs.Bundles.{LacksFirst};
 
 use crate::bundle::{Bundle, read_bundle};
 use crate::members::Members;
@@ -30,14 +31,46 @@ pub(crate) fn both_text<S: Source>(
         result }
 {
     let native = Native::new(Luhn);
-    let bytes = first_bundle(alloc, input)?;
-    let mut source = PlainSource::new(bytes);
-    let one = read_bundle(alloc, &native, &mut source)?;
+    let one = read_first(alloc, &native, input)?;
     let other = read_bundle(alloc, &native, input)?;
-    let mut firsts = entries_in(alloc, &native, &one)?;
-    let mut seconds = entries_in(alloc, &native, &other)?;
+    Ok(differing(alloc, style, &native, &one, &other)?)
+}
+
+/// Which updates only one of two bundles has.
+fn differing(
+    alloc: Global,
+    style: Style,
+    native: &Native<Luhn, Luhn>,
+    one: &Bundle,
+    other: &Bundle,
+) -> Result<Vec<u8>, AllocError>
+    requires accepted { IsTrue (are_accepted (rules_of one.now.schema) (invariants_of (rules_of one.now.schema))) }
+    requires too { IsTrue (are_accepted (rules_of other.now.schema) (invariants_of (rules_of other.now.schema))) }
+    ensures { IfOk result (λ text. IsDifference style one.now.schema one.now.graph other.now.schema other.now.graph
+        text.items) }
+{
+    let mut firsts = entries_in(alloc, native, one)?;
+    let mut seconds = entries_in(alloc, native, other)?;
     let text = diff_text(alloc, style, &mut firsts, &mut seconds)?;
     Ok(text)
+}
+
+/// Reads the first of two bundles, and what it holds.
+fn read_first<S: Source>(
+    alloc: Global,
+    native: &Native<Luhn, Luhn>,
+    input: &mut S,
+) -> Result<Bundle, Refusal>
+    ensures held { IfOk result (λ bundle. FirstHeld (S.left input.old) (S.left input.new) bundle.schema bundle.graph) }
+    ensures accepted { IfOk result (λ bundle.
+        IsTrue (are_accepted (rules_of bundle.schema) (invariants_of (rules_of bundle.schema)))) }
+    ensures refused { IfErr result (λ refusal. FirstRefused (S.left input.old) (S.left input.new) refusal
+        ⊎ IsFault (S.faults input.old) (S.faults input.new) refusal) }
+    ensures later { S.faults input.old ≤ S.faults input.new }
+{
+    let bytes = first_bundle(alloc, input)?;
+    let mut source = PlainSource::new(bytes);
+    read_bundle(alloc, native, &mut source)
 }
 
 /// Reads the first of two bundles, and nothing behind it.

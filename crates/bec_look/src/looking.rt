@@ -4,7 +4,8 @@ ghost use Rattle.std.specs.Prelude.{◌≡◌, ◌⊎◌, Err, IfOk, IsTrue, ℕ
 ghost use Rattle.confluence_laws.specs.Confluence.{are_accepted};
 ghost use Rattle.table_model.specs.Invariants.{invariants_of};
 ghost use Rattle.outcomes.specs.Outcome.{ComesTo, Ends, Outcome};
-ghost use Rattle.outcomes.specs.Rules.{rules_of};
+ghost use Rattle.outcomes.specs.Rules.{nodes_of, rules_of};
+ghost use Rattle.tuple_state.specs.State.{IsStateOf};
 ghost use Rattle.outcomes.specs.declared.refusal.Refusal.TheVariants.{Memory};
 ghost use Rattle.bec_look.specs.Bundles.{BundleShown, IsListing, IsOverview, ShowsAsked, ShowsMembers, lacks_one};
 ghost use Rattle.bec_look.specs.Bundles.{status_with};
@@ -25,6 +26,7 @@ use outcomes::{Refusal, finish};
 use query_answer::shown_lists;
 use row_check::{Luhn, Native};
 use std::alloc::{AllocError, Global};
+use tuple_state::Tables;
 
 /// Shows the bundle of a source, or what differs in two: writes what the words ask for, or the lines of what is
 /// refused. Answers the exit status, and a text for standard error, which may be empty.
@@ -151,8 +153,22 @@ fn overview_text(
     ensures { IfOk result (λ text. IsOverview asked members.entry.schema.now members.entry.graph.now text.items) }
 {
     let tables = tables_of(alloc, members)?;
-    let told = tell_graph(alloc, members.graph, &tables)?;
-    let lists = shown_lists(alloc, members.schema, &tables)?;
+    overview_over(alloc, asked, members, &tables, beside)
+}
+
+/// The same over the tables of the members.
+fn overview_over(
+    alloc: Global,
+    asked: Overview,
+    members: Members,
+    tables: &Tables,
+    beside: &mut Vec<u8>,
+) -> Result<Vec<u8>, AllocError>
+    requires { IsStateOf (rules_of members.schema.now) (nodes_of members.graph.now) tables.now }
+    ensures { IfOk result (λ text. IsOverview asked members.entry.schema.now members.entry.graph.now text.items) }
+{
+    let told = tell_graph(alloc, members.graph, tables)?;
+    let lists = shown_lists(alloc, members.schema, tables)?;
     let text = text_of_all(alloc, asked, members, &told, lists.as_slice(), beside)?;
     Ok(text)
 }
