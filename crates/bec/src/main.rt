@@ -3,7 +3,7 @@
 //! the directory that it then names.
 #![tactic(auto)]
 
-use bec_host::{FileShelf, HashRng, HostSink, HostSource, TcpNet, hold_closed_streams, words};
+use bec_host::{FileShelf, HashRng, HostSink, HostSource, TcpNet, hold_closed_streams, wanted_access, words};
 use bec_node::status::{OUT_OF_MEMORY, STREAM_FAULT};
 use bec_node::{Outside, run};
 use explained::{Listening, Recording, kept_bytes, tell};
@@ -25,7 +25,7 @@ fn main(rt: HostRuntime) -> ExitCode {
     };
     let limit = kept_bytes(&rt, &words);
     let mut outside = Outside {
-        shelf: FileShelf::new(files, rt.stderr()),
+        shelf: FileShelf::new(files, wanted_access(&rt), rt.stderr()),
         random: HashRng::new(key),
         input: Recording::new(rt.alloc(), input, limit),
     };

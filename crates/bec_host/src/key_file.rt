@@ -1,10 +1,11 @@
 //! The file of a key, as it is found and made.
 
-use crate::file_shelf::open_locked;
+use crate::waiting::Waiting;
 use std::fs::{File, OpenOptions};
-use std::io::ErrorKind;
+use std::io::{ErrorKind, Write};
 use std::os::unix::fs::{FileExt, MetadataExt};
 use std::rt::Files;
+use std::time::Clock;
 use std::{fs, io};
 
 /// How many bytes stand before the payload of a part behind a gate.
@@ -45,7 +46,11 @@ pub(crate) fn stands_at<R: Files<File = File>>(
 ///
 /// Whoever takes a file away holds its lock, and looks then whether the path still names it. So of two processes at one
 /// path at most one goes on to have the file that stands there.
-pub(crate) fn make_way<R: Files<File = File>>(rt: &R, path: &str) -> io::Result<()> {
+pub(crate) fn make_way<R: Files<File = File> + Clock, W: Write + Copy>(
+    rt: &R,
+    waiting: &Waiting<'_, W>,
+    path: &str,
+) -> io::Result<()> {
     match fs::symlink_metadata(rt, path) {
         Ok(named) if named.is_file() => {}
         Ok(_) => return Err(io::Error::new(
@@ -57,7 +62,7 @@ pub(crate) fn make_way<R: Files<File = File>>(rt: &R, path: &str) -> io::Result<
     }
     let mut how = OpenOptions::new();
     how.read(true).write(true);
-    let file = open_locked(rt, &how, path)?;
+    let file = waiting.open(rt, &how, path)?;
     if has_key(&file)? || !stands_at(rt, &file, path)? {
         return Err(io::Error::from(ErrorKind::WouldBlock));
     }
