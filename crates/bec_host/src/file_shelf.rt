@@ -69,7 +69,12 @@ impl<R: Files<File = File> + AllocGlobal + Clock + Clone, W: Write + Copy> FileS
     }
 
     /// Opens a part where it exists, and tells of a key that others may read.
-    fn open(&self, dir: &str, part: Part, path: &str) -> io::Result<Option<FileDisk<PartFile<R, W>>>>
+    fn open(
+        &self,
+        dir: &str,
+        part: Part,
+        path: &str,
+    ) -> io::Result<Option<FileDisk<PartFile<R, W>>>>
         ensures { IfOk result (λ found. IfSome found (λ disk. disk.faults ≡ 0)) }
     {
         refuse_special(&self.rt, path)?;
@@ -111,7 +116,13 @@ impl<R: Files<File = File> + AllocGlobal + Clock + Clone, W: Write + Copy> FileS
             Access::Reading => PartFile::Shown(ShownFile::new(file, told, self.explain, len)),
             Access::Writing { .. } => {
                 let kept = if part == Part::Updates { len } else { 0 };
-                PartFile::Written(WrittenFile::new(self.rt.clone()?, file, told, self.explain, kept))
+                PartFile::Written(WrittenFile::new(
+                    self.rt.clone()?,
+                    file,
+                    told,
+                    self.explain,
+                    kept,
+                ))
             }
         };
         Ok(FileDisk::new(file, named))
@@ -146,7 +157,6 @@ fn path_of(alloc: Global, dir: &str, part: Part) -> Result<String, AllocError> {
     }
     format!(in alloc; "{dir}/{name}")
 }
-
 
 /// Opens a part where it exists. What an earlier process wrote and did not sync is synced; so is the name of a file in
 /// which nothing stands, since the process that made it may have stopped before. A file of a key that has none yet is
@@ -267,19 +277,21 @@ fn sync_names<R: Files<File = File>>(rt: &R, dir: &str) -> io::Result<()> {
 }
 
 impl<R: Files<File = File> + AllocGlobal + Clock + Clone, W: Write + Copy> Counted
-    for FileShelf<R, W>
-{
+    for FileShelf<R, W> {
     ghost faults = { λ s. s.faults };
 }
 
 impl<R: Files<File = File> + AllocGlobal + Clock + Clone, W: Write + Copy> Shelf
-    for FileShelf<R, W>
-{
+    for FileShelf<R, W> {
     type D = FileDisk<PartFile<R, W>>;
 
     ghost state = { λ _. untold_shelf };
 
-    fn find(&mut self, dir: &str, part: Part) -> Result<Option<FileDisk<PartFile<R, W>>>, DiskFault> {
+    fn find(
+        &mut self,
+        dir: &str,
+        part: Part,
+    ) -> Result<Option<FileDisk<PartFile<R, W>>>, DiskFault> {
         let Ok(path) = path_of(self.rt.alloc(), dir, part) else {
             return Err(self.fault(dir, &io::Error::from(ErrorKind::OutOfMemory)));
         };

@@ -101,8 +101,14 @@ impl<R: Files<File = File> + AllocGlobal + Drop, W: Write + Copy> WrittenFile<R,
     fn tell_cut(&self, count: u64) {
         let mut explain = self.explain;
         let path = self.path.as_str();
-        let _ = writeln!(explain, "bec: the last {count} bytes of {path} were no whole and good records, and were cut off. They are kept");
-        let _ = writeln!(explain, "     in {path}.cut. Merge with a backup or another member's store: what they were comes back from");
+        let _ = writeln!(
+            explain,
+            "bec: the last {count} bytes of {path} were no whole and good records, and were cut off. They are kept"
+        );
+        let _ = writeln!(
+            explain,
+            "     in {path}.cut. Merge with a backup or another member's store: what they were comes back from"
+        );
         let _ = writeln!(explain, "     there. docs/OPERATING.md says more.");
     }
 
@@ -110,8 +116,14 @@ impl<R: Files<File = File> + AllocGlobal + Drop, W: Write + Copy> WrittenFile<R,
     fn tell_unkept(&self, count: u64, error: &io::Error) {
         let mut explain = self.explain;
         let path = self.path.as_str();
-        let _ = writeln!(explain, "bec: the last {count} bytes of {path} are no whole and good records. They were not cut off, since");
-        let _ = writeln!(explain, "     they could not be kept in {path}.cut: {error}");
+        let _ = writeln!(
+            explain,
+            "bec: the last {count} bytes of {path} are no whole and good records. They were not cut off, since"
+        );
+        let _ = writeln!(
+            explain,
+            "     they could not be kept in {path}.cut: {error}"
+        );
     }
 }
 
@@ -137,9 +149,18 @@ impl<W: Write + Copy> ShownFile<W> {
         let _ = self.file.unlock();
         let mut explain = self.explain;
         let path = self.path.as_str();
-        let _ = writeln!(explain, "bec: the last {lost} bytes of {path} are no whole and good records, and are passed over. A command that");
-        let _ = writeln!(explain, "     writes there cuts them off, and keeps them in {path}.cut. Merge with a backup or another member's");
-        let _ = writeln!(explain, "     store: what they were comes back from there. docs/OPERATING.md says more.");
+        let _ = writeln!(
+            explain,
+            "bec: the last {lost} bytes of {path} are no whole and good records, and are passed over. A command that"
+        );
+        let _ = writeln!(
+            explain,
+            "     writes there cuts them off, and keeps them in {path}.cut. Merge with a backup or another member's"
+        );
+        let _ = writeln!(
+            explain,
+            "     store: what they were comes back from there. docs/OPERATING.md says more."
+        );
     }
 }
 
@@ -201,10 +222,7 @@ fn cut_path(alloc: Global, path: &str) -> io::Result<String> {
 pub(crate) fn refuse_special<R: Files<File = File>>(rt: &R, path: &str) -> io::Result<()> {
     match std::fs::metadata(rt, path) {
         Ok(named) if named.is_file() => Ok(()),
-        Ok(_) => Err(io::Error::new(
-            ErrorKind::InvalidInput,
-            "it is no regular file",
-        )),
+        Ok(_) => Err(io::Error::new(ErrorKind::InvalidInput, "it is no regular file")),
         Err(error) if error.kind() == ErrorKind::NotFound => Ok(()),
         Err(error) => Err(error),
     }

@@ -10,7 +10,7 @@ mod appending;
 
 use crate::appending::run;
 use bec_disk::{DiskFault, Part, Shelf};
-use bec_host::{FileDisk, FileShelf, HostSink, HostSource, hold_closed_streams};
+use bec_host::{Access, FileDisk, FileShelf, HostSink, HostSource, PartFile, hold_closed_streams};
 use record_check::ManyThreads;
 use std::alloc::AllocError;
 use std::env;
@@ -18,6 +18,7 @@ use std::fs::File;
 use std::io::Write;
 use std::process::ExitCode;
 use std::rt::Files;
+use std::time::Clock;
 
 fn main(rt: HostRuntime) -> anyhow::Result<ExitCode> {
     let _held = hold_closed_streams(&rt)?;
@@ -33,7 +34,7 @@ fn main(rt: HostRuntime) -> anyhow::Result<ExitCode> {
         word => Some(word.parse::<u32>()?),
     };
     let files: Result<_, _> = rt.clone();
-    let mut shelf = FileShelf::new(files?, rt.stderr());
+    let mut shelf = FileShelf::new(files?, Access::Writing { wait: 0 }, rt.stderr());
     let disk = part_of(&mut shelf, directory)?;
     let mut input = HostSource::new(rt.alloc(), rt.stdin())?;
     let mut output = HostSink::new(rt.stdout());
@@ -49,10 +50,10 @@ fn main(rt: HostRuntime) -> anyhow::Result<ExitCode> {
 }
 
 /// The updates of a directory, which are made where there are none.
-fn part_of<R: Files<File = File> + AllocGlobal + Drop, W: Write + Drop>(
+fn part_of<R: Files<File = File> + AllocGlobal + Clock + Clone, W: Write + Copy>(
     shelf: &mut FileShelf<R, W>,
     directory: &str,
-) -> Result<FileDisk<File>, DiskFault> {
+) -> Result<FileDisk<PartFile<R, W>>, DiskFault> {
     match shelf.find(directory, Part::Updates)? {
         Some(disk) => Ok(disk),
         None => shelf.make(directory, Part::Updates),

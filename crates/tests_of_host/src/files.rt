@@ -1,10 +1,10 @@
 ghost use Rattle.std.specs.Prelude.{◌≤◌, IfOk};
 
 use bec_disk::{Disk, DiskFault, Part, Shelf};
-use bec_host::{FileDisk, FileShelf};
+use bec_host::{Access, FileDisk, FileShelf};
 use std::cell::Cell;
 use std::fs::{Metadata, OpenFile};
-use std::io::ErrorKind;
+use std::io::{ErrorKind, Write};
 use std::os::unix::fs::{FileExt, MetadataExt};
 use std::test::Fail;
 use std::{fs, io};
@@ -13,10 +13,24 @@ const FOLDER: &str = "/tmp/bec_tests_of_host";
 
 const STORE: &str = "/tmp/bec_tests_of_host/clubs/club";
 
+/// A reader of explanations who wants none.
+#[derive(Clone, Copy)]
+struct Nobody;
+
+impl Write for Nobody {
+    fn write(&mut self, buf: &[u8]) -> io::Result<usize> {
+        Ok(buf.len())
+    }
+
+    fn flush(&mut self) -> io::Result<()> {
+        Ok(())
+    }
+}
+
 #[test]
 fn a_part_lasts_and_is_locked(rt: HostRuntime) -> Result<(), Fail> {
     let _ = fs::remove_dir_all(&rt, FOLDER);
-    let mut shelf = FileShelf::new(rt.clone()?, Vec::new(rt.alloc()));
+    let mut shelf = FileShelf::new(rt.clone()?, Access::Writing { wait: 0 }, Nobody);
     assert!(rt; shelf.find(STORE, Part::Schema)?.is_none());
     let mut disk = shelf.make(STORE, Part::Schema)?;
     disk.write_at(0, b"some bytes")?;
@@ -39,6 +53,53 @@ fn a_part_lasts_and_is_locked(rt: HostRuntime) -> Result<(), Fail> {
         0o600
     );
     fs::remove_dir_all(&rt, FOLDER)?;
+    Ok(())
+}
+
+const TORN: &str = "/tmp/bec_tests_of_torn";
+
+#[test]
+fn what_is_cut_off_is_kept_first(rt: HostRuntime) -> Result<(), Fail> {
+    let _ = fs::remove_dir_all(&rt, TORN);
+    let mut shelf = FileShelf::new(rt.clone()?, Access::Writing { wait: 0 }, Nobody);
+    let mut disk = shelf.make(TORN, Part::Updates)?;
+    disk.write_at(0, b"good records, a torn end")?;
+    disk.cut(23)?;
+    shelf.put_back(disk);
+    // What this shelf wrote itself is not kept, and what it found is.
+    assert!(rt; fs::metadata(&rt, "/tmp/bec_tests_of_torn/updates.cut").is_err());
+    let mut disk = shelf.find(TORN, Part::Updates)?.expect(&rt, "the part");
+    disk.cut(18)?;
+    assert_eq!(rt;
+        fs::metadata(&rt, "/tmp/bec_tests_of_torn/updates.cut")?.len(),
+        5
+    );
+    shelf.put_back(disk);
+    // Where it cannot be kept nothing is cut off.
+    fs::remove_file(&rt, "/tmp/bec_tests_of_torn/updates.cut")?;
+    fs::create_dir(&rt, "/tmp/bec_tests_of_torn/updates.cut")?;
+    let mut disk = shelf.find(TORN, Part::Updates)?.expect(&rt, "the part");
+    assert!(rt; disk.cut(12).is_err() && disk.len()? == 18);
+    fs::remove_dir_all(&rt, TORN)?;
+    Ok(())
+}
+
+const READ: &str = "/tmp/bec_tests_of_read";
+
+#[test]
+fn reading_alone_locks_and_changes_nothing(rt: HostRuntime) -> Result<(), Fail> {
+    let _ = fs::remove_dir_all(&rt, READ);
+    let mut writing = FileShelf::new(rt.clone()?, Access::Writing { wait: 0 }, Nobody);
+    let mut reading = FileShelf::new(rt.clone()?, Access::Reading, Nobody);
+    assert!(rt; reading.find(READ, Part::Updates)?.is_none());
+    assert!(rt; reading.make(READ, Part::Updates).is_err());
+    let mut written = writing.make(READ, Part::Updates)?;
+    written.write_at(0, b"good records, a torn end")?;
+    let mut shown = reading.find(READ, Part::Updates)?.expect(&rt, "the part");
+    shown.cut(12)?;
+    assert!(rt; shown.len()? == 12 && written.len()? == 24);
+    assert!(rt; shown.write_at(12, b"!").is_err());
+    fs::remove_dir_all(&rt, READ)?;
     Ok(())
 }
 
