@@ -18,7 +18,7 @@ const FIELDS: &[(&[u8], &[u8])] = &[
     (b"\\\\x00", b"title\n\"\\\\x00\"\n"),
     // other bytes below a blank, and what is not ASCII
     (b"\t\x1b\x7f", b"title\n\"\t\x1b\x7f\"\n"),
-    ("gr\u{fc}n".as_bytes(), "title\n\"gr\u{fc}n\"\n".as_bytes()),
+    (b"gr\xc3\xbcn", b"title\n\"gr\xc3\xbcn\"\n"),
 ];
 
 /// The lines of an answer that has this text in its one row.
