@@ -1,6 +1,6 @@
--- What looking at a bundle comes to: a text of its updates, a text of all of it, the text of its schema, or the answer of a query.
+-- What looking at a bundle comes to: a text of its updates, a text of all of it, the text of its schema, the records of its updates, or the answer of a query.
 use Rattle.std.specs.Prelude.{◌≡◌, ◌⊎◌, ℕ, ◌&&◌, ◌==◌, Bool, false, List, [], drop, length, if◌then◌else◌, Option, None, Some, Ok, Err}
-use Rattle.bec_bytes.specs.Framed.{HoldsPiece, IsCut, IsTooLong}
+use Rattle.bec_bytes.specs.Framed.{HoldsPiece, IsCut, IsTooLong, stream_of}
 use Rattle.bec_bytes.specs.Moved.{IfTold}
 use Rattle.log_texts.specs.declared.entry.Entry.{Entry}
 use Rattle.log_texts.specs.declared.style.Style.{Style}
@@ -11,7 +11,7 @@ use Rattle.row_check.specs.Checksum.{is_luhn}
 use Rattle.confluence_test.specs.Taking.{RefusesSchema, TakesSchema}
 use Rattle.confluence_test.specs.declared.refusal.SchemaRefusal.{SchemaRefusal}
 use Rattle.bec_look.specs.declared.asked.Overview.{Overview}
-use Rattle.bec_look.specs.Questions.{ListingData, Question, Wanted, Show, Who, Updates, All, Schema, Csv, One, Both}
+use Rattle.bec_look.specs.Questions.{ListingData, Question, Wanted, Show, Who, Updates, All, Schema, Records, Csv, One, Both}
 use Rattle.bec_look.specs.Queries.{AnswersQuery}
 use Rattle.bec_look.specs.Telling.{IsToldOf}
 use Rattle.bec_look.specs.Texts.{IsTextOf, IsTextOfAll}
@@ -50,6 +50,7 @@ abbrev pub ShowsMembers : Question → SchemaData → List (List ℕ) → Outcom
 ShowsMembers (Updates asked) schema members outcome = (text : List ℕ) × IsListing asked schema members text × Prints outcome text
 ShowsMembers (All asked) schema members outcome = (text : List ℕ) × IsOverview asked schema members text × Prints outcome text
 ShowsMembers Schema schema members outcome = Prints outcome schema.text
+ShowsMembers Records schema members outcome = Prints outcome (stream_of members)
 ShowsMembers (Csv text) schema members outcome = AnswersQuery text schema members outcome
 
 -- A bundle declares this schema, and what follows it is a stream under its rule, whose graph has these members.

@@ -18,11 +18,12 @@ pub data ListingData : Type 0 where
   Show : Style → List ℕ → ListingData
   Who : Style → List ℕ → ListingData
 
--- A text of the updates; a text of all; the text of the schema; or the answer of a query as comma-separated values.
+-- A text of the updates; a text of all; the text of the schema; the records of the updates; or the answer of a query as comma-separated values.
 pub data Question : Type 0 where
   Updates : ListingData → Question
   All : Overview → Question
   Schema : Question
+  Records : Question
   Csv : List ℕ → Question
 
 -- One bundle is asked for this; or of two it is asked which updates only one has.
@@ -41,6 +42,7 @@ abbrev pub seen : Asked → Question
 seen (asked.Updates updates) = Updates (listed updates)
 seen (asked.All overview) = All overview
 seen asked.Schema = Schema
+seen asked.Records = Records
 seen (asked.Csv text) = Csv text.now
 
 abbrev pub wanted : Asking → Wanted

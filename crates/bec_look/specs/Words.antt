@@ -7,7 +7,7 @@ use Rattle.graph_drawing.specs.declared.form.Form.TheVariants.{Svg, Dot}
 use Rattle.log_texts.specs.declared.style.Style.{Style}
 use Rattle.log_texts.specs.declared.style.Style.TheVariants.{Whole, Short, Json}
 use Rattle.bec_look.specs.declared.asked.Overview.TheVariants.{Page, Status}
-use Rattle.bec_look.specs.Questions.{ListingData, Question, Wanted, Picture, Log, Show, Who, Updates, All, Schema, Csv, One, Both}
+use Rattle.bec_look.specs.Questions.{ListingData, Question, Wanted, Picture, Log, Show, Who, Updates, All, Schema, Records, Csv, One, Both}
 
 -- whether a word is among words
 abbrev pub has_word : List (String Global) → List ℕ → Bool
@@ -75,6 +75,7 @@ other_asked command words =
     if bytes_eq command (codes "page") then alone (All Page) words
     else if bytes_eq command (codes "status") then alone (All Status) words
     else if bytes_eq command (codes "schema") then alone Schema words
+    else if bytes_eq command (codes "records") then alone Records words
     else if bytes_eq command (codes "csv") then csv_asked words
     else None
 

@@ -19,6 +19,8 @@ pub enum Asked<'a> {
     All(Overview),
     /// The text of its schema.
     Schema,
+    /// The records of its updates.
+    Records,
     /// The answer of this query as comma-separated values.
     Csv(&'a [u8]),
 }

@@ -78,6 +78,8 @@ fn other_asked<'a>(command: &str, words: &'a [String]) -> Option<Asked<'a>>
         alone(Asked::All(Overview::Status), words)
     } else if command == "schema" {
         alone(Asked::Schema, words)
+    } else if command == "records" {
+        alone(Asked::Records, words)
     } else if command == "csv" {
         csv_asked(words)
     } else {

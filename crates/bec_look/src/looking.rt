@@ -18,6 +18,7 @@ use crate::asking::asking_of;
 use crate::both::both_text;
 use crate::bundle::read_bundle;
 use crate::members::Members;
+use crate::records::records_of;
 use crate::telling::{tables_of, tell_graph, told_of};
 use crate::texts::{text_of, text_of_all};
 use bec_bytes::{Sink, Source};
@@ -122,6 +123,7 @@ fn shown(
         Asked::Updates(listing) => Ok(listing_text(alloc, listing, members, beside)?),
         Asked::All(overview) => Ok(overview_text(alloc, overview, members, beside)?),
         Asked::Schema => Ok(Vec::from_slice(alloc, members.schema.text())?),
+        Asked::Records => Ok(records_of(alloc, members.graph)?),
         Asked::Csv(text) => answer_text(alloc, text, members),
     }
 }

@@ -1,11 +1,12 @@
 //! The program `bec_look`: it shows a bundle, for the commands `draw`, `log`, `show`, `who`, `diff`, `page`, `csv`,
-//! `status` and `schema` of the launcher.
+//! `status` and `schema` of the launcher, and gives its records for `import` and `clone`.
 //!
 //! It reads a bundle from standard input and prints its picture as SVG, or as DOT with `--dot`; its log, with `--rows`
 //! and with what each update did; or the one update whose id begins so, or that inserted a row. Ids and keys are cut,
 //! whole with `--full`, and with `--json` these texts are one JSON object. `page` prints a page of HTML, `diff` what
 //! only one of two bundles has, of which the first stands behind its length of four bytes, `status` how much there is,
-//! `schema` the text of the schema, and `csv QUERY` an answer as comma-separated values. Refusals and statuses are
+//! `schema` the text of the schema, `records` its updates as `bec export --updates` prints them, each once, and
+//! `csv QUERY` an answer as comma-separated values. Refusals and statuses are
 //! those of `bec dump`, and of a query those of `bec query`; where none fits or several do nothing is printed, and the
 //! status is 1. If there are more updates than are drawn, or several fit, it says so on standard error. There it also
 //! says what a refusal means and what to do, unless the environment has `BEC_EXPLAIN=0`. `BEC_DIRECTORY` there is the
@@ -20,6 +21,7 @@ mod bundle;
 mod looking;
 mod members;
 mod notes;
+mod records;
 mod telling;
 mod texts;
 

@@ -60,7 +60,6 @@ fn push_byte(out: &mut Vec<u8>, byte: u8) -> Result<(), AllocError>
     ensures { OnOk result (out.new.items ≡ out.old.items ++ csv_byte byte) }
 {
     match byte {
-        0 => out.extend_from_slice(b"\\x00"),
         b'"' => out.extend_from_slice(b"\"\""),
         _ => out.extend_from_slice(&[byte]),
     }

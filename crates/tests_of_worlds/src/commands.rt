@@ -121,12 +121,32 @@ const AUDITED: (&str, &str) = (
 const REFUSED: &[(&str, &str)] = &[
     ("", "! schema line 1: line\n"),
     (
-        "DATABASE u\nTABLE user\nCOLUMN name TEXT 1 8\nUNIQUE name\nSAMPLE \"ann\"\nWORLD 99 5 8 1\n",
-        "! not confluent line 4\n",
-    ),
-    (
         "DATABASE u\nTABLE user\nCOLUMN name TEXT 1 8\nSAMPLE \"ann\"\nWORLD 99 5 8 1\n",
         "! script line 5\n",
+    ),
+    // a fault of the schema comes before a bad line
+    (
+        "DATABASE u\nTABLE user\nCOLUMN name TEXT 8 1\nSAMPLE \"ann\"\nWORLD 99 5 8 1\n",
+        "! schema line 3: type\n",
+    ),
+    // what the schema declares does not survive merging
+    (
+        "DATABASE u\nTABLE user\nCOLUMN name TEXT 1 8\nUNIQUE name\nSAMPLE \"ann\"\nWORLD 1 5 8 1\n",
+        "! not confluent line 4\n",
+    ),
+    // and a bad line comes before that: the line WORLD, one of an event, and one that is not there
+    (
+        "DATABASE u\nTABLE user\nCOLUMN name TEXT 1 8\nUNIQUE name\nSAMPLE \"ann\"\nWORLD 99 5 8 1\n",
+        "! script line 6\n",
+    ),
+    (
+        "DATABASE u\nTABLE user\nCOLUMN name TEXT 1 8\nUNIQUE name\nSAMPLE \"ann\"\nWORLD 1 5 8 1\n\
+MAKE 0 INSERT user \"bob\"\nRUN 0\n",
+        "! script line 8\n",
+    ),
+    (
+        "DATABASE u\nTABLE user\nCOLUMN name TEXT 1 8\nUNIQUE name\nSAMPLE \"ann\"\n",
+        "! script line 6\n",
     ),
 ];
 

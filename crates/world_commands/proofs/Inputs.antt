@@ -8,9 +8,10 @@ use Rattle.bec_bytes.specs.declared.read_error.ReadError.{ReadError}
 use Rattle.bec_bytes.specs.declared.read_error.ReadError.TheVariants.{Failed, Memory}
 use Rattle.row_check.specs.Checksum.{is_luhn}
 use Rattle.schema_verdict.specs.Inputs.{IsWholeText, ReadsText}
-use Rattle.world_commands.specs.Answers.{IsFault, IsRefusal, IsTakenBefore, RefusesScript, Reports, WorldAnswer, at_line, from_reading, not_taken, refused, reported}
+use Rattle.world_commands.specs.Answers.{IsFault, IsRefusal, IsTaken, RefusesScript, Reports, WorldAnswer, at_fault, from_reading, not_confluent, refused, reported}
 use Rattle.world_commands.specs.declared.refusal.WorldRefusal.{WorldRefusal}
 use Rattle.world_script.specs.Scripts.{IsScript}
+use Rattle.world_script.specs.declared.fault.ScriptFault.TheVariants.{AtLine, Schema}
 use Rattle.world_script.specs.declared.script.Script.{Script}
 
 -- where no more bytes were read than a script may have, they are all
@@ -38,25 +39,30 @@ over (Some input) after read reads long =
     let front : length (take 16777217 input) ≤ length input = simp length-take (omega arith) in
     (input, (refl, reads.1), omega (arith, many, front))
 
--- a text that is a script has its report
+-- a text that is a script, whose schema is taken, has its report
 pub told : (audit : Bool) (before after : Option (List ℕ)) (read : List ℕ) (script : Script) (report : Vec ℕ Global) → ReadsText 16777216 before after read → IsScript is_luhn read script
-    → IsTakenBefore is_luhn read → Reports is_luhn audit script report.items → WorldAnswer audit before after (Ok report)
+    → IsTaken is_luhn script → Reports is_luhn audit script report.items → WorldAnswer audit before after (Ok report)
 told audit before after read script report reads is taken reports =
-    let all = whole (λ (text : List ℕ). IsScript is_luhn text script × IsTakenBefore is_luhn text) before after read reads is.short (is, taken) in
-    reported all.0 report.items script all.1 all.2.1 all.2.0 reports refl
+    let all = whole (λ (text : List ℕ). IsScript is_luhn text script) before after read reads is.short is in
+    reported all.0 report.items script all.1 all.2 taken reports refl
+
+-- what is refused of the whole input, where no more was read than a script may have
+of_whole : (audit : Bool) (before after : Option (List ℕ)) (read : List ℕ) (why : WorldRefusal) → ReadsText 16777216 before after read → length read ≤ 16777216
+    → RefusesScript is_luhn read why → WorldAnswer audit before after (Err why)
+of_whole audit before after read why reads short is =
+    let all = whole (λ (text : List ℕ). RefusesScript is_luhn text why) before after read reads short is in
+    refused all.0 why all.1 all.2 refl
 
 -- a text that is refused
 pub refused_so : (audit : Bool) (before after : Option (List ℕ)) (read : List ℕ) (why : WorldRefusal) → ReadsText 16777216 before after read → RefusesScript is_luhn read why
     → WorldAnswer audit before after (Err why)
-refused_so audit before after read why reads (not_taken refusal short is e) =
-    let all = whole (λ (text : List ℕ). RefusesScript is_luhn text why) before after read reads short (not_taken refusal short is e) in
-    refused all.0 why all.1 all.2 refl
-refused_so audit before after read why reads (at_line number taken (inl long) e) =
+refused_so audit before after read why reads (at_fault (Schema fault) first e) = of_whole audit before after read why reads first.0 (at_fault (Schema fault) first e)
+refused_so audit before after read why reads (at_fault (AtLine number) (inr fault) e) = of_whole audit before after read why reads fault.0 (at_fault (AtLine number) (inr fault) e)
+refused_so audit before after read why reads (at_fault (AtLine number) (inl long) e) =
     let all = over before after read reads long.0 in
-    refused all.0 why all.1 (at_line number (λ short. let many = all.2 in absurd (omega (arith, many, short))) (inl (all.2, long.1)) e) refl
-refused_so audit before after read why reads (at_line number taken (inr fault) e) =
-    let all = whole (λ (text : List ℕ). RefusesScript is_luhn text why) before after read reads fault.0 (at_line number taken (inr fault) e) in
-    refused all.0 why all.1 all.2 refl
+    refused all.0 why all.1 (at_fault (AtLine number) (inl (all.2, long.1)) e) refl
+refused_so audit before after read why reads (not_confluent script schema which example is declares refuted e) =
+    of_whole audit before after read why reads is.short (not_confluent script schema which example is declares refuted e)
 
 -- where no report was made of what was read
 pub not_told : (audit : Bool) (before after : Option (List ℕ)) (old new : ℕ) (read : List ℕ) (why : WorldRefusal) → ReadsText 16777216 before after read

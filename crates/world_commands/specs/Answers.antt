@@ -1,23 +1,26 @@
 -- What the commands over worlds answer.
-use Rattle.std.specs.Prelude.{◌≡◌, ◌≢◌, ◌⊎◌, ℕ, ◌≤◌, Bool, List, [], ◌∷◌, ◌++◌, length, codes, decimal, Err}
+use Rattle.std.specs.Prelude.{◌≡◌, ◌≢◌, ◌⊎◌, ℕ, Bool, List, [], ◌∷◌, ◌++◌, length, codes, decimal, Err}
 use Rattle.std.specs.Io.KnownBytes.{Appends}
 use Rattle.std.specs.List.{flat_map}
 use Rattle.std.specs.declared.option.Option.{Option}
 use Rattle.bec_bytes.specs.Causes.{Rose}
 use Rattle.bec_bytes.specs.declared.read_error.ReadError.{ReadError}
 use Rattle.bec_bytes.specs.declared.read_error.ReadError.TheVariants as read_errors
-use Rattle.confluence_test.specs.Taking.{RefusesSchema, TakesSchema}
-use Rattle.confluence_test.specs.declared.refusal.SchemaRefusal.{SchemaRefusal}
+use Rattle.confluence_test.specs.Taking.{IsRefuted, TakesSchema}
 use Rattle.confluence_test.specs.declared.refusal.SchemaRefusal.TheVariants as taking
 use Rattle.confluence_test.specs.declared.refusal.SchemaRefusal.TheVariants.{Memory}
 use Rattle.row_check.specs.Checksum.{is_luhn}
 use Rattle.schema.specs.Data.{Meaning, SchemaData}
+use Rattle.schema_text.specs.Schemas.{Declares}
 use Rattle.schema_verdict.specs.Checks.{SourceState}
 use Rattle.schema_verdict.specs.Inputs.{IsWholeText}
 use Rattle.schema_verdict.specs.Verdict.{OutcomeOf, Prints}
 use Rattle.schema_verdict.specs.Verdict as verdicts
 use Rattle.schema_verdict.specs.Written.{Puts, SinkState}
 use Rattle.schema_verdict.specs.declared.status.TheConstants.{DONE, OUT_OF_MEMORY, REFUSED, STREAM_FAULT}
+use Rattle.table_model.specs.Visible.{rules_with}
+use Rattle.table_model.specs.declared.counterexample.Counterexample.{Counterexample}
+use Rattle.table_model.specs.declared.invariant.Invariant.{Invariant}
 use Rattle.world_commands.specs.Lines.{LinesHappen}
 use Rattle.world_commands.specs.Shown.{IsShown}
 use Rattle.world_commands.specs.declared.refusal.WorldRefusal.{WorldRefusal}
@@ -26,9 +29,10 @@ use Rattle.world_report.specs.Reports.{missed_text}
 use Rattle.world_report.specs.declared.shown.Missed.{Missed}
 use Rattle.world_rules.specs.Happens.{IsNew}
 use Rattle.world_rules.specs.Worlds.{WorldData}
-use Rattle.world_script.specs.Scripts.{FirstFault, IsScript, schema_part}
+use Rattle.world_script.specs.Scripts.{FirstFault, IsScript}
 use Rattle.world_script.specs.declared.fault.ScriptError.{ScriptError}
 use Rattle.world_script.specs.declared.fault.ScriptError.TheVariants as errors
+use Rattle.world_script.specs.declared.fault.ScriptFault.{ScriptFault}
 use Rattle.world_script.specs.declared.fault.ScriptFault.TheVariants as faults
 use Rattle.world_script.specs.declared.limits.TheConstants.{MAX_SCRIPT_BYTES}
 use Rattle.world_script.specs.declared.script.Script.{Script}
@@ -38,10 +42,14 @@ abbrev pub from_reading : ReadError → WorldRefusal
 from_reading read_errors.Failed = Stream
 from_reading read_errors.Memory = NotTaken Memory
 
+-- the refusal that a fault of a text that is no script becomes
+abbrev pub from_fault : ScriptFault → WorldRefusal
+from_fault (faults.AtLine number) = AtLine number
+from_fault (faults.Schema fault) = NotTaken (taking.Schema fault)
+
 -- the refusal that an error of reading a script becomes
 abbrev pub from_script : ScriptError → WorldRefusal
-from_script (errors.Fault (faults.AtLine number)) = AtLine number
-from_script (errors.Fault (faults.Schema fault)) = NotTaken (taking.Schema fault)
+from_script (errors.Fault fault) = from_fault fault
 from_script errors.Memory = NotTaken Memory
 
 -- ---- world
@@ -61,14 +69,15 @@ pub record Reports (ask : Meaning) (audit : Bool) (script : Script) (text : List
   pub shows : IsShown ask audit last shown
   pub is : text ≡ flat_map missed_text missed ++ shown
 
--- The schema of a text that is not too long is taken.
-abbrev pub IsTakenBefore : Meaning → List ℕ → Type 0
-IsTakenBefore ask text = length text ≤ MAX_SCRIPT_BYTES → (schema : SchemaData) × TakesSchema ask (schema_part text) schema
+-- Each invariant of the schema of a script survives merging.
+abbrev pub IsTaken : Meaning → Script → Type 0
+IsTaken ask script = (schema : SchemaData) × TakesSchema ask script.schema schema
 
--- Why a text has no report: it is not too long and its schema is not taken; or its first fault is at a line.
+-- Why a text has no report: its first fault; or it is a script, and this is the first invariant of its schema that does not survive merging.
 pub data RefusesScript (ask : Meaning) (text : List ℕ) (why : WorldRefusal) : Type 0 where
-  not_taken : (refusal : SchemaRefusal) → length text ≤ MAX_SCRIPT_BYTES → RefusesSchema ask (schema_part text) refusal → why ≡ NotTaken refusal → RefusesScript ask text why
-  at_line : (number : ℕ) → IsTakenBefore ask text → FirstFault ask text (faults.AtLine number) → why ≡ AtLine number → RefusesScript ask text why
+  at_fault : (first : ScriptFault) → FirstFault ask text first → why ≡ from_fault first → RefusesScript ask text why
+  not_confluent : (script : Script) (schema : SchemaData) (which : Invariant) (example : Counterexample) → IsScript ask text script → Declares ask script.schema schema
+      → IsRefuted (rules_with ask schema.tables) which example → why ≡ NotTaken (taking.NotConfluent schema which example) → RefusesScript ask text why
 
 -- A refusal of which this holds, or want of memory.
 abbrev pub IsRefusal : (WorldRefusal → Type 0) → WorldRefusal → Type 0
@@ -76,7 +85,7 @@ IsRefusal P why = P why ⊎ (why ≡ NotTaken Memory)
 
 -- The source has the text of a script, of which the report is printed; or a text that is refused.
 pub data WorldAnswer (audit : Bool) (before after : Option (List ℕ)) (outcome : OutcomeOf WorldRefusal) : Type 0 where
-  reported : (text report : List ℕ) (script : Script) → IsWholeText MAX_SCRIPT_BYTES before after text → IsTakenBefore is_luhn text → IsScript is_luhn text script
+  reported : (text report : List ℕ) (script : Script) → IsWholeText MAX_SCRIPT_BYTES before after text → IsScript is_luhn text script → IsTaken is_luhn script
       → Reports is_luhn audit script report → Prints outcome report → WorldAnswer audit before after outcome
   refused : (text : List ℕ) (why : WorldRefusal) → IsWholeText MAX_SCRIPT_BYTES before after text → RefusesScript is_luhn text why → outcome ≡ Err why
       → WorldAnswer audit before after outcome

@@ -1,11 +1,12 @@
 ghost use Rattle.std.specs.Prelude.{◌≡◌};
 ghost use Rattle.confluence_test.specs.declared.refusal.SchemaRefusal.TheVariants.{Memory};
-ghost use Rattle.world_commands.specs.Answers.{from_reading};
+ghost use Rattle.world_commands.specs.Answers.{from_reading, from_script};
 ghost use Rattle.world_commands.specs.declared.refusal.WorldRefusal.TheVariants.{NotTaken};
 
 use bec_bytes::ReadError;
 use confluence_test::SchemaRefusal;
 use std::alloc::AllocError;
+use world_script::{ScriptError, ScriptFault};
 
 /// Why there is no report of a script.
 #[derive(Drop)]
@@ -44,5 +45,19 @@ impl From<SchemaRefusal> for WorldRefusal {
 
     fn from(why: SchemaRefusal) -> WorldRefusal {
         WorldRefusal::NotTaken(why)
+    }
+}
+
+impl From<ScriptError> for WorldRefusal {
+    ghost from_gives = { λ error refusal. refusal ≡ from_script error };
+
+    fn from(error: ScriptError) -> WorldRefusal {
+        match error {
+            ScriptError::Fault(ScriptFault::AtLine(number)) => WorldRefusal::AtLine(number),
+            ScriptError::Fault(ScriptFault::Schema(fault)) => {
+                WorldRefusal::NotTaken(SchemaRefusal::Schema(fault))
+            }
+            ScriptError::Memory => WorldRefusal::NotTaken(SchemaRefusal::Memory),
+        }
     }
 }
