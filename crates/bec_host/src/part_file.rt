@@ -2,7 +2,7 @@
 
 use std::alloc::Global;
 use std::cell::Cell;
-use std::fs::{File, Metadata, OpenFile, OpenOptions};
+use std::fs::{File, Metadata, OpenFile, OpenOptions, TryLockError};
 use std::io;
 use std::io::{ErrorKind, Write};
 use std::os::unix::fs::FileExt;
@@ -143,10 +143,9 @@ impl<W: Write + Copy> ShownFile<W> {
     fn cut(&self, len: u64) {
         let lost = self.shown.get().saturating_sub(len);
         self.shown.set(len);
-        if lost == 0 || self.file.try_lock_shared().is_err() {
+        if lost == 0 || is_in_use(&self.file) {
             return;
         }
-        let _ = self.file.unlock();
         let mut explain = self.explain;
         let path = self.path.as_str();
         let _ = writeln!(
@@ -210,6 +209,14 @@ impl<R: Files<File = File> + AllocGlobal + Drop, W: Write + Copy> OpenFile for P
 
     fn sync_data(&self) -> io::Result<()> {
         self.sync_all()
+    }
+}
+
+/// Whether another program has a file locked.
+fn is_in_use(file: &File) -> bool {
+    match file.try_lock_shared() {
+        Ok(()) => file.unlock().is_err(),
+        Err(error) => matches!(error, TryLockError::WouldBlock),
     }
 }
 
