@@ -13,6 +13,7 @@ _bec() {
         keygen,*) [[ $word == -* ]] && offered="--height --width" ;;
         apply,--note) offered="" ;;
         apply,*) [[ $word == -* ]] && offered="--note" ;;
+        set,*) [[ $word == -* ]] && offered="--null" ;;
         dump,*) [[ $word == -* ]] && offered="--json" ;;
         query,*) [[ $word == -* ]] && offered="--json" ;;
         watch,--every) offered="" ;;
