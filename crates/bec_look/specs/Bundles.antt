@@ -11,7 +11,9 @@ use Rattle.row_check.specs.Checksum.{is_luhn}
 use Rattle.confluence_test.specs.Taking.{RefusesSchema, TakesSchema}
 use Rattle.confluence_test.specs.declared.refusal.SchemaRefusal.{SchemaRefusal}
 use Rattle.bec_look.specs.declared.asked.Overview.{Overview}
-use Rattle.bec_look.specs.Questions.{ListingData, Question, Wanted, Show, Who, Updates, All, Schema, Records, Csv, One, Both}
+use Rattle.bec_look.specs.Questions.{ListingData, Question, Wanted, Show, Who, Updates, All, Schema, Records, Csv, One, Both, KeyOf}
+use Rattle.bec_look.specs.Around.{Around}
+use Rattle.bec_look.specs.Keys.{ShowsKey}
 use Rattle.bec_look.specs.Queries.{AnswersQuery}
 use Rattle.bec_look.specs.Telling.{IsToldOf}
 use Rattle.bec_look.specs.Texts.{IsTextOf, IsTextOfAll}
@@ -105,11 +107,13 @@ pub data BothShown (style : Style) (before after : Option (List ℕ)) (outcome :
   differ : (mid : Option (List ℕ)) (one other : SchemaData) (members others : List (List ℕ)) (text : List ℕ) → FirstHeld before mid one members → BundleHeld mid after other others
       → IsDifference style one members other others text → Prints outcome text → BothShown style before after outcome
 
--- What a source has is shown as the words ask; or they ask for nothing, and nothing is read.
-abbrev pub ShowsAsked : {S : Type 0} → (S → Option (List ℕ)) → (S → ℕ) → Option Wanted → S → S → Outcome → Type 0
-ShowsAsked left faults None before after outcome = (outcome ≡ Err Words) × (after ≡ before)
-ShowsAsked left faults (Some (One asked)) before after outcome = ComesTo (BundleShown asked) (left before) (left after) (faults before) (faults after) outcome
-ShowsAsked left faults (Some (Both style)) before after outcome = ComesTo (BothShown style) (left before) (left after) (faults before) (faults after) outcome
+-- What stands around is shown as the words ask: what a source has, where the shelf is as it was, or the key of a directory, where nothing is read of the source; or
+-- they ask for nothing, and nothing is read.
+abbrev pub ShowsAsked : {S H : Type 0} → Option Wanted → Around S H → Around S H → Outcome → Type 0
+ShowsAsked None before after outcome = (outcome ≡ Err Words) × (after ≡ before)
+ShowsAsked (Some (One asked)) before after outcome = ComesTo (BundleShown asked) before.left after.left before.faults after.faults outcome × (after.shelf ≡ before.shelf)
+ShowsAsked (Some (Both style)) before after outcome = ComesTo (BothShown style) before.left after.left before.faults after.faults outcome × (after.shelf ≡ before.shelf)
+ShowsAsked (Some (KeyOf dir)) before after outcome = ShowsKey dir before.store after.store before.shelf_faults after.shelf_faults outcome × (after.source ≡ before.source)
 
 -- whether one update is asked for, and none fits or several do
 abbrev pub lacks_one : Option Wanted → Outcome → Bool

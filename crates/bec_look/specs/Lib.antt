@@ -1,4 +1,6 @@
+pub mod Around
 pub mod Bundles
+pub mod Keys
 pub mod Queries
 pub mod Questions
 pub mod Telling

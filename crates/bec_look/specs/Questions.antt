@@ -1,4 +1,4 @@
--- What is asked of a bundle, or of two.
+-- What is asked of a bundle, of two, or of a directory.
 use Rattle.std.specs.Prelude.{ℕ, Bool, List}
 use Rattle.bec_look.specs.declared.asked.Asked.{Asked}
 use Rattle.bec_look.specs.declared.asked.Asked.TheVariants as asked
@@ -26,10 +26,11 @@ pub data Question : Type 0 where
   Records : Question
   Csv : List ℕ → Question
 
--- One bundle is asked for this; or of two it is asked which updates only one has.
+-- One bundle is asked for this; or of two it is asked which updates only one has; or a directory is asked for its key.
 pub data Wanted : Type 0 where
   One : Question → Wanted
   Both : Style → Wanted
+  KeyOf : List ℕ → Wanted
 
 -- the same of words that are lent
 abbrev pub listed : Listing → ListingData
@@ -48,3 +49,4 @@ seen (asked.Csv text) = Csv text.now
 abbrev pub wanted : Asking → Wanted
 wanted (asking.One asked) = One (seen asked)
 wanted (asking.Both style) = Both style
+wanted (asking.Key dir) = KeyOf dir.now

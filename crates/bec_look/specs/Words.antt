@@ -7,7 +7,7 @@ use Rattle.graph_drawing.specs.declared.form.Form.TheVariants.{Svg, Dot}
 use Rattle.log_texts.specs.declared.style.Style.{Style}
 use Rattle.log_texts.specs.declared.style.Style.TheVariants.{Whole, Short, Json}
 use Rattle.bec_look.specs.declared.asked.Overview.TheVariants.{Page, Status}
-use Rattle.bec_look.specs.Questions.{ListingData, Question, Wanted, Picture, Log, Show, Who, Updates, All, Schema, Records, Csv, One, Both}
+use Rattle.bec_look.specs.Questions.{ListingData, Question, Wanted, Picture, Log, Show, Who, Updates, All, Schema, Records, Csv, One, Both, KeyOf}
 
 -- whether a word is among words
 abbrev pub has_word : List (String Global) → List ℕ → Bool
@@ -92,7 +92,16 @@ one_asked command words = option_map One (updates_or (listing_asked command word
 abbrev pub both_asked : List (String Global) → Option Wanted
 both_asked words = if list_all is_style words then Some (Both (style_asked words)) else None
 
+-- the key of the directory that is the one word behind `key`
+abbrev pub key_asked : List (String Global) → Option Wanted
+key_asked [] = None
+key_asked (word ∷ []) = Some (KeyOf (string_bytes word))
+key_asked (word ∷ other ∷ words) = None
+
 -- what these words ask for
 abbrev pub asking_of : List (String Global) → Option Wanted
 asking_of [] = None
-asking_of (command ∷ words) = if bytes_eq (string_bytes command) (codes "diff") then both_asked words else one_asked (string_bytes command) words
+asking_of (command ∷ words) =
+    if bytes_eq (string_bytes command) (codes "diff") then both_asked words
+    else if bytes_eq (string_bytes command) (codes "key") then key_asked words
+    else one_asked (string_bytes command) words

@@ -8,6 +8,8 @@ pub enum Asking<'a> {
     One(Asked<'a>),
     /// Which updates only one of two bundles has.
     Both(Style),
+    /// The public key of this directory.
+    Key(&'a str),
 }
 
 /// What is asked of a bundle.

@@ -4,7 +4,7 @@ ghost use Rattle.std.specs.Prelude.{◌≡◌, option_copied, option_map};
 ghost use Rattle.std.specs.List.{list_all};
 ghost use Rattle.bec_look.specs.Questions.{listed, seen, wanted};
 ghost use Rattle.bec_look.specs.Words.{alone, alone_named, asking_of, both_asked, csv_asked, has_word, is_dot};
-ghost use Rattle.bec_look.specs.Words.{is_of_log, is_style, listing_asked, log_asked, named_word, one_asked};
+ghost use Rattle.bec_look.specs.Words.{is_of_log, is_style, key_asked, listing_asked, log_asked, named_word, one_asked};
 ghost use Rattle.bec_look.specs.Words.{other_asked, picture_asked, style_asked};
 
 use crate::asked::{Asked, Asking, Listing, Overview};
@@ -20,6 +20,8 @@ pub(crate) fn asking_of(words: &[String]) -> Option<Asking<'_>>
     };
     if command.as_str() == "diff" {
         both_asked(others)
+    } else if command.as_str() == "key" {
+        key_asked(others)
     } else {
         one_asked(command, others)
     }
@@ -33,6 +35,16 @@ fn both_asked(words: &[String]) -> Option<Asking<'_>>
         Some(Asking::Both(style_asked(words)))
     } else {
         None
+    }
+}
+
+/// The key of the directory that is the one word behind `key`.
+fn key_asked(words: &[String]) -> Option<Asking<'_>>
+    ensures { option_map wanted result ≡ key_asked words.now }
+{
+    match words {
+        [word] => Some(Asking::Key(word.as_str())),
+        _ => None,
     }
 }
 

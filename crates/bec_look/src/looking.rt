@@ -1,4 +1,4 @@
-//! Looking at a bundle.
+//! Looking at a bundle, or at a directory.
 
 ghost use Rattle.std.specs.Prelude.{◌≡◌, ◌⊎◌, Err, IfOk, IsTrue, ℕ, option_map};
 ghost use Rattle.confluence_laws.specs.Confluence.{are_accepted};
@@ -7,6 +7,8 @@ ghost use Rattle.outcomes.specs.Outcome.{ComesTo, Ends, Outcome};
 ghost use Rattle.outcomes.specs.Rules.{nodes_of, rules_of};
 ghost use Rattle.tuple_state.specs.State.{IsStateOf};
 ghost use Rattle.outcomes.specs.declared.refusal.Refusal.TheVariants.{Memory};
+ghost use Rattle.key_directory.specs.Parts.{IsHome};
+ghost use Rattle.bec_look.specs.Around.{around};
 ghost use Rattle.bec_look.specs.Bundles.{BundleShown, IsListing, IsOverview, ShowsAsked, ShowsMembers, lacks_one};
 ghost use Rattle.bec_look.specs.Bundles.{status_with};
 ghost use Rattle.bec_look.specs.Questions.{listed, seen, wanted};
@@ -17,11 +19,15 @@ use crate::asked::{Asked, Asking, Listing, Overview};
 use crate::asking::asking_of;
 use crate::both::both_text;
 use crate::bundle::read_bundle;
+use crate::keys::public_line;
 use crate::members::Members;
 use crate::records::records_of;
 use crate::telling::{tables_of, tell_graph, told_of};
 use crate::texts::{text_of, text_of_all};
 use bec_bytes::{Sink, Source};
+use bec_disk::Shelf;
+use key_directory::KeyMaker;
+use lms_tree::LeafGenerator;
 use outcomes::status::{DONE, REFUSED};
 use outcomes::{Refusal, finish};
 use query_answer::shown_lists;
@@ -29,39 +35,45 @@ use row_check::{Luhn, Native};
 use std::alloc::{AllocError, Global};
 use tuple_state::Tables;
 
-/// Shows the bundle of a source, or what differs in two: writes what the words ask for, or the lines of what is
-/// refused. Answers the exit status, and a text for standard error, which may be empty.
-pub fn run<S: Source, K: Sink>(
-    alloc: Global,
+/// Shows the bundle of a source, or what differs in two, or the key of a directory: writes what the words ask for, or
+/// the lines of what is refused. Answers the exit status, and a text for standard error, which may be empty.
+pub fn run<G: LeafGenerator, H: Shelf, S: Source, K: Sink>(
+    maker: &KeyMaker<G>,
     words: &[String],
+    shelf: &mut H,
     input: &mut S,
     out: &mut K,
 ) -> (u8, Vec<u8>)
-    ensures { (outcome : Outcome) × (status : ℕ) × ShowsAsked S.left S.faults (asking_of words.now) input.old input.new
-        outcome
+    requires { IsTrue (H.state shelf.old).tells → IsHome (H.state shelf.old) }
+    ensures { (outcome : Outcome) × (status : ℕ) × ShowsAsked (asking_of words.now)
+        (around S.Source H.Shelf input.old shelf.old) (around S.Source H.Shelf input.new shelf.new) outcome
         × Ends (K.faults out.old) (K.faults out.new) (K.held out.old) (K.held out.new) outcome status
         × (result.0 ≡ status_with (lacks_one (asking_of words.now) outcome) status) }
 {
-    let mut beside = Vec::new(alloc);
+    let mut beside = Vec::new(maker.alloc);
     let asked = asking_of(words);
-    let outcome = show_asked(alloc, asked, input, &mut beside);
+    let outcome = show_asked(maker, asked, shelf, input, &mut beside);
     let lacks = lacks_one(asked, &outcome);
-    let status = finish(alloc, out, outcome);
+    let status = finish(maker.alloc, out, outcome);
     (status_with(lacks, status), beside)
 }
 
-/// Shows what a source has as it is asked.
-fn show_asked<S: Source>(
-    alloc: Global,
+/// Shows what a source or a shelf has as it is asked.
+fn show_asked<G: LeafGenerator, H: Shelf, S: Source>(
+    maker: &KeyMaker<G>,
     asked: Option<Asking>,
+    shelf: &mut H,
     input: &mut S,
     beside: &mut Vec<u8>,
 ) -> Result<Vec<u8>, Refusal>
-    ensures { ShowsAsked S.left S.faults (option_map wanted asked.entry) input.old input.new result }
+    requires { IsTrue (H.state shelf.old).tells → IsHome (H.state shelf.old) }
+    ensures { ShowsAsked (option_map wanted asked.entry) (around S.Source H.Shelf input.old shelf.old)
+        (around S.Source H.Shelf input.new shelf.new) result }
 {
     match asked {
-        Some(Asking::One(asked)) => bundle_text(alloc, asked, input, beside),
-        Some(Asking::Both(style)) => both_text(alloc, style, input),
+        Some(Asking::One(asked)) => bundle_text(maker.alloc, asked, input, beside),
+        Some(Asking::Both(style)) => both_text(maker.alloc, style, input),
+        Some(Asking::Key(dir)) => public_line(maker, shelf, dir),
         None => Err(Refusal::Words),
     }
 }
