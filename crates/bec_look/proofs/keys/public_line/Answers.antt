@@ -29,4 +29,4 @@ pub returns : goal.returns
 returns g c =
     key_shown c.args.dir.now (g.H.Shelf.state c.args.shelf.now) c.requires (g.H.Shelf.state c.take_key.new.shelf) c.in_ok-key.key c.in_ok-key.ensures.takes
     (g.H.Shelf.state c.put_key.new.shelf) (g.H.Counted.faults c.args.shelf.now) (g.H.Counted.faults c.put_key.new.shelf) c.put_key.ensures.puts
-    (Ok c.in_ok-key_line.field-0) (c.in_ok-key_line.ensures ∙ ap key_text c.public.ensures.value)
+    (Ok c.in_ok-key_line.field-0) (c.in_ok-key_line.ensures ∙ ap key_text c.public-public.ensures.value)
