@@ -3,7 +3,9 @@
 //! the directory that it then names.
 #![tactic(auto)]
 
-use bec_host::{FileShelf, HashRng, HostSink, HostSource, TcpNet, hold_closed_streams, wanted_access, words};
+use bec_host::{
+    FileShelf, HashRng, HostSink, HostSource, TcpNet, hold_closed_streams, wanted_access, words,
+};
 use bec_node::status::{OUT_OF_MEMORY, STREAM_FAULT};
 use bec_node::{Outside, run};
 use explained::{Listening, Recording, kept_bytes, tell};

@@ -59,19 +59,35 @@ module _ (dir : List ℕ) (before : ShelfState) (home : IsTrue before.tells → 
   module _ (after : ShelfState) (old new : ℕ) (lets : LetsKeyGo before dir after) where
     pub key_refused : (why : KeyRefusal) → (IsTrue before.tells → IsKeyCause before dir why) → (why ≡ key_refusals.DiskFault → Rose old new) → ShowsKey dir before after old new (Err (from_key why))
     key_refused key_refusals.NoKey cause failed = record {
-      comes = inl (λ tells. refused refusals.NoKey (no_key (cause tells) refl) refl); ends = inl tt; key_read = lets.key_part; used_read = lets.used_part; others = lets.others;
+      comes = inl (λ tells. refused refusals.NoKey (no_key (cause tells) refl) refl);
+      ends = inl tt;
+      key_read = lets.key_part;
+      used_read = lets.used_part;
+      others = lets.others;
       home = λ tells. home_still dir before after (home tells) (lets.key_part tells) (lets.used_part tells) (lets.others tells);
     }
     key_refused key_refusals.BadKey cause failed = record {
-      comes = inl (λ tells. refused refusals.BadKey (bad_key (cause tells) refl) refl); ends = inl tt; key_read = lets.key_part; used_read = lets.used_part; others = lets.others;
+      comes = inl (λ tells. refused refusals.BadKey (bad_key (cause tells) refl) refl);
+      ends = inl tt;
+      key_read = lets.key_part;
+      used_read = lets.used_part;
+      others = lets.others;
       home = λ tells. home_still dir before after (home tells) (lets.key_part tells) (lets.used_part tells) (lets.others tells);
     }
     key_refused key_refusals.DiskFault cause failed = record {
-      comes = inr (inr (refl, failed refl)); ends = inr (inr (refl, failed refl)); key_read = lets.key_part; used_read = lets.used_part; others = lets.others;
+      comes = inr (inr (refl, failed refl));
+      ends = inr (inr (refl, failed refl));
+      key_read = lets.key_part;
+      used_read = lets.used_part;
+      others = lets.others;
       home = λ tells. home_still dir before after (home tells) (lets.key_part tells) (lets.used_part tells) (lets.others tells);
     }
     key_refused key_refusals.Memory cause failed = record {
-      comes = inr (inl refl); ends = inr (inl refl); key_read = lets.key_part; used_read = lets.used_part; others = lets.others;
+      comes = inr (inl refl);
+      ends = inr (inl refl);
+      key_read = lets.key_part;
+      used_read = lets.used_part;
+      others = lets.others;
       home = λ tells. home_still dir before after (home tells) (lets.key_part tells) (lets.used_part tells) (lets.others tells);
     }
 
@@ -105,7 +121,12 @@ module _ (dir : List ℕ) (before : ShelfState) (home : IsTrue before.tells → 
       -- its public key is printed
       pub key_shown : (outcome : Outcome) → PrintsKeyOf key.secret outcome → ShowsKey dir before after old new outcome
       key_shown (Ok text) prints = record {
-        comes = inl (λ tells. printed key.secret (takes.reads tells) prints); ends = inl (key.secret, prints); key_read = key_read; used_read = used_read; others = others_kept; home = home_kept;
+        comes = inl (λ tells. printed key.secret (takes.reads tells) prints);
+        ends = inl (key.secret, prints);
+        key_read = key_read;
+        used_read = used_read;
+        others = others_kept;
+        home = home_kept;
       }
       key_shown (Err refusal) prints = absurd prints
 

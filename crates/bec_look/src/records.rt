@@ -14,7 +14,8 @@ pub(crate) fn records_of(alloc: Global, graph: &Graph<Checked>) -> Result<Vec<u8
 {
     let mut records = Vec::new(alloc);
     for position in 0..graph.len() {
-        push_record(&mut records, graph.at(position))?;
+        let update = graph.at(position);
+        push_record(&mut records, update)?;
     }
     Ok(records)
 }

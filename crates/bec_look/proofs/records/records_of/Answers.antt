@@ -8,4 +8,4 @@ loop-position-init c = c.new-records.ensures.items ∙ sym stream_of-nil
 
 pub loop-position-preserved : goal.loop-position-preserved
 loop-position-preserved c =
-    c.in_ok-push_record.ensures ∙ one_record c.loop-position.records.items [] c.args.graph.now c.loop-position.position c.at.result.now c.at.ensures c.loop-position.invariant
+    c.in_ok-push_record.ensures ∙ one_record c.loop-position.records.items [] c.args.graph.now c.loop-position.position c.at-update.result.now c.at-update.ensures c.loop-position.invariant
