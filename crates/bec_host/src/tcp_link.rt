@@ -53,6 +53,11 @@ impl<S: Read + Write> TcpLink<S> {
         self.faults > 0
     }
 
+    /// The stream, without its count.
+    pub(crate) fn into_stream(self) -> S {
+        self.stream
+    }
+
     /// Counts a fault where `outcome` is one.
     fn counted<T>(&mut self, outcome: Result<T, Failed>) -> Result<T, Failed>
         ensures same { result ≡ outcome }

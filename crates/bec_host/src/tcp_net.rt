@@ -159,5 +159,6 @@ impl<W: Write + Drop> Net for TcpNet<W> {
             self.faults = self.faults.saturating_add(1);
         }
         self.out -= 1;
+        link.into_stream().end();
     }
 }
