@@ -19,7 +19,7 @@ fn stopped(alloc: Global, key_calls: u32, used_calls: u32, count: u32) -> (Optio
     let mut random = Pcg32::new(42, 54);
     let types = KeyTypes {
         lms: LmsType::H5,
-        ots: OtsType::W8,
+        ots: OtsType::W2,
     };
     match KeyStore::create(&OneThread, alloc, key, used, types, &mut random) {
         Ok(mut store) => {
