@@ -1,6 +1,6 @@
 //! Seals that another program made, and changes to one of them.
 
-use crate::signers::{Signer, signature, signer};
+use crate::signers::{Signer, signature, signer_of};
 use hss_chain::{public_bytes, push_key, seal_bytes, verify_hss};
 use lm_ots::OtsType;
 use sha2::{Digest, Sha256};
@@ -86,8 +86,8 @@ fn sealed_by(alloc: Global, top: &Signer, low: &Signer) -> Result<Sealed, AllocE
 
 /// The seal that is made as a row says.
 fn sealed_as(alloc: Global, row: &Row) -> Result<Sealed, AllocError> {
-    let top = signer(alloc, "hss top", row.top, row.top_leaf)?;
-    let low = signer(alloc, "hss low", row.low, row.low_leaf)?;
+    let top = signer_of(alloc, "hss top", row.top, row.top_leaf)?;
+    let low = signer_of(alloc, "hss low", row.low, row.low_leaf)?;
     sealed_by(alloc, &top, &low)
 }
 

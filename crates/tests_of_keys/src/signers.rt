@@ -46,7 +46,7 @@ pub struct Signer {
 }
 
 /// The signer that a name, a type and a leaf stand for, whose key has height 5.
-pub fn signer(alloc: Global, name: &str, ots: OtsType, leaf: u32) -> Result<Signer, AllocError> {
+pub fn signer_of(alloc: Global, name: &str, ots: OtsType, leaf: u32) -> Result<Signer, AllocError> {
     let seed = seed_of(alloc, name, LmsType::H5, ots)?;
     let random = random_of(&seed, leaf);
     let secret = make_secret(&OneThread, alloc, &seed)?;

@@ -1,6 +1,6 @@
 //! Signatures that another implementation made, and changes to one of them.
 
-use crate::signers::{random_of, seed_of, signature, signer};
+use crate::signers::{random_of, seed_of, signature, signer_of};
 use crate::vectors::{MADE, Made, TALL_LEAF, TALL_PATH, TALL_ROOT};
 use lm_ots::{OtsType, sign};
 use lms_tree::{LmsType, ManyThreads, make_secret, verify};
@@ -37,7 +37,7 @@ fn one_time_keys_have_their_parameters(rt: HostRuntime) {
 
 /// Whether the row's key is made whole, on one thread and on many, and signs "abc" as the row says, which is valid.
 fn is_made<R: Threads + Sync>(rt: &R, alloc: Global, row: &Made) -> Result<bool, AllocError> {
-    let by = signer(alloc, NAME, row.ots, row.q)?;
+    let by = signer_of(alloc, NAME, row.ots, row.q)?;
     let seed = seed_of(alloc, NAME, LmsType::H5, row.ots)?;
     let many = make_secret(&ManyThreads::new(rt), alloc, &seed)?;
     let key = by.secret.public();

@@ -23,10 +23,9 @@ fn side(alloc: Global, numbers: &[u8]) -> Result<NodeList, AllocError> {
     for number in numbers {
         let insertion = Op::Insert {
             table: 0,
-            values: ValueList::from_vec(Vec::from_slice(alloc, &[Value::Int(5)])?),
+            values: ValueList::from_vec(vec![in alloc; Value::Int(5)]?),
         };
-        let mut ops = Vec::new(alloc);
-        ops.push(insertion)?;
+        let ops = vec![in alloc; insertion]?;
         nodes.push(Node {
             id: UpdateId([*number; 32]),
             preds: IdList::from_vec(Vec::new(alloc)),
