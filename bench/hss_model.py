@@ -1,7 +1,7 @@
 #!/usr/bin/env python3
 """Seals by another program: HSS signatures of any number of levels, written from RFC 8554 alone.
 
-    bench/hss_model.py            prints what crates/tests_of_seals has of them, and fails where a signature of one level is not BouncyCastle's
+    bench/hss_model.py            prints what crates/tests_of_keys has of them, and fails where a signature of one level is not BouncyCastle's
     bench/hss_model.py seal FILE  prints the public key and a seal of the file, in digits, for `bec unseal`
 
 Each key is made from the digests of two texts. A message is digested behind H(I, q, 0xfffd, 0xff, SEED), as BouncyCastle does it.

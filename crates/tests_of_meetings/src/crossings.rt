@@ -1,10 +1,12 @@
 //! What `sync` and `serve` answer to one another, each in a thread of its own, over pipes.
 
+ghost use Rattle.std.specs.Prelude.{◌≤◌, length};
 ghost use Rattle.bec_disk.specs.Shelved.{shelf_of};
 ghost use Rattle.key_directory.specs.Parts.{IsHome};
 
+use crate::meetings::carried;
 use crate::nodes::Node;
-use crate::pipes::pipe;
+use crate::pipes::{Socket, pipe};
 use crate::runs::begins;
 use bec_disk::MemShelf;
 use std::alloc::{AllocError, Global};
@@ -16,9 +18,6 @@ use std::thread::Threads;
 /// How many bytes two heads are printed in.
 const TWO_HEADS: usize = 130;
 
-/// The words that print the updates of B and those of C, in the order in which they came.
-const EXPORTS: (&str, &str) = ("export B --updates", "export C --updates");
-
 /// What three nodes come to, of which the first serves two sessions with its store in A, and the others call it at once
 /// with theirs in B and C.
 fn all_met<T: Threads + Wait + Sync>(
@@ -29,34 +28,19 @@ fn all_met<T: Threads + Wait + Sync>(
     let (here, one, other) = nodes;
     let (first, at_one) = pipe(alloc, (0, 0))?;
     let (second, at_other) = pipe(alloc, (0, 0))?;
-    let ends = vec![in alloc; first, second]?;
-    let (at_one, at_other) = (vec![in alloc; at_one]?, vec![in alloc; at_other]?);
+    let ends = (Some(first), Some(second));
     let (here, (one, other)) = thread::join(
         rt,
         move || here.ran(rt, alloc, ends, "serve A here --sessions 2"),
         move || {
             thread::join(
                 rt,
-                move || one.ran(rt, alloc, at_one, "sync B here"),
-                move || other.ran(rt, alloc, at_other, "sync C here"),
+                move || one.ran(rt, alloc, (Some(at_one), None), "sync B here"),
+                move || other.ran(rt, alloc, (Some(at_other), None), "sync C here"),
             )
         },
     );
-    Ok((here?, one?, other?))
-}
-
-/// The three nodes after a run over the shelf of each.
-fn all_told<T: Threads + Wait + Sync>(
-    rt: &T,
-    alloc: Global,
-    nodes: (Node, Node, Node),
-    lines: (&str, &str, &str),
-) -> Result<(Node, Node, Node), AllocError> {
-    Ok((
-        nodes.0.told(rt, alloc, lines.0)?,
-        nodes.1.told(rt, alloc, lines.1)?,
-        nodes.2.told(rt, alloc, lines.2)?,
-    ))
+    Ok((here, one, other))
 }
 
 /// Whether the last run of each was done.
@@ -64,174 +48,133 @@ fn all_done(nodes: &(Node, Node, Node)) -> bool {
     nodes.0.status == 0 && nodes.1.status == 0 && nodes.2.status == 0
 }
 
+/// The node that served after `heads`, and the others, where all were done and both updates are heads.
+fn both_brought<T: Threads + Wait + Sync>(
+    rt: &T,
+    alloc: Global,
+    nodes: (Node, Node, Node),
+) -> Option<(Node, Node, Node)> {
+    let was_done = all_done(&nodes);
+    let (here, one, other) = nodes;
+    let here = here.told(rt, alloc, "heads A");
+    if !was_done || here.text.len() != TWO_HEADS {
+        return None;
+    }
+    Some((here, one, other))
+}
+
+/// Whether the stores of three nodes print the same.
+fn are_equal<T: Threads + Wait + Sync>(rt: &T, alloc: Global, nodes: (Node, Node, Node)) -> bool {
+    let was_done = all_done(&nodes);
+    let here = nodes.0.told(rt, alloc, "dump A");
+    let one = nodes.1.told(rt, alloc, "dump B");
+    let other = nodes.2.told(rt, alloc, "dump C");
+    let is_one = one.status == 0 && one.text.as_slice() == here.text.as_slice();
+    let is_other = other.status == 0 && other.text.as_slice() == here.text.as_slice();
+    was_done && here.status == 0 && is_one && is_other
+}
+
+/// Whether two callers at once each bring their update, and the next time take that of the other.
+fn is_shared<T: Threads + Wait + Sync>(
+    rt: &T,
+    alloc: Global,
+    shelf: &MemShelf,
+) -> Result<bool, AllocError>
+    requires { IsHome (shelf_of shelf.now) }
+{
+    let (here, one) = (Node::new(alloc, shelf)?, Node::new(alloc, shelf)?);
+    let nodes = (here, one, Node::new(alloc, shelf)?);
+    let nodes = all_met(rt, alloc, nodes)?;
+    let Some(nodes) = both_brought(rt, alloc, nodes) else {
+        return Ok(false);
+    };
+    let nodes = all_met(rt, alloc, nodes)?;
+    Ok(are_equal(rt, alloc, nodes))
+}
+
 #[test]
 fn two_callers_at_once(rt: HostRuntime) -> Result<(), Fail> {
-    let alloc = rt.alloc();
-    let mut shelf = MemShelf::new(alloc);
-    assert!(rt; begins(&rt, alloc, &mut shelf)?);
-    let (here, one) = (Node::new(alloc, &shelf)?, Node::new(alloc, &shelf)?);
-    let nodes = (here, one, Node::new(alloc, &shelf)?);
-    let nodes = all_met(&rt, alloc, nodes)?;
-    assert!(rt; all_done(&nodes));
-    // each has brought its update
-    let heads = nodes.0.told(&rt, alloc, "heads A")?;
-    assert_eq!(rt; heads.text.len(), TWO_HEADS);
-    let nodes = all_met(&rt, alloc, (heads, nodes.1, nodes.2))?;
-    assert!(rt; all_done(&nodes));
-    let nodes = all_told(&rt, alloc, nodes, ("dump A", "dump B", "dump C"))?;
-    assert!(rt; all_done(&nodes));
-    assert!(rt; nodes.0.text.as_slice() == nodes.1.text.as_slice());
-    assert!(rt; nodes.0.text.as_slice() == nodes.2.text.as_slice());
+    let mut shelf = MemShelf::new(rt.alloc());
+    assert!(rt; begins(&rt, rt.alloc(), &mut shelf)?);
+    assert!(rt; is_shared(&rt, rt.alloc(), &shelf)?);
     Ok(())
 }
 
-/// What two nodes come to, of which one serves a session with its store in B, and the other calls it with its store in
-/// C, over a pipe whose call of this number fails at the end of each. No call is numbered 0.
-fn both_met<T: Threads + Wait + Sync>(
-    rt: &T,
-    alloc: Global,
-    nodes: (Node, Node),
-    failing: (u32, u32),
-) -> Result<(Node, Node), AllocError> {
-    let (here, there) = nodes;
-    let (one, other) = pipe(alloc, failing)?;
-    let (one, other) = (vec![in alloc; one]?, vec![in alloc; other]?);
-    let (here, there) = thread::join(
-        rt,
-        move || here.ran(rt, alloc, one, "serve B here --sessions 1"),
-        move || there.ran(rt, alloc, other, "sync C here"),
-    );
-    Ok((here?, there?))
-}
-
-/// The two nodes after a run over the shelf of each.
-fn both_told<T: Threads + Wait + Sync>(
-    rt: &T,
-    alloc: Global,
-    nodes: (Node, Node),
-    lines: (&str, &str),
-) -> Result<(Node, Node), AllocError> {
-    let here = nodes.0.told(rt, alloc, lines.0)?;
-    Ok((here, nodes.1.told(rt, alloc, lines.1)?))
-}
-
-/// Whether the last run of each was done, and printed something.
-fn both_done(nodes: &(Node, Node)) -> bool {
-    let (here, there) = nodes;
-    here.status == 0 && there.status == 0 && !here.text.is_empty() && !there.text.is_empty()
-}
-
-/// How an end says that a session ended.
-#[derive(Clone, Copy, PartialEq, Eq)]
-enum Ending {
-    /// It is done.
-    Done,
-    /// The link broke.
-    Broken,
-    /// The other end went away.
-    Cut,
-    /// In none of these ways.
-    Other,
-}
-
-/// How a node says that its session ended, with the status that belongs to it.
-fn ending_of(node: &Node, done: &[u8], broken: &[u8], cut: &[u8]) -> Ending {
-    match node.status {
-        0 if node.text.starts_with(done) => Ending::Done,
-        4 if node.text.as_slice() == broken => Ending::Broken,
-        6 if node.text.as_slice() == cut => Ending::Cut,
-        _ => Ending::Other,
-    }
-}
-
-/// How both say that their session ended.
-fn endings(nodes: &(Node, Node)) -> (Ending, Ending) {
-    let (here, there) = nodes;
-    let here = ending_of(
-        here,
-        b"session 1 done gained 1 turns ",
-        b"session 1 broken\n",
-        b"session 1 cut\n",
-    );
-    let there = ending_of(there, b"gained 1\nturns ", b"! stream fault\n", b"! cut\n");
-    (here, there)
-}
-
-/// What came of a session whose link may break.
-#[derive(Clone, Copy)]
-struct Outcome {
-    /// How each end says that it ended.
-    endings: (Ending, Ending),
-    /// Whether each store prints what it held before anything else, and a session that follows over a whole link makes
-    /// the stores equal.
-    is_kept: bool,
-}
-
-/// What comes of a session whose link breaks at these calls of its ends, and of one that comes after it.
-fn crossed<T: Threads + Wait + Sync>(
-    rt: &T,
-    alloc: Global,
-    shelf: &MemShelf,
-    failing: (u32, u32),
-) -> Result<Outcome, AllocError>
-    requires { IsHome (shelf_of shelf.now) }
+/// How long the first frame of these bytes is: a byte for its kind, four of length, and so many.
+fn first_frame(bytes: &[u8]) -> usize
+    ensures { result ≤ length bytes.now }
 {
-    let nodes = (Node::new(alloc, shelf)?, Node::new(alloc, shelf)?);
-    let nodes = both_told(rt, alloc, nodes, EXPORTS)?;
-    let was_told = both_done(&nodes);
-    let (held, kept) = (nodes.0.text.clone()?, nodes.1.text.clone()?);
-    let nodes = both_met(rt, alloc, nodes, failing)?;
-    let endings = endings(&nodes);
-    let nodes = both_told(rt, alloc, nodes, EXPORTS)?;
-    let is_front = nodes.0.text.starts_with(&held) && nodes.1.text.starts_with(&kept);
-    let nodes = both_met(rt, alloc, nodes, (0, 0))?;
-    let is_done = both_done(&nodes);
-    let nodes = both_told(rt, alloc, nodes, ("dump B", "dump C"))?;
-    let is_equal = both_done(&nodes) && nodes.0.text.as_slice() == nodes.1.text.as_slice();
-    Ok(Outcome {
-        endings,
-        is_kept: was_told && is_front && is_done && is_equal,
-    })
-}
-
-/// At how many of its calls the link can break at one end. At each of them this end says that it broke, the other that
-/// it was cut or is done, and what was held and will be is kept; at the call behind them nothing breaks. `None` if
-/// anything else comes.
-fn breaks<T: Threads + Wait + Sync>(
-    rt: &T,
-    alloc: Global,
-    shelf: &MemShelf,
-    at_server: bool,
-) -> Result<Option<u32>, AllocError>
-    requires { IsHome (shelf_of shelf.now) }
-{
-    for number in 1..100u32 {
-        let failing = if at_server { (number, 0) } else { (0, number) };
-        let outcome = crossed(rt, alloc, shelf, failing)?;
-        let (here, there) = outcome.endings;
-        let (broken, other) = if at_server {
-            (here, there)
-        } else {
-            (there, here)
-        };
-        match (outcome.is_kept, broken, other) {
-            (true, Ending::Done, Ending::Done) => return Ok(Some(number - 1)),
-            (true, Ending::Broken, Ending::Cut | Ending::Done) => {}
-            _ => return Ok(None),
+    match bytes {
+        [_kind, a, b, c, d, ..] => {
+            let len = u32::from_be_bytes([*a, *b, *c, *d]) as usize;
+            len.saturating_add(5).min(bytes.len())
         }
+        _ => bytes.len(),
     }
-    Ok(None)
+}
+
+/// Says a frame at one end, calls with the store in C over the other, and says the rest only then. It answers the node
+/// that called, and whether all was said.
+fn called_between<T: Threads + Wait + Sync>(
+    rt: &T,
+    alloc: Global,
+    node: Node,
+    ends: (Socket, Socket),
+    said: (Vec<u8>, Vec<u8>),
+) -> (Node, bool) {
+    let (at_one, at_other) = ends;
+    let begun = at_one.says(rt, said.0);
+    let node = node.ran(rt, alloc, (Some(at_other), None), "sync C here");
+    let ended = at_one.says(rt, said.1);
+    (node, begun && ended)
+}
+
+/// The node that served two sessions with its store in A, of which the first goes on only once the second has ended,
+/// and whether the second was done. What is said in the first is that of a session that was recorded before.
+fn served_between<T: Threads + Wait + Sync>(
+    rt: &T,
+    alloc: Global,
+    shelf: &MemShelf,
+) -> Result<(Node, bool), AllocError>
+    requires { IsHome (shelf_of shelf.now) }
+{
+    let (_, synced) = carried(rt, alloc, shelf, "sync B here", 3)?;
+    let (first, rest) = synced.sent.split_at(first_frame(&synced.sent));
+    let said = (
+        Vec::from_slice(alloc, first)?,
+        Vec::from_slice(alloc, rest)?,
+    );
+    let (here, there) = (Node::new(alloc, shelf)?, Node::new(alloc, shelf)?);
+    let (one, at_one) = pipe(alloc, (0, 0))?;
+    let (other, at_other) = pipe(alloc, (0, 0))?;
+    let ends = (Some(one), Some(other));
+    let (here, (there, all_said)) = thread::join(
+        rt,
+        move || here.ran(rt, alloc, ends, "serve A here --sessions 2"),
+        move || called_between(rt, alloc, there, (at_one, at_other), said),
+    );
+    Ok((here, all_said && there.status == 0))
+}
+
+/// Whether both sessions were done, and the store has both updates.
+fn are_done_at_once<T: Threads + Wait + Sync>(
+    rt: &T,
+    alloc: Global,
+    shelf: &MemShelf,
+) -> Result<bool, AllocError>
+    requires { IsHome (shelf_of shelf.now) }
+{
+    let (here, was_done) = served_between(rt, alloc, shelf)?;
+    let told = b"session 1 done gained 1 turns 4\nsession 2 done gained 1 turns 4\n";
+    let is_told = here.status == 0 && here.text.as_slice() == told.as_slice();
+    let here = here.told(rt, alloc, "heads A");
+    Ok(was_done && is_told && here.text.len() == TWO_HEADS)
 }
 
 #[test]
-fn a_link_breaks_at_each_call(rt: HostRuntime) -> Result<(), Fail> {
-    let alloc = rt.alloc();
-    let mut shelf = MemShelf::new(alloc);
-    assert!(rt; begins(&rt, alloc, &mut shelf)?);
-    // at least a Hello each way, and behind it an update and a Turn each way
-    let at_server = breaks(&rt, alloc, &shelf, true)?;
-    assert!(rt; at_server.unwrap_or(0) >= 4);
-    let at_caller = breaks(&rt, alloc, &shelf, false)?;
-    assert!(rt; at_caller.unwrap_or(0) >= 4);
+fn a_session_waits_for_one_that_came_later(rt: HostRuntime) -> Result<(), Fail> {
+    let mut shelf = MemShelf::new(rt.alloc());
+    assert!(rt; begins(&rt, rt.alloc(), &mut shelf)?);
+    assert!(rt; are_done_at_once(&rt, rt.alloc(), &shelf)?);
     Ok(())
 }

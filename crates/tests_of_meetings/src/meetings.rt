@@ -17,18 +17,28 @@ const SERVES: &str = "serve A here --sessions 1";
 /// The words that have the store in B call.
 const SYNCS: &str = "sync B here";
 
-/// What is answered over a link that ends at once: the words, which call of the net fails, the status and the text. No
-/// call is numbered 0.
+/// A run over a copy of the shelf and a link that gives these bytes, and the copy. The call of the net that `failing`
+/// numbers fails; no call is numbered 0.
+fn tried<T: Threads + Wait + Sync>(
+    rt: &T,
+    alloc: Global,
+    shelf: &MemShelf,
+    line: &str,
+    coming: &[u8],
+    failing: u32,
+) -> Result<(Said, MemShelf), AllocError>
+    requires { IsHome (shelf_of shelf.now) }
+    ensures { IfOk result (λ r. IsHome (shelf_of r.1)) }
+{
+    let mut copy = shelf.restart(0)?;
+    let said = answer(rt, alloc, &mut copy, line, b"", (coming, failing))?;
+    Ok((said, copy))
+}
+
+/// What is answered over a link that ends at once: the words, which call of the net fails, the status and the text.
 const ROWS: &[(&str, u32, u8, &str)] = &[
     ("sync A here", 0, 6, "! cut\n"),
-    ("sync A", 0, 2, "! words\n"),
-    ("sync Z here", 0, 8, "! no store\n"),
-    ("serve A here --sessions 1", 0, 6, "session 1 cut\n"),
-    ("serve A here --sessions=1", 0, 6, "session 1 cut\n"),
-    ("serve A here --sessions 0", 0, 2, "! words\n"),
-    ("serve A here --sessions 9", 0, 2, "! words\n"),
-    ("serve A here", 0, 2, "! words\n"),
-    ("serve Z here --sessions 1", 0, 8, "! no store\n"),
+    (SERVES, 0, 6, "session 1 cut\n"),
     (
         "serve A here --sessions 2",
         0,
@@ -36,26 +46,23 @@ const ROWS: &[(&str, u32, u8, &str)] = &[
         "session 1 cut\n! stream fault\n",
     ),
     ("sync A here", 1, 4, "! stream fault\n"),
-    ("serve A here --sessions 1", 1, 4, "! stream fault\n"),
-    ("serve A here --sessions 1", 2, 4, "! stream fault\n"),
+    (SERVES, 1, 4, "! stream fault\n"),
+    (SERVES, 2, 4, "! stream fault\n"),
 ];
 
-/// How many rows answer as they are to, up to the first that does not.
+/// How many rows are answered as they say.
 fn answered<T: Threads + Wait + Sync>(
     rt: &T,
     alloc: Global,
-    shelf: &mut MemShelf,
+    shelf: &MemShelf,
 ) -> Result<usize, AllocError>
-    requires home { IsHome (shelf_of shelf.old) }
+    requires { IsHome (shelf_of shelf.now) }
 {
     let mut right = 0usize;
-    for number in 0..ROWS.len() {
-        let (line, failing, status, text) = ROWS[number];
-        let said = answer(rt, alloc, shelf, line, b"", b"", failing)?;
-        if said.status != status || said.text.as_slice() != text.as_bytes() {
-            return Ok(right);
-        }
-        right = right.saturating_add(1);
+    for (line, failing, status, text) in ROWS {
+        let (said, _) = tried(rt, alloc, shelf, line, b"", *failing)?;
+        let is_right = said.status == *status && said.text.as_slice() == text.as_bytes();
+        right = right.saturating_add(usize::from(is_right));
     }
     Ok(right)
 }
@@ -64,24 +71,8 @@ fn answered<T: Threads + Wait + Sync>(
 fn a_link_that_ends_at_once(rt: HostRuntime) -> Result<(), Fail> {
     let mut shelf = MemShelf::new(rt.alloc());
     assert!(rt; begins(&rt, rt.alloc(), &mut shelf)?);
-    assert_eq!(rt; answered(&rt, rt.alloc(), &mut shelf)?, ROWS.len());
+    assert_eq!(rt; answered(&rt, rt.alloc(), &shelf)?, ROWS.len());
     Ok(())
-}
-
-/// A run over a copy of the shelf, and the copy.
-fn tried<T: Threads + Wait + Sync>(
-    rt: &T,
-    alloc: Global,
-    shelf: &MemShelf,
-    line: &str,
-    coming: &[u8],
-) -> Result<(Said, MemShelf), AllocError>
-    requires { IsHome (shelf_of shelf.now) }
-    ensures { IfOk result (λ r. IsHome (shelf_of r.1)) }
-{
-    let mut copy = shelf.restart(0)?;
-    let said = answer(rt, alloc, &mut copy, line, b"", coming, 0)?;
-    Ok((said, copy))
 }
 
 /// Carries what each end says to the other, in runs that begin anew over copies of one shelf, so often; these words
@@ -95,11 +86,11 @@ pub fn carried<T: Threads + Wait + Sync>(
 ) -> Result<(Said, Said), AllocError>
     requires { IsHome (shelf_of shelf.now) }
 {
-    let (mut served, _) = tried(rt, alloc, shelf, SERVES, b"")?;
-    let (mut synced, _) = tried(rt, alloc, shelf, syncs, b"")?;
+    let (mut served, _) = tried(rt, alloc, shelf, SERVES, b"", 0)?;
+    let (mut synced, _) = tried(rt, alloc, shelf, syncs, b"", 0)?;
     for _ in 0..times {
-        (served, _) = tried(rt, alloc, shelf, SERVES, &synced.sent)?;
-        (synced, _) = tried(rt, alloc, shelf, syncs, &served.sent)?;
+        (served, _) = tried(rt, alloc, shelf, SERVES, &synced.sent, 0)?;
+        (synced, _) = tried(rt, alloc, shelf, syncs, &served.sent, 0)?;
     }
     Ok((served, synced))
 }
@@ -114,8 +105,8 @@ fn tried_and_told<T: Threads + Wait + Sync>(
 ) -> Result<(Said, Said), AllocError>
     requires { IsHome (shelf_of shelf.now) }
 {
-    let (said, mut copy) = tried(rt, alloc, shelf, line, coming)?;
-    let heads = answer(rt, alloc, &mut copy, "heads A", b"", b"", 0)?;
+    let (said, mut copy) = tried(rt, alloc, shelf, line, coming, 0)?;
+    let heads = answer(rt, alloc, &mut copy, "heads A", b"", (b"", 0))?;
     Ok((said, heads))
 }
 
@@ -148,20 +139,29 @@ fn first_uncut<T: Threads + Wait + Sync>(
     Ok(coming.len())
 }
 
+/// Whether a recorded session brings the update of B, and no front of what either end said in it does.
+fn goes_over<T: Threads + Wait + Sync>(
+    rt: &T,
+    alloc: Global,
+    shelf: &MemShelf,
+) -> Result<bool, AllocError>
+    requires { IsHome (shelf_of shelf.now) }
+{
+    let (served, synced) = carried(rt, alloc, shelf, SYNCS, 3)?;
+    let (_, here) = tried_and_told(rt, alloc, shelf, SERVES, &synced.sent)?;
+    let (there, _) = tried(rt, alloc, shelf, "heads B", b"", 0)?;
+    let is_told = served.text.as_slice() == b"session 1 done gained 1 turns 4\n".as_slice()
+        && synced.text.as_slice() == b"gained 0\nturns 4\n".as_slice()
+        && here.text.as_slice() == there.text.as_slice();
+    let at_server = first_uncut(rt, alloc, shelf, SERVES, &synced.sent, b"session 1 cut\n")?;
+    let at_caller = first_uncut(rt, alloc, shelf, SYNCS, &served.sent, b"! cut\n")?;
+    Ok(is_told && (at_server, at_caller) == (synced.sent.len(), served.sent.len()))
+}
+
 #[test]
 fn an_update_goes_over_and_no_front_of_it(rt: HostRuntime) -> Result<(), Fail> {
-    let alloc = rt.alloc();
-    let mut shelf = MemShelf::new(alloc);
-    assert!(rt; begins(&rt, alloc, &mut shelf)?);
-    let (served, synced) = carried(&rt, alloc, &shelf, SYNCS, 3)?;
-    assert!(rt; served.text.as_slice() == b"session 1 done gained 1 turns 4\n".as_slice());
-    assert!(rt; synced.text.as_slice() == b"gained 0\nturns 4\n".as_slice());
-    let (_, here) = tried_and_told(&rt, alloc, &shelf, SERVES, &synced.sent)?;
-    let uncut = first_uncut(&rt, alloc, &shelf, SERVES, &synced.sent, b"session 1 cut\n")?;
-    assert_eq!(rt; uncut, synced.sent.len());
-    let uncut = first_uncut(&rt, alloc, &shelf, SYNCS, &served.sent, b"! cut\n")?;
-    assert_eq!(rt; uncut, served.sent.len());
-    let there = answer(&rt, alloc, &mut shelf, "heads B", b"", b"", 0)?;
-    assert!(rt; here.text.as_slice() == there.text.as_slice());
+    let mut shelf = MemShelf::new(rt.alloc());
+    assert!(rt; begins(&rt, rt.alloc(), &mut shelf)?);
+    assert!(rt; goes_over(&rt, rt.alloc(), &shelf)?);
     Ok(())
 }

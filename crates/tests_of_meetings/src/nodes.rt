@@ -3,7 +3,7 @@
 ghost use Rattle.bec_disk.specs.Shelved.{shelf_of};
 ghost use Rattle.key_directory.specs.Parts.{IsHome};
 
-use crate::pipes::{PipeNet, Socket};
+use crate::pipes::{PipeNet, Sockets};
 use crate::runs::run_over;
 use bec_disk::MemShelf;
 use std::alloc::{AllocError, Global};
@@ -33,31 +33,33 @@ impl Node {
         })
     }
 
-    /// The node after a run over its shelf and a net that hands these ends of pipes out.
+    /// The node after a run over its shelf and a net that hands these ends of pipes out. Its status is 255 where there
+    /// was no memory.
     pub fn ran<T: Threads + Wait + Sync>(
         self,
         rt: &T,
         alloc: Global,
-        sockets: Vec<Socket>,
+        sockets: Sockets,
         line: &str,
-    ) -> Result<Node, AllocError> {
+    ) -> Node {
         let Node { mut shelf, .. } = self;
         let mut net = PipeNet::new(rt, alloc, sockets);
-        let (status, text) = run_over(rt, alloc, &mut shelf, &mut net, line, b"")?;
-        Ok(Node {
-            shelf,
-            status,
-            text,
-        })
+        match run_over(rt, alloc, &mut shelf, &mut net, line, b"") {
+            Ok((status, text)) => Node {
+                shelf,
+                status,
+                text,
+            },
+            Err(_) => Node {
+                shelf,
+                status: 255,
+                text: Vec::new(alloc),
+            },
+        }
     }
 
     /// The node after a run that asks for no net.
-    pub fn told<T: Threads + Wait + Sync>(
-        self,
-        rt: &T,
-        alloc: Global,
-        line: &str,
-    ) -> Result<Node, AllocError> {
-        self.ran(rt, alloc, Vec::new(alloc), line)
+    pub fn told<T: Threads + Wait + Sync>(self, rt: &T, alloc: Global, line: &str) -> Node {
+        self.ran(rt, alloc, (None, None), line)
     }
 }

@@ -6,8 +6,8 @@ use bec_bytes::{Counted, Failed, FaultPlan, PlainSource, Sink, Source};
 use bec_links::{Link, Net};
 use crossbeam_channel::{Receiver, SendError, Sender, unbounded};
 use std::alloc::{AllocError, Global};
+use std::mem;
 use std::sync::Wait;
-use std::vec::IntoIter;
 
 /// One end of a pipe that nobody has taken up yet.
 #[derive(Drop)]
@@ -18,6 +18,13 @@ pub struct Socket {
     going: Sender<Vec<u8>>,
     /// The numbers of the calls that are to fail.
     failing: Vec<u32>,
+}
+
+impl Socket {
+    /// Puts a piece, and answers whether it did.
+    pub fn says<R: Wait>(&self, rt: &R, piece: Vec<u8>) -> bool {
+        self.going.send(rt, piece).is_ok()
+    }
 }
 
 /// Both ends of a pipe. The calls of `take` and `put` at an end, counted together from 1, that its numbers name fail.
@@ -117,13 +124,16 @@ impl<'a, R: Wait + Sync> Link for End<'a, R> {
     }
 }
 
+/// Ends of pipes that are handed out in order, two at most.
+pub type Sockets = (Option<Socket>, Option<Socket>);
+
 /// A net that hands ends of pipes out in order, to `accept` and `dial` alike.
 #[derive(Drop)]
 pub struct PipeNet<'a, R: Wait> {
     rt: &'a R,
     alloc: Global,
     /// Those that are still to come.
-    coming: IntoIter<Socket, Global>,
+    coming: Sockets,
     /// How many are out.
     out: u64,
     /// How many calls failed.
@@ -134,11 +144,11 @@ pub struct PipeNet<'a, R: Wait> {
 
 impl<'a, R: Wait> PipeNet<'a, R> {
     /// A net that hands these out.
-    pub fn new(rt: &'a R, alloc: Global, coming: Vec<Socket>) -> PipeNet<'a, R> {
+    pub fn new(rt: &'a R, alloc: Global, coming: Sockets) -> PipeNet<'a, R> {
         PipeNet {
             rt,
             alloc,
-            coming: coming.into_iter(),
+            coming,
             out: 0,
             failed: 0,
             faults: 0,
@@ -160,7 +170,8 @@ impl<'a, R: Wait + Sync> Net for PipeNet<'a, R> {
     }
 
     fn accept(&mut self) -> Result<End<'a, R>, Failed> {
-        match self.coming.next() {
+        let later = self.coming.1.take();
+        match mem::replace(&mut self.coming.0, later) {
             Some(socket) if self.out < u64::MAX => {
                 self.out += 1;
                 Ok(End::new(self.rt, self.alloc, socket))

@@ -73,23 +73,22 @@ pub fn run_over<T: Threads + Wait + Sync, N: Net>(
     Ok((status, out.bytes().to_vec(alloc)?))
 }
 
-/// Runs the program over a shelf and a net whose one link gives these bytes. The call of the net that `failing`
-/// numbers, counted from 1, fails.
+/// Runs the program over a shelf and a net whose one link gives certain bytes and whose call of a number, counted from
+/// 1, fails.
 pub fn answer<T: Threads + Wait + Sync>(
     rt: &T,
     alloc: Global,
     shelf: &mut MemShelf,
     line: &str,
     input: &[u8],
-    coming: &[u8],
-    failing: u32,
+    link: (&[u8], u32),
 ) -> Result<Said, AllocError>
     requires home { IsHome (shelf_of shelf.old) }
     ensures home { IsHome (shelf_of shelf.new) }
 {
     let mut links = Vec::new(alloc);
-    links.push(MemLink::new(alloc, Vec::from_slice(alloc, coming)?, Vec::new(alloc)))?;
-    let mut net = MemNet::new(alloc, links, Vec::from_slice(alloc, &[failing])?);
+    links.push(MemLink::new(alloc, Vec::from_slice(alloc, link.0)?, Vec::new(alloc)))?;
+    let mut net = MemNet::new(alloc, links, Vec::from_slice(alloc, &[link.1])?);
     let (status, text) = run_over(rt, alloc, shelf, &mut net, line, input)?;
     let sent = match net.returned() {
         0 => Vec::new(alloc),
@@ -109,7 +108,7 @@ pub fn begins<T: Threads + Wait + Sync>(
 {
     for number in 0..BEGIN.len() {
         let (line, input) = BEGIN[number];
-        if answer(rt, alloc, shelf, line, input, b"", 0)?.status != 0 {
+        if answer(rt, alloc, shelf, line, input, (b"", 0))?.status != 0 {
             return Ok(false);
         }
     }

@@ -1,4 +1,4 @@
-//! The tables of a graph of updates, and what they keep of a row.
+//! The tables of a graph of updates.
 
 use confluence_test::{accepted_is_unlimited, take_schema};
 use hash_graph::Graph;
@@ -7,7 +7,6 @@ use row_check::{Luhn, Native};
 use std::alloc::Global;
 use tuple_state::Tables;
 use update_check::Checked;
-use update_model::RowName;
 
 /// The tables of a graph under the schema of a text. Each update is judged and applied in turn.
 pub fn tables_of(alloc: Global, text: &[u8], graph: &Graph<Checked>) -> Option<Tables> {
@@ -17,13 +16,4 @@ pub fn tables_of(alloc: Global, text: &[u8], graph: &Graph<Checked>) -> Option<T
     };
     accepted_is_unlimited();
     replay(alloc, &schema, &native, graph).ok()
-}
-
-/// The number of causes for which a row is absent, where one was inserted.
-pub fn causes_of(tables: &Tables, row: &RowName) -> Option<u32> {
-    if tables.has_inserted(row) {
-        Some(*tables.causes(row))
-    } else {
-        None
-    }
 }

@@ -1,6 +1,0 @@
-use Rattle.bec_disk.specs.Shelved.{shelf_of}
-use Rattle.key_directory.specs.Parts.{IsHome}
-use Rattle.tests_of_meetings.proofs.meetings.answered.Given as goal
-
-abbrev pub invariant-loop-number : goal.invariant-loop-number
-invariant-loop-number g l = IsHome (shelf_of l.shelf)
