@@ -1,0 +1,60 @@
+//! Runs cases over directories, streams and nets in memory.
+//!
+//! It reads files of cases from standard input, each behind a line `== ` with its name, and plays each case. Of one that
+//! goes otherwise it prints where, what was expected and what came. The last line says how many passed and failed, and
+//! the status is 0 only where none failed. docs/CASES.md describes the format.
+#![tactic(auto)]
+
+mod acts;
+mod case_disk;
+mod case_net;
+mod case_shelf;
+mod meeting;
+mod parts;
+mod pipes;
+mod playing;
+mod running;
+mod telling;
+mod trouble;
+mod world;
+
+use crate::playing::{Script, played};
+use cases_text::{Book, Fault, Place, read_book};
+use std::alloc::AllocError;
+use std::io;
+use std::process::ExitCode;
+use std::sync::Wait;
+use std::thread::Threads;
+
+fn main(rt: HostRuntime) -> io::Result<ExitCode> {
+    let text = io::read_to_string(rt.alloc(), rt.stdin())?;
+    let mut place = Place { file: "", line: 0 };
+    let book = match read_book(rt.alloc(), &text, &mut place) {
+        Ok(book) => book,
+        Err(Fault::Memory) => return Err(io::Error::from(AllocError)),
+        Err(Fault::Text(what)) => {
+            let (file, line) = (place.file, place.line);
+            println!(rt; "{file}:{line}: {what}")?;
+            return Ok(ExitCode::from(1));
+        }
+    };
+    let failed = play_all(&rt, &book)?;
+    let passed = book.cases.len().saturating_sub(failed);
+    println!(rt; "{passed} passed, {failed} failed")?;
+    Ok(ExitCode::from(u8::from(failed > 0)))
+}
+
+/// Plays all cases, and answers how many failed.
+fn play_all<R: Threads + Wait + Sync + AllocGlobal + Print>(
+    rt: &R,
+    book: &Book,
+) -> io::Result<usize> {
+    let mut failed = 0usize;
+    for case in &book.cases {
+        if let Some(report) = played(rt, rt.alloc(), Script { book, case })? {
+            println!(rt; "{report}")?;
+            failed = failed.saturating_add(1);
+        }
+    }
+    Ok(failed)
+}
