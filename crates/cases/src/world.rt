@@ -6,7 +6,7 @@ use cases_text::{Book, Case, Content, Fault, Given, Names, bytes_of};
 use numbered_words::Words;
 use std::alloc::{AllocError, Global};
 
-/// How deep files may stand in one another.
+/// How deep files may stand in one another, with the outermost.
 const DEPTH: u32 = 8;
 
 /// An output that was kept as a file.
@@ -108,11 +108,11 @@ impl<'a> World<'a> {
         }
         let given = given_of(book, case, name)?;
         let mut bytes = Vec::new(self.alloc);
+        if depth == 0 {
+            return Err(Fault::Text("files stand in one another too deep"));
+        }
         for portion in &given.content {
             let piece = match portion.content {
-                Content::File(_) if depth == 0 => {
-                    return Err(Fault::Text("files stand in one another too deep"));
-                }
                 Content::File(other) => self.file_at(book, case, other, depth - 1)?,
                 content => bytes_of(self.alloc, &self.names, &content)?,
             };
