@@ -5,18 +5,10 @@
 //! many passed and failed, and the status is 0 only where none failed. docs/CASES.md describes the format.
 #![tactic(auto)]
 
-mod acts;
-mod case_disk;
-mod case_net;
-mod case_shelf;
 mod meeting;
-mod parts;
-mod pipes;
 mod playing;
 mod running;
 mod telling;
-mod trouble;
-mod world;
 
 use crate::playing::{Script, played};
 use cases_text::{Book, Case, Fault, Kind, Place, read_book};

@@ -1,11 +1,9 @@
 //! A command that runs beside others, which call it.
 
-use crate::case_net::{Caller, CaseNet, Peer};
-use crate::pipes::Socket;
 use crate::playing::{Script, input_of, judged, played_step, told_outcome};
 use crate::running::{Said, run_command};
-use crate::world::{Plan, Stage, World};
 use cases_text::{Fault, Step, read_order};
+use cases_world::{Caller, CaseNet, Peer, Plan, Socket, Stage, World};
 use crossbeam_channel::{Receiver, unbounded};
 use std::alloc::AllocError;
 use std::sync::Wait;

@@ -1,12 +1,10 @@
 //! A case from its first step to its last, or to the first that goes otherwise.
 
-use crate::acts::act;
-use crate::case_net::{Caller, CaseNet, Peer};
 use crate::meeting::met;
 use crate::running::{Said, run_command};
 use crate::telling::{told_fault, told_said};
-use crate::world::World;
 use cases_text::{Book, Case, Fault, Kind, Order, Step, filled, fits, read_order};
+use cases_world::{Caller, CaseNet, Peer, World, act};
 use std::alloc::{AllocError, Global};
 use std::sync::Wait;
 use std::thread::Threads;

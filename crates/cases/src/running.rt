@@ -1,12 +1,8 @@
 //! One command over the world of a case.
 
-use crate::case_net::{CaseNet, one_number};
-use crate::case_shelf::CaseShelf;
-use crate::parts::Parts;
-use crate::trouble::Trouble;
-use crate::world::{Plan, Stage};
 use bec_bytes::{MemSink, MemSource};
 use bec_node::{Outside, run};
+use cases_world::{CaseNet, CaseShelf, Parts, Plan, Stage, Trouble, one_number};
 use numbered_words::Words;
 use std::alloc::{AllocError, Global};
 use std::mem;

@@ -1,5 +1,5 @@
 ghost use Rattle.std.specs.Prelude.{◌≡◌};
-ghost use Rattle.cases.specs.Untold.{untold_shelf};
+ghost use Rattle.cases_world.specs.Untold.{untold_shelf};
 
 use crate::case_disk::CaseDisk;
 use crate::parts::Parts;

@@ -1,6 +1,6 @@
 //! The net of one command: it listens, or dials a node that listens, or there is nobody.
 
-ghost use Rattle.cases.specs.Untold.{untold_net};
+ghost use Rattle.cases_world.specs.Untold.{untold_net};
 
 use crate::pipes::{End, Socket, pipe};
 use bec_bytes::{Counted, Failed};

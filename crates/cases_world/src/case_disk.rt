@@ -1,6 +1,6 @@
 ghost use Rattle.std.specs.Prelude.{◌≡◌, ◌<◌, ◌↔◌, IsTrue};
 ghost use Rattle.bec_bytes.specs.Causes.{HasCause};
-ghost use Rattle.cases.specs.Untold.{untold_disk, untold_reads};
+ghost use Rattle.cases_world.specs.Untold.{untold_disk, untold_reads};
 
 use crate::trouble::Trouble;
 use bec_bytes::Counted;
