@@ -77,47 +77,42 @@ impl<'a> Disk for CaseDisk<'a> {
     ghost reads = { λ _ tells. untold_reads tells };
 
     fn len(&mut self) -> Result<u64, DiskFault> {
-        let len = if self.is_next_made() {
-            self.disk.len()
-        } else {
-            Err(DiskFault)
-        };
+        if !self.is_next_made() {
+            return self.counted(Err(DiskFault));
+        }
+        let len = self.disk.len();
         self.counted(len)
     }
 
     fn read(&mut self, at: u64, buf: &mut [u8]) -> Result<(), DiskFault> {
-        let read = if self.is_next_made() {
-            read_within(&mut self.disk, at, buf)
-        } else {
-            Err(DiskFault)
-        };
+        if !self.is_next_made() {
+            return self.counted(Err(DiskFault));
+        }
+        let read = read_within(&mut self.disk, at, buf);
         self.counted(read)
     }
 
     fn write_at(&mut self, at: u64, bytes: &[u8]) -> Result<(), DiskFault> {
-        let written = if self.is_next_made() {
-            write_within(&mut self.disk, at, bytes)
-        } else {
-            Err(DiskFault)
-        };
+        if !self.is_next_made() {
+            return self.counted(Err(DiskFault));
+        }
+        let written = write_within(&mut self.disk, at, bytes);
         self.counted(written)
     }
 
     fn cut(&mut self, len: u64) -> Result<(), DiskFault> {
-        let cut = if self.is_next_made() {
-            cut_within(&mut self.disk, len)
-        } else {
-            Err(DiskFault)
-        };
+        if !self.is_next_made() {
+            return self.counted(Err(DiskFault));
+        }
+        let cut = cut_within(&mut self.disk, len);
         self.counted(cut)
     }
 
     fn sync(&mut self) -> Result<(), DiskFault> {
-        let synced = if self.is_next_made() {
-            self.disk.sync()
-        } else {
-            Err(DiskFault)
-        };
+        if !self.is_next_made() {
+            return self.counted(Err(DiskFault));
+        }
+        let synced = self.disk.sync();
         self.counted(synced)
     }
 }

@@ -131,9 +131,9 @@ impl<'a, R: Wait + Sync> Net for CaseNet<'a, R> {
     }
 
     fn put_back(&mut self, link: End<'a, R>) {
+        self.out -= 1;
         if link.is_faulty() {
             self.faults = self.faults.saturating_add(1);
         }
-        self.out -= 1;
     }
 }

@@ -74,10 +74,10 @@ impl<'a> Shelf for CaseShelf<'a> {
     }
 
     fn put_back(&mut self, disk: CaseDisk<'a>) {
-        if disk.is_faulty() {
+        let (index, is_faulty) = (disk.index(), disk.is_faulty());
+        self.parts.put_back(index, disk.into_disk());
+        if is_faulty {
             self.faults = self.faults.saturating_add(1);
         }
-        let index = disk.index();
-        self.parts.put_back(index, disk.into_disk());
     }
 }
