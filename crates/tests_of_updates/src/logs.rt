@@ -129,8 +129,8 @@ fn disk_at(alloc: Global, at: At) -> Result<MemDisk, AllocError>
     }
 }
 
-/// Where a disk fails, whether an append to its log is repaired, whether it is done, and how many bytes of updates three
-/// crashes leave.
+/// Where a disk fails, whether an append to its log is repaired, whether it is done, and how many bytes of updates
+/// three crashes leave.
 type Row = (At, bool, bool, [u64; 3]);
 
 // Opening the log of an empty disk takes one call, and appending two updates a write and a sync.
