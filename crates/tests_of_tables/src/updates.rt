@@ -32,25 +32,23 @@ fn message(
     count: u16,
     operations: &[u8],
 ) -> Result<Vec<u8>, AllocError> {
-    let (known, pred): ([u8; 2], &[u8]) = match &before {
-        Some(id) => ([0, 1], &id.0),
-        None => ([0, 0], &[]),
-    };
-    let (lms, ots) = (author.lms.to_be_bytes(), author.ots.to_be_bytes());
-    [
-        &[2],
-        DATABASE.as_slice(),
-        &lms,
-        &ots,
-        &author.ident,
-        &author.root,
-        &known,
-        pred,
-        &count.to_be_bytes(),
-        operations,
-        &[0, 0],
-    ]
-    .concat(alloc)
+    let mut bytes = Vec::from_slice(alloc, &[2])?;
+    bytes.extend_from_slice(&DATABASE)?;
+    bytes.extend_from_slice(&author.lms.to_be_bytes())?;
+    bytes.extend_from_slice(&author.ots.to_be_bytes())?;
+    bytes.extend_from_slice(&author.ident)?;
+    bytes.extend_from_slice(&author.root)?;
+    match before {
+        Some(id) => {
+            bytes.extend_from_slice(&[0, 1])?;
+            bytes.extend_from_slice(&id.0)?;
+        }
+        None => bytes.extend_from_slice(&[0, 0])?,
+    }
+    bytes.extend_from_slice(&count.to_be_bytes())?;
+    bytes.extend_from_slice(operations)?;
+    bytes.extend_from_slice(&[0, 0])?;
+    Ok(bytes)
 }
 
 /// The update that a key's leaf signs.
@@ -65,11 +63,12 @@ pub fn signed(
     requires { leaf < leaf_count secret.now.lms }
 {
     let author = secret.public();
-    let message = message(alloc, &author, before, count, operations)?;
+    let mut bytes = message(alloc, &author, before, count, operations)?;
     let len = signature_len(&author);
     let mut signature = vec![in alloc; 0; len as usize]?;
-    secret.sign_at(leaf, &[0; 32], &message, &mut signature);
-    let bytes = [message.as_slice(), &len.to_be_bytes(), &signature].concat(alloc)?;
+    secret.sign_at(leaf, &[0; 32], bytes.as_slice(), &mut signature);
+    bytes.extend_from_slice(&len.to_be_bytes())?;
+    bytes.extend_from_slice(signature.as_slice())?;
     let rule = DbRule {
         database: DATABASE,
         authors: KeyList::from_vec(Vec::new(alloc)),
