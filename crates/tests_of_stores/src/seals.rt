@@ -71,6 +71,14 @@ pub fn seals_again(alloc: Global, left: &mut MemShelf, first: &Said) -> Result<b
     Ok(is_first && is_good(alloc, &next, AGAIN.1)?)
 }
 
+/// Lets a disk stand as the record of a key's used indices.
+fn put_used(shelf: &mut MemShelf, dir: &'static str, disk: MemDisk) -> Result<(), AllocError>
+    requires home { IsHome (shelf_of shelf.old) }
+    ensures home { IsHome (shelf_of shelf.new) }
+{
+    shelf.put(dir, Part::Used, disk)
+}
+
 /// Lets all indices of a lower key be used.
 fn spend(alloc: Global, shelf: &mut MemShelf, dir: &'static str) -> Result<bool, AllocError>
     requires home { IsHome (shelf_of shelf.old) }
@@ -78,7 +86,7 @@ fn spend(alloc: Global, shelf: &mut MemShelf, dir: &'static str) -> Result<bool,
 {
     let mut disk = MemDisk::new(alloc);
     let is_written = disk.write_at(0, &[1; 32]).is_ok() && disk.sync().is_ok();
-    shelf.put(dir, Part::Used, disk)?;
+    put_used(shelf, dir, disk)?;
     Ok(is_written)
 }
 

@@ -43,6 +43,9 @@ fn are_fetched<R: Wait>(
     let seen = shared.snapshot(rt, alloc, second.pass);
     let picture = seen.answer.ok()?;
     let counted = shared.len(rt, seen.pass);
+    if counted.answer != 2 {
+        return None;
+    }
     let fetched = shared.fetch_some(rt, alloc, counted.pass, &[1, 0]);
     let pieces = fetched.answer.ok()?;
     let [late, early] = pieces.as_slice() else {
@@ -50,7 +53,7 @@ fn are_fetched<R: Wait>(
     };
     let head = id_of(late.as_slice());
     let are_made = first.answer == Ok(id_of(early.as_slice())) && second.answer == Ok(head);
-    Some(are_made && counted.answer == 2 && picture.heads.as_slice() == [head].as_slice())
+    Some(are_made && picture.heads.as_slice() == [head].as_slice())
 }
 
 /// Whether an update is refused for a fault of the log, and the next one is made.
